@@ -1,0 +1,9 @@
+//! What a walk says of a path: whether it is tracked or untracked, what kind of node it is on disk and in the
+//! index, and whether a walk looks into it.
+#![tactic(auto)]
+
+pub mod entry;
+pub mod options;
+
+pub use entry::{Entry, EntryRef, Kind, PathspecMatch, Property, Status};
+pub use options::Options;
