@@ -3,7 +3,9 @@
 #![tactic(auto)]
 
 pub mod entry;
+pub mod error;
 pub mod options;
 
 pub use entry::{Entry, EntryRef, Kind, PathspecMatch, Property, Status};
+pub use error::{Error, ReadWhy};
 pub use options::Options;

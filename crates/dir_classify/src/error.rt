@@ -1,0 +1,77 @@
+//! Why a walk was refused.
+use bstr::BStr;
+use gitbase_core::{OutOfMemory, PathText};
+use std::alloc::{AllocError, AllocFailed};
+use thiserror::Error;
+
+/// Why the names of a directory could not be read.
+#[derive(Clone, Copy, Debug, PartialEq, Eq)]
+pub enum ReadWhy {
+    /// Nothing is at its path.
+    Absent,
+    /// What is at its path is no directory.
+    NotADirectory,
+    /// The worktree failed.
+    Fault,
+}
+
+/// Why a walk or the class of a path was refused, as gitoxide's `gix_dir::walk::Error`. Paths are whole: the
+/// worktree root and what lies below it.
+#[derive(Debug, Drop, Error)]
+pub enum Error {
+    /// The worktree root is absent or no directory, or its kind could not be learnt.
+    #[error("Worktree root at '{}' is not a directory", shown(.root))]
+    WorktreeRootIsFile { root: PathText },
+    /// The directory at `path` was to be entered, and its names could not be listed. Without a fault that is so
+    /// where the index calls an up-to-date path a directory that is none on disk.
+    #[error("Failed to read the directory at '{}'", shown(.path))]
+    ReadDir { path: PathText, why: ReadWhy },
+    /// The worktree failed while the names in the directory were read.
+    #[error("Could not obtain directory entry in root of '{}'", shown(.parent_directory))]
+    DirEntry { parent_directory: PathText },
+    /// The directory at `path` was to be entered, and has more components below the worktree root than the
+    /// depth limit.
+    #[error("TooDeep")]
+    TooDeep { path: PathText },
+    /// Want of memory.
+    #[error("OutOfMemory")]
+    OutOfMemory,
+}
+
+/// A path as text, with U+FFFD for what is not UTF-8.
+fn shown(path: &PathText) -> BStr<'_> {
+    BStr::new(path.as_bytes())
+}
+
+impl From<OutOfMemory> for Error {
+    ghost use Rattle.std.specs.Prelude.{◌≡◌};
+    ghost use Rattle.dir_classify.specs.declared.error.Error.TheVariants as errors;
+
+    ghost from_gives = { λ _ error. error ≡ errors.OutOfMemory };
+
+    fn from(_refused: OutOfMemory) -> Error {
+        Error::OutOfMemory
+    }
+}
+
+impl From<AllocError> for Error {
+    ghost use Rattle.std.specs.Prelude.{◌≡◌};
+    ghost use Rattle.dir_classify.specs.declared.error.Error.TheVariants as errors;
+
+    ghost from_gives = { λ _ error. error ≡ errors.OutOfMemory };
+
+    fn from(_refused: AllocError) -> Error {
+        Error::OutOfMemory
+    }
+}
+
+impl<T: Drop> From<AllocFailed<T>> for Error {
+    ghost use Rattle.std.specs.Prelude.{◌≡◌};
+    ghost use Rattle.dir_classify.specs.declared.error.Error.TheVariants as errors;
+
+    ghost from_gives = { λ _ error. error ≡ errors.OutOfMemory };
+
+    fn from(_refused: AllocFailed<T>) -> Error {
+        Error::OutOfMemory
+    }
+}
