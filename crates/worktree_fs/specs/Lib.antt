@@ -1,0 +1,5 @@
+pub mod Answers
+pub mod Causes
+pub mod Join
+pub mod Naming
+pub mod Tree

@@ -1,0 +1,18 @@
+//! A tree of files as the layers above see it: asked call by call, with each failure counted; beside it the question
+//! whether to stop, and where bytes are written to.
+#![tactic(auto)]
+
+pub mod answers;
+pub mod interrupt;
+pub mod name_list;
+pub mod sink;
+pub mod worktree;
+
+pub use answers::{Fault, ListError, NodeKind, ReadAnswer, ReadError};
+pub use interrupt::Interrupt;
+pub use name_list::NameList;
+pub use sink::Sink;
+pub use worktree::Worktree;
+
+#[cfg(test)]
+mod blind;
