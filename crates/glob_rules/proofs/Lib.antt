@@ -1,0 +1,5 @@
+pub mod Members
+pub mod Splits
+pub mod Steps
+pub mod Reached
+pub mod Decide

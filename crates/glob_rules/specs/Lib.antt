@@ -1,0 +1,5 @@
+pub mod Marks
+pub mod Class
+pub mod Glob
+pub mod Step
+pub mod Verdict
