@@ -1,0 +1,4 @@
+pub mod Join
+pub mod NameParts
+pub mod Subtree
+pub mod Texts
