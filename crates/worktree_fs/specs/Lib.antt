@@ -2,4 +2,5 @@ pub mod Answers
 pub mod Causes
 pub mod Join
 pub mod Naming
+pub mod Planned
 pub mod Tree

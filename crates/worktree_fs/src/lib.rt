@@ -9,9 +9,9 @@ pub mod sink;
 pub mod worktree;
 
 pub use answers::{Fault, ListError, NodeKind, ReadAnswer, ReadError};
-pub use interrupt::Interrupt;
+pub use interrupt::{Interrupt, PlannedInterrupt};
 pub use name_list::NameList;
-pub use sink::Sink;
+pub use sink::{MemorySink, Sink};
 pub use worktree::Worktree;
 
 #[cfg(test)]
