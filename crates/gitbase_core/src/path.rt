@@ -1,7 +1,11 @@
 //! Paths as bytes, their components parted by `/`.
-ghost use Rattle.std.specs.Prelude.{◌≡◌, ℕ, List, [], IfOk};
+ghost use Rattle.std.specs.Prelude.{◌≡◌, ◌+◌, ◌==◌, ◌||◌, ℕ, not, length, List, [], IfOk, OnOk, OnErr, is_some, unwrap_or, option_map};
+ghost use Rattle.std.specs.List.{suffix_len};
+ghost use Rattle.gitbase_core.specs.Path.{is_slash, is_empty, ends_in_slash, components, basename, parent, joined, normalized, after_components, path_of};
 
+use crate::components::Components;
 use crate::memory::OutOfMemory;
+use bstr::ByteSlice;
 use std::alloc::Global;
 use std::marker::Model;
 
@@ -57,5 +61,123 @@ impl PathText {
         ensures { result.items ≡ self }
     {
         self.items
+    }
+
+    /// Adds a component at the end, behind a slash unless the path is empty or ends in one; the path stays as it was
+    /// where memory is refused. The room comes from the allocator that made this path.
+    pub fn push_component(&mut self, _alloc: Global, name: &[u8]) -> Result<(), OutOfMemory>
+        ensures pushed { OnOk result (self.new ≡ joined self.old name.now) }
+        ensures refused { OnErr result (self.new ≡ self.old) }
+    {
+        let length = self.items.len();
+        if needs_slash(&self.items) {
+            self.items.push(b'/')?;
+        }
+        if let Err(refused) = self.items.extend_from_slice(name) {
+            self.items.truncate(length);
+            return Err(refused.into());
+        }
+        Ok(())
+    }
+
+    /// Takes the last component and the slash before it away, and says whether there was one: an empty path stays.
+    pub fn pop_component(&mut self) -> bool
+        ensures popped { result ≡ is_some (parent self.old) }
+        ensures path { self.new ≡ unwrap_or (parent self.old) [] }
+    {
+        let Some(parent) = self.parent() else {
+            return false;
+        };
+        let length = parent.len();
+        self.items.truncate(length);
+        true
+    }
+
+    /// The components: the non-empty pieces between slashes.
+    pub fn components(&self) -> Components<'_>
+        ensures { result ≡ components self.now }
+    {
+        Components::new(&self.items)
+    }
+
+    /// What stands after the last slash.
+    pub fn basename(&self) -> &[u8]
+        ensures { result.now ≡ basename self.now }
+    {
+        let path = self.as_bytes();
+        &path[after_last_slash(path)..]
+    }
+
+    /// What stands before the last slash: the empty path for one component, none for the empty path.
+    pub fn parent(&self) -> Option<&[u8]>
+        ensures { option_map (λ path. path.now) result ≡ parent self.now }
+    {
+        let path = self.as_bytes();
+        if path.is_empty() {
+            return None;
+        }
+        let end = after_last_slash(path).saturating_sub(1);
+        Some(&path[..end])
+    }
+
+    /// The path without empty components, `.` and `..`, of which each takes the component before it back; none where
+    /// a `..` leads out. A slash at the start stays.
+    pub fn normalize(&self, alloc: Global) -> Result<Option<PathText>, OutOfMemory>
+        ensures { IfOk result (λ path. path ≡ normalized self.now) }
+    {
+        let Some(mut normal) = self.relative(alloc)? else {
+            return Ok(None);
+        };
+        if self.items.first() == Some(&b'/') {
+            normal.items.insert(0, b'/')?;
+        }
+        Ok(Some(normal))
+    }
+
+    /// What `normalize` answers, without a slash at the start.
+    fn relative(&self, alloc: Global) -> Result<Option<PathText>, OutOfMemory>
+        ensures { IfOk result (λ path. path ≡ option_map path_of (after_components [] (components self.now))) }
+    {
+        let mut normal = PathText::new(alloc);
+        for name in self.components() {
+            if name == b"..".as_slice() {
+                if !normal.pop_component() {
+                    return Ok(None);
+                }
+            } else if name != b".".as_slice() {
+                normal.push_component(alloc, name)?;
+            }
+        }
+        Ok(Some(normal))
+    }
+
+    /// The path with `more` behind it, and a slash between them unless the path is empty or ends in one. What `more`
+    /// begins with makes no difference: a slash there is kept, as in gitoxide's `join_bstr_unix_pathsep`.
+    pub fn join(&self, alloc: Global, more: &[u8]) -> Result<PathText, OutOfMemory>
+        ensures { IfOk result (λ path. path ≡ joined self.now more.now) }
+    {
+        let mut path = PathText::from_bytes(alloc, &self.items)?;
+        path.push_component(alloc, more)?;
+        Ok(path)
+    }
+}
+
+/// Whether a slash has to stand between a path and what is added to it.
+fn needs_slash(path: &[u8]) -> bool
+    ensures { result ≡ not (is_empty path.now || ends_in_slash path.now) }
+{
+    match path.last() {
+        None | Some(b'/') => false,
+        Some(_) => true,
+    }
+}
+
+/// Where what follows the last slash begins: 0 where there is no slash.
+fn after_last_slash(path: &[u8]) -> usize
+    ensures { result + suffix_len (λ b. not (is_slash b)) path.now ≡ length path.now }
+{
+    match path.rfind_byte(b'/') {
+        Some(at) => at + 1,
+        None => 0,
     }
 }

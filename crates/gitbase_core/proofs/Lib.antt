@@ -1,0 +1,4 @@
+pub mod Slashes
+pub mod PathNames
+pub mod Names
+pub mod Kept
