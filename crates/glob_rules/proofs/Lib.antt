@@ -3,3 +3,5 @@ pub mod Splits
 pub mod Steps
 pub mod Reached
 pub mod Decide
+pub mod Parts
+pub mod Plain

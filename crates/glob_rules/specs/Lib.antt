@@ -3,3 +3,5 @@ pub mod Class
 pub mod Glob
 pub mod Step
 pub mod Verdict
+pub mod Rule
+pub mod Ignore

@@ -5,8 +5,11 @@ ghost use Rattle.std.specs.Prelude.{◌≡◌, ◌↔◌, IsTrue};
 ghost use Rattle.glob_rules.specs.Glob.{Matches, matches};
 
 mod glob;
+pub mod ignore;
+mod pattern;
 
 use glob::verdict::is_match;
+pub use pattern::Pattern;
 
 /// How ASCII letters compare.
 #[derive(Clone, Copy, Debug, PartialEq, Eq)]

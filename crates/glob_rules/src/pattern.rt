@@ -1,0 +1,254 @@
+//! Patterns with their marks, and the paths that they match.
+ghost use Rattle.std.specs.Prelude.{◌≡◌, ◌↔◌, length, map, IsTrue, IfOk, option_copied};
+ghost use Rattle.glob_rules.specs.Class.{folded};
+ghost use Rattle.glob_rules.specs.Glob.{matches};
+ghost use Rattle.glob_rules.specs.Rule as rules;
+ghost use Rattle.glob_rules.specs.Rule.{mode_of, rule_matches, rule_matches_parts, rule_of, unsigned_rule};
+
+use crate::{Case, WildMode, wildmatch};
+use gitbase_core::{Bytes, OutOfMemory};
+use std::alloc::Global;
+use std::marker::Model;
+
+/// The pattern of a rule, without the marks around it.
+///
+/// Contracts see a record: its text, whether it is negative, whether it is for directories alone, and whether it is matched
+/// with the last component of a path.
+#[derive(Drop)]
+pub struct Pattern {
+    text: Bytes,
+    is_negative: bool,
+    must_be_dir: bool,
+    by_name: bool,
+    /// Whether a byte of the text has a meaning of its own.
+    has_wildcards: bool,
+}
+
+impl Model for Pattern {
+    ghost use Rattle.std.specs.Prelude.{◌≡◌};
+    ghost use Rattle.glob_rules.specs.Rule as rules;
+    ghost use Rattle.glob_rules.specs.Rule.{Rule};
+
+    ghost Value = { Rule };
+
+    ghost view = { λ p. record { text = p.text; is_negative = p.is_negative; must_be_dir = p.must_be_dir; by_name = p.by_name } };
+
+    ghost invariant = { λ p. p.has_wildcards ≡ rules.has_wildcards p.text };
+}
+
+/// Whether the bytes begin with this one, and what is left of them without it.
+fn without_front(bytes: &[u8], byte: u8) -> (bool, &[u8])
+    ensures taken { result.0 ≡ (rules.without_front byte bytes.now).0 }
+    ensures rest { result.1.now ≡ (rules.without_front byte bytes.now).1 }
+{
+    match bytes {
+        [first, rest @ ..] if *first == byte => (true, rest),
+        _ => (false, bytes),
+    }
+}
+
+/// Whether the bytes end with this one, and what is left of them without it.
+fn without_back(bytes: &[u8], byte: u8) -> (bool, &[u8])
+    ensures taken { result.0 ≡ (rules.without_back byte bytes.now).0 }
+    ensures rest { result.1.now ≡ (rules.without_back byte bytes.now).1 }
+{
+    if bytes.ends_with(&[byte]) {
+        (true, &bytes[..bytes.len() - 1])
+    } else {
+        (false, bytes)
+    }
+}
+
+/// Whether a slash is among the bytes.
+fn has_slash(bytes: &[u8]) -> bool
+    ensures { result ≡ rules.has_slash bytes.now }
+{
+    bytes.iter().any(|byte| *byte == b'/')
+}
+
+/// Whether the byte has a meaning of its own in a pattern.
+fn is_special(byte: u8) -> bool
+    ensures { result ≡ rules.is_special byte }
+{
+    byte == b'*' || byte == b'?' || byte == b'[' || byte == b'\\'
+}
+
+/// Whether a byte of the pattern has a meaning of its own.
+fn has_wildcards(bytes: &[u8]) -> bool
+    ensures { result ≡ rules.has_wildcards bytes.now }
+{
+    bytes.iter().any(|byte| is_special(*byte))
+}
+
+/// What follows the last slash of a path.
+pub fn last_component(path: &[u8]) -> &[u8]
+    ensures { result.now ≡ rules.last_component path.now }
+{
+    let mut at = path.len();
+    while at > 0 && path[at - 1] != b'/' {
+        at -= 1;
+    }
+    &path[at..]
+}
+
+/// The path as it reads from a directory, where it lies beneath that.
+///
+/// Beneath the empty path lies every other, beneath `/` every longer one that begins with it, and beneath any other
+/// directory what begins with it and a slash.
+pub fn relative_to<'a>(path: &'a [u8], base: &[u8]) -> Option<&'a [u8]>
+    ensures { option_copied result ≡ rules.relative_to base.now path.now }
+{
+    if !path.starts_with(base) {
+        return None;
+    }
+    let rest = &path[base.len()..];
+    let is_top = is_top(base);
+    match rest {
+        [] => None,
+        [b'/', beneath @ ..] if !is_top => Some(beneath),
+        _ => if is_top { Some(rest) } else { None },
+    }
+}
+
+/// Whether the path is the empty one, or `/`.
+fn is_top(path: &[u8]) -> bool
+    ensures { result ≡ rules.is_top path.now }
+{
+    match path {
+        [] => true,
+        [only] => *only == b'/',
+        _ => false,
+    }
+}
+
+/// Whether two texts are the same, as letters compare.
+fn is_same_text(case: Case, left: &[u8], right: &[u8]) -> bool
+    ensures { IsTrue result ↔ (map (folded case) left.now ≡ map (folded case) right.now) }
+{
+    match case {
+        Case::Sensitive => left == right,
+        Case::Fold => left.eq_ignore_ascii_case(right),
+    }
+}
+
+impl Pattern {
+    /// The pattern of a line: one leading `!`, one leading `/` and one trailing `/` are taken off.
+    ///
+    /// None where nothing is left. Fails only where memory is refused.
+    pub fn parse(alloc: Global, line: &[u8]) -> Result<Option<Pattern>, OutOfMemory>
+        ensures { IfOk result (λ pattern. pattern ≡ rule_of line.now) }
+    {
+        let (is_negative, rest) = without_front(line, b'!');
+        Pattern::unsigned(alloc, is_negative, rest)
+    }
+
+    /// The pattern of a line without its sign, where a leading `!` is one of its bytes.
+    pub(crate) fn unsigned(
+        alloc: Global,
+        is_negative: bool,
+        line: &[u8],
+    ) -> Result<Option<Pattern>, OutOfMemory>
+        ensures { IfOk result (λ pattern. pattern ≡ unsigned_rule is_negative line.now) }
+    {
+        let (is_anchored, rest) = without_front(line, b'/');
+        let (must_be_dir, rest) = without_back(rest, b'/');
+        if rest.is_empty() {
+            return Ok(None);
+        }
+        let by_name = !is_anchored && !has_slash(rest);
+        Ok(Some(Pattern {
+            text: Bytes::from_slice(alloc, rest)?,
+            is_negative,
+            must_be_dir,
+            by_name,
+            has_wildcards: has_wildcards(rest),
+        }))
+    }
+
+    /// An equal pattern; fails only where memory is refused.
+    pub(crate) fn copy(&self, alloc: Global) -> Result<Pattern, OutOfMemory>
+        ensures { IfOk result (λ copy. copy ≡ self.now) }
+    {
+        Ok(Pattern {
+            text: Bytes::from_slice(alloc, self.text.as_bytes())?,
+            is_negative: self.is_negative,
+            must_be_dir: self.must_be_dir,
+            by_name: self.by_name,
+            has_wildcards: self.has_wildcards,
+        })
+    }
+
+    /// The bytes of the pattern without its marks.
+    pub fn text(&self) -> &[u8]
+        ensures { result.now ≡ self.now.text }
+    {
+        self.text.as_bytes()
+    }
+
+    /// Whether the pattern had a leading `!`, which takes back what earlier rules say.
+    pub fn is_negative(&self) -> bool
+        ensures { result ≡ self.now.is_negative }
+    {
+        self.is_negative
+    }
+
+    /// Whether the pattern had a trailing `/`, so that it matches directories alone.
+    pub fn must_be_dir(&self) -> bool
+        ensures { result ≡ self.now.must_be_dir }
+    {
+        self.must_be_dir
+    }
+
+    /// Whether the pattern matches the path, where it is a rule of the directory `base`; both are relative to one root.
+    ///
+    /// A pattern from which no leading `/` was taken and that has no other is matched with the last component, any other
+    /// with the path as it reads from `base`, which the path must lie beneath. One for directories asks for
+    /// `is_dir` to be `Some(true)`. Takes no memory.
+    pub fn matches_repo_relative_path(
+        &self,
+        path: &[u8],
+        base: &[u8],
+        is_dir: Option<bool>,
+        case: Case,
+    ) -> bool
+        ensures { result ≡ rule_matches self.now path.now base.now is_dir case }
+    {
+        self.matches_parts(last_component(path), relative_to(path, base), is_dir, case)
+    }
+
+    /// The same of a path in its parts: the last component, and the path as it reads from the rule's directory.
+    pub(crate) fn matches_parts(
+        &self,
+        name: &[u8],
+        relative: Option<&[u8]>,
+        is_dir: Option<bool>,
+        case: Case,
+    ) -> bool
+        ensures { result ≡ rule_matches_parts self.now name.now (option_copied relative.entry) is_dir case }
+    {
+        if self.must_be_dir && is_dir != Some(true) {
+            return false;
+        }
+        if self.by_name {
+            return self.matches_text(name, case);
+        }
+        match relative {
+            Some(path) => self.matches_text(path, case),
+            None => false,
+        }
+    }
+
+    /// Whether the text is matched; a pattern without wildcards is compared.
+    fn matches_text(&self, text: &[u8], case: Case) -> bool
+        ensures { result ≡ matches (mode_of case) self.now.text text.now }
+    {
+        if !self.has_wildcards {
+            return is_same_text(case, text, self.text.as_bytes());
+        }
+        let mode = WildMode {
+            case,
+            wildcards_take_slash: false,
+        };
+        wildmatch(self.text.as_bytes(), text, mode)
+    }
+}
