@@ -2,3 +2,4 @@ pub mod Slashes
 pub mod PathNames
 pub mod Names
 pub mod Kept
+pub mod IdText

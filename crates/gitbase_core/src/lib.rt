@@ -1,12 +1,16 @@
-//! The small types that every layer of the worktree walk speaks of: texts of bytes, paths, and want of memory.
+//! The small types that every layer of the worktree walk speaks of: texts of bytes, paths, ids, and the index.
 #![tactic(auto)]
 
 pub mod components;
+pub mod entry;
+pub mod id;
 pub mod memory;
 pub mod path;
 pub mod text;
 
 pub use components::Components;
+pub use entry::{Flags, IndexEntry, Mode};
+pub use id::{HexError, ObjectId};
 pub use memory::OutOfMemory;
 pub use path::PathText;
 pub use text::Bytes;

@@ -1,12 +1,20 @@
 //! Paths as bytes, their components parted by `/`.
-ghost use Rattle.std.specs.Prelude.{◌≡◌, ◌+◌, ◌==◌, ◌||◌, ℕ, not, length, List, [], IfOk, OnOk, OnErr, is_some, unwrap_or, option_map};
+ghost use Rattle.std.specs.Prelude.{◌≡◌, ◌+◌, ◌==◌, ◌||◌, ℕ, not, length, List, [], IfOk, OnOk, OnErr, is_some, unwrap_or, option_map, Some, refl, bytes_eq};
+ghost use Rattle.std.proofs.Common.{rules};
+ghost use Rattle.std.specs.Cmp.{partial_equiv_from_equiv};
+ghost use Rattle.std.specs.Cmp.Lexicographic.{slice_cmp, nat_list_eq_equiv, nat_list_cmp_total, texts_ties, texts_po};
+ghost use Rattle.std.specs.Cmp.Rules.{hashing};
+ghost use Rattle.std.specs.Hash as fed;
 ghost use Rattle.std.specs.List.{suffix_len};
+ghost use Rattle.std.specs.Ordering.{nat_cmp};
 ghost use Rattle.gitbase_core.specs.Path.{is_slash, is_empty, ends_in_slash, components, basename, parent, joined, normalized, after_components, path_of};
 
 use crate::components::Components;
 use crate::memory::OutOfMemory;
 use bstr::ByteSlice;
 use std::alloc::Global;
+use std::cmp::Ordering;
+use std::hash::{Hash, Hasher};
 use std::marker::Model;
 
 /// A path: bytes of any kind, whose components `/` parts.
@@ -159,6 +167,54 @@ impl PathText {
         let mut path = PathText::from_bytes(alloc, &self.items)?;
         path.push_component(alloc, more)?;
         Ok(path)
+    }
+}
+
+impl PartialEq for PathText {
+    ghost eq = { bytes_eq };
+
+    ghost laws = { partial_equiv_from_equiv nat_list_eq_equiv };
+
+    fn eq(&self, other: &PathText) -> bool {
+        self.as_bytes() == other.as_bytes()
+    }
+}
+
+impl Eq for PathText {
+    ghost laws = { nat_list_eq_equiv };
+}
+
+impl PartialOrd for PathText {
+    ghost partial_cmp = { λ a b. Some (slice_cmp nat_cmp a b) };
+
+    ghost laws = { texts_po };
+
+    fn partial_cmp(&self, other: &PathText) -> Option<Ordering> {
+        Some(self.cmp(other))
+    }
+}
+
+impl Ord for PathText {
+    ghost cmp = { slice_cmp nat_cmp };
+
+    ghost total = { nat_list_cmp_total };
+
+    ghost matches_partial_cmp = { λ a b. refl };
+
+    ghost matches_eq = { texts_ties };
+
+    fn cmp(&self, other: &PathText) -> Ordering {
+        self.as_bytes().cmp(&other.as_bytes())
+    }
+}
+
+impl Hash for PathText {
+    ghost hash_input = { fed.slice fed.u8 };
+
+    ghost respects_eq = { Prim.search (hashing, rules) };
+
+    fn hash<H: Hasher>(&self, state: &mut H) {
+        self.as_bytes().hash(state);
     }
 }
 
