@@ -3,3 +3,4 @@ pub mod PathNames
 pub mod Names
 pub mod Kept
 pub mod IdText
+pub mod Entries

@@ -1,11 +1,12 @@
 -- Where the last slash of a path stands, and what stands before it.
 use Rattle.std.proofs.Common.{◌≡◌, ℕ, ◌+◌, ◌-◌, ◌<◌, ◌≤◌, Bool, true, false, not, List, [], ◌∷◌, length, get_or, Some, refl, ap, take, arith, rules}
 use Rattle.std.specs.Prelude.{◌==◌}
+use Rattle.std.proofs.lemmas.Bool.Decides.{nat_tests}
 use Rattle.std.proofs.lemmas.List.{length-take-le}
 use Rattle.std.proofs.lemmas.List.Sums.{suffix_len_is}
 use Rattle.std.specs.List.{suffix_len}
 use Rattle.bstr.specs.Find.{Nowhere, Passes, is_byte}
-use Rattle.gitbase_core.specs.Path.{is_slash, parent}
+use Rattle.gitbase_core.specs.Path.{is_empty, is_slash, parent}
 
 -- a test that is not passed
 fails : (b : Bool) → (b ≡ true → ⊥) → not b ≡ true
@@ -38,3 +39,8 @@ take-parent (b ∷ bytes) up e =
     let short : n ≤ length path = omega arith in
     let up_is : take n path ≡ up = cc in
     rw (← up_is) (rw (length-take-le n path short) refl)
+
+-- a text that has bytes, told by its length and by its form
+pub has_bytes : (text : List ℕ) → not (length text == 0) ≡ not (is_empty text)
+has_bytes [] = refl
+has_bytes (b ∷ text) = grind (arith, nat_tests)

@@ -1,3 +1,4 @@
 pub mod Path
 pub mod Id
 pub mod Entry
+pub mod Index

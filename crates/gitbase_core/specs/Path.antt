@@ -1,5 +1,5 @@
 -- What the calls on paths mean, on lists of bytes.
-use Rattle.std.specs.Prelude.{ℕ, Bool, true, false, not, ◌-◌, ◌==◌, ◌||◌, List, [], ◌∷◌, ◌++◌, length, filter, slice_index, Option, Some, None, option_map, option_and_then, if◌then◌else◌}
+use Rattle.std.specs.Prelude.{ℕ, Bool, true, false, not, ◌-◌, ◌==◌, ◌||◌, List, [], ◌∷◌, ◌++◌, length, take, filter, slice_index, Option, Some, None, option_map, option_and_then, if◌then◌else◌}
 use Rattle.std.specs.List.{slice_split, before_last, after_last}
 use Rattle.std.specs.Str.{bytes_eq}
 
@@ -13,6 +13,10 @@ is_empty (b ∷ bytes) = false
 
 abbrev pub ends_in_slash : List ℕ → Bool
 ends_in_slash path = is_slash (slice_index path (length path - 1))
+
+-- a path without the slash at its end, if there is one
+abbrev pub without_slash : List ℕ → List ℕ
+without_slash path = if ends_in_slash path then take (length path - 1) path else path
 
 -- the pieces between the slashes of a path, one more than it has slashes
 abbrev pub pieces : List ℕ → List (List ℕ)

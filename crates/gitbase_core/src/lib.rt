@@ -4,6 +4,7 @@
 pub mod components;
 pub mod entry;
 pub mod id;
+pub mod index;
 pub mod memory;
 pub mod path;
 pub mod text;
@@ -11,6 +12,7 @@ pub mod text;
 pub use components::Components;
 pub use entry::{Flags, IndexEntry, Mode};
 pub use id::{HexError, ObjectId};
+pub use index::{IndexError, State};
 pub use memory::OutOfMemory;
 pub use path::PathText;
 pub use text::Bytes;

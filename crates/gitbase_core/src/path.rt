@@ -7,7 +7,7 @@ ghost use Rattle.std.specs.Cmp.Rules.{hashing};
 ghost use Rattle.std.specs.Hash as fed;
 ghost use Rattle.std.specs.List.{suffix_len};
 ghost use Rattle.std.specs.Ordering.{nat_cmp};
-ghost use Rattle.gitbase_core.specs.Path.{is_slash, is_empty, ends_in_slash, components, basename, parent, joined, normalized, after_components, path_of};
+ghost use Rattle.gitbase_core.specs.Path.{is_slash, is_empty, ends_in_slash, without_slash, components, basename, parent, joined, normalized, after_components, path_of};
 
 use crate::components::Components;
 use crate::memory::OutOfMemory;
@@ -216,6 +216,23 @@ impl Hash for PathText {
     fn hash<H: Hasher>(&self, state: &mut H) {
         self.as_bytes().hash(state);
     }
+}
+
+/// Whether the last byte is a slash.
+pub(crate) fn ends_in_slash(path: &[u8]) -> bool
+    ensures { result ≡ ends_in_slash path.now }
+{
+    path.last() == Some(&b'/')
+}
+
+/// A path without the slash at its end, if there is one.
+pub(crate) fn without_slash(path: &[u8]) -> &[u8]
+    ensures { result.now ≡ without_slash path.now }
+{
+    if ends_in_slash(path) {
+        return &path[..path.len() - 1];
+    }
+    path
 }
 
 /// Whether a slash has to stand between a path and what is added to it.
