@@ -4,3 +4,4 @@ pub mod Names
 pub mod Kept
 pub mod IdText
 pub mod Entries
+mod Grown

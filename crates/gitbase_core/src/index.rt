@@ -4,6 +4,8 @@ ghost use Rattle.std.specs.List.{list_all, list_any};
 ghost use Rattle.std.specs.Ordering.{is_lt};
 ghost use Rattle.gitbase_core.specs.Index.{IsIndex, index_of, entry_fault, first_fault, fits_mode, ascends, clashes, fits_stage, is_entry_path, entry_cmp, entry_at, begins_with, prefixed_range};
 
+mod grow;
+
 use crate::entry::IndexEntry;
 use crate::path::{ends_in_slash, without_slash};
 use std::cmp::Ordering;
