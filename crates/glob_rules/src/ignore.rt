@@ -25,6 +25,7 @@ pub struct ParseIgnore {
 }
 
 /// A rule that holds for a path.
+#[derive(Clone, Copy, Debug)]
 pub struct Match<'a> {
     /// The pattern; where it is negative, the path is not ignored.
     pub pattern: &'a Pattern,

@@ -41,3 +41,6 @@ pub fn wildmatch(pattern: &[u8], text: &[u8], mode: WildMode) -> bool
 {
     is_match(pattern, text, mode)
 }
+
+#[cfg(test)]
+mod tests;

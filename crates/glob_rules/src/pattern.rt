@@ -14,7 +14,7 @@ use std::marker::Model;
 ///
 /// Contracts see a record: its text, whether it is negative, whether it is for directories alone, and whether it is matched
 /// with the last component of a path.
-#[derive(Drop)]
+#[derive(Debug, Drop)]
 pub struct Pattern {
     text: Bytes,
     is_negative: bool,

@@ -15,7 +15,7 @@ use std::marker::Model;
 /// The rules of one ignore file: those of a directory, of a user, or of a command line.
 ///
 /// Contracts see a record: the rules in the order of their lines, where they were read, and their directory.
-#[derive(Drop)]
+#[derive(Debug, Drop)]
 pub struct List {
     entries: Vec<Entry>,
     source: Option<PathText>,
