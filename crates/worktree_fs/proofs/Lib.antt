@@ -1,4 +1,15 @@
+pub mod Distinct
+pub mod EntryNames
+pub mod Grown
 pub mod Join
 pub mod NameParts
+pub mod Obstacles
+pub mod Order
+pub mod Parts
+pub mod Pieces
+pub mod Settled
+pub mod Sorted
+pub mod Steps
 pub mod Subtree
+pub mod Tested
 pub mod Texts

@@ -1,6 +1,15 @@
 pub mod Answers
 pub mod Causes
+pub mod Codes
+pub mod Grow
 pub mod Join
+pub mod Memory
 pub mod Naming
+pub mod Order
 pub mod Planned
+pub mod Route
+pub mod Step
+pub mod Stored
+pub mod StoredFalls
+pub mod Told
 pub mod Tree

@@ -4,15 +4,15 @@
 
 pub mod answers;
 pub mod interrupt;
+pub mod memory;
 pub mod name_list;
+mod names;
 pub mod sink;
 pub mod worktree;
 
 pub use answers::{Fault, ListError, NodeKind, ReadAnswer, ReadError};
 pub use interrupt::{Interrupt, PlannedInterrupt};
+pub use memory::{AddError, CallKind, MemoryWorktree, NewNode};
 pub use name_list::NameList;
 pub use sink::{MemorySink, Sink};
 pub use worktree::Worktree;
-
-#[cfg(test)]
-mod blind;
