@@ -16,3 +16,6 @@ pub use memory::{AddError, CallKind, MemoryWorktree, NewNode};
 pub use name_list::NameList;
 pub use sink::{MemorySink, Sink};
 pub use worktree::Worktree;
+
+#[cfg(test)]
+mod tests;
