@@ -5,3 +5,7 @@ pub mod Kept
 pub mod IdText
 pub mod Entries
 mod Grown
+pub mod Ranks
+pub mod Runs
+pub mod RunLists
+pub mod PathSearch

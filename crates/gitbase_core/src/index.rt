@@ -1,8 +1,9 @@
 //! The index: the entries in their order, and the search among them.
-ghost use Rattle.std.specs.Prelude.{◌≡◌, ◌≤◌, ◌<◌, ◌&&◌, ℕ, Bool, [], length, take, true, nat_lt, nat_le, is_some, None, All, IfSome, option_copied};
+ghost use Rattle.std.specs.Prelude.{◌≡◌, ◌≤◌, ◌<◌, ◌&&◌, ◌++◌, ℕ, Bool, [], length, take, true, nat_lt, nat_le, is_some, None, All, IfSome, option_copied};
 ghost use Rattle.std.specs.List.{list_all, list_any};
-ghost use Rattle.std.specs.Ordering.{is_lt};
-ghost use Rattle.gitbase_core.specs.Index.{IsIndex, index_of, entry_fault, first_fault, fits_mode, ascends, clashes, fits_stage, is_entry_path, entry_cmp, entry_at, begins_with, prefixed_range};
+ghost use Rattle.std.specs.Ordering.{is_lt, is_eq};
+ghost use Rattle.gitbase_core.specs.Index.{IsIndex, index_of, entry_fault, first_fault, fits_mode, ascends, clashes, fits_stage, is_entry_path, entry_cmp, entry_at, path_cmp, begins_with, beside, prefixed_range, IsRun, IsFirstNotBelow};
+ghost use Rattle.gitbase_core.specs.IndexKinds.{entries_beneath};
 
 mod grow;
 
@@ -72,6 +73,92 @@ impl State {
     {
         &self.entries
     }
+
+    /// The entry of the lowest stage at `path`. One binary search.
+    pub fn entry_by_path(&self, path: &[u8]) -> Option<&IndexEntry>
+        ensures first { option_copied result ≡ entry_at path.now self.now }
+        ensures lowest { IfSome result
+            (λ entry. All (λ other. other.path ≡ path.now → entry.now.stage ≤ other.stage) self.now) }
+    {
+        match first_not_below(&self.entries, path) {
+            Some(entry) if entry.path.as_bytes() == path => Some(entry),
+            _ => None,
+        }
+    }
+
+    /// The range of the entries whose paths begin with `prefix`, as the place of the first and the place behind the
+    /// last; none where there is no such entry. Two binary searches.
+    pub fn prefixed_entries_range(&self, prefix: &[u8]) -> Option<(usize, usize)>
+        ensures range { result ≡ prefixed_range prefix.now self.now }
+        ensures whole { IfSome result (λ range. IsRun (begins_with prefix.now) self.now range.0 range.1) }
+    {
+        let (start, end) = run(&self.entries, prefix, b"");
+        if start == end {
+            return None;
+        }
+        Some((start, end))
+    }
+
+    /// The entries beneath a path, whose paths begin with it and a slash; none beneath the empty path.
+    pub(crate) fn entries_beneath(&self, path: &[u8]) -> &[IndexEntry]
+        ensures { result.now ≡ entries_beneath path.now self.now }
+    {
+        if path.is_empty() {
+            return &[];
+        }
+        let (start, end) = run(&self.entries, path, b"/");
+        &self.entries[start..end]
+    }
+}
+
+/// The first entry whose path does not stand below `path`.
+fn first_not_below<'a>(entries: &'a [IndexEntry], path: &[u8]) -> Option<&'a IndexEntry>
+    requires { IsIndex entries.now }
+    ensures { IsFirstNotBelow path.now entries.now (option_copied result) }
+{
+    let at = entries.partition_point(|entry| is_below(entry, path));
+    entries.get(at)
+}
+
+/// Whether an entry's path stands below `path`.
+fn is_below(entry: &IndexEntry, path: &[u8]) -> bool
+    ensures { result ≡ is_lt (path_cmp entry.now.path path.now) }
+{
+    entry.path.as_bytes().cmp(&path).is_lt()
+}
+
+/// Where the entries stand whose paths begin with `front` and `back` behind it.
+fn run(entries: &[IndexEntry], front: &[u8], back: &[u8]) -> (usize, usize)
+    requires { IsIndex entries.now }
+    ensures { IsRun (begins_with (front.now ++ back.now)) entries.now result.0 result.1 }
+{
+    let start = entries.partition_point(|entry| stands_before(entry, front, back));
+    let (_, rest) = entries.split_at(start);
+    let length = rest.partition_point(|entry| begins_with(entry, front, back));
+    (start, start + length)
+}
+
+/// Whether an entry's path stands before the paths that begin with `front` and `back` behind it.
+fn stands_before(entry: &IndexEntry, front: &[u8], back: &[u8]) -> bool
+    ensures { result ≡ is_lt (beside (front.now ++ back.now) entry.now.path) }
+{
+    beside(entry.path.as_bytes(), front, back).is_lt()
+}
+
+/// Whether an entry's path begins with `front` and `back` behind it.
+fn begins_with(entry: &IndexEntry, front: &[u8], back: &[u8]) -> bool
+    ensures { result ≡ is_eq (beside (front.now ++ back.now) entry.now.path) }
+{
+    beside(entry.path.as_bytes(), front, back).is_eq()
+}
+
+/// Where a path stands beside those that begin with `front` and `back` behind it: before, among or behind them.
+fn beside(path: &[u8], front: &[u8], back: &[u8]) -> Ordering
+    ensures { result ≡ beside (front.now ++ back.now) path.now }
+{
+    let (start, rest) = path.split_at(path.len().min(front.len()));
+    let (rest, _) = rest.split_at(rest.len().min(back.len()));
+    start.cmp(&front).then(rest.cmp(&back))
 }
 
 /// What is wrong with an entry that stands behind the earlier ones.
