@@ -5,3 +5,4 @@ pub mod Reached
 pub mod Decide
 pub mod Parts
 pub mod Plain
+pub mod Shapes

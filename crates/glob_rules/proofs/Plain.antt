@@ -23,11 +23,12 @@ last_choice false false true k v w x y z h = absurd (cc)
 last_choice false false false true v w x y z h = absurd (cc)
 last_choice false false false false v w x y z h = refl
 
+-- a byte that is not special is itself
 token_plain : (fresh : Bool) (b : ℕ) (bs : List ℕ) → is_special b ≡ false → token_at fresh b bs ≡ Some (literal b, 0)
 token_plain fresh b bs h = last_choice (b == 42) (b == 63) (b == 91) (b == 92) _ _ _ _ (Some (literal b, 0)) h
 
 -- the tokens of a pattern without wildcards are its bytes
-tokens_plain : (fresh : Bool) (bs : List ℕ) → list_any is_special bs ≡ false → tokens_after 0 fresh bs ≡ Some (map literal bs)
+pub tokens_plain : (fresh : Bool) (bs : List ℕ) → list_any is_special bs ≡ false → tokens_after 0 fresh bs ≡ Some (map literal bs)
 unfolding tokens_after
 tokens_plain fresh [] h = refl
 tokens_plain fresh (b ∷ bs) h =
@@ -36,11 +37,11 @@ tokens_plain fresh (b ∷ bs) h =
     ∙ ap (λ (o : Option (List Token)). option_map (λ (ts : List Token). literal b ∷ ts) o) (tokens_plain (b == 47) bs parts.1)
 
 module _ (mode : WildMode) where
-  abbrev f : ℕ → ℕ
+  abbrev pub f : ℕ → ℕ
   f b = folded mode.case b
 
   -- each piece is the byte of its token, as letters compare
-  split_same : (pattern text : List ℕ) → IsSplit mode (map literal pattern) text → map f text ≡ map f pattern
+  pub split_same : (pattern text : List ℕ) → IsSplit mode (map literal pattern) text → map f text ≡ map f pattern
   split_same [] text ([], e, each) = ap (map f) e
   split_same [] text (piece ∷ pieces, e, each) = absurd each
   split_same (c ∷ pattern) text ([], e, each) = absurd each
@@ -49,7 +50,7 @@ module _ (mode : WildMode) where
       ∙ ap (λ (x : ℕ). x ∷ map f (concat pieces)) (eqb-true (f b) (f c) same)
       ∙ ap (λ (xs : List ℕ). f c ∷ xs) (split_same pattern (concat pieces) (pieces, refl, each))
 
-  same_split : (pattern text : List ℕ) → map f text ≡ map f pattern → IsSplit mode (map literal pattern) text
+  pub same_split : (pattern text : List ℕ) → map f text ≡ map f pattern → IsSplit mode (map literal pattern) text
   same_split [] [] h = ([], refl, tt)
   same_split [] (b ∷ bs) h = absurd (cc)
   same_split (c ∷ pattern) [] h = absurd (cc)

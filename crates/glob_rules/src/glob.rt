@@ -38,7 +38,7 @@ fn is_allowed(mode: WildMode, byte: u8) -> bool
 }
 
 /// The bytes after the first `count`.
-fn past(bytes: &[u8], count: usize) -> &[u8]
+pub fn past(bytes: &[u8], count: usize) -> &[u8]
     requires { count ≤ length bytes.now }
     ensures { result.now ≡ drop count bytes.now }
 {

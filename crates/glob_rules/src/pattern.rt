@@ -3,8 +3,9 @@ ghost use Rattle.std.specs.Prelude.{◌≡◌, ◌↔◌, length, map, IsTrue, I
 ghost use Rattle.glob_rules.specs.Class.{folded};
 ghost use Rattle.glob_rules.specs.Glob.{matches};
 ghost use Rattle.glob_rules.specs.Rule as rules;
-ghost use Rattle.glob_rules.specs.Rule.{mode_of, rule_matches, rule_matches_parts, rule_of, unsigned_rule};
+ghost use Rattle.glob_rules.specs.Rule.{EndsSo, mode_of, rule_matches, rule_matches_parts, rule_of, unsigned_rule};
 
+use crate::glob::past;
 use crate::{Case, WildMode, wildmatch};
 use gitbase_core::{Bytes, OutOfMemory};
 use std::alloc::Global;
@@ -20,8 +21,18 @@ pub struct Pattern {
     is_negative: bool,
     must_be_dir: bool,
     by_name: bool,
-    /// Whether a byte of the text has a meaning of its own.
-    has_wildcards: bool,
+    shape: Shape,
+}
+
+/// How much of a pattern's text is wildcards.
+#[derive(Clone, Copy, Debug, PartialEq, Eq)]
+enum Shape {
+    /// Nothing: each byte stands for itself.
+    Plain,
+    /// A star at the start.
+    Ending,
+    /// Something else.
+    Wild,
 }
 
 impl Model for Pattern {
@@ -33,7 +44,7 @@ impl Model for Pattern {
 
     ghost view = { λ p. record { text = p.text; is_negative = p.is_negative; must_be_dir = p.must_be_dir; by_name = p.by_name } };
 
-    ghost invariant = { λ p. p.has_wildcards ≡ rules.has_wildcards p.text };
+    ghost invariant = { λ p. p.shape ≡ rules.shape_of p.text };
 }
 
 /// Whether the bytes begin with this one, and what is left of them without it.
@@ -78,6 +89,24 @@ fn has_wildcards(bytes: &[u8]) -> bool
     ensures { result ≡ rules.has_wildcards bytes.now }
 {
     bytes.iter().any(|byte| is_special(*byte))
+}
+
+/// How much of a pattern is wildcards.
+fn shape_of(bytes: &[u8]) -> Shape
+    ensures { result ≡ rules.shape_of bytes.now }
+{
+    match bytes {
+        [] => Shape::Plain,
+        [first, rest @ ..] => if has_wildcards(rest) {
+            Shape::Wild
+        } else if *first == b'*' {
+            Shape::Ending
+        } else if is_special(*first) {
+            Shape::Wild
+        } else {
+            Shape::Plain
+        },
+    }
 }
 
 /// What follows the last slash of a path.
@@ -131,6 +160,17 @@ fn is_same_text(case: Case, left: &[u8], right: &[u8]) -> bool
     }
 }
 
+/// Whether the text has this ending, as letters compare, and no slash before it.
+fn has_ending(text: &[u8], ending: &[u8], case: Case) -> bool
+    ensures { IsTrue result ↔ EndsSo case ending.now text.now }
+{
+    if text.len() < ending.len() {
+        return false;
+    }
+    let (front, back) = text.split_at(text.len() - ending.len());
+    !has_slash(front) && is_same_text(case, back, ending)
+}
+
 impl Pattern {
     /// The pattern of a line: one leading `!`, one leading `/` and one trailing `/` are taken off.
     ///
@@ -161,7 +201,7 @@ impl Pattern {
             is_negative,
             must_be_dir,
             by_name,
-            has_wildcards: has_wildcards(rest),
+            shape: shape_of(rest),
         }))
     }
 
@@ -174,7 +214,7 @@ impl Pattern {
             is_negative: self.is_negative,
             must_be_dir: self.must_be_dir,
             by_name: self.by_name,
-            has_wildcards: self.has_wildcards,
+            shape: self.shape,
         })
     }
 
@@ -238,17 +278,18 @@ impl Pattern {
         }
     }
 
-    /// Whether the text is matched; a pattern without wildcards is compared.
+    /// Whether the text is matched; only a pattern with wildcards of many kinds is searched for.
     fn matches_text(&self, text: &[u8], case: Case) -> bool
         ensures { result ≡ matches (mode_of case) self.now.text text.now }
     {
-        if !self.has_wildcards {
-            return is_same_text(case, text, self.text.as_bytes());
+        let pattern = self.text.as_bytes();
+        match self.shape {
+            Shape::Plain => is_same_text(case, text, pattern),
+            Shape::Ending => has_ending(text, past(pattern, 1), case),
+            Shape::Wild => wildmatch(pattern, text, WildMode {
+                case,
+                wildcards_take_slash: false,
+            }),
         }
-        let mode = WildMode {
-            case,
-            wildcards_take_slash: false,
-        };
-        wildmatch(self.text.as_bytes(), text, mode)
     }
 }
