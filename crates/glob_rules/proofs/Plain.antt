@@ -1,15 +1,18 @@
 -- A pattern without wildcards matches what is the same text.
-use Rattle.std.proofs.Common.{◌≡◌, ℕ, ◌↔◌, Bool, true, false, cond, ◌||◌, ◌==◌, List, [], ◌∷◌, ◌++◌, map, option_map, Option, Some, IsSomeAnd, IsTrue, refl, ap, sym, ◌∙◌, subst}
-use Rattle.std.proofs.lemmas.Bool.{eqb-true, eq-eqb, or_parts}
+use Rattle.std.proofs.Common.{◌≡◌, ℕ, get_or, ◌↔◌, Bool, true, false, cond, ◌||◌, ◌==◌, List, [], ◌∷◌, ◌++◌, map, option_map, Option, Some, IsSomeAnd, IsTrue, refl, ap, sym, ◌∙◌, subst, arith}
+use Rattle.std.proofs.lemmas.Bool.{eqb-true, eq-eqb, or_parts, false≢true}
 use Rattle.std.specs.List.{concat, list_any}
 use Rattle.std.specs.Char.{to_ascii_lowercase}
 use Rattle.glob_rules.specs.declared.Case.{Case}
 use Rattle.glob_rules.specs.declared.Case.TheVariants.{Sensitive, Fold}
 use Rattle.glob_rules.specs.declared.WildMode.{WildMode}
 use Rattle.glob_rules.specs.Class.{folded}
-use Rattle.glob_rules.specs.Glob.{Token, literal, token_at, tokens_after, IsSplit, matches}
-use Rattle.glob_rules.specs.Rule.{is_special, has_wildcards}
-use Rattle.glob_rules.proofs.Splits.{first_read}
+use Rattle.glob_rules.specs.Glob.{Token, is_special, literal, token_at, tokens_after, IsSplit, MatchesFrom, matches}
+use Rattle.glob_rules.specs.Rule.{has_wildcards}
+use Rattle.glob_rules.specs.declared.glob.step.Step.TheVariants.{One}
+use Rattle.glob_rules.specs.Step.{step_of}
+use Rattle.glob_rules.proofs.Steps.{tells}
+use Rattle.glob_rules.proofs.Splits.{first_read, at_end}
 use Rattle.glob_rules.proofs.Decide.{same_test}
 
 abbrev Found : Type 0
@@ -24,7 +27,7 @@ last_choice false false false true v w x y z h = absurd (cc)
 last_choice false false false false v w x y z h = refl
 
 -- a byte that is not special is itself
-token_plain : (fresh : Bool) (b : ℕ) (bs : List ℕ) → is_special b ≡ false → token_at fresh b bs ≡ Some (literal b, 0)
+pub token_plain : (fresh : Bool) (b : ℕ) (bs : List ℕ) → is_special b ≡ false → token_at fresh b bs ≡ Some (literal b, 0)
 token_plain fresh b bs h = last_choice (b == 42) (b == 63) (b == 91) (b == 92) _ _ _ _ (Some (literal b, 0)) h
 
 -- the tokens of a pattern without wildcards are its bytes
@@ -35,6 +38,17 @@ tokens_plain fresh (b ∷ bs) h =
     let parts = or_parts (is_special b) (list_any is_special bs) h in
     first_read fresh b bs (literal b) 0 (token_plain fresh b bs parts.0)
     ∙ ap (λ (o : Option (List Token)). option_map (λ (ts : List Token). literal b ∷ ts) o) (tokens_plain (b == 47) bs parts.1)
+
+-- a plain byte does not match where the text begins with another
+pub ruled_out : (mode : WildMode) (fresh : Bool) (pattern text : List ℕ) → is_special (get_or pattern 0 0) ≡ false → (folded mode.case (get_or text 0 0) == folded mode.case (get_or pattern 0 0)) ≡ false →
+    MatchesFrom mode fresh pattern text → ⊥
+ruled_out mode fresh [] [] plain differs h = false≢true (sym differs ∙ eq-eqb (folded mode.case 0) (folded mode.case 0) refl)
+ruled_out mode fresh [] (c ∷ cs) plain differs h = let ended : c ∷ cs ≡ [] = at_end mode fresh (c ∷ cs) h in absurd (cc)
+ruled_out mode fresh (b ∷ bs) [] plain differs h =
+    (tells mode fresh (b ∷ bs) [] (Some (One false (b == 47) 1)) (omega arith) (sym (ap (option_map (step_of mode [])) (token_plain fresh b bs plain)))).0 refl h
+ruled_out mode fresh (b ∷ bs) (c ∷ cs) plain differs h =
+    (tells mode fresh (b ∷ bs) (c ∷ cs) (Some (One (folded mode.case c == folded mode.case b) (b == 47) 1)) (omega arith)
+    (sym (ap (option_map (step_of mode (c ∷ cs))) (token_plain fresh b bs plain)))).0 differs h
 
 module _ (mode : WildMode) where
   abbrev pub f : ℕ → ℕ

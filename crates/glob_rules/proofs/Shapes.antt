@@ -1,15 +1,14 @@
 -- What the shape of a pattern says of its matches.
-use Rattle.std.proofs.Common.{◌≡◌, ℕ, suc, ◌-◌, ◌<◌, ◌≤◌, ◌↔◌, Bool, true, false, cond, not, ◌&&◌, ◌||◌, ◌==◌, List, [], ◌∷◌, map, length, take, drop, option_map, Option, Some, IsSomeAnd, IsTrue, refl, ap, sym, ◌∙◌, subst, arith}
-use Rattle.std.proofs.lemmas.Bool.{eqb-true, not-true, not_from_false, or_parts, false≢true}
+use Rattle.std.proofs.Common.{◌≡◌, ℕ, suc, ◌-◌, ◌≤◌, ◌↔◌, Bool, true, false, cond, not, ◌&&◌, ◌||◌, ◌==◌, List, [], ◌∷◌, map, length, take, drop, option_map, Option, Some, IsSomeAnd, IsTrue, refl, ap, sym, ◌∙◌, subst, arith}
+use Rattle.std.proofs.lemmas.Bool.{eqb-true, not-true, not_from_false, or_parts}
 use Rattle.std.proofs.lemmas.List.{length-drop, length-map}
 use Rattle.std.specs.List.{list_any, list_all}
 use Rattle.glob_rules.specs.declared.Case.{Case}
-use Rattle.glob_rules.specs.declared.WildMode.{WildMode}
 use Rattle.glob_rules.specs.declared.pattern.Shape.{Shape}
 use Rattle.glob_rules.specs.declared.pattern.Shape.TheVariants.{Plain, Ending, Wild}
 use Rattle.glob_rules.specs.Class.{folded}
-use Rattle.glob_rules.specs.Glob.{Token, literal, stars, token_at, tokens_after, leading_stars, run_of_stars, is_allowed, takes, Takes, IsSplit, matches}
-use Rattle.glob_rules.specs.Rule.{is_special, has_wildcards, has_slash, shape_of, mode_of, EndsSo}
+use Rattle.glob_rules.specs.Glob.{Token, is_special, literal, stars, token_at, tokens_after, leading_stars, run_of_stars, Takes, IsSplit, matches}
+use Rattle.glob_rules.specs.Rule.{has_wildcards, has_slash, shape_of, mode_of, EndsSo}
 use Rattle.glob_rules.proofs.Splits.{first_read, to_split, of_split}
 use Rattle.glob_rules.proofs.Decide.{same_test, takes_decides}
 use Rattle.glob_rules.proofs.Plain.{tokens_plain, split_same, same_split}
@@ -104,7 +103,3 @@ module _ (case : Case) (ending text : List ℕ) where
 pub ending_matches : (case : Case) (pattern text : List ℕ) (r : Bool) → shape_of pattern ≡ Ending → IsTrue r ↔ EndsSo case (drop 1 pattern) text → r ≡ matches (mode_of case) pattern text
 ending_matches case [] text r shape h = absurd (cc)
 ending_matches case (b ∷ bs) text r shape h = ending_here case bs text b r shape h
-
-pub ending_long : (pattern : List ℕ) → shape_of pattern ≡ Ending → 1 ≤ length pattern
-ending_long [] shape = absurd (cc)
-ending_long (b ∷ bs) shape = omega arith

@@ -10,9 +10,9 @@ use Rattle.glob_rules.specs.declared.Case.{Case}
 use Rattle.glob_rules.specs.declared.WildMode.{WildMode}
 use Rattle.glob_rules.specs.declared.pattern.Shape.{Shape}
 use Rattle.glob_rules.specs.declared.pattern.Shape.TheVariants.{Plain, Ending, Wild}
-use Rattle.glob_rules.specs.Marks.{slash, star, question_mark, open_bracket, backslash, exclamation_mark}
+use Rattle.glob_rules.specs.Marks.{slash, star, exclamation_mark}
 use Rattle.glob_rules.specs.Class.{folded}
-use Rattle.glob_rules.specs.Glob.{matches}
+use Rattle.glob_rules.specs.Glob.{is_special, matches}
 
 -- A rule: what is left of its pattern, what the marks said, and whether it is matched with the last component of a path.
 pub record Rule : Type 0 where
@@ -94,10 +94,6 @@ rule_matches_parts rule name relative is_dir case =
 -- the rule, of a list with the directory `base`, matches the path
 abbrev pub rule_matches : Rule → List ℕ → List ℕ → Option Bool → Case → Bool
 rule_matches rule path base is_dir case = rule_matches_parts rule (last_component path) (relative_to base path) is_dir case
-
--- the byte has a meaning of its own in a pattern
-abbrev pub is_special : ℕ → Bool
-is_special b = (b == star) || (b == question_mark) || (b == open_bracket) || (b == backslash)
 
 -- a byte of the pattern has a meaning of its own
 abbrev pub has_wildcards : List ℕ → Bool

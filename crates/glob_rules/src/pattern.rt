@@ -5,7 +5,7 @@ ghost use Rattle.glob_rules.specs.Glob.{matches};
 ghost use Rattle.glob_rules.specs.Rule as rules;
 ghost use Rattle.glob_rules.specs.Rule.{EndsSo, mode_of, rule_matches, rule_matches_parts, rule_of, unsigned_rule};
 
-use crate::glob::past;
+use crate::glob::{is_special, past};
 use crate::{Case, WildMode, wildmatch};
 use gitbase_core::{Bytes, OutOfMemory};
 use std::alloc::Global;
@@ -75,13 +75,6 @@ fn has_slash(bytes: &[u8]) -> bool
     ensures { result ≡ rules.has_slash bytes.now }
 {
     bytes.iter().any(|byte| *byte == b'/')
-}
-
-/// Whether the byte has a meaning of its own in a pattern.
-fn is_special(byte: u8) -> bool
-    ensures { result ≡ rules.is_special byte }
-{
-    byte == b'*' || byte == b'?' || byte == b'[' || byte == b'\\'
 }
 
 /// Whether a byte of the pattern has a meaning of its own.
@@ -286,10 +279,14 @@ impl Pattern {
         match self.shape {
             Shape::Plain => is_same_text(case, text, pattern),
             Shape::Ending => has_ending(text, past(pattern, 1), case),
-            Shape::Wild => wildmatch(pattern, text, WildMode {
-                case,
-                wildcards_take_slash: false,
-            }),
+            Shape::Wild => wildmatch(
+                pattern,
+                text,
+                WildMode {
+                    case,
+                    wildcards_take_slash: false,
+                },
+            ),
         }
     }
 }

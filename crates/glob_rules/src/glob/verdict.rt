@@ -3,12 +3,12 @@
 //! A verdict tells more than whether there is a match. So a failure after the last run of stars ends the search of the runs
 //! before it, and no pattern takes exponential time.
 ghost use Rattle.std.specs.Prelude.{◌≡◌, ◌↔◌, IsTrue};
-ghost use Rattle.glob_rules.specs.Glob.{Matches};
+ghost use Rattle.glob_rules.specs.Glob.{Matches, MatchesFrom};
 ghost use Rattle.glob_rules.specs.Verdict as verdicts;
 ghost use Rattle.glob_rules.specs.Verdict.{FromTells, StarsTell, DirectoriesTell};
 
 use super::step::{Step, next_step};
-use super::{is_allowed, past};
+use super::{folded, is_allowed, is_special, past};
 use crate::WildMode;
 
 /// What is told of a match at the start of a text, and at later starts in it.
@@ -87,13 +87,36 @@ fn matches_from(pattern: &[u8], fresh: bool, text: &[u8], mode: WildMode) -> Ver
     }
 }
 
+/// Whether the first byte of the text shows that the rest of a pattern does not match.
+fn is_ruled_out(pattern: &[u8], fresh: bool, text: &[u8], mode: WildMode) -> bool
+    ensures { IsTrue result → MatchesFrom mode fresh pattern.now text.now → ⊥ }
+{
+    match (pattern, text) {
+        ([wanted, ..], [first, ..]) => {
+            !is_special(*wanted) && folded(mode.case, *first) != folded(mode.case, *wanted)
+        }
+        _ => false,
+    }
+}
+
+/// The same as `matches_from`, where the first byte is tried before.
+#[cycle(wild)]
+fn matches_here(pattern: &[u8], fresh: bool, text: &[u8], mode: WildMode) -> Verdict
+    ensures { FromTells mode fresh pattern.now text.now result }
+{
+    if is_ruled_out(pattern, fresh, text, mode) {
+        return Verdict::No;
+    }
+    matches_from(pattern, fresh, text, mode)
+}
+
 /// Whether the rest of a pattern matches after some front of the text that stars take.
 #[cycle(wild)]
 fn matches_after_stars(pattern: &[u8], text: &[u8], mode: WildMode) -> Verdict
     ensures { StarsTell mode pattern.now text.now result }
 {
     for k in 0..text.len() {
-        match matches_from(pattern, false, past(text, k), mode) {
+        match matches_here(pattern, false, past(text, k), mode) {
             Verdict::Yes => return Verdict::Yes,
             Verdict::Never => return Verdict::Never,
             Verdict::Barred => return Verdict::Barred,
@@ -103,7 +126,7 @@ fn matches_after_stars(pattern: &[u8], text: &[u8], mode: WildMode) -> Verdict
             return Verdict::Barred;
         }
     }
-    match matches_from(pattern, false, past(text, text.len()), mode) {
+    match matches_here(pattern, false, past(text, text.len()), mode) {
         Verdict::Yes => Verdict::Yes,
         _ => Verdict::Never,
     }
@@ -114,14 +137,14 @@ fn matches_after_stars(pattern: &[u8], text: &[u8], mode: WildMode) -> Verdict
 fn matches_after_directories(pattern: &[u8], text: &[u8], mode: WildMode) -> Verdict
     ensures { DirectoriesTell mode pattern.now text.now result }
 {
-    match matches_from(pattern, true, text, mode) {
+    match matches_here(pattern, true, text, mode) {
         Verdict::Yes => return Verdict::Yes,
         Verdict::Never => return Verdict::Never,
         _ => {}
     }
     for j in 0..text.len() {
         if text[j] == b'/' {
-            match matches_from(pattern, true, past(text, j + 1), mode) {
+            match matches_here(pattern, true, past(text, j + 1), mode) {
                 Verdict::Yes => return Verdict::Yes,
                 Verdict::Never => return Verdict::Never,
                 _ => {}

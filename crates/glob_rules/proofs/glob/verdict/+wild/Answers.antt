@@ -9,10 +9,10 @@ use Rattle.glob_rules.specs.Verdict.{FromTells, VerdictTells}
 use Rattle.glob_rules.proofs.Reached.{advanced, called, ended_here, not_ended, refuses, stars_barred, stars_never, stars_stop, stars_ended, starts_never, starts_ended}
 use Rattle.glob_rules.proofs.glob.verdict.+wild.Goals as goal
 
-pub matches_after_directories-returns-in-Never-matches_from : goal.matches_after_directories-returns-in-Never-matches_from
-matches_after_directories-returns-in-Never-matches_from t c =
+pub matches_after_directories-returns-in-Never-matches_here : goal.matches_after_directories-returns-in-Never-matches_here
+matches_after_directories-returns-in-Never-matches_here t c =
     starts_never c.args.mode c.args.pattern.now c.args.text.now c.loop-j.j (omega arith) c.loop-j.invariant.first c.loop-j.invariant.none
-    (subst (λ xs. FromTells c.args.mode true c.args.pattern.now xs Never) c.past.ensures c.in-Never-matches_from.ensures)
+    (subst (λ xs. FromTells c.args.mode true c.args.pattern.now xs Never) c.past.ensures c.in-Never-matches_here.ensures)
 
 pub matches_after_directories-returns : goal.matches_after_directories-returns
 matches_after_directories-returns t c =
@@ -42,8 +42,8 @@ matches_after_stars-loop-k-preserved t c = record {
 pub matches_after_stars-returns-in_default : goal.matches_after_stars-returns-in_default
 matches_after_stars-returns-in_default t c =
     stars_ended c.args.mode c.args.pattern.now c.args.text.now (λ m h. c.loop-k.invariant.none m (omega arith))
-    (refuses c.args.mode false (MatchesFrom c.args.mode false c.args.pattern.now) _ c.matches_from-2.result c.in_default.not-Yes
-    (subst (λ xs. FromTells c.args.mode false c.args.pattern.now xs c.matches_from-2.result) c.past-2.ensures c.matches_from-2.ensures))
+    (refuses c.args.mode false (MatchesFrom c.args.mode false c.args.pattern.now) _ c.matches_here-2.result c.in_default.not-Yes
+    (subst (λ xs. FromTells c.args.mode false c.args.pattern.now xs c.matches_here-2.result) c.past-2.ensures c.matches_here-2.ensures))
 
 pub matches_from-loop-ahead-preserved : goal.matches_from-loop-ahead-preserved
 matches_from-loop-ahead-preserved t c =
