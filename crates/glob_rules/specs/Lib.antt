@@ -4,4 +4,5 @@ pub mod Glob
 pub mod Step
 pub mod Verdict
 pub mod Rule
+pub mod Shape
 pub mod Ignore

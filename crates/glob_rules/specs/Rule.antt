@@ -4,15 +4,12 @@
 -- rule. The `!` makes the rule negative, and the trailing slash one for directories alone. A rule from which no leading slash
 -- was taken, and whose remaining bytes have no slash, is matched with the last component of a path. Any other is matched with
 -- the path as it reads from the directory of the rule's list, beneath which the path must lie. Wildcards take no slash.
-use Rattle.std.specs.Prelude.{◌≡◌, ℕ, ◌≤◌, ◌-◌, map, Bool, true, false, not, ◌&&◌, ◌||◌, List, [], ◌∷◌, length, take, drop, Option, Some, None, ◌==◌, nat_eq, if◌then◌else◌}
+use Rattle.std.specs.Prelude.{ℕ, ◌-◌, Bool, true, false, not, ◌&&◌, ◌||◌, List, [], ◌∷◌, length, take, drop, Option, Some, None, ◌==◌, nat_eq, if◌then◌else◌}
 use Rattle.std.specs.List.{list_any, starts_with, ends_with, after_last}
 use Rattle.glob_rules.specs.declared.Case.{Case}
 use Rattle.glob_rules.specs.declared.WildMode.{WildMode}
-use Rattle.glob_rules.specs.declared.pattern.Shape.{Shape}
-use Rattle.glob_rules.specs.declared.pattern.Shape.TheVariants.{Plain, Ending, Wild}
-use Rattle.glob_rules.specs.Marks.{slash, star, exclamation_mark}
-use Rattle.glob_rules.specs.Class.{folded}
-use Rattle.glob_rules.specs.Glob.{is_special, matches}
+use Rattle.glob_rules.specs.Marks.{slash, exclamation_mark}
+use Rattle.glob_rules.specs.Glob.{matches}
 
 -- A rule: what is left of its pattern, what the marks said, and whether it is matched with the last component of a path.
 pub record Rule : Type 0 where
@@ -94,18 +91,3 @@ rule_matches_parts rule name relative is_dir case =
 -- the rule, of a list with the directory `base`, matches the path
 abbrev pub rule_matches : Rule → List ℕ → List ℕ → Option Bool → Case → Bool
 rule_matches rule path base is_dir case = rule_matches_parts rule (last_component path) (relative_to base path) is_dir case
-
--- a byte of the pattern has a meaning of its own
-abbrev pub has_wildcards : List ℕ → Bool
-has_wildcards bs = list_any is_special bs
-
--- how much of a pattern is wildcards: nothing, a star at the start, or something else
-abbrev pub shape_of : List ℕ → Shape
-shape_of [] = Plain
-shape_of (b ∷ bs) = if has_wildcards bs then Wild else if b == star then Ending else if is_special b then Wild else Plain
-
--- the text has this ending, as letters compare, and no slash before it
-abbrev pub EndsSo : Case → List ℕ → List ℕ → Type 0
-EndsSo case ending text =
-    (length ending ≤ length text) × (has_slash (take (length text - length ending) text) ≡ false) ×
-    (map (folded case) (drop (length text - length ending) text) ≡ map (folded case) ending)

@@ -1,4 +1,4 @@
-//! Lists of ignore rules, and which rule holds for a path.
+//! Lists of ignore rules, and which rule holds for a path; the names are those of gitoxide's `gix_ignore`.
 use crate::Pattern;
 
 mod line;

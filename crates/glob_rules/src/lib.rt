@@ -29,12 +29,11 @@ pub struct WildMode {
     pub wildcards_take_slash: bool,
 }
 
-/// Whether the whole of `text` is matched by `pattern`.
+/// Whether the whole of `text` is matched by `pattern`; gitoxide's `gix_glob::wildmatch`.
 ///
 /// The wildcards are those of gitignore(5): `*`, `?`, classes in brackets, `**/` for any directories, and `**` at the end
 /// for anything beneath. A malformed pattern, as one with a bracket that is not closed, matches nothing. Takes no memory;
 /// its time grows as a polynomial of both lengths.
-#[tactic(auto, using(crate::proofs::Decide::same_test))]
 pub fn wildmatch(pattern: &[u8], text: &[u8], mode: WildMode) -> bool
     ensures pieces { IsTrue result ↔ Matches mode pattern.now text.now }
     ensures value { result ≡ matches mode pattern.now text.now }

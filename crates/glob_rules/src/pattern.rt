@@ -3,7 +3,9 @@ ghost use Rattle.std.specs.Prelude.{◌≡◌, ◌↔◌, length, map, IsTrue, I
 ghost use Rattle.glob_rules.specs.Class.{folded};
 ghost use Rattle.glob_rules.specs.Glob.{matches};
 ghost use Rattle.glob_rules.specs.Rule as rules;
-ghost use Rattle.glob_rules.specs.Rule.{EndsSo, mode_of, rule_matches, rule_matches_parts, rule_of, unsigned_rule};
+ghost use Rattle.glob_rules.specs.Rule.{mode_of, rule_matches, rule_matches_parts, rule_of, unsigned_rule};
+ghost use Rattle.glob_rules.specs.Shape as shapes;
+ghost use Rattle.glob_rules.specs.Shape.{EndsSo};
 
 use crate::glob::{is_special, past};
 use crate::{Case, WildMode, wildmatch};
@@ -11,7 +13,7 @@ use gitbase_core::{Bytes, OutOfMemory};
 use std::alloc::Global;
 use std::marker::Model;
 
-/// The pattern of a rule, without the marks around it.
+/// The pattern of a rule, without the marks around it; gitoxide's `gix_glob::Pattern`.
 ///
 /// Contracts see a record: its text, whether it is negative, whether it is for directories alone, and whether it is matched
 /// with the last component of a path.
@@ -37,14 +39,14 @@ enum Shape {
 
 impl Model for Pattern {
     ghost use Rattle.std.specs.Prelude.{◌≡◌};
-    ghost use Rattle.glob_rules.specs.Rule as rules;
     ghost use Rattle.glob_rules.specs.Rule.{Rule};
+    ghost use Rattle.glob_rules.specs.Shape.{shape_of};
 
     ghost Value = { Rule };
 
     ghost view = { λ p. record { text = p.text; is_negative = p.is_negative; must_be_dir = p.must_be_dir; by_name = p.by_name } };
 
-    ghost invariant = { λ p. p.shape ≡ rules.shape_of p.text };
+    ghost invariant = { λ p. p.shape ≡ shape_of p.text };
 }
 
 /// Whether the bytes begin with this one, and what is left of them without it.
@@ -79,14 +81,14 @@ fn has_slash(bytes: &[u8]) -> bool
 
 /// Whether a byte of the pattern has a meaning of its own.
 fn has_wildcards(bytes: &[u8]) -> bool
-    ensures { result ≡ rules.has_wildcards bytes.now }
+    ensures { result ≡ shapes.has_wildcards bytes.now }
 {
     bytes.iter().any(|byte| is_special(*byte))
 }
 
 /// How much of a pattern is wildcards.
 fn shape_of(bytes: &[u8]) -> Shape
-    ensures { result ≡ rules.shape_of bytes.now }
+    ensures { result ≡ shapes.shape_of bytes.now }
 {
     match bytes {
         [] => Shape::Plain,
@@ -165,7 +167,7 @@ fn has_ending(text: &[u8], ending: &[u8], case: Case) -> bool
 }
 
 impl Pattern {
-    /// The pattern of a line: one leading `!`, one leading `/` and one trailing `/` are taken off.
+    /// The pattern of a line as gitignore(5) has it: one leading `!`, one leading `/` and one trailing `/` are taken off.
     ///
     /// None where nothing is left. Fails only where memory is refused.
     pub fn parse(alloc: Global, line: &[u8]) -> Result<Option<Pattern>, OutOfMemory>
