@@ -1,5 +1,9 @@
 -- Kinds of nodes.
 use Rattle.std.specs.Prelude.{Bool, true, false, not, Option, Some, None}
+use Rattle.worktree_fs.specs.declared.answers.NodeKind.{NodeKind}
+use Rattle.worktree_fs.specs.declared.answers.NodeKind.TheVariants as nodes
+use Rattle.gitbase_core.specs.declared.kinds.EntryKind.{EntryKind}
+use Rattle.gitbase_core.specs.declared.kinds.EntryKind.TheVariants as entries
 use Rattle.dir_classify.specs.declared.entry.Kind.{Kind}
 use Rattle.dir_classify.specs.declared.entry.Kind.TheVariants.{Untrackable, File, Symlink, Directory, Repository}
 
@@ -28,3 +32,43 @@ answers_alike (Some false) (Some b) = not b
 abbrev pub first_of_kinds : Option Kind → Option Kind → Option Kind
 first_of_kinds None second = second
 first_of_kinds (Some kind) second = Some kind
+
+-- the kind of a node on disk, before anyone asks whether a directory is a repository
+abbrev pub from_node : NodeKind → Kind
+from_node nodes.File = File
+from_node nodes.Symlink = Symlink
+from_node nodes.Directory = Directory
+from_node nodes.Untrackable = Untrackable
+
+-- the kind of an entry in the index
+abbrev pub from_entry : EntryKind → Kind
+from_entry entries.Repository = Repository
+from_entry entries.File = File
+from_entry entries.Symlink = Symlink
+from_entry entries.Directory = Directory
+
+-- ---- one kind
+
+abbrev pub is_directory : Option Kind → Bool
+is_directory (Some Directory) = true
+is_directory (Some Repository) = false
+is_directory (Some Untrackable) = false
+is_directory (Some File) = false
+is_directory (Some Symlink) = false
+is_directory None = false
+
+abbrev pub is_repository : Option Kind → Bool
+is_repository (Some Repository) = true
+is_repository (Some Directory) = false
+is_repository (Some Untrackable) = false
+is_repository (Some File) = false
+is_repository (Some Symlink) = false
+is_repository None = false
+
+abbrev pub is_symlink : Option Kind → Bool
+is_symlink (Some Symlink) = true
+is_symlink (Some Directory) = false
+is_symlink (Some Repository) = false
+is_symlink (Some Untrackable) = false
+is_symlink (Some File) = false
+is_symlink None = false

@@ -4,8 +4,9 @@ ghost use Rattle.dir_classify.specs.Kinds.{is_directory_kind};
 ghost use Rattle.dir_classify.specs.Enters.{is_pruned_status, can_recurse};
 ghost use Rattle.dir_classify.specs.Entries.{entry_of};
 
-use gitbase_core::{OutOfMemory, PathText};
+use gitbase_core::{EntryKind, OutOfMemory, PathText};
 use std::alloc::Global;
+use worktree_fs::NodeKind;
 
 /// A property that sets a path apart, as gitoxide's `gix_dir::entry::Property`.
 #[derive(Clone, Copy, Debug, PartialEq, Eq, PartialOrd, Ord, Hash)]
@@ -44,6 +45,38 @@ impl Kind {
     }
 }
 
+impl From<NodeKind> for Kind {
+    ghost use Rattle.std.specs.Prelude.{◌≡◌};
+    ghost use Rattle.dir_classify.specs.Kinds.{from_node};
+
+    ghost from_gives = { λ node kind. kind ≡ from_node node };
+
+    fn from(node: NodeKind) -> Kind {
+        match node {
+            NodeKind::File => Kind::File,
+            NodeKind::Symlink => Kind::Symlink,
+            NodeKind::Directory => Kind::Directory,
+            NodeKind::Untrackable => Kind::Untrackable,
+        }
+    }
+}
+
+impl From<EntryKind> for Kind {
+    ghost use Rattle.std.specs.Prelude.{◌≡◌};
+    ghost use Rattle.dir_classify.specs.Kinds.{from_entry};
+
+    ghost from_gives = { λ entry kind. kind ≡ from_entry entry };
+
+    fn from(entry: EntryKind) -> Kind {
+        match entry {
+            EntryKind::Repository => Kind::Repository,
+            EntryKind::File => Kind::File,
+            EntryKind::Symlink => Kind::Symlink,
+            EntryKind::Directory => Kind::Directory,
+        }
+    }
+}
+
 /// How a path stands to the index and the rules.
 #[derive(Clone, Copy, Debug, PartialEq, Eq, PartialOrd, Ord, Hash)]
 pub enum Status {
@@ -66,11 +99,7 @@ impl Status {
     /// Whether a walk looks into a path of this status whose kind on disk is `file_type`: into directories that
     /// are not pruned, and into repositories only where the worktree root itself is seen as one. The default
     /// recursion of gitoxide's `Status::can_recurse`.
-    pub fn can_recurse(
-        &self,
-        file_type: Option<Kind>,
-        worktree_root_is_repository: bool,
-    ) -> bool
+    pub fn can_recurse(&self, file_type: Option<Kind>, worktree_root_is_repository: bool) -> bool
         ensures { result ≡ can_recurse self.now file_type worktree_root_is_repository }
     {
         let is_open = match file_type {

@@ -2,8 +2,10 @@
 //! index, and whether a walk looks into it.
 #![tactic(auto)]
 
+pub mod classify;
 pub mod entry;
 pub mod error;
+pub mod index;
 pub mod options;
 
 pub use entry::{Entry, EntryRef, Kind, PathspecMatch, Property, Status};
