@@ -1,0 +1,15 @@
+-- Emitting one entry after another.
+use Rattle.std.proofs.Common.{◌≡◌, ℕ, ◌+◌, ◌-◌, ◌^◌, min, List, [], ◌∷◌, ◌++◌, Bool, true, false, cond, ◌&&◌, count_by, refl, sym, ap, ◌∙◌, arith}
+use Rattle.dir_walk.specs.declared.outcome.Outcome.{Outcome}
+use Rattle.dir_walk.specs.Emissions.{Emission}
+use Rattle.dir_walk.specs.Emits.{Emits}
+
+pub Emits-then : (a b c : List Emission) (r s t : Outcome) (f g h : (Emission → Bool) → ℕ) (k l m u v w : ℕ) → Emits a b r s f k u → Emits b c s t g l v
+    → ((p : Emission → Bool) → f p + g p ≡ h p) → k + l ≡ m → u + v ≡ w → Emits a c r t h m w
+Emits-then a b c r s t f g h k l m u v w one two adds seen read =
+    record {
+      entries = λ p. omega (arith, one.entries p, two.entries p, adds p);
+      returned = λ fits. let mid = one.returned fits in let last = two.returned (omega (arith, mid)) in omega (arith, mid, last, adds (λ _. true));
+      seen = λ fits. let mid = one.seen fits in let last = two.seen (omega (arith, mid)) in omega (arith, mid, last, seen);
+      read = λ fits. let mid = one.read fits in let last = two.read (omega (arith, mid)) in omega (arith, mid, last, read);
+    }

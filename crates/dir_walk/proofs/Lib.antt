@@ -1,0 +1,16 @@
+pub mod Classes
+pub mod Counts
+pub mod Follow
+pub mod DistinctPaths
+pub mod Emitting
+pub mod Listed
+pub mod Named
+pub mod Once
+pub mod Placed
+pub mod Refusals
+pub mod Reports
+pub mod Roots
+pub mod Same
+pub mod Sorting
+pub mod Steps
+pub mod Whole

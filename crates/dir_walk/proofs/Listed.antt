@@ -1,0 +1,142 @@
+-- The names of a directory, in whatever order they were walked, lead to what the directory gives.
+use Rattle.std.proofs.Common.{◌≡◌, ℕ, ◌+◌, ◌<◌, ◌≤◌, List, [], ◌∷◌, ◌++◌, Bool, true, false, cond, not, ◌&&◌, ◌||◌, Option, Some, None, sum_by, count_by, take, take_all, length, refl, sym, ap, subst, ◌∙◌, arith}
+use borrow.Author.Tests.{ltb-true}
+use Rattle.std.specs.Prelude.{nat_lt}
+use Rattle.std.specs.Str.{bytes_eq}
+use Rattle.std.specs.List.{IsDistinct, AllByRecursion, list_any}
+use Rattle.std.proofs.lemmas.Cmp.{nat_list_eq_equiv}
+use Rattle.std.proofs.lemmas.List.Sorted.{sum_by-IsPermutation, list_any-IsPermutation, length_permutation}
+use Rattle.std.proofs.lemmas.Map.Keys.{IsDistinct-IsPermutation}
+use Rattle.gitbase_core.specs.Path.{joined, is_empty}
+use Rattle.worktree_fs.specs.Tree.{Node, Names, none, named, names_of, child, Look, look, found, directory}
+use Rattle.worktree_fs.specs.Naming.{IsName, AreNames}
+use Rattle.worktree_fs.specs.Answers.{ListsNames}
+use Rattle.worktree_fs.specs.Join.{at_child}
+use Rattle.dir_classify.specs.declared.options.Options.{Options}
+use Rattle.dir_classify.specs.declared.classify.Outcome.{Outcome as Class}
+use Rattle.dir_classify.specs.Class.{Meanings}
+use Rattle.dir_classify.specs.Entries.{entry_at, class_in}
+use Rattle.dir_walk.specs.declared.outcome.Outcome.{Outcome}
+use Rattle.dir_walk.specs.Emissions.{Emission, is_shown, plain}
+use Rattle.dir_walk.specs.Walked.{Walked, nothing, both, item, items, report_of, entered_at, empty_class}
+use Rattle.dir_walk.specs.Report.{is_refused, depth_of}
+use Rattle.dir_walk.specs.Emits.{Emits, Gives, shown_by, size}
+use Rattle.dir_walk.proofs.Counts.{count_by-append, count_by-cons, list_any-append}
+use Rattle.dir_walk.proofs.Emitting.{Emits-then}
+use Rattle.dir_walk.proofs.Once.{item_at, item_named, IsSum, IsOr, sum_by-agree, any-agree, all_map, sum_once, any_once}
+use Rattle.dir_walk.proofs.Named.{item_looked, item_told, SoFar}
+use Rattle.dir_walk.proofs.Placed.{look-joined, look-directory}
+
+shown-sum : (o : Options) (p : Emission → Bool) → IsSum (λ w. shown_by o p w.out)
+shown-sum o p = record { zero = refl; adds = λ a b. count_by-append (λ x. is_shown o (class_in x.0) && p x) a.out b.out }
+
+out-sum : IsSum (λ w. size w.out)
+out-sum = record { zero = refl; adds = λ a b. count_by-append (λ _. true) a.out b.out }
+
+entered-sum : IsSum (λ w. size w.entered)
+entered-sum = record { zero = refl; adds = λ a b. count_by-append (λ _. true) a.entered b.entered }
+
+or-swap : (a b c d : Bool) → ((a || b) || (c || d)) ≡ ((a || c) || (b || d))
+or-swap true b c d = refl
+or-swap false true true d = refl
+or-swap false true false d = refl
+or-swap false false c d = refl
+
+pub refused-or : (limit : ℕ) → IsOr (is_refused limit)
+refused-or limit =
+    record {
+      zero = refl;
+      adds = λ a b.
+          let deep : List ℕ → Bool = λ path. nat_lt limit (depth_of path) in
+          ap (λ c. c || list_any (λ path. true) (a.broken ++ b.broken)) (list_any-append deep a.entered b.entered)
+          ∙ ap (λ c. (list_any deep a.entered || list_any deep b.entered) || c) (list_any-append (λ path. true) a.broken b.broken)
+          ∙ or-swap (list_any deep a.entered) (list_any deep b.entered) (list_any (λ path. true) a.broken) (list_any (λ path. true) b.broken);
+    }
+
+-- ---- a directory without names, and one with names
+
+length-names : (listed : List (List ℕ)) (at : Look) → (lists : ListsNames at listed) → length (names_of lists.names) ≡ length listed
+length-names listed at lists = length_permutation listed (names_of lists.names) lists.permutation
+
+empty_report : (m : Meanings) (d : List ℕ) (c : Class) (names : Names) → length (names_of names) ≡ 0 → report_of m d c names ≡ record { out = plain (entry_at d (empty_class c)) ∷ []; entered = d ∷ []; broken = [] }
+empty_report m d c none h = refl
+empty_report m d c (named name node rest) h = absurd (omega arith)
+
+full_report : (m : Meanings) (d : List ℕ) (c : Class) (names : Names) → 0 < length (names_of names)
+    → report_of m d c names ≡ record { out = (items m d names).out; entered = d ∷ (items m d names).entered; broken = (items m d names).broken }
+full_report m d c none h = absurd (omega arith)
+full_report m d c (named name node rest) h = refl
+
+-- a directory within the limit is refused where its items are
+within_limit : (limit : ℕ) (d : List ℕ) → depth_of d ≤ limit → nat_lt limit (depth_of d) ≡ false
+within_limit limit d low = go (nat_lt limit (depth_of d)) refl
+  where
+    go : (b : Bool) → nat_lt limit (depth_of d) ≡ b → b ≡ false
+    go false e = refl
+    go true e = absurd (let high : limit < depth_of d = ltb-true limit (depth_of d) e in omega arith)
+
+module _ (o : Options) (limit : ℕ) (m : Meanings) (t : Names) (full d : List ℕ) (c : Class) (low : depth_of d ≤ limit) (listed : List (List ℕ)) (lists : ListsNames (look t full (is_empty d)) listed) where
+  names : Names
+  names = lists.names
+
+  looked : (w : Walked) → report_of m d c lists.names ≡ w → entered_at m d c (look t full (is_empty d)) ≡ w
+  looked w e = ap (entered_at m d c) lists.directory_found ∙ e
+
+  -- without names
+  pub Gives-empty : (before mid after : List Emission) (start now stop : Outcome) → length listed ≡ 0 → Emits before mid start now (λ p. 0) 0 1
+      → Emits mid after now stop (λ p. shown_by o p (plain (entry_at d (empty_class c)) ∷ [])) 1 0 → Gives o limit (entered_at m d c (look t full (is_empty d))) before after start stop
+  Gives-empty before mid after start now stop bare opened emitted =
+      let w : Walked = record { out = plain (entry_at d (empty_class c)) ∷ []; entered = d ∷ []; broken = [] } in
+      let gives : Gives o limit w before after start stop =
+      record {
+        emits = Emits-then before mid after start now stop _ _ _ _ _ _ _ _ _ opened emitted (λ p. omega arith) (omega arith) (omega arith);
+        whole = ap (λ b. (b || false) || false) (within_limit limit d low);
+      } in
+      subst (λ (v : Walked). Gives o limit v before after start stop) (sym (looked w (empty_report m d c lists.names (length-names listed (look t full (is_empty d)) lists ∙ bare)))) gives
+
+  module _ (are : AreNames listed) where
+    distinct : IsDistinct bytes_eq (names_of lists.names)
+    distinct = IsDistinct-IsPermutation bytes_eq nat_list_eq_equiv.symm listed (names_of lists.names) lists.permutation are.distinct
+
+    told-named : (q : List ℕ) → IsName q → item_told m t full d q ≡ item_named m d lists.names q
+    told-named q is = ap (item_looked m (joined d q)) (look-joined t lists.names full q is (look-directory t lists.names full d lists.directory_found)) ∙ go (child lists.names q)
+      where
+        go : (n : Option Node) → item_looked m (joined d q) (at_child n) ≡ item_at m (joined d q) n
+        go None = refl
+        go (Some node) = refl
+
+    agree : {V : Type 0} (f : Walked → V) → AllByRecursion (λ q. f (item_told m t full d q) ≡ f (item_named m d lists.names q)) listed
+    agree f = all_map IsName (λ q. f (item_told m t full d q) ≡ f (item_named m d lists.names q)) listed (λ q is. ap f (told-named q is)) are.each
+
+    all_sum : (f : Walked → ℕ) → IsSum f → sum_by (λ q. f (item_told m t full d q)) listed ≡ f (items m d lists.names)
+    all_sum f is =
+        sum_by-agree (λ q. f (item_told m t full d q)) (λ q. f (item_named m d lists.names q)) listed (agree f)
+        ∙ sym (sum_by-IsPermutation (λ q. f (item_named m d lists.names q)) listed (names_of lists.names) lists.permutation)
+        ∙ sym (sum_once m d f is lists.names distinct)
+
+    all_any : (f : Walked → Bool) → IsOr f → list_any (λ q. f (item_told m t full d q)) listed ≡ f (items m d lists.names)
+    all_any f is =
+        any-agree (λ q. f (item_told m t full d q)) (λ q. f (item_named m d lists.names q)) listed (agree f)
+        ∙ list_any-IsPermutation (λ q. f (item_named m d lists.names q)) listed (names_of lists.names) lists.permutation
+        ∙ sym (any_once m d f is lists.names distinct)
+
+    -- with names, all of which were walked
+    pub Gives-listed : (i : ℕ) (before after : List Emission) (start stop : Outcome) → 0 < length listed → length listed ≤ i → SoFar o limit m t full d (take i listed) before after start stop
+        → Gives o limit (entered_at m d c (look t full (is_empty d))) before after start stop
+    Gives-listed i before after start stop some past so_far =
+        let all : SoFar o limit m t full d listed before after start stop = rw take_all at so_far in
+        let v : Walked = items m d lists.names in
+        let w : Walked = record { out = v.out; entered = d ∷ v.entered; broken = v.broken } in
+        let gives : Gives o limit w before after start stop =
+        record {
+          emits = record {
+            entries = λ p. omega (arith, all.emits.entries p, all_sum (λ x. shown_by o p x.out) (shown-sum o p));
+            returned = λ fits. omega (arith, all.emits.returned fits, all_sum (λ x. shown_by o (λ _. true) x.out) (shown-sum o (λ _. true)));
+            seen = λ fits. omega (arith, all.emits.seen fits, all_sum (λ x. size x.out) out-sum);
+            read = λ fits. omega (arith, all.emits.read fits, all_sum (λ x. size x.entered) entered-sum, count_by-cons (λ _. true) d v.entered);
+          };
+          whole = ap (λ b. (b || list_any (λ path. nat_lt limit (depth_of path)) v.entered) || list_any (λ path. true) v.broken) (within_limit limit d low)
+              ∙ sym (all_any (is_refused limit) (refused-or limit)) ∙ all.whole;
+        } in
+        let there : 0 < length (names_of lists.names) = omega (arith, length-names listed (look t full (is_empty d)) lists, some) in
+        subst (λ (x : Walked). Gives o limit x before after start stop) (sym (looked w (full_report m d c lists.names there))) gives

@@ -1,0 +1,95 @@
+-- The steps of a walk.
+use Rattle.std.proofs.Common.{◌≡◌, ℕ, ◌+◌, ◌-◌, ◌<◌, ◌≤◌, List, [], ◌∷◌, Bool, true, false, cond, Option, Some, None, get_or, length, All, refl, sym, ap, subst, ◌∙◌, arith}
+use Rattle.std.specs.Prelude.{option_map}
+use Rattle.gitbase_core.specs.Path.{joined, is_empty}
+use Rattle.worktree_fs.specs.Tree.{Node, Names, Look, look, found}
+use Rattle.worktree_fs.specs.Naming.{IsName, AreNames}
+use Rattle.worktree_fs.specs.Answers.{kind_of}
+use Rattle.worktree_fs.specs.declared.answers.ListError.{ListError}
+use Rattle.worktree_fs.specs.declared.answers.ListError.TheVariants as lists
+use Rattle.dir_classify.specs.declared.options.Options.{Options}
+use Rattle.dir_classify.specs.declared.entry.Entry.{Entry}
+use Rattle.dir_classify.specs.declared.classify.Outcome.{Outcome as Class}
+use Rattle.dir_classify.specs.Kinds.{from_node}
+use Rattle.dir_classify.specs.Entries.{entry_at}
+use Rattle.dir_classify.specs.Class.{Meanings, class, enters}
+use Rattle.dir_classify.specs.Asked.{asked, IsSwallowed}
+use Rattle.dir_walk.specs.declared.outcome.Outcome.{Outcome}
+use Rattle.dir_walk.specs.Emissions.{Emission, plain}
+use Rattle.dir_walk.specs.Walked.{Walked, item, leaf, entered_at, child_class}
+use Rattle.dir_walk.specs.Report.{depth_of}
+use Rattle.dir_walk.specs.Refused.{IsAbout, IsPlaced, read_error}
+use Rattle.dir_walk.specs.Emits.{Emits, Gives, shown_by}
+use Rattle.dir_walk.proofs.Classes.{class-entered}
+use Rattle.dir_walk.proofs.Counts.{count_by-cons}
+use Rattle.dir_walk.proofs.Named.{listed_name}
+use Rattle.dir_walk.proofs.Placed.{IsPlaced-child, depth_of-joined, joined-some}
+use Rattle.dir_walk.proofs.Refusals.{item-entered, item-leaf}
+
+pub IsAbout-read_error : (root : List ℕ) (limit : ℕ) (path : List ℕ) (e : ListError) → IsAbout root limit (read_error path e)
+IsAbout-read_error root limit path lists.Absent = tt
+IsAbout-read_error root limit path lists.NotADirectory = tt
+IsAbout-read_error root limit path lists.OpenFault = tt
+IsAbout-read_error root limit path lists.EntryFault = tt
+IsAbout-read_error root limit path lists.OutOfMemory = tt
+
+-- ---- a child
+
+-- a child in its two forms
+pub record Child (full rela child_full child_rela name : List ℕ) : Type 0 where
+  pub is_name : IsName name
+  pub full_is : child_full ≡ joined full name
+  pub rela_is : child_rela ≡ joined rela name
+
+pub name-at : (listed : List (List ℕ)) (i : ℕ) (name : List ℕ) → i < length listed → name ≡ get_or listed i name → AreNames listed → IsName name
+name-at listed i name inside is are = subst IsName (sym is) (listed_name listed are i name inside)
+
+pub child-some : (full rela child_full child_rela name : List ℕ) → Child full rela child_full child_rela name → is_empty child_rela ≡ false
+child-some full rela child_full child_rela name child = ap is_empty child.rela_is ∙ joined-some rela name child.is_name
+
+pub child-level : (full rela child_full child_rela name : List ℕ) (levels limit : ℕ) → Child full rela child_full child_rela name → levels + depth_of rela ≡ limit → levels + depth_of child_rela ≡ limit + 1
+child-level full rela child_full child_rela name levels limit child level = omega (arith, level, ap depth_of child.rela_is, depth_of-joined rela name child.is_name)
+
+pub child-placed : (root full rela child_full child_rela name : List ℕ) → Child full rela child_full child_rela name → IsPlaced root full rela → IsPlaced root child_full child_rela
+child-placed root full rela child_full child_rela name child at =
+    subst (λ (p : List ℕ). IsPlaced root p child_rela) (sym child.full_is)
+    (subst (λ (p : List ℕ). IsPlaced root (joined full name) p) (sym child.rela_is) (IsPlaced-child root full rela name child.is_name at))
+
+-- ---- a path that is not entered
+
+asked-node : (m : Meanings) (t : Names) (full path : List ℕ) (node : Node) → look t full false ≡ found node → class m path None (asked t full true) ≡ child_class m path node
+asked-node m t full path node there = ap (λ (l : Look). class m path None (option_map from_node (kind_of l))) there
+
+Gives-leaf : (o : Options) (limit : ℕ) (e : Entry) (before after : List Emission) (start stop : Outcome) → Emits before after start stop (λ p. shown_by o p (plain e ∷ [])) 1 0 → Gives o limit (leaf e) before after start stop
+Gives-leaf o limit e before after start stop h =
+    record {
+      emits = record {
+        entries = h.entries;
+        returned = h.returned;
+        seen = λ fits. omega (arith, h.seen fits, count_by-cons (λ _. true) (plain e) []);
+        read = λ fits. omega (arith, h.read fits);
+      };
+      whole = refl;
+    }
+
+pub Gives-unentered : (o : Options) (limit : ℕ) (m : Meanings) (t : Names) (full path : List ℕ) (node : Node) (c : Class) (before after : List Emission) (start stop : Outcome) → look t full false ≡ found node
+    → c ≡ class m path None (asked t full true) → enters c false ≡ false → Emits before after start stop (λ p. shown_by o p (plain (entry_at path c) ∷ [])) 1 0 → Gives o limit (item m path node) before after start stop
+Gives-unentered o limit m t full path node c before after start stop there is out emitted =
+    let class_is : c ≡ child_class m path node = is ∙ asked-node m t full path node there in
+    let P : Walked → Type 0 = λ w. Gives o limit w before after start stop in
+    let same : item m path node ≡ leaf (entry_at path c) = item-leaf m path node (ap (λ (k : Class). enters k false) (sym class_is) ∙ out) ∙ ap (λ (k : Class). leaf (entry_at path k)) (sym class_is) in
+    subst P (sym same) (Gives-leaf o limit (entry_at path c) before after start stop emitted)
+
+-- ---- a path that is entered
+
+-- its class is that of the told tree, also where the question for its kind failed
+pub class-told : (m : Meanings) (t : Names) (full path : List ℕ) (node : Node) (c : Class) → look t full false ≡ found node → IsSwallowed m path None (asked t full true) c → enters c false ≡ true → c ≡ child_class m path node
+class-told m t full path node c there swallowed into = class-entered m path (asked t full true) c swallowed into ∙ asked-node m t full path node there
+
+pub Gives-entered : (o : Options) (limit : ℕ) (m : Meanings) (t : Names) (full path : List ℕ) (node : Node) (c : Class) (before after : List Emission) (start stop : Outcome) → look t full false ≡ found node → is_empty path ≡ false
+    → c ≡ child_class m path node → enters c false ≡ true → Gives o limit (entered_at m path c (look t full (is_empty path))) before after start stop → Gives o limit (item m path node) before after start stop
+Gives-entered o limit m t full path node c before after start stop there some class_is into given =
+    let P : Walked → Type 0 = λ w. Gives o limit w before after start stop in
+    let looked : entered_at m path c (look t full (is_empty path)) ≡ entered_at m path (child_class m path node) (found node) =
+    ap (λ (k : Class). entered_at m path k (look t full (is_empty path))) class_is ∙ ap (λ (b : Bool). entered_at m path (child_class m path node) (look t full b)) some ∙ ap (entered_at m path (child_class m path node)) there in
+    subst P (looked ∙ sym (item-entered m path node (ap (λ (k : Class). enters k false) (sym class_is) ∙ into))) given

@@ -1,0 +1,70 @@
+-- Entries as a walk emits them.
+use Rattle.std.specs.Prelude.{ℕ, Bool, true, false, not, ◌&&◌, ◌||◌, if◌then◌else◌, List, [], ◌∷◌, Option, Some, None}
+use Rattle.std.specs.Ordering.{nat_cmp, is_lt}
+use Rattle.std.specs.Cmp.Lexicographic.{slice_cmp}
+use Rattle.dir_classify.specs.declared.entry.Entry.{Entry}
+use Rattle.dir_classify.specs.declared.entry.Status.{Status}
+use Rattle.dir_classify.specs.declared.entry.Status.TheVariants.{Pruned, Tracked, Untracked}
+use Rattle.dir_classify.specs.declared.entry.Property.{Property}
+use Rattle.dir_classify.specs.declared.entry.Property.TheVariants.{DotGit, EmptyDirectory, EmptyDirectoryAndCWD, TrackedExcluded}
+use Rattle.dir_classify.specs.declared.entry.PathspecMatch.{PathspecMatch}
+use Rattle.dir_classify.specs.declared.entry.PathspecMatch.TheVariants.{Always, Excluded, Prefix, WildcardMatch, Verbatim}
+use Rattle.dir_classify.specs.declared.options.Options.{Options}
+use Rattle.dir_classify.specs.declared.classify.Outcome.{Outcome}
+use Rattle.dir_classify.specs.Enters.{is_pruned_status}
+
+-- an entry, with the status of the directory that was folded over it, if one was
+abbrev pub Emission : Type 0
+Emission = Entry × Option Status
+
+abbrev pub emission_of : Entry → Option Status → Emission
+emission_of entry status = (entry, status)
+
+-- an entry by itself
+abbrev pub plain : Entry → Emission
+plain entry = emission_of entry None
+
+abbrev pub path_of : Emission → List ℕ
+path_of emission = emission.0.rela_path
+
+-- ---- what is shown
+
+abbrev pub is_tracked_status : Status → Bool
+is_tracked_status Tracked = true
+is_tracked_status Pruned = false
+is_tracked_status Untracked = false
+
+abbrev pub is_empty_directory : Option Property → Bool
+is_empty_directory (Some EmptyDirectory) = true
+is_empty_directory (Some DotGit) = false
+is_empty_directory (Some EmptyDirectoryAndCWD) = false
+is_empty_directory (Some TrackedExcluded) = false
+is_empty_directory None = false
+
+-- no spec matches the path, or one takes it out
+abbrev pub is_unmatched : Option PathspecMatch → Bool
+is_unmatched None = true
+is_unmatched (Some Excluded) = true
+is_unmatched (Some Always) = false
+is_unmatched (Some Prefix) = false
+is_unmatched (Some WildcardMatch) = false
+is_unmatched (Some Verbatim) = false
+
+-- an empty directory is hidden, a tracked path unless it is asked for, and what is pruned or unmatched
+abbrev pub is_shown : Options → Outcome → Bool
+is_shown o c = not (is_empty_directory c.property) && (o.emit_tracked || not (is_tracked_status c.status)) && not (is_pruned_status c.status) && not (is_unmatched c.pathspec_match)
+
+-- ---- by path
+
+-- the first path stands before the second, byte by byte
+abbrev pub is_before : Emission → Emission → Bool
+is_before a b = is_lt (slice_cmp nat_cmp (path_of a) (path_of b))
+
+abbrev pub insert_emission : Emission → List Emission → List Emission
+insert_emission e [] = e ∷ []
+insert_emission e (x ∷ xs) = if is_before x e then x ∷ insert_emission e xs else e ∷ x ∷ xs
+
+-- in ascending order of the paths
+unfoldable pub by_path : List Emission → List Emission
+by_path [] = []
+by_path (e ∷ es) = insert_emission e (by_path es)

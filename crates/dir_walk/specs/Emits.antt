@@ -1,0 +1,47 @@
+-- What a walk has emitted and counted when it is done with a path, in whatever order.
+use Rattle.std.specs.Prelude.{◌≡◌, ℕ, ◌<◌, ◌≤◌, ◌+◌, ◌-◌, ◌^◌, min, Bool, true, false, ◌&&◌, List, Option, Some, count_by}
+use Rattle.worktree_fs.specs.Tree.{Names}
+use Rattle.dir_classify.specs.declared.options.Options.{Options}
+use Rattle.dir_classify.specs.Class.{Meanings}
+use Rattle.dir_classify.specs.Entries.{class_in}
+use Rattle.dir_walk.specs.declared.outcome.Outcome.{Outcome}
+use Rattle.dir_walk.specs.Emissions.{Emission, is_shown}
+use Rattle.dir_walk.specs.Walked.{Walked}
+use Rattle.dir_walk.specs.Report.{is_refused, walked, shown, counts}
+
+-- of what is emitted, how many entries that are shown pass a test
+abbrev pub shown_by : Options → (Emission → Bool) → List Emission → ℕ
+shown_by o p out = count_by (λ x. is_shown o (class_in x.0) && p x) out
+
+abbrev pub size : {X : Type 0} → List X → ℕ
+size xs = count_by (λ _. true) xs
+
+-- `after` has what `before` has, and besides as many entries that pass each test; and the counts rose by the entries
+-- seen and the directories read, or stand at their type's end
+pub record Emits (before after : List Emission) (start stop : Outcome) (more : (Emission → Bool) → ℕ) (more_seen more_read : ℕ) : Type 0 where
+  pub entries : (p : Emission → Bool) → count_by p after ≡ count_by p before + more p
+  pub returned : start.returned_entries < 2 ^ 64 → stop.returned_entries ≡ min (start.returned_entries + more (λ _. true)) (2 ^ 64 - 1)
+  pub seen : start.seen_entries < 2 ^ 32 → stop.seen_entries ≡ min (start.seen_entries + more_seen) (2 ^ 32 - 1)
+  pub read : start.read_dir_calls < 2 ^ 32 → stop.read_dir_calls ≡ min (start.read_dir_calls + more_read) (2 ^ 32 - 1)
+
+-- what was walked is all of `w`, of which nothing is refused within the limit
+pub record Gives (o : Options) (limit : ℕ) (w : Walked) (before after : List Emission) (start stop : Outcome) : Type 0 where
+  pub emits : Emits before after start stop (λ p. shown_by o p w.out) (size w.out) (size w.entered)
+  pub whole : is_refused limit w ≡ false
+
+-- what a walk leaves of a worktree: the tree that it tells, its faults so far, its reads, and how it spells names
+pub record Keeps (told0 told1 : Option Names) (faults0 faults1 list_faults0 list_faults1 reads0 reads1 : ℕ) (precomposes0 precomposes1 : Bool) : Type 0 where
+  pub tree : told1 ≡ told0
+  pub faults : faults0 ≤ faults1
+  pub list_faults : list_faults0 ≤ list_faults1
+  pub reads : reads1 ≡ reads0
+  pub precomposes : precomposes1 ≡ precomposes0
+
+-- a whole walk: the report is defined, what was emitted are its entries in whatever order, and the counts are its
+-- counts
+pub record WalkGives (o : Options) (limit : ℕ) (m : Meanings) (t : Names) (root : List ℕ) (before after : List Emission) (outcome : Outcome) : Type 0 where
+  pub w : Walked
+  pub walked_is : walked m t root ≡ Some w
+  pub whole : is_refused limit w ≡ false
+  pub entries : (p : Emission → Bool) → count_by p after ≡ count_by p before + count_by p (shown o w.out)
+  pub outcome_is : outcome ≡ counts o w

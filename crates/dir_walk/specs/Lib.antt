@@ -1,0 +1,6 @@
+pub mod Distinct
+pub mod Emissions
+pub mod Emits
+pub mod Refused
+pub mod Report
+pub mod Walked

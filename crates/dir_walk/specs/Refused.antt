@@ -1,0 +1,129 @@
+-- Why a walk is refused.
+use Rattle.std.specs.Prelude.{◌≡◌, ◌≢◌, ◌⊎◌, ◌+◌, ◌<◌, ℕ, Bool, true, false, not, ◌||◌, List, [], ◌∷◌, Option, Some, None, Result, Ok, Err, IsSomeAnd}
+use Rattle.std.specs.List.{list_any}
+use Rattle.std.specs.Str.{bytes_eq}
+use Rattle.gitbase_core.specs.Path.{is_empty, ends_in_slash}
+use Rattle.worktree_fs.specs.Tree.{Names, Node, Look, look, found, file, link, directory, other, absent, too_many_links}
+use Rattle.worktree_fs.specs.Answers.{kind_of, list_of}
+use Rattle.worktree_fs.specs.declared.answers.NodeKind.TheVariants as nodes
+use Rattle.worktree_fs.specs.declared.answers.ListError.{ListError}
+use Rattle.worktree_fs.specs.declared.answers.ListError.TheVariants as lists
+use Rattle.dir_classify.specs.declared.entry.Kind.TheVariants.{Directory}
+use Rattle.dir_classify.specs.declared.classify.Outcome.{Outcome}
+use Rattle.dir_classify.specs.declared.error.Error.{Error}
+use Rattle.dir_classify.specs.declared.error.Error.TheVariants as errors
+use Rattle.dir_classify.specs.declared.error.ReadWhy.{ReadWhy}
+use Rattle.dir_classify.specs.declared.error.ReadWhy.TheVariants as reads
+use Rattle.dir_classify.specs.Class.{Meanings}
+use Rattle.dir_classify.specs.Paths.{full_path}
+use Rattle.dir_walk.specs.Walked.{Walked, entered_at}
+use Rattle.dir_walk.specs.Report.{depth_of, walked}
+
+abbrev pub is_among : List ℕ → List (List ℕ) → Bool
+is_among path paths = list_any (bytes_eq path) paths
+
+-- the class of a path that is walked says that it is to be entered, whether or not it is a directory
+abbrev pub is_to_enter : List ℕ → Walked → Bool
+is_to_enter path w = is_among path w.entered || is_among path w.broken
+
+-- ---- what holds of any worktree
+
+-- a whole path that has more components below the worktree root than the limit
+pub record IsBelowLimit (root : List ℕ) (limit : ℕ) (path : List ℕ) : Type 0 where
+  pub below : List ℕ
+  pub path_is : path ≡ full_path root below
+  pub deep : limit < depth_of below
+
+-- what a refusal says of the paths and the limit that were handed in
+abbrev pub IsAbout : List ℕ → ℕ → Error → Type 0
+IsAbout root limit (errors.WorktreeRootIsFile path) = path ≡ root
+IsAbout root limit (errors.TooDeep path) = IsBelowLimit root limit path
+IsAbout root limit (errors.ReadDir path why) = Unit {0}
+IsAbout root limit (errors.DirEntry path) = Unit {0}
+IsAbout root limit errors.OutOfMemory = Unit {0}
+
+-- what holds where the worktree failed
+abbrev pub OnFault : Type 0 → Error → Type 0
+OnFault Holds (errors.WorktreeRootIsFile path) = Unit {0}
+OnFault Holds (errors.TooDeep path) = Unit {0}
+OnFault Holds (errors.ReadDir path reads.Absent) = Unit {0}
+OnFault Holds (errors.ReadDir path reads.NotADirectory) = Unit {0}
+OnFault Holds (errors.ReadDir path reads.Fault) = Holds
+OnFault Holds (errors.DirEntry path) = Holds
+OnFault Holds errors.OutOfMemory = Unit {0}
+
+-- ---- what holds over a told tree
+
+-- the whole path of what is to be entered, reached from the worktree root through directories that are entered, and
+-- lies deeper than the limit
+pub record IsTooDeep (root : List ℕ) (limit : ℕ) (w : Walked) (path : List ℕ) : Type 0 where
+  pub below : List ℕ
+  pub path_is : path ≡ full_path root below
+  pub to_enter : is_to_enter below w ≡ true
+  pub deep : limit < depth_of below
+
+-- the whole path of a node that is to be entered, reached so, as the index has an up-to-date directory there; it is
+-- none on disk, which is why it could not be listed
+pub record IsBroken (t : Names) (m : Meanings) (root : List ℕ) (w : Walked) (why : ListError) (path : List ℕ) : Type 0 where
+  pub below : List ℕ
+  pub path_is : path ≡ full_path root below
+  pub broken : is_among below w.broken ≡ true
+  pub indexed : (m.in_index below).up_to_date ≡ Some Directory
+  pub node : list_of (look t path false) ≡ Err why
+
+abbrev pub IsUnread : Names → Meanings → List ℕ → Walked → List ℕ → ReadWhy → Type 0
+IsUnread t m root w path reads.Absent = IsBroken t m root w lists.Absent path
+IsUnread t m root w path reads.NotADirectory = IsBroken t m root w lists.NotADirectory path
+IsUnread t m root w path reads.Fault = Unit {0}
+
+-- a refusal within what is walked below the worktree root
+abbrev pub Refuses : Names → Meanings → List ℕ → ℕ → Walked → Error → Type 0
+Refuses t m root limit w (errors.WorktreeRootIsFile path) = ⊥
+Refuses t m root limit w (errors.TooDeep path) = IsTooDeep root limit w path
+Refuses t m root limit w (errors.ReadDir path why) = IsUnread t m root w path why
+Refuses t m root limit w (errors.DirEntry path) = Unit {0}
+Refuses t m root limit w errors.OutOfMemory = Unit {0}
+
+-- the worktree root is not entered, and its node, a link not followed, is no directory
+pub record IsNoRoot (t : Names) (m : Meanings) (root : List ℕ) : Type 0 where
+  pub not_entered : walked m t root ≡ None
+  pub node : kind_of (look t root false) ≢ Some nodes.Directory
+
+-- a refusal of a walk, where `Failed` says that the worktree failed in it
+abbrev pub WalkRefuses : Names → Meanings → List ℕ → ℕ → Type 0 → Error → Type 0
+WalkRefuses t m root limit Failed (errors.WorktreeRootIsFile path) = IsNoRoot t m root ⊎ Failed
+WalkRefuses t m root limit Failed (errors.TooDeep path) = IsSomeAnd (walked m t root) (λ w. IsTooDeep root limit w path)
+WalkRefuses t m root limit Failed (errors.ReadDir path why) = IsSomeAnd (walked m t root) (λ w. IsUnread t m root w path why)
+WalkRefuses t m root limit Failed (errors.DirEntry path) = Unit {0}
+WalkRefuses t m root limit Failed errors.OutOfMemory = Unit {0}
+
+-- ---- where a walk stands
+
+-- the whole path is that of the relative one, which does not end in a slash
+pub record IsPlaced (root full rela : List ℕ) : Type 0 where
+  pub full_is : full ≡ full_path root rela
+  pub plain : ends_in_slash rela ≡ false
+
+-- ---- a listing that is refused
+
+-- the refusal of a walk that stands for it
+abbrev pub read_error : List ℕ → ListError → Error
+read_error path lists.Absent = errors.ReadDir path reads.Absent
+read_error path lists.NotADirectory = errors.ReadDir path reads.NotADirectory
+read_error path lists.OpenFault = errors.ReadDir path reads.Fault
+read_error path lists.EntryFault = errors.DirEntry path
+read_error path lists.OutOfMemory = errors.OutOfMemory
+
+-- why the directory at a whole path was not listed, by what that leads to
+abbrev pub OpenRefuses : List ℕ → Look → Error → Type 0
+OpenRefuses full at (errors.WorktreeRootIsFile path) = ⊥
+OpenRefuses full at (errors.TooDeep path) = ⊥
+OpenRefuses full at (errors.ReadDir path reads.Absent) = (path ≡ full) × (list_of at ≡ Err lists.Absent)
+OpenRefuses full at (errors.ReadDir path reads.NotADirectory) = (path ≡ full) × (list_of at ≡ Err lists.NotADirectory)
+OpenRefuses full at (errors.ReadDir path reads.Fault) = Unit {0}
+OpenRefuses full at (errors.DirEntry path) = Unit {0}
+OpenRefuses full at errors.OutOfMemory = Unit {0}
+
+-- a refusal of a directory that is entered: its own listing, or within it
+abbrev pub DirectoryRefuses : Names → Meanings → List ℕ → ℕ → List ℕ → List ℕ → Outcome → Error → Type 0
+DirectoryRefuses t m root limit full d c e = OpenRefuses full (look t full (is_empty d)) e ⊎ Refuses t m root limit (entered_at m d c (look t full (is_empty d))) e

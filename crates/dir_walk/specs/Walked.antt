@@ -1,0 +1,85 @@
+-- What the walk of a path gives, by recursion on the tree.
+use Rattle.std.specs.Prelude.{ℕ, Bool, true, false, if◌then◌else◌, List, [], ◌∷◌, ◌++◌, Option, Some, None, option_map}
+use Rattle.gitbase_core.specs.Path.{joined}
+use Rattle.worktree_fs.specs.Tree.{Node, Names, none, named, file, link, directory, other, Look, found, absent, too_many_links}
+use Rattle.worktree_fs.specs.Answers.{kind_of}
+use Rattle.dir_classify.specs.declared.entry.Entry.{Entry}
+use Rattle.dir_classify.specs.declared.entry.Kind.{Kind}
+use Rattle.dir_classify.specs.declared.entry.Property.{Property}
+use Rattle.dir_classify.specs.declared.entry.Property.TheVariants.{EmptyDirectory}
+use Rattle.dir_classify.specs.declared.entry.PathspecMatch.TheVariants.{Always}
+use Rattle.dir_classify.specs.declared.classify.Outcome.{Outcome}
+use Rattle.dir_classify.specs.Kinds.{from_node}
+use Rattle.dir_classify.specs.Class.{Meanings, class, enters}
+use Rattle.dir_classify.specs.Entries.{entry_at}
+use Rattle.dir_walk.specs.Emissions.{Emission, plain}
+
+pub record Walked : Type 0 where
+  -- what is emitted, hidden entries among it, in an order that nothing is said of
+  pub out : List Emission
+  -- the directories that are entered
+  pub entered : List (List ℕ)
+  -- the paths that are to be entered and are no directories
+  pub broken : List (List ℕ)
+
+abbrev pub nothing : Walked
+nothing = record { out = []; entered = []; broken = [] }
+
+abbrev pub both : Walked → Walked → Walked
+both a b = record { out = a.out ++ b.out; entered = a.entered ++ b.entered; broken = a.broken ++ b.broken }
+
+-- a path that is not entered is one entry
+abbrev pub leaf : Entry → Walked
+leaf entry = record { out = plain entry ∷ []; entered = []; broken = [] }
+
+abbrev pub broken_at : List ℕ → Walked
+broken_at path = record { out = []; entered = []; broken = path ∷ [] }
+
+-- the property of a directory without names: its own, else that it is empty
+abbrev pub property_without_names : Option Property → Option Property
+property_without_names None = Some EmptyDirectory
+property_without_names (Some property) = Some property
+
+-- the class of the entry that stands for a directory without names
+abbrev pub empty_class : Outcome → Outcome
+empty_class c = record { status = c.status; property = property_without_names c.property; disk_kind = c.disk_kind; index_kind = c.index_kind; pathspec_match = Some Always }
+
+-- a directory that is entered, by its names and by what they give together: without names it is one entry
+abbrev pub directory_of : List ℕ → Outcome → Names → Walked → Walked
+directory_of d c none w = record { out = plain (entry_at d (empty_class c)) ∷ []; entered = d ∷ []; broken = [] }
+directory_of d c (named name node rest) w = record { out = w.out; entered = d ∷ w.entered; broken = w.broken }
+
+-- the class of a child: nothing is known of it, and the disk is asked
+abbrev pub child_class : Meanings → List ℕ → Node → Outcome
+child_class m path node = class m path None (option_map from_node (kind_of (found node)))
+
+-- a child that is no directory is a leaf, unless its class says that it is to be entered
+abbrev pub item_of_other : List ℕ → Outcome → Walked
+item_of_other path c = if enters c false then broken_at path else leaf (entry_at path c)
+
+-- what a child of a directory gives, and what the children of a directory give together
+unfoldable mutual
+  pub item : Meanings → List ℕ → Node → Walked
+  item m path (file bytes) = item_of_other path (child_class m path (file bytes))
+  item m path (link target) = item_of_other path (child_class m path (link target))
+  item m path other = item_of_other path (child_class m path other)
+  item m path (directory names) =
+      let c = child_class m path (directory names) in
+      if enters c false then directory_of path c names (items m path names) else leaf (entry_at path c)
+
+  pub items : Meanings → List ℕ → Names → Walked
+  items m d none = nothing
+  items m d (named name node rest) = both (item m (joined d name) node) (items m d rest)
+
+-- what a directory gives that is entered
+abbrev pub report_of : Meanings → List ℕ → Outcome → Names → Walked
+report_of m d c names = directory_of d c names (items m d names)
+
+-- what a path gives that is entered, by what it leads to
+abbrev pub entered_at : Meanings → List ℕ → Outcome → Look → Walked
+entered_at m d c (found (directory names)) = report_of m d c names
+entered_at m d c (found (file bytes)) = broken_at d
+entered_at m d c (found (link target)) = broken_at d
+entered_at m d c (found other) = broken_at d
+entered_at m d c absent = broken_at d
+entered_at m d c too_many_links = broken_at d

@@ -1,0 +1,69 @@
+//! Which entries are emitted.
+ghost use Rattle.std.specs.Prelude.{◌≡◌, [], ◌∷◌, OnOk, OnErr};
+ghost use Rattle.dir_classify.specs.Entries.{entry_at};
+ghost use Rattle.dir_walk.specs.Emissions.{is_shown, is_tracked_status, is_empty_directory, is_unmatched, plain};
+ghost use Rattle.dir_walk.specs.Emits.{Emits, shown_by};
+
+use crate::collect::Collect;
+use crate::outcome::Outcome;
+use dir_classify::{EntryRef, Options, PathspecMatch, Property, Status, classify};
+use gitbase_core::OutOfMemory;
+use std::alloc::Global;
+
+/// Gives the delegate the entry of a path, unless its class is hidden.
+pub fn emit(
+    alloc: Global,
+    options: Options,
+    rela_path: &[u8],
+    class: &classify::Outcome,
+    delegate: &mut Collect,
+    outcome: &mut Outcome,
+) -> Result<(), OutOfMemory>
+    ensures emits { OnOk result (Emits delegate.old.unorded_entries delegate.new.unorded_entries outcome.old outcome.new (λ p. shown_by options p (plain (entry_at rela_path.now class.now) ∷ [])) 1 0) }
+    ensures refused { OnErr result (delegate.new.unorded_entries ≡ delegate.old.unorded_entries) }
+{
+    outcome.seen_entries = outcome.seen_entries.saturating_add(1);
+    if is_shown(options, class) {
+        let entry = EntryRef {
+            rela_path,
+            status: class.status,
+            property: class.property,
+            disk_kind: class.disk_kind,
+            index_kind: class.index_kind,
+            pathspec_match: class.pathspec_match,
+        };
+        delegate.emit(alloc, &entry, None)?;
+        outcome.returned_entries = outcome.returned_entries.saturating_add(1);
+    }
+    Ok(())
+}
+
+/// Whether entries of a class are given to the delegate.
+fn is_shown(options: Options, class: &classify::Outcome) -> bool
+    ensures { result ≡ is_shown options class.now }
+{
+    let is_asked_for = options.emit_tracked | !is_tracked(class.status);
+    !is_empty_directory(class.property)
+        & is_asked_for
+        & !class.status.is_pruned()
+        & !is_unmatched(class.pathspec_match)
+}
+
+fn is_tracked(status: Status) -> bool
+    ensures { result ≡ is_tracked_status status }
+{
+    matches!(status, Status::Tracked)
+}
+
+fn is_empty_directory(property: Option<Property>) -> bool
+    ensures { result ≡ is_empty_directory property }
+{
+    matches!(property, Some(Property::EmptyDirectory))
+}
+
+/// Whether no path spec matches, or one takes the path out.
+fn is_unmatched(pathspec_match: Option<PathspecMatch>) -> bool
+    ensures { result ≡ is_unmatched pathspec_match }
+{
+    matches!(pathspec_match, None | Some(PathspecMatch::Excluded))
+}

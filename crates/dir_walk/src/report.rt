@@ -1,0 +1,73 @@
+//! The report of a worktree: its walk in the order of paths.
+ghost use Rattle.std.specs.Prelude.{◌≡◌, ◌≤◌, Some, IfOk, IfErr, OnOk};
+ghost use Rattle.worktree_fs.specs.Tree.{Names};
+ghost use Rattle.worktree_fs.specs.Causes.{Quiet, Rose};
+ghost use Rattle.dir_classify.specs.Meanings.{meanings};
+ghost use Rattle.dir_walk.specs.Report.{report, IsWalkable};
+ghost use Rattle.dir_walk.specs.Refused.{OnFault, IsAbout, WalkRefuses};
+
+use crate::collect::{Collect, EmittedEntries};
+use crate::outcome::Outcome;
+use crate::walk::walk;
+use dir_classify::{Error, Options};
+use gitbase_core::{PathText, State};
+use std::alloc::Global;
+use worktree_fs::Worktree;
+
+/// What a walk of a worktree gave.
+#[derive(Debug, Drop)]
+pub struct Report {
+    pub outcome: Outcome,
+    /// The worktree root.
+    pub root: PathText,
+    /// The entries that were not hidden, in ascending order of their paths.
+    pub entries: EmittedEntries,
+}
+
+/// Walks a worktree from its root, as [`walk`] does and with its refusals, and gives the entries in the order of their
+/// paths.
+pub fn walk_by_path<W: Worktree>(
+    alloc: Global,
+    worktree_root: &[u8],
+    worktree: &mut W,
+    index: &State,
+    depth_limit: usize,
+    options: Options,
+) -> Result<Report, Error>
+    // Over a told tree and without a fault the report is exactly that of the tree.
+    ensures gives { (t : Names) → W.told worktree.old ≡ Some t → Quiet (W.faults worktree.old) (W.faults worktree.new)
+        → IfOk result (λ r. report options depth_limit (meanings index.now) t worktree_root.now ≡ Some r) }
+
+    // Each refusal has its cause, and a tree that can be walked is.
+    ensures about { IfErr result (IsAbout worktree_root.now depth_limit) }
+    ensures cause { IfErr result (OnFault (Rose (W.faults worktree.old) (W.faults worktree.new))) }
+    ensures refused { (t : Names) → W.told worktree.old ≡ Some t
+        → IfErr result (WalkRefuses t (meanings index.now) worktree_root.now depth_limit (Rose (W.faults worktree.old) (W.faults worktree.new))) }
+    ensures complete { (t : Names) → W.told worktree.old ≡ Some t → Quiet (W.faults worktree.old) (W.faults worktree.new)
+        → IsWalkable depth_limit (meanings index.now) t worktree_root.now → IfErr result (λ e. e ≡ Error.OutOfMemory) }
+
+    // What stays.
+    ensures tree { W.told worktree.new ≡ W.told worktree.old }
+    ensures faults { W.faults worktree.old ≤ W.faults worktree.new }
+    ensures list_faults { W.list_faults worktree.old ≤ W.list_faults worktree.new }
+    ensures list_faults_kept { OnOk result (W.list_faults worktree.new ≡ W.list_faults worktree.old) }
+    ensures reads { W.reads worktree.new ≡ W.reads worktree.old }
+    ensures precomposes { W.precomposes worktree.new ≡ W.precomposes worktree.old }
+{
+    let mut delegate = Collect::new(alloc);
+    let (outcome, root) = walk(
+        alloc,
+        worktree_root,
+        worktree,
+        index,
+        depth_limit,
+        options,
+        &mut delegate,
+    )?;
+    let entries = delegate.into_entries_by_path(alloc)?;
+    Ok(Report {
+        outcome,
+        root,
+        entries,
+    })
+}
