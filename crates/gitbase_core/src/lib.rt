@@ -18,3 +18,6 @@ pub use kinds::{EntryKind, IndexKinds};
 pub use memory::OutOfMemory;
 pub use path::PathText;
 pub use text::Bytes;
+
+#[cfg(test)]
+mod tests;
