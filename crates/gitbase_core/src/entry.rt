@@ -97,6 +97,20 @@ impl bitflags::Flags for Flags {
 impl Mode {
     ghost use Rattle.gitbase_core.specs.Entry.{mode_bits, dir_mode, commit_mode};
 
+    /// The mode with these bits, known or not.
+    pub fn from_bits_retain(bits: u32) -> Mode
+        ensures { mode_bits result ≡ bits }
+    {
+        Mode(bits)
+    }
+
+    /// The bits.
+    pub fn bits(&self) -> u32
+        ensures { result ≡ mode_bits self.now }
+    {
+        self.0
+    }
+
     /// Whether this is the mode of a submodule's commit, `COMMIT`.
     pub fn is_submodule(&self) -> bool
         ensures { result ≡ (mode_bits self.now == commit_mode) }

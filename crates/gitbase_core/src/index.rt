@@ -1,11 +1,10 @@
 //! The index: the entries in their order, and the search among them.
-ghost use Rattle.std.specs.Prelude.{◌≡◌, ◌≤◌, ◌<◌, ◌&&◌, ◌++◌, ℕ, Bool, [], length, take, true, nat_lt, nat_le, is_some, None, All, IfSome, option_copied};
-ghost use Rattle.std.specs.List.{list_all, list_any};
-ghost use Rattle.std.specs.Ordering.{is_lt, is_eq};
-ghost use Rattle.gitbase_core.specs.Index.{IsIndex, index_of, entry_fault, first_fault, fits_mode, ascends, clashes, fits_stage, is_entry_path, entry_cmp, entry_at, path_cmp, begins_with, beside, prefixed_range, IsRun, IsFirstNotBelow};
-ghost use Rattle.gitbase_core.specs.IndexKinds.{entries_beneath};
-
 mod grow;
+
+ghost use Rattle.std.specs.Prelude.{◌≡◌, ◌≤◌, ◌++◌, true, All, IfSome, option_copied};
+ghost use Rattle.std.specs.Ordering.{is_lt, is_eq};
+ghost use Rattle.gitbase_core.specs.Index.{IsIndex, index_of, entry_fault, fits_mode, ascends, clashes, fits_stage, is_entry_path, entry_cmp, entry_at, path_cmp, begins_with, beside, prefixed_range, IsRun, IsFirstNotBelow};
+ghost use Rattle.gitbase_core.specs.IndexKinds.{entries_beneath};
 
 use crate::entry::IndexEntry;
 use crate::path::{ends_in_slash, without_slash};

@@ -110,10 +110,17 @@ fn ids_read_and_written(rt: HostRuntime) -> Result<(), Fail> {
         ObjectId::from_hex(b"e69ge29bb2d1d6434b8b29ae775ad8c2e48c5391"),
         Err(HexError::Digit { at: 3 })
     );
-    assert_eq!(rt;
-        format!(in rt.alloc(); "{}", HexError::Digit { at: 3 })?.as_str(),
-        "Digit"
-    );
+    Ok(())
+}
+
+#[test]
+fn errors_printed(rt: HostRuntime) -> Result<(), Fail> {
+    let texts = format!(in rt.alloc();
+        "{OutOfMemory} {} {}",
+        HexError::Digit { at: 3 },
+        IndexError::ModePath { at: 3 }
+    )?;
+    assert_eq!(rt; texts.as_str(), "OutOfMemory Digit ModePath");
     Ok(())
 }
 
