@@ -1,6 +1,7 @@
 pub mod Answers
 pub mod Causes
 pub mod Codes
+pub mod Edges
 pub mod Grow
 pub mod Join
 pub mod Memory

@@ -3,18 +3,22 @@
 #![tactic(auto)]
 
 pub mod answers;
+pub mod disk;
 pub mod interrupt;
 pub mod memory;
 pub mod name_list;
 mod names;
 pub mod sink;
+pub mod streams;
 pub mod worktree;
 
 pub use answers::{Fault, ListError, NodeKind, ReadAnswer, ReadError};
+pub use disk::DiskWorktree;
 pub use interrupt::{Interrupt, PlannedInterrupt};
 pub use memory::{AddError, CallKind, MemoryWorktree, NewNode};
 pub use name_list::NameList;
 pub use sink::{MemorySink, Sink};
+pub use streams::StdSink;
 pub use worktree::Worktree;
 
 #[cfg(test)]

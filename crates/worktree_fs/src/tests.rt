@@ -1,11 +1,13 @@
 //! What no clause says: that calls succeed, and what they answer in cases worked out by hand.
 use crate::{
-    AddError, CallKind, Fault, Interrupt, ListError, MemorySink, MemoryWorktree, NameList, NewNode,
-    NodeKind, PlannedInterrupt, ReadAnswer, ReadError, Sink, Worktree,
+    AddError, CallKind, DiskWorktree, Fault, Interrupt, ListError, MemorySink, MemoryWorktree,
+    NameList, NewNode, NodeKind, PlannedInterrupt, ReadAnswer, ReadError, Sink, StdSink, Worktree,
 };
 use gitbase_core::Bytes;
 use std::alloc::Global;
+use std::rt::Files;
 use std::test::Fail;
+use std::{env, fs, io, process};
 
 /// A file, links of many kinds, and a node of another kind.
 fn sample(alloc: Global) -> Result<MemoryWorktree, AddError> {
@@ -233,5 +235,127 @@ fn interrupts_and_sinks(rt: HostRuntime) -> Result<(), Fail> {
     }
     assert_eq!(rt; sink.written(), b"abcde".as_slice());
     assert_eq!(rt; sink.room(), 0);
+    Ok(())
+}
+
+/// A folder of this process among the temporary files.
+fn folder(rt: &HostRuntime) -> io::Result<String> {
+    let temporary = env::temp_dir(rt)?;
+    let id = process::id(rt.process());
+    Ok(format!(in rt.alloc(); "{}/worktree_fs_{id}", temporary.display())?)
+}
+
+/// The path of a name in a folder.
+fn inside(rt: &HostRuntime, folder: &str, name: &str) -> io::Result<String> {
+    Ok(format!(in rt.alloc(); "{folder}/{name}")?)
+}
+
+fn write_file(rt: &HostRuntime, folder: &str, name: &str) -> io::Result<()> {
+    let path = inside(rt, folder, name)?;
+    fs::write(rt, path.as_str(), name)
+}
+
+fn make_link(rt: &HostRuntime, folder: &str, name: &str, target: &str) -> io::Result<()> {
+    let path = inside(rt, folder, name)?;
+    rt.symlink(target, path.as_str())
+}
+
+fn make_folder(rt: &HostRuntime, folder: &str) -> io::Result<()> {
+    fs::create_dir(rt, folder)?;
+    let below = inside(rt, folder, "d")?;
+    fs::create_dir(rt, below.as_str())?;
+    for name in ["f", "d/b", "d/B", "d/a"] {
+        write_file(rt, folder, name)?;
+    }
+    for (name, target) in [("l", "f"), ("p", "p"), ("a", "d")] {
+        make_link(rt, folder, name, target)?;
+    }
+    Ok(())
+}
+
+/// Whether the disk says these kinds of the folder's nodes.
+fn has_kinds(rt: &HostRuntime, folder: &str) -> io::Result<bool> {
+    let mut disk = DiskWorktree::new(rt, false);
+    let file = Some(NodeKind::File);
+    let link = Some(NodeKind::Symlink);
+    let directory = Some(NodeKind::Directory);
+    let cases = [
+        ("f", file, file),
+        ("f/", file, file),
+        ("l", link, file),
+        ("d", directory, directory),
+        ("a/", link, directory),
+        ("a/b", file, file),
+        ("f/x", None, None),
+        ("z", None, None),
+    ];
+    let mut all = true;
+    for (name, kind, following) in cases {
+        let path = inside(rt, folder, name)?;
+        let path = path.as_bytes();
+        all &= disk.kind(rt.alloc(), path) == Ok(kind);
+        all &= disk.kind_following(rt.alloc(), path) == Ok(following);
+    }
+    Ok(all)
+}
+
+/// Whether the disk reads so in the folder.
+fn has_bytes(rt: &HostRuntime, folder: &str) -> io::Result<bool> {
+    let mut disk = DiskWorktree::new(rt, false);
+    let mut bytes = Bytes::new(rt.alloc());
+    let cases = [
+        ("l", false, Ok(ReadAnswer::IsLink)),
+        ("d", false, Ok(ReadAnswer::IsDirectory)),
+        ("z", true, Ok(ReadAnswer::Absent)),
+        ("p", true, Err(ReadError::Fault)),
+        ("l", true, Ok(ReadAnswer::Read)),
+    ];
+    let mut all = true;
+    for (name, follow, answer) in cases {
+        let path = inside(rt, folder, name)?;
+        all &= disk.read(rt.alloc(), path.as_bytes(), follow, &mut bytes) == answer;
+    }
+    Ok(all && bytes.as_bytes() == b"f".as_slice())
+}
+
+/// Whether the disk lists so in the folder.
+fn has_names(rt: &HostRuntime, folder: &str) -> io::Result<bool> {
+    let mut disk = DiskWorktree::new(rt, false);
+    let path = inside(rt, folder, "a")?;
+    let mut all = match disk.list(rt.alloc(), path.as_bytes(), true) {
+        Ok(names) => are(&names, &[b"B", b"a", b"b"]),
+        Err(_) => false,
+    };
+    let cases = [
+        ("a", false, ListError::NotADirectory),
+        ("f", true, ListError::NotADirectory),
+        ("z", true, ListError::Absent),
+        ("p", true, ListError::OpenFault),
+    ];
+    for (name, follow, refusal) in cases {
+        let path = inside(rt, folder, name)?;
+        all &= disk.list(rt.alloc(), path.as_bytes(), follow).err() == Some(refusal);
+    }
+    Ok(all)
+}
+
+#[test]
+fn the_disk_answers_as_a_tree(rt: HostRuntime) -> Result<(), Fail> {
+    let folder = folder(&rt)?;
+    let folder = folder.as_str();
+    make_folder(&rt, folder)?;
+    assert!(rt; has_kinds(&rt, folder)?);
+    assert!(rt; has_bytes(&rt, folder)?);
+    assert!(rt; has_names(&rt, folder)?);
+    fs::remove_dir_all(&rt, folder)?;
+    Ok(())
+}
+
+#[test]
+fn the_streams_take_bytes(rt: HostRuntime) -> Result<(), Fail> {
+    let mut out = StdSink::out(&rt);
+    let mut err = StdSink::err(&rt);
+    assert_eq!(rt; out.write(b"out\n"), Ok(4));
+    assert_eq!(rt; err.write(b""), Ok(0));
     Ok(())
 }

@@ -108,6 +108,7 @@ fn walk<'a>(dir: &'a [Entry], is_root: bool, route: &mut Route<'a>, follow: bool
             return Step::Absent;
         };
         match onward(node, route, follow) {
+            // The directory that holds the node is this one.
             Step::Up => {}
             Step::Root => {
                 if !is_root {
