@@ -1,13 +1,10 @@
 //! The class of a path.
-ghost use Rattle.std.specs.Prelude.{◌≡◌, ◌≢◌, ◌≤◌, ◌⊎◌, ℕ, Bool, true, false, if◌then◌else◌, is_some, ◌||◌, Option, Some, None, List, [], option_map, IfOk, IfErr, OnErr, Err};
-ghost use Rattle.worktree_fs.specs.Tree.{Names, look};
-ghost use Rattle.worktree_fs.specs.Answers.{kind_of};
+ghost use Rattle.std.specs.Prelude.{◌≡◌, ◌≤◌, ◌⊎◌, true, Some, None, [], IfOk, IfErr};
+ghost use Rattle.worktree_fs.specs.Tree.{Names};
 ghost use Rattle.worktree_fs.specs.Causes.{Quiet, Rose};
-ghost use Rattle.gitbase_core.specs.Path.{joined};
-ghost use Rattle.dir_classify.specs.Kinds.{from_node, is_dir, answers_alike, first_of_kinds};
-ghost use Rattle.dir_classify.specs.Entries.{class_in};
+ghost use Rattle.dir_classify.specs.Kinds.{is_dir, answers_alike, first_of_kinds};
 ghost use Rattle.dir_classify.specs.Paths.{full_path};
-ghost use Rattle.dir_classify.specs.Class.{Meanings, class, is_dot_git, class_dot_git, class_of_kind, is_indexed};
+ghost use Rattle.dir_classify.specs.Class.{class, is_dot_git, class_dot_git, class_of_kind};
 ghost use Rattle.dir_classify.specs.Meanings.{meanings};
 ghost use Rattle.dir_classify.specs.Asked.{asked, IsSwallowed, root_class};
 
@@ -62,8 +59,12 @@ pub fn path<W: Worktree>(
     index: &State,
     worktree: &mut W,
 ) -> Result<Outcome, Error>
-    ensures class { (t : Names) → W.told worktree.old ≡ Some t → Quiet (W.faults worktree.old) (W.faults worktree.new) → IfOk result (λ c. c ≡ class (meanings index.now) rela_path.now disk_kind (asked t (full_path worktree_root.now rela_path.now) ask_disk)) }
-    ensures swallowed { (t : Names) → W.told worktree.old ≡ Some t → IfOk result (IsSwallowed (meanings index.now) rela_path.now disk_kind (asked t (full_path worktree_root.now rela_path.now) ask_disk)) }
+    ensures class { (t : Names) → W.told worktree.old ≡ Some t → Quiet (W.faults worktree.old) (W.faults worktree.new)
+        → IfOk result (λ c. c ≡ class (meanings index.now) rela_path.now disk_kind
+        (asked t (full_path worktree_root.now rela_path.now) ask_disk)) }
+    ensures swallowed { (t : Names) → W.told worktree.old ≡ Some t
+        → IfOk result (IsSwallowed (meanings index.now) rela_path.now disk_kind
+        (asked t (full_path worktree_root.now rela_path.now) ask_disk)) }
     ensures refused { IfErr result (λ e. e ≡ Error.OutOfMemory) }
     ensures tree { W.told worktree.new ≡ W.told worktree.old }
     ensures faults { W.faults worktree.old ≤ W.faults worktree.new }
@@ -95,8 +96,10 @@ pub fn at<W: Worktree>(
     index: &State,
     worktree: &mut W,
 ) -> Result<Outcome, Error>
-    ensures class { (t : Names) → W.told worktree.old ≡ Some t → Quiet (W.faults worktree.old) (W.faults worktree.new) → IfOk result (λ c. c ≡ class (meanings index.now) rela_path.now disk_kind (asked t full_path.now ask_disk)) }
-    ensures swallowed { (t : Names) → W.told worktree.old ≡ Some t → IfOk result (IsSwallowed (meanings index.now) rela_path.now disk_kind (asked t full_path.now ask_disk)) }
+    ensures class { (t : Names) → W.told worktree.old ≡ Some t → Quiet (W.faults worktree.old) (W.faults worktree.new)
+        → IfOk result (λ c. c ≡ class (meanings index.now) rela_path.now disk_kind (asked t full_path.now ask_disk)) }
+    ensures swallowed { (t : Names) → W.told worktree.old ≡ Some t
+        → IfOk result (IsSwallowed (meanings index.now) rela_path.now disk_kind (asked t full_path.now ask_disk)) }
     ensures refused { IfErr result (λ e. e ≡ Error.OutOfMemory) }
     ensures tree { W.told worktree.new ≡ W.told worktree.old }
     ensures faults { W.faults worktree.old ≤ W.faults worktree.new }
@@ -125,8 +128,11 @@ pub fn root<W: Worktree>(
     index: &State,
     worktree: &mut W,
 ) -> Result<Outcome, Error>
-    ensures class { (t : Names) → W.told worktree.old ≡ Some t → Quiet (W.faults worktree.old) (W.faults worktree.new) → IfOk result (λ c. c ≡ root_class (meanings index.now) t worktree_root.now) }
-    ensures swallowed { (t : Names) → W.told worktree.old ≡ Some t → IfOk result (λ c. (c ≡ root_class (meanings index.now) t worktree_root.now) ⊎ (c ≡ class (meanings index.now) [] None None)) }
+    ensures class { (t : Names) → W.told worktree.old ≡ Some t → Quiet (W.faults worktree.old) (W.faults worktree.new)
+        → IfOk result (λ c. c ≡ root_class (meanings index.now) t worktree_root.now) }
+    ensures swallowed { (t : Names) → W.told worktree.old ≡ Some t
+        → IfOk result (λ c. (c ≡ root_class (meanings index.now) t worktree_root.now)
+        ⊎ (c ≡ class (meanings index.now) [] None None)) }
     ensures refused { IfErr result (λ e. e ≡ Error.OutOfMemory) }
     ensures tree { W.told worktree.new ≡ W.told worktree.old }
     ensures faults { W.faults worktree.old ≤ W.faults worktree.new }
@@ -145,7 +151,9 @@ fn kind_on_disk<W: Worktree>(
     worktree: &mut W,
     full_path: &[u8],
 ) -> Result<Option<Kind>, OutOfMemory>
-    ensures kind { (t : Names) → W.told worktree.old ≡ Some t → IfOk result (λ kind. (kind ≡ asked t full_path.now true) ⊎ ((kind ≡ None) × Rose (W.faults worktree.old) (W.faults worktree.new))) }
+    ensures kind { (t : Names) → W.told worktree.old ≡ Some t
+        → IfOk result (λ kind. (kind ≡ asked t full_path.now true)
+        ⊎ ((kind ≡ None) × Rose (W.faults worktree.old) (W.faults worktree.new))) }
     ensures tree { W.told worktree.new ≡ W.told worktree.old }
     ensures faults { W.faults worktree.old ≤ W.faults worktree.new }
     ensures list_faults { W.list_faults worktree.new ≡ W.list_faults worktree.old }

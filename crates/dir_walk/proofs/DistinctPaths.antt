@@ -23,7 +23,7 @@ use Rattle.dir_walk.proofs.Placed.{joined-plain, joined-ends, joined-some}
 
 -- ---- the first name of a path
 
-abbrev first_name : List ℕ → List ℕ
+abbrev pub first_name : List ℕ → List ℕ
 first_name [] = []
 first_name (b ∷ bytes) = cond (b == 47) [] (b ∷ first_name bytes)
 
@@ -47,7 +47,7 @@ no_slash : (name : List ℕ) → IsName name → AllByRecursion (λ b. (b == 47)
 no_slash name is = each_byte name (name_parts name is).no_slash
 
 -- what follows a directory's path and a slash
-abbrev strip : List ℕ → List ℕ → List ℕ
+abbrev pub strip : List ℕ → List ℕ → List ℕ
 strip [] path = path
 strip (b ∷ bytes) path = drop (length (b ∷ bytes) + 1) path
 
@@ -63,10 +63,10 @@ strip-joined_more (b ∷ bytes) name rest plain =
 
 -- ---- paths at or beneath another
 
-abbrev IsWithin : List ℕ → List ℕ → Type 0
+abbrev pub IsWithin : List ℕ → List ℕ → Type 0
 IsWithin above path = (path ≡ above) ⊎ ((rest : List ℕ) × (path ≡ above ++ 47 ∷ rest))
 
-next_is : (d name path : List ℕ) → IsName name → ends_in_slash d ≡ false → IsWithin (joined d name) path → first_name (strip d path) ≡ name
+pub next_is : (d name path : List ℕ) → IsName name → ends_in_slash d ≡ false → IsWithin (joined d name) path → first_name (strip d path) ≡ name
 next_is d name path is plain (inl e) = ap (λ (p : List ℕ). first_name (strip d p)) e ∙ ap first_name (strip-joined d name plain) ∙ first_name-alone name (no_slash name is)
 next_is d name path is plain (inr (rest, e)) = ap (λ (p : List ℕ). first_name (strip d p)) e ∙ ap first_name (strip-joined_more d name rest plain) ∙ first_name-more name rest (no_slash name is)
 
@@ -76,11 +76,11 @@ within_name b d name path plain (inl e) = inr (name, e ∙ joined-plain b d name
 within_name b d name path plain (inr (rest, e)) =
     inr (name ++ 47 ∷ rest, e ∙ ap (λ (p : List ℕ). p ++ 47 ∷ rest) (joined-plain b d name plain) ∙ append_assoc (b ∷ d) (47 ∷ name) (47 ∷ rest))
 
-all_append : {X : Type 0} (P : X → Type 0) (xs ys : List X) → AllByRecursion P xs → AllByRecursion P ys → AllByRecursion P (xs ++ ys)
+pub all_append : {X : Type 0} (P : X → Type 0) (xs ys : List X) → AllByRecursion P xs → AllByRecursion P ys → AllByRecursion P (xs ++ ys)
 all_append P [] ys h k = k
 all_append P (x ∷ xs) ys h k = (h.0, all_append P xs ys h.1 k)
 
-abbrev AllWithin : List ℕ → List Emission → Type 0
+abbrev pub AllWithin : List ℕ → List Emission → Type 0
 AllWithin path out = AllByRecursion (λ x. IsWithin path (path_of x)) out
 
 other_within : (path : List ℕ) (c : Class) (b : Bool) → AllWithin path (if b then broken_at path else leaf (entry_at path c)).out
@@ -113,7 +113,7 @@ mutual
       (within_of m b (path ++ 47 ∷ name) node (ap ends_in_slash (sym (joined-plain b path name plain)) ∙ joined-ends (b ∷ path) name are.0) trees.0)))
       (within_in m b path rest plain are.1 trees.1)
 
-within_some : (m : Meanings) (path : List ℕ) (node : Node) → is_empty path ≡ false → ends_in_slash path ≡ false → IsTree node → AllWithin path (item m path node).out
+pub within_some : (m : Meanings) (path : List ℕ) (node : Node) → is_empty path ≡ false → ends_in_slash path ≡ false → IsTree node → AllWithin path (item m path node).out
 within_some m [] node some plain tree = absurd (cc some)
 within_some m (b ∷ path) node some plain tree = within_of m b path node plain tree
 

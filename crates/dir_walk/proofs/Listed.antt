@@ -18,7 +18,7 @@ use Rattle.dir_classify.specs.Class.{Meanings}
 use Rattle.dir_classify.specs.Entries.{entry_at, class_in}
 use Rattle.dir_walk.specs.declared.outcome.Outcome.{Outcome}
 use Rattle.dir_walk.specs.Emissions.{Emission, is_shown, plain}
-use Rattle.dir_walk.specs.Walked.{Walked, nothing, both, item, items, report_of, entered_at, empty_class}
+use Rattle.dir_walk.specs.Walked.{Walked, nothing, both, item, items, report_of, entered_at, empty_class, leaf}
 use Rattle.dir_walk.specs.Report.{is_refused, depth_of}
 use Rattle.dir_walk.specs.Emits.{Emits, Gives, shown_by, size}
 use Rattle.dir_walk.proofs.Counts.{count_by-append, count_by-cons, list_any-append}
@@ -58,12 +58,12 @@ refused-or limit =
 length-names : (listed : List (List ℕ)) (at : Look) → (lists : ListsNames at listed) → length (names_of lists.names) ≡ length listed
 length-names listed at lists = length_permutation listed (names_of lists.names) lists.permutation
 
-empty_report : (m : Meanings) (d : List ℕ) (c : Class) (names : Names) → length (names_of names) ≡ 0 → report_of m d c names ≡ record { out = plain (entry_at d (empty_class c)) ∷ []; entered = d ∷ []; broken = [] }
+empty_report : (m : Meanings) (d : List ℕ) (c : Class) (names : Names) → length (names_of names) ≡ 0 → report_of m d c names ≡ record (leaf (entry_at d (empty_class c))) { entered = d ∷ [] }
 empty_report m d c none h = refl
 empty_report m d c (named name node rest) h = absurd (omega arith)
 
 full_report : (m : Meanings) (d : List ℕ) (c : Class) (names : Names) → 0 < length (names_of names)
-    → report_of m d c names ≡ record { out = (items m d names).out; entered = d ∷ (items m d names).entered; broken = (items m d names).broken }
+    → report_of m d c names ≡ record (items m d names) { entered = d ∷ (items m d names).entered }
 full_report m d c none h = absurd (omega arith)
 full_report m d c (named name node rest) h = refl
 
@@ -86,7 +86,7 @@ module _ (o : Options) (limit : ℕ) (m : Meanings) (t : Names) (full d : List �
   pub Gives-empty : (before mid after : List Emission) (start now stop : Outcome) → length listed ≡ 0 → Emits before mid start now (λ p. 0) 0 1
       → Emits mid after now stop (λ p. shown_by o p (plain (entry_at d (empty_class c)) ∷ [])) 1 0 → Gives o limit (entered_at m d c (look t full (is_empty d))) before after start stop
   Gives-empty before mid after start now stop bare opened emitted =
-      let w : Walked = record { out = plain (entry_at d (empty_class c)) ∷ []; entered = d ∷ []; broken = [] } in
+      let w : Walked = record (leaf (entry_at d (empty_class c))) { entered = d ∷ [] } in
       let gives : Gives o limit w before after start stop =
       record {
         emits = Emits-then before mid after start now stop _ _ _ _ _ _ _ _ _ opened emitted (λ p. omega arith) (omega arith) (omega arith);
@@ -126,7 +126,7 @@ module _ (o : Options) (limit : ℕ) (m : Meanings) (t : Names) (full d : List �
     Gives-listed i before after start stop some past so_far =
         let all : SoFar o limit m t full d listed before after start stop = rw take_all at so_far in
         let v : Walked = items m d lists.names in
-        let w : Walked = record { out = v.out; entered = d ∷ v.entered; broken = v.broken } in
+        let w : Walked = record v { entered = d ∷ v.entered } in
         let gives : Gives o limit w before after start stop =
         record {
           emits = record {

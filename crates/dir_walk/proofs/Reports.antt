@@ -1,6 +1,6 @@
 -- What was walked and sorted is the report.
 use Rattle.std.proofs.Common.{◌≡◌, ℕ, ◌+◌, List, [], Bool, true, false, cond, Option, Some, None, count_by, refl, sym, ap, subst, ◌∙◌, arith}
-use Rattle.std.specs.Prelude.{option_map, option_and_then, if◌then◌else◌}
+use Rattle.std.specs.Prelude.{option_map, option_and_then, if◌then◌else◌, IsSomeAnd}
 use Rattle.std.specs.Str.{bytes_eq}
 use Rattle.worktree_fs.specs.Tree.{Names, Look, look, found, absent, too_many_links, file, link, directory, other}
 use Rattle.worktree_fs.specs.Naming.{IsTree}
@@ -13,9 +13,11 @@ use Rattle.dir_walk.specs.declared.outcome.Outcome.{Outcome}
 use Rattle.dir_walk.specs.declared.report.Report.{Report}
 use Rattle.dir_walk.specs.Emissions.{Emission, path_of, by_path}
 use Rattle.dir_walk.specs.Distinct.{HasDistinctPaths}
+use Rattle.dir_walk.specs.Guarded.{hides_guarded}
 use Rattle.dir_walk.specs.Walked.{Walked, report_of}
 use Rattle.dir_walk.specs.Report.{walked, directory_at, is_root_entered, is_refused, shown, counts, report, report_from}
 use Rattle.dir_walk.specs.Emits.{WalkGives}
+use Rattle.dir_walk.proofs.Apart.{report-hides_none}
 use Rattle.dir_walk.proofs.DistinctPaths.{HasDistinctPaths-report}
 use Rattle.dir_walk.proofs.Sorting.{SameCounts, by_path-same}
 
@@ -60,3 +62,22 @@ report-walked o limit m t root at before after entries outcome tree start at_is 
     ∙ ap (λ (n : Outcome). Some (record { outcome = n; root = root; entries = by_path (shown o w.out) })) (sym given.outcome_is)
     ∙ ap (λ (q : List ℕ). Some (record { outcome = outcome; root = q; entries = by_path (shown o w.out) })) (sym at_is)
     ∙ ap (λ (es : List Emission). Some (record { outcome = outcome; root = at; entries = es })) same
+
+-- beneath no line of a report lies a guarded leaf that was met
+pub walked-hides_none : (o : Options) (limit : ℕ) (m : Meanings) (t : Names) (root : List ℕ) (r : Report) → IsTree (directory t) → report o limit m t root ≡ Some r → IsSomeAnd (walked m t root) (λ w. hides_guarded r.entries w.met ≡ false)
+unfolding report
+walked-hides_none o limit m t root r tree e = go (walked m t root) refl e
+  where
+    of_walk : (w : Walked) → walked m t root ≡ Some w → hides_guarded (by_path (shown o w.out)) w.met ≡ false
+    of_walk w e =
+        let is = walked-report m t root w e in
+        subst (λ (v : Walked). hides_guarded (by_path (shown o v.out)) v.met ≡ false) (sym is.is) (report-hides_none o m (root_class m t root) is.names (IsTree-look t root true (directory is.names) tree is.there))
+
+    go : (walk : Option Walked) → walked m t root ≡ walk → option_and_then (report_from o limit root) walk ≡ Some r → IsSomeAnd walk (λ w. hides_guarded r.entries w.met ≡ false)
+    go None is f = absurd (cc f)
+    go (Some w) is f = with_entries (is_refused limit w) f
+      where
+        with_entries : (b : Bool) → cond b None (Some (record { outcome = counts o w; root = root; entries = by_path (shown o w.out) })) ≡ Some r → hides_guarded r.entries w.met ≡ false
+        with_entries true g = absurd (cc g)
+        with_entries false g =
+            let same : record { outcome = counts o w; root = root; entries = by_path (shown o w.out) } ≡ r = cc in subst (λ (s : Report). hides_guarded s.entries w.met ≡ false) same (of_walk w is)

@@ -47,6 +47,11 @@ all_insert P e (x ∷ xs) pe h = go (is_before x e) (all_insert P e xs pe h.1)
     go true ih = (h.0, ih)
     go false ih = (pe, h)
 
+pub all-by_path : (P : Emission → Type 0) (xs : List Emission) → AllByRecursion P xs → AllByRecursion P (by_path xs)
+unfolding by_path
+all-by_path P [] h = tt
+all-by_path P (x ∷ xs) h = all_insert P x (by_path xs) h.0 (all-by_path P xs h.1)
+
 all_chain : (x e : Emission) (xs : List Emission) → is_before x e ≡ false → AllByRecursion (λ y. is_before y x ≡ false) xs → AllByRecursion (λ y. is_before y e ≡ false) xs
 all_chain x e [] h all = tt
 all_chain x e (y ∷ ys) h all = (by_paths.chain y x e all.0 h, all_chain x e ys h all.1)

@@ -1,5 +1,5 @@
 -- What a walk has emitted and counted when it is done with a path, in whatever order.
-use Rattle.std.specs.Prelude.{◌≡◌, ℕ, ◌<◌, ◌≤◌, ◌+◌, ◌-◌, ◌^◌, min, Bool, true, false, ◌&&◌, List, Option, Some, count_by}
+use Rattle.std.specs.Prelude.{◌≡◌, ℕ, ◌<◌, ◌≤◌, ◌+◌, ◌-◌, ◌^◌, min, Bool, true, false, ◌&&◌, List, ◌++◌, Option, Some, count_by}
 use Rattle.worktree_fs.specs.Tree.{Names}
 use Rattle.dir_classify.specs.declared.options.Options.{Options}
 use Rattle.dir_classify.specs.Class.{Meanings}
@@ -23,6 +23,11 @@ pub record Emits (before after : List Emission) (start stop : Outcome) (more : (
   pub returned : start.returned_entries < 2 ^ 64 → stop.returned_entries ≡ min (start.returned_entries + more (λ _. true)) (2 ^ 64 - 1)
   pub seen : start.seen_entries < 2 ^ 32 → stop.seen_entries ≡ min (start.seen_entries + more_seen) (2 ^ 32 - 1)
   pub read : start.read_dir_calls < 2 ^ 32 → stop.read_dir_calls ≡ min (start.read_dir_calls + more_read) (2 ^ 32 - 1)
+
+-- what was emitted before stands in front
+pub record Extends (before after : List Emission) : Type 0 where
+  pub more : List Emission
+  pub after_is : after ≡ before ++ more
 
 -- what was walked is all of `w`, of which nothing is refused within the limit
 pub record Gives (o : Options) (limit : ℕ) (w : Walked) (before after : List Emission) (start stop : Outcome) : Type 0 where

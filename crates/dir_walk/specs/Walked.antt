@@ -21,19 +21,21 @@ pub record Walked : Type 0 where
   pub entered : List (List ℕ)
   -- the paths that are to be entered and are no directories
   pub broken : List (List ℕ)
+  -- the leaves met: each path that is classed and not entered, and each directory without names, with its entry
+  pub met : List Entry
 
 abbrev pub nothing : Walked
-nothing = record { out = []; entered = []; broken = [] }
+nothing = record { out = []; entered = []; broken = []; met = [] }
 
 abbrev pub both : Walked → Walked → Walked
-both a b = record { out = a.out ++ b.out; entered = a.entered ++ b.entered; broken = a.broken ++ b.broken }
+both a b = record { out = a.out ++ b.out; entered = a.entered ++ b.entered; broken = a.broken ++ b.broken; met = a.met ++ b.met }
 
 -- a path that is not entered is one entry
 abbrev pub leaf : Entry → Walked
-leaf entry = record { out = plain entry ∷ []; entered = []; broken = [] }
+leaf entry = record nothing { out = plain entry ∷ []; met = entry ∷ [] }
 
 abbrev pub broken_at : List ℕ → Walked
-broken_at path = record { out = []; entered = []; broken = path ∷ [] }
+broken_at path = record nothing { broken = path ∷ [] }
 
 -- the property of a directory without names: its own, else that it is empty
 abbrev pub property_without_names : Option Property → Option Property
@@ -46,8 +48,8 @@ empty_class c = record { status = c.status; property = property_without_names c.
 
 -- a directory that is entered, by its names and by what they give together: without names it is one entry
 abbrev pub directory_of : List ℕ → Outcome → Names → Walked → Walked
-directory_of d c none w = record { out = plain (entry_at d (empty_class c)) ∷ []; entered = d ∷ []; broken = [] }
-directory_of d c (named name node rest) w = record { out = w.out; entered = d ∷ w.entered; broken = w.broken }
+directory_of d c none w = record (leaf (entry_at d (empty_class c))) { entered = d ∷ [] }
+directory_of d c (named name node rest) w = record w { entered = d ∷ w.entered }
 
 -- the class of a child: nothing is known of it, and the disk is asked
 abbrev pub child_class : Meanings → List ℕ → Node → Outcome

@@ -1,7 +1,7 @@
 //! The entries that a walk emits, kept in a list.
-ghost use Rattle.std.specs.Prelude.{◌≡◌, ◌++◌, ◌∷◌, [], List, IfOk, OnOk, OnErr};
+ghost use Rattle.std.specs.Prelude.{◌≡◌, ◌++◌, ◌∷◌, [], IsPermutation, IfOk, OnOk, OnErr};
 ghost use Rattle.dir_classify.specs.Entries.{entry_of};
-ghost use Rattle.dir_walk.specs.Emissions.{Emission, emission_of, by_path};
+ghost use Rattle.dir_walk.specs.Emissions.{emission_of, by_path};
 ghost use Rattle.dir_walk.specs.Distinct.{HasDistinctPaths};
 
 use dir_classify::{Entry, EntryRef, Status};
@@ -94,7 +94,8 @@ impl Collect {
         entry: &EntryRef<'_>,
         collapsed_directory_status: Option<Status>,
     ) -> Result<(), OutOfMemory>
-        ensures added { OnOk result (self.new.unorded_entries ≡ self.old.unorded_entries ++ emission_of (entry_of entry.now) collapsed_directory_status ∷ []) }
+        ensures added { OnOk result (self.new.unorded_entries
+            ≡ self.old.unorded_entries ++ emission_of (entry_of entry.now) collapsed_directory_status ∷ []) }
         ensures refused { OnErr result (self.new.unorded_entries ≡ self.old.unorded_entries) }
     {
         let entry = entry.to_owned(alloc)?;
@@ -104,7 +105,9 @@ impl Collect {
     /// The entries in ascending order of their paths, byte by byte. The room comes from the allocator that made the
     /// list.
     pub fn into_entries_by_path(self, _alloc: Global) -> Result<EmittedEntries, OutOfMemory>
-        ensures { HasDistinctPaths self.unorded_entries → IfOk result (λ entries. entries ≡ by_path self.unorded_entries) }
+        ensures sorted { HasDistinctPaths self.unorded_entries
+            → IfOk result (λ entries. entries ≡ by_path self.unorded_entries) }
+        ensures same { IfOk result (λ entries. IsPermutation self.unorded_entries entries) }
     {
         let mut items = self.unorded_entries.into_vec();
         items.sort_by(|a, b| a.0.rela_path.as_bytes().cmp(b.0.rela_path.as_bytes()))?;

@@ -1,8 +1,8 @@
 //! Which entries are emitted.
-ghost use Rattle.std.specs.Prelude.{◌≡◌, [], ◌∷◌, OnOk, OnErr};
+ghost use Rattle.std.specs.Prelude.{◌≡◌, [], ◌∷◌, OnOk};
 ghost use Rattle.dir_classify.specs.Entries.{entry_at};
 ghost use Rattle.dir_walk.specs.Emissions.{is_shown, is_tracked_status, is_empty_directory, is_unmatched, plain};
-ghost use Rattle.dir_walk.specs.Emits.{Emits, shown_by};
+ghost use Rattle.dir_walk.specs.Emits.{Emits, Extends, shown_by};
 
 use crate::collect::Collect;
 use crate::outcome::Outcome;
@@ -19,8 +19,9 @@ pub fn emit(
     delegate: &mut Collect,
     outcome: &mut Outcome,
 ) -> Result<(), OutOfMemory>
-    ensures emits { OnOk result (Emits delegate.old.unorded_entries delegate.new.unorded_entries outcome.old outcome.new (λ p. shown_by options p (plain (entry_at rela_path.now class.now) ∷ [])) 1 0) }
-    ensures refused { OnErr result (delegate.new.unorded_entries ≡ delegate.old.unorded_entries) }
+    ensures emits { OnOk result (Emits delegate.old.unorded_entries delegate.new.unorded_entries
+        outcome.old outcome.new (λ p. shown_by options p (plain (entry_at rela_path.now class.now) ∷ [])) 1 0) }
+    ensures extends { Extends delegate.old.unorded_entries delegate.new.unorded_entries }
 {
     outcome.seen_entries = outcome.seen_entries.saturating_add(1);
     if is_shown(options, class) {

@@ -1,9 +1,10 @@
 //! The report of a worktree: its walk in the order of paths.
-ghost use Rattle.std.specs.Prelude.{◌≡◌, ◌≤◌, Some, IfOk, IfErr, OnOk};
+ghost use Rattle.std.specs.Prelude.{◌≡◌, ◌≤◌, false, Some, IsSomeAnd, IfOk, IfErr, OnOk};
 ghost use Rattle.worktree_fs.specs.Tree.{Names};
 ghost use Rattle.worktree_fs.specs.Causes.{Quiet, Rose};
 ghost use Rattle.dir_classify.specs.Meanings.{meanings};
-ghost use Rattle.dir_walk.specs.Report.{report, IsWalkable};
+ghost use Rattle.dir_walk.specs.Report.{report, walked, IsWalkable};
+ghost use Rattle.dir_walk.specs.Guarded.{hides_guarded};
 ghost use Rattle.dir_walk.specs.Refused.{OnFault, IsAbout, WalkRefuses};
 
 use crate::collect::{Collect, EmittedEntries};
@@ -35,16 +36,26 @@ pub fn walk_by_path<W: Worktree>(
     options: Options,
 ) -> Result<Report, Error>
     // Over a told tree and without a fault the report is exactly that of the tree.
-    ensures gives { (t : Names) → W.told worktree.old ≡ Some t → Quiet (W.faults worktree.old) (W.faults worktree.new)
+    ensures gives { (t : Names) → W.told worktree.old ≡ Some t
+        → Quiet (W.faults worktree.old) (W.faults worktree.new)
         → IfOk result (λ r. report options depth_limit (meanings index.now) t worktree_root.now ≡ Some r) }
+
+    // Beneath no entry lies a leaf that was met and is tracked or a repository, unless it is pruned.
+    ensures hides_none { (t : Names) → W.told worktree.old ≡ Some t
+        → Quiet (W.faults worktree.old) (W.faults worktree.new)
+        → IfOk result (λ r. IsSomeAnd (walked (meanings index.now) t worktree_root.now)
+        (λ w. hides_guarded r.entries w.met ≡ false)) }
 
     // Each refusal has its cause, and a tree that can be walked is.
     ensures about { IfErr result (IsAbout worktree_root.now depth_limit) }
     ensures cause { IfErr result (OnFault (Rose (W.faults worktree.old) (W.faults worktree.new))) }
     ensures refused { (t : Names) → W.told worktree.old ≡ Some t
-        → IfErr result (WalkRefuses t (meanings index.now) worktree_root.now depth_limit (Rose (W.faults worktree.old) (W.faults worktree.new))) }
-    ensures complete { (t : Names) → W.told worktree.old ≡ Some t → Quiet (W.faults worktree.old) (W.faults worktree.new)
-        → IsWalkable depth_limit (meanings index.now) t worktree_root.now → IfErr result (λ e. e ≡ Error.OutOfMemory) }
+        → IfErr result (WalkRefuses t (meanings index.now) worktree_root.now depth_limit
+        (Rose (W.faults worktree.old) (W.faults worktree.new))) }
+    ensures complete { (t : Names) → W.told worktree.old ≡ Some t
+        → Quiet (W.faults worktree.old) (W.faults worktree.new)
+        → IsWalkable depth_limit (meanings index.now) t worktree_root.now
+        → IfErr result (λ e. e ≡ Error.OutOfMemory) }
 
     // What stays.
     ensures tree { W.told worktree.new ≡ W.told worktree.old }

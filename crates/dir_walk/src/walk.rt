@@ -1,18 +1,16 @@
 //! The walk of a worktree.
-ghost use Rattle.std.specs.Prelude.{◌≡◌, ◌⊎◌, ◌<◌, ◌≤◌, ◌+◌, ℕ, Bool, true, false, List, [], Option, Some, None, IfOk, IfErr, OnOk, OnErr};
+ghost use Rattle.std.specs.Prelude.{◌≡◌, ◌⊎◌, ◌≤◌, ◌+◌, ℕ, true, false, List, [], Some, IfOk, IfErr, OnOk};
 ghost use Rattle.gitbase_core.specs.Path.{is_empty};
 ghost use Rattle.worktree_fs.specs.Tree.{Names, Node, look, found};
-ghost use Rattle.worktree_fs.specs.Answers.{ListsNames, ListRefuses};
+ghost use Rattle.worktree_fs.specs.Answers.{ListsNames};
 ghost use Rattle.worktree_fs.specs.Naming.{AreNames};
 ghost use Rattle.worktree_fs.specs.Causes.{Quiet, Rose};
-ghost use Rattle.dir_classify.specs.Class.{Meanings, class, enters};
-ghost use Rattle.dir_classify.specs.Asked.{IsSwallowed};
 ghost use Rattle.dir_classify.specs.Meanings.{meanings};
 ghost use Rattle.dir_walk.specs.Emissions.{Emission};
 ghost use Rattle.dir_walk.specs.Walked.{item, empty_class, entered_at};
 ghost use Rattle.dir_walk.specs.Report.{depth_of, root_kind, is_root_entered, IsWalkable};
-ghost use Rattle.dir_walk.specs.Refused.{OnFault, IsAbout, Refuses, DirectoryRefuses, IsPlaced, read_error, OpenRefuses, WalkRefuses, IsNoRoot};
-ghost use Rattle.dir_walk.specs.Emits.{Emits, Gives, Keeps, WalkGives};
+ghost use Rattle.dir_walk.specs.Refused.{OnFault, IsAbout, Refuses, DirectoryRefuses, IsPlaced, read_error, OpenRefuses, WalkRefuses};
+ghost use Rattle.dir_walk.specs.Emits.{Emits, Extends, Gives, Keeps, WalkGives};
 
 use crate::collect::Collect;
 use crate::emit::emit;
@@ -25,7 +23,7 @@ use worktree_fs::{ListError, NameList, NodeKind, ReadError, Worktree};
 
 /// What stays the same over a whole walk.
 #[derive(Clone, Copy)]
-pub struct Fixed<'a> {
+struct Fixed<'a> {
     index: &'a State,
     options: Options,
 }
@@ -37,12 +35,16 @@ fn open<W: Worktree>(
     place: &Place,
     outcome: &mut Outcome,
 ) -> Result<NameList, Error>
-    ensures keeps { Keeps (W.told worktree.old) (W.told worktree.new) (W.faults worktree.old) (W.faults worktree.new) (W.list_faults worktree.old) (W.list_faults worktree.new) (W.reads worktree.old) (W.reads worktree.new) (W.precomposes worktree.old) (W.precomposes worktree.new) }
+    ensures keeps { Keeps (W.told worktree.old) (W.told worktree.new)
+        (W.faults worktree.old) (W.faults worktree.new) (W.list_faults worktree.old) (W.list_faults worktree.new)
+        (W.reads worktree.old) (W.reads worktree.new) (W.precomposes worktree.old) (W.precomposes worktree.new) }
     ensures kept { OnOk result (W.list_faults worktree.new ≡ W.list_faults worktree.old) }
     ensures cause { IfErr result (OnFault (Rose (W.faults worktree.old) (W.faults worktree.new))) }
     ensures names { IfOk result AreNames }
-    ensures lists { (t : Names) → W.told worktree.old ≡ Some t → IfOk result (ListsNames (look t place.now.full (is_empty place.now.rela))) }
-    ensures refused { (t : Names) → W.told worktree.old ≡ Some t → IfErr result (OpenRefuses place.now.full (look t place.now.full (is_empty place.now.rela))) }
+    ensures lists { (t : Names) → W.told worktree.old ≡ Some t
+        → IfOk result (ListsNames (look t place.now.full (is_empty place.now.rela))) }
+    ensures refused { (t : Names) → W.told worktree.old ≡ Some t
+        → IfErr result (OpenRefuses place.now.full (look t place.now.full (is_empty place.now.rela))) }
     ensures about { (root : List ℕ) (limit : ℕ) → IfErr result (IsAbout root limit) }
     ensures counted { (entries : List Emission) → Emits entries entries outcome.old outcome.new (λ p. 0) 0 1 }
 {
@@ -101,14 +103,26 @@ fn walk_name<W: Worktree>(
     delegate: &mut Collect,
     outcome: &mut Outcome,
 ) -> Result<(), Error>
-    ensures keeps { Keeps (W.told worktree.old) (W.told worktree.new) (W.faults worktree.old) (W.faults worktree.new) (W.list_faults worktree.old) (W.list_faults worktree.new) (W.reads worktree.old) (W.reads worktree.new) (W.precomposes worktree.old) (W.precomposes worktree.new) }
+    ensures keeps { Keeps (W.told worktree.old) (W.told worktree.new)
+        (W.faults worktree.old) (W.faults worktree.new) (W.list_faults worktree.old) (W.list_faults worktree.new)
+        (W.reads worktree.old) (W.reads worktree.new) (W.precomposes worktree.old) (W.precomposes worktree.new) }
     ensures kept { OnOk result (W.list_faults worktree.new ≡ W.list_faults worktree.old) }
     ensures cause { IfErr result (OnFault (Rose (W.faults worktree.old) (W.faults worktree.new))) }
-    ensures about { (root : List ℕ) → IsPlaced root place.now.full place.now.rela → (limit : ℕ) → levels + depth_of place.now.rela ≡ limit + 1 → IfErr result (IsAbout root limit) }
-    ensures refused { (t : Names) → W.told worktree.old ≡ Some t → is_empty place.now.rela ≡ false → (node : Node) → look t place.now.full false ≡ found node → (root : List ℕ) → IsPlaced root place.now.full place.now.rela
-        → (limit : ℕ) → levels + depth_of place.now.rela ≡ limit + 1 → IfErr result (Refuses t (meanings fixed.now.index.now) root limit (item (meanings fixed.now.index.now) place.now.rela node)) }
-    ensures gives { (t : Names) → W.told worktree.old ≡ Some t → Quiet (W.faults worktree.old) (W.faults worktree.new) → is_empty place.now.rela ≡ false → (node : Node) → look t place.now.full false ≡ found node
-        → (limit : ℕ) → levels + depth_of place.now.rela ≡ limit + 1 → OnOk result (Gives fixed.now.options limit (item (meanings fixed.now.index.now) place.now.rela node) delegate.old.unorded_entries delegate.new.unorded_entries outcome.old outcome.new) }
+    ensures extends { Extends delegate.old.unorded_entries delegate.new.unorded_entries }
+    ensures about { (root : List ℕ) → IsPlaced root place.now.full place.now.rela
+        → (limit : ℕ) → levels + depth_of place.now.rela ≡ limit + 1 → IfErr result (IsAbout root limit) }
+    ensures refused { let m = meanings fixed.now.index.now in
+        (t : Names) → W.told worktree.old ≡ Some t
+        → is_empty place.now.rela ≡ false → (node : Node) → look t place.now.full false ≡ found node
+        → (root : List ℕ) → IsPlaced root place.now.full place.now.rela
+        → (limit : ℕ) → levels + depth_of place.now.rela ≡ limit + 1
+        → IfErr result (Refuses t m root limit (item m place.now.rela node)) }
+    ensures gives { let m = meanings fixed.now.index.now in
+        (t : Names) → W.told worktree.old ≡ Some t → Quiet (W.faults worktree.old) (W.faults worktree.new)
+        → is_empty place.now.rela ≡ false → (node : Node) → look t place.now.full false ≡ found node
+        → (limit : ℕ) → levels + depth_of place.now.rela ≡ limit + 1
+        → OnOk result (Gives fixed.now.options limit (item m place.now.rela node)
+        delegate.old.unorded_entries delegate.new.unorded_entries outcome.old outcome.new) }
 {
     let full = place.full.as_bytes();
     let class = classify::at(
@@ -159,14 +173,24 @@ fn walk_directory<W: Worktree>(
     delegate: &mut Collect,
     outcome: &mut Outcome,
 ) -> Result<(), Error>
-    ensures keeps { Keeps (W.told worktree.old) (W.told worktree.new) (W.faults worktree.old) (W.faults worktree.new) (W.list_faults worktree.old) (W.list_faults worktree.new) (W.reads worktree.old) (W.reads worktree.new) (W.precomposes worktree.old) (W.precomposes worktree.new) }
+    ensures keeps { Keeps (W.told worktree.old) (W.told worktree.new)
+        (W.faults worktree.old) (W.faults worktree.new) (W.list_faults worktree.old) (W.list_faults worktree.new)
+        (W.reads worktree.old) (W.reads worktree.new) (W.precomposes worktree.old) (W.precomposes worktree.new) }
     ensures kept { OnOk result (W.list_faults worktree.new ≡ W.list_faults worktree.old) }
     ensures cause { IfErr result (OnFault (Rose (W.faults worktree.old) (W.faults worktree.new))) }
-    ensures about { (root : List ℕ) → IsPlaced root place.now.full place.now.rela → (limit : ℕ) → levels + depth_of place.now.rela ≡ limit → IfErr result (IsAbout root limit) }
-    ensures refused { (t : Names) → W.told worktree.old ≡ Some t → (root : List ℕ) → IsPlaced root place.now.full place.now.rela
-        → (limit : ℕ) → levels + depth_of place.now.rela ≡ limit → IfErr result (DirectoryRefuses t (meanings fixed.now.index.now) root limit place.now.full place.now.rela class.now) }
-    ensures gives { (t : Names) → W.told worktree.old ≡ Some t → Quiet (W.faults worktree.old) (W.faults worktree.new)
-        → (limit : ℕ) → levels + depth_of place.now.rela ≡ limit → OnOk result (Gives fixed.now.options limit (entered_at (meanings fixed.now.index.now) place.now.rela class.now (look t place.now.full (is_empty place.now.rela))) delegate.old.unorded_entries delegate.new.unorded_entries outcome.old outcome.new) }
+    ensures extends { Extends delegate.old.unorded_entries delegate.new.unorded_entries }
+    ensures about { (root : List ℕ) → IsPlaced root place.now.full place.now.rela
+        → (limit : ℕ) → levels + depth_of place.now.rela ≡ limit → IfErr result (IsAbout root limit) }
+    ensures refused { let m = meanings fixed.now.index.now in
+        (t : Names) → W.told worktree.old ≡ Some t → (root : List ℕ) → IsPlaced root place.now.full place.now.rela
+        → (limit : ℕ) → levels + depth_of place.now.rela ≡ limit
+        → IfErr result (DirectoryRefuses t m root limit place.now.full place.now.rela class.now) }
+    ensures gives { let m = meanings fixed.now.index.now in
+        (t : Names) → W.told worktree.old ≡ Some t → Quiet (W.faults worktree.old) (W.faults worktree.new)
+        → (limit : ℕ) → levels + depth_of place.now.rela ≡ limit
+        → OnOk result (Gives fixed.now.options limit
+        (entered_at m place.now.rela class.now (look t place.now.full (is_empty place.now.rela)))
+        delegate.old.unorded_entries delegate.new.unorded_entries outcome.old outcome.new) }
 {
     let names = open(alloc, worktree, place, outcome)?;
     if names.as_slice().is_empty() {
@@ -196,9 +220,13 @@ fn root_kind<W: Worktree>(
     disk_kind: Option<Kind>,
     worktree: &mut W,
 ) -> Result<Option<Kind>, OutOfMemory>
-    ensures keeps { Keeps (W.told worktree.old) (W.told worktree.new) (W.faults worktree.old) (W.faults worktree.new) (W.list_faults worktree.old) (W.list_faults worktree.new) (W.reads worktree.old) (W.reads worktree.new) (W.precomposes worktree.old) (W.precomposes worktree.new) }
+    ensures keeps { Keeps (W.told worktree.old) (W.told worktree.new)
+        (W.faults worktree.old) (W.faults worktree.new) (W.list_faults worktree.old) (W.list_faults worktree.new)
+        (W.reads worktree.old) (W.reads worktree.new) (W.precomposes worktree.old) (W.precomposes worktree.new) }
     ensures list_faults { W.list_faults worktree.new ≡ W.list_faults worktree.old }
-    ensures kind { (t : Names) → W.told worktree.old ≡ Some t → IfOk result (λ kind. (kind ≡ root_kind t worktree_root.now disk_kind) ⊎ ((kind ≡ disk_kind) × Rose (W.faults worktree.old) (W.faults worktree.new))) }
+    ensures kind { (t : Names) → W.told worktree.old ≡ Some t
+        → IfOk result (λ kind. (kind ≡ root_kind t worktree_root.now disk_kind)
+        ⊎ ((kind ≡ disk_kind) × Rose (W.faults worktree.old) (W.faults worktree.new))) }
 {
     if disk_kind != Some(Kind::Symlink) {
         return Ok(disk_kind);
@@ -217,9 +245,13 @@ fn is_root_entered<W: Worktree>(
     class: &classify::Outcome,
     worktree: &mut W,
 ) -> Result<bool, OutOfMemory>
-    ensures keeps { Keeps (W.told worktree.old) (W.told worktree.new) (W.faults worktree.old) (W.faults worktree.new) (W.list_faults worktree.old) (W.list_faults worktree.new) (W.reads worktree.old) (W.reads worktree.new) (W.precomposes worktree.old) (W.precomposes worktree.new) }
+    ensures keeps { Keeps (W.told worktree.old) (W.told worktree.new)
+        (W.faults worktree.old) (W.faults worktree.new) (W.list_faults worktree.old) (W.list_faults worktree.new)
+        (W.reads worktree.old) (W.reads worktree.new) (W.precomposes worktree.old) (W.precomposes worktree.new) }
     ensures list_faults { W.list_faults worktree.new ≡ W.list_faults worktree.old }
-    ensures entered { (t : Names) → W.told worktree.old ≡ Some t → IfOk result (λ entered. (entered ≡ is_root_entered t worktree_root.now class.now) ⊎ ((entered ≡ false) × Rose (W.faults worktree.old) (W.faults worktree.new))) }
+    ensures entered { (t : Names) → W.told worktree.old ≡ Some t
+        → IfOk result (λ entered. (entered ≡ is_root_entered t worktree_root.now class.now)
+        ⊎ ((entered ≡ false) × Rose (W.faults worktree.old) (W.faults worktree.new))) }
 {
     let kind = root_kind(alloc, worktree_root, class.disk_kind, worktree)?;
     let in_repository = class.disk_kind == Some(Kind::Repository);
@@ -230,8 +262,8 @@ fn is_root_entered<W: Worktree>(
 /// the worktree's own.
 ///
 /// `worktree_root` is absolute and has no component `.` or `..`; where it is a link to a directory, that is walked.
-/// `depth_limit` counts components below it. The answer's path is the worktree root. The directory of each name is
-/// listed once, and the worktree is asked once for the kind of each name of which the index does not know it.
+/// `depth_limit` counts components below it. The answer's path is the worktree root. Each directory that is entered is
+/// listed once, and the worktree is asked at most once for the kind of each name.
 ///
 /// Refused is a worktree root that is no directory (`WorktreeRootIsFile`), a directory below it that is to be entered
 /// and lies deeper than the limit (`TooDeep`), and one that cannot be listed (`ReadDir`, `DirEntry`): for a fault,
@@ -248,19 +280,25 @@ pub fn walk<W: Worktree>(
     delegate: &mut Collect,
 ) -> Result<(Outcome, PathText), Error>
     // What is emitted and counted is the walk of the told tree, whatever the order of listings.
-    ensures gives { (t : Names) → W.told worktree.old ≡ Some t → Quiet (W.faults worktree.old) (W.faults worktree.new)
-        → IfOk result (λ r. WalkGives options depth_limit (meanings index.now) t worktree_root.now delegate.old.unorded_entries delegate.new.unorded_entries r.0) }
+    ensures gives { (t : Names) → W.told worktree.old ≡ Some t
+        → Quiet (W.faults worktree.old) (W.faults worktree.new)
+        → IfOk result (λ r. WalkGives options depth_limit (meanings index.now) t worktree_root.now
+        delegate.old.unorded_entries delegate.new.unorded_entries r.0) }
     ensures root { IfOk result (λ r. r.1 ≡ worktree_root.now) }
 
     // Each refusal has its cause, and a tree that can be walked is.
     ensures about { IfErr result (IsAbout worktree_root.now depth_limit) }
     ensures cause { IfErr result (OnFault (Rose (W.faults worktree.old) (W.faults worktree.new))) }
     ensures refused { (t : Names) → W.told worktree.old ≡ Some t
-        → IfErr result (WalkRefuses t (meanings index.now) worktree_root.now depth_limit (Rose (W.faults worktree.old) (W.faults worktree.new))) }
-    ensures complete { (t : Names) → W.told worktree.old ≡ Some t → Quiet (W.faults worktree.old) (W.faults worktree.new)
-        → IsWalkable depth_limit (meanings index.now) t worktree_root.now → IfErr result (λ e. e ≡ Error.OutOfMemory) }
+        → IfErr result (WalkRefuses t (meanings index.now) worktree_root.now depth_limit
+        (Rose (W.faults worktree.old) (W.faults worktree.new))) }
+    ensures complete { (t : Names) → W.told worktree.old ≡ Some t
+        → Quiet (W.faults worktree.old) (W.faults worktree.new)
+        → IsWalkable depth_limit (meanings index.now) t worktree_root.now
+        → IfErr result (λ e. e ≡ Error.OutOfMemory) }
 
-    // What stays.
+    // What stays: a refusal, too, leaves what was emitted before.
+    ensures extends { Extends delegate.old.unorded_entries delegate.new.unorded_entries }
     ensures tree { W.told worktree.new ≡ W.told worktree.old }
     ensures faults { W.faults worktree.old ≤ W.faults worktree.new }
     ensures list_faults { W.list_faults worktree.old ≤ W.list_faults worktree.new }

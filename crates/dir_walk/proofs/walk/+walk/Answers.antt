@@ -11,6 +11,7 @@ use Rattle.dir_walk.specs.Walked.{item}
 use Rattle.dir_walk.specs.Emits.{Gives}
 use Rattle.dir_walk.specs.Refused.{DirectoryRefuses, Refuses, IsPlaced}
 use Rattle.dir_walk.specs.Report.{depth_of}
+use Rattle.dir_walk.proofs.Emitting.{Extends-none, Extends-then}
 use Rattle.dir_walk.proofs.Named.{SoFar-none, SoFar-more, listed-at}
 use Rattle.dir_walk.proofs.Listed.{Gives-empty, Gives-listed}
 use Rattle.dir_walk.proofs.Refusals.{DirectoryRefuses-name, Refuses-directory, IsTooDeep-name}
@@ -37,6 +38,7 @@ walk_directory-loop-name-init g t c =
     record {
       keeps = c.open.ensures.keeps;
       kept = c.in_ok-names.ensures.kept;
+      extends = Extends-none entries;
       so_far = λ tree told quiet limit level.
           SoFar-none c.args.fixed.now.options limit (meanings c.args.fixed.now.index.now) tree place.full place.rela entries entries c.args.outcome.now c.open.new.outcome (c.in_ok-names.ensures.counted entries);
     }
@@ -98,6 +100,7 @@ walk_directory-loop-name-preserved g t c =
         precomposes = keeps1.precomposes ∙ keeps0.precomposes;
       };
       kept = c.in_ok-walk_name.ensures.kept ∙ c.loop-name.invariant.kept;
+      extends = Extends-then c.args.delegate.now.unorded_entries c.loop-name.delegate.unorded_entries c.walk_name.new.delegate.unorded_entries c.loop-name.invariant.extends c.walk_name.ensures.extends;
       so_far = λ tree told quiet limit level.
           let are : AreNames listed = rw c.as_slice-name-items.ensures c.in_ok-names.ensures.names in
           let lists : ListsNames (look tree place.full (is_empty place.rela)) listed = rw c.as_slice-name-items.ensures (c.in_ok-names.ensures.lists tree told) in

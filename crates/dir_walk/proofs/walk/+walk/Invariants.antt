@@ -3,7 +3,7 @@ use Rattle.worktree_fs.specs.Tree.{Names}
 use Rattle.worktree_fs.specs.Causes.{Quiet}
 use Rattle.dir_classify.specs.Meanings.{meanings}
 use Rattle.dir_walk.specs.Report.{depth_of}
-use Rattle.dir_walk.specs.Emits.{Keeps}
+use Rattle.dir_walk.specs.Emits.{Extends, Keeps}
 use Rattle.dir_walk.proofs.Named.{SoFar}
 use Rattle.dir_walk.proofs.walk.+walk.Given as goal
 
@@ -21,6 +21,7 @@ invariant-walk_directory-loop-name g l =
     record {
       keeps : Keeps (w.told before) (w.told now) (w.faults before) (w.faults now) (w.list_faults before) (w.list_faults now) (w.reads before) (w.reads now) (w.precomposes before) (w.precomposes now);
       kept : w.list_faults now ≡ w.list_faults before;
+      extends : Extends l.fn.delegate.unorded_entries l.delegate.unorded_entries;
       so_far : (t : Names) → w.told before ≡ Some t → Quiet (w.faults before) (w.faults now) → (limit : ℕ) → l.levels + depth_of l.place.rela ≡ limit
           → SoFar l.fixed.options limit (meanings l.fixed.index.now) t l.place.full l.place.rela (take l.name-index l.name-items) l.fn.delegate.unorded_entries l.delegate.unorded_entries l.fn.outcome l.outcome;
     }

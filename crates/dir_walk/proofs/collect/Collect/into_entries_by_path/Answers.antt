@@ -4,8 +4,8 @@ use Rattle.dir_walk.specs.Emissions.{is_before}
 use Rattle.dir_walk.proofs.Sorting.{by_paths, by_path-from_sort}
 use Rattle.dir_walk.proofs.collect.Collect.into_entries_by_path.Goals as goal
 
-pub returns : goal.returns
-returns c = λ distinct.
+pub returns-clause-sorted : goal.returns-clause-sorted
+returns-clause-sorted c = λ distinct.
     c.from_vec.ensures
     ∙ by_path-from_sort c.into_vec-items.result.items c.sort_by.new.self.items c.args.self.unorded_entries
     (λ p. sym (sum_by-IsPermutation (λ e. cond (p e) 1 0) c.into_vec-items.result.items c.sort_by.new.self.items c.in_ok-sort_by.ensures.permutation))
