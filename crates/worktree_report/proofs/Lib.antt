@@ -1,0 +1,5 @@
+pub mod Unescaping
+pub mod Writes
+pub mod SetupLines
+pub mod Statuses
+pub mod Runs

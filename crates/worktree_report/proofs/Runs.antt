@@ -1,0 +1,48 @@
+-- The parts of a run, put together.
+use Rattle.std.proofs.Common.{◌≡◌, ◌≤◌, ℕ, List, true, Some, Result, Ok, Err, IfOk, inl, inr, arith}
+use Rattle.worktree_fs.specs.Tree.{Names, look}
+use Rattle.worktree_fs.specs.Causes.{Rose, Quiet}
+use Rattle.dir_classify.specs.declared.error.Error.{Error}
+use Rattle.dir_classify.specs.declared.error.Error.TheVariants as errors
+use Rattle.dir_classify.specs.Class.{Meanings}
+use Rattle.dir_walk.specs.Refused.{WalkRefuses}
+use Rattle.worktree_report.specs.declared.setup.Setup.{Setup}
+use Rattle.worktree_report.specs.declared.refusal.Refusal.{Refusal}
+use Rattle.worktree_report.specs.declared.refusal.WalkWord.{WalkWord}
+use Rattle.worktree_report.specs.Words.{Command, command_of}
+use Rattle.worktree_report.specs.SetupAt.{setup_at}
+use Rattle.worktree_report.specs.Run.{text_of, output_of, RefusesWalkAt}
+
+output_is : (t : Names) (words : List (List ℕ)) (command : Command) (setup : Setup) (text : List ℕ)
+    → command_of words ≡ Some command → setup_at (look t command.setup true) ≡ Ok setup → text_of t command.root setup ≡ Some text → output_of t words ≡ Some text
+unfolding output_of
+output_is t words command setup text named read walked = rw (named, read) walked
+
+-- a text of the report at the root that the words name is what they ask for
+pub output_of-walked : (t : Names) (words : List (List ℕ)) (command : Command) (setup : Setup) (answer : Result (List ℕ) Refusal)
+    → command_of words ≡ Some command → setup_at (look t command.setup true) ≡ Ok setup → IfOk answer (λ text. text_of t command.root setup ≡ Some text)
+    → IfOk answer (λ text. output_of t words ≡ Some text)
+output_of-walked t words command setup (Ok text) named read walked = output_is t words command setup text named read walked
+output_of-walked t words command setup (Err refusal) named read walked = tt
+
+-- a count that rose from later on rose from before
+pub Rose-before : (before later now : ℕ) → before ≤ later → Rose later now → Rose before now
+Rose-before before later now older rose = omega arith
+
+pub Quiet-later : (before later now : ℕ) → before ≤ later → Quiet before now → Quiet later now
+Quiet-later before later now older quiet = omega arith
+
+widen_walk : (t : Names) (m : Meanings) (root : List ℕ) (limit : ℕ) (Failed Before : Type 0) (error : Error)
+    → (Failed → Before) → WalkRefuses t m root limit Failed error → WalkRefuses t m root limit Before error
+widen_walk t m root limit Failed Before (errors.WorktreeRootIsFile path) wider (inl no_root) = inl no_root
+widen_walk t m root limit Failed Before (errors.WorktreeRootIsFile path) wider (inr failed) = inr (wider failed)
+widen_walk t m root limit Failed Before (errors.TooDeep path) wider cause = cause
+widen_walk t m root limit Failed Before (errors.ReadDir path why) wider cause = cause
+widen_walk t m root limit Failed Before (errors.DirEntry path) wider cause = cause
+widen_walk t m root limit Failed Before errors.OutOfMemory wider cause = cause
+
+-- what refused a walk, where what failed in it failed in more than the walk
+pub RefusesWalkAt-wider : (t : Names) (root : List ℕ) (setup : Setup) (Failed Before : Type 0) (word : WalkWord) (path : List ℕ)
+    → (Failed → Before) → RefusesWalkAt t root setup Failed word path → RefusesWalkAt t root setup Before word path
+RefusesWalkAt-wider t root setup Failed Before word path wider refused =
+    record { error = refused.error; is = refused.is; cause = widen_walk t _ root _ Failed Before refused.error wider refused.cause }

@@ -1,0 +1,20 @@
+use Rattle.std.proofs.Common.{sym, ◌∙◌}
+use Rattle.worktree_report.specs.Named.{paths_of}
+use Rattle.worktree_report.proofs.Runs.{output_of-walked, Rose-before, Quiet-later, RefusesWalkAt-wider}
+use Rattle.worktree_report.proofs.program.report_text.Goals as goal
+
+pub returns-clause-gives : goal.returns-clause-gives
+returns-clause-gives g c = λ t told quiet.
+    output_of-walked t c.args.words.now (paths_of c.in-Some.command) c.in_ok-setup.setup c.walked_text.result (sym c.in-Some.ensures)
+    (c.in_ok-setup.ensures.gives t told)
+    (c.walked_text.ensures.gives t (c.in_ok-setup.ensures.tree ∙ told) (Quiet-later _ _ _ c.in_ok-setup.ensures.faults quiet))
+
+pub returns-clause-walk : goal.returns-clause-walk
+returns-clause-walk g c = λ t told word path is.
+    record {
+      command = paths_of c.in-Some.command;
+      setup = c.in_ok-setup.setup;
+      named = sym c.in-Some.ensures;
+      read = c.in_ok-setup.ensures.gives t told;
+      refused = RefusesWalkAt-wider t _ _ _ _ word path (Rose-before _ _ _ c.in_ok-setup.ensures.faults) (c.walked_text.ensures.refused t (c.in_ok-setup.ensures.tree ∙ told) word path is);
+    }

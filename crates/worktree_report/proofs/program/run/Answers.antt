@@ -1,0 +1,18 @@
+use Rattle.std.proofs.Common.{inr, ap, Err}
+use Rattle.worktree_report.proofs.Statuses.{is_setup, is_walk, ends_in_eight, said_as}
+use Rattle.worktree_report.proofs.program.run.Goals as goal
+
+pub returns-in-Err-clause-setup : goal.returns-in-Err-clause-setup
+returns-in-Err-clause-setup g c = λ three.
+    let found = is_setup c.in-Err.refusal c.refuse.result c.refuse.ensures.status three in
+    (found.0, λ t told. c.in-Err.ensures.setup t told found.0 (ap Err found.1), said_as _ _ _ _ c.in-Err.refusal _ c.refuse.result found.1 three c.refuse.ensures.line)
+
+pub returns-in-Err-clause-walk : goal.returns-in-Err-clause-walk
+returns-in-Err-clause-walk g c = λ four.
+    let found = is_walk c.in-Err.refusal c.refuse.result c.refuse.ensures.status four in
+    (found.word, found.path, c.in-Err.ensures.about found.word found.path (ap Err found.is), λ t told. c.in-Err.ensures.walk t told found.word found.path (ap Err found.is),
+    said_as _ _ _ _ c.in-Err.refusal _ c.refuse.result found.is four c.refuse.ensures.line)
+
+pub returns-in-Err-clause-complete : goal.returns-in-Err-clause-complete
+returns-in-Err-clause-complete g c = λ t told valid quiet _.
+    inr (ends_in_eight c.in-Err.refusal c.refuse.result c.refuse.ensures.status (c.in-Err.ensures.complete t told quiet valid))

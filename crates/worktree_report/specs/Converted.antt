@@ -1,0 +1,46 @@
+-- The refusal of the program that stands for one of a part of it.
+use Rattle.worktree_fs.specs.declared.answers.ReadError.{ReadError}
+use Rattle.worktree_fs.specs.declared.answers.ReadError.TheVariants as read
+use Rattle.dir_classify.specs.declared.error.Error.{Error}
+use Rattle.dir_classify.specs.declared.error.Error.TheVariants as walk
+use Rattle.dir_classify.specs.declared.error.ReadWhy.TheVariants as why
+use Rattle.worktree_report.specs.declared.setup.SetupError.{SetupError}
+use Rattle.worktree_report.specs.declared.setup.SetupError.TheVariants as setup
+use Rattle.worktree_report.specs.declared.refusal.Refusal.{Refusal}
+use Rattle.worktree_report.specs.declared.refusal.Refusal.TheVariants as refusals
+use Rattle.worktree_report.specs.declared.refusal.WalkWord.TheVariants as words
+
+abbrev pub of_read : ReadError → Refusal
+of_read read.Fault = refusals.Fault
+of_read read.OutOfMemory = refusals.OutOfMemory
+
+abbrev pub of_setup : SetupError → Refusal
+of_setup (setup.Line line) = refusals.Setup line
+of_setup setup.OutOfMemory = refusals.OutOfMemory
+
+abbrev pub of_walk : Error → Refusal
+of_walk (walk.WorktreeRootIsFile root) = refusals.Walk words.RootIsFile root
+of_walk (walk.ReadDir path why.Absent) = refusals.Walk words.AbsentDirectory path
+of_walk (walk.ReadDir path why.NotADirectory) = refusals.Walk words.NotADirectory path
+of_walk (walk.ReadDir path why.Fault) = refusals.Fault
+of_walk (walk.DirEntry path) = refusals.Fault
+of_walk (walk.TooDeep path) = refusals.Walk words.TooDeep path
+of_walk walk.OutOfMemory = refusals.OutOfMemory
+
+-- a refusal that reading a setup may answer
+abbrev pub IsOfReading : Refusal → Type 0
+IsOfReading refusals.Usage = ⊥
+IsOfReading (refusals.Setup line) = Unit {0}
+IsOfReading (refusals.Walk word path) = ⊥
+IsOfReading refusals.Fault = Unit {0}
+IsOfReading refusals.Output = ⊥
+IsOfReading refusals.OutOfMemory = Unit {0}
+
+-- a refusal that a walk may answer
+abbrev pub IsOfWalking : Refusal → Type 0
+IsOfWalking refusals.Usage = ⊥
+IsOfWalking (refusals.Setup line) = ⊥
+IsOfWalking (refusals.Walk word path) = Unit {0}
+IsOfWalking refusals.Fault = Unit {0}
+IsOfWalking refusals.Output = ⊥
+IsOfWalking refusals.OutOfMemory = Unit {0}

@@ -1,0 +1,63 @@
+-- The lines of a report.
+use Rattle.std.specs.Prelude.{ℕ, List, [], ◌∷◌, ◌++◌, codes, Option, Some, None}
+use Rattle.std.specs.List.{flat_map}
+use Rattle.dir_classify.specs.declared.entry.Status.{Status}
+use Rattle.dir_classify.specs.declared.entry.Status.TheVariants.{Pruned, Tracked, Untracked}
+use Rattle.dir_classify.specs.declared.entry.Kind.{Kind}
+use Rattle.dir_classify.specs.declared.entry.Kind.TheVariants.{Untrackable, File, Symlink, Directory, Repository}
+use Rattle.dir_classify.specs.declared.entry.PathspecMatch.{PathspecMatch}
+use Rattle.dir_classify.specs.declared.entry.PathspecMatch.TheVariants.{Always, Excluded, Prefix, WildcardMatch, Verbatim}
+use Rattle.dir_classify.specs.declared.entry.Property.{Property}
+use Rattle.dir_classify.specs.declared.entry.Property.TheVariants.{DotGit, EmptyDirectory, EmptyDirectoryAndCWD, TrackedExcluded}
+use Rattle.dir_walk.specs.Emissions.{Emission}
+use Rattle.worktree_report.specs.Escapes.{escaped}
+
+abbrev pub status_word : Status → List ℕ
+status_word Pruned = codes "pruned"
+status_word Tracked = codes "tracked"
+status_word Untracked = codes "untracked"
+
+-- a dash stands for none, in each word
+abbrev pub kind_word : Option Kind → List ℕ
+kind_word None = codes "-"
+kind_word (Some Untrackable) = codes "untrackable"
+kind_word (Some File) = codes "file"
+kind_word (Some Symlink) = codes "symlink"
+kind_word (Some Directory) = codes "directory"
+kind_word (Some Repository) = codes "repository"
+
+abbrev pub match_word : Option PathspecMatch → List ℕ
+match_word None = codes "-"
+match_word (Some Always) = codes "always"
+match_word (Some Excluded) = codes "excluded"
+match_word (Some Prefix) = codes "prefix"
+match_word (Some WildcardMatch) = codes "wildcard"
+match_word (Some Verbatim) = codes "verbatim"
+
+abbrev pub property_word : Option Property → List ℕ
+property_word None = codes "-"
+property_word (Some DotGit) = codes "dotgit"
+property_word (Some EmptyDirectory) = codes "empty"
+property_word (Some EmptyDirectoryAndCWD) = codes "emptycwd"
+property_word (Some TrackedExcluded) = codes "excluded"
+
+-- the status of the directory that an entry was folded into
+abbrev pub collapsed_word : Option Status → List ℕ
+collapsed_word None = codes "-"
+collapsed_word (Some status) = status_word status
+
+-- a word and the space behind it
+abbrev pub spaced : List ℕ → List ℕ
+spaced word = word ++ 32 ∷ []
+
+-- The words of an entry, a tab, the escaped path and a line feed. The words are the status, the kind on disk, the
+-- kind in the index, the match of the path specs, the property, and the status of the directory that the entry was
+-- folded into.
+unfoldable pub line_of : Emission → List ℕ
+line_of emission =
+    spaced (status_word emission.0.status) ++ spaced (kind_word emission.0.disk_kind) ++ spaced (kind_word emission.0.index_kind)
+    ++ spaced (match_word emission.0.pathspec_match) ++ spaced (property_word emission.0.property) ++ collapsed_word emission.1
+    ++ 9 ∷ [] ++ escaped emission.0.rela_path ++ 10 ∷ []
+
+abbrev pub lines_of : List Emission → List ℕ
+lines_of emissions = flat_map line_of emissions

@@ -1,0 +1,55 @@
+-- Why there is no report: the status and the line of each refusal.
+use Rattle.std.specs.Prelude.{◌≡◌, ◌⊎◌, ℕ, List, [], ◌∷◌, ◌++◌, Bool, true, false, codes, decimal, Option, Some, None}
+use Rattle.worktree_fs.specs.Causes.{Quiet}
+use Rattle.worktree_report.specs.declared.refusal.WalkWord.{WalkWord}
+use Rattle.worktree_report.specs.declared.refusal.WalkWord.TheVariants as words
+use Rattle.worktree_report.specs.declared.refusal.Refusal.{Refusal}
+use Rattle.worktree_report.specs.declared.refusal.Refusal.TheVariants as refusals
+use Rattle.worktree_report.specs.Escapes.{escaped}
+use Rattle.worktree_report.specs.Written.{Appends}
+
+-- the status that the program ends with
+abbrev pub status_of : Refusal → ℕ
+status_of refusals.Usage = 2
+status_of (refusals.Setup line) = 3
+status_of (refusals.Walk word path) = 4
+status_of refusals.Fault = 6
+status_of refusals.Output = 7
+status_of refusals.OutOfMemory = 8
+
+abbrev pub word_of : WalkWord → List ℕ
+word_of words.RootIsFile = codes "root-is-file"
+word_of words.AbsentDirectory = codes "absent-directory"
+word_of words.NotADirectory = codes "not-a-directory"
+word_of words.TooDeep = codes "too-deep"
+
+-- the line on standard error, its line feed included
+abbrev pub line_of : Refusal → List ℕ
+line_of refusals.Usage = codes "usage: report ROOT SETUP or generate N\n"
+line_of (refusals.Setup line) = codes "setup: line " ++ decimal line ++ 10 ∷ []
+line_of (refusals.Walk word path) = codes "walk: " ++ word_of word ++ 32 ∷ [] ++ escaped path ++ 10 ∷ []
+line_of refusals.Fault = codes "worktree fault\n"
+line_of refusals.Output = codes "output fault\n"
+line_of refusals.OutOfMemory = codes "out of memory\n"
+
+-- the line stands behind what was written before, where that is told and nothing was refused
+abbrev pub Says : Option (List ℕ) → Option (List ℕ) → ℕ → ℕ → List ℕ → Type 0
+Says before after refusals_before refusals_after line = Quiet refusals_before refusals_after → Appends before after line
+
+-- whether the line of a refusal has to be made, which takes memory
+abbrev pub is_made : Refusal → Bool
+is_made (refusals.Setup line) = true
+is_made (refusals.Walk word path) = true
+is_made refusals.Usage = false
+is_made refusals.Fault = false
+is_made refusals.Output = false
+is_made refusals.OutOfMemory = false
+
+-- the line, where it has to be made
+abbrev pub IsLineIfMade : Option (List ℕ) → Refusal → Type 0
+IsLineIfMade None refusal = is_made refusal ≡ false
+IsLineIfMade (Some line) refusal = (line ≡ line_of refusal) × (is_made refusal ≡ true)
+
+-- a status that the program ends with
+abbrev pub IsStatus : ℕ → Type 0
+IsStatus status = (status ≡ 0) ⊎ (refusal : Refusal) × (status_of refusal ≡ status)

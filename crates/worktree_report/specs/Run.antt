@@ -1,0 +1,78 @@
+-- What the top call writes, and why it is refused.
+use Rattle.std.specs.Prelude.{◌≡◌, ℕ, List, Option, Some, Ok, Err, option_map, true}
+use Rattle.std.specs.Result.{result_ok}
+use Rattle.worktree_fs.specs.Tree.{Names, look}
+use Rattle.dir_classify.specs.declared.options.Options.{Options}
+use Rattle.dir_classify.specs.declared.error.Error.{Error}
+use Rattle.dir_classify.specs.Meanings.{meanings}
+use Rattle.dir_walk.specs.Report.{report, IsWalkable}
+use Rattle.dir_walk.specs.Refused.{IsAbout, WalkRefuses}
+use Rattle.worktree_report.specs.declared.setup.Setup.{Setup}
+use Rattle.worktree_report.specs.declared.setup.SetupOptions.{SetupOptions}
+use Rattle.worktree_report.specs.declared.refusal.WalkWord.{WalkWord}
+use Rattle.worktree_report.specs.declared.refusal.Refusal.TheVariants as refusals
+use Rattle.worktree_report.specs.Steps.{◌>>=◌}
+use Rattle.worktree_report.specs.Words.{Command, command_of}
+use Rattle.worktree_report.specs.SetupAt.{setup_at}
+use Rattle.worktree_report.specs.Lines.{lines_of}
+use Rattle.worktree_report.specs.Converted.{of_walk}
+
+-- how many components a directory that is entered may have below the worktree root
+abbrev pub depth_limit : ℕ
+depth_limit = 256
+
+abbrev pub walk_options : SetupOptions → Options
+walk_options options = record { emit_tracked = options.emit_tracked }
+
+-- the lines of the report of the work tree at `root`; none where there is no such report
+abbrev pub text_of : Names → List ℕ → Setup → Option (List ℕ)
+text_of t root setup = option_map (λ r. lines_of r.entries) (report (walk_options setup.options) depth_limit (meanings setup.index) t root)
+
+-- The bytes that the words ask for, over the tree `t`. None where they ask for nothing, where the setup they name is no
+-- file or has a line outside the grammar, and where there is no report of the worktree they name.
+unfoldable pub output_of : Names → List (List ℕ) → Option (List ℕ)
+output_of t words = do
+  command ← command_of words
+  setup ← result_ok (setup_at (look t command.setup true))
+  text_of t command.root setup
+
+-- the setup that the words name is no file, and the line is 0; or this is its first line outside the grammar
+pub record RefusesSetup (t : Names) (words : List (List ℕ)) (line : ℕ) : Type 0 where
+  pub command : Command
+  pub named : command_of words ≡ Some command
+  pub outside : setup_at (look t command.setup true) ≡ Err line
+
+-- the walk of the work tree at `root` is refused with a word and a path
+pub record RefusesWalkAt (t : Names) (root : List ℕ) (setup : Setup) (Failed : Type 0) (word : WalkWord) (path : List ℕ) : Type 0 where
+  pub error : Error
+  pub is : of_walk error ≡ refusals.Walk word path
+  pub cause : WalkRefuses t (meanings setup.index) root depth_limit Failed error
+
+-- the walk that the words ask for is refused with a word and a path
+pub record RefusesWalk (t : Names) (words : List (List ℕ)) (Failed : Type 0) (word : WalkWord) (path : List ℕ) : Type 0 where
+  pub command : Command
+  pub setup : Setup
+  pub named : command_of words ≡ Some command
+  pub read : setup_at (look t command.setup true) ≡ Ok setup
+  pub refused : RefusesWalkAt t command.root setup Failed word path
+
+-- the word and the path of a refused walk are about the root that was handed in and the limit, told tree or not
+pub record IsAboutWalkAt (root : List ℕ) (word : WalkWord) (path : List ℕ) : Type 0 where
+  pub error : Error
+  pub is : of_walk error ≡ refusals.Walk word path
+  pub about : IsAbout root depth_limit error
+
+pub record IsAboutWalk (words : List (List ℕ)) (word : WalkWord) (path : List ℕ) : Type 0 where
+  pub command : Command
+  pub named : command_of words ≡ Some command
+  pub about : IsAboutWalkAt command.root word path
+
+-- The words, the setup and the worktree are as they should be: the words are in the grammar, the setup is a file in its
+-- grammar, and the worktree root is a directory or a link to one, in which no directory lies too deep and each
+-- up-to-date directory of the index is one on disk.
+pub record IsValid (t : Names) (words : List (List ℕ)) : Type 0 where
+  pub command : Command
+  pub setup : Setup
+  pub named : command_of words ≡ Some command
+  pub read : setup_at (look t command.setup true) ≡ Ok setup
+  pub walkable : IsWalkable depth_limit (meanings setup.index) t command.root

@@ -1,0 +1,67 @@
+-- The lines of a setup that give the index.
+use Rattle.std.specs.Prelude.{ℕ, ◌-◌, List, [], ◌∷◌, nat_le, ◌&&◌, if◌then◌else◌, codes, replicate, Option, Some, None}
+use Rattle.std.specs.Str.{bytes_eq}
+use Rattle.std.specs.Result.{result_ok}
+use Rattle.gitbase_core.specs.Id.{id_of_hex}
+use Rattle.gitbase_core.specs.declared.entry.Mode.{Mode}
+use Rattle.gitbase_core.specs.declared.entry.Flags.{Flags}
+use Rattle.gitbase_core.specs.declared.entry.IndexEntry.{IndexEntry}
+use Rattle.worktree_report.specs.Steps.{◌>>=◌}
+use Rattle.worktree_report.specs.Escapes.{unescaped}
+use Rattle.worktree_report.specs.SetupFields.{parted}
+
+abbrev mode_with : ℕ → Mode
+mode_with bits = record { 0 = bits }
+
+-- the word of a mode: six octal digits. A submodule's commit and a sparse directory are not taken yet.
+abbrev pub mode_of : List ℕ → Option Mode
+mode_of word =
+    if bytes_eq word (codes "100644") then Some (mode_with 33188)
+    else if bytes_eq word (codes "100755") then Some (mode_with 33261)
+    else if bytes_eq word (codes "120000") then Some (mode_with 40960)
+    else None
+
+-- the word of a stage: one digit from 0 to 3
+abbrev pub stage_of : List ℕ → Option ℕ
+stage_of (b ∷ []) = if nat_le 48 b && nat_le b 51 then Some (b - 48) else None
+stage_of _ = None
+
+-- the word of the flags: a dash, for none of them
+abbrev pub flags_of : List ℕ → Option Flags
+flags_of word = if bytes_eq word (codes "-") then Some (record { 0 = 0 }) else None
+
+-- the word of an id: a dash for that of no object, or its hexadecimal digits
+abbrev pub id_of : List ℕ → Option (List ℕ)
+id_of word = if bytes_eq word (codes "-") then Some (replicate 20 0) else result_ok (id_of_hex word)
+
+-- the five words of an entry; the last one is all that is left
+pub record IndexWords : Type 0 where
+  pub mode : List ℕ
+  pub stage : List ℕ
+  pub flags : List ℕ
+  pub id : List ℕ
+  pub path : List ℕ
+
+abbrev pub index_words : List ℕ → Option IndexWords
+index_words rest = do
+  first ← parted rest
+  second ← parted first.rest
+  third ← parted second.rest
+  fourth ← parted third.rest
+  Some (record { mode = first.word; stage = second.word; flags = third.word; id = fourth.word; path = fourth.rest })
+
+-- what the words of an entry say
+abbrev pub entry_in : IndexWords → Option IndexEntry
+entry_in words = do
+  mode ← mode_of words.mode
+  stage ← stage_of words.stage
+  flags ← flags_of words.flags
+  id ← id_of words.id
+  path ← unescaped words.path
+  Some (record { path = path; stage = stage; mode = mode; flags = flags; id = id })
+
+-- `MODE STAGE FLAGS ID PATH`, behind the keyword
+abbrev pub index_entry : List ℕ → Option IndexEntry
+index_entry rest = do
+  words ← index_words rest
+  entry_in words

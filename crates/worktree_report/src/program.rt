@@ -1,0 +1,127 @@
+//! The top call.
+ghost use Rattle.std.specs.Prelude.{◌≡◌, ◌≢◌, ◌⊎◌, ◌↔◌, ◌≤◌, ℕ, List, Some, None, IfOk, IfErr, OnOk, IsErrOf};
+ghost use Rattle.worktree_fs.specs.Tree.{Names};
+ghost use Rattle.worktree_fs.specs.Causes.{Quiet, Rose};
+ghost use Rattle.worktree_report.specs.Words.{command_of};
+ghost use Rattle.worktree_report.specs.Written.{Appends, AppendsPart};
+ghost use Rattle.worktree_report.specs.Refusals.{Says, line_of, IsStatus};
+ghost use Rattle.worktree_report.specs.Run.{output_of, RefusesSetup, RefusesWalk, IsAboutWalk, IsValid};
+ghost use Rattle.worktree_report.specs.declared.refusal.WalkWord.{WalkWord};
+
+use crate::reading::read_setup;
+use crate::refusal::{Refusal, refuse};
+use crate::walking::walked_text;
+use crate::words::command_of;
+use crate::writing::write_whole;
+use gitbase_core::Bytes;
+use std::alloc::Global;
+use worktree_fs::{Interrupt, Sink, Worktree};
+
+/// Writes the text of a report, and answers 0; or says that it was refused, and answers 7.
+fn deliver<S: Sink, E: Sink>(alloc: Global, text: &[u8], out: &mut S, err: &mut E) -> u8
+    ensures statuses { (result ≡ 0) ⊎ (result ≡ 7) }
+    ensures whole { result ≡ 0 → Appends (S.written out.old) (S.written out.new) text.now }
+    ensures part { result ≡ 7 → AppendsPart (S.written out.old) (S.written out.new) text.now }
+    ensures cause { result ≡ 7 → Rose (S.refusals out.old) (S.refusals out.new) }
+    ensures later { S.refusals out.old ≤ S.refusals out.new }
+    ensures said { result ≡ 7 → Says (E.written err.old) (E.written err.new) (E.refusals err.old) (E.refusals err.new) (line_of Refusal.Output) }
+    ensures silent { result ≡ 0 → E.written err.new ≡ E.written err.old }
+{
+    match write_whole(out, text) {
+        Ok(()) => 0,
+        Err(_) => refuse(alloc, &Refusal::Output, err),
+    }
+}
+
+/// The text of the report that the words ask for, or why there is none.
+fn report_text<W: Worktree>(
+    alloc: Global,
+    words: &[Bytes],
+    worktree: &mut W,
+) -> Result<Bytes, Refusal>
+    ensures gives { (t : Names) → W.told worktree.old ≡ Some t → Quiet (W.faults worktree.old) (W.faults worktree.new) → IfOk result (λ text. output_of t words.now ≡ Some text) }
+    ensures usage { IsErrOf result Refusal.Usage ↔ (command_of words.now ≡ None) }
+    ensures setup { (t : Names) → W.told worktree.old ≡ Some t → (line : ℕ) → IsErrOf result (Refusal.Setup line) → RefusesSetup t words.now line }
+    ensures walk { (t : Names) → W.told worktree.old ≡ Some t → (word : WalkWord) (path : List ℕ) → IsErrOf result (Refusal.Walk word path) → RefusesWalk t words.now (Rose (W.faults worktree.old) (W.faults worktree.new)) word path }
+    ensures about { (word : WalkWord) (path : List ℕ) → IsErrOf result (Refusal.Walk word path) → IsAboutWalk words.now word path }
+    ensures cause { IsErrOf result Refusal.Fault → Rose (W.faults worktree.old) (W.faults worktree.new) }
+    ensures no_output { ¬ IsErrOf result Refusal.Output }
+    ensures complete { (t : Names) → W.told worktree.old ≡ Some t → Quiet (W.faults worktree.old) (W.faults worktree.new) → IsValid t words.now → IfErr result (λ refusal. refusal ≡ Refusal.OutOfMemory) }
+    ensures tree { W.told worktree.new ≡ W.told worktree.old }
+    ensures faults { W.faults worktree.old ≤ W.faults worktree.new }
+    ensures list_faults { W.list_faults worktree.old ≤ W.list_faults worktree.new }
+    ensures list_faults_kept { OnOk result (W.list_faults worktree.new ≡ W.list_faults worktree.old) }
+    ensures precomposes { W.precomposes worktree.new ≡ W.precomposes worktree.old }
+{
+    let Some(command) = command_of(words) else {
+        return Err(Refusal::Usage);
+    };
+    let setup = read_setup(alloc, worktree, command.setup)?;
+    walked_text(alloc, worktree, command.root, &setup)
+}
+
+/// Answers the words of a command line: writes the report that they ask for to `out`, or says to `err` in one line why
+/// there is none, and answers the status that the program is to end with.
+///
+/// | status | where |
+/// |---|---|
+/// | 0 | the report was written whole |
+/// | 2 | the words are not `report ROOT SETUP` with two absolute paths without `.`, `..` and NUL |
+/// | 3 | the setup is not read as a file, or has a line outside its grammar |
+/// | 4 | the walk was refused |
+/// | 6 | the worktree failed, and counted it |
+/// | 7 | `out` refused bytes, and counted it |
+/// | 8 | want of memory |
+///
+/// With a status other than 0 and 7 nothing goes to `out`. A refusal of `err` changes nothing. The interrupt is not
+/// asked yet.
+pub fn run<W: Worktree, I: Interrupt, S: Sink, E: Sink>(
+    alloc: Global,
+    words: &[Bytes],
+    worktree: &mut W,
+    _interrupt: &mut I,
+    out: &mut S,
+    err: &mut E,
+) -> u8
+    // Status 0, over a told tree and with no fault counted: what `out` has is what it had, and the lines of the report.
+    ensures report { (t : Names) → W.told worktree.old ≡ Some t → Quiet (W.faults worktree.old) (W.faults worktree.new) → result ≡ 0
+        → (text : List ℕ) × (output_of t words.now ≡ Some text) × Appends (S.written out.old) (S.written out.new) text }
+    ensures silent { result ≡ 0 → E.written err.new ≡ E.written err.old }
+    ensures list_faults { result ≡ 0 → W.list_faults worktree.new ≡ W.list_faults worktree.old }
+
+    // Any other status: nothing on `out`, but with 7 a front of the report that is not all of it.
+    ensures untouched { result ≢ 0 → result ≢ 7 → S.written out.new ≡ S.written out.old }
+    ensures part { (t : Names) → W.told worktree.old ≡ Some t → Quiet (W.faults worktree.old) (W.faults worktree.new) → result ≡ 7
+        → (text : List ℕ) × (output_of t words.now ≡ Some text) × AppendsPart (S.written out.old) (S.written out.new) text }
+
+    // Where each status comes, and what it says.
+    ensures statuses { IsStatus result }
+    ensures usage { (result ≡ 2) ↔ (command_of words.now ≡ None) }
+    ensures usage_said { result ≡ 2 → Says (E.written err.old) (E.written err.new) (E.refusals err.old) (E.refusals err.new) (line_of Refusal.Usage) }
+    ensures setup { result ≡ 3 → (line : ℕ) × ((t : Names) → W.told worktree.old ≡ Some t → RefusesSetup t words.now line)
+        × Says (E.written err.old) (E.written err.new) (E.refusals err.old) (E.refusals err.new) (line_of (Refusal.Setup line)) }
+    ensures walk { result ≡ 4 → (word : WalkWord) × (path : List ℕ) × IsAboutWalk words.now word path
+        × ((t : Names) → W.told worktree.old ≡ Some t → RefusesWalk t words.now (Rose (W.faults worktree.old) (W.faults worktree.new)) word path)
+        × Says (E.written err.old) (E.written err.new) (E.refusals err.old) (E.refusals err.new) (line_of (Refusal.Walk word path)) }
+    ensures fault { result ≡ 6 → Rose (W.faults worktree.old) (W.faults worktree.new) }
+    ensures fault_said { result ≡ 6 → Says (E.written err.old) (E.written err.new) (E.refusals err.old) (E.refusals err.new) (line_of Refusal.Fault) }
+    ensures output { result ≡ 7 → Rose (S.refusals out.old) (S.refusals out.new) }
+    ensures output_said { result ≡ 7 → Says (E.written err.old) (E.written err.new) (E.refusals err.old) (E.refusals err.new) (line_of Refusal.Output) }
+    ensures memory_said { result ≡ 8 → Says (E.written err.old) (E.written err.new) (E.refusals err.old) (E.refusals err.new) (line_of Refusal.OutOfMemory) }
+
+    // Valid input, over a told tree and with nothing counted.
+    ensures complete { (t : Names) → W.told worktree.old ≡ Some t → IsValid t words.now → Quiet (W.faults worktree.old) (W.faults worktree.new)
+        → Quiet (S.refusals out.old) (S.refusals out.new) → (result ≡ 0) ⊎ (result ≡ 8) }
+
+    // What stays.
+    ensures tree { W.told worktree.new ≡ W.told worktree.old }
+    ensures faults { W.faults worktree.old ≤ W.faults worktree.new }
+    ensures precomposes { W.precomposes worktree.new ≡ W.precomposes worktree.old }
+    ensures questions { I.questions _interrupt.new ≡ I.questions _interrupt.old }
+    ensures raised { I.raised _interrupt.new ≡ I.raised _interrupt.old }
+{
+    match report_text(alloc, words, worktree) {
+        Ok(text) => deliver(alloc, text.as_bytes(), out, err),
+        Err(refusal) => refuse(alloc, &refusal, err),
+    }
+}

@@ -1,0 +1,67 @@
+//! Reading the setup from the worktree.
+ghost use Rattle.std.specs.Prelude.{◌≡◌, ◌≤◌, ℕ, true, Some, Ok, Err, IfOk, IfErr, IsErrOf};
+ghost use Rattle.worktree_fs.specs.Tree.{Names, look};
+ghost use Rattle.worktree_fs.specs.Causes.{Rose, Counts};
+ghost use Rattle.worktree_report.specs.SetupAt.{setup_at};
+ghost use Rattle.worktree_report.specs.Converted.{IsOfReading};
+
+use crate::refusal::Refusal;
+use crate::setup::{Setup, SetupError, parse};
+use gitbase_core::Bytes;
+use std::alloc::Global;
+use worktree_fs::{ReadAnswer, ReadError, Worktree};
+
+impl From<ReadError> for Refusal {
+    ghost use Rattle.std.specs.Prelude.{◌≡◌};
+    ghost use Rattle.worktree_report.specs.Converted.{of_read};
+
+    ghost from_gives = { λ error refusal. refusal ≡ of_read error };
+
+    fn from(error: ReadError) -> Refusal {
+        match error {
+            ReadError::Fault => Refusal::Fault,
+            ReadError::OutOfMemory => Refusal::OutOfMemory,
+        }
+    }
+}
+
+impl From<SetupError> for Refusal {
+    ghost use Rattle.std.specs.Prelude.{◌≡◌};
+    ghost use Rattle.worktree_report.specs.Converted.{of_setup};
+
+    ghost from_gives = { λ error refusal. refusal ≡ of_setup error };
+
+    fn from(error: SetupError) -> Refusal {
+        match error {
+            SetupError::Line { line } => Refusal::Setup { line },
+            SetupError::OutOfMemory => Refusal::OutOfMemory,
+        }
+    }
+}
+
+/// The setup at a path, links followed.
+///
+/// `Setup` names its first line outside the grammar, 0 where there is no file; `Fault` comes only where the worktree
+/// counted one.
+pub fn read_setup<W: Worktree>(
+    alloc: Global,
+    worktree: &mut W,
+    path: &[u8],
+) -> Result<Setup, Refusal>
+    ensures gives { (t : Names) → W.told worktree.old ≡ Some t → IfOk result (λ setup. setup_at (look t path.now true) ≡ Ok setup) }
+    ensures outside { (t : Names) → W.told worktree.old ≡ Some t → (line : ℕ) → IsErrOf result (Refusal.Setup line) → setup_at (look t path.now true) ≡ Err line }
+    ensures cause { IsErrOf result Refusal.Fault → Rose (W.faults worktree.old) (W.faults worktree.new) }
+    ensures answers { IfErr result IsOfReading }
+    ensures tree { W.told worktree.new ≡ W.told worktree.old }
+    ensures faults { W.faults worktree.old ≤ W.faults worktree.new }
+    ensures list_faults { W.list_faults worktree.new ≡ W.list_faults worktree.old }
+    ensures reads { Counts (W.reads worktree.old) (W.reads worktree.new) }
+    ensures lists { W.lists worktree.new ≡ W.lists worktree.old }
+    ensures precomposes { W.precomposes worktree.new ≡ W.precomposes worktree.old }
+{
+    let mut text = Bytes::new(alloc);
+    match worktree.read(alloc, path, true, &mut text)? {
+        ReadAnswer::Read => Ok(parse(alloc, text.as_bytes())?),
+        _ => Err(Refusal::Setup { line: 0 }),
+    }
+}

@@ -1,0 +1,153 @@
+//! Why there is no report: the status and the line of each refusal.
+ghost use Rattle.std.specs.Prelude.{◌≡◌, ◌⊎◌, true, false, IfOk, OnErr};
+ghost use Rattle.worktree_report.specs.Refusals.{status_of, word_of, line_of, Says, is_made, IsLineIfMade};
+
+use crate::escape::add_escaped;
+use crate::writing::write_whole;
+use gitbase_core::{Bytes, OutOfMemory, PathText};
+use std::alloc::Global;
+use worktree_fs::Sink;
+
+/// The word of a walk that was refused.
+#[derive(Clone, Copy, Debug, PartialEq, Eq)]
+pub enum WalkWord {
+    /// The worktree root leads to no directory, or its kind could not be learnt.
+    RootIsFile,
+    /// Nothing is where a directory was to be entered.
+    AbsentDirectory,
+    /// What was to be entered is no directory.
+    NotADirectory,
+    /// What was to be entered lies deeper than the limit.
+    TooDeep,
+}
+
+/// Why there is no report.
+#[derive(Debug, Drop)]
+pub enum Refusal {
+    /// The words ask for nothing.
+    Usage,
+    /// The first line of the setup outside its grammar; 0 where the setup is not read as a file.
+    Setup { line: usize },
+    /// The walk was refused, for what is at a path.
+    Walk { word: WalkWord, path: PathText },
+    /// The worktree failed.
+    Fault,
+    /// The report's bytes were refused.
+    Output,
+    /// Want of memory.
+    OutOfMemory,
+}
+
+impl From<OutOfMemory> for Refusal {
+    ghost use Rattle.std.specs.Prelude.{◌≡◌};
+    ghost use Rattle.worktree_report.specs.declared.refusal.Refusal.TheVariants as refusals;
+
+    ghost from_gives = { λ _ refusal. refusal ≡ refusals.OutOfMemory };
+
+    fn from(_refused: OutOfMemory) -> Refusal {
+        Refusal::OutOfMemory
+    }
+}
+
+/// The status that the program ends with.
+pub fn status_of(refusal: &Refusal) -> u8
+    ensures { result ≡ status_of refusal.now }
+{
+    match refusal {
+        Refusal::Usage => 2,
+        Refusal::Setup { line: _ } => 3,
+        Refusal::Walk { word: _, path: _ } => 4,
+        Refusal::Fault => 6,
+        Refusal::Output => 7,
+        Refusal::OutOfMemory => 8,
+    }
+}
+
+fn word_of(word: WalkWord) -> &'static [u8]
+    ensures { result.now ≡ word_of word }
+{
+    match word {
+        WalkWord::RootIsFile => b"root-is-file",
+        WalkWord::AbsentDirectory => b"absent-directory",
+        WalkWord::NotADirectory => b"not-a-directory",
+        WalkWord::TooDeep => b"too-deep",
+    }
+}
+
+fn setup_line(alloc: Global, line: usize) -> Result<Bytes, OutOfMemory>
+    ensures { IfOk result (λ text. text ≡ line_of (Refusal.Setup line)) }
+{
+    let text = format!(in alloc; "setup: line {line}\n")?;
+    Ok(Bytes::from_slice(alloc, text.as_bytes())?)
+}
+
+fn walk_line(alloc: Global, word: WalkWord, path: &[u8]) -> Result<Bytes, OutOfMemory>
+    ensures { IfOk result (λ text. text ≡ line_of (Refusal.Walk word path.now)) }
+{
+    let mut text = Vec::new(alloc);
+    text.extend_from_slice(b"walk: ")?;
+    text.extend_from_slice(word_of(word))?;
+    text.push(b' ')?;
+    add_escaped(&mut text, path)?;
+    text.push(b'\n')?;
+    Ok(Bytes::from_vec(text))
+}
+
+/// Writes a line, and lets a refusal be.
+pub fn say<E: Sink>(err: &mut E, line: &[u8])
+    ensures { Says (E.written err.old) (E.written err.new) (E.refusals err.old) (E.refusals err.new) line.now }
+{
+    let _ = write_whole(err, line);
+}
+
+/// The line of a refusal that needs no memory for it.
+fn fixed_line(refusal: &Refusal) -> &'static [u8]
+    ensures { is_made refusal.now ≡ false → result.now ≡ line_of refusal.now }
+{
+    match refusal {
+        Refusal::Usage => b"usage: report ROOT SETUP or generate N\n",
+        Refusal::Fault => b"worktree fault\n",
+        Refusal::Output => b"output fault\n",
+        Refusal::OutOfMemory => b"out of memory\n",
+        Refusal::Setup { line: _ } => b"",
+        Refusal::Walk { word: _, path: _ } => b"",
+    }
+}
+
+/// The line of a refusal that needs memory for it; none where it needs none.
+fn made_line(alloc: Global, refusal: &Refusal) -> Result<Option<Bytes>, OutOfMemory>
+    ensures line { IfOk result (λ made. IsLineIfMade made refusal.now) }
+    ensures memory { OnErr result (is_made refusal.now ≡ true) }
+{
+    match refusal {
+        Refusal::Setup { line } => Ok(Some(setup_line(alloc, *line)?)),
+        Refusal::Walk { word, path } => Ok(Some(walk_line(alloc, *word, path.as_bytes())?)),
+        Refusal::Usage => Ok(None),
+        Refusal::Fault => Ok(None),
+        Refusal::Output => Ok(None),
+        Refusal::OutOfMemory => Ok(None),
+    }
+}
+
+/// Says why there is no report, and answers the status; where there is no memory for the line, that want instead.
+pub fn refuse<E: Sink>(alloc: Global, refusal: &Refusal, err: &mut E) -> u8
+    ensures status { (result ≡ status_of refusal.now) ⊎ (result ≡ 8) }
+    ensures exact { is_made refusal.now ≡ false → result ≡ status_of refusal.now }
+    ensures line { result ≡ status_of refusal.now → Says (E.written err.old) (E.written err.new) (E.refusals err.old) (E.refusals err.new) (line_of refusal.now) }
+    ensures memory { result ≡ 8 → Says (E.written err.old) (E.written err.new) (E.refusals err.old) (E.refusals err.new) (line_of Refusal.OutOfMemory) }
+{
+    match made_line(alloc, refusal) {
+        Ok(Some(line)) => {
+            say(err, line.as_bytes());
+            status_of(refusal)
+        }
+        Ok(None) => {
+            say(err, fixed_line(refusal));
+            status_of(refusal)
+        }
+        Err(OutOfMemory) => {
+            say(err, b"out of memory\n");
+            8
+        }
+    }
+}

@@ -1,0 +1,124 @@
+//! The lines of a setup that give the index.
+ghost use Rattle.std.specs.Prelude.{◌≡◌, option_map, IfOk};
+ghost use Rattle.worktree_report.specs.SetupIndex.{mode_of, stage_of, flags_of, id_of, index_words, entry_in, index_entry};
+ghost use Rattle.worktree_report.specs.SetupSeen.{words_seen};
+
+use crate::escape::unescaped;
+use crate::setup::field::parted;
+use gitbase_core::{Flags, IndexEntry, Mode, ObjectId, OutOfMemory};
+use std::alloc::Global;
+
+/// The words of an entry, as a line has them.
+#[derive(Clone, Copy, Debug)]
+struct IndexWords<'a> {
+    mode: &'a [u8],
+    stage: &'a [u8],
+    flags: &'a [u8],
+    id: &'a [u8],
+    path: &'a [u8],
+}
+
+fn mode_of(word: &[u8]) -> Option<Mode>
+    ensures { result ≡ mode_of word.now }
+{
+    if word == b"100644".as_slice() {
+        Some(Mode::FILE)
+    } else if word == b"100755".as_slice() {
+        Some(Mode::FILE_EXECUTABLE)
+    } else if word == b"120000".as_slice() {
+        Some(Mode::SYMLINK)
+    } else {
+        None
+    }
+}
+
+fn stage_of(word: &[u8]) -> Option<u8>
+    ensures { result ≡ stage_of word.now }
+{
+    match word {
+        [digit @ b'0'..=b'3'] => Some(*digit - b'0'),
+        _ => None,
+    }
+}
+
+fn flags_of(word: &[u8]) -> Option<Flags>
+    ensures { result ≡ flags_of word.now }
+{
+    if word == b"-".as_slice() {
+        Some(Flags::empty())
+    } else {
+        None
+    }
+}
+
+fn id_of(word: &[u8]) -> Option<ObjectId>
+    ensures { result ≡ id_of word.now }
+{
+    if word == b"-".as_slice() {
+        return Some(ObjectId::null());
+    }
+    ObjectId::from_hex(word).ok()
+}
+
+fn index_words(rest: &[u8]) -> Option<IndexWords<'_>>
+    ensures { option_map words_seen result ≡ index_words rest.now }
+{
+    let Some(mode) = parted(rest) else {
+        return None;
+    };
+    let Some(stage) = parted(mode.rest) else {
+        return None;
+    };
+    let Some(flags) = parted(stage.rest) else {
+        return None;
+    };
+    let Some(id) = parted(flags.rest) else {
+        return None;
+    };
+    Some(IndexWords {
+        mode: mode.word,
+        stage: stage.word,
+        flags: flags.word,
+        id: id.word,
+        path: id.rest,
+    })
+}
+
+/// The entry that a line gives behind its keyword, which is `MODE STAGE FLAGS ID PATH`. None where a word is missing,
+/// or says nothing.
+pub fn index_entry(alloc: Global, rest: &[u8]) -> Result<Option<IndexEntry>, OutOfMemory>
+    ensures { IfOk result (λ entry. entry ≡ index_entry rest.now) }
+{
+    match index_words(rest) {
+        Some(words) => entry_in(alloc, words),
+        None => Ok(None),
+    }
+}
+
+/// What the words of an entry say.
+fn entry_in(alloc: Global, words: IndexWords<'_>) -> Result<Option<IndexEntry>, OutOfMemory>
+    ensures { IfOk result (λ entry. entry ≡ entry_in (words_seen words.entry)) }
+{
+    let Some(mode) = mode_of(words.mode) else {
+        return Ok(None);
+    };
+    let Some(stage) = stage_of(words.stage) else {
+        return Ok(None);
+    };
+    let Some(flags) = flags_of(words.flags) else {
+        return Ok(None);
+    };
+    let Some(id) = id_of(words.id) else {
+        return Ok(None);
+    };
+    let Some(path) = unescaped(alloc, words.path)? else {
+        return Ok(None);
+    };
+    Ok(Some(IndexEntry {
+        path,
+        stage,
+        mode,
+        flags,
+        id,
+    }))
+}

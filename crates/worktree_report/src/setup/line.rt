@@ -1,0 +1,52 @@
+//! What a line of a setup says by itself.
+ghost use Rattle.std.specs.Prelude.{◌≡◌, IfOk};
+ghost use Rattle.worktree_report.specs.SetupText.{is_skipped, keyword_line, line_of};
+ghost use Rattle.worktree_report.specs.SetupSeen.{seen};
+
+use crate::setup::field::{Field, parted};
+use crate::setup::index_line::index_entry;
+use crate::setup::option::{SetupOption, option_of};
+use gitbase_core::{IndexEntry, OutOfMemory};
+use std::alloc::Global;
+
+/// What a line says.
+#[derive(Debug, Drop)]
+pub enum SetupLine {
+    /// Nothing: it is empty, or a comment.
+    Skipped,
+    /// An option has a value.
+    Sets(SetupOption),
+    /// The index has an entry.
+    Indexes(IndexEntry),
+}
+
+fn is_skipped(line: &[u8]) -> bool
+    ensures { result ≡ is_skipped line.now }
+{
+    matches!(line, [] | [b'#', ..])
+}
+
+fn keyword_line(alloc: Global, fields: Field<'_>) -> Result<Option<SetupLine>, OutOfMemory>
+    ensures { IfOk result (λ line. line ≡ keyword_line (seen fields.entry)) }
+{
+    if fields.word == b"option".as_slice() {
+        return Ok(option_of(alloc, fields.rest)?.map(SetupLine::Sets));
+    }
+    if fields.word == b"index".as_slice() {
+        return Ok(index_entry(alloc, fields.rest)?.map(SetupLine::Indexes));
+    }
+    Ok(None)
+}
+
+/// What a line says by itself. None where it says nothing.
+pub fn line_of(alloc: Global, line: &[u8]) -> Result<Option<SetupLine>, OutOfMemory>
+    ensures { IfOk result (λ said. said ≡ line_of line.now) }
+{
+    if is_skipped(line) {
+        return Ok(Some(SetupLine::Skipped));
+    }
+    match parted(line) {
+        Some(fields) => keyword_line(alloc, fields),
+        None => Ok(None),
+    }
+}

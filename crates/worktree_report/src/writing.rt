@@ -1,0 +1,27 @@
+// Writing to a sink that takes as much at a time as it likes.
+ghost use Rattle.std.specs.Prelude.{◌≡◌, ℕ, ◌≤◌, ◌++◌, List, OnOk, OnErr};
+ghost use Rattle.worktree_fs.specs.Causes.{Rose};
+ghost use Rattle.worktree_report.specs.Written.{Appends, AppendsPart};
+
+use worktree_fs::{Fault, Sink};
+
+/// Writes all of the bytes.
+///
+/// A fault comes where the sink refused a write or took nothing; a front of the bytes is then written.
+pub fn write_whole<S: Sink>(sink: &mut S, bytes: &[u8]) -> Result<(), Fault>
+    ensures whole { OnOk result (Appends (S.written sink.old) (S.written sink.new) bytes.now) }
+    ensures part { OnErr result (AppendsPart (S.written sink.old) (S.written sink.new) bytes.now) }
+    ensures cause { OnErr result (Rose (S.refusals sink.old) (S.refusals sink.new)) }
+    ensures later { S.refusals sink.old ≤ S.refusals sink.new }
+{
+    let mut rest = bytes;
+    while !rest.is_empty() {
+        let taken = sink.write(rest)?;
+        if taken == 0 {
+            return Err(Fault);
+        }
+        let (_, after) = rest.split_at(taken);
+        rest = after;
+    }
+    Ok(())
+}
