@@ -1,0 +1,48 @@
+//! The program: the words of its command line, answered over the real disk and the standard streams.
+#![tactic(auto)]
+
+#[cfg(test)]
+mod tests;
+
+use gitbase_core::{Bytes, OutOfMemory};
+use std::alloc::Global;
+use std::env::{Env, FillError};
+use std::process::ExitCode;
+use worktree_fs::{DiskWorktree, PlannedInterrupt, StdSink};
+use worktree_report::run;
+
+/// The most bytes that Linux hands on in one word.
+const WORD_LIMIT: usize = 131_072;
+
+/// The words behind the program's name. Where the system does not give one of them there are none.
+fn words<R: Env>(rt: &R, alloc: Global) -> Result<Vec<Bytes>, OutOfMemory> {
+    let mut buffer = vec![in alloc; 0u8; WORD_LIMIT]?;
+    let mut words = Vec::new(alloc);
+    for i in 1..usize::MAX {
+        match rt.arg(i, &mut buffer) {
+            Ok(length) => words.push(Bytes::from_slice(alloc, &buffer[..length])?)?,
+            Err(FillError::NotPresent) => break,
+            Err(FillError::TooLong) => return Ok(Vec::new(alloc)),
+        }
+    }
+    Ok(words)
+}
+
+fn main(rt: HostRuntime) -> ExitCode {
+    let alloc = rt.alloc();
+    let Ok(words) = words(&rt, alloc) else {
+        return ExitCode::from(8);
+    };
+    let mut worktree = DiskWorktree::new(&rt, false);
+    let mut interrupt = PlannedInterrupt::never();
+    let mut out = StdSink::out(&rt);
+    let mut err = StdSink::err(&rt);
+    ExitCode::from(run(
+        alloc,
+        &words,
+        &mut worktree,
+        &mut interrupt,
+        &mut out,
+        &mut err,
+    ))
+}
