@@ -15,3 +15,4 @@ pub mod Same
 pub mod Sorting
 pub mod Steps
 pub mod Whole
+pub mod Strict

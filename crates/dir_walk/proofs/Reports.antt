@@ -12,13 +12,14 @@ use Rattle.dir_classify.specs.Class.{Meanings}
 use Rattle.dir_walk.specs.declared.outcome.Outcome.{Outcome}
 use Rattle.dir_walk.specs.declared.report.Report.{Report}
 use Rattle.dir_walk.specs.Emissions.{Emission, path_of, by_path}
-use Rattle.dir_walk.specs.Distinct.{HasDistinctPaths}
+use Rattle.dir_walk.specs.Distinct.{HasDistinctPaths, Ascends}
 use Rattle.dir_walk.specs.Guarded.{hides_guarded}
 use Rattle.dir_walk.specs.Walked.{Walked, report_of}
 use Rattle.dir_walk.specs.Report.{walked, directory_at, is_root_entered, is_refused, shown, counts, report, report_from}
 use Rattle.dir_walk.specs.Emits.{WalkGives}
 use Rattle.dir_walk.proofs.Apart.{report-hides_none}
 use Rattle.dir_walk.proofs.DistinctPaths.{HasDistinctPaths-report}
+use Rattle.dir_walk.proofs.Strict.{Ascends-by_path}
 use Rattle.dir_walk.proofs.Sorting.{SameCounts, by_path-same}
 
 -- a walk is the report of a directory
@@ -62,6 +63,16 @@ report-walked o limit m t root at before after entries outcome tree start at_is 
     ∙ ap (λ (n : Outcome). Some (record { outcome = n; root = root; entries = by_path (shown o w.out) })) (sym given.outcome_is)
     ∙ ap (λ (q : List ℕ). Some (record { outcome = outcome; root = q; entries = by_path (shown o w.out) })) (sym at_is)
     ∙ ap (λ (es : List Emission). Some (record { outcome = outcome; root = at; entries = es })) same
+
+-- the entries of a report ascend strictly
+pub ascends-walked : (o : Options) (limit : ℕ) (m : Meanings) (t : Names) (root : List ℕ) (before after entries : List Emission) (outcome : Outcome) → IsTree (directory t) → before ≡ []
+    → WalkGives o limit m t root before after outcome → (HasDistinctPaths after → entries ≡ by_path after) → Ascends entries
+ascends-walked o limit m t root before after entries outcome tree start given sorted =
+    let w : Walked = given.w in
+    let distinct : HasDistinctPaths (shown o w.out) = HasDistinctPaths-shown o m t root w tree given.walked_is in
+    let counted : SameCounts after (shown o w.out) = λ p. omega (arith, given.entries p, ap (count_by p) start) in
+    let once : HasDistinctPaths after = record { once = λ path. omega (arith, distinct.once path, counted (λ x. bytes_eq path (path_of x))) } in
+    subst Ascends (sym (sorted once)) (Ascends-by_path after once)
 
 -- beneath no line of a report lies a guarded leaf that was met
 pub walked-hides_none : (o : Options) (limit : ℕ) (m : Meanings) (t : Names) (root : List ℕ) (r : Report) → IsTree (directory t) → report o limit m t root ≡ Some r → IsSomeAnd (walked m t root) (λ w. hides_guarded r.entries w.met ≡ false)

@@ -20,7 +20,7 @@ pub by_paths : IsStrictWeakOrder is_before
 by_paths = ranks_by nat_list_cmp_total path_of
 
 -- none is before one in front of it
-abbrev IsAscending : List Emission → Type 0
+abbrev pub IsAscending : List Emission → Type 0
 IsAscending [] = Unit {0}
 IsAscending (x ∷ xs) = AllByRecursion (λ y. is_before y x ≡ false) xs × IsAscending xs
 
@@ -64,7 +64,7 @@ IsAscending-insert e (x ∷ xs) up = go (is_before x e) refl (IsAscending-insert
     go true is ih = (all_insert (λ y. is_before y x ≡ false) e xs (by_paths.one_way x e is) up.0, ih)
     go false is ih = ((is, all_chain x e xs is up.0), up)
 
-IsAscending-by_path : (xs : List Emission) → IsAscending (by_path xs)
+pub IsAscending-by_path : (xs : List Emission) → IsAscending (by_path xs)
 unfolding by_path
 IsAscending-by_path [] = tt
 IsAscending-by_path (x ∷ xs) = IsAscending-insert x (by_path xs) (IsAscending-by_path xs)
@@ -102,7 +102,7 @@ count_by-le p q (x ∷ xs) h =
     go true b f = rw (f refl) (omega arith)
     go false b f = omega arith
 
-tie : (p q : List ℕ) → is_lt (slice_cmp nat_cmp p q) ≡ false → is_lt (slice_cmp nat_cmp q p) ≡ false → bytes_eq q p ≡ true
+pub tie : (p q : List ℕ) → is_lt (slice_cmp nat_cmp p q) ≡ false → is_lt (slice_cmp nat_cmp q p) ≡ false → bytes_eq q p ≡ true
 tie p q up down = go (slice_cmp nat_cmp q p) refl (ap is_lt (sym (nat_list_cmp_total.antisymm p q)) ∙ up) down
   where
     go : (o : Ordering) → slice_cmp nat_cmp q p ≡ o → is_lt (ordering_reverse o) ≡ false → is_lt o ≡ false → bytes_eq q p ≡ true

@@ -1,8 +1,14 @@
 -- Entries of which each path stands once.
-use Rattle.std.specs.Prelude.{ℕ, ◌≤◌, List, count_by}
+use Rattle.std.specs.Prelude.{◌≡◌, ℕ, ◌≤◌, List, [], ◌∷◌, true, count_by}
 use Rattle.std.specs.Str.{bytes_eq}
-use Rattle.dir_walk.specs.Emissions.{Emission, path_of}
+use Rattle.std.specs.List.{AllByRecursion}
+use Rattle.dir_walk.specs.Emissions.{Emission, path_of, is_before}
 
 -- no path stands twice
 pub record HasDistinctPaths (entries : List Emission) : Type 0 where
   pub once : (path : List ℕ) → count_by (λ x. bytes_eq path (path_of x)) entries ≤ 1
+
+-- each entry's path stands before those of the entries behind it, byte by byte
+abbrev pub Ascends : List Emission → Type 0
+Ascends [] = Unit {0}
+Ascends (x ∷ xs) = AllByRecursion (λ y. is_before x y ≡ true) xs × Ascends xs

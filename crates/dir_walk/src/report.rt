@@ -4,6 +4,7 @@ ghost use Rattle.worktree_fs.specs.Tree.{Names};
 ghost use Rattle.worktree_fs.specs.Causes.{Quiet, Rose};
 ghost use Rattle.dir_classify.specs.Meanings.{meanings};
 ghost use Rattle.dir_walk.specs.Report.{report, walked, IsWalkable};
+ghost use Rattle.dir_walk.specs.Distinct.{Ascends};
 ghost use Rattle.dir_walk.specs.Guarded.{hides_guarded};
 ghost use Rattle.dir_walk.specs.Refused.{OnFault, IsAbout, WalkRefuses};
 
@@ -39,6 +40,10 @@ pub fn walk_by_path<W: Worktree>(
     ensures gives { (t : Names) → W.told worktree.old ≡ Some t
         → Quiet (W.faults worktree.old) (W.faults worktree.new)
         → IfOk result (λ r. report options depth_limit (meanings index.now) t worktree_root.now ≡ Some r) }
+
+    // Their paths ascend strictly, byte by byte.
+    ensures ascending { (t : Names) → W.told worktree.old ≡ Some t
+        → Quiet (W.faults worktree.old) (W.faults worktree.new) → IfOk result (λ r. Ascends r.entries) }
 
     // Beneath no entry lies a leaf that was met and is tracked or a repository, unless it is pruned.
     ensures hides_none { (t : Names) → W.told worktree.old ≡ Some t
