@@ -1,5 +1,5 @@
 -- The parts of a run, put together.
-use Rattle.std.proofs.Common.{◌≡◌, ◌≤◌, ℕ, List, true, Some, Result, Ok, Err, IfOk, inl, inr, arith}
+use Rattle.std.proofs.Common.{◌≡◌, ◌≤◌, ℕ, List, true, Some, Result, Ok, Err, IfOk, OnOk, inl, inr, arith}
 use Rattle.worktree_fs.specs.Tree.{Names, look}
 use Rattle.worktree_fs.specs.Causes.{Rose, Quiet}
 use Rattle.dir_classify.specs.declared.error.Error.{Error}
@@ -11,7 +11,7 @@ use Rattle.worktree_report.specs.declared.refusal.Refusal.{Refusal}
 use Rattle.worktree_report.specs.declared.refusal.WalkWord.{WalkWord}
 use Rattle.worktree_report.specs.Words.{Command, command_of}
 use Rattle.worktree_report.specs.SetupAt.{setup_at}
-use Rattle.worktree_report.specs.Run.{text_of, output_of, RefusesWalkAt}
+use Rattle.worktree_report.specs.Run.{text_of, output_of, IsSafeAt, IsSafe, RefusesWalkAt}
 
 output_is : (t : Names) (words : List (List ℕ)) (command : Command) (setup : Setup) (text : List ℕ)
     → command_of words ≡ Some command → setup_at (look t command.setup true) ≡ Ok setup → text_of t command.root setup ≡ Some text → output_of t words ≡ Some text
@@ -24,6 +24,13 @@ pub output_of-walked : (t : Names) (words : List (List ℕ)) (command : Command)
     → IfOk answer (λ text. output_of t words ≡ Some text)
 output_of-walked t words command setup (Ok text) named read walked = output_is t words command setup text named read walked
 output_of-walked t words command setup (Err refusal) named read walked = tt
+
+-- a safe report at the root that the words name is safe
+pub IsSafe-walked : (t : Names) (words : List (List ℕ)) (command : Command) (setup : Setup) (answer : Result (List ℕ) Refusal)
+    → command_of words ≡ Some command → setup_at (look t command.setup true) ≡ Ok setup → OnOk answer (IsSafeAt t command.root setup)
+    → OnOk answer (IsSafe t words)
+IsSafe-walked t words command setup (Ok text) named read safe = record { command = command; setup = setup; named = named; read = read; safe = safe }
+IsSafe-walked t words command setup (Err refusal) named read safe = tt
 
 -- a count that rose from later on rose from before
 pub Rose-before : (before later now : ℕ) → before ≤ later → Rose later now → Rose before now

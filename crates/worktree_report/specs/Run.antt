@@ -1,11 +1,14 @@
 -- What the top call writes, and why it is refused.
-use Rattle.std.specs.Prelude.{◌≡◌, ℕ, List, Option, Some, Ok, Err, option_map, true}
+use Rattle.std.specs.Prelude.{◌≡◌, ℕ, List, Option, Some, Ok, Err, option_map, IsSomeAnd, true, false}
 use Rattle.std.specs.Result.{result_ok}
 use Rattle.worktree_fs.specs.Tree.{Names, look}
 use Rattle.dir_classify.specs.declared.options.Options.{Options}
 use Rattle.dir_classify.specs.declared.error.Error.{Error}
 use Rattle.dir_classify.specs.Meanings.{meanings}
-use Rattle.dir_walk.specs.Report.{report, IsWalkable}
+use Rattle.dir_walk.specs.declared.report.Report.{Report}
+use Rattle.dir_walk.specs.Distinct.{Ascends}
+use Rattle.dir_walk.specs.Guarded.{hides_guarded}
+use Rattle.dir_walk.specs.Report.{report, walked, IsWalkable}
 use Rattle.dir_walk.specs.Refused.{IsAbout, WalkRefuses}
 use Rattle.worktree_report.specs.declared.setup.Setup.{Setup}
 use Rattle.worktree_report.specs.declared.setup.SetupOptions.{SetupOptions}
@@ -28,6 +31,14 @@ walk_options options = record { emit_tracked = options.emit_tracked }
 abbrev pub text_of : Names → List ℕ → Setup → Option (List ℕ)
 text_of t root setup = option_map (λ r. lines_of r.entries) (report (walk_options setup.options) depth_limit (meanings setup.index) t root)
 
+-- What makes a report safe to act on: its entries ascend strictly by path, so that none stands twice, and beneath no
+-- path of one lies a leaf that the walk met and that is tracked or a repository, unless it is pruned.
+pub record IsSafeAt (t : Names) (root : List ℕ) (setup : Setup) : Type 0 where
+  pub made : Report
+  pub is : report (walk_options setup.options) depth_limit (meanings setup.index) t root ≡ Some made
+  pub ascending : Ascends made.entries
+  pub hides_none : IsSomeAnd (walked (meanings setup.index) t root) (λ w. hides_guarded made.entries w.met ≡ false)
+
 -- The bytes that the words ask for, over the tree `t`. None where they ask for nothing, where the setup they name is no
 -- file or has a line outside the grammar, and where there is no report of the worktree they name.
 unfoldable pub output_of : Names → List (List ℕ) → Option (List ℕ)
@@ -35,6 +46,14 @@ output_of t words = do
   command ← command_of words
   setup ← result_ok (setup_at (look t command.setup true))
   text_of t command.root setup
+
+-- the report that the words ask for is safe to act on
+pub record IsSafe (t : Names) (words : List (List ℕ)) : Type 0 where
+  pub command : Command
+  pub setup : Setup
+  pub named : command_of words ≡ Some command
+  pub read : setup_at (look t command.setup true) ≡ Ok setup
+  pub safe : IsSafeAt t command.root setup
 
 -- the setup that the words name is no file, and the line is 0; or this is its first line outside the grammar
 pub record RefusesSetup (t : Names) (words : List (List ℕ)) (line : ℕ) : Type 0 where

@@ -5,7 +5,7 @@ ghost use Rattle.worktree_fs.specs.Causes.{Quiet, Rose};
 ghost use Rattle.worktree_report.specs.Words.{command_of};
 ghost use Rattle.worktree_report.specs.Written.{Appends, AppendsPart};
 ghost use Rattle.worktree_report.specs.Refusals.{Says, line_of, IsStatus};
-ghost use Rattle.worktree_report.specs.Run.{output_of, RefusesSetup, RefusesWalk, IsAboutWalk, IsValid};
+ghost use Rattle.worktree_report.specs.Run.{output_of, IsSafe, RefusesSetup, RefusesWalk, IsAboutWalk, IsValid};
 ghost use Rattle.worktree_report.specs.declared.refusal.WalkWord.{WalkWord};
 
 use crate::reading::read_setup;
@@ -40,6 +40,7 @@ fn report_text<W: Worktree>(
     worktree: &mut W,
 ) -> Result<Bytes, Refusal>
     ensures gives { (t : Names) → W.told worktree.old ≡ Some t → Quiet (W.faults worktree.old) (W.faults worktree.new) → IfOk result (λ text. output_of t words.now ≡ Some text) }
+    ensures safe { (t : Names) → W.told worktree.old ≡ Some t → Quiet (W.faults worktree.old) (W.faults worktree.new) → OnOk result (IsSafe t words.now) }
     ensures usage { IsErrOf result Refusal.Usage ↔ (command_of words.now ≡ None) }
     ensures setup { (t : Names) → W.told worktree.old ≡ Some t → (line : ℕ) → IsErrOf result (Refusal.Setup line) → RefusesSetup t words.now line }
     ensures walk { (t : Names) → W.told worktree.old ≡ Some t → (word : WalkWord) (path : List ℕ) → IsErrOf result (Refusal.Walk word path) → RefusesWalk t words.now (Rose (W.faults worktree.old) (W.faults worktree.new)) word path }
@@ -86,6 +87,7 @@ pub fn run<W: Worktree, I: Interrupt, S: Sink, E: Sink>(
     // Status 0, over a told tree and with no fault counted: what `out` has is what it had, and the lines of the report.
     ensures report { (t : Names) → W.told worktree.old ≡ Some t → Quiet (W.faults worktree.old) (W.faults worktree.new) → result ≡ 0
         → (text : List ℕ) × (output_of t words.now ≡ Some text) × Appends (S.written out.old) (S.written out.new) text }
+    ensures safe { (t : Names) → W.told worktree.old ≡ Some t → Quiet (W.faults worktree.old) (W.faults worktree.new) → result ≡ 0 → IsSafe t words.now }
     ensures silent { result ≡ 0 → E.written err.new ≡ E.written err.old }
     ensures list_faults { result ≡ 0 → W.list_faults worktree.new ≡ W.list_faults worktree.old }
 

@@ -4,7 +4,7 @@ ghost use Rattle.worktree_fs.specs.Tree.{Names};
 ghost use Rattle.worktree_fs.specs.Causes.{Quiet, Rose};
 ghost use Rattle.dir_classify.specs.Meanings.{meanings};
 ghost use Rattle.dir_walk.specs.Report.{IsWalkable};
-ghost use Rattle.worktree_report.specs.Run.{depth_limit, text_of, RefusesWalkAt, IsAboutWalkAt};
+ghost use Rattle.worktree_report.specs.Run.{depth_limit, text_of, IsSafeAt, RefusesWalkAt, IsAboutWalkAt};
 ghost use Rattle.worktree_report.specs.Converted.{IsOfWalking};
 ghost use Rattle.worktree_report.specs.declared.refusal.WalkWord.{WalkWord};
 
@@ -72,6 +72,7 @@ pub fn walked_text<W: Worktree>(
     setup: &Setup,
 ) -> Result<Bytes, Refusal>
     ensures gives { (t : Names) → W.told worktree.old ≡ Some t → Quiet (W.faults worktree.old) (W.faults worktree.new) → IfOk result (λ text. text_of t root.now setup.now ≡ Some text) }
+    ensures safe { (t : Names) → W.told worktree.old ≡ Some t → Quiet (W.faults worktree.old) (W.faults worktree.new) → OnOk result (IsSafeAt t root.now setup.now) }
     ensures refused { (t : Names) → W.told worktree.old ≡ Some t → (word : WalkWord) (path : List ℕ) → IsErrOf result (Refusal.Walk word path) → RefusesWalkAt t root.now setup.now (Rose (W.faults worktree.old) (W.faults worktree.new)) word path }
     ensures about { (word : WalkWord) (path : List ℕ) → IsErrOf result (Refusal.Walk word path) → IsAboutWalkAt root.now word path }
     ensures cause { IsErrOf result Refusal.Fault → Rose (W.faults worktree.old) (W.faults worktree.new) }

@@ -1,6 +1,6 @@
 use Rattle.std.proofs.Common.{sym, ◌∙◌}
 use Rattle.worktree_report.specs.Named.{paths_of}
-use Rattle.worktree_report.proofs.Runs.{output_of-walked, Rose-before, Quiet-later, RefusesWalkAt-wider}
+use Rattle.worktree_report.proofs.Runs.{output_of-walked, IsSafe-walked, Rose-before, Quiet-later, RefusesWalkAt-wider}
 use Rattle.worktree_report.proofs.program.report_text.Goals as goal
 
 pub returns-clause-gives : goal.returns-clause-gives
@@ -18,3 +18,9 @@ returns-clause-walk g c = λ t told word path is.
       read = c.in_ok-setup.ensures.gives t told;
       refused = RefusesWalkAt-wider t _ _ _ _ word path (Rose-before _ _ _ c.in_ok-setup.ensures.faults) (c.walked_text.ensures.refused t (c.in_ok-setup.ensures.tree ∙ told) word path is);
     }
+
+pub returns-clause-safe : goal.returns-clause-safe
+returns-clause-safe g c = λ t told quiet.
+    IsSafe-walked t c.args.words.now (paths_of c.in-Some.command) c.in_ok-setup.setup c.walked_text.result (sym c.in-Some.ensures)
+    (c.in_ok-setup.ensures.gives t told)
+    (c.walked_text.ensures.safe t (c.in_ok-setup.ensures.tree ∙ told) (Quiet-later _ _ _ c.in_ok-setup.ensures.faults quiet))
