@@ -11,3 +11,6 @@ pub mod options;
 pub use entry::{Entry, EntryRef, Kind, PathspecMatch, Property, Status};
 pub use error::{Error, ReadWhy};
 pub use options::Options;
+
+#[cfg(test)]
+mod tests;
