@@ -11,7 +11,6 @@ pub mod walk;
 pub use collect::{Collect, EmittedEntries};
 pub use outcome::Outcome;
 pub use report::{Report, walk_by_path};
-pub use walk::walk;
 
 #[cfg(test)]
 mod tests;

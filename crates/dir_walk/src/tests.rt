@@ -1,5 +1,6 @@
 //! Walks worked out by hand, and each call that takes memory with enough of it.
-use crate::{Collect, Outcome, Report, walk, walk_by_path};
+use crate::walk::walk;
+use crate::{Collect, Outcome, Report, walk_by_path};
 use dir_classify::{Entry, Error, Options, ReadWhy, Status};
 use gitbase_core::{Flags, IndexEntry, Mode, ObjectId, PathText, State};
 use std::alloc::Global;
@@ -101,80 +102,64 @@ fn order_of_paths(rt: HostRuntime) -> Result<(), Fail> {
     Ok(())
 }
 
-#[test]
-fn worktree_roots(rt: HostRuntime) -> Result<(), Fail> {
-    let alloc = rt.alloc();
-    let mut tree = files(alloc, &[b"/w/f"])?;
-    tree.add(alloc, b"/e", NewNode::Directory)?;
-    let index = index(alloc, &[], Flags::empty())?;
-    for (link, target) in [
-        (b"/l".as_slice(), b"w".as_slice()),
-        (b"/m", b"w/f"),
-        (b"/n", b"n"),
-    ] {
-        tree.add(alloc, link, NewNode::Link(target))?;
-    }
-    let rows: [(&[u8], Option<usize>); 6] = [
-        (b"/w", Some(1)),
-        (b"/l", Some(1)),
-        (b"/e", Some(0)),
-        (b"/w/f", None),
-        (b"/m", None),
-        (b"/n", None),
-    ];
-    for (path, entries) in rows {
-        match walk_by_path(alloc, path, &mut tree, &index, 9, UNTRACKED) {
-            Ok(report) => assert_eq!(rt; Some(report.entries.as_slice().len()), entries),
-            Err(Error::WorktreeRootIsFile { root }) => {
-                assert_eq!(rt; entries, None);
-                assert_eq!(rt; root.as_bytes(), path);
-            }
-            Err(_) => assert!(rt; false),
-        }
-    }
-    Ok(())
+/// What a walk answered: how many entries, or why there are none.
+#[derive(Clone, Copy, Debug, PartialEq, Eq)]
+enum Answer {
+    Walked(usize),
+    NoRoot,
+    TooDeep,
+    Unread(ReadWhy),
+    NoEntry,
+    OutOfMemory,
 }
 
-/// A word for what was answered, and the path in it.
-fn told(alloc: Global, walked: Result<Report, Error>) -> (PathText, &'static str) {
-    match walked {
-        Err(Error::TooDeep { path }) => (path, "too deep"),
-        Err(Error::ReadDir { path, why }) => (
-            path,
-            match why {
-                ReadWhy::Absent => "absent",
-                ReadWhy::NotADirectory => "no directory",
-                ReadWhy::Fault => "fault",
-            },
-        ),
-        Err(Error::DirEntry { parent_directory }) => (parent_directory, "entry"),
-        Err(Error::WorktreeRootIsFile { root }) => (root, "no root"),
-        Err(Error::OutOfMemory) => (PathText::new(alloc), "out of memory"),
-        Ok(report) => (report.root, "walked"),
+/// The answer of a walk, and the path in it.
+fn answer_of(
+    alloc: Global,
+    tree: &mut MemoryWorktree,
+    index: &State,
+    root: &[u8],
+    limit: usize,
+) -> (PathText, Answer) {
+    match walk_by_path(alloc, root, tree, index, limit, UNTRACKED) {
+        Ok(report) => (report.root, Answer::Walked(report.entries.as_slice().len())),
+        Err(Error::WorktreeRootIsFile { root }) => (root, Answer::NoRoot),
+        Err(Error::TooDeep { path }) => (path, Answer::TooDeep),
+        Err(Error::ReadDir { path, why }) => (path, Answer::Unread(why)),
+        Err(Error::DirEntry { parent_directory }) => (parent_directory, Answer::NoEntry),
+        Err(Error::OutOfMemory) => (PathText::new(alloc), Answer::OutOfMemory),
     }
 }
 
-/// Directories deeper than the limit are refused, by their whole path.
+/// A worktree root is a directory or a link to one; a directory deeper than the limit is refused by its whole path.
 #[test]
-fn depth_limit(rt: HostRuntime) -> Result<(), Fail> {
+fn roots_and_depths(rt: HostRuntime) -> Result<(), Fail> {
     let alloc = rt.alloc();
-    let mut tree = files(alloc, &[b"/w/a/b/c/f"])?;
+    let mut tree = files(alloc, &[b"/w/a/b/f", b"/e/g"])?;
+    tree.add(alloc, b"/e/h", NewNode::Directory)?;
+    tree.add(alloc, b"/l", NewNode::Link(b"w"))?;
+    tree.add(alloc, b"/m", NewNode::Link(b"w/a/b/f"))?;
+    tree.add(alloc, b"/n", NewNode::Link(b"n"))?;
     let index = index(alloc, &[], Flags::empty())?;
-    let rows: [(&[u8], usize, &[u8], &str); 7] = [
-        (b"/w", 3, b"/w", "walked"),
-        (b"/w", 2, b"/w/a/b/c", "too deep"),
-        (b"/w", 0, b"/w/a", "too deep"),
-        (b"/", 0, b"/w", "too deep"),
-        (b"/", 1, b"/w/a", "too deep"),
-        (b"/w/", 1, b"/w/a/b", "too deep"),
-        (b"/w/a/b/c", 0, b"/w/a/b/c", "walked"),
+    let rows: [(&[u8], usize, &[u8], Answer); 13] = [
+        (b"/w", 2, b"/w", Answer::Walked(1)),
+        (b"/w", 1, b"/w/a/b", Answer::TooDeep),
+        (b"/w", 0, b"/w/a", Answer::TooDeep),
+        (b"/w/", 1, b"/w/a/b", Answer::TooDeep),
+        (b"/", 0, b"/e", Answer::TooDeep),
+        (b"/", 3, b"/", Answer::Walked(5)),
+        (b"/l", 2, b"/l", Answer::Walked(1)),
+        (b"/l", 1, b"/l/a/b", Answer::TooDeep),
+        (b"/e", 1, b"/e", Answer::Walked(1)),
+        (b"/e/h", 0, b"/e/h", Answer::Walked(0)),
+        (b"/e/g", 9, b"/e/g", Answer::NoRoot),
+        (b"/m", 9, b"/m", Answer::NoRoot),
+        (b"/n", 9, b"/n", Answer::NoRoot),
     ];
-    for (root, limit, path, word) in rows {
-        let answer = told(
-            alloc,
-            walk_by_path(alloc, root, &mut tree, &index, limit, UNTRACKED),
-        );
-        assert_eq!(rt; (answer.0.as_bytes(), answer.1), (path, word));
+    for (root, limit, path, want) in rows {
+        let (found, answer) = answer_of(alloc, &mut tree, &index, root, limit);
+        assert_eq!(rt; answer, want);
+        assert_eq!(rt; found.as_bytes(), path);
     }
     Ok(())
 }
@@ -183,23 +168,19 @@ fn depth_limit(rt: HostRuntime) -> Result<(), Fail> {
 #[test]
 fn directories_of_the_index(rt: HostRuntime) -> Result<(), Fail> {
     let alloc = rt.alloc();
-    for (node, word) in [
-        (NewNode::File(b""), "no directory"),
-        (NewNode::Link(b"e"), "no directory"),
-        (NewNode::Directory, "walked"),
-    ] {
+    let index = index(alloc, &[b"d/x"], Flags::UPTODATE)?;
+    let unread = Answer::Unread(ReadWhy::NotADirectory);
+    let rows: [(NewNode, &[u8], Answer); 3] = [
+        (NewNode::File(b""), b"/w/d", unread),
+        (NewNode::Link(b"e"), b"/w/d", unread),
+        (NewNode::Directory, b"/w", Answer::Walked(1)),
+    ];
+    for (node, path, want) in rows {
         let mut tree = files(alloc, &[b"/w/e/f"])?;
         tree.add(alloc, b"/w/d", node)?;
-        let index = index(alloc, &[b"d/x"], Flags::UPTODATE)?;
-        let (path, found) = told(
-            alloc,
-            walk_by_path(alloc, b"/w", &mut tree, &index, 9, UNTRACKED),
-        );
-        assert_eq!(rt; found, word);
-        assert_eq!(rt;
-            path.as_bytes() == b"/w/d".as_slice(),
-            word == "no directory"
-        );
+        let (found, answer) = answer_of(alloc, &mut tree, &index, b"/w", 9);
+        assert_eq!(rt; answer, want);
+        assert_eq!(rt; found.as_bytes(), path);
     }
     Ok(())
 }
@@ -208,23 +189,25 @@ fn directories_of_the_index(rt: HostRuntime) -> Result<(), Fail> {
 fn faults(rt: HostRuntime) -> Result<(), Fail> {
     let alloc = rt.alloc();
     let index = index(alloc, &[], Flags::empty())?;
-    let rows: [(CallKind, u64, &[u8], &str); 6] = [
-        (CallKind::Kind, 1, b"/w", "no root"),
-        (CallKind::ListOpen, 1, b"/w", "fault"),
-        (CallKind::ListOpen, 2, b"/w/d", "fault"),
-        (CallKind::ListEntry, 2, b"/w/d", "entry"),
-        (CallKind::Kind, 2, b"/w", "walked"),
-        (CallKind::ListOpen, 3, b"/w", "walked"),
+    let rows: [(CallKind, u64, &[u8], Answer); 5] = [
+        (CallKind::Kind, 1, b"/w", Answer::NoRoot),
+        (CallKind::ListOpen, 1, b"/w", Answer::Unread(ReadWhy::Fault)),
+        (
+            CallKind::ListOpen,
+            2,
+            b"/w/d",
+            Answer::Unread(ReadWhy::Fault),
+        ),
+        (CallKind::ListEntry, 2, b"/w/d", Answer::NoEntry),
+        (CallKind::Kind, 2, b"/w", Answer::Walked(0)),
     ];
-    for (call, nth, path, word) in rows {
+    for (call, nth, path, want) in rows {
         let mut tree = files(alloc, &[b"/w/d/f"])?;
         tree.fail(alloc, call, nth)?;
-        let answer = told(
-            alloc,
-            walk_by_path(alloc, b"/w", &mut tree, &index, 9, UNTRACKED),
-        );
-        assert_eq!(rt; (answer.0.as_bytes(), answer.1), (path, word));
-        assert_eq!(rt; tree.fault_count(), if nth == 3 { 0 } else { 1 });
+        let (found, answer) = answer_of(alloc, &mut tree, &index, b"/w", 9);
+        assert_eq!(rt; answer, want);
+        assert_eq!(rt; found.as_bytes(), path);
+        assert_eq!(rt; tree.fault_count(), 1);
     }
     Ok(())
 }
