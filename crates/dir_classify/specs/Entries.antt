@@ -1,5 +1,5 @@
 -- Entries and the classes in them.
-use Rattle.std.specs.Prelude.{ℕ, List, Option}
+use Rattle.std.specs.Prelude.{ℕ, List}
 use Rattle.dir_classify.specs.declared.entry.Entry.{Entry}
 use Rattle.dir_classify.specs.declared.entry.EntryRef.{EntryRef}
 use Rattle.dir_classify.specs.declared.classify.Outcome.{Outcome}

@@ -1,5 +1,5 @@
 -- What the layers below say of paths, in the words of classes.
-use Rattle.std.specs.Prelude.{ℕ, List, [], ◌∷◌, Option, Some, None, option_map, if◌then◌else◌}
+use Rattle.std.specs.Prelude.{ℕ, List, [], ◌∷◌, Some, None, option_map, if◌then◌else◌}
 use Rattle.gitbase_core.specs.declared.entry.IndexEntry.{IndexEntry}
 use Rattle.gitbase_core.specs.declared.kinds.IndexKinds.{IndexKinds}
 use Rattle.gitbase_core.specs.IndexKinds.{kinds}

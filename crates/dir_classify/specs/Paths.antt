@@ -1,5 +1,5 @@
 -- Paths below the worktree root.
-use Rattle.std.specs.Prelude.{ℕ, List, [], ◌∷◌, ◌≡◌, Bool}
+use Rattle.std.specs.Prelude.{ℕ, List, [], ◌∷◌}
 use Rattle.gitbase_core.specs.Path.{joined}
 
 -- the whole path of one that is relative to the worktree root: the root itself for the empty path

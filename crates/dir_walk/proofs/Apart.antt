@@ -1,6 +1,6 @@
 -- No entry of a walk lies beneath another, so that no line of a report hides a leaf.
-use Rattle.std.proofs.Common.{◌≡◌, ◌≢◌, ℕ, ◌+◌, ◌≤◌, ◌⊎◌, inl, inr, List, [], ◌∷◌, ◌++◌, Bool, true, false, cond, ◌&&◌, ◌||◌, not, count_by, filter, map, length, length-append, take, drop, append_assoc, refl, sym, ap, subst, ◌∙◌, arith, rules, Option, Some, None}
-use Rattle.std.specs.Prelude.{◌==◌, if◌then◌else◌, nat_eq}
+use Rattle.std.proofs.Common.{◌≡◌, ◌≢◌, ℕ, inl, inr, List, [], ◌∷◌, ◌++◌, Bool, true, false, cond, ◌&&◌, filter, map, length, length-append, drop, append_assoc, refl, sym, ap, ◌∙◌, arith}
+use Rattle.std.specs.Prelude.{if◌then◌else◌, nat_eq}
 use Rattle.std.specs.Str.{bytes_eq}
 use Rattle.std.specs.List.{AllByRecursion, IsDistinct, list_any, starts_with}
 use Rattle.std.specs.Cmp.Lexicographic.{other_text}
@@ -14,11 +14,10 @@ use Rattle.dir_classify.specs.declared.options.Options.{Options}
 use Rattle.dir_classify.specs.Entries.{entry_at, class_in}
 use Rattle.dir_walk.specs.Emissions.{Emission, path_of, plain, is_shown, by_path}
 use Rattle.dir_walk.specs.Guarded.{is_beneath, is_guarded, hides_guarded}
-use Rattle.dir_walk.specs.Walked.{Walked, item, items, item_of_other, child_class, leaf, broken_at, directory_of, report_of, empty_class}
+use Rattle.dir_walk.specs.Walked.{Walked, item, items, child_class, leaf, broken_at, directory_of, report_of}
 use Rattle.std.proofs.lemmas.Slice.Eq.{starts_is}
 use Rattle.std.proofs.lemmas.Bool.Decides.{Decides-eqb}
 use Rattle.std.proofs.lemmas.Cmp.{nat_list_eq_equiv}
-use Rattle.dir_walk.proofs.Counts.{count_by-append, count_by-cons}
 use Rattle.dir_walk.proofs.DistinctPaths.{IsWithin, AllWithin, all_append, first_name, strip, next_is, within_some}
 use Rattle.dir_walk.proofs.Once.{all_map}
 use Rattle.dir_walk.specs.Report.{shown}

@@ -1,6 +1,6 @@
 -- Which classes are entered.
-use Rattle.std.proofs.Common.{◌≡◌, ◌≢◌, ◌⊎◌, inl, inr, ℕ, List, [], Bool, true, false, not, ◌&&◌, ◌||◌, cond, Option, Some, None, Result, Ok, Err, refl, sym, ap, ◌∙◌}
-use Rattle.std.specs.Prelude.{option_map, if◌then◌else◌, is_some}
+use Rattle.std.proofs.Common.{◌≡◌, inl, inr, ℕ, List, Bool, true, false, not, ◌&&◌, Option, Some, None, Err, refl, sym, ap, ◌∙◌}
+use Rattle.std.specs.Prelude.{option_map, if◌then◌else◌}
 use Rattle.worktree_fs.specs.Tree.{Node, found, file, link, directory, other}
 use Rattle.worktree_fs.specs.Answers.{kind_of, list_of}
 use Rattle.worktree_fs.specs.declared.answers.ListError.{ListError}

@@ -1,5 +1,5 @@
 -- No path stands twice in a report.
-use Rattle.std.proofs.Common.{◌≡◌, ◌≢◌, ℕ, ◌+◌, ◌≤◌, ◌⊎◌, inl, inr, List, [], ◌∷◌, ◌++◌, Bool, true, false, cond, ◌&&◌, ◌||◌, not, count_by, filter, length, drop, append_assoc, refl, sym, ap, subst, ◌∙◌, arith, Option, Some, None}
+use Rattle.std.proofs.Common.{◌≡◌, ◌≢◌, ℕ, ◌+◌, ◌≤◌, ◌⊎◌, inl, inr, List, [], ◌∷◌, ◌++◌, Bool, true, false, cond, ◌&&◌, ◌||◌, count_by, length, drop, append_assoc, refl, sym, ap, subst, ◌∙◌, arith}
 use Rattle.std.specs.Prelude.{◌==◌, if◌then◌else◌}
 use Rattle.std.specs.Str.{bytes_eq}
 use Rattle.std.specs.List.{AllByRecursion, IsDistinct, list_any}
@@ -14,7 +14,7 @@ use Rattle.dir_classify.specs.declared.classify.Outcome.{Outcome as Class}
 use Rattle.dir_classify.specs.Class.{Meanings, enters}
 use Rattle.dir_classify.specs.Entries.{entry_at, class_in}
 use Rattle.dir_walk.specs.Emissions.{Emission, path_of, plain, is_shown}
-use Rattle.dir_walk.specs.Walked.{Walked, item, items, item_of_other, child_class, leaf, broken_at, directory_of, report_of, empty_class}
+use Rattle.dir_walk.specs.Walked.{Walked, item, items, child_class, leaf, broken_at, directory_of, report_of, empty_class}
 use Rattle.dir_walk.specs.Report.{shown}
 use Rattle.dir_walk.specs.Distinct.{HasDistinctPaths}
 use Rattle.dir_walk.proofs.Counts.{count_by-append, count_by-cons, count_by-no, count_by-filter}

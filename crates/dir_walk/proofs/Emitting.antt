@@ -1,5 +1,5 @@
 -- Emitting one entry after another.
-use Rattle.std.proofs.Common.{◌≡◌, ℕ, ◌+◌, ◌-◌, ◌^◌, min, List, [], ◌∷◌, ◌++◌, Bool, true, false, cond, ◌&&◌, count_by, refl, sym, ap, ◌∙◌, append_assoc, arith}
+use Rattle.std.proofs.Common.{◌≡◌, ℕ, ◌+◌, List, [], ◌++◌, Bool, true, sym, ap, ◌∙◌, append_assoc, arith}
 use Rattle.std.proofs.lemmas.List.{append-nil}
 use Rattle.dir_walk.specs.declared.outcome.Outcome.{Outcome}
 use Rattle.dir_walk.specs.Emissions.{Emission}

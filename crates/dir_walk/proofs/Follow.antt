@@ -1,6 +1,6 @@
 -- A path that leads to a directory with its last link not followed leads there with it followed.
-use Rattle.std.proofs.Common.{◌≡◌, ℕ, zero, suc, Bool, true, false, List, [], ◌∷◌, ◌++◌, Option, Some, None, refl, not, ◌||◌, if◌then◌else◌, sym, ap, ◌∙◌}
-use Rattle.worktree_fs.specs.Tree.{Names, Node, Place, Look, Jump, found, absent, file, link, directory, other, child, is_text, is_dot, is_dot_dot, pieces, along, behind, resolve, look, start, parent, enter, is_last, onward}
+use Rattle.std.proofs.Common.{◌≡◌, ℕ, zero, suc, Bool, true, false, List, [], ◌∷◌, ◌++◌, Option, Some, None, if◌then◌else◌}
+use Rattle.worktree_fs.specs.Tree.{Names, Node, Place, Look, Jump, found, absent, file, link, directory, other, child, is_text, is_dot, is_dot_dot, pieces, along, behind, resolve, look, start, parent, enter, onward}
 
 module _ (names : Names) where
   -- a jump that leads to the directory leads there following too

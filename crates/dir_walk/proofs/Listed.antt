@@ -1,5 +1,5 @@
 -- The names of a directory, in whatever order they were walked, lead to what the directory gives.
-use Rattle.std.proofs.Common.{◌≡◌, ℕ, ◌+◌, ◌<◌, ◌≤◌, List, [], ◌∷◌, ◌++◌, Bool, true, false, cond, not, ◌&&◌, ◌||◌, Option, Some, None, sum_by, count_by, take, take_all, length, refl, sym, ap, subst, ◌∙◌, arith}
+use Rattle.std.proofs.Common.{◌≡◌, ℕ, ◌<◌, ◌≤◌, List, [], ◌∷◌, ◌++◌, Bool, true, false, ◌&&◌, ◌||◌, Option, Some, None, sum_by, take, take_all, length, refl, sym, ap, subst, ◌∙◌, arith}
 use borrow.Author.Tests.{ltb-true}
 use Rattle.std.specs.Prelude.{nat_lt}
 use Rattle.std.specs.Str.{bytes_eq}
@@ -8,7 +8,7 @@ use Rattle.std.proofs.lemmas.Cmp.{nat_list_eq_equiv}
 use Rattle.std.proofs.lemmas.List.Sorted.{sum_by-IsPermutation, list_any-IsPermutation, length_permutation}
 use Rattle.std.proofs.lemmas.Map.Keys.{IsDistinct-IsPermutation}
 use Rattle.gitbase_core.specs.Path.{joined, is_empty}
-use Rattle.worktree_fs.specs.Tree.{Node, Names, none, named, names_of, child, Look, look, found, directory}
+use Rattle.worktree_fs.specs.Tree.{Node, Names, none, named, names_of, child, Look, look}
 use Rattle.worktree_fs.specs.Naming.{IsName, AreNames}
 use Rattle.worktree_fs.specs.Answers.{ListsNames}
 use Rattle.worktree_fs.specs.Join.{at_child}
@@ -18,7 +18,7 @@ use Rattle.dir_classify.specs.Class.{Meanings}
 use Rattle.dir_classify.specs.Entries.{entry_at, class_in}
 use Rattle.dir_walk.specs.declared.outcome.Outcome.{Outcome}
 use Rattle.dir_walk.specs.Emissions.{Emission, is_shown, plain}
-use Rattle.dir_walk.specs.Walked.{Walked, nothing, both, item, items, report_of, entered_at, empty_class, leaf}
+use Rattle.dir_walk.specs.Walked.{Walked, items, report_of, entered_at, empty_class, leaf}
 use Rattle.dir_walk.specs.Report.{is_refused, depth_of}
 use Rattle.dir_walk.specs.Emits.{Emits, Gives, shown_by, size}
 use Rattle.dir_walk.proofs.Counts.{count_by-append, count_by-cons, list_any-append}

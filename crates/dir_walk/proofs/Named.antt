@@ -1,5 +1,5 @@
 -- What was walked under the names of a directory so far.
-use Rattle.std.proofs.Common.{◌≡◌, ℕ, ◌+◌, ◌-◌, ◌^◌, min, ◌<◌, ◌≤◌, List, [], ◌∷◌, ◌++◌, Bool, true, false, cond, ◌||◌, Option, Some, None, sum_by, count_by, take, length, get_or, All, refl, sym, ap, subst, ◌∙◌, arith}
+use Rattle.std.proofs.Common.{◌≡◌, ℕ, ◌+◌, ◌<◌, List, [], Bool, true, false, cond, Some, sum_by, take, length, get_or, All, refl, sym, ap, subst, ◌∙◌, arith}
 use Rattle.std.specs.Str.{bytes_eq}
 use Rattle.std.specs.List.{AllByRecursion, list_any}
 use Rattle.std.specs.List.Sorted.{IsPermutation}
@@ -7,9 +7,8 @@ use Rattle.std.proofs.lemmas.List.Sums.{sum_by_more}
 use Rattle.std.proofs.lemmas.List.Folds.{list_any_more}
 use Rattle.std.proofs.lemmas.List.Sorted.{All-permutation, IsPermutation-sym}
 use Rattle.std.proofs.lemmas.List.Elements.{All-from_recursion}
-use Rattle.std.proofs.lemmas.Cmp.{nat_list_eq_equiv}
 use Rattle.gitbase_core.specs.Path.{joined, is_empty}
-use Rattle.worktree_fs.specs.Tree.{Node, Names, none, named, names_of, child, Look, look, found, directory, absent, too_many_links}
+use Rattle.worktree_fs.specs.Tree.{Node, Names, none, named, names_of, child, Look, look, found, absent, too_many_links}
 use Rattle.worktree_fs.specs.Naming.{IsName, AreNames}
 use Rattle.worktree_fs.specs.Answers.{ListsNames}
 use Rattle.worktree_fs.specs.Join.{at_child}
@@ -21,7 +20,7 @@ use Rattle.dir_walk.specs.Walked.{Walked, nothing, item}
 use Rattle.dir_walk.specs.Report.{is_refused}
 use Rattle.dir_walk.specs.Emits.{Emits, Gives, shown_by, size}
 use Rattle.dir_walk.proofs.Emitting.{Emits-then}
-use Rattle.dir_walk.proofs.Once.{all_map, child-first, child-later}
+use Rattle.dir_walk.proofs.Once.{all_map, child-first}
 use Rattle.dir_walk.proofs.Placed.{look-joined, look-directory}
 
 -- what stands at a path by what it leads to

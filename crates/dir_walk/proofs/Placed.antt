@@ -1,9 +1,9 @@
 -- Paths of names: what they lead to, how deep they lie, and that both forms of a path go together.
-use Rattle.std.proofs.Common.{◌≡◌, ◌≢◌, ℕ, suc, ◌+◌, ◌-◌, ◌<◌, ◌≤◌, List, [], ◌∷◌, ◌++◌, Bool, true, false, cond, not, ◌||◌, length, filter, get_or, Option, Some, None, refl, sym, ap, subst, ◌∙◌, append_assoc, arith, eqb-true, length-append}
+use Rattle.std.proofs.Common.{◌≡◌, ℕ, suc, ◌+◌, ◌-◌, List, [], ◌∷◌, ◌++◌, Bool, true, false, ◌||◌, length, get_or, refl, sym, ap, ◌∙◌, append_assoc, arith, eqb-true, length-append}
 use Rattle.std.proofs.lemmas.List.{append-nil}
-use Rattle.std.specs.Prelude.{◌==◌, if◌then◌else◌, IsTrue}
-use Rattle.std.specs.List.{slice_split, list_any}
-use Rattle.gitbase_core.specs.Path.{is_slash, is_empty, ends_in_slash, pieces, components, joined}
+use Rattle.std.specs.Prelude.{◌==◌, if◌then◌else◌}
+use Rattle.std.specs.List.{list_any}
+use Rattle.gitbase_core.specs.Path.{is_slash, is_empty, ends_in_slash, components, joined}
 use Rattle.worktree_fs.specs.Tree.{Node, Names, child, look, found, directory}
 use Rattle.worktree_fs.specs.Tree as tree
 use Rattle.worktree_fs.specs.Naming.{IsName}

@@ -1,27 +1,21 @@
 -- Refusals on the way up: from a name to its directory, and from a directory to its name.
-use Rattle.std.proofs.Common.{◌≡◌, ◌≢◌, ◌⊎◌, inl, inr, ℕ, ◌+◌, ◌-◌, ◌<◌, ◌≤◌, List, [], ◌∷◌, ◌++◌, Bool, true, false, cond, not, ◌&&◌, ◌||◌, Option, Some, None, Result, Ok, Err, refl, sym, ap, subst, ◌∙◌, arith}
-use Rattle.std.specs.Prelude.{if◌then◌else◌}
-use Rattle.std.specs.List.{list_any}
+use Rattle.std.proofs.Common.{◌≡◌, inl, inr, ℕ, ◌<◌, List, Bool, true, false, ◌||◌, Some, Err, refl, sym, ap, subst, ◌∙◌}
 use Rattle.std.specs.Str.{bytes_eq}
 use Rattle.std.proofs.lemmas.Cmp.{nat_list_eq_equiv}
 use Rattle.gitbase_core.specs.Path.{joined, is_empty}
-use Rattle.worktree_fs.specs.Tree.{Node, Names, none, named, child, Look, look, found, file, link, directory, other, absent, too_many_links}
-use Rattle.worktree_fs.specs.Answers.{kind_of, list_of}
+use Rattle.worktree_fs.specs.Tree.{Node, Names, none, named, child, look, found, file, link, directory, other}
+use Rattle.worktree_fs.specs.Answers.{list_of}
 use Rattle.worktree_fs.specs.declared.answers.ListError.{ListError}
 use Rattle.worktree_fs.specs.declared.answers.ListError.TheVariants as lists
-use Rattle.dir_classify.specs.declared.entry.Kind.{Kind}
-use Rattle.dir_classify.specs.declared.entry.Kind.TheVariants.{Directory, Repository, Untrackable, File, Symlink}
 use Rattle.dir_classify.specs.declared.classify.Outcome.{Outcome}
 use Rattle.dir_classify.specs.declared.error.Error.{Error}
 use Rattle.dir_classify.specs.declared.error.Error.TheVariants as errors
-use Rattle.dir_classify.specs.declared.error.ReadWhy.{ReadWhy}
 use Rattle.dir_classify.specs.declared.error.ReadWhy.TheVariants as reads
-use Rattle.dir_classify.specs.Class.{Meanings, class, enters}
-use Rattle.dir_classify.specs.Paths.{full_path}
-use Rattle.dir_walk.specs.Walked.{Walked, nothing, both, item, items, entered_at, report_of, directory_of, child_class, leaf}
+use Rattle.dir_classify.specs.Class.{Meanings, enters}
+use Rattle.dir_walk.specs.Walked.{Walked, item, items, entered_at, report_of, directory_of, child_class, leaf}
 use Rattle.dir_classify.specs.Entries.{entry_at}
 use Rattle.dir_walk.specs.Report.{depth_of}
-use Rattle.dir_walk.specs.Refused.{is_among, is_to_enter, IsTooDeep, IsBroken, IsUnread, Refuses, OpenRefuses, DirectoryRefuses, IsPlaced}
+use Rattle.dir_walk.specs.Refused.{is_among, is_to_enter, IsTooDeep, IsBroken, Refuses, DirectoryRefuses, IsPlaced}
 use Rattle.dir_walk.proofs.Classes.{up_to_date-broken}
 use Rattle.dir_walk.proofs.Counts.{list_any-append, or-right}
 use Rattle.dir_walk.proofs.Once.{IsOr, any_item}

@@ -1,12 +1,11 @@
 -- When the worktree root is entered.
-use Rattle.std.proofs.Common.{◌≡◌, ◌≢◌, ◌⊎◌, inl, inr, ℕ, ◌+◌, ◌-◌, ◌^◌, ◌<◌, ◌≤◌, min, List, [], Bool, true, false, not, ◌&&◌, cond, Option, Some, None, refl, sym, ap, subst, ◌∙◌, arith}
+use Rattle.std.proofs.Common.{◌≡◌, ◌⊎◌, inl, inr, ℕ, ◌+◌, ◌-◌, ◌^◌, ◌≤◌, min, List, [], Bool, true, false, ◌&&◌, Option, Some, None, refl, sym, ap, ◌∙◌, arith}
 use Rattle.std.specs.Prelude.{option_map, if◌then◌else◌, nat_lt}
 use borrow.Author.Tests.{ltb-true, ltb-false}
 use Rattle.worktree_fs.specs.Causes.{Quiet, Rose}
 use Rattle.gitbase_core.specs.declared.entry.IndexEntry.{IndexEntry}
 use Rattle.worktree_fs.specs.Tree.{Names, Look, look, found, absent, too_many_links, file, link, directory, other}
 use Rattle.worktree_fs.specs.Answers.{kind_of}
-use Rattle.worktree_fs.specs.declared.answers.NodeKind.{NodeKind}
 use Rattle.worktree_fs.specs.declared.answers.NodeKind.TheVariants as nodes
 use Rattle.dir_classify.specs.declared.entry.Kind.{Kind}
 use Rattle.dir_classify.specs.declared.entry.Kind.TheVariants.{Directory}
@@ -18,7 +17,7 @@ use Rattle.dir_classify.specs.Meanings.{meanings, in_index, not_indexed}
 use Rattle.dir_classify.specs.Class.{Meanings, class, class_of_kind}
 use Rattle.dir_classify.specs.Asked.{asked, root_class}
 use Rattle.dir_walk.specs.Walked.{report_of}
-use Rattle.dir_walk.specs.Report.{root_kind, is_root_entered, walked, directory_at}
+use Rattle.dir_walk.specs.Report.{is_root_entered, walked, directory_at}
 use Rattle.dir_walk.specs.Refused.{IsNoRoot}
 use Rattle.dir_walk.proofs.Follow.{look-follow}
 

@@ -1,5 +1,5 @@
 -- Entries with distinct paths ascend strictly once they are in the order of their paths.
-use Rattle.std.proofs.Common.{◌≡◌, ℕ, ◌+◌, ◌≤◌, List, [], ◌∷◌, Bool, true, false, count_by, refl, sym, ◌∙◌, arith}
+use Rattle.std.proofs.Common.{◌≡◌, List, [], ◌∷◌, Bool, true, false, count_by, refl, sym, ◌∙◌, arith}
 use Rattle.std.specs.Str.{bytes_eq}
 use Rattle.std.specs.List.{AllByRecursion}
 use Rattle.std.proofs.lemmas.Cmp.{nat_list_eq_equiv}
@@ -32,9 +32,10 @@ Ascends-distinct : (xs : List Emission) → IsAscending xs → HasDistinctPaths 
 Ascends-distinct [] up distinct = tt
 Ascends-distinct (x ∷ xs) up distinct =
     let same : Emission → Bool = λ e. bytes_eq (path_of x) (path_of e) in
-    let others : count_by same xs ≡ 0 = omega (arith, distinct.once (path_of x), count_by-yes same x xs (nat_list_eq_equiv.refl (path_of x))) in
-    (all_before x xs up.0 (none_pass same xs others),
-    Ascends-distinct xs up.1 (record { once = λ q. omega (arith, distinct.once q, count_by-cons (λ e. bytes_eq q (path_of e)) x xs) }))
+    let others : count_by same xs ≡ 0 = omega (arith, distinct.once (path_of x), count_by-yes same x xs (nat_list_eq_equiv.refl (path_of x))) in (
+      all_before x xs up.0 (none_pass same xs others),
+      Ascends-distinct xs up.1 (record { once = λ q. omega (arith, distinct.once q, count_by-cons (λ e. bytes_eq q (path_of e)) x xs) }),
+    )
 
 pub Ascends-by_path : (xs : List Emission) → HasDistinctPaths xs → Ascends (by_path xs)
 Ascends-by_path xs distinct =

@@ -1,12 +1,11 @@
 -- A whole walk: its refusals, its completeness, and what it gives.
-use Rattle.std.proofs.Common.{◌≡◌, ◌≢◌, ◌⊎◌, inl, inr, ℕ, ◌+◌, ◌-◌, ◌^◌, ◌<◌, ◌≤◌, min, List, [], ◌∷◌, Bool, true, false, not, ◌&&◌, ◌||◌, cond, Option, Some, None, Err, count_by, filter, length, refl, sym, ap, subst, ◌∙◌, arith}
-use Rattle.std.specs.Prelude.{IsSomeAnd, nat_lt, if◌then◌else◌}
+use Rattle.std.proofs.Common.{◌≡◌, inl, inr, ℕ, ◌-◌, ◌^◌, ◌<◌, min, List, [], ◌∷◌, Bool, true, false, ◌||◌, Option, Some, None, Err, count_by, length, refl, sym, ap, subst, ◌∙◌, arith}
+use Rattle.std.specs.Prelude.{IsSomeAnd, nat_lt}
 use Rattle.std.specs.List.{list_any}
 use Rattle.std.specs.Str.{bytes_eq}
 use Rattle.std.specs.Cmp.Lexicographic.{same_text}
 use Rattle.std.proofs.lemmas.Bool.{true≢false}
 use borrow.Author.Tests.{lt-ltb}
-use Rattle.gitbase_core.specs.Path.{is_empty}
 use Rattle.worktree_fs.specs.Tree.{Names, look, found, directory}
 use Rattle.worktree_fs.specs.Causes.{Quiet, Rose}
 use Rattle.worktree_fs.specs.Answers.{list_of}
@@ -22,9 +21,9 @@ use Rattle.dir_classify.specs.Entries.{class_in}
 use Rattle.dir_walk.specs.declared.outcome.Outcome.{Outcome}
 use Rattle.dir_walk.specs.Emissions.{Emission, is_shown}
 use Rattle.dir_walk.specs.Walked.{Walked, entered_at, report_of}
-use Rattle.dir_walk.specs.Report.{depth_of, is_refused, walked, shown, counts, IsWalkable}
-use Rattle.dir_walk.specs.Refused.{is_among, is_to_enter, IsTooDeep, IsBroken, IsUnread, IsNoRoot, Refuses, DirectoryRefuses, OpenRefuses, WalkRefuses, OnFault}
-use Rattle.dir_walk.specs.Emits.{Gives, WalkGives, shown_by, size}
+use Rattle.dir_walk.specs.Report.{depth_of, is_refused, walked, shown, IsWalkable}
+use Rattle.dir_walk.specs.Refused.{is_among, is_to_enter, IsTooDeep, IsBroken, IsUnread, Refuses, DirectoryRefuses, WalkRefuses, OnFault}
+use Rattle.dir_walk.specs.Emits.{Gives, WalkGives, shown_by}
 use Rattle.dir_walk.proofs.Counts.{or-right, count_by-filter, count_all}
 use Rattle.dir_walk.proofs.Roots.{RootEntered}
 

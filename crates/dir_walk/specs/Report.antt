@@ -1,5 +1,5 @@
 -- The report of a worktree: what the walk from its root gives, filtered and in order, with its counts.
-use Rattle.std.specs.Prelude.{◌≡◌, ℕ, ◌-◌, ◌^◌, ◌+◌, min, Bool, true, false, ◌&&◌, ◌||◌, if◌then◌else◌, nat_lt, List, [], ◌∷◌, filter, length, Option, Some, None, option_map, option_and_then, IsSomeAnd}
+use Rattle.std.specs.Prelude.{◌≡◌, ℕ, ◌-◌, ◌^◌, min, Bool, true, false, ◌&&◌, ◌||◌, if◌then◌else◌, nat_lt, List, [], filter, length, Option, Some, None, option_map, option_and_then, IsSomeAnd}
 use Rattle.std.specs.List.{list_any}
 use Rattle.gitbase_core.specs.Path.{components}
 use Rattle.worktree_fs.specs.Tree.{Names, Look, look, found, absent, too_many_links, file, link, directory, other}

@@ -1,10 +1,9 @@
 -- What the walk of a path gives, by recursion on the tree.
-use Rattle.std.specs.Prelude.{ℕ, Bool, true, false, if◌then◌else◌, List, [], ◌∷◌, ◌++◌, Option, Some, None, option_map}
+use Rattle.std.specs.Prelude.{ℕ, false, if◌then◌else◌, List, [], ◌∷◌, ◌++◌, Option, Some, None, option_map}
 use Rattle.gitbase_core.specs.Path.{joined}
 use Rattle.worktree_fs.specs.Tree.{Node, Names, none, named, file, link, directory, other, Look, found, absent, too_many_links}
 use Rattle.worktree_fs.specs.Answers.{kind_of}
 use Rattle.dir_classify.specs.declared.entry.Entry.{Entry}
-use Rattle.dir_classify.specs.declared.entry.Kind.{Kind}
 use Rattle.dir_classify.specs.declared.entry.Property.{Property}
 use Rattle.dir_classify.specs.declared.entry.Property.TheVariants.{EmptyDirectory}
 use Rattle.dir_classify.specs.declared.entry.PathspecMatch.TheVariants.{Always}

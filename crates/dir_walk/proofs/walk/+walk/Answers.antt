@@ -1,16 +1,15 @@
-use Rattle.std.proofs.Common.{rules, ◌≡◌, ◌≢◌, ◌<◌, ◌≤◌, ◌+◌, ℕ, Some, List, ap, sym, ◌∙◌, refl, subst, length, arith, eqb-true}
-use Rattle.std.specs.Prelude.{◌==◌, true, false}
+use Rattle.std.proofs.Common.{◌≡◌, ◌≢◌, ◌<◌, ℕ, List, ap, sym, ◌∙◌, subst, length, arith, eqb-true}
+use Rattle.std.specs.Prelude.{false}
 use Rattle.std.proofs.lemmas.Bool.{eqb-false}
 use Rattle.std.proofs.lemmas.Result.{err_from_is_err_and, IfErr-weaker, on_ok_weaker}
 use Rattle.gitbase_core.specs.Path.{is_empty, joined}
-use Rattle.worktree_fs.specs.Tree.{look, found}
+use Rattle.worktree_fs.specs.Tree.{look}
 use Rattle.worktree_fs.specs.Naming.{AreNames}
 use Rattle.worktree_fs.specs.Answers.{ListsNames}
 use Rattle.dir_classify.specs.Meanings.{meanings}
 use Rattle.dir_walk.specs.Walked.{item}
 use Rattle.dir_walk.specs.Emits.{Gives}
-use Rattle.dir_walk.specs.Refused.{DirectoryRefuses, Refuses, IsPlaced}
-use Rattle.dir_walk.specs.Report.{depth_of}
+use Rattle.dir_walk.specs.Refused.{DirectoryRefuses, Refuses}
 use Rattle.dir_walk.proofs.Emitting.{Extends-none, Extends-then}
 use Rattle.dir_walk.proofs.Named.{SoFar-none, SoFar-more, listed-at}
 use Rattle.dir_walk.proofs.Listed.{Gives-empty, Gives-listed}

@@ -1,4 +1,4 @@
-use Rattle.std.proofs.Common.{rules, refl, sym, cond, ◌∙◌, ap, count_by}
+use Rattle.std.proofs.Common.{rules, sym, cond, ◌∙◌, ap, count_by}
 use Rattle.std.proofs.lemmas.List.Sorted.{sum_by-IsPermutation, answers_always}
 use Rattle.dir_walk.specs.Emissions.{is_before}
 use Rattle.dir_walk.proofs.Sorting.{by_paths, by_path-from_sort}
