@@ -3,9 +3,9 @@
 
 mod escape;
 mod lines;
+mod program;
 mod reading;
 mod refusal;
-mod program;
 mod setup;
 mod walking;
 mod words;

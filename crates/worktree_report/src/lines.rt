@@ -75,11 +75,7 @@ fn add_spaced(text: &mut Vec<u8>, word: &[u8]) -> Result<(), OutOfMemory>
 
 /// Adds the line of an entry, with the status of the directory that it was folded into.
 #[tactic(auto, unfolding(crate::specs::Lines::line_of))]
-fn add_line(
-    text: &mut Vec<u8>,
-    entry: &Entry,
-    collapsed: Option<Status>,
-) -> Result<(), OutOfMemory>
+fn add_line(text: &mut Vec<u8>, entry: &Entry, collapsed: Option<Status>) -> Result<(), OutOfMemory>
     ensures { OnOk result (text.new.items ≡ text.old.items ++ line_of (emission_of entry.now collapsed)) }
 {
     add_spaced(text, status_word(entry.status))?;
@@ -95,10 +91,7 @@ fn add_line(
 }
 
 /// The lines of the entries, in their order.
-pub fn lines_of(
-    alloc: Global,
-    entries: &[(Entry, Option<Status>)],
-) -> Result<Bytes, OutOfMemory>
+pub fn lines_of(alloc: Global, entries: &[(Entry, Option<Status>)]) -> Result<Bytes, OutOfMemory>
     ensures { IfOk result (λ text. text ≡ lines_of entries.now) }
 {
     let mut text = Vec::new(alloc);

@@ -9,11 +9,9 @@ mod index_line;
 mod line;
 mod option;
 
-
 use draft::read_lines;
 use gitbase_core::{OutOfMemory, State};
 use option::{SetupOption, is_set, is_yes};
-
 use std::alloc::Global;
 
 /// The options of a setup, under the names that its lines give them.

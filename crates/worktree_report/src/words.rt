@@ -56,7 +56,9 @@ pub fn command_of(words: &[Bytes]) -> Option<Command<'_>>
     }
     let root = words[1].as_bytes();
     let setup = words[2].as_bytes();
-    if words[0].as_bytes() != b"report".as_slice() || !is_plain_path(root) || !is_plain_path(setup)
+    if words[0].as_bytes() != b"report".as_slice()
+        || !is_plain_path(root)
+        || !is_plain_path(setup)
     {
         return None;
     }

@@ -9,9 +9,13 @@ returns-in-Err-clause-setup g c = λ three.
 
 pub returns-in-Err-clause-walk : goal.returns-in-Err-clause-walk
 returns-in-Err-clause-walk g c = λ four.
-    let found = is_walk c.in-Err.refusal c.refuse.result c.refuse.ensures.status four in
-    (found.word, found.path, c.in-Err.ensures.about found.word found.path (ap Err found.is), λ t told. c.in-Err.ensures.walk t told found.word found.path (ap Err found.is),
-    said_as _ _ _ _ c.in-Err.refusal _ c.refuse.result found.is four c.refuse.ensures.line)
+    let found = is_walk c.in-Err.refusal c.refuse.result c.refuse.ensures.status four in (
+      found.word,
+      found.path,
+      c.in-Err.ensures.about found.word found.path (ap Err found.is),
+      λ t told. c.in-Err.ensures.walk t told found.word found.path (ap Err found.is),
+      said_as _ _ _ _ c.in-Err.refusal _ c.refuse.result found.is four c.refuse.ensures.line,
+    )
 
 pub returns-in-Err-clause-complete : goal.returns-in-Err-clause-complete
 returns-in-Err-clause-complete g c = λ t told valid quiet _.
