@@ -7,6 +7,7 @@ pub mod Emitting
 pub mod Listed
 pub mod Named
 pub mod Once
+pub mod Parts
 pub mod Placed
 pub mod Refusals
 pub mod Reports

@@ -140,3 +140,11 @@ module _ (o : Options) (limit : ℕ) (m : Meanings) (t : Names) (full d : List �
         } in
         let there : 0 < length (names_of lists.names) = omega (arith, length-names listed (look t full (is_empty d)) lists, some) in
         subst (λ (x : Walked). Gives o limit x before after start stop) (sym (looked w (full_report m d c lists.names there))) gives
+
+-- what is shown of a directory with names is what is shown of what they lead to
+pub listed-out : (o : Options) (m : Meanings) (t : Names) (full d : List ℕ) (c : Class) (listed : List (List ℕ)) (lists : ListsNames (look t full (is_empty d)) listed) → AreNames listed → (p : Emission → Bool) → 0 < length listed
+    → sum_by (λ q. shown_by o p (item_told m t full d q).out) listed ≡ shown_by o p (entered_at m d c (look t full (is_empty d))).out
+listed-out o m t full d c listed lists are p some =
+    let there : 0 < length (names_of lists.names) = omega (arith, length-names listed (look t full (is_empty d)) lists, some) in
+    all_sum o (depth_of d) m t full d c (omega arith) listed lists are (λ w. shown_by o p w.out) (shown-sum o p)
+    ∙ sym (ap (λ (w : Walked). shown_by o p w.out) (ap (entered_at m d c) lists.directory_found ∙ full_report m d c lists.names there))

@@ -86,10 +86,15 @@ Gives-unentered o limit m t full path node c before after start stop there is ou
 pub class-told : (m : Meanings) (t : Names) (full path : List ℕ) (node : Node) (c : Class) → look t full false ≡ found node → IsSwallowed m path None (asked t full true) c → enters c false ≡ true → c ≡ child_class m path node
 class-told m t full path node c there swallowed into = class-entered m path (asked t full true) c swallowed into ∙ asked-node m t full path node there
 
+pub entered-item : (m : Meanings) (t : Names) (full path : List ℕ) (node : Node) (c : Class) → look t full false ≡ found node → is_empty path ≡ false → c ≡ child_class m path node → enters c false ≡ true
+    → entered_at m path c (look t full (is_empty path)) ≡ item m path node
+entered-item m t full path node c there some class_is into =
+    ap (λ (k : Class). entered_at m path k (look t full (is_empty path))) class_is
+    ∙ ap (λ (b : Bool). entered_at m path (child_class m path node) (look t full b)) some
+    ∙ ap (entered_at m path (child_class m path node)) there
+    ∙ sym (item-entered m path node (ap (λ (k : Class). enters k false) (sym class_is) ∙ into))
+
 pub Gives-entered : (o : Options) (limit : ℕ) (m : Meanings) (t : Names) (full path : List ℕ) (node : Node) (c : Class) (before after : List Emission) (start stop : Outcome) → look t full false ≡ found node → is_empty path ≡ false
     → c ≡ child_class m path node → enters c false ≡ true → Gives o limit (entered_at m path c (look t full (is_empty path))) before after start stop → Gives o limit (item m path node) before after start stop
 Gives-entered o limit m t full path node c before after start stop there some class_is into given =
-    let P : Walked → Type 0 = λ w. Gives o limit w before after start stop in
-    let looked : entered_at m path c (look t full (is_empty path)) ≡ entered_at m path (child_class m path node) (found node) =
-    ap (λ (k : Class). entered_at m path k (look t full (is_empty path))) class_is ∙ ap (λ (b : Bool). entered_at m path (child_class m path node) (look t full b)) some ∙ ap (entered_at m path (child_class m path node)) there in
-    subst P (looked ∙ sym (item-entered m path node (ap (λ (k : Class). enters k false) (sym class_is) ∙ into))) given
+    subst (λ (w : Walked). Gives o limit w before after start stop) (entered-item m t full path node c there some class_is into) given

@@ -29,6 +29,10 @@ pub record Extends (before after : List Emission) : Type 0 where
   pub more : List Emission
   pub after_is : after ≡ before ++ more
 
+-- besides what was emitted before, these are among the entries of `out` that are shown, none more often than there
+pub record IsPart (o : Options) (out before after : List Emission) : Type 0 where
+  pub counts : (p : Emission → Bool) → count_by p after ≤ count_by p before + shown_by o p out
+
 -- what was walked is all of `w`, of which nothing is refused within the limit
 pub record Gives (o : Options) (limit : ℕ) (w : Walked) (before after : List Emission) (start stop : Outcome) : Type 0 where
   pub emits : Emits before after start stop (λ p. shown_by o p w.out) (size w.out) (size w.entered)

@@ -1,5 +1,5 @@
 //! Which entries are emitted.
-ghost use Rattle.std.specs.Prelude.{◌≡◌, [], ◌∷◌, OnOk};
+ghost use Rattle.std.specs.Prelude.{◌≡◌, [], ◌∷◌, OnOk, OnErr};
 ghost use Rattle.dir_classify.specs.Entries.{entry_at};
 ghost use Rattle.dir_walk.specs.Emissions.{is_shown, is_tracked_status, is_empty_directory, is_unmatched, plain};
 ghost use Rattle.dir_walk.specs.Emits.{Emits, Extends, shown_by};
@@ -21,6 +21,7 @@ pub fn emit(
 ) -> Result<(), OutOfMemory>
     ensures emits { OnOk result (Emits delegate.old.unorded_entries delegate.new.unorded_entries
         outcome.old outcome.new (λ p. shown_by options p (plain (entry_at rela_path.now class.now) ∷ [])) 1 0) }
+    ensures unchanged { OnErr result (delegate.new.unorded_entries ≡ delegate.old.unorded_entries) }
     ensures extends { Extends delegate.old.unorded_entries delegate.new.unorded_entries }
 {
     outcome.seen_entries = outcome.seen_entries.saturating_add(1);

@@ -1,5 +1,5 @@
 //! The walk of a worktree.
-ghost use Rattle.std.specs.Prelude.{◌≡◌, ◌⊎◌, ◌≤◌, ◌+◌, ℕ, true, false, List, [], Some, IfOk, IfErr, OnOk};
+ghost use Rattle.std.specs.Prelude.{◌≡◌, ◌⊎◌, ◌≤◌, ◌+◌, ℕ, true, false, List, [], Some, IfOk, IfErr, OnOk, OnErr};
 ghost use Rattle.gitbase_core.specs.Path.{is_empty};
 ghost use Rattle.worktree_fs.specs.Tree.{Names, Node, look, found};
 ghost use Rattle.worktree_fs.specs.Answers.{ListsNames};
@@ -7,10 +7,10 @@ ghost use Rattle.worktree_fs.specs.Naming.{AreNames};
 ghost use Rattle.worktree_fs.specs.Causes.{Quiet, Rose};
 ghost use Rattle.dir_classify.specs.Meanings.{meanings};
 ghost use Rattle.dir_walk.specs.Emissions.{Emission};
-ghost use Rattle.dir_walk.specs.Walked.{item, empty_class, entered_at};
-ghost use Rattle.dir_walk.specs.Report.{depth_of, root_kind, is_root_entered, IsWalkable};
+ghost use Rattle.dir_walk.specs.Walked.{Walked, item, empty_class, entered_at};
+ghost use Rattle.dir_walk.specs.Report.{depth_of, root_kind, is_root_entered, walked, IsWalkable};
 ghost use Rattle.dir_walk.specs.Refused.{OnFault, IsAbout, Refuses, DirectoryRefuses, IsPlaced, read_error, OpenRefuses, WalkRefuses};
-ghost use Rattle.dir_walk.specs.Emits.{Emits, Extends, Gives, Keeps, WalkGives};
+ghost use Rattle.dir_walk.specs.Emits.{Emits, Extends, IsPart, Gives, Keeps, WalkGives};
 
 use crate::collect::Collect;
 use crate::emit::emit;
@@ -94,6 +94,7 @@ fn empty_class(class: &classify::Outcome) -> classify::Outcome
 
 /// Walks a name in a directory that is entered; so many more levels of directories may be entered below it.
 #[cycle(walk)]
+#[tactic(auto, using(crate::proofs::Parts::part_unchanged))]
 fn walk_name<W: Worktree>(
     alloc: Global,
     worktree: &mut W,
@@ -109,6 +110,11 @@ fn walk_name<W: Worktree>(
     ensures kept { OnOk result (W.list_faults worktree.new ≡ W.list_faults worktree.old) }
     ensures cause { IfErr result (OnFault (Rose (W.faults worktree.old) (W.faults worktree.new))) }
     ensures extends { Extends delegate.old.unorded_entries delegate.new.unorded_entries }
+    ensures part { let m = meanings fixed.now.index.now in
+        (t : Names) → W.told worktree.old ≡ Some t → Quiet (W.faults worktree.old) (W.faults worktree.new)
+        → is_empty place.now.rela ≡ false → (node : Node) → look t place.now.full false ≡ found node
+        → OnErr result (IsPart fixed.now.options (item m place.now.rela node).out
+        delegate.old.unorded_entries delegate.new.unorded_entries) }
     ensures about { (root : List ℕ) → IsPlaced root place.now.full place.now.rela
         → (limit : ℕ) → levels + depth_of place.now.rela ≡ limit + 1 → IfErr result (IsAbout root limit) }
     ensures refused { let m = meanings fixed.now.index.now in
@@ -163,6 +169,7 @@ fn walk_name<W: Worktree>(
 
 /// Walks a directory that is entered; so many more levels of directories may be entered below it.
 #[cycle(walk)]
+#[tactic(auto, using(crate::proofs::Parts::part_unchanged))]
 fn walk_directory<W: Worktree>(
     alloc: Global,
     worktree: &mut W,
@@ -179,6 +186,11 @@ fn walk_directory<W: Worktree>(
     ensures kept { OnOk result (W.list_faults worktree.new ≡ W.list_faults worktree.old) }
     ensures cause { IfErr result (OnFault (Rose (W.faults worktree.old) (W.faults worktree.new))) }
     ensures extends { Extends delegate.old.unorded_entries delegate.new.unorded_entries }
+    ensures part { let m = meanings fixed.now.index.now in
+        (t : Names) → W.told worktree.old ≡ Some t → Quiet (W.faults worktree.old) (W.faults worktree.new)
+        → OnErr result (IsPart fixed.now.options
+        (entered_at m place.now.rela class.now (look t place.now.full (is_empty place.now.rela))).out
+        delegate.old.unorded_entries delegate.new.unorded_entries) }
     ensures about { (root : List ℕ) → IsPlaced root place.now.full place.now.rela
         → (limit : ℕ) → levels + depth_of place.now.rela ≡ limit → IfErr result (IsAbout root limit) }
     ensures refused { let m = meanings fixed.now.index.now in
@@ -270,6 +282,7 @@ fn is_root_entered<W: Worktree>(
 /// or as the index calls an up-to-date path a directory that is none on disk. A fault of the question for a kind is
 /// no refusal: the path has no kind then, and the worktree counted the fault. After a refusal the delegate has what
 /// it was given before.
+#[tactic(auto, using(crate::proofs::Parts::part_unchanged))]
 pub fn walk<W: Worktree>(
     alloc: Global,
     worktree_root: &[u8],
@@ -297,8 +310,14 @@ pub fn walk<W: Worktree>(
         → IsWalkable depth_limit (meanings index.now) t worktree_root.now
         → IfErr result (λ e. e ≡ Error.OutOfMemory) }
 
-    // What stays: a refusal, too, leaves what was emitted before.
+    // A refusal leaves what was emitted before, and what was emitted since is a part of the report where that is
+    // defined.
     ensures extends { Extends delegate.old.unorded_entries delegate.new.unorded_entries }
+    ensures part { (t : Names) → W.told worktree.old ≡ Some t → Quiet (W.faults worktree.old) (W.faults worktree.new)
+        → (w : Walked) → walked (meanings index.now) t worktree_root.now ≡ Some w
+        → OnErr result (IsPart options w.out delegate.old.unorded_entries delegate.new.unorded_entries) }
+
+    // What stays.
     ensures tree { W.told worktree.new ≡ W.told worktree.old }
     ensures faults { W.faults worktree.old ≤ W.faults worktree.new }
     ensures list_faults { W.list_faults worktree.old ≤ W.list_faults worktree.new }

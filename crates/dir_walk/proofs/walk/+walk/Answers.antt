@@ -1,18 +1,20 @@
-use Rattle.std.proofs.Common.{◌≡◌, ◌≢◌, ◌<◌, ℕ, List, ap, sym, ◌∙◌, subst, length, arith, eqb-true}
+use Rattle.std.proofs.Common.{◌+◌, ◌≡◌, ◌≢◌, ◌<◌, ℕ, List, refl, ap, sym, ◌∙◌, subst, length, arith, eqb-true}
 use Rattle.std.specs.Prelude.{false}
 use Rattle.std.proofs.lemmas.Bool.{eqb-false}
-use Rattle.std.proofs.lemmas.Result.{err_from_is_err_and, IfErr-weaker, on_ok_weaker}
+use Rattle.std.proofs.lemmas.Result.{err_from_is_err_and, IfErr-weaker, on_ok_weaker, on_err_weaker}
 use Rattle.gitbase_core.specs.Path.{is_empty, joined}
 use Rattle.worktree_fs.specs.Tree.{look}
 use Rattle.worktree_fs.specs.Naming.{AreNames}
 use Rattle.worktree_fs.specs.Answers.{ListsNames}
 use Rattle.dir_classify.specs.Meanings.{meanings}
 use Rattle.dir_walk.specs.Walked.{item}
-use Rattle.dir_walk.specs.Emits.{Gives}
+use Rattle.dir_walk.specs.Emits.{Gives, IsPart}
+use Rattle.dir_walk.specs.Report.{depth_of}
 use Rattle.dir_walk.specs.Refused.{DirectoryRefuses, Refuses}
 use Rattle.dir_walk.proofs.Emitting.{Extends-none, Extends-then}
 use Rattle.dir_walk.proofs.Named.{SoFar-none, SoFar-more, listed-at}
 use Rattle.dir_walk.proofs.Listed.{Gives-empty, Gives-listed}
+use Rattle.dir_walk.proofs.Parts.{IsPart-so_far, IsPart-child, IsPart-entered}
 use Rattle.dir_walk.proofs.Refusals.{DirectoryRefuses-name, Refuses-directory, IsTooDeep-name}
 use Rattle.dir_walk.proofs.Steps.{Child, name-at, child-some, child-level, child-placed, class-told, Gives-unentered, Gives-entered}
 use Rattle.dir_walk.proofs.walk.+walk.Goals as goal
@@ -165,3 +167,55 @@ walk_name-returns-clause-gives g t c = λ tree told quiet some node there limit 
     on_ok_weaker c.walk_directory.result
     (Gives-entered c.args.fixed.now.options limit m tree place.full place.rela node c.in_ok-class.class c.args.delegate.now.unorded_entries c.walk_directory.new.delegate.unorded_entries c.args.outcome.now c.walk_directory.new.outcome there some is into)
     (c.walk_directory.ensures.gives tree (c.at.ensures.tree ∙ told) (omega (arith, quiet, c.at.ensures.faults, c.walk_directory.ensures.keeps.faults)) limit (omega (arith, level, c.if-levels-eq0.false)))
+
+pub walk_directory-returns-in_err-set_child-clause-part : goal.walk_directory-returns-in_err-set_child-clause-part
+walk_directory-returns-in_err-set_child-clause-part g t c = λ tree told quiet.
+    let m = (meanings c.args.fixed.now.index.now) in
+    let place = c.args.place.now in
+    let listed = c.as_slice-name-items.result.now in
+    let are : AreNames listed = rw c.as_slice-name-items.ensures c.in_ok-names.ensures.names in
+    let lists : ListsNames (look tree place.full (is_empty place.rela)) listed = rw c.as_slice-name-items.ensures (c.in_ok-names.ensures.lists tree told) in
+    let entries = c.args.delegate.now.unorded_entries in
+    let p = err_from_is_err_and c.from_residual-in_err-set_child.result c.from_residual-in_err-set_child.ensures.1 in
+    rw p.1
+    (IsPart-so_far c.args.fixed.now.options (c.args.levels + depth_of place.rela) m tree place.full place.rela c.args.class.now listed lists are c.loop-name.name-index entries c.loop-name.delegate.unorded_entries
+    c.args.outcome.now c.loop-name.outcome c.loop-name-test.true (c.loop-name.invariant.so_far tree told quiet (c.args.levels + depth_of place.rela) refl))
+
+pub walk_directory-returns-in_err-walk_name-clause-part : goal.walk_directory-returns-in_err-walk_name-clause-part
+walk_directory-returns-in_err-walk_name-clause-part g t c = λ tree told quiet.
+    let m = (meanings c.args.fixed.now.index.now) in
+    let place = c.args.place.now in
+    let listed = c.as_slice-name-items.result.now in
+    let are : AreNames listed = rw c.as_slice-name-items.ensures c.in_ok-names.ensures.names in
+    let lists : ListsNames (look tree place.full (is_empty place.rela)) listed = rw c.as_slice-name-items.ensures (c.in_ok-names.ensures.lists tree told) in
+    let entries = c.args.delegate.now.unorded_entries in
+    let at = c.set_child.new.self in
+    let name = c.name-item.result in
+    let keeps0 = c.loop-name.invariant.keeps in
+    let keeps1 = c.walk_name.ensures.keeps in
+    let entry = listed-at tree place.full place.rela listed c.loop-name.name-index name c.loop-name-test.true c.name-item.is are lists in
+    let child : Child place.full place.rela at.full at.rela name =
+    record {
+      is_name = entry.is_name;
+      full_is = c.in_ok-set_child.ensures.full ∙ ap (joined place.full) c.as_bytes-in-loop-name.ensures;
+      rela_is = c.in_ok-set_child.ensures.rela ∙ ap (joined place.rela) c.as_bytes-in-loop-name.ensures;
+    } in
+    let part = c.in_err-walk_name.ensures.part tree (keeps0.tree ∙ told) (omega (arith, quiet, keeps0.faults, keeps1.faults)) (child-some place.full place.rela at.full at.rela name child) entry.node
+    (ap (λ (q : List ℕ). look tree q false) child.full_is ∙ entry.there) in
+    let within : IsPart c.args.fixed.now.options (item m (joined place.rela name) entry.node).out c.loop-name.delegate.unorded_entries c.walk_name.new.delegate.unorded_entries =
+    subst (λ (q : List ℕ). IsPart c.args.fixed.now.options (item m q entry.node).out c.loop-name.delegate.unorded_entries c.walk_name.new.delegate.unorded_entries) child.rela_is part in
+    let p = err_from_is_err_and c.from_residual-in_err-walk_name.result c.from_residual-in_err-walk_name.ensures.1 in
+    rw p.1
+    (IsPart-child c.args.fixed.now.options (c.args.levels + depth_of place.rela) m tree place.full place.rela c.args.class.now listed lists are c.loop-name.name-index entries c.loop-name.delegate.unorded_entries
+    c.args.outcome.now c.loop-name.outcome c.loop-name-test.true
+    (c.loop-name.invariant.so_far tree told (omega (arith, quiet, keeps0.faults, keeps1.faults)) (c.args.levels + depth_of place.rela) refl) name entry.node c.walk_name.new.delegate.unorded_entries c.name-item.is entry.there within)
+
+pub walk_name-returns-clause-part : goal.walk_name-returns-clause-part
+walk_name-returns-clause-part g t c = λ tree told quiet some node there.
+    let m = (meanings c.args.fixed.now.index.now) in
+    let place = c.args.place.now in
+    let into = sym c.can_recurse.ensures ∙ c.if-not-can_recurse.false in
+    let is = class-told m tree place.full place.rela node c.in_ok-class.class there (rw (c.as_bytes-full.ensures, c.as_bytes.ensures) at (c.in_ok-class.ensures.swallowed tree told)) into in
+    on_err_weaker c.walk_directory.result
+    (IsPart-entered c.args.fixed.now.options m tree place.full place.rela node c.in_ok-class.class c.args.delegate.now.unorded_entries c.walk_directory.new.delegate.unorded_entries there some is into)
+    (c.walk_directory.ensures.part tree (c.at.ensures.tree ∙ told) (omega (arith, quiet, c.at.ensures.faults, c.walk_directory.ensures.keeps.faults)))

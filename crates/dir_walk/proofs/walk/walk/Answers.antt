@@ -7,9 +7,10 @@ use Rattle.dir_classify.specs.declared.error.Error.TheVariants.{WorktreeRootIsFi
 use Rattle.dir_walk.specs.Walked.{entered_at}
 use Rattle.dir_walk.specs.Report.{depth_of, is_root_entered}
 use Rattle.dir_walk.specs.Refused.{IsPlaced, DirectoryRefuses}
-use Rattle.dir_walk.specs.Emits.{Gives}
+use Rattle.dir_walk.specs.Emits.{Gives, IsPart}
 use Rattle.gitbase_core.specs.Path.{is_empty}
 use Rattle.dir_walk.proofs.Placed.{IsPlaced-root}
+use Rattle.dir_walk.proofs.Parts.{IsPart-directory, IsPart-whole}
 use Rattle.dir_walk.proofs.Roots.{RootEntered, root-entered, root-refused, unindexed-root, entered-true}
 use Rattle.dir_walk.proofs.Whole.{OnFault-weaker, WalkRefuses-directory, only-memory, WalkGives-directory}
 use Rattle.dir_walk.proofs.walk.walk.Goals as goal
@@ -102,3 +103,44 @@ returns-clause-gives g c = λ tree told quiet.
     c.default-outcome.ensures.0 c.default-outcome.ensures.1.0 c.default-outcome.ensures.1.1
     (subst (λ (q : List ℕ). Gives c.args.options c.args.depth_limit (entered_at (meanings c.args.index.now) [] c.in_ok-class.class (look tree q true)) entries after start c.walk_directory.new.outcome) c.in_ok-place.ensures.full
     (subst (λ (q : List ℕ). Gives c.args.options c.args.depth_limit (entered_at (meanings c.args.index.now) q c.in_ok-class.class (look tree place.full (is_empty q))) entries after start c.walk_directory.new.outcome) c.in_ok-place.ensures.rela gives))
+
+pub returns-in_err-walk_directory-clause-part : goal.returns-in_err-walk_directory-clause-part
+returns-in_err-walk_directory-clause-part g c = λ tree told quiet w is.
+    let faults = g.W.Worktree.faults in
+    let root = c.args.worktree_root.now in
+    let place = c.in_ok-place.place in
+    let at : RootEntered (meanings c.args.index.now) tree root c.in_ok-class.class =
+    root-entered (meanings c.args.index.now) tree root c.in_ok-class.class (unindexed-root c.args.index.now) (c.in_ok-class.ensures.swallowed tree told)
+    (entered-true c.in_ok-is_root_entered.field-0 (is_root_entered tree root c.in_ok-class.class) (Rose (faults c.root.new.worktree) (faults c.is_root_entered.new.worktree))
+    (c.in_ok-is_root_entered.ensures.entered tree (c.root.ensures.tree ∙ told)) c.if-not-branch.false) in
+    let entries = c.args.delegate.now.unorded_entries in
+    let after = c.walk_directory.new.delegate.unorded_entries in
+    let part = c.in_err-walk_directory.ensures.part tree (c.is_root_entered.ensures.keeps.tree ∙ c.root.ensures.tree ∙ told)
+    (omega (arith, quiet, c.root.ensures.faults, c.is_root_entered.ensures.keeps.faults, c.walk_directory.ensures.keeps.faults)) in
+    let p = err_from_is_err_and c.from_residual-in_err-walk_directory.result c.from_residual-in_err-walk_directory.ensures.1 in
+    rw p.1
+    (IsPart-directory c.args.options (meanings c.args.index.now) tree root c.in_ok-class.class entries after w at is
+    (subst (λ (q : List ℕ). IsPart c.args.options (entered_at (meanings c.args.index.now) [] c.in_ok-class.class (look tree q true)).out entries after) c.in_ok-place.ensures.full
+    (subst (λ (q : List ℕ). IsPart c.args.options (entered_at (meanings c.args.index.now) q c.in_ok-class.class (look tree place.full (is_empty q))).out entries after) c.in_ok-place.ensures.rela part)))
+
+pub returns-in_err-root-2-clause-part : goal.returns-in_err-root-2-clause-part
+returns-in_err-root-2-clause-part g c = λ tree told quiet w is.
+    let faults = g.W.Worktree.faults in
+    let root = c.args.worktree_root.now in
+    let place = c.in_ok-place.place in
+    let at : RootEntered (meanings c.args.index.now) tree root c.in_ok-class.class =
+    root-entered (meanings c.args.index.now) tree root c.in_ok-class.class (unindexed-root c.args.index.now) (c.in_ok-class.ensures.swallowed tree told)
+    (entered-true c.in_ok-is_root_entered.field-0 (is_root_entered tree root c.in_ok-class.class) (Rose (faults c.root.new.worktree) (faults c.is_root_entered.new.worktree))
+    (c.in_ok-is_root_entered.ensures.entered tree (c.root.ensures.tree ∙ told)) c.if-not-branch.false) in
+    let level : c.args.depth_limit + depth_of place.rela ≡ c.args.depth_limit = omega (arith, ap depth_of c.in_ok-place.ensures.rela) in
+    let entries = c.args.delegate.now.unorded_entries in
+    let after = c.walk_directory.new.delegate.unorded_entries in
+    let gives = c.in_ok-walk_directory.ensures.gives tree (c.is_root_entered.ensures.keeps.tree ∙ c.root.ensures.tree ∙ told)
+    (omega (arith, quiet, c.root.ensures.faults, c.is_root_entered.ensures.keeps.faults, c.walk_directory.ensures.keeps.faults)) c.args.depth_limit level in
+    let part : IsPart c.args.options (entered_at (meanings c.args.index.now) place.rela c.in_ok-class.class (look tree place.full (is_empty place.rela))).out entries after =
+    IsPart-whole c.args.options c.args.depth_limit (entered_at (meanings c.args.index.now) place.rela c.in_ok-class.class (look tree place.full (is_empty place.rela))) entries after c.default-outcome.result c.walk_directory.new.outcome gives in
+    let p = err_from_is_err_and c.from_residual-in_err-root-2.result c.from_residual-in_err-root-2.ensures.1 in
+    rw p.1
+    (IsPart-directory c.args.options (meanings c.args.index.now) tree root c.in_ok-class.class entries after w at is
+    (subst (λ (q : List ℕ). IsPart c.args.options (entered_at (meanings c.args.index.now) [] c.in_ok-class.class (look tree q true)).out entries after) c.in_ok-place.ensures.full
+    (subst (λ (q : List ℕ). IsPart c.args.options (entered_at (meanings c.args.index.now) q c.in_ok-class.class (look tree place.full (is_empty q))).out entries after) c.in_ok-place.ensures.rela part)))
