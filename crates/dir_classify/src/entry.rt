@@ -15,7 +15,7 @@ pub enum Property {
     DotGit,
     /// The path is a directory that holds no name.
     EmptyDirectory,
-    /// The same, where it must not go, as the current directory is in it.
+    /// The same, where it must not go, as it is the current directory.
     EmptyDirectoryAndCWD,
     /// The path lies outside a sparse checkout, which the index says.
     TrackedExcluded,
@@ -30,7 +30,7 @@ pub enum Kind {
     File,
     /// A symbolic link.
     Symlink,
-    /// A directory that is no repository.
+    /// A directory, as far as it was not looked at as a repository.
     Directory,
     /// A directory that is a repository of its own, as a submodule is.
     Repository,
@@ -118,7 +118,7 @@ pub enum PathspecMatch {
     Always,
     /// A spec takes the path out.
     Excluded,
-    /// A spec lies beneath the path, or names a directory above it.
+    /// A spec names a directory above the path.
     Prefix,
     /// A spec matches by its wildcards.
     WildcardMatch,

@@ -57,9 +57,11 @@ impl EmittedEntries {
         self.items
     }
 
-    /// Adds an entry at the end; where memory is refused the list stays as it was.
+    /// Adds an entry at the end; where memory is refused the list stays as it was. The room comes from the allocator
+    /// that made the list.
     pub fn push(
         &mut self,
+        _alloc: Global,
         entry: Entry,
         collapsed_directory_status: Option<Status>,
     ) -> Result<(), OutOfMemory>
@@ -99,7 +101,7 @@ impl Collect {
         ensures refused { OnErr result (self.new.unorded_entries ≡ self.old.unorded_entries) }
     {
         let entry = entry.to_owned(alloc)?;
-        self.unorded_entries.push(entry, collapsed_directory_status)
+        self.unorded_entries.push(alloc, entry, collapsed_directory_status)
     }
 
     /// The entries in ascending order of their paths, byte by byte. The room comes from the allocator that made the

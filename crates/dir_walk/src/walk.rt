@@ -274,8 +274,10 @@ fn is_root_entered<W: Worktree>(
 /// the worktree's own.
 ///
 /// `worktree_root` is absolute and has no component `.` or `..`; where it is a link to a directory, that is walked.
-/// `depth_limit` counts components below it. The answer's path is the worktree root. Each directory that is entered is
-/// listed once, and the worktree is asked at most once for the kind of each name.
+/// `depth_limit` counts components below it. The answer's path is the worktree root.
+///
+/// Speed, of which no clause speaks: each directory that is entered is listed once, and the worktree is asked at most
+/// once for the kind of each name.
 ///
 /// Refused is a worktree root that is no directory (`WorktreeRootIsFile`), a directory below it that is to be entered
 /// and lies deeper than the limit (`TooDeep`), and one that cannot be listed (`ReadDir`, `DirEntry`): for a fault,

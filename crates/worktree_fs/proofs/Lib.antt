@@ -13,3 +13,4 @@ pub mod Steps
 pub mod Subtree
 pub mod Tested
 pub mod Texts
+pub mod Followed

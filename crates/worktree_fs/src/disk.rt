@@ -317,11 +317,13 @@ fn read_into(
     follow: bool,
     into: &mut Bytes,
 ) -> Result<ReadAnswer, ReadError>
-    ensures { UnlessRead result (into.new ≡ into.old) }
+    ensures into { UnlessRead result (into.new ≡ into.old) }
+    ensures link { result ≡ Ok ReadAnswer.IsLink → follow ≡ false }
 {
     match look(rt, path, follow)? {
         None => Ok(ReadAnswer::Absent),
         Some(NodeKind::Directory) => Ok(ReadAnswer::IsDirectory),
+        Some(NodeKind::Symlink) if follow => Err(ReadError::Fault),
         Some(NodeKind::Symlink) => Ok(ReadAnswer::IsLink),
         Some(NodeKind::Untrackable) => Ok(ReadAnswer::Special),
         Some(NodeKind::File) => {

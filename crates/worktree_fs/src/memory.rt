@@ -333,7 +333,7 @@ fn names_of(alloc: Global, entries: &[Entry]) -> Result<NameList, OutOfMemory>
 {
     let mut names = NameList::new(alloc);
     for entry in entries {
-        names.push(Bytes::from_slice(alloc, entry.name())?)?;
+        names.push(alloc, Bytes::from_slice(alloc, entry.name())?)?;
     }
     Ok(names)
 }

@@ -99,6 +99,7 @@ pub trait Worktree {
         ensures answer { (t : Names) → told self.old ≡ Some t → IfOk result (λ answer. answer ≡ read_of (look t path.now follow)) }
         ensures bytes { (t : Names) → told self.old ≡ Some t → result ≡ Ok ReadAnswer.Read → look t path.now follow ≡ found (file into.new) }
         ensures into { UnlessRead result (into.new ≡ into.old) }
+        ensures link { result ≡ Ok ReadAnswer.IsLink → follow ≡ false }
         ensures tree { told self.new ≡ told self.old }
         ensures cause { IsErrOf result ReadError.Fault → Rose (faults self.old) (faults self.new) }
         ensures faults { faults self.old ≤ faults self.new }

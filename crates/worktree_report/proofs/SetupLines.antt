@@ -8,7 +8,8 @@ use Rattle.worktree_report.specs.declared.setup.option.SetupOption.{SetupOption}
 use Rattle.worktree_report.specs.declared.setup.line.SetupLine.{SetupLine}
 use Rattle.worktree_report.specs.declared.setup.line.SetupLine.TheVariants.{Skipped, Sets, Indexes}
 use Rattle.worktree_report.specs.SetupSaid.{Said}
-use Rattle.worktree_report.specs.SetupText.{line_of, option_in, options_in, entry_in, entries_in, said, is_refused, taken, first_outside}
+use Rattle.worktree_report.specs.SetupText.{line_of, option_in, options_in, entry_in, entries_in, said, is_refused, first_outside}
+use Rattle.worktree_report.specs.SetupParsed.{taken}
 
 abbrev one : {X : Type 0} → Option X → List X
 one None = []

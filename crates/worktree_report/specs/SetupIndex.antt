@@ -2,6 +2,7 @@
 use Rattle.std.specs.Prelude.{ℕ, ◌-◌, List, [], ◌∷◌, nat_le, ◌&&◌, if◌then◌else◌, codes, replicate, Option, Some, None}
 use Rattle.std.specs.Str.{bytes_eq}
 use Rattle.std.specs.Result.{result_ok}
+use Rattle.gitbase_core.specs.Entry.{file_mode, executable_mode, symlink_mode}
 use Rattle.gitbase_core.specs.Id.{id_of_hex}
 use Rattle.gitbase_core.specs.declared.entry.Mode.{Mode}
 use Rattle.gitbase_core.specs.declared.entry.Flags.{Flags}
@@ -16,9 +17,9 @@ mode_with bits = record { 0 = bits }
 -- the word of a mode: six octal digits. A submodule's commit and a sparse directory are not taken yet.
 abbrev pub mode_of : List ℕ → Option Mode
 mode_of word =
-    if bytes_eq word (codes "100644") then Some (mode_with 33188)
-    else if bytes_eq word (codes "100755") then Some (mode_with 33261)
-    else if bytes_eq word (codes "120000") then Some (mode_with 40960)
+    if bytes_eq word (codes "100644") then Some (mode_with file_mode)
+    else if bytes_eq word (codes "100755") then Some (mode_with executable_mode)
+    else if bytes_eq word (codes "120000") then Some (mode_with symlink_mode)
     else None
 
 -- the word of a stage: one digit from 0 to 3

@@ -68,13 +68,6 @@ unfoldable pub first_outside : List (List ℕ) → List (List ℕ) → Option �
 first_outside earlier [] = None
 first_outside earlier (line ∷ lines) = if is_refused (said earlier) (line_of line) then Some (length earlier + 1) else first_outside (earlier ++ line ∷ []) lines
 
--- what is said with one more line, where that is in the grammar
-abbrev pub taken : Said → Option SetupLine → Option Said
-taken earlier None = None
-taken earlier (Some Skipped) = Some earlier
-taken earlier (Some (Sets o)) = if is_set o.name earlier.options then None else Some (record { options = earlier.options ++ o ∷ []; index = earlier.index })
-taken earlier (Some (Indexes e)) = if is_some (entry_fault earlier.index e) then None else Some (record { options = earlier.options; index = earlier.index ++ e ∷ [] })
-
 -- ---- the whole text
 
 -- the bytes between line feeds; behind a last line feed there is an empty line that says nothing

@@ -1,4 +1,4 @@
-// Paths as texts: some bytes stand as a backslash and two hexadecimal digits.
+//! Paths as texts: some bytes stand as a backslash and two hexadecimal digits.
 ghost use Rattle.std.specs.Prelude.{◌≡◌, ◌+◌, ◌*◌, ◌<◌, length, ◌++◌, [], ◌∷◌, drop, option_map, OnOk, IfOk};
 ghost use Rattle.worktree_report.specs.Escapes.{hex_digit, is_escaped, escaped_byte, escaped, digit_value, hex_byte, unescaped};
 ghost use Rattle.worktree_report.specs.Spelled.{Begins};

@@ -1,4 +1,4 @@
-// The lines of a report.
+//! The lines of a report.
 ghost use Rattle.std.specs.Prelude.{◌≡◌, ◌++◌, IfOk, OnOk};
 ghost use Rattle.worktree_report.specs.Lines.{status_word, kind_word, match_word, property_word, collapsed_word, spaced, line_of, lines_of};
 ghost use Rattle.dir_walk.specs.Emissions.{emission_of};

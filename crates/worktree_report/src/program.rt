@@ -26,6 +26,7 @@ fn deliver<S: Sink, E: Sink>(alloc: Global, text: &[u8], out: &mut S, err: &mut 
     ensures later { S.refusals out.old ≤ S.refusals out.new }
     ensures said { result ≡ 7 → Says (E.written err.old) (E.written err.new) (E.refusals err.old) (E.refusals err.new) (line_of Refusal.Output) }
     ensures silent { result ≡ 0 → E.written err.new ≡ E.written err.old }
+    ensures err_later { E.refusals err.old ≤ E.refusals err.new }
 {
     match write_whole(out, text) {
         Ok(()) => 0,
@@ -118,7 +119,10 @@ pub fn run<W: Worktree, I: Interrupt, S: Sink, E: Sink>(
     // What stays.
     ensures tree { W.told worktree.new ≡ W.told worktree.old }
     ensures faults { W.faults worktree.old ≤ W.faults worktree.new }
+    ensures list_faults_later { W.list_faults worktree.old ≤ W.list_faults worktree.new }
     ensures precomposes { W.precomposes worktree.new ≡ W.precomposes worktree.old }
+    ensures out_later { S.refusals out.old ≤ S.refusals out.new }
+    ensures err_later { E.refusals err.old ≤ E.refusals err.new }
     ensures questions { I.questions _interrupt.new ≡ I.questions _interrupt.old }
     ensures raised { I.raised _interrupt.new ≡ I.raised _interrupt.old }
 {

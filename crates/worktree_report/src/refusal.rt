@@ -1,5 +1,5 @@
 //! Why there is no report: the status and the line of each refusal.
-ghost use Rattle.std.specs.Prelude.{◌≡◌, ◌⊎◌, true, false, IfOk, OnErr};
+ghost use Rattle.std.specs.Prelude.{◌≡◌, ◌⊎◌, ◌≤◌, true, false, IfOk, OnErr};
 ghost use Rattle.worktree_report.specs.Refusals.{status_of, word_of, line_of, Says, is_made, IsLineIfMade};
 
 use crate::escape::add_escaped;
@@ -95,7 +95,8 @@ fn walk_line(alloc: Global, word: WalkWord, path: &[u8]) -> Result<Bytes, OutOfM
 
 /// Writes a line, and lets a refusal be.
 pub fn say<E: Sink>(err: &mut E, line: &[u8])
-    ensures { Says (E.written err.old) (E.written err.new) (E.refusals err.old) (E.refusals err.new) line.now }
+    ensures said { Says (E.written err.old) (E.written err.new) (E.refusals err.old) (E.refusals err.new) line.now }
+    ensures later { E.refusals err.old ≤ E.refusals err.new }
 {
     let _ = write_whole(err, line);
 }
@@ -135,6 +136,7 @@ pub fn refuse<E: Sink>(alloc: Global, refusal: &Refusal, err: &mut E) -> u8
     ensures exact { is_made refusal.now ≡ false → result ≡ status_of refusal.now }
     ensures line { result ≡ status_of refusal.now → Says (E.written err.old) (E.written err.new) (E.refusals err.old) (E.refusals err.new) (line_of refusal.now) }
     ensures memory { result ≡ 8 → Says (E.written err.old) (E.written err.new) (E.refusals err.old) (E.refusals err.new) (line_of Refusal.OutOfMemory) }
+    ensures later { E.refusals err.old ≤ E.refusals err.new }
 {
     match made_line(alloc, refusal) {
         Ok(Some(line)) => {

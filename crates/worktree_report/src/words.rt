@@ -1,7 +1,8 @@
-// The words of the command line.
+//! The words of the command line.
 ghost use Rattle.std.specs.Prelude.{◌≡◌, ◌==◌, not, option_map, None};
 ghost use Rattle.std.specs.List.{slice_split, list_all, list_any};
-ghost use Rattle.worktree_report.specs.Words.{is_absolute, is_plain_path, is_dots, command_of};
+ghost use Rattle.worktree_fs.specs.Tree.{is_absolute};
+ghost use Rattle.worktree_report.specs.Words.{is_plain_path, is_dots, command_of};
 ghost use Rattle.worktree_report.specs.Named.{paths_of};
 
 use gitbase_core::Bytes;

@@ -1,4 +1,4 @@
-// Writing to a sink that takes as much at a time as it likes.
+//! Writing to a sink that takes as much at a time as it likes.
 ghost use Rattle.std.specs.Prelude.{◌≡◌, ℕ, ◌≤◌, ◌++◌, List, OnOk, OnErr};
 ghost use Rattle.worktree_fs.specs.Causes.{Rose};
 ghost use Rattle.worktree_report.specs.Written.{Appends, AppendsPart};

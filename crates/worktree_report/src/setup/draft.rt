@@ -1,7 +1,7 @@
 //! What the lines of a setup say together, line by line.
 ghost use Rattle.std.specs.Prelude.{◌≡◌, List, ℕ, map, IfOk, OnOk};
-ghost use Rattle.worktree_report.specs.SetupText.{line_of, taken};
-ghost use Rattle.worktree_report.specs.SetupParsed.{ReadGives};
+ghost use Rattle.worktree_report.specs.SetupText.{line_of};
+ghost use Rattle.worktree_report.specs.SetupParsed.{ReadGives, taken};
 
 use crate::setup::SetupError;
 use crate::setup::line::{SetupLine, line_of};

@@ -1,4 +1,4 @@
-// The words of a line that spaces part.
+//! The words of a line that spaces part.
 ghost use Rattle.std.specs.Prelude.{◌≡◌, ◌==◌, ◌<◌, length, position, option_map, IfSome};
 ghost use Rattle.worktree_report.specs.SetupFields.{parted};
 ghost use Rattle.worktree_report.specs.SetupSeen.{seen};

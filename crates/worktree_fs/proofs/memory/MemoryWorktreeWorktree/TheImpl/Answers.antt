@@ -1,10 +1,11 @@
-use Rattle.std.proofs.Common.{Result, Ok, Err, List, ℕ, ap, subst}
+use Rattle.std.proofs.Common.{rules, Result, Ok, Err, List, ℕ, ap, subst}
 use Rattle.std.specs.Prelude.{MatchResult}
 use Rattle.worktree_fs.specs.Tree.{Names, look}
 use Rattle.worktree_fs.specs.Answers.{ListsNames, ListRefuses}
 use Rattle.worktree_fs.specs.Memory.{Memory, ListsInOrder, told_by}
 use Rattle.worktree_fs.specs.declared.answers.ListError.{ListError}
 use Rattle.worktree_fs.proofs.Distinct.{lists_names}
+use Rattle.worktree_fs.proofs.Followed.{read-unfollowed}
 use Rattle.worktree_fs.proofs.Tested.{told_is}
 use Rattle.worktree_fs.proofs.memory.MemoryWorktreeWorktree.TheImpl.Goals as goal
 
@@ -24,6 +25,21 @@ list-tells c = record {
   list_cause = c.ensures.list_cause;
   list_faults = c.ensures.list_faults;
   list_faults_kept = c.ensures.list_faults_kept;
+  reads = ap (λ (m : Memory). m.reads) c.ensures.state;
+  lists = ap (λ (m : Memory). m.lists) c.ensures.state;
+  precomposes = ap (λ (m : Memory). m.composes) c.ensures.state;
+}
+
+pub read-tells : goal.read-tells
+read-tells c = record {
+  answer = search rules;
+  bytes = search rules;
+  into = c.ensures.into;
+  link = read-unfollowed c.args.self.now.tree c.args.path.now c.args.follow c.result c.ensures.answer;
+  tree = ap (λ (m : Memory). told_by m.tree) c.ensures.state;
+  cause = search rules;
+  faults = c.ensures.later;
+  list_faults = ap (λ (m : Memory). m.list_faults) c.ensures.state;
   reads = ap (λ (m : Memory). m.reads) c.ensures.state;
   lists = ap (λ (m : Memory). m.lists) c.ensures.state;
   precomposes = ap (λ (m : Memory). m.composes) c.ensures.state;

@@ -1,0 +1,76 @@
+-- Where a last link is followed, none is found.
+use Rattle.std.proofs.Common.{◌≡◌, ℕ, zero, suc, List, [], ◌∷◌, ◌++◌, Bool, true, false, cond, Option, Some, None, Result, Ok, Err, IfOk, refl, ap, subst}
+use Rattle.worktree_fs.specs.Answers.{read_of}
+use Rattle.worktree_fs.specs.declared.answers.ReadAnswer.{ReadAnswer}
+use Rattle.worktree_fs.specs.declared.answers.ReadAnswer.TheVariants as answers
+use Rattle.worktree_fs.specs.declared.answers.ReadError.{ReadError}
+use Rattle.worktree_fs.specs.Tree.{Node, Names, file, link, directory, other, Place, Jump, Look, found, absent, too_many_links, child, enter, parent, start, pieces, is_text, is_dot, is_dot_dot, is_last, onward, along, behind, look}
+
+-- a path leads to no link
+abbrev pub NoLink : Look → Type 0
+NoLink (found (file bytes)) = Unit {0}
+NoLink (found (link target)) = ⊥
+NoLink (found (directory names)) = Unit {0}
+NoLink (found other) = Unit {0}
+NoLink absent = Unit {0}
+NoLink too_many_links = Unit {0}
+
+NoLink-if : (b : Bool) (x y : Look) → NoLink x → NoLink y → NoLink (cond b x y)
+NoLink-if true x y nx ny = nx
+NoLink-if false x y nx ny = ny
+
+NoLink-onward : (go : Place → Look) (jump : Jump) (place : Place) (rest : List (List ℕ)) (node : Option Node)
+    → ((p : Place) → NoLink (go p)) → ((p : Place) (target : List ℕ) (more : List (List ℕ)) → NoLink (jump p target more)) → NoLink (onward go jump true place rest node)
+NoLink-onward go jump place rest None along_on jumps = tt
+NoLink-onward go jump place rest (Some (directory names)) along_on jumps = along_on (enter place names)
+NoLink-onward go jump place rest (Some (link target)) along_on jumps = jumps place target rest
+NoLink-onward go jump place rest (Some (file bytes)) along_on jumps = NoLink-if (is_last rest) (found (file bytes)) absent tt tt
+NoLink-onward go jump place rest (Some other) along_on jumps = NoLink-if (is_last rest) (found other) absent tt tt
+
+NoLink-along : (jump : Jump) (place : Place) (rest : List (List ℕ)) → ((p : Place) (target : List ℕ) (more : List (List ℕ)) → NoLink (jump p target more)) → NoLink (along jump true place rest)
+NoLink-along jump place [] jumps = tt
+NoLink-along jump place (piece ∷ rest) jumps =
+    NoLink-if (is_dot piece) _ _ (NoLink-along jump place rest jumps)
+    (NoLink-if (is_dot_dot piece) _ _ (NoLink-along jump (parent place) rest jumps)
+    (NoLink-onward (λ p. along jump true p rest) jump place rest (child place.here piece) (λ p. NoLink-along jump p rest jumps) jumps))
+
+NoLink-behind : (links : ℕ) (place : Place) (target : List ℕ) (rest : List (List ℕ)) → NoLink (behind links true place target rest)
+unfolding behind
+NoLink-behind zero place target rest = tt
+NoLink-behind (suc links) place target rest =
+    NoLink-if (is_text target) _ _ (NoLink-along (behind links true) (start place target) (pieces target ++ rest) (NoLink-behind links)) tt
+
+pub NoLink-look : (root : Names) (path : List ℕ) → NoLink (look root path true)
+unfolding look
+NoLink-look root path = NoLink-if (is_text path) _ _ (NoLink-along (behind 32 true) (record { here = root; above = [] }) (pieces path) (NoLink-behind 32)) tt
+
+pub link-unfollowed : (root : Names) (path : List ℕ) (follow : Bool) (target : List ℕ) → look root path follow ≡ found (link target) → follow ≡ false
+link-unfollowed root path true target e = absurd (subst NoLink e (NoLink-look root path))
+link-unfollowed root path false target e = refl
+
+-- a read that answers a link does not follow it
+pub read-unfollowed : (root : Names) (path : List ℕ) (follow : Bool) (r : Result ReadAnswer ReadError) → IfOk r (λ answer. answer ≡ read_of (look root path follow)) → r ≡ Ok answers.IsLink → follow ≡ false
+read-unfollowed root path follow r answered is = go (look root path follow) refl (let P : Result ReadAnswer ReadError → Type 0 = λ x. IfOk x (λ answer. answer ≡ read_of (look root path follow)) in subst P is answered)
+  where
+    go : (at : Look) → look root path follow ≡ at → answers.IsLink ≡ read_of (look root path follow) → follow ≡ false
+    go (found (file bytes)) at e = absurd (clash (ap read_of at) e)
+      where
+        clash : read_of (look root path follow) ≡ answers.Read → answers.IsLink ≡ read_of (look root path follow) → ⊥
+        clash p q = cc
+    go (found (link target)) at e = link-unfollowed root path follow target at
+    go (found (directory names)) at e = absurd (clash (ap read_of at) e)
+      where
+        clash : read_of (look root path follow) ≡ answers.IsDirectory → answers.IsLink ≡ read_of (look root path follow) → ⊥
+        clash p q = cc
+    go (found other) at e = absurd (clash (ap read_of at) e)
+      where
+        clash : read_of (look root path follow) ≡ answers.Special → answers.IsLink ≡ read_of (look root path follow) → ⊥
+        clash p q = cc
+    go absent at e = absurd (clash (ap read_of at) e)
+      where
+        clash : read_of (look root path follow) ≡ answers.Absent → answers.IsLink ≡ read_of (look root path follow) → ⊥
+        clash p q = cc
+    go too_many_links at e = absurd (clash (ap read_of at) e)
+      where
+        clash : read_of (look root path follow) ≡ answers.LinkLimit → answers.IsLink ≡ read_of (look root path follow) → ⊥
+        clash p q = cc
