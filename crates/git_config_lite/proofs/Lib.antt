@@ -1,0 +1,4 @@
+mod Subsections
+mod Pieces
+mod LastSection
+mod AllSections

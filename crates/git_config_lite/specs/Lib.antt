@@ -1,0 +1,12 @@
+pub mod Texts
+pub mod Headers
+pub mod Values
+pub mod Keys
+pub mod Sections
+pub mod Grammar
+pub mod Booleans
+pub mod Lookups
+pub mod Writers
+pub mod Gives
+pub mod Seen
+pub mod Left

@@ -1,0 +1,193 @@
+//! A configuration: its sections, how it is asked, and how it grows.
+ghost use Rattle.std.specs.Prelude.{◌≡◌, ◌<◌, [], Some, length, option_copied, option_map, IfOk, IsTrue, OnOk, OnErr};
+ghost use Rattle.git_config_lite.specs.Lookups as lookups;
+ghost use Rattle.git_config_lite.specs.Writers as writers;
+ghost use Rattle.git_config_lite.specs.Gives.{ParseGives, truth_seen};
+ghost use Rattle.git_config_lite.specs.Seen as seen;
+
+use crate::entry::Entry;
+use crate::error::{ParseError, ValueError};
+use crate::iterators::{Sections, Values};
+use crate::lookup::{last_found, text_of, truth_found};
+use crate::metadata::{Metadata, Source};
+use crate::reading::read;
+use crate::section::{Section, add_entry};
+use gitbase_core::{Bytes, OutOfMemory};
+use std::alloc::Global;
+use std::marker::Model;
+
+/// One configuration file, or several of them that were appended.
+///
+/// Contracts see a record: where it was read, and its sections in order.
+#[derive(Debug, Drop)]
+pub struct File {
+    meta: Metadata,
+    sections: Vec<Section>,
+}
+
+impl Model for File {
+    ghost use Rattle.git_config_lite.specs.Sections.{Configuration};
+
+    ghost Value = { Configuration };
+
+    ghost view = { λ file. record { meta = file.meta; sections = file.sections.items } };
+}
+
+impl File {
+    /// A configuration without sections; takes no memory.
+    pub fn new(alloc: Global, meta: Metadata) -> File
+        ensures sections { result.sections ≡ [] }
+        ensures meta { result.meta ≡ meta }
+    {
+        File {
+            meta,
+            sections: Vec::new(alloc),
+        }
+    }
+
+    /// What a text says, in the format of git-config(1). Each section gets a copy of `meta`.
+    ///
+    /// `Syntax` names the first line outside the grammar, counted from 1. A fault in a value that goes on over several
+    /// lines is named by the line on which it stands.
+    pub fn from_bytes(alloc: Global, bytes: &[u8], meta: Metadata) -> Result<File, ParseError>
+        ensures { ParseGives result meta bytes.now }
+    {
+        let draft = read(alloc, &meta, bytes)?;
+        Ok(File {
+            meta,
+            sections: draft.sections,
+        })
+    }
+
+    /// Where the configuration was read.
+    pub fn meta(&self) -> &Metadata
+        ensures { result.now ≡ self.now.meta }
+    {
+        &self.meta
+    }
+
+    /// The sections of a name, in order, whatever their subsections. The name is compared without regard to the case of
+    /// ASCII letters.
+    pub fn sections_by_name<'a>(&'a self, name: &'a [u8]) -> Sections<'a>
+        ensures { result ≡ lookups.sections_named (Some name.now) self.now.sections }
+    {
+        Sections::named(&self.sections, name)
+    }
+
+    /// All sections, in order.
+    pub fn sections(&self) -> Sections<'_>
+        ensures { result ≡ self.now.sections }
+    {
+        Sections::all(&self.sections)
+    }
+
+    /// The last value of a key in the sections of a name and subsection; empty where that key has no value.
+    ///
+    /// Names and keys are compared without regard to the case of ASCII letters, subsections by their bytes; without a
+    /// subsection only sections without one are asked.
+    pub fn string(&self, section: &[u8], subsection: Option<&[u8]>, key: &[u8]) -> Option<&[u8]>
+        ensures { option_copied result ≡ lookups.string section.now (option_copied subsection.entry) key.now self.now.sections }
+    {
+        match last_found(&self.sections, section, subsection, key) {
+            Some(found) => Some(text_of(found.value)),
+            None => None,
+        }
+    }
+
+    /// The same as `string`, with what the section belongs to in which the value stands.
+    pub fn string_with_source(
+        &self,
+        section: &[u8],
+        subsection: Option<&[u8]>,
+        key: &[u8],
+    ) -> Option<(&[u8], Source)>
+        ensures { option_map seen.text_and_source result
+            ≡ lookups.string_with_source section.now (option_copied subsection.entry) key.now self.now.sections }
+    {
+        match last_found(&self.sections, section, subsection, key) {
+            Some(found) => Some((text_of(found.value), found.source)),
+            None => None,
+        }
+    }
+
+    /// All values of a key in the sections of a name and subsection, in order, compared as `string` does.
+    pub fn strings<'a>(
+        &'a self,
+        section: &'a [u8],
+        subsection: Option<&'a [u8]>,
+        key: &'a [u8],
+    ) -> Values<'a>
+        ensures { result ≡ lookups.strings section.now (option_copied subsection.entry) key.now self.now.sections }
+    {
+        Values::new(&self.sections, section, subsection, key)
+    }
+
+    /// What the last value of a key says as a boolean. A key without a value says true.
+    ///
+    /// Whatever the case of letters, `yes`, `on` and `true` are true, and `no`, `off`, `false` and the empty text false.
+    /// So is a number with an optional sign and an optional suffix `k`, `m` or `g`, which is true unless it is 0. The
+    /// error has any other text.
+    pub fn boolean(
+        &self,
+        section: &[u8],
+        subsection: Option<&[u8]>,
+        key: &[u8],
+    ) -> Result<Option<bool>, ValueError<'_>>
+        ensures { truth_seen result ≡ lookups.boolean section.now (option_copied subsection.entry) key.now self.now.sections }
+    {
+        truth_found(last_found(&self.sections, section, subsection, key))
+    }
+
+    /// Adds the sections of another configuration behind these. They keep where they were read, and this configuration
+    /// keeps where it was read; it stays as it was where memory is refused. The room comes from the allocator that made
+    /// this configuration.
+    pub fn append(&mut self, _alloc: Global, other: File) -> Result<(), OutOfMemory>
+        ensures appended { OnOk result (self.new ≡ writers.appended self.old other) }
+        ensures refused { OnErr result (self.new ≡ self.old) }
+    {
+        let File {
+            meta: _meta,
+            mut sections,
+        } = other;
+        self.sections.append(&mut sections)?;
+        Ok(())
+    }
+
+    /// Adds an empty section with a subsection at the end, read where this configuration was read.
+    ///
+    /// A name has letters, digits, hyphens and dots, and is not empty; a subsection has no LF and no NUL. The
+    /// configuration stays as it was where memory is refused.
+    pub fn push_section(
+        &mut self,
+        alloc: Global,
+        name: &[u8],
+        subsection: &[u8],
+    ) -> Result<(), OutOfMemory>
+        requires name { IsTrue (writers.is_name name.now) }
+        requires subsection { IsTrue (writers.is_subsection_text subsection.now) }
+        ensures pushed { OnOk result (self.new ≡ writers.with_section self.old name.now subsection.now) }
+        ensures refused { OnErr result (self.new ≡ self.old) }
+    {
+        let subsection = Bytes::from_slice(alloc, subsection)?;
+        let section = Section::new(alloc, name, Some(subsection), &self.meta)?;
+        self.sections.push(section)?;
+        Ok(())
+    }
+
+    /// Adds a key with a value at the end of the last section, which has to be there.
+    ///
+    /// A key begins with a letter, and has letters, digits and hyphens; a value is any bytes. The configuration stays as
+    /// it was where memory is refused.
+    pub fn push_value(&mut self, alloc: Global, key: &[u8], value: &[u8]) -> Result<(), OutOfMemory>
+        requires section { 0 < length self.old.sections }
+        requires key { IsTrue (writers.is_key_name key.now) }
+        ensures pushed { OnOk result (self.new ≡ writers.with_value self.old key.now value.now) }
+        ensures refused { OnErr result (self.new ≡ self.old) }
+    {
+        let entry = Entry {
+            key: Bytes::from_slice(alloc, key)?,
+            value: Some(Bytes::from_slice(alloc, value)?),
+        };
+        add_entry(&mut self.sections, entry)
+    }
+}

@@ -1,0 +1,29 @@
+//! One configuration file of git: what its text says, and how it is asked.
+#![tactic(auto)]
+
+mod boolean;
+mod element;
+mod entry;
+mod error;
+mod file;
+mod found;
+mod header;
+mod iterators;
+mod key;
+mod left;
+mod lookup;
+mod metadata;
+mod reading;
+mod section;
+mod subsection;
+mod text;
+mod value;
+
+pub use error::{ParseError, ValueError};
+pub use file::File;
+pub use iterators::{Sections, Values};
+pub use metadata::{Metadata, Source};
+pub use section::Section;
+
+#[cfg(test)]
+mod tests;

@@ -1,0 +1,110 @@
+//! How values are found among sections.
+ghost use Rattle.std.specs.Prelude.{◌≡◌, option_copied, option_map};
+ghost use Rattle.git_config_lite.specs.Lookups as lookups;
+ghost use Rattle.git_config_lite.specs.Gives.{truth_seen};
+ghost use Rattle.git_config_lite.specs.Seen as seen;
+
+use crate::boolean::{folds, truth};
+use crate::entry::Entry;
+use crate::error::ValueError;
+use crate::found::FoundValue;
+use crate::section::Section;
+
+/// Whether a subsection, or none, is this one.
+pub fn is_subsection(found: Option<&[u8]>, asked: Option<&[u8]>) -> bool
+    ensures { result ≡ lookups.is_subsection (option_copied found.entry) (option_copied asked.entry) }
+{
+    match found {
+        None => match asked {
+            None => true,
+            Some(_) => false,
+        },
+        Some(found) => match asked {
+            None => false,
+            Some(asked) => found == asked,
+        },
+    }
+}
+
+pub fn is_key(key: &[u8], entry: &Entry) -> bool
+    ensures { result ≡ lookups.is_key key.now entry.now }
+{
+    folds(entry.key.as_bytes(), key)
+}
+
+/// The value of a key, if it has one.
+pub fn value_of(entry: &Entry) -> Option<&[u8]>
+    ensures { option_copied result ≡ entry.now.value }
+{
+    match &entry.value {
+        Some(value) => Some(value.as_bytes()),
+        None => None,
+    }
+}
+
+/// A value as a text.
+pub fn text_of(value: Option<&[u8]>) -> &[u8]
+    ensures { result.now ≡ lookups.text_of (option_copied value.entry) }
+{
+    match value {
+        Some(text) => text,
+        None => b"",
+    }
+}
+
+/// The last of some keys that is this one.
+pub fn last_entry<'a>(entries: &'a [Entry], key: &[u8]) -> Option<&'a Entry>
+    ensures { option_copied result ≡ lookups.last_entry key.now entries.now }
+{
+    let mut at = entries.len();
+    while at > 0 {
+        at -= 1;
+        let entry = &entries[at];
+        if is_key(key, entry) {
+            return Some(entry);
+        }
+    }
+    None
+}
+
+/// The last value of a key: that of the last section that has one.
+pub fn last_found<'a>(
+    sections: &'a [Section],
+    name: &[u8],
+    subsection: Option<&[u8]>,
+    key: &[u8],
+) -> Option<FoundValue<'a>>
+    ensures { option_map seen.found result ≡ lookups.last_found name.now (option_copied subsection.entry) key.now sections.now }
+{
+    let mut at = sections.len();
+    while at > 0 {
+        at -= 1;
+        if let Some(found) = sections[at].found(name, subsection, key) {
+            return Some(found);
+        }
+    }
+    None
+}
+
+/// What a value says as a boolean.
+fn value_truth(value: Option<&[u8]>) -> Result<Option<bool>, ValueError<'_>>
+    ensures { truth_seen result ≡ lookups.value_truth (option_copied value.entry) }
+{
+    let Some(text) = value else {
+        return Ok(Some(true));
+    };
+    match truth(text) {
+        Some(answer) => Ok(Some(answer)),
+        None => Err(ValueError { input: text }),
+    }
+}
+
+/// What a value says as a boolean, where one was found.
+pub fn truth_found(found: Option<FoundValue<'_>>) -> Result<Option<bool>, ValueError<'_>>
+    ensures { truth_seen result ≡ lookups.truth_found (option_map seen.found found.entry) }
+{
+    match found {
+        Some(found) => value_truth(found.value),
+        None => Ok(None),
+    }
+}

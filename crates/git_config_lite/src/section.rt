@@ -1,0 +1,142 @@
+//! The sections of a configuration.
+ghost use Rattle.std.specs.Prelude.{◌≡◌, option_copied, option_map, IfOk, OnOk, OnErr};
+ghost use Rattle.git_config_lite.specs.Sections as words;
+ghost use Rattle.git_config_lite.specs.Booleans.{folds};
+ghost use Rattle.git_config_lite.specs.Lookups as lookups;
+ghost use Rattle.git_config_lite.specs.Seen as seen;
+
+use crate::boolean::folds;
+use crate::entry::Entry;
+use crate::found::FoundValue;
+use crate::lookup::{is_subsection, last_entry, text_of, value_of};
+use crate::metadata::Metadata;
+use gitbase_core::{Bytes, OutOfMemory};
+use std::alloc::Global;
+use std::marker::Model;
+
+/// A section: its name, its subsection where it has one, where it was read, and its keys in order.
+///
+/// Contracts see a record of these.
+#[derive(Debug, Drop)]
+pub struct Section {
+    name: Bytes,
+    subsection: Option<Bytes>,
+    meta: Metadata,
+    entries: Vec<Entry>,
+}
+
+impl Model for Section {
+    ghost use Rattle.git_config_lite.specs.Sections as words;
+
+    ghost Value = { words.Section };
+
+    ghost view = { λ s. record { name = s.name; subsection = s.subsection; meta = s.meta; entries = s.entries.items } };
+}
+
+impl Section {
+    /// A section without keys.
+    pub(crate) fn new(
+        alloc: Global,
+        name: &[u8],
+        subsection: Option<Bytes>,
+        meta: &Metadata,
+    ) -> Result<Section, OutOfMemory>
+        ensures { IfOk result (λ made. made ≡ words.empty_section name.now subsection meta.now) }
+    {
+        Ok(Section {
+            name: Bytes::from_slice(alloc, name)?,
+            subsection,
+            meta: meta.copy(alloc)?,
+            entries: Vec::new(alloc),
+        })
+    }
+
+    /// The subsection, if there is one. A header `[name ""]` has an empty one, and `[name]` has none.
+    pub fn subsection_name(&self) -> Option<&[u8]>
+        ensures { option_copied result ≡ self.now.subsection }
+    {
+        match &self.subsection {
+            Some(subsection) => Some(subsection.as_bytes()),
+            None => None,
+        }
+    }
+
+    /// The last value of a key, whose name is compared without regard to the case of ASCII letters; empty where that
+    /// key has no value, and None where the section has no such key.
+    pub fn value(&self, key: &[u8]) -> Option<&[u8]>
+        ensures { option_copied result ≡ lookups.section_value key.now self.now }
+    {
+        match last_entry(&self.entries, key) {
+            Some(entry) => Some(text_of(value_of(entry))),
+            None => None,
+        }
+    }
+
+    /// Where the section was read.
+    pub fn meta(&self) -> &Metadata
+        ensures { result.now ≡ self.now.meta }
+    {
+        &self.meta
+    }
+
+    /// Whether the section has a name.
+    pub(crate) fn is_named(&self, name: &[u8]) -> bool
+        ensures { result ≡ folds self.now.name name.now }
+    {
+        folds(self.name.as_bytes(), name)
+    }
+
+    /// The keys, if the section is the one that is asked for.
+    pub(crate) fn entries_of(&self, name: &[u8], subsection: Option<&[u8]>) -> &[Entry]
+        ensures { result.now ≡ lookups.entries_of name.now (option_copied subsection.entry) self.now }
+    {
+        if !self.is_named(name) {
+            return &[];
+        }
+        if !is_subsection(self.subsection_name(), subsection) {
+            return &[];
+        }
+        &self.entries
+    }
+
+    /// The last value of a key, if the section is the one that is asked for.
+    pub(crate) fn found(
+        &self,
+        name: &[u8],
+        subsection: Option<&[u8]>,
+        key: &[u8],
+    ) -> Option<FoundValue<'_>>
+        ensures { option_map seen.found result ≡ lookups.found_in name.now (option_copied subsection.entry) key.now self.now }
+    {
+        match last_entry(self.entries_of(name, subsection), key) {
+            Some(entry) => Some(FoundValue {
+                value: value_of(entry),
+                source: self.meta.source,
+            }),
+            None => None,
+        }
+    }
+
+    /// Adds a key at the end. The section stays as it was where memory is refused.
+    fn push(&mut self, entry: Entry) -> Result<(), OutOfMemory>
+        ensures added { OnOk result (self.new ≡ words.with_entry entry self.old) }
+        ensures refused { OnErr result (self.new ≡ self.old) }
+    {
+        self.entries.push(entry)?;
+        Ok(())
+    }
+}
+
+/// Adds a key at the end of the last section; without a section it is dropped. The sections stay as they were where
+/// memory is refused.
+pub fn add_entry(sections: &mut Vec<Section>, entry: Entry) -> Result<(), OutOfMemory>
+    ensures added { OnOk result (sections.new.items ≡ words.adding_entry entry sections.old.items) }
+    ensures refused { OnErr result (sections.new.items ≡ sections.old.items) }
+{
+    if sections.is_empty() {
+        return Ok(());
+    }
+    let last = sections.len() - 1;
+    let section = &mut sections[last];
+    section.push(entry)
+}
