@@ -101,7 +101,8 @@ impl Collect {
         ensures refused { OnErr result (self.new.unorded_entries ≡ self.old.unorded_entries) }
     {
         let entry = entry.to_owned(alloc)?;
-        self.unorded_entries.push(alloc, entry, collapsed_directory_status)
+        self.unorded_entries
+            .push(alloc, entry, collapsed_directory_status)
     }
 
     /// The entries in ascending order of their paths, byte by byte. The room comes from the allocator that made the
