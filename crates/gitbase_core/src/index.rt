@@ -73,7 +73,9 @@ impl State {
         &self.entries
     }
 
-    /// The entry of the lowest stage at `path`. One binary search.
+    /// The entry of the lowest stage at `path`.
+    ///
+    /// It is found by binary search; no clause speaks of the cost.
     pub fn entry_by_path(&self, path: &[u8]) -> Option<&IndexEntry>
         ensures first { option_copied result ≡ entry_at path.now self.now }
         ensures lowest { IfSome result
@@ -86,7 +88,9 @@ impl State {
     }
 
     /// The range of the entries whose paths begin with `prefix`, as the place of the first and the place behind the
-    /// last; none where there is no such entry. Two binary searches.
+    /// last; none where there is no such entry.
+    ///
+    /// Its ends are found by binary search; no clause speaks of the cost.
     pub fn prefixed_entries_range(&self, prefix: &[u8]) -> Option<(usize, usize)>
         ensures range { result ≡ prefixed_range prefix.now self.now }
         ensures whole { IfSome result (λ range. IsRun (begins_with prefix.now) self.now range.0 range.1) }

@@ -47,7 +47,9 @@ impl State {
     /// a single entry of mode `DIR`, or several that all have `SKIP_WORKTREE`. Nothing is looked for beneath the
     /// empty path.
     ///
-    /// This takes three binary searches, and a look at the entries beneath the path up to the first with `UPTODATE`.
+    /// The entry and those beneath are found by binary search. Those beneath are then looked at up to the first with
+    /// `UPTODATE`; where there is none, and more than one entry, a second pass looks at them up to the first without
+    /// `SKIP_WORKTREE`. No clause speaks of this cost.
     pub fn kinds(&self, path: &[u8]) -> IndexKinds
         ensures { result ≡ kinds self.now path.now }
     {

@@ -128,8 +128,8 @@ impl PathText {
         Some(&path[..end])
     }
 
-    /// The path without empty components, `.` and `..`, of which each takes the component before it back; none where
-    /// a `..` leads out. A slash at the start stays.
+    /// The path without empty components and `.`, where each `..` is gone together with the component before it; none
+    /// where a `..` has none before it, and so leads out. A slash at the start stays.
     pub fn normalize(&self, alloc: Global) -> Result<Option<PathText>, OutOfMemory>
         ensures { IfOk result (λ path. path ≡ normalized self.now) }
     {

@@ -266,7 +266,7 @@ fn index_grown(rt: HostRuntime) -> Result<(), Fail> {
     let mut state = State::new(rt.alloc());
     let first = entry(rt.alloc(), b"b", 0, Mode::FILE, Flags::empty())?;
     if state.fault_of(&first).is_none() {
-        state.push(first)?;
+        state.push(rt.alloc(), first)?;
     }
     assert_eq!(rt; state.entries().len(), 1);
     let below = entry(rt.alloc(), b"a", 0, Mode::FILE, Flags::empty())?;

@@ -43,7 +43,7 @@ fn taken(alloc: Global, mut draft: Draft, line: &[u8]) -> Result<Option<Draft>, 
             if draft.index.fault_of(&entry).is_some() {
                 return Ok(None);
             }
-            draft.index.push(entry)?;
+            draft.index.push(alloc, entry)?;
             Ok(Some(draft))
         }
     }
