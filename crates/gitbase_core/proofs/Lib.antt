@@ -9,3 +9,4 @@ pub mod Ranks
 pub mod Runs
 pub mod RunLists
 pub mod PathSearch
+pub mod Stores

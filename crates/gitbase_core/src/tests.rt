@@ -1,7 +1,7 @@
 //! Worked cases, and each call that takes memory with enough of it.
 use crate::{
-    Bytes, EntryKind, Flags, HexError, IndexEntry, IndexError, IndexKinds, Mode, ObjectId,
-    OutOfMemory, PathText, State,
+    Bytes, EntryKind, Find, FindError, Flags, Found, HexError, IndexEntry, IndexError, IndexKinds,
+    MemoryStore, Mode, ObjectId, OutOfMemory, PathText, State,
 };
 use std::alloc::Global;
 use std::collections::BTreeSet;
@@ -116,11 +116,16 @@ fn ids_read_and_written(rt: HostRuntime) -> Result<(), Fail> {
 #[test]
 fn errors_printed(rt: HostRuntime) -> Result<(), Fail> {
     let texts = format!(in rt.alloc();
-        "{OutOfMemory} {} {}",
+        "{OutOfMemory} {} {} {} {}",
         HexError::Digit { at: 3 },
-        IndexError::ModePath { at: 3 }
+        IndexError::ModePath { at: 3 },
+        FindError::Fault,
+        FindError::OutOfMemory
     )?;
-    assert_eq!(rt; texts.as_str(), "OutOfMemory Digit ModePath");
+    assert_eq!(rt;
+        texts.as_str(),
+        "OutOfMemory Digit ModePath Fault OutOfMemory"
+    );
     Ok(())
 }
 
@@ -275,4 +280,43 @@ fn index_grown(rt: HostRuntime) -> Result<(), Fail> {
         Some(IndexError::NotAscending { at: 1 })
     );
     Ok(())
+}
+
+/// The id of a blob of the line `hello`, and that of the empty tree, as git prints them.
+const HELLO: &[u8] = b"ce013625030ba8dba906f756967f9e9ca394464a";
+
+const EMPTY_TREE: &[u8] = b"4b825dc642cb6eb9a060e54bf8d69288fbee4904";
+
+#[test]
+fn objects_kept_and_found(rt: HostRuntime) -> Result<(), Fail> {
+    let mut store = MemoryStore::new(rt.alloc());
+    let hello = ObjectId::from_hex(HELLO)?;
+    let empty = ObjectId::from_hex(EMPTY_BLOB)?;
+    let tree = ObjectId::from_hex(EMPTY_TREE)?;
+    store.insert(rt.alloc(), hello, b"bye\n")?;
+    store.insert(rt.alloc(), hello, b"hello\n")?;
+    store.insert(rt.alloc(), empty, b"")?;
+    store.insert_other(rt.alloc(), tree)?;
+    let table: [(ObjectId, Found, &[u8]); 4] = [
+        (hello, Found::Blob, b"hello\n"),
+        (empty, Found::Blob, b""),
+        (tree, Found::Other, b"before"),
+        (ObjectId::null(), Found::Missing, b"before"),
+    ];
+    for (id, found, bytes) in table.iter() {
+        let mut into = Bytes::from_slice(rt.alloc(), b"before")?;
+        assert_eq!(rt; find(rt.alloc(), &mut store, id, &mut into), Ok(*found));
+        assert_eq!(rt; into.as_bytes(), *bytes);
+    }
+    Ok(())
+}
+
+/// A blob found through the trait.
+fn find<F: Find>(
+    alloc: Global,
+    store: &mut F,
+    id: &ObjectId,
+    into: &mut Bytes,
+) -> Result<Found, FindError> {
+    store.find_blob(alloc, id, into)
 }
