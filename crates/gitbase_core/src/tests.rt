@@ -58,6 +58,9 @@ fn paths_taken_apart_and_joined(rt: HostRuntime) -> Result<(), Fail> {
         path.push_component(rt.alloc(), b"x")?;
         assert_eq!(rt; path.as_bytes(), *joined);
     }
+    let mut path = PathText::from_bytes(rt.alloc(), b"a/b")?;
+    path.truncate(1);
+    assert_eq!(rt; path.as_bytes(), b"a".as_slice());
     Ok(())
 }
 

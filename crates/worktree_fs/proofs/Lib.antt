@@ -1,7 +1,10 @@
+pub mod Calls
 pub mod Distinct
 pub mod EntryNames
 pub mod Grown
 pub mod Join
+pub mod Lookups
+pub mod Mapped
 pub mod NameParts
 pub mod Obstacles
 pub mod Order
@@ -14,3 +17,9 @@ pub mod Subtree
 pub mod Tested
 pub mod Texts
 pub mod Followed
+pub mod Spelled
+pub mod Fronts
+pub mod FullPaths
+pub mod Placed
+pub mod Skipped
+pub mod Standing

@@ -7,9 +7,13 @@ pub mod Join
 pub mod Memory
 pub mod Naming
 pub mod Order
+pub mod PathStack
+pub mod Paths
+pub mod Placed
 pub mod Planned
 pub mod Route
 pub mod Step
+pub mod Stops
 pub mod Stored
 pub mod StoredFalls
 pub mod Told
