@@ -6,3 +6,7 @@ pub mod Verdict
 pub mod Rule
 pub mod Shape
 pub mod Ignore
+pub mod PathSpec
+pub mod PathSpecText
+pub mod PathSpecs
+pub mod PathSpecCovers

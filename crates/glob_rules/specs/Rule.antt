@@ -4,7 +4,7 @@
 -- rule. The `!` makes the rule negative, and the trailing slash one for directories alone. A rule from which no leading slash
 -- was taken, and whose remaining bytes have no slash, is matched with the last component of a path. Any other is matched with
 -- the path as it reads from the directory of the rule's list, beneath which the path must lie. Wildcards take no slash.
-use Rattle.std.specs.Prelude.{ℕ, ◌-◌, Bool, true, false, not, ◌&&◌, ◌||◌, List, [], ◌∷◌, length, take, drop, Option, Some, None, ◌==◌, nat_eq, if◌then◌else◌}
+use Rattle.std.specs.Prelude.{ℕ, ◌-◌, Bool, true, false, not, ◌&&◌, ◌||◌, List, [], ◌∷◌, length, take, drop, Option, Some, None, is_some, ◌==◌, nat_eq, if◌then◌else◌}
 use Rattle.std.specs.List.{list_any, starts_with, ends_with, after_last}
 use Rattle.glob_rules.specs.declared.Case.{Case}
 use Rattle.glob_rules.specs.declared.WildMode.{WildMode}
@@ -67,6 +67,10 @@ rest_beneath top (b ∷ bs) = if top then Some (b ∷ bs) else if b == slash the
 -- the path as it reads from a directory, where it lies beneath that
 abbrev pub relative_to : List ℕ → List ℕ → Option (List ℕ)
 relative_to base path = if starts_with nat_eq path base then rest_beneath (is_top base) (drop (length base) path) else None
+
+-- the path lies beneath a directory
+abbrev pub lies_beneath : List ℕ → List ℕ → Bool
+lies_beneath dir path = is_some (relative_to dir path)
 
 -- it is known to be a directory
 abbrev pub is_known_dir : Option Bool → Bool

@@ -6,6 +6,7 @@ ghost use Rattle.glob_rules.specs.Glob.{Matches, matches};
 
 mod glob;
 pub mod ignore;
+pub mod pathspec;
 mod pattern;
 
 use glob::verdict::is_match;
