@@ -6,3 +6,6 @@ pub mod Decide
 pub mod Parts
 pub mod Plain
 pub mod Shapes
+pub mod Fronts
+pub mod Stems
+pub mod Places

@@ -10,3 +10,4 @@ pub mod PathSpec
 pub mod PathSpecText
 pub mod PathSpecs
 pub mod PathSpecCovers
+pub mod PathSpecSteps

@@ -57,9 +57,9 @@ takes_slash ShellGlob = true
 takes_slash PathAwareGlob = false
 takes_slash Literal = false
 
--- the spec has wildcards
-abbrev pub is_wild : PathSpec → Bool
-is_wild spec = not (is_literal spec.mode) && has_wildcards spec.path
+-- a path has wildcards, where they are meant as such
+abbrev pub is_wild : SearchMode → List ℕ → Bool
+is_wild mode path = not (is_literal mode) && has_wildcards path
 
 -- how the wildcards of a spec are matched
 abbrev pub glob_mode : PathSpec → WildMode
@@ -67,7 +67,7 @@ glob_mode spec = record { case = spec.case; wildcards_take_slash = takes_slash s
 
 -- the spec matches the path as a pattern
 abbrev pub is_glob_match : PathSpec → List ℕ → Bool
-is_glob_match spec path = is_wild spec && matches (glob_mode spec) spec.path path
+is_glob_match spec path = is_wild spec.mode spec.path && matches (glob_mode spec) spec.path path
 
 -- how a spec matches a path, whether or not it excludes; `is_dir` says what is known of the path's kind
 abbrev pub kind_of_match : PathSpec → List ℕ → Option Bool → Option MatchKind
@@ -78,6 +78,10 @@ kind_of_match spec path is_dir =
     else if is_glob_match spec path && meets_kind spec is_dir then Some WildcardMatch
     else None
 
+-- a path up to the last slash before its first wildcard, or all of it where there is none
+unfoldable pub stem_of : SearchMode → List ℕ → List ℕ
+stem_of mode path = if is_wild mode path then before_last is_slash (before_first is_special path) else path
+
 -- what all matches of a spec have in common
-unfoldable pub stem : PathSpec → List ℕ
-stem spec = if is_wild spec then before_last is_slash (before_first is_special spec.path) else spec.path
+abbrev pub stem : PathSpec → List ℕ
+stem spec = stem_of spec.mode spec.path

@@ -3,11 +3,13 @@ ghost use Rattle.std.specs.Prelude.{◌≡◌};
 
 use gitbase_core::OutOfMemory;
 
+mod common;
 mod matcher;
 mod parse;
 mod search;
 mod signature;
 mod spec;
+mod standing;
 
 pub use matcher::Matcher;
 pub use search::Search;

@@ -50,7 +50,7 @@ impl Model for Pattern {
 }
 
 /// Whether the bytes begin with this one, and what is left of them without it.
-fn without_front(bytes: &[u8], byte: u8) -> (bool, &[u8])
+pub fn without_front(bytes: &[u8], byte: u8) -> (bool, &[u8])
     ensures taken { result.0 ≡ (rules.without_front byte bytes.now).0 }
     ensures rest { result.1.now ≡ (rules.without_front byte bytes.now).1 }
 {
@@ -80,7 +80,7 @@ fn has_slash(bytes: &[u8]) -> bool
 }
 
 /// Whether a byte of the pattern has a meaning of its own.
-fn has_wildcards(bytes: &[u8]) -> bool
+pub fn has_wildcards(bytes: &[u8]) -> bool
     ensures { result ≡ shapes.has_wildcards bytes.now }
 {
     bytes.iter().any(|byte| is_special(*byte))
@@ -135,7 +135,7 @@ pub fn relative_to<'a>(path: &'a [u8], base: &[u8]) -> Option<&'a [u8]>
 }
 
 /// Whether the path is the empty one, or `/`.
-fn is_top(path: &[u8]) -> bool
+pub fn is_top(path: &[u8]) -> bool
     ensures { result ≡ rules.is_top path.now }
 {
     match path {
@@ -146,7 +146,7 @@ fn is_top(path: &[u8]) -> bool
 }
 
 /// Whether two texts are the same, as letters compare.
-fn is_same_text(case: Case, left: &[u8], right: &[u8]) -> bool
+pub fn is_same_text(case: Case, left: &[u8], right: &[u8]) -> bool
     ensures { IsTrue result ↔ (map (folded case) left.now ≡ map (folded case) right.now) }
 {
     match case {

@@ -25,7 +25,7 @@ pub trait Matcher {
     /// The directory to which all paths are relative.
     ghost prefixed: { Self → List ℕ };
 
-    /// Whether the path or something beneath it may be matched. False says that a walk has nothing to find there.
+    /// Whether the path or something beneath it may be matched.
     fn can_match_relative_path(&self, path: &[u8], is_dir: Option<bool>) -> bool
         ensures { result ≡ can self.now path.now is_dir };
 
