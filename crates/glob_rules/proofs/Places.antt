@@ -1,6 +1,6 @@
 -- Where a byte is found, and what that says of the words and the forms of a path spec.
-use Rattle.std.proofs.Common.{◌≡◌, ℕ, ◌+◌, ◌≤◌, ◌<◌, Bool, true, false, cond, ◌==◌, List, [], ◌∷◌, length, take, drop, get_or, Ok, Err, Result, refl, ap, sym, ◌∙◌, subst, arith}
-use Rattle.std.specs.List.{position_or_len, list_any, slice_split, before_first, after_first}
+use Rattle.std.proofs.Common.{◌≡◌, ℕ, ◌+◌, ◌<◌, Bool, false, List, [], ◌∷◌, length, take, drop, get_or, Ok, Err, Result, refl, ap, sym, ◌∙◌, subst, arith}
+use Rattle.std.specs.List.{position_or_len, list_any, slice_split}
 use Rattle.std.proofs.lemmas.Bool.{cond-true, cond-false, false_from_ne_true}
 use Rattle.std.proofs.lemmas.List.{get_or_default}
 use Rattle.std.proofs.lemmas.List.Sums.{position_or_len_is}

@@ -7,7 +7,6 @@ use Rattle.std.proofs.lemmas.List.{take-take, length-take, length-take-le}
 use Rattle.bstr.specs.Find.{Nowhere, Passes, is_byte}
 use Rattle.gitbase_core.specs.Path.{is_slash}
 use Rattle.gitbase_core.proofs.Slashes.{suffix_len-no_slash}
-use Rattle.glob_rules.specs.declared.Case.{Case}
 use Rattle.glob_rules.specs.Glob.{is_special}
 use Rattle.glob_rules.specs.PathSpec.{PathSpec, stem}
 use Rattle.glob_rules.specs.PathSpecs.{common_stem, stems, longest_front, is_common, common_front, some_path}

@@ -12,7 +12,8 @@ use Rattle.glob_rules.specs.declared.glob.step.Step.{Step}
 use Rattle.glob_rules.specs.declared.glob.step.Step.TheVariants.{One, Stars, Directories}
 use Rattle.glob_rules.specs.Class.{folded, Member, class_at}
 use Rattle.glob_rules.specs.Glob.{is_allowed, Token, class_token, literal, any_byte, class, stars, directories, everything, ends_in_slash, token_at, Takes, takes_byte, IsOne, MatchesFrom, run_of_stars, leading_stars, escaped}
-use Rattle.glob_rules.specs.Step.{first_token, begins_with, step_of, StepTells}
+use Rattle.glob_rules.specs.Step.{first_token, step_of, StepTells}
+use Rattle.glob_rules.specs.Texts.{begins_with}
 use Rattle.glob_rules.proofs.Splits.{first_split, split_matches, unread, end_matches, at_end}
 
 -- one byte is taken where the text begins with it

@@ -15,7 +15,7 @@ use Rattle.glob_rules.specs.declared.ignore.Kind.TheVariants.{Expendable, Precio
 use Rattle.glob_rules.specs.declared.ignore.line.Entry.{Entry}
 use Rattle.glob_rules.specs.declared.ignore.Match.{Match}
 use Rattle.glob_rules.specs.Marks.{space, backslash, hash_mark, dollar}
-use Rattle.glob_rules.specs.Step.{begins_with}
+use Rattle.glob_rules.specs.Texts.{begins_with}
 use Rattle.glob_rules.specs.Rule.{Rule, rule_of, unsigned_rule, last_component, relative_to, rule_matches_parts}
 
 -- a line read backwards, without the spaces at its front that no `\` follows

@@ -1,8 +1,8 @@
 -- Where specs cover a directory, they may match each path beneath it: a prefix of a directory is one of what lies beneath it.
-use Rattle.std.specs.Prelude.{◌≡◌, ℕ, Bool, true, false, not, ◌&&◌, ◌||◌, ◌==◌, nat_eq, List, [], ◌∷◌, ◌++◌, length, map, drop, Option, Some, None, is_some, IsTrue, bytes_eq, if◌then◌else◌}
+use Rattle.std.specs.Prelude.{◌≡◌, ℕ, Bool, true, false, not, ◌&&◌, ◌||◌, ◌==◌, nat_eq, List, [], ◌∷◌, ◌++◌, length, map, drop, Option, Some, None, is_some, IsTrue}
 use Rattle.std.specs.List.{list_any, starts_with}
-use Rattle.std.proofs.Common.{refl, ap, sym, ◌∙◌, subst, arith, inl, inr, cond}
-use Rattle.std.proofs.lemmas.Bool.{and_parts, and_from, or_cases, or_left, or_right, cond-true, cases_Bool, false≢true}
+use Rattle.std.proofs.Common.{refl, ap, ◌∙◌, arith, inl, inr, cond}
+use Rattle.std.proofs.lemmas.Bool.{and_parts, and_from, or_cases, or_left, or_right, cond-true, false≢true}
 use Rattle.std.proofs.lemmas.Bool.Decides.{nat_tests, Decides-eqb}
 use Rattle.std.proofs.lemmas.List.{map-append, append_assoc, drop_at}
 use Rattle.std.proofs.lemmas.Slice.Eq.{bytes_eq-Decides, starts_is}
@@ -10,7 +10,7 @@ use Rattle.gitbase_core.specs.Path.{is_empty}
 use Rattle.glob_rules.specs.declared.Case.{Case}
 use Rattle.glob_rules.specs.declared.Case.TheVariants.{Sensitive, Fold}
 use Rattle.glob_rules.specs.Class.{folded}
-use Rattle.glob_rules.specs.Rule.{is_top, rest_beneath, relative_to, lies_beneath}
+use Rattle.glob_rules.specs.Rule.{is_top, rest_beneath, lies_beneath}
 use Rattle.glob_rules.specs.PathSpec.{PathSpec, is_same, is_beneath, is_path_prefix, stem}
 use Rattle.glob_rules.specs.PathSpecs.{can_match, covers}
 

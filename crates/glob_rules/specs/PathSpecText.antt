@@ -15,7 +15,6 @@
 use Rattle.std.specs.Prelude.{ℕ, ◌+◌, Bool, true, false, ◌||◌, List, [], ◌∷◌, length, drop, take_while, Option, Some, None, option_map, ok_or, Result, Ok, Err, bytes_eq, codes, ◌==◌, if◌then◌else◌}
 use Rattle.std.specs.List.{list_any, before_first, after_first, prefix_len, slice_split}
 use Rattle.gitbase_core.specs.Path.{is_empty, is_absolute, ends_in_slash, normalized}
-use Rattle.glob_rules.specs.declared.Case.{Case}
 use Rattle.glob_rules.specs.declared.Case.TheVariants.{Sensitive, Fold}
 use Rattle.glob_rules.specs.declared.pathspec.Error.{Error}
 use Rattle.glob_rules.specs.declared.pathspec.Error.TheVariants.{Parse, Normalize}

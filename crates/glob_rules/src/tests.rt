@@ -1,5 +1,7 @@
 //! Worked cases, the answers of git, and each call with ample memory.
 mod answers;
+mod pathspec;
+mod pathspec_answers;
 
 use crate::ignore::{Kind, List, ParseIgnore, Search};
 use crate::{Case, Pattern, WildMode, wildmatch};

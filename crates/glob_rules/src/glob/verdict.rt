@@ -1,7 +1,7 @@
 //! The match as a whole: bytes one after another, and a search at each run of stars and each `**/`.
 //!
 //! A verdict tells more than whether there is a match. So a failure after the last run of stars ends the search of the runs
-//! before it, and no pattern takes exponential time.
+//! before it, which is meant to keep the time from growing with each of them; no clause speaks of time.
 ghost use Rattle.std.specs.Prelude.{◌≡◌, ◌↔◌, IsTrue};
 ghost use Rattle.glob_rules.specs.Glob.{Matches, MatchesFrom};
 ghost use Rattle.glob_rules.specs.Verdict as verdicts;

@@ -1,4 +1,4 @@
-use Rattle.std.proofs.Common.{◌≡◌, ◌==◌, take, ap, sym, ◌∙◌, ℕ, List, ◌∷◌}
+use Rattle.std.proofs.Common.{◌==◌, take, ap, sym, ◌∙◌, ℕ, List, ◌∷◌}
 use Rattle.std.specs.List.{slice_split}
 use Rattle.glob_rules.specs.Marks.{comma}
 use Rattle.glob_rules.proofs.Places.{split_at_place, split_nowhere}
