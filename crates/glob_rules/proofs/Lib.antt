@@ -9,3 +9,4 @@ pub mod Shapes
 pub mod Fronts
 pub mod Stems
 pub mod Places
+pub mod Longest

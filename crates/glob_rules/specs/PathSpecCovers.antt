@@ -36,21 +36,21 @@ folded_rest case top [] = refl
 folded_rest case top (b ∷ rest) = some_if top (folded case b == 47) (b == 47) _ (map (folded case) rest) _ rest (folded_slash case b)
 
 -- a path beneath a directory is the directory's and a rest that makes it one
-record Parts (dir path : List ℕ) : Type 0 where
-  rest : List ℕ
-  whole : path ≡ dir ++ rest
-  deeper : is_some (rest_beneath (is_top dir) rest) ≡ true
+pub record Parts (dir path : List ℕ) : Type 0 where
+  pub rest : List ℕ
+  pub whole : path ≡ dir ++ rest
+  pub deeper : is_some (rest_beneath (is_top dir) rest) ≡ true
 
 some_then : (b : Bool) (found : Option (List ℕ)) → is_some (cond b found None) ≡ true → (b ≡ true) × (is_some found ≡ true)
 some_then true found h = (refl, h)
 some_then false found h = absurd (false≢true h)
 
-parts : (dir path : List ℕ) → lies_beneath dir path ≡ true → Parts dir path
+pub parts : (dir path : List ℕ) → lies_beneath dir path ≡ true → Parts dir path
 parts dir path h =
     let both = some_then (starts_with nat_eq path dir) (rest_beneath (is_top dir) (drop (length dir) path)) h in
     record { rest = drop (length dir) path; whole = (starts_is Decides-eqb path dir (starts_with nat_eq path dir) refl).0 both.0; deeper = both.1 }
 
-of_parts : (dir rest : List ℕ) → is_some (rest_beneath (is_top dir) rest) ≡ true → lies_beneath dir (dir ++ rest) ≡ true
+pub of_parts : (dir rest : List ℕ) → is_some (rest_beneath (is_top dir) rest) ≡ true → lies_beneath dir (dir ++ rest) ≡ true
 of_parts dir rest h =
     let begins = (starts_is Decides-eqb (dir ++ rest) dir (starts_with nat_eq (dir ++ rest) dir) refl).1 rest refl in
     ap is_some (cond-true (starts_with nat_eq (dir ++ rest) dir) (rest_beneath (is_top dir) (drop (length dir) (dir ++ rest))) None begins)
@@ -69,7 +69,7 @@ deeper_still : (top : Bool) (rest more : List ℕ) → is_some (rest_beneath top
 deeper_still top [] more h = absurd (false≢true h)
 deeper_still top (b ∷ rest) more h = some_if top (b == 47) (b == 47) _ (rest ++ more) _ rest refl ∙ h
 
-beneath_trans : (top dir path : List ℕ) → lies_beneath top dir ≡ true → lies_beneath dir path ≡ true → lies_beneath top path ≡ true
+pub beneath_trans : (top dir path : List ℕ) → lies_beneath top dir ≡ true → lies_beneath dir path ≡ true → lies_beneath top path ≡ true
 beneath_trans top dir path h k =
     let p = parts top dir h in
     let q = parts dir path k in

@@ -2,7 +2,7 @@
 --
 -- The excluding specs are asked first, in order, then the positive ones. Where no spec is positive, all is matched that none
 -- excludes. What a walk may leave out it knows from the stems of the positive specs.
-use Rattle.std.specs.Prelude.{ℕ, zero, suc, ◌+◌, Bool, true, false, not, ◌&&◌, ◌||◌, List, [], ◌∷◌, length, map, take, filter, Option, Some, None, option_map, if◌then◌else◌}
+use Rattle.std.specs.Prelude.{ℕ, zero, suc, ◌+◌, ◌≤◌, IsTrue, Bool, true, false, not, ◌&&◌, ◌||◌, List, [], ◌∷◌, length, map, take, filter, Option, Some, None, option_map, if◌then◌else◌}
 use Rattle.std.specs.Bool.{beq}
 use Rattle.std.specs.List.{list_any, list_all}
 use Rattle.std.specs.Option.{option_or}
@@ -75,6 +75,10 @@ is_common paths front = list_all (is_path_prefix Sensitive front) paths
 abbrev pub common_front : List (List ℕ) → List ℕ
 common_front [] = []
 common_front (path ∷ paths) = longest_front (is_common (path ∷ paths)) path (length path)
+
+-- a path is a prefix of each of these, and none that is has more bytes
+abbrev pub IsLongestCommon : List (List ℕ) → List ℕ → Type 0
+IsLongestCommon paths front = IsTrue (is_common paths front) × ((other : List ℕ) → IsTrue (is_common paths other) → length other ≤ length front)
 
 -- a path, unless it is empty
 abbrev pub some_path : List ℕ → Option (List ℕ)

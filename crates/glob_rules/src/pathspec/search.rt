@@ -1,9 +1,9 @@
 //! A list of path specs.
-ghost use Rattle.std.specs.Prelude.{◌≡◌, ◌&&◌, ◌||◌, not, []};
+ghost use Rattle.std.specs.Prelude.{◌≡◌, ◌&&◌, ◌||◌, not, [], IsTrue, option_copied, unwrap_or};
 ghost use Rattle.std.specs.List.{list_any};
 ghost use Rattle.glob_rules.specs.PathSpec.{PathSpec, is_path_prefix, stem};
 ghost use Rattle.glob_rules.specs.PathSpecs as lists;
-ghost use Rattle.glob_rules.specs.PathSpecs.{list_match, can_match};
+ghost use Rattle.glob_rules.specs.PathSpecs.{IsLongestCommon, can_match, list_match, stems};
 ghost use Rattle.glob_rules.specs.PathSpecCovers.{covered_beneath};
 
 use super::common::{common_directory, common_length, has_positive};
@@ -117,7 +117,10 @@ impl Matcher for Search {
         !has_positive(&self.specs) || some_covers(&self.specs, dir, leading)
     }
 
-    fn longest_common_directory(&self) -> Option<&[u8]> {
+    fn longest_common_directory(&self) -> Option<&[u8]>
+        ensures value { option_copied result ≡ lists.common_directory self.now }
+        ensures longest { IsTrue (lists.has_positive self.now) → IsLongestCommon (stems self.now) (unwrap_or (option_copied result) []) }
+    {
         common_directory(&self.specs, self.common_length)
     }
 
