@@ -10,3 +10,5 @@ pub mod Fronts
 pub mod Stems
 pub mod Places
 pub mod Longest
+pub mod Led
+pub mod Matched

@@ -1,9 +1,9 @@
 //! A list of path specs.
-ghost use Rattle.std.specs.Prelude.{◌≡◌, ◌&&◌, ◌||◌, not, [], IsTrue, option_copied, unwrap_or};
+ghost use Rattle.std.specs.Prelude.{◌≡◌, ◌&&◌, ◌||◌, not, [], false, IfSome, IsTrue, option_copied, unwrap_or};
 ghost use Rattle.std.specs.List.{list_any};
 ghost use Rattle.glob_rules.specs.PathSpec.{PathSpec, is_path_prefix, stem};
 ghost use Rattle.glob_rules.specs.PathSpecs as lists;
-ghost use Rattle.glob_rules.specs.PathSpecs.{IsLongestCommon, can_match, list_match, stems};
+ghost use Rattle.glob_rules.specs.PathSpecs.{IsLongestCommon, can_match, stems};
 ghost use Rattle.glob_rules.specs.PathSpecCovers.{covered_beneath};
 
 use super::common::{common_directory, common_length, has_positive};
@@ -57,6 +57,19 @@ fn otherwise(specs: &[Spec]) -> Option<Match>
     })
 }
 
+/// How a list matches a path: by the first spec that excludes it, else by the first positive one that matches it.
+fn list_match(specs: &[Spec], path: &[u8], is_dir: Option<bool>) -> Option<Match>
+    ensures { result ≡ lists.list_match specs.now path.now is_dir }
+{
+    if let Some(found) = first_match(specs, true, path, is_dir) {
+        return Some(found);
+    }
+    if let Some(found) = first_match(specs, false, path, is_dir) {
+        return Some(found);
+    }
+    otherwise(specs)
+}
+
 /// Whether some spec is positive, and the path or something beneath it may be matched.
 fn some_may_lead(specs: &[Spec], path: &[u8]) -> bool
     ensures { result ≡ list_any (λ (spec : PathSpec). not spec.is_excluded && (is_path_prefix spec.case (stem spec) path.now || is_path_prefix spec.case path.now (stem spec))) specs.now }
@@ -89,7 +102,7 @@ impl Search {
 impl Matcher for Search {
     ghost can = { λ specs path is_dir. can_match specs path };
 
-    ghost matched = { list_match };
+    ghost matched = { lists.list_match };
 
     ghost covers = { lists.covers };
 
@@ -103,14 +116,11 @@ impl Matcher for Search {
         !has_positive(&self.specs) || some_may_lead(&self.specs, path)
     }
 
-    fn pattern_matching_relative_path(&self, path: &[u8], is_dir: Option<bool>) -> Option<Match> {
-        if let Some(found) = first_match(&self.specs, true, path, is_dir) {
-            return Some(found);
-        }
-        if let Some(found) = first_match(&self.specs, false, path, is_dir) {
-            return Some(found);
-        }
-        otherwise(&self.specs)
+    fn pattern_matching_relative_path(&self, path: &[u8], is_dir: Option<bool>) -> Option<Match>
+        ensures value { result ≡ lists.list_match self.now path.now is_dir }
+        ensures can { IfSome result (λ found. found.excluded ≡ false → IsTrue (can_match self.now path.now)) }
+    {
+        list_match(&self.specs, path, is_dir)
     }
 
     fn directory_matches_prefix(&self, dir: &[u8], leading: bool) -> bool {
