@@ -1,9 +1,8 @@
 //! A list of path specs.
-ghost use Rattle.std.specs.Prelude.{◌≡◌, ◌&&◌, ◌||◌, not, [], false, IfSome, IsTrue, option_copied, unwrap_or};
+ghost use Rattle.std.specs.Prelude.{◌≡◌, [], false, IfSome, IsTrue, option_copied, unwrap_or};
 ghost use Rattle.std.specs.List.{list_any};
-ghost use Rattle.glob_rules.specs.PathSpec.{PathSpec, is_path_prefix, stem};
 ghost use Rattle.glob_rules.specs.PathSpecs as lists;
-ghost use Rattle.glob_rules.specs.PathSpecs.{IsLongestCommon, can_match, stems};
+ghost use Rattle.glob_rules.specs.PathSpecs.{IsLongestCommon, can_match, leads, spec_covers, stems};
 ghost use Rattle.glob_rules.specs.PathSpecCovers.{covered_beneath};
 
 use super::common::{common_directory, common_length, has_positive};
@@ -72,14 +71,14 @@ fn list_match(specs: &[Spec], path: &[u8], is_dir: Option<bool>) -> Option<Match
 
 /// Whether some spec is positive, and the path or something beneath it may be matched.
 fn some_may_lead(specs: &[Spec], path: &[u8]) -> bool
-    ensures { result ≡ list_any (λ (spec : PathSpec). not spec.is_excluded && (is_path_prefix spec.case (stem spec) path.now || is_path_prefix spec.case path.now (stem spec))) specs.now }
+    ensures { result ≡ list_any (leads path.now) specs.now }
 {
     specs.iter().any(|spec| spec.may_lead(path))
 }
 
 /// Whether some spec is positive, and all beneath the directory may be matched; with `leading`, also whether something may.
 fn some_covers(specs: &[Spec], dir: &[u8], leading: bool) -> bool
-    ensures { result ≡ list_any (λ (spec : PathSpec). not spec.is_excluded && (is_path_prefix spec.case (stem spec) dir.now || (leading && is_path_prefix spec.case dir.now (stem spec)))) specs.now }
+    ensures { result ≡ list_any (spec_covers dir.now leading) specs.now }
 {
     specs.iter().any(|spec| spec.covers(dir, leading))
 }
