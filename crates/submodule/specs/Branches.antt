@@ -1,0 +1,50 @@
+-- Which texts name a branch of the remote.
+--
+-- `.` is the branch that is checked out in the superproject. Any other text is read as what is fetched: behind one optional
+-- `+`, what stands before the first `:` is the name, and no name is `HEAD`. A name is refused where git's rules for the
+-- names of references refuse it.
+use Rattle.std.specs.Prelude.{ℕ, List, [], ◌∷◌, codes, bytes_eq, Bool, nat_eq, nat_le, ◌==◌, ◌||◌, count_by, Option, Some, None, Result, Ok, Err, if◌then◌else◌}
+use Rattle.std.specs.List.{list_any, starts_with, ends_with}
+use Rattle.submodule.specs.Texts.{is_empty, before, has_pair}
+use Rattle.submodule.specs.declared.branch.Branch.{Branch}
+use Rattle.submodule.specs.declared.branch.Branch.TheVariants.{CurrentInSuperproject, Name}
+
+-- a control byte, a blank, or one of `~ ^ ? [ \`
+abbrev pub is_bad_byte : ℕ → Bool
+is_bad_byte b = nat_le b 32 || (b == 127 || (b == 126 || (b == 94 || (b == 63 || (b == 91 || b == 92)))))
+
+-- `..`, `@{`, `//`, or a component behind a slash that begins with a dot
+abbrev pub has_bad_pair : List ℕ → Bool
+has_bad_pair name = has_pair 46 46 name || (has_pair 64 123 name || (has_pair 47 47 name || has_pair 47 46 name))
+
+-- a slash or a dot at the start
+abbrev pub has_bad_start : List ℕ → Bool
+has_bad_start name = starts_with nat_eq name (codes "/") || starts_with nat_eq name (codes ".")
+
+-- a slash, a dot or `.lock` at the end
+abbrev pub has_bad_end : List ℕ → Bool
+has_bad_end name = ends_with nat_eq name (codes "/") || (ends_with nat_eq name (codes ".") || ends_with nat_eq name (codes ".lock"))
+
+-- two stars
+abbrev pub has_stars : List ℕ → Bool
+has_stars name = nat_le 2 (count_by (λ b. b == 42) name)
+
+abbrev pub is_bad_name : List ℕ → Bool
+is_bad_name name = list_any is_bad_byte name || (has_bad_pair name || (has_bad_start name || (has_bad_end name || has_stars name)))
+
+abbrev pub without_plus : List ℕ → List ℕ
+without_plus [] = []
+without_plus (b ∷ text) = if b == 43 then text else b ∷ text
+
+abbrev pub fetched : List ℕ → List ℕ
+fetched text = before 58 (without_plus text)
+
+abbrev pub branch_named : List ℕ → Option Branch
+branch_named name =
+    if is_empty name then Some (Name (codes "HEAD"))
+    else if is_bad_name name then None
+    else Some (Name name)
+
+-- the branch that a text names; none where it names none
+abbrev pub branch_of : List ℕ → Option Branch
+branch_of text = if bytes_eq text (codes ".") then Some CurrentInSuperproject else branch_named (fetched text)

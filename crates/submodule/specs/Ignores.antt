@@ -1,0 +1,12 @@
+-- The words of `ignore`: which changes of a submodule a status leaves out.
+use Rattle.std.specs.Prelude.{ℕ, List, codes, bytes_eq, Option, Some, None, if◌then◌else◌}
+use Rattle.submodule.specs.declared.ignore.Ignore.{Ignore}
+use Rattle.submodule.specs.declared.ignore.Ignore.TheVariants as ignore
+
+abbrev pub ignore_of : List ℕ → Option Ignore
+ignore_of text =
+    if bytes_eq text (codes "all") then Some ignore.All
+    else if bytes_eq text (codes "dirty") then Some ignore.Dirty
+    else if bytes_eq text (codes "untracked") then Some ignore.Untracked
+    else if bytes_eq text (codes "none") then Some ignore.None
+    else None

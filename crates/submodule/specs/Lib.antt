@@ -1,0 +1,9 @@
+pub mod Texts
+pub mod Ignores
+pub mod Recursions
+pub mod Branches
+pub mod Updates
+pub mod Urls
+pub mod Digits
+pub mod Seen
+pub mod Gives

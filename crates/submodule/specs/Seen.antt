@@ -1,0 +1,23 @@
+-- What the structs hold that borrow from a text.
+use Rattle.std.specs.Prelude.{ℕ, List, Option, Some, None, option_copied, Result, Ok, Err}
+use Rattle.std.specs.Borrow.{Bor}
+use Rattle.submodule.specs.declared.url.Url.{Url}
+use Rattle.submodule.specs.declared.url.UrlError.{UrlError}
+use Rattle.submodule.specs.declared.url_parts.UrlParts.{UrlParts}
+use Rattle.submodule.specs.declared.url_parts.HostAndPort.{HostAndPort}
+use Rattle.submodule.specs.Urls.{Place, place_at}
+
+abbrev pub url : UrlParts → Url
+url p = record { scheme = p.scheme.now; user = option_copied p.user; password = option_copied p.password; host = option_copied p.host; port = p.port; path = p.path.now }
+
+abbrev pub url_or_refused : Result UrlParts UrlError → Result Url UrlError
+url_or_refused (Ok p) = Ok (url p)
+url_or_refused (Err e) = Err e
+
+abbrev pub place : HostAndPort → Place
+place p = place_at p.host.now p.port.now
+
+-- two parts of a text
+abbrev pub pair : Option (Bor (List ℕ) × Bor (List ℕ)) → Option (List ℕ × List ℕ)
+pair None = None
+pair (Some split) = Some (split.0.now, split.1.now)

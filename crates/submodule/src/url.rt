@@ -1,0 +1,90 @@
+//! The url of a submodule.
+ghost use Rattle.std.specs.Prelude.{◌≡◌, option_copied, IfOk};
+ghost use Rattle.submodule.specs.Urls.{url_of};
+ghost use Rattle.submodule.specs.Gives.{UrlGives};
+ghost use Rattle.submodule.specs.Seen as seen;
+
+use crate::url_parts::{UrlParts, parts_of};
+use gitbase_core::{Bytes, OutOfMemory};
+use std::alloc::Global;
+
+/// The parts of a url.
+#[derive(Debug, Drop, PartialEq, Eq)]
+pub struct Url {
+    /// `ssh` for `host:path`, and `file` for a path on this machine.
+    pub scheme: Bytes,
+    /// The user, where there is one; it may be empty.
+    pub user: Option<Bytes>,
+    /// The password, where there is one; it may be empty.
+    pub password: Option<Bytes>,
+    /// The host, with the brackets around it; none where it is empty.
+    pub host: Option<Bytes>,
+    /// The port, where there is one.
+    pub port: Option<u16>,
+    /// The rest. With `://` it begins with a slash or is empty.
+    pub path: Bytes,
+}
+
+/// Why a text is no url.
+#[derive(Clone, Copy, Debug, PartialEq, Eq, thiserror::Error)]
+pub enum UrlError {
+    /// It has no host, and its scheme needs one.
+    #[error("EmptyHost")]
+    EmptyHost,
+    /// The port is no number from 0 to 65535.
+    #[error("Port")]
+    Port,
+    /// Want of memory.
+    #[error("OutOfMemory")]
+    OutOfMemory,
+}
+
+impl From<OutOfMemory> for UrlError {
+    ghost use Rattle.std.specs.Prelude.{◌≡◌};
+    ghost use Rattle.submodule.specs.declared.url.UrlError.TheVariants as errors;
+
+    ghost from_gives = { λ _ e. e ≡ errors.OutOfMemory };
+
+    fn from(_refused: OutOfMemory) -> UrlError {
+        UrlError::OutOfMemory
+    }
+}
+
+impl Url {
+    /// The parts of a url.
+    ///
+    /// A scheme, which is a letter and then letters, digits, `+`, `.` and `-`, is followed by `://`, the authority up to
+    /// the first `/`, and the path. Else a text whose first `:` has some byte before it and no `/` is `[user@]host:path`
+    /// over ssh, and any other one a path on this machine. `EmptyHost` comes exactly where http, https, ssh or git have no
+    /// host, and `Port` exactly where there is one and the port is no number from 0 to 65535; an empty port is none.
+    pub fn parse(alloc: Global, text: &[u8]) -> Result<Url, UrlError>
+        ensures { UrlGives result (url_of text.now) }
+    {
+        let parts = parts_of(text)?;
+        Ok(copied(alloc, parts)?)
+    }
+}
+
+/// A copy of a text, where there is one.
+fn copied_text(alloc: Global, text: Option<&[u8]>) -> Result<Option<Bytes>, OutOfMemory>
+    ensures { IfOk result (λ copy. copy ≡ option_copied text.entry) }
+{
+    match text {
+        Some(text) => Ok(Some(Bytes::from_slice(alloc, text)?)),
+        None => Ok(None),
+    }
+}
+
+/// A url of its own.
+fn copied(alloc: Global, parts: UrlParts<'_>) -> Result<Url, OutOfMemory>
+    ensures { IfOk result (λ url. url ≡ seen.url parts.entry) }
+{
+    Ok(Url {
+        scheme: Bytes::from_slice(alloc, parts.scheme)?,
+        user: copied_text(alloc, parts.user)?,
+        password: copied_text(alloc, parts.password)?,
+        host: copied_text(alloc, parts.host)?,
+        port: parts.port,
+        path: Bytes::from_slice(alloc, parts.path)?,
+    })
+}
