@@ -1,5 +1,5 @@
 -- What may be added to a configuration, and what it is then.
-use Rattle.std.specs.Prelude.{ℕ, List, [], ◌∷◌, ◌++◌, Bool, not, ◌==◌, ◌&&◌, ◌||◌, Some}
+use Rattle.std.specs.Prelude.{ℕ, List, [], ◌∷◌, ◌++◌, Bool, ◌&&◌, Some}
 use Rattle.std.specs.List.{list_all}
 use Rattle.git_config_lite.specs.Texts.{is_letter, is_key_byte, is_name_byte, begins}
 use Rattle.git_config_lite.specs.declared.entry.Entry.{Entry}
@@ -8,10 +8,6 @@ use Rattle.git_config_lite.specs.Sections.{Section, Configuration, empty_section
 -- the name of a section: letters, digits, hyphens and dots, and at least one of them
 abbrev pub is_name : List ℕ → Bool
 is_name name = begins is_name_byte name && list_all is_name_byte name
-
--- the text of a subsection has no LF and no NUL
-abbrev pub is_subsection_text : List ℕ → Bool
-is_subsection_text text = list_all (λ b. not (b == 10 || b == 0)) text
 
 -- a key: a letter, and then letters, digits and hyphens
 abbrev pub is_key_name : List ℕ → Bool

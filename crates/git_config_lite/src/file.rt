@@ -155,16 +155,15 @@ impl File {
 
     /// Adds an empty section with a subsection at the end, read where this configuration was read.
     ///
-    /// A name has letters, digits, hyphens and dots, and is not empty; a subsection has no LF and no NUL. The
-    /// configuration stays as it was where memory is refused.
+    /// A name has letters, digits, hyphens and dots, and is not empty. A subsection is any bytes; one that is read has no
+    /// LF and no NUL. The configuration stays as it was where memory is refused.
     pub fn push_section(
         &mut self,
         alloc: Global,
         name: &[u8],
         subsection: &[u8],
     ) -> Result<(), OutOfMemory>
-        requires name { IsTrue (writers.is_name name.now) }
-        requires subsection { IsTrue (writers.is_subsection_text subsection.now) }
+        requires { IsTrue (writers.is_name name.now) }
         ensures pushed { OnOk result (self.new ≡ writers.with_section self.old name.now subsection.now) }
         ensures refused { OnErr result (self.new ≡ self.old) }
     {

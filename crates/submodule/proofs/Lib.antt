@@ -1,1 +1,3 @@
 mod Ports
+mod OneSection
+mod KeptNames

@@ -31,7 +31,6 @@ fits_in : (m : ℕ) → nat_le m 65535 ≡ true → m ≤ 65535
 fits_in m yes_fits = grind (arith, nat_tests)
 
 pub small_from-is : (n : ℕ) (text : List ℕ) → n ≤ 65535 → small_from n text ≡ small_number n text
-
 small_from-is n [] fits = ends n fits
 small_from-is n (d ∷ digits) fits =
     let m : ℕ = n * 10 + (d - 48) in

@@ -5,5 +5,11 @@ pub mod Branches
 pub mod Updates
 pub mod Urls
 pub mod Digits
+pub mod Names
+pub mod Overrides
+pub mod Building
+pub mod Access
+pub mod InitErrors
+pub mod Answers
 pub mod Seen
 pub mod Gives

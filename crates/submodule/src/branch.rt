@@ -1,10 +1,15 @@
 //! The branch of a submodule.
-ghost use Rattle.std.specs.Prelude.{◌≡◌, ◌==◌, codes, count_by, option_map, IfOk};
+ghost use Rattle.std.specs.Prelude.{◌≡◌, ◌==◌, codes, count_by, option_copied, IfOk};
 ghost use Rattle.std.specs.List.{list_any};
 ghost use Rattle.submodule.specs.Branches as branches;
 ghost use Rattle.submodule.specs.Gives.{BranchGives};
+ghost use Rattle.submodule.specs.Access as access;
+ghost use Rattle.submodule.specs.Answers as answers;
 ghost use Rattle.submodule.specs.declared.branch.Branch.TheVariants as variants;
+ghost use Rattle.submodule.specs.declared.branch.Error.TheVariants as refusals;
+ghost use Rattle.submodule.specs.declared.branch.RefspecError.TheVariants as refspec_errors;
 
+use crate::shown::shown;
 use crate::text::{before, has_pair};
 use gitbase_core::{Bytes, OutOfMemory};
 use std::alloc::Global;
@@ -31,12 +36,38 @@ pub enum RefspecError {
 
 impl From<OutOfMemory> for RefspecError {
     ghost use Rattle.std.specs.Prelude.{◌≡◌};
-    ghost use Rattle.submodule.specs.declared.branch.RefspecError.TheVariants as errors;
+    ghost use Rattle.submodule.specs.declared.branch.RefspecError.TheVariants as refspec_errors;
 
-    ghost from_gives = { λ _ e. e ≡ errors.OutOfMemory };
+    ghost from_gives = { λ _ e. e ≡ refspec_errors.OutOfMemory };
 
     fn from(_refused: OutOfMemory) -> RefspecError {
         RefspecError::OutOfMemory
+    }
+}
+
+/// Why a submodule has no branch.
+#[derive(Debug, Drop, PartialEq, Eq, thiserror::Error)]
+pub enum Error {
+    /// Its value names none.
+    #[error("The value '{}' of the 'branch' field of submodule '{}' couldn't be turned into a valid fetch refspec", shown(.actual), shown(.submodule))]
+    Refspec {
+        submodule: Bytes,
+        actual: Bytes,
+        source: RefspecError,
+    },
+    /// Want of memory.
+    #[error("OutOfMemory")]
+    OutOfMemory,
+}
+
+impl From<OutOfMemory> for Error {
+    ghost use Rattle.std.specs.Prelude.{◌≡◌};
+    ghost use Rattle.submodule.specs.declared.branch.Error.TheVariants as refusals;
+
+    ghost from_gives = { λ _ e. e ≡ refusals.OutOfMemory };
+
+    fn from(_refused: OutOfMemory) -> Error {
+        Error::OutOfMemory
     }
 }
 
@@ -149,4 +180,32 @@ fn is_bad_name(name: &[u8]) -> bool
         || has_bad_start(name)
         || has_bad_end(name)
         || has_stars(name)
+}
+
+fn refused(alloc: Global, name: &[u8], value: &[u8]) -> Result<Error, OutOfMemory>
+    ensures { IfOk result (λ e. e ≡ refusals.Refspec name.now value.now refspec_errors.Invalid) }
+{
+    Ok(Error::Refspec {
+        submodule: Bytes::from_slice(alloc, name)?,
+        actual: Bytes::from_slice(alloc, value)?,
+        source: RefspecError::Invalid,
+    })
+}
+
+/// The branch that a value names, if there is one.
+pub(crate) fn branch_of(
+    alloc: Global,
+    name: &[u8],
+    value: Option<&[u8]>,
+) -> Result<Option<Branch>, Error>
+    ensures { answers.BranchOfGives result (access.branch_by name.now (option_copied value.entry)) }
+{
+    let Some(value) = value else {
+        return Ok(None);
+    };
+    match Branch::try_from(alloc, value) {
+        Ok(branch) => Ok(Some(branch)),
+        Err(RefspecError::Invalid) => Err(refused(alloc, name, value)?),
+        Err(RefspecError::OutOfMemory) => Err(Error::OutOfMemory),
+    }
 }

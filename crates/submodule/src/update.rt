@@ -1,8 +1,15 @@
 //! How a submodule is brought up to date.
-ghost use Rattle.std.specs.Prelude.{◌≡◌};
+ghost use Rattle.std.specs.Prelude.{◌≡◌, option_map, IfOk};
+ghost use Rattle.git_config_lite.specs.Seen.{text_and_source};
 ghost use Rattle.submodule.specs.Updates as updates;
 ghost use Rattle.submodule.specs.Gives.{UpdateGives};
+ghost use Rattle.submodule.specs.Names as names;
+ghost use Rattle.submodule.specs.Access as access;
+ghost use Rattle.submodule.specs.Answers as answers;
+ghost use Rattle.submodule.specs.declared.update.Error.TheVariants as refusals;
 
+use crate::shown::shown;
+use git_config_lite::Source;
 use gitbase_core::{Bytes, OutOfMemory};
 use std::alloc::Global;
 
@@ -44,6 +51,31 @@ impl From<OutOfMemory> for UpdateParseError {
     }
 }
 
+/// Why a submodule has no update.
+#[derive(Debug, Drop, PartialEq, Eq, thiserror::Error)]
+pub enum Error {
+    /// Its value is none of the words.
+    #[error("The 'update' field of submodule '{}' was invalid: '{}'", shown(.submodule), shown(.actual))]
+    Invalid { submodule: Bytes, actual: Bytes },
+    /// `.gitmodules` asks for a command.
+    #[error("The 'update' field of submodule '{}' tried to set command '{}' to be shared", shown(.submodule), shown(.actual))]
+    CommandForbiddenInModulesConfiguration { submodule: Bytes, actual: Bytes },
+    /// Want of memory.
+    #[error("OutOfMemory")]
+    OutOfMemory,
+}
+
+impl From<OutOfMemory> for Error {
+    ghost use Rattle.std.specs.Prelude.{◌≡◌};
+    ghost use Rattle.submodule.specs.declared.update.Error.TheVariants as refusals;
+
+    ghost from_gives = { λ _ e. e ≡ refusals.OutOfMemory };
+
+    fn from(_refused: OutOfMemory) -> Error {
+        Error::OutOfMemory
+    }
+}
+
 impl Update {
     /// What a text says: `checkout`, `rebase`, `merge` or `none`, byte for byte, or a command behind a `!`. `Invalid`
     /// comes exactly for any other text.
@@ -71,5 +103,71 @@ fn command(alloc: Global, value: &[u8]) -> Result<Update, UpdateParseError>
     match value {
         [b'!', text @ ..] => Ok(Update::Command(Bytes::from_slice(alloc, text)?)),
         _ => Err(UpdateParseError::Invalid),
+    }
+}
+
+fn invalid(alloc: Global, name: &[u8], value: &[u8]) -> Result<Error, OutOfMemory>
+    ensures { IfOk result (λ e. e ≡ refusals.Invalid name.now value.now) }
+{
+    Ok(Error::Invalid {
+        submodule: Bytes::from_slice(alloc, name)?,
+        actual: Bytes::from_slice(alloc, value)?,
+    })
+}
+
+fn forbidden(alloc: Global, name: &[u8], command: Bytes) -> Result<Error, OutOfMemory>
+    ensures { IfOk result (λ e. e ≡ refusals.CommandForbiddenInModulesConfiguration name.now command) }
+{
+    Ok(Error::CommandForbiddenInModulesConfiguration {
+        submodule: Bytes::from_slice(alloc, name)?,
+        actual: command,
+    })
+}
+
+/// Whether a section is one of `.gitmodules`.
+pub(crate) fn is_modules(source: Source) -> bool
+    ensures { result ≡ names.is_modules source }
+{
+    matches!(source, Source::Modules)
+}
+
+/// An update that a value says, unless it is a command of `.gitmodules`.
+fn allowed(alloc: Global, name: &[u8], source: Source, update: Update) -> Result<Update, Error>
+    ensures { answers.UpdateOfGives result (access.allowed name.now source update) }
+{
+    match update {
+        Update::Command(command) => {
+            if is_modules(source) {
+                Err(forbidden(alloc, name, command)?)
+            } else {
+                Ok(Update::Command(command))
+            }
+        }
+        other => Ok(other),
+    }
+}
+
+/// The update that a value says.
+fn given(alloc: Global, name: &[u8], value: &[u8], source: Source) -> Result<Update, Error>
+    ensures { answers.UpdateOfGives result (access.update_from name.now value.now source (updates.update_of value.now)) }
+{
+    match Update::try_from(alloc, value) {
+        Ok(update) => allowed(alloc, name, source, update),
+        Err(UpdateParseError::Invalid) => Err(invalid(alloc, name, value)?),
+        Err(UpdateParseError::OutOfMemory) => Err(Error::OutOfMemory),
+    }
+}
+
+/// The update that a value says, if there is one.
+pub(crate) fn update_of(
+    alloc: Global,
+    name: &[u8],
+    found: Option<(&[u8], Source)>,
+) -> Result<Option<Update>, Error>
+    ensures { answers.UpdateOfGives result (access.update_by name.now (option_map text_and_source found.entry)) }
+{
+    match found {
+        Some((value, source)) => Ok(Some(given(alloc, name, value, source)?)),
+        None => Ok(None),
     }
 }

@@ -3,7 +3,11 @@ ghost use Rattle.std.specs.Prelude.{◌≡◌, option_copied, IfOk};
 ghost use Rattle.submodule.specs.Urls.{url_of};
 ghost use Rattle.submodule.specs.Gives.{UrlGives};
 ghost use Rattle.submodule.specs.Seen as seen;
+ghost use Rattle.submodule.specs.Access as access;
+ghost use Rattle.submodule.specs.Answers as answers;
+ghost use Rattle.submodule.specs.declared.url.Error.TheVariants as refusals;
 
+use crate::shown::shown;
 use crate::url_parts::{UrlParts, parts_of};
 use gitbase_core::{Bytes, OutOfMemory};
 use std::alloc::Global;
@@ -50,6 +54,31 @@ impl From<OutOfMemory> for UrlError {
     }
 }
 
+/// Why a submodule has no url.
+#[derive(Debug, Drop, PartialEq, Eq, thiserror::Error)]
+pub enum Error {
+    /// Its url is not set, or empty.
+    #[error("The submodule '{}' was missing its 'url' field or it was empty", shown(.submodule))]
+    Missing { submodule: Bytes },
+    /// Its url is none.
+    #[error("The url of submodule '{}' could not be parsed", shown(.submodule))]
+    Parse { submodule: Bytes, source: UrlError },
+    /// Want of memory.
+    #[error("OutOfMemory")]
+    OutOfMemory,
+}
+
+impl From<OutOfMemory> for Error {
+    ghost use Rattle.std.specs.Prelude.{◌≡◌};
+    ghost use Rattle.submodule.specs.declared.url.Error.TheVariants as refusals;
+
+    ghost from_gives = { λ _ e. e ≡ refusals.OutOfMemory };
+
+    fn from(_refused: OutOfMemory) -> Error {
+        Error::OutOfMemory
+    }
+}
+
 impl Url {
     /// The parts of a url.
     ///
@@ -87,4 +116,46 @@ fn copied(alloc: Global, parts: UrlParts<'_>) -> Result<Url, OutOfMemory>
         port: parts.port,
         path: Bytes::from_slice(alloc, parts.path)?,
     })
+}
+
+fn missing(alloc: Global, name: &[u8]) -> Result<Error, OutOfMemory>
+    ensures { IfOk result (λ e. e ≡ refusals.Missing name.now) }
+{
+    Ok(Error::Missing {
+        submodule: Bytes::from_slice(alloc, name)?,
+    })
+}
+
+fn refused(alloc: Global, name: &[u8], source: UrlError) -> Result<Error, OutOfMemory>
+    ensures { IfOk result (λ e. e ≡ refusals.Parse name.now source) }
+{
+    Ok(Error::Parse {
+        submodule: Bytes::from_slice(alloc, name)?,
+        source,
+    })
+}
+
+/// The url that a value says.
+fn given(alloc: Global, name: &[u8], value: &[u8]) -> Result<Url, Error>
+    ensures { answers.UrlOfGives result (access.url_by name.now (Some value.now)) }
+{
+    if let [] = value {
+        return Err(missing(alloc, name)?);
+    }
+    match Url::parse(alloc, value) {
+        Ok(url) => Ok(url),
+        Err(UrlError::EmptyHost) => Err(refused(alloc, name, UrlError::EmptyHost)?),
+        Err(UrlError::Port) => Err(refused(alloc, name, UrlError::Port)?),
+        Err(UrlError::OutOfMemory) => Err(Error::OutOfMemory),
+    }
+}
+
+/// The url that a value says, if there is one.
+pub(crate) fn url_of(alloc: Global, name: &[u8], value: Option<&[u8]>) -> Result<Url, Error>
+    ensures { answers.UrlOfGives result (access.url_by name.now (option_copied value.entry)) }
+{
+    match value {
+        Some(value) => given(alloc, name, value),
+        None => Err(missing(alloc, name)?),
+    }
 }

@@ -1,0 +1,10 @@
+-- How a configuration that is refused is a `.gitmodules` that is.
+use Rattle.std.specs.Prelude.{ℕ}
+use Rattle.git_config_lite.specs.declared.error.ParseError.{ParseError}
+use Rattle.git_config_lite.specs.declared.error.ParseError.TheVariants as parse_errors
+use Rattle.submodule.specs.declared.init.Error.{Error}
+use Rattle.submodule.specs.declared.init.Error.TheVariants as init_errors
+
+abbrev pub init_error : ParseError → Error
+init_error (parse_errors.Syntax line) = init_errors.Parse line
+init_error parse_errors.OutOfMemory = init_errors.OutOfMemory

@@ -1,0 +1,105 @@
+//! What is said of a submodule.
+ghost use Rattle.std.specs.Prelude.{◌≡◌, ◌⊎◌, ℕ, List, Some, ◌∷◌, option_copied, IfOk, IfErr, IfSome, IsErrOf, IsTrue};
+ghost use Rattle.git_config_lite.specs.Gives.{truth_seen};
+ghost use Rattle.submodule.specs.Overrides as overrides;
+ghost use Rattle.submodule.specs.Access as access;
+ghost use Rattle.submodule.specs.Answers as answers;
+
+use crate::branch::Branch;
+use crate::fetch_recurse::FetchRecurse;
+use crate::field::FieldError;
+use crate::file::File;
+use crate::ignore::Ignore;
+use crate::update::Update;
+use crate::url::Url;
+use crate::{branch, field, path, update, url};
+use git_config_lite::ValueError;
+use std::alloc::Global;
+
+/// Every value is the last one that there is for a name, overrides included. Names are compared by their bytes; a name that
+/// is not told has no values.
+impl File {
+    /// The last value of a key of a submodule.
+    fn value(&self, name: &[u8], key: &[u8]) -> Option<&[u8]>
+        ensures { option_copied result ≡ overrides.value name.now key.now self.now.sections }
+    {
+        self.config().string(b"submodule", Some(name), key)
+    }
+
+    /// Where the submodule stands in the work tree: its `path`, as it is written.
+    ///
+    /// `Missing` comes exactly where it is not set or empty, `Absolute` where it begins with a slash, and
+    /// `OutsideOfWorktree` where it leads out of the work tree.
+    pub fn path(&self, alloc: Global, name: &[u8]) -> Result<&[u8], path::Error>
+        ensures value { answers.PathGives result (access.path name.now self.now.sections) }
+        ensures inside { IfOk result (λ path. IsTrue (access.is_path path.now)) }
+    {
+        path::path_of(alloc, name, self.value(name, b"path"))
+    }
+
+    /// Where the submodule is fetched from: the parts of its `url`.
+    ///
+    /// `Missing` comes exactly where it is not set or empty, and `Parse` where `Url::parse` refuses it, with its refusal.
+    pub fn url(&self, alloc: Global, name: &[u8]) -> Result<Url, url::Error>
+        ensures { answers.UrlOfGives result (access.url name.now self.now.sections) }
+    {
+        url::url_of(alloc, name, self.value(name, b"url"))
+    }
+
+    /// How the submodule is brought up to date: its `update`, if it is set.
+    ///
+    /// `Invalid` comes exactly where it is none of the words and no command, and `CommandForbiddenInModulesConfiguration`
+    /// exactly where it is a command and stands in `.gitmodules`. So a command is given only if a configuration asks for it.
+    pub fn update(&self, alloc: Global, name: &[u8]) -> Result<Option<Update>, update::Error>
+        ensures value { answers.UpdateOfGives result (access.update name.now self.now.sections) }
+        ensures command { IfOk result (λ update. IfSome update (access.IsAllowed (access.found_update name.now self.now.sections))) }
+        ensures forbidden { IfErr result (access.IsForbidden (access.found_update name.now self.now.sections)) }
+    {
+        update::update_of(
+            alloc,
+            name,
+            self.config()
+                .string_with_source(b"submodule", Some(name), b"update"),
+        )
+    }
+
+    /// The branch that the submodule follows: its `branch`, if it is set. `Refspec` comes exactly where `Branch::try_from`
+    /// refuses it.
+    pub fn branch(&self, alloc: Global, name: &[u8]) -> Result<Option<Branch>, branch::Error>
+        ensures { answers.BranchOfGives result (access.branch name.now self.now.sections) }
+    {
+        branch::branch_of(alloc, name, self.value(name, b"branch"))
+    }
+
+    /// Whether a fetch goes on into the submodule: its `fetchRecurseSubmodules`, if it is set. Where it is not,
+    /// `fetch.recurseSubmodules` decides. `Invalid` comes exactly where it is no boolean and not `on-demand`.
+    pub fn fetch_recurse(
+        &self,
+        alloc: Global,
+        name: &[u8],
+    ) -> Result<Option<FetchRecurse>, FieldError>
+        ensures { answers.FieldGives result (access.fetch_recurse name.now self.now.sections) }
+    {
+        let said = FetchRecurse::new(
+            self.config()
+                .boolean(b"submodule", Some(name), b"fetchRecurseSubmodules"),
+        );
+        field::recurse_of(alloc, name, said)
+    }
+
+    /// Which changes of the submodule a status leaves out: its `ignore`, if it is set. `Invalid` comes exactly where it is
+    /// none of the words.
+    pub fn ignore(&self, alloc: Global, name: &[u8]) -> Result<Option<Ignore>, FieldError>
+        ensures { answers.FieldGives result (access.ignore name.now self.now.sections) }
+    {
+        field::ignore_of(alloc, name, self.value(name, b"ignore"))
+    }
+
+    /// Whether only the newest commit of the submodule is fetched: its `shallow`, if it is set. The error has the text of a
+    /// value that is no boolean.
+    pub fn shallow(&self, name: &[u8]) -> Result<Option<bool>, ValueError<'_>>
+        ensures { truth_seen result ≡ access.shallow name.now self.now.sections }
+    {
+        self.config().boolean(b"submodule", Some(name), b"shallow")
+    }
+}

@@ -1,0 +1,103 @@
+//! The fields that are one of some words.
+ghost use Rattle.std.specs.Prelude.{◌≡◌, option_copied, IfOk};
+ghost use Rattle.submodule.specs.Access as access;
+ghost use Rattle.submodule.specs.Recursions.{recurse_seen};
+ghost use Rattle.submodule.specs.Answers as answers;
+ghost use Rattle.submodule.specs.declared.field.FieldError.TheVariants as errors;
+
+use crate::fetch_recurse::FetchRecurse;
+use crate::ignore::Ignore;
+use crate::shown::shown;
+use gitbase_core::{Bytes, OutOfMemory};
+use std::alloc::Global;
+use std::fmt;
+
+/// A field that is one of some words.
+#[derive(Clone, Copy, Debug, PartialEq, Eq)]
+pub enum FieldName {
+    /// Shown as `fetchRecurseSubmodules`.
+    FetchRecurseSubmodules,
+    /// Shown as `ignore`.
+    Ignore,
+}
+
+impl fmt::Display for FieldName {
+    fn fmt<W: fmt::Write>(&self, f: &mut fmt::Formatter<W>) -> fmt::Result {
+        f.write_str(match self {
+            FieldName::FetchRecurseSubmodules => "fetchRecurseSubmodules",
+            FieldName::Ignore => "ignore",
+        })
+    }
+}
+
+/// Why a field of a submodule says nothing.
+#[derive(Debug, Drop, PartialEq, Eq, thiserror::Error)]
+pub enum FieldError {
+    /// Its value is none of the words.
+    #[error("The '{}' field of submodule '{}' was invalid: '{}'", .field, shown(.submodule), shown(.actual))]
+    Invalid {
+        field: FieldName,
+        submodule: Bytes,
+        actual: Bytes,
+    },
+    /// Want of memory.
+    #[error("OutOfMemory")]
+    OutOfMemory,
+}
+
+impl From<OutOfMemory> for FieldError {
+    ghost use Rattle.std.specs.Prelude.{◌≡◌};
+    ghost use Rattle.submodule.specs.declared.field.FieldError.TheVariants as errors;
+
+    ghost from_gives = { λ _ e. e ≡ errors.OutOfMemory };
+
+    fn from(_refused: OutOfMemory) -> FieldError {
+        FieldError::OutOfMemory
+    }
+}
+
+fn invalid(
+    alloc: Global,
+    field: FieldName,
+    name: &[u8],
+    value: &[u8],
+) -> Result<FieldError, OutOfMemory>
+    ensures { IfOk result (λ e. e ≡ errors.Invalid field name.now value.now) }
+{
+    Ok(FieldError::Invalid {
+        field,
+        submodule: Bytes::from_slice(alloc, name)?,
+        actual: Bytes::from_slice(alloc, value)?,
+    })
+}
+
+/// What a value of `ignore` says, if there is one.
+pub(crate) fn ignore_of(
+    alloc: Global,
+    name: &[u8],
+    value: Option<&[u8]>,
+) -> Result<Option<Ignore>, FieldError>
+    ensures { answers.FieldGives result (access.ignore_by name.now (option_copied value.entry)) }
+{
+    let Some(value) = value else {
+        return Ok(None);
+    };
+    match Ignore::try_from(value) {
+        Ok(ignore) => Ok(Some(ignore)),
+        Err(()) => Err(invalid(alloc, FieldName::Ignore, name, value)?),
+    }
+}
+
+/// What a value of `fetchRecurseSubmodules` says, or that it is none of the words.
+pub(crate) fn recurse_of(
+    alloc: Global,
+    name: &[u8],
+    said: Result<Option<FetchRecurse>, &[u8]>,
+) -> Result<Option<FetchRecurse>, FieldError>
+    ensures { answers.FieldGives result (access.recurse_by name.now (recurse_seen said.entry)) }
+{
+    match said {
+        Ok(answer) => Ok(answer),
+        Err(value) => Err(invalid(alloc, FieldName::FetchRecurseSubmodules, name, value)?),
+    }
+}

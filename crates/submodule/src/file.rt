@@ -1,0 +1,150 @@
+//! What is known of submodules: `.gitmodules`, and the configuration that overrides it.
+ghost use Rattle.std.specs.Prelude.{◌≡◌, option_copied, OnOk, OnErr, IfOk};
+ghost use Rattle.submodule.specs.Names.{module_names};
+ghost use Rattle.submodule.specs.Overrides as overrides;
+ghost use Rattle.submodule.specs.Access as access;
+ghost use Rattle.submodule.specs.Answers as answers;
+
+use crate::init;
+use crate::names::{Names, names_of};
+use crate::overrides::overrides_of;
+use crate::path::has_path;
+use git_config_lite as config;
+use git_config_lite::{Metadata, Source};
+use gitbase_core::{Bytes, OutOfMemory, PathText};
+use std::alloc::Global;
+use std::marker::Model;
+
+/// What is known of submodules: `.gitmodules`, and the configurations that override some of it.
+///
+/// Contracts see the sections of all of them, as those of one configuration.
+#[derive(Drop)]
+pub struct File {
+    config: config::File,
+    names: Vec<Bytes>,
+}
+
+impl Model for File {
+    ghost use Rattle.std.specs.Prelude.{◌≡◌};
+    ghost use Rattle.git_config_lite.specs.Sections.{Configuration};
+    ghost use Rattle.submodule.specs.Names.{module_names};
+
+    ghost Value = { Configuration };
+
+    ghost view = { λ file. file.config };
+
+    ghost invariant = { λ file. file.names.items ≡ module_names file.config.sections };
+}
+
+impl File {
+    /// What the text of `.gitmodules` says, read from the file `path` if it is one, with the overrides of a configuration
+    /// behind it.
+    ///
+    /// The values are not looked at before they are asked for. `Parse` names the first line that is outside the grammar of
+    /// configurations, counted from 1.
+    pub fn from_bytes(
+        alloc: Global,
+        bytes: &[u8],
+        path: Option<PathText>,
+        config: &config::File,
+    ) -> Result<File, init::Error>
+        ensures { answers.FileGives result (overrides.modules_of path bytes.now config.now) }
+    {
+        let meta = Metadata {
+            source: Source::Modules,
+            path,
+        };
+        let modules = config::File::from_bytes(alloc, bytes, meta)?;
+        Ok(File::with_overrides(alloc, modules, config)?)
+    }
+
+    /// A file of `.gitmodules` with the overrides of a configuration behind it.
+    fn with_overrides(
+        alloc: Global,
+        modules: config::File,
+        config: &config::File,
+    ) -> Result<File, OutOfMemory>
+        ensures { IfOk result (λ file. file ≡ overrides.with_overrides modules config.now) }
+    {
+        let names = names_of(alloc, &modules)?;
+        let mut file = File {
+            config: modules,
+            names,
+        };
+        file.append_submodule_overrides(alloc, config)?;
+        Ok(file)
+    }
+
+    /// Adds what a configuration says in place of `.gitmodules`, behind all that is there.
+    ///
+    /// For each name that has a value of `branch`, `fetchRecurseSubmodules`, `ignore`, `update` or `url` there, in the order
+    /// of their bytes, this is one section with the last value of each of these keys. It stays as it was where memory is
+    /// refused.
+    pub fn append_submodule_overrides(
+        &mut self,
+        alloc: Global,
+        config: &config::File,
+    ) -> Result<(), OutOfMemory>
+        ensures appended { OnOk result (self.new ≡ overrides.with_overrides self.old config.now) }
+        ensures refused { OnErr result (self.new ≡ self.old) }
+    {
+        let overrides = overrides_of(alloc, config)?;
+        self.config.append(alloc, overrides)?;
+        Ok(())
+    }
+
+    /// All of it as one configuration; takes no memory.
+    pub fn into_config(self) -> config::File
+        ensures { result ≡ self }
+    {
+        let File {
+            config,
+            names: _names,
+        } = self;
+        config
+    }
+
+    /// All of it as one configuration: the sections of `.gitmodules`, tagged as such, and the overrides behind them.
+    pub fn config(&self) -> &config::File
+        ensures { result.now ≡ self.now }
+    {
+        &self.config
+    }
+
+    /// The path of the first section that has one, which is that of `.gitmodules` if that is a file with sections.
+    pub fn config_path(&self) -> Option<&[u8]>
+        ensures { option_copied result ≡ access.config_path self.now.sections }
+    {
+        for section in self.config.sections() {
+            if let Some(path) = &section.meta().path {
+                return Some(path.as_bytes());
+            }
+        }
+        None
+    }
+
+    /// The names of the submodules: the subsections of the sections `submodule` of `.gitmodules`, each once, in the order
+    /// in which they first come. A submodule that only the configuration names is none.
+    pub fn names(&self) -> Names<'_>
+        ensures { result ≡ module_names self.now.sections }
+    {
+        Names::new(&self.names)
+    }
+
+    /// The first name whose path, one that may be given, is this one byte for byte.
+    pub fn name_by_path(
+        &self,
+        alloc: Global,
+        relative_path: &[u8],
+    ) -> Result<Option<&[u8]>, OutOfMemory>
+        ensures { IfOk result (λ name. option_copied name ≡ access.name_by_path relative_path.now self.now.sections) }
+    {
+        for name in self.names() {
+            let value = self.config.string(b"submodule", Some(name), b"path");
+            if has_path(alloc, relative_path, value)? {
+                return Ok(Some(name));
+            }
+        }
+        Ok(None)
+    }
+}

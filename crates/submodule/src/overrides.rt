@@ -1,0 +1,140 @@
+//! What a configuration says of submodules in place of `.gitmodules`.
+ghost use Rattle.std.specs.Prelude.{◌≡◌, length, is_some, option_copied, IfOk, IsTrue, OnOk};
+ghost use Rattle.git_config_lite.specs.Writers as writers;
+ghost use Rattle.submodule.specs.Overrides as overrides;
+ghost use Rattle.submodule.specs.Building as building;
+
+use git_config_lite as config;
+use git_config_lite::{Metadata, Source};
+use gitbase_core::{Bytes, OutOfMemory, PathText};
+use std::alloc::Global;
+use std::collections::BTreeSet;
+
+/// What overrides belong to.
+fn override_source(source: Source) -> Source
+    ensures { result ≡ overrides.override_source source }
+{
+    match source {
+        Source::Modules => Source::Api,
+        other => other,
+    }
+}
+
+fn copied_path(alloc: Global, path: &Option<PathText>) -> Result<Option<PathText>, OutOfMemory>
+    ensures { IfOk result (λ copy. copy ≡ path.now) }
+{
+    match path {
+        Some(path) => Ok(Some(PathText::from_bytes(alloc, path.as_bytes())?)),
+        None => Ok(None),
+    }
+}
+
+/// Where overrides are read.
+fn override_meta(alloc: Global, meta: &Metadata) -> Result<Metadata, OutOfMemory>
+    ensures { IfOk result (λ made. made ≡ overrides.override_meta meta.now) }
+{
+    Ok(Metadata {
+        source: override_source(meta.source),
+        path: copied_path(alloc, &meta.path)?,
+    })
+}
+
+/// Names in the order of their bytes, with one more in its place, unless it is there.
+fn in_order(
+    alloc: Global,
+    mut names: BTreeSet<Bytes>,
+    name: Option<&[u8]>,
+) -> Result<BTreeSet<Bytes>, OutOfMemory>
+    ensures { IfOk result (λ more. more.keys ≡ overrides.in_order names.keys (option_copied name.entry)) }
+{
+    let Some(name) = name else {
+        return Ok(names);
+    };
+    names.insert(Bytes::from_slice(alloc, name)?)?;
+    Ok(names)
+}
+
+/// The names that a configuration tells, in the order of their bytes.
+fn ordered_names(alloc: Global, config: &config::File) -> Result<BTreeSet<Bytes>, OutOfMemory>
+    ensures { IfOk result (λ made. made.keys ≡ overrides.ordered_names config.now.sections) }
+{
+    let mut names = BTreeSet::new(alloc);
+    for section in config.sections_by_name(b"submodule") {
+        names = in_order(alloc, names, section.subsection_name())?;
+    }
+    Ok(names)
+}
+
+/// Whether a submodule has a value of a key.
+fn has_key(config: &config::File, name: &[u8], key: &[u8]) -> bool
+    ensures { result ≡ is_some (overrides.value name.now key.now config.now.sections) }
+{
+    config.string(b"submodule", Some(name), key).is_some()
+}
+
+/// Whether a submodule has some key that overrides.
+fn is_overriding(config: &config::File, name: &[u8]) -> bool
+    ensures { result ≡ overrides.is_overriding config.now.sections name.now }
+{
+    has_key(config, name, b"branch")
+        || has_key(config, name, b"fetchRecurseSubmodules")
+        || has_key(config, name, b"ignore")
+        || has_key(config, name, b"update")
+        || has_key(config, name, b"url")
+}
+
+/// Adds a key of a submodule with its last value, if it has one, to the one section that is there.
+fn add(
+    alloc: Global,
+    made: &mut config::File,
+    config: &config::File,
+    name: &[u8],
+    key: &[u8],
+) -> Result<(), OutOfMemory>
+    requires one { length made.old.sections ≡ 1 }
+    requires key { IsTrue (writers.is_key_name key.now) }
+    ensures added { OnOk result (made.new.sections ≡ building.grown (overrides.override name.now key.now config.now.sections) made.old.sections) }
+    ensures one { length made.new.sections ≡ 1 }
+{
+    match config.string(b"submodule", Some(name), key) {
+        Some(value) => made.push_value(alloc, key, value),
+        None => Ok(()),
+    }
+}
+
+/// The override of a submodule, as a configuration of one section or none.
+fn override_of(
+    alloc: Global,
+    config: &config::File,
+    name: &[u8],
+) -> Result<config::File, OutOfMemory>
+    ensures { IfOk result (λ made. made.sections
+        ≡ overrides.section_for (overrides.override_meta config.now.meta) config.now.sections name.now) }
+{
+    let mut made = config::File::new(alloc, override_meta(alloc, config.meta())?);
+    if !is_overriding(config, name) {
+        return Ok(made);
+    }
+    made.push_section(alloc, b"submodule", name)?;
+    add(alloc, &mut made, config, name, b"branch")?;
+    add(alloc, &mut made, config, name, b"fetchRecurseSubmodules")?;
+    add(alloc, &mut made, config, name, b"ignore")?;
+    add(alloc, &mut made, config, name, b"update")?;
+    add(alloc, &mut made, config, name, b"url")?;
+    Ok(made)
+}
+
+/// The overrides of a configuration.
+pub(crate) fn overrides_of(
+    alloc: Global,
+    config: &config::File,
+) -> Result<config::File, OutOfMemory>
+    ensures { IfOk result (λ made. made.sections ≡ overrides.overrides config.now) }
+{
+    let mut made = config::File::new(alloc, override_meta(alloc, config.meta())?);
+    let names = ordered_names(alloc, config)?;
+    for name in &names {
+        made.append(alloc, override_of(alloc, config, name.as_bytes())?)?;
+    }
+    Ok(made)
+}

@@ -1,0 +1,140 @@
+//! The path of a submodule.
+ghost use Rattle.std.specs.Prelude.{◌≡◌, option_copied, is_some, IfOk};
+ghost use Rattle.gitbase_core.specs.Path.{is_absolute, normalized};
+ghost use Rattle.submodule.specs.Access as access;
+ghost use Rattle.submodule.specs.Answers as answers;
+ghost use Rattle.submodule.specs.declared.path.Error.TheVariants as errors;
+
+use crate::shown::shown;
+use gitbase_core::{Bytes, OutOfMemory, PathText};
+use std::alloc::Global;
+
+/// Why a submodule has no path.
+#[derive(Debug, Drop, PartialEq, Eq, thiserror::Error)]
+pub enum Error {
+    /// Its path is not set, or empty.
+    #[error("The submodule '{}' was missing its 'path' field or it was empty", shown(.submodule))]
+    Missing { submodule: Bytes },
+    /// Its path begins with a slash.
+    #[error("The path '{}' of submodule '{}' needs to be relative", shown(.actual), shown(.submodule))]
+    Absolute { submodule: Bytes, actual: Bytes },
+    /// Its path leads out of the work tree.
+    #[error("The path '{}' would lead outside of the repository worktree", shown(.actual))]
+    OutsideOfWorktree { submodule: Bytes, actual: Bytes },
+    /// Want of memory.
+    #[error("OutOfMemory")]
+    OutOfMemory,
+}
+
+impl From<OutOfMemory> for Error {
+    ghost use Rattle.std.specs.Prelude.{◌≡◌};
+    ghost use Rattle.submodule.specs.declared.path.Error.TheVariants as errors;
+
+    ghost from_gives = { λ _ e. e ≡ errors.OutOfMemory };
+
+    fn from(_refused: OutOfMemory) -> Error {
+        Error::OutOfMemory
+    }
+}
+
+fn missing(alloc: Global, name: &[u8]) -> Result<Error, OutOfMemory>
+    ensures { IfOk result (λ e. e ≡ errors.Missing name.now) }
+{
+    Ok(Error::Missing {
+        submodule: Bytes::from_slice(alloc, name)?,
+    })
+}
+
+fn absolute(alloc: Global, name: &[u8], path: &[u8]) -> Result<Error, OutOfMemory>
+    ensures { IfOk result (λ e. e ≡ errors.Absolute name.now path.now) }
+{
+    Ok(Error::Absolute {
+        submodule: Bytes::from_slice(alloc, name)?,
+        actual: Bytes::from_slice(alloc, path)?,
+    })
+}
+
+fn outside(alloc: Global, name: &[u8], path: &[u8]) -> Result<Error, OutOfMemory>
+    ensures { IfOk result (λ e. e ≡ errors.OutsideOfWorktree name.now path.now) }
+{
+    Ok(Error::OutsideOfWorktree {
+        submodule: Bytes::from_slice(alloc, name)?,
+        actual: Bytes::from_slice(alloc, path)?,
+    })
+}
+
+/// Whether a path begins with a slash.
+fn is_absolute(path: &[u8]) -> bool
+    ensures { result ≡ is_absolute path.now }
+{
+    path.first() == Some(&b'/')
+}
+
+/// Whether a path leads to a place inside the work tree.
+fn is_inside(alloc: Global, path: &[u8]) -> Result<bool, OutOfMemory>
+    ensures { IfOk result (λ inside. inside ≡ is_some (normalized path.now)) }
+{
+    let path = PathText::from_bytes(alloc, path)?;
+    Ok(path.normalize(alloc)?.is_some())
+}
+
+/// Whether a path may be that of a submodule: it is not empty, not absolute, and leads to a place inside the work tree.
+fn is_path(alloc: Global, path: &[u8]) -> Result<bool, OutOfMemory>
+    ensures { IfOk result (λ is. is ≡ access.is_path path.now) }
+{
+    if path.is_empty() {
+        return Ok(false);
+    }
+    if is_absolute(path) {
+        return Ok(false);
+    }
+    is_inside(alloc, path)
+}
+
+/// Whether a value is this path, and one that may be given.
+pub(crate) fn has_path(
+    alloc: Global,
+    path: &[u8],
+    value: Option<&[u8]>,
+) -> Result<bool, OutOfMemory>
+    ensures { IfOk result (λ has. has ≡ access.has_path path.now (option_copied value.entry)) }
+{
+    let Some(value) = value else {
+        return Ok(false);
+    };
+    if value != path {
+        return Ok(false);
+    }
+    is_path(alloc, value)
+}
+
+/// The path that a value says.
+fn given<'a>(alloc: Global, name: &[u8], value: &'a [u8]) -> Result<&'a [u8], Error>
+    ensures { answers.PathGives result (access.path_by name.now (Some value.now)) }
+{
+    if value.is_empty() {
+        return Err(missing(alloc, name)?);
+    }
+    if is_absolute(value) {
+        return Err(absolute(alloc, name, value)?);
+    }
+    if is_inside(alloc, value)? {
+        Ok(value)
+    } else {
+        Err(outside(alloc, name, value)?)
+    }
+}
+
+/// The path that a value says, if there is one.
+pub(crate) fn path_of<'a>(
+    alloc: Global,
+    name: &[u8],
+    value: Option<&'a [u8]>,
+) -> Result<&'a [u8], Error>
+    ensures { answers.PathGives result (access.path_by name.now (option_copied value.entry)) }
+{
+    match value {
+        Some(value) => given(alloc, name, value),
+        None => Err(missing(alloc, name)?),
+    }
+}
