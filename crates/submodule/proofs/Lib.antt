@@ -1,3 +1,4 @@
 mod Ports
 mod OneSection
 mod KeptNames
+mod DistinctNames

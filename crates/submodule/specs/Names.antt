@@ -27,7 +27,7 @@ told section = if is_modules section.meta.source then section.subsection else No
 
 -- a name is one of these
 abbrev pub is_among : List ℕ → List (List ℕ) → Bool
-is_among name names = list_any (λ other. bytes_eq other name) names
+is_among name names = list_any (bytes_eq name) names
 
 -- the names with one more, unless it is among them
 abbrev pub with_name : List (List ℕ) → Option (List ℕ) → List (List ℕ)

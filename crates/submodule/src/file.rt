@@ -1,5 +1,6 @@
 //! What is known of submodules: `.gitmodules`, and the configuration that overrides it.
-ghost use Rattle.std.specs.Prelude.{◌≡◌, option_copied, OnOk, OnErr, IfOk};
+ghost use Rattle.std.specs.Prelude.{◌≡◌, bytes_eq, option_copied, OnOk, OnErr, IfOk};
+ghost use Rattle.std.specs.List.{IsDistinct};
 ghost use Rattle.submodule.specs.Names.{module_names};
 ghost use Rattle.submodule.specs.Overrides as overrides;
 ghost use Rattle.submodule.specs.Access as access;
@@ -126,7 +127,8 @@ impl File {
     /// The names of the submodules: the subsections of the sections `submodule` of `.gitmodules`, each once, in the order
     /// in which they first come. A submodule that only the configuration names is none.
     pub fn names(&self) -> Names<'_>
-        ensures { result ≡ module_names self.now.sections }
+        ensures names { result ≡ module_names self.now.sections }
+        ensures distinct { IsDistinct bytes_eq result }
     {
         Names::new(&self.names)
     }

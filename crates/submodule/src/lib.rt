@@ -26,3 +26,6 @@ pub use ignore::Ignore;
 pub use names::Names;
 pub use update::{Update, UpdateParseError};
 pub use url::{Url, UrlError};
+
+#[cfg(test)]
+mod tests;

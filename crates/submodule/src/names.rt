@@ -63,7 +63,7 @@ fn told(section: &Section) -> Option<&[u8]>
 fn is_among(name: &[u8], known: &[Bytes]) -> bool
     ensures { result ≡ names.is_among name.now known.now }
 {
-    known.iter().any(|other| other.as_bytes() == name)
+    known.iter().any(|other| name == other.as_bytes())
 }
 
 /// The names with one more, unless it is among them.

@@ -67,7 +67,7 @@ fn outside(alloc: Global, name: &[u8], path: &[u8]) -> Result<Error, OutOfMemory
 fn is_absolute(path: &[u8]) -> bool
     ensures { result ≡ is_absolute path.now }
 {
-    path.first() == Some(&b'/')
+    matches!(path, [b'/', ..])
 }
 
 /// Whether a path leads to a place inside the work tree.
