@@ -11,5 +11,7 @@ pub mod Building
 pub mod Access
 pub mod InitErrors
 pub mod Answers
+pub mod Active
+pub mod ActiveSeen
 pub mod Seen
 pub mod Gives

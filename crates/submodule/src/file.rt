@@ -5,14 +5,19 @@ ghost use Rattle.submodule.specs.Names.{module_names};
 ghost use Rattle.submodule.specs.Overrides as overrides;
 ghost use Rattle.submodule.specs.Access as access;
 ghost use Rattle.submodule.specs.Answers as answers;
+ghost use Rattle.submodule.specs.Active as active;
+ghost use Rattle.submodule.specs.ActiveSeen.{ActiveGives};
 
-use crate::init;
+use crate::is_active_platform::IsActivePlatform;
 use crate::names::{Names, names_of};
 use crate::overrides::overrides_of;
 use crate::path::has_path;
+use crate::states::NamesAndActive;
+use crate::{init, is_active_platform};
 use git_config_lite as config;
 use git_config_lite::{Metadata, Source};
 use gitbase_core::{Bytes, OutOfMemory, PathText};
+use glob_rules::pathspec::Defaults;
 use std::alloc::Global;
 use std::marker::Model;
 
@@ -148,5 +153,34 @@ impl File {
             }
         }
         Ok(None)
+    }
+
+    /// What decides which submodules are active by a configuration: the path specs of `submodule.active`. Letters fold in
+    /// them if `defaults` says so.
+    ///
+    /// `ParsePattern` and `NormalizePattern` name the first value that `Spec::parse` refuses so, counted from 1.
+    pub fn is_active_platform(
+        &self,
+        alloc: Global,
+        config: &config::File,
+        defaults: Defaults,
+    ) -> Result<IsActivePlatform, is_active_platform::Error>
+        ensures { ActiveGives result (active.platform defaults.ignore_case config.now.sections) }
+    {
+        IsActivePlatform::new(alloc, config, defaults)
+    }
+
+    /// The names of the submodules in their order, each with whether it is active by a configuration, or with the text of
+    /// its `submodule.NAME.active` where that is no boolean. It is refused as `is_active_platform` is.
+    pub fn names_and_active_state<'a>(
+        &'a self,
+        alloc: Global,
+        config: &'a config::File,
+        defaults: Defaults,
+    ) -> Result<NamesAndActive<'a>, is_active_platform::Error>
+        ensures { ActiveGives result (active.module_states defaults.ignore_case self.now.sections config.now.sections) }
+    {
+        let platform = IsActivePlatform::new(alloc, config, defaults)?;
+        Ok(NamesAndActive::new(self.names(), platform, config))
     }
 }

@@ -4,11 +4,13 @@ mod git;
 mod texts;
 
 use crate::{
-    Branch, FetchRecurse, File, Ignore, RefspecError, Update, Url, UrlError, path, update,
+    Branch, FetchRecurse, File, Ignore, RefspecError, Update, Url, UrlError, is_active_platform,
+    path, update,
 };
 use git_config_lite as config;
 use git_config_lite::{Metadata, Source, ValueError};
 use gitbase_core::{Bytes, PathText};
+use glob_rules::pathspec::Defaults;
 use std::alloc::Global;
 use std::test::Fail;
 
@@ -210,5 +212,56 @@ fn a_file(rt: HostRuntime) -> Result<(), Fail> {
     let second = sections.next().ok_or("one override")?;
     assert_eq!(rt; second.subsection_name(), Some(b"z".as_slice()));
     assert!(rt; sections.next().is_none());
+    Ok(())
+}
+
+#[test]
+fn activity(rt: HostRuntime) -> Result<(), Fail> {
+    let alloc = rt.alloc();
+    let file = modules(alloc, b"[submodule \"m\"]\npath = lib\n")?;
+    let defaults = Defaults { ignore_case: false };
+    let table: [(&[u8], bool); 5] = [
+        (b"[submodule \"m\"]\nactive = false\nurl = u\n", false),
+        (b"[submodule \"m\"]\nurl = u\n", true),
+        (b"", false),
+        (
+            b"[submodule \"m\"]\nurl = u\n[submodule]\nactive = x*\n",
+            false,
+        ),
+        (b"[submodule]\nactive = x*\nactive = m\n", true),
+    ];
+    for (text, want) in table.iter() {
+        let config = local(alloc, text)?;
+        let mut platform = file.is_active_platform(alloc, &config, defaults)?;
+        assert_eq!(rt;
+            platform.is_active(&config, b"m").ok(),
+            Some(*want),
+            "{text:?}"
+        );
+        let mut states = file.names_and_active_state(alloc, &config, defaults)?;
+        let (name, state) = states.next().ok_or("no name")?;
+        assert_eq!(rt; name, b"m".as_slice());
+        assert_eq!(rt; state.ok(), Some(*want));
+        assert!(rt; states.next().is_none());
+    }
+    let config = local(
+        alloc,
+        b"[submodule \"m\"]\nactive = maybe\n[submodule]\nactive = a\nactive = :(x)b\nactive = /c\n",
+    )?;
+    let refused = file.is_active_platform(alloc, &config, defaults).err();
+    assert_eq!(rt;
+        refused,
+        Some(is_active_platform::Error::ParsePattern { value: 2, at: 2 })
+    );
+    let config = local(alloc, b"[submodule]\nactive = /c\n")?;
+    let refused = file.is_active_platform(alloc, &config, defaults).err();
+    assert_eq!(rt;
+        refused,
+        Some(is_active_platform::Error::NormalizePattern { value: 1 })
+    );
+    let config = local(alloc, b"[submodule \"m\"]\nactive = maybe\n")?;
+    let mut platform = file.is_active_platform(alloc, &config, defaults)?;
+    let refused = platform.is_active(&config, b"m").err();
+    assert_eq!(rt; refused.map(|error| error.input), Some(b"maybe".as_slice()));
     Ok(())
 }

@@ -1,8 +1,9 @@
 //! The answers of git.
-use super::{answers as tables, modules};
+use super::{answers as tables, local, modules};
 use crate::{Branch, RefspecError, Url, UrlError};
 use bstr::ByteSlice;
 use gitbase_core::{Bytes, OutOfMemory};
+use glob_rules::pathspec::Defaults;
 use std::alloc::Global;
 use std::test::Fail;
 
@@ -23,6 +24,33 @@ fn wanted(answer: &[u8]) -> &[u8] {
         Some((_, own)) => own,
         None => answer,
     }
+}
+
+/// Whether a name is active by a configuration.
+fn active(alloc: Global, name: &[u8], text: &[u8]) -> Result<&'static [u8], Fail> {
+    let config = local(alloc, &asked(alloc, text)?)?;
+    let file = modules(alloc, b"")?;
+    let answer = match file.is_active_platform(alloc, &config, Defaults { ignore_case: false }) {
+        Ok(mut platform) => platform.is_active(&config, name).ok(),
+        Err(_) => None,
+    };
+    Ok(match answer {
+        Some(true) => b"active",
+        Some(false) => b"inactive",
+        None => b"refused",
+    })
+}
+
+#[test]
+fn activity_as_git_has_it(rt: HostRuntime) -> Result<(), Fail> {
+    for table in [tables::ACTIVE, tables::ACTIVE_DIFFERENCES] {
+        for row in table.lines() {
+            let (answer, rest) = row.split_once_str(b"`").ok_or("no row")?;
+            let (name, text) = rest.split_once_str(b"`").ok_or("no row")?;
+            assert_eq!(rt; active(rt.alloc(), name, text)?, wanted(answer), "{row:?}");
+        }
+    }
+    Ok(())
 }
 
 /// Whether a value of a key is taken.

@@ -1,7 +1,7 @@
 //! The texts of errors.
 use crate::{
-    FieldError, FieldName, RefspecError, UpdateParseError, UrlError, branch, init, path, update,
-    url,
+    FieldError, FieldName, RefspecError, UpdateParseError, UrlError, branch, init,
+    is_active_platform, path, update, url,
 };
 use gitbase_core::Bytes;
 use std::test::Fail;
@@ -66,17 +66,19 @@ fn texts_of_errors(rt: HostRuntime) -> Result<(), Fail> {
         The path '../x' would lead outside of the repository worktree\n";
     assert_eq!(rt; long.as_str(), want);
     let short = format!(in alloc;
-        "{} {} {} {} {} {}",
+        "{} {} {} {} {} {} {} {}",
         RefspecError::Invalid,
         UpdateParseError::Invalid,
         UrlError::EmptyHost,
         UrlError::Port,
         UrlError::OutOfMemory,
-        init::Error::Parse { line: 1 }
+        init::Error::Parse { line: 1 },
+        is_active_platform::Error::ParsePattern { value: 1, at: 0 },
+        is_active_platform::Error::NormalizePattern { value: 1 }
     )?;
     assert_eq!(rt;
         short.as_str(),
-        "Invalid Invalid EmptyHost Port OutOfMemory Parse"
+        "Invalid Invalid EmptyHost Port OutOfMemory Parse ParsePattern NormalizePattern"
     );
     Ok(())
 }

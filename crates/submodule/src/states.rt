@@ -1,0 +1,60 @@
+//! The names of submodules, and whether they are active.
+ghost use Rattle.std.specs.Prelude.{◌≡◌};
+ghost use Rattle.std.specs.Iterator.{YieldsFirstBy, item_count};
+ghost use Rattle.submodule.specs.Active as active;
+ghost use Rattle.submodule.specs.ActiveSeen.{state_seen};
+
+use crate::is_active_platform::IsActivePlatform;
+use crate::names::Names;
+use git_config_lite as config;
+use git_config_lite::ValueError;
+use std::marker::Model;
+
+/// Names of submodules, and whether each is active, in their order.
+///
+/// Contracts see the list of those that are left.
+#[derive(Drop)]
+pub struct NamesAndActive<'a> {
+    names: Names<'a>,
+    platform: IsActivePlatform,
+    config: &'a config::File,
+}
+
+impl<'a> Model for NamesAndActive<'a> {
+    ghost use Rattle.std.specs.Prelude.{List};
+    ghost use Rattle.submodule.specs.Active.{NameAndActive, states};
+
+    ghost Value = { List NameAndActive };
+
+    ghost view = { λ left. states left.platform left.config.now.sections left.names };
+}
+
+impl<'a> NamesAndActive<'a> {
+    pub(crate) fn new(
+        names: Names<'a>,
+        platform: IsActivePlatform,
+        config: &'a config::File,
+    ) -> NamesAndActive<'a>
+        ensures { result ≡ active.states platform config.now.sections names.entry }
+    {
+        NamesAndActive {
+            names,
+            platform,
+            config,
+        }
+    }
+}
+
+impl<'a> Iterator for NamesAndActive<'a> {
+    type Item = (&'a [u8], Result<bool, ValueError<'a>>);
+
+    ghost next_gives = { YieldsFirstBy state_seen (λ left. left) };
+
+    ghost remaining = { item_count (λ left. left) };
+
+    fn next(&mut self) -> Option<(&'a [u8], Result<bool, ValueError<'a>>)> {
+        let name = self.names.next()?;
+        let answer = self.platform.is_active(self.config, name);
+        Some((name, answer))
+    }
+}
