@@ -1,0 +1,185 @@
+-- How far a lookup has come on the way down to its path.
+use Rattle.std.specs.Prelude.{◌≡◌, ◌⊎◌, ℕ, ◌+◌, ◌-◌, Bool, true, false, List, [], ◌∷◌, ◌++◌, length, Option, Some, None, is_some, Result, Ok, Err, OnOk, OnErr, IfErr}
+use Rattle.std.proofs.Common.{refl, sym, ap, ◌∙◌, subst, rules, append_assoc, arith}
+use Rattle.std.proofs.lemmas.List.{append-nil, length-append}
+use Rattle.worktree_fs.specs.Tree.{Names}
+use Rattle.worktree_fs.specs.Paths.{spelled, is_nil, without_last}
+use Rattle.worktree_fs.specs.PathStack.{Call, push, push_directory, pop_directory, names_at, calls_for, calls_below}
+use Rattle.worktree_fs.proofs.Spelled.{without_last-snoc}
+use Rattle.worktree_stack.specs.declared.error.AtPathError.{AtPathError}
+use Rattle.worktree_stack.specs.declared.error.AtPathError.TheVariants as errors
+use Rattle.worktree_stack.specs.declared.error.RulesWhy.TheVariants as whys
+use Rattle.worktree_stack.specs.declared.statistics.DelegateStatistics.{DelegateStatistics}
+use Rattle.worktree_stack.specs.declared.statistics.RulesStatistics.{RulesStatistics}
+use Rattle.worktree_stack.specs.Setup.{Setup}
+use Rattle.worktree_stack.specs.Counted.{count_call, count_calls, count_reading, count_readings}
+use Rattle.worktree_stack.specs.Reading.{reading, rules_file}
+use Rattle.worktree_stack.specs.Stacked.{Stacked}
+use Rattle.worktree_stack.specs.Lookups.{stepped, IsLookedUp, IsOnTheWay, IsOnWay, IsCounted}
+use Rattle.worktree_stack.specs.Refused.{IsOfFile, IsRefusedFor, IsOfAncestor, IsOnWayTo, IsRefusedAncestor, Refuses}
+
+-- the components before the rest of a path are those of the deepest directory
+pub record IsBelow (whole : List (List ℕ)) (at : Option (List (List ℕ))) (rest : List (List ℕ)) : Type 0 where
+  pub some : at ≡ Some (names_at at)
+  pub whole_is : whole ≡ names_at at ++ rest
+  pub end : rest ≡ [] → names_at at ≡ []
+
+pub below_first : (at : Option (List (List ℕ))) (rest : List (List ℕ)) → is_some at ≡ true → (rest ≡ [] → names_at at ≡ []) → IsBelow (names_at at ++ rest) at rest
+below_first None rest some end = absurd (cc some)
+below_first (Some names) rest some end = record { some = refl; whole_is = refl; end = end }
+
+not_nil : {A : Type 0} (xs : List A) → is_nil xs ≡ false → xs ≡ [] → ⊥
+not_nil [] e none = cc e
+not_nil (x ∷ xs) e none = cc none
+
+pub below_next : (whole : List (List ℕ)) (at at' : Option (List (List ℕ))) (rest more : List (List ℕ)) (name : List ℕ) → IsBelow whole at rest
+    → rest ≡ name ∷ more → is_nil more ≡ false → at' ≡ Some (names_at at ++ name ∷ []) → IsBelow whole at' more
+below_next whole at at' rest more name below first more_is at_is =
+    let names_is : names_at at' ≡ names_at at ++ name ∷ [] = ap names_at at_is in
+    record {
+      some = at_is ∙ ap Some (sym names_is);
+      whole_is = below.whole_is ∙ ap (λ (r : List (List ℕ)). names_at at ++ r) first ∙ sym (append_assoc (names_at at) (name ∷ []) more) ∙ ap (λ (d : List (List ℕ)). d ++ more) (sym names_is);
+      end = λ none. absurd (not_nil more more_is none);
+    }
+
+-- a list without its last element, where another list follows the first
+above-front : (names : List (List ℕ)) (name : List ℕ) (more : List (List ℕ)) → without_last (names ++ name ∷ more) ≡ names ++ without_last (name ∷ more)
+above-front [] name more = refl
+above-front (first ∷ []) name more = refl
+above-front (first ∷ second ∷ names) name more = ap (λ (l : List (List ℕ)). first ∷ l) (above-front (second ∷ names) name more)
+
+-- a component that is not the last one is an ancestor
+above-some : (names more : List (List ℕ)) (name : List ℕ) → is_nil more ≡ false → without_last (names ++ name ∷ more) ≡ (names ++ name ∷ []) ++ without_last more
+above-some names [] name e = absurd (cc e)
+above-some names (other ∷ more) name e = above-front names name (other ∷ more) ∙ sym (append_assoc names (name ∷ []) (without_last (other ∷ more)))
+
+-- the deepest directory lies on the way
+pub on_way : (whole : List (List ℕ)) (at : Option (List (List ℕ))) (rest more : List (List ℕ)) (name : List ℕ) → IsBelow whole at rest → rest ≡ name ∷ more → IsOnWay at whole
+on_way whole at rest more name below first =
+    subst (λ d. IsOnWay d whole) (sym below.some)
+    (record { rest = without_last (name ∷ more); joined = ap without_last (below.whole_is ∙ ap (λ (r : List (List ℕ)). names_at at ++ r) first) ∙ above-front (names_at at) name more })
+
+pub on_way_same : (whole : List (List ℕ)) (at at' : Option (List (List ℕ))) → at' ≡ at → IsOnWay at whole → IsOnWay at' whole
+on_way_same whole at at' same way = subst (λ d. IsOnWay d whole) (sym same) way
+
+-- a rules file of an ancestor that was refused
+pub of_ancestor : (root : List ℕ) (setup : Setup) (names ancestor rest : List (List ℕ)) → without_last names ≡ ancestor ++ rest
+    → (e : AtPathError) → IsOfFile (rules_file root setup (spelled ancestor)) e → IsOnWayTo root setup names e
+of_ancestor root setup names ancestor rest above errors.NotNormal is = is
+of_ancestor root setup names ancestor rest above (errors.Component why) is = is
+of_ancestor root setup names ancestor rest above (errors.Collision path) is = is
+of_ancestor root setup names ancestor rest above (errors.Directory path why) is = is
+of_ancestor root setup names ancestor rest above (errors.RulesFile path whys.Link) is = is
+of_ancestor root setup names ancestor rest above (errors.RulesFile path whys.LinkLimit) is = record { ancestor = ancestor; rest = rest; above = above; path_is = is }
+of_ancestor root setup names ancestor rest above (errors.RulesFile path whys.Special) is = record { ancestor = ancestor; rest = rest; above = above; path_is = is }
+of_ancestor root setup names ancestor rest above (errors.RulesFile path whys.Fault) is = record { ancestor = ancestor; rest = rest; above = above; path_is = is }
+of_ancestor root setup names ancestor rest above (errors.Blob id why) is = is
+of_ancestor root setup names ancestor rest above errors.OutOfMemory is = tt
+
+pub refused_ancestor : (t : Names) (root : List ℕ) (setup : Setup) (names ancestor rest : List (List ℕ)) → without_last names ≡ ancestor ++ rest
+    → (e : AtPathError) → IsOfFile (rules_file root setup (spelled ancestor)) e → IsRefusedFor (reading setup t root (spelled ancestor)) e → Refuses t root setup names e
+refused_ancestor t root setup names ancestor rest above errors.NotNormal is why = tt
+refused_ancestor t root setup names ancestor rest above (errors.Component w) is why = tt
+refused_ancestor t root setup names ancestor rest above (errors.Collision path) is why = tt
+refused_ancestor t root setup names ancestor rest above (errors.Directory path w) is why = tt
+refused_ancestor t root setup names ancestor rest above (errors.RulesFile path whys.Link) is why = absurd is
+refused_ancestor t root setup names ancestor rest above (errors.RulesFile path whys.LinkLimit) is why = record { ancestor = ancestor; rest = rest; above = above; path_is = is; refused = why }
+refused_ancestor t root setup names ancestor rest above (errors.RulesFile path whys.Special) is why = record { ancestor = ancestor; rest = rest; above = above; path_is = is; refused = why }
+refused_ancestor t root setup names ancestor rest above (errors.RulesFile path whys.Fault) is why = tt
+refused_ancestor t root setup names ancestor rest above (errors.Blob id w) is why = tt
+refused_ancestor t root setup names ancestor rest above errors.OutOfMemory is why = tt
+
+-- a directory below the deepest one is an ancestor of a path that goes on
+pub ancestor_below : (whole : List (List ℕ)) (at : Option (List (List ℕ))) (rest more : List (List ℕ)) (name : List ℕ) → IsBelow whole at rest
+    → rest ≡ name ∷ more → is_nil more ≡ false → without_last whole ≡ (names_at at ++ name ∷ []) ++ without_last more
+ancestor_below whole at rest more name below first more_is =
+    ap without_last (below.whole_is ∙ ap (λ (r : List (List ℕ)). names_at at ++ r) first) ∙ above-some (names_at at) more name more_is
+
+-- the last component is reached
+pub at_last : (whole : List (List ℕ)) (s s' : Stacked) (rest more : List (List ℕ)) (name : List ℕ) → IsBelow whole s.at rest
+    → rest ≡ name ∷ more → is_nil more ≡ true → s' ≡ stepped s name → IsLookedUp s' whole
+at_last whole s s' rest [] name below first none stepped_is =
+    let whole_is : whole ≡ names_at s.at ++ name ∷ [] = below.whole_is ∙ ap (λ (r : List (List ℕ)). names_at s.at ++ r) first in
+    record {
+      at = ap (λ (x : Stacked). x.at) stepped_is ∙ below.some ∙ ap Some (sym (ap without_last whole_is ∙ without_last-snoc (names_at s.at) name));
+      current = ap (λ (x : Stacked). x.current) stepped_is ∙ sym whole_is;
+    }
+at_last whole s s' rest (other ∷ more) name below first none stepped_is = absurd (cc none)
+
+-- there was no component
+pub at_root : (whole : List (List ℕ)) (s s' : Stacked) (rest : List (List ℕ)) → IsBelow whole s.at rest → rest ≡ [] → s' ≡ record s { current = names_at s.at } → IsLookedUp s' whole
+at_root whole s s' rest below none left =
+    let names_is : names_at s.at ≡ [] = below.end none in
+    let whole_is : whole ≡ [] = below.whole_is ∙ ap (λ (r : List (List ℕ)). names_at s.at ++ r) none ∙ append-nil (names_at s.at) ∙ names_is in
+    record {
+      at = ap (λ (x : Stacked). x.at) left ∙ below.some ∙ ap Some names_is ∙ sym (ap (λ (n : List (List ℕ)). Some (without_last n)) whole_is);
+      current = ap (λ (x : Stacked). x.current) left ∙ names_is ∙ sym whole_is;
+    }
+
+-- the calls that were made so far, counted
+pub record IsSoFar (calls : List Call) (old new : DelegateStatistics) (names rest : List (List ℕ)) (made : List Call) : Type 0 where
+  pub front : calls ≡ made ++ calls_below names rest
+  pub counted : new ≡ count_calls old made
+
+pub count-append : (s : DelegateStatistics) (a b : List Call) → count_calls s (a ++ b) ≡ count_calls (count_calls s a) b
+count-append s [] b = refl
+count-append s (call ∷ a) b = count-append (count_call s call) a b
+
+pub readings-append : (setup : Setup) (t : Names) (root : List ℕ) (s : RulesStatistics) (a b : List Call)
+    → count_readings setup t root s (a ++ b) ≡ count_readings setup t root (count_readings setup t root s a) b
+readings-append setup t root s [] b = refl
+readings-append setup t root s (push_directory path ∷ a) b = readings-append setup t root (count_reading setup.source setup t root s path) a b
+readings-append setup t root s (push path is_last ∷ a) b = readings-append setup t root s a b
+readings-append setup t root s (pop_directory ∷ a) b = readings-append setup t root s a b
+
+-- one component more
+pub further : (calls : List Call) (old now new : DelegateStatistics) (names rest more : List (List ℕ)) (name : List ℕ) (made : List Call)
+    → IsSoFar calls old now names rest made → rest ≡ name ∷ more → is_nil more ≡ false → new ≡ count_calls now (calls_for names name false)
+    → IsSoFar calls old new (names ++ name ∷ []) more (made ++ calls_for names name false)
+further calls old now new names rest more name made so_far first more_is counted =
+    record {
+      front = so_far.front ∙ ap (λ r. made ++ calls_below names r) first ∙ ap (λ b. made ++ (calls_for names name b ++ calls_below (names ++ name ∷ []) more)) more_is
+          ∙ sym (append_assoc made (calls_for names name false) (calls_below (names ++ name ∷ []) more));
+      counted = counted ∙ ap (λ s. count_calls s (calls_for names name false)) so_far.counted ∙ sym (count-append old made (calls_for names name false));
+    }
+
+-- the last component
+pub finished : (calls : List Call) (old now new : DelegateStatistics) (names rest more : List (List ℕ)) (name : List ℕ) (made : List Call)
+    → IsSoFar calls old now names rest made → rest ≡ name ∷ more → is_nil more ≡ true → new ≡ count_calls now (calls_for names name true)
+    → new ≡ count_calls old calls
+finished calls old now new names rest [] name made so_far first more_is counted =
+    let all : calls ≡ made ++ calls_for names name true = so_far.front ∙ ap (λ r. made ++ calls_below names r) first in
+    counted ∙ ap (λ s. count_calls s (calls_for names name true)) so_far.counted ∙ sym (count-append old made (calls_for names name true)) ∙ sym (ap (count_calls old) all)
+finished calls old now new names rest (other ∷ more) name made so_far first more_is counted = absurd (cc more_is)
+
+-- nothing was left
+pub finished_root : (calls : List Call) (old now : DelegateStatistics) (names rest : List (List ℕ)) (made : List Call)
+    → IsSoFar calls old now names rest made → rest ≡ [] → now ≡ count_calls old calls
+finished_root calls old now names rest made so_far none =
+    so_far.counted ∙ sym (ap (count_calls old) (so_far.front ∙ ap (λ r. made ++ calls_below names r) none ∙ append-nil made))
+
+-- a step that was refused
+pub stopped : (calls : List Call) (old now new : DelegateStatistics) (names rest more : List (List ℕ)) (name : List ℕ) (made : List Call)
+    → IsSoFar calls old now names rest made → rest ≡ name ∷ more → is_nil more ≡ false → IsCounted (calls_for names name false) now new → IsCounted calls old new
+stopped calls old now new names rest more name made so_far first more_is counted =
+    record {
+      made = made ++ counted.made;
+      unmade = counted.unmade ++ calls_below (names ++ name ∷ []) more;
+      front = so_far.front ∙ ap (λ r. made ++ calls_below names r) first ∙ ap (λ b. made ++ (calls_for names name b ++ calls_below (names ++ name ∷ []) more)) more_is
+          ∙ ap (λ c. made ++ (c ++ calls_below (names ++ name ∷ []) more)) counted.front
+          ∙ ap (λ c. made ++ c) (append_assoc counted.made counted.unmade (calls_below (names ++ name ∷ []) more))
+          ∙ sym (append_assoc made counted.made (counted.unmade ++ calls_below (names ++ name ∷ []) more));
+      counted = counted.counted ∙ ap (λ s. count_calls s counted.made) so_far.counted ∙ sym (count-append old made counted.made);
+    }
+
+-- a stop before any further call
+pub stopped_here : (calls : List Call) (old now : DelegateStatistics) (names rest : List (List ℕ)) (made : List Call) → IsSoFar calls old now names rest made → IsCounted calls old now
+stopped_here calls old now names rest made so_far =
+    record { made = made; unmade = calls_below names rest; front = so_far.front; counted = so_far.counted }
+
+-- a last component has no rules file
+pub readings_last : (setup : Setup) (t : Names) (root : List ℕ) (s : RulesStatistics) (calls : List Call) (old now : DelegateStatistics) (names rest more : List (List ℕ)) (name : List ℕ) (made : List Call)
+    → IsSoFar calls old now names rest made → rest ≡ name ∷ more → is_nil more ≡ true → count_readings setup t root s calls ≡ count_readings setup t root s made
+readings_last setup t root s calls old now names rest [] name made so_far first more_is =
+    ap (count_readings setup t root s) (so_far.front ∙ ap (λ r. made ++ calls_below names r) first) ∙ readings-append setup t root s made (calls_for names name true)
+readings_last setup t root s calls old now names rest (other ∷ more) name made so_far first more_is = absurd (cc more_is)

@@ -1,0 +1,7 @@
+pub mod Deciding
+pub mod InStep
+pub mod Surplus
+pub mod Decided
+pub mod Stepping
+pub mod Descent
+pub mod Looking

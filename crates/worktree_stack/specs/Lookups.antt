@@ -1,0 +1,58 @@
+-- Where a lookup leaves a stack.
+use Rattle.std.specs.Prelude.{◌≡◌, ℕ, ◌+◌, ◌≤◌, ◌++◌, ◌||◌, ◌==◌, Bool, true, false, if◌then◌else◌, List, [], ◌∷◌, length, Option, Some, None, option_map, Result, Ok, Err}
+use Rattle.gitbase_core.specs.declared.entry.Mode.{Mode}
+use Rattle.gitbase_core.specs.Entry.{mode_bits, commit_mode, dir_mode}
+use Rattle.gitbase_core.specs.Path.{ends_in_slash}
+use Rattle.worktree_fs.specs.Paths.{spelled, without_last}
+use Rattle.worktree_fs.specs.PathStack.{Call, push, kept, names_at}
+use Rattle.worktree_stack.specs.declared.statistics.DelegateStatistics.{DelegateStatistics}
+use Rattle.worktree_stack.specs.Counted.{count_call, count_calls}
+use Rattle.worktree_stack.specs.Stacked.{Stacked}
+
+-- whether a path is a directory, by its mode: nothing is known without one, and submodules count as directories
+abbrev pub is_dir_of : Option Mode → Option Bool
+is_dir_of mode = option_map (λ m. (mode_bits m == commit_mode) || (mode_bits m == dir_mode)) mode
+
+-- an entry that ends in a slash is a directory, where its mode is not known
+abbrev pub is_dir_of_entry : List ℕ → Option Mode → Option Bool
+is_dir_of_entry path None = if ends_in_slash path then Some true else None
+is_dir_of_entry path (Some mode) = is_dir_of (Some mode)
+
+-- a path stands looked up: exactly its proper ancestors are pushed, for the empty path the root alone
+pub record IsLookedUp (s : Stacked) (names : List (List ℕ)) : Type 0 where
+  pub at : s.at ≡ Some (without_last names)
+  pub current : s.current ≡ names
+
+-- the directories that stay pushed in a lookup
+abbrev pub staying : Option (List (List ℕ)) → List (List ℕ) → Option (List (List ℕ))
+staying None names = None
+staying (Some pushed) names = Some (kept pushed names)
+
+-- one component below the deepest directory, which is counted
+abbrev pub stepped : Stacked → List ℕ → Stacked
+stepped s name =
+    record s {
+      current = names_at s.at ++ name ∷ [];
+      statistics = record s.statistics { delegate = count_call s.statistics.delegate (push (spelled (names_at s.at ++ name ∷ [])) false) };
+    }
+
+-- what is pushed lies on the way to a path: nothing, or one of its proper ancestors with all above it
+pub record IsOnTheWay (names pushed : List (List ℕ)) : Type 0 where
+  pub rest : List (List ℕ)
+  pub joined : without_last names ≡ pushed ++ rest
+
+abbrev pub IsOnWay : Option (List (List ℕ)) → List (List ℕ) → Type 0
+IsOnWay None names = Unit {0}
+IsOnWay (Some pushed) names = IsOnTheWay names pushed
+
+-- the first of the calls of a lookup were made, and counted
+pub record IsCounted (calls : List Call) (old new : DelegateStatistics) : Type 0 where
+  pub made : List Call
+  pub unmade : List Call
+  pub front : calls ≡ made ++ unmade
+  pub counted : new ≡ count_calls old made
+
+-- one for a refusal: the directory whose rules file was refused may have been read
+abbrev pub refused_one : {T E : Type 0} → Result T E → ℕ
+refused_one (Ok done) = 0
+refused_one (Err error) = 1

@@ -1,0 +1,95 @@
+//! What a stack says of the path that was looked up last.
+ghost use Rattle.std.specs.Prelude.{◌≡◌, ℕ, List, option_map, is_some};
+ghost use Rattle.gitbase_core.specs.Path.{components};
+ghost use Rattle.glob_rules.specs.Ignore.{match_of};
+ghost use Rattle.worktree_fs.specs.Paths.{full_path, spelled};
+ghost use Rattle.worktree_fs.specs.Tree.{Names};
+ghost use Rattle.worktree_stack.specs.Setup.{excluded_kind, deciding_hit};
+ghost use Rattle.worktree_stack.specs.Stacked.{IsInStep, made_of, rulebook_of};
+ghost use Rattle.worktree_stack.specs.Lookups.{IsLookedUp};
+ghost use Rattle.worktree_stack.specs.Excludes.{exclude, rule_of};
+
+use crate::stack::Stack;
+use bstr::BStr;
+use glob_rules::ignore::{Kind, Match};
+use std::fmt;
+use std::fmt::Write;
+use std::marker::Model;
+
+/// What a stack says of the path that was looked up last; gitoxide's `gix_worktree::stack::Platform`.
+///
+/// Contracts see the stack. Where it is in step with a tree and stands at the path, what it says is what the rules of that tree
+/// say, with every directory above the path looked at afresh. No call here takes memory.
+#[derive(Drop)]
+pub struct Platform<'a> {
+    parent: &'a Stack,
+}
+
+impl<'a> Model for Platform<'a> {
+    ghost use Rattle.worktree_stack.specs.Stacked.{Stacked};
+
+    ghost Value = { Stacked };
+
+    ghost view = { λ p. p.parent.now };
+}
+
+impl<'a> Platform<'a> {
+    pub(crate) fn new(parent: &'a Stack) -> Platform<'a>
+        ensures { result ≡ parent.now }
+    {
+        Platform { parent }
+    }
+
+    /// The whole path: the worktree root joined with the path that was looked up, its empty components dropped.
+    pub fn path(&self) -> &'a [u8]
+        ensures { result.now ≡ full_path self.now.root (spelled self.now.current) }
+    {
+        let parent: &'a Stack = self.parent;
+        parent.current()
+    }
+
+    /// The rule that decides whether the path is excluded, a negative one among them; none where no rule matches it.
+    ///
+    /// The nearest directory above the path that a rule matches comes first: a positive rule of it decides, whatever the rules
+    /// say of the path. Else the rule that matches the path decides, and where none does the negative one of the directory.
+    pub fn matching_exclude_pattern(&self) -> Option<Match<'a>>
+        ensures held { option_map match_of result ≡ deciding_hit self.now.held (spelled self.now.current) self.now.is_dir self.now.case }
+        ensures exclude { (t : Names) → IsInStep t self.now → (relative : List ℕ) → IsLookedUp self.now (components relative)
+            → option_map match_of result ≡ rule_of (exclude (rulebook_of (made_of self.now) t) (components relative) self.now.is_dir) }
+    {
+        let parent: &'a Stack = self.parent;
+        parent.matching_exclude_pattern()
+    }
+
+    /// What may become of the path where it is excluded; none where it is not.
+    pub fn excluded_kind(&self) -> Option<Kind>
+        ensures held { result ≡ excluded_kind (deciding_hit self.now.held (spelled self.now.current) self.now.is_dir self.now.case) }
+        ensures exclude { (t : Names) → IsInStep t self.now → (relative : List ℕ) → IsLookedUp self.now (components relative)
+            → result ≡ excluded_kind (rule_of (exclude (rulebook_of (made_of self.now) t) (components relative) self.now.is_dir)) }
+    {
+        match self.matching_exclude_pattern() {
+            Some(found) => if found.pattern.is_negative() {
+                None
+            } else {
+                Some(found.kind)
+            },
+            None => None,
+        }
+    }
+
+    /// Whether the path is excluded.
+    pub fn is_excluded(&self) -> bool
+        ensures held { result ≡ is_some (excluded_kind (deciding_hit self.now.held (spelled self.now.current) self.now.is_dir self.now.case)) }
+        ensures exclude { (t : Names) → IsInStep t self.now → (relative : List ℕ) → IsLookedUp self.now (components relative)
+            → result ≡ is_some (excluded_kind (rule_of (exclude (rulebook_of (made_of self.now) t) (components relative) self.now.is_dir))) }
+    {
+        self.excluded_kind().is_some()
+    }
+}
+
+/// The whole path, in quotes.
+impl<'a> fmt::Debug for Platform<'a> {
+    fn fmt<W: Write>(&self, f: &mut fmt::Formatter<W>) -> fmt::Result {
+        fmt::Debug::fmt(&BStr::new(self.path()), f)
+    }
+}

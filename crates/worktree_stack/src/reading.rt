@@ -1,0 +1,139 @@
+//! The rules file of a directory.
+ghost use Rattle.std.specs.Prelude.{true, ◌≡◌, ◌≤◌, ◌+◌, Some, Ok, IfOk, IfErr, OnOk};
+ghost use Rattle.gitbase_core.specs.Path.{joined};
+ghost use Rattle.worktree_fs.specs.Tree.{Names, look, found, file};
+ghost use Rattle.worktree_fs.specs.Causes.{Rose};
+ghost use Rattle.worktree_fs.specs.Paths.{full_path};
+ghost use Rattle.worktree_stack.specs.Reading.{rules_file, rules_at, reading};
+ghost use Rattle.worktree_stack.specs.Counted.{count_file, count_reading};
+ghost use Rattle.worktree_stack.specs.Refused.{OnFault, IsOfFile, IsRefusedFor};
+
+use crate::ignore_source::Source;
+use crate::{AtPathError, Ignore, RulesStatistics, RulesWhy};
+use gitbase_core::{Bytes, OutOfMemory, PathText};
+use glob_rules::ignore::List;
+use std::alloc::Global;
+use worktree_fs::{ReadAnswer, ReadError, Worktree};
+
+/// The rules of the directory at `directory`, a path below `root`, as its rules file gives them. A file gives its rules;
+/// nothing and a directory give none. The bytes are read into `buffer`.
+#[tactic(auto, unfolding(crate::specs::Reading::reading))]
+pub fn read_rules<W: Worktree>(
+    alloc: Global,
+    worktree: &mut W,
+    root: &[u8],
+    directory: &[u8],
+    ignore: &Ignore,
+    buffer: &mut Bytes,
+    statistics: &mut RulesStatistics,
+) -> Result<List, AtPathError>
+    ensures rules { (t : Names) → W.told worktree.old ≡ Some t
+        → IfOk result (λ list. reading ignore.now.setup t root.now directory.now ≡ Ok list) }
+    ensures refused { (t : Names) → W.told worktree.old ≡ Some t
+        → IfErr result (IsRefusedFor (reading ignore.now.setup t root.now directory.now)) }
+    ensures counted { (t : Names) → W.told worktree.old ≡ Some t
+        → OnOk result (statistics.new ≡ count_reading ignore.now.setup.source ignore.now.setup t root.now statistics.old directory.now) }
+    ensures about { IfErr result (IsOfFile (rules_file root.now ignore.now.setup directory.now)) }
+    ensures cause { IfErr result (OnFault (Rose (W.faults worktree.old) (W.faults worktree.new))) }
+    ensures tree { W.told worktree.new ≡ W.told worktree.old }
+    ensures faults { W.faults worktree.old ≤ W.faults worktree.new }
+    ensures list_faults { W.list_faults worktree.new ≡ W.list_faults worktree.old }
+    ensures reads { W.reads worktree.new ≤ W.reads worktree.old + 1 }
+    ensures lists { W.lists worktree.new ≡ W.lists worktree.old }
+    ensures precomposes { W.precomposes worktree.new ≡ W.precomposes worktree.old }
+{
+    match ignore.source() {
+        Source::IdMapping => Ok(List::new(alloc)),
+        Source::WorktreeThenIdMappingIfNotSkipped => {
+            let path = rules_path(alloc, root, directory, ignore.file_name())?;
+            read_file(alloc, worktree, path, directory, ignore, buffer, statistics)
+        },
+    }
+}
+
+/// The rules of a directory in the file at `path`, its last link followed.
+fn read_file<W: Worktree>(
+    alloc: Global,
+    worktree: &mut W,
+    path: PathText,
+    directory: &[u8],
+    ignore: &Ignore,
+    buffer: &mut Bytes,
+    statistics: &mut RulesStatistics,
+) -> Result<List, AtPathError>
+    ensures rules { (t : Names) → W.told worktree.old ≡ Some t
+        → IfOk result (λ list. rules_at ignore.now.setup directory.now path (look t path true) ≡ Ok list) }
+    ensures refused { (t : Names) → W.told worktree.old ≡ Some t
+        → IfErr result (IsRefusedFor (rules_at ignore.now.setup directory.now path (look t path true))) }
+    ensures counted { (t : Names) → W.told worktree.old ≡ Some t
+        → OnOk result (statistics.new ≡ count_file statistics.old (look t path true)) }
+    ensures about { IfErr result (IsOfFile path) }
+    ensures cause { IfErr result (OnFault (Rose (W.faults worktree.old) (W.faults worktree.new))) }
+    ensures tree { W.told worktree.new ≡ W.told worktree.old }
+    ensures faults { W.faults worktree.old ≤ W.faults worktree.new }
+    ensures list_faults { W.list_faults worktree.new ≡ W.list_faults worktree.old }
+    ensures reads { W.reads worktree.new ≤ W.reads worktree.old + 1 }
+    ensures lists { W.lists worktree.new ≡ W.lists worktree.old }
+    ensures precomposes { W.precomposes worktree.new ≡ W.precomposes worktree.old }
+{
+    let why = match worktree.read(alloc, path.as_bytes(), true, buffer) {
+        Ok(ReadAnswer::Read) => {
+            return list_of(alloc, buffer, path, directory, ignore, statistics);
+        },
+        Ok(ReadAnswer::Absent) | Ok(ReadAnswer::IsDirectory) => {
+            statistics.tried_pattern_files = statistics.tried_pattern_files.saturating_add(1);
+            return Ok(List::new(alloc));
+        },
+        Ok(ReadAnswer::IsLink) => RulesWhy::Link,
+        Ok(ReadAnswer::LinkLimit) => RulesWhy::LinkLimit,
+        Ok(ReadAnswer::Special) => RulesWhy::Special,
+        Err(ReadError::Fault) => RulesWhy::Fault,
+        Err(ReadError::OutOfMemory) => return Err(AtPathError::OutOfMemory),
+    };
+    Err(AtPathError::RulesFile { path, why })
+}
+
+/// The rules of a file whose bytes were read.
+fn list_of(
+    alloc: Global,
+    bytes: &Bytes,
+    path: PathText,
+    directory: &[u8],
+    ignore: &Ignore,
+    statistics: &mut RulesStatistics,
+) -> Result<List, AtPathError>
+    ensures rules { IfOk result (λ list. rules_at ignore.now.setup directory.now path (found (file bytes.now)) ≡ Ok list) }
+    ensures counted { OnOk result (statistics.new ≡ count_file statistics.old (found (file bytes.now))) }
+    ensures refused { IfErr result (λ e. e ≡ AtPathError.OutOfMemory) }
+{
+    statistics.tried_pattern_files = statistics.tried_pattern_files.saturating_add(1);
+    statistics.pattern_files = statistics.pattern_files.saturating_add(1);
+    let base = PathText::from_bytes(alloc, directory)?;
+    let list = List::from_bytes(alloc, bytes.as_bytes(), Some(path), base, ignore.parse())?;
+    Ok(list)
+}
+
+/// The whole path of the rules file of a directory.
+fn rules_path(
+    alloc: Global,
+    root: &[u8],
+    directory: &[u8],
+    name: &[u8],
+) -> Result<PathText, OutOfMemory>
+    ensures { IfOk result (λ path. path ≡ full_path root.now (joined directory.now name.now)) }
+{
+    let mut path = PathText::from_bytes(alloc, directory)?;
+    path.push_component(alloc, name)?;
+    whole_path(alloc, root, path.as_bytes())
+}
+
+/// The whole path of one below a root.
+fn whole_path(alloc: Global, root: &[u8], path: &[u8]) -> Result<PathText, OutOfMemory>
+    ensures { IfOk result (λ whole. whole ≡ full_path root.now path.now) }
+{
+    let mut whole = PathText::from_bytes(alloc, root)?;
+    if !path.is_empty() {
+        whole.push_component(alloc, path)?;
+    }
+    Ok(whole)
+}

@@ -1,0 +1,250 @@
+//! Lookups worked out by hand, and each call that takes memory with enough of it.
+use crate::ignore_source::Source;
+use crate::{AtPathError, Ignore, RulesWhy, Stack, State};
+use gitbase_core::{Bytes, MemoryStore, Mode, OutOfMemory, PathText};
+use glob_rules::Case;
+use glob_rules::ignore::{Kind, List, ParseIgnore, Search};
+use std::alloc::Global;
+use std::test::Fail;
+use worktree_fs::{CallKind, MemoryWorktree, NewNode};
+
+/// A search over one list of rules that is for all paths.
+fn search_of(alloc: Global, rules: &[u8]) -> Result<Search, OutOfMemory> {
+    let mut search = Search::new(alloc);
+    let list = List::from_bytes(alloc, rules, None, PathText::new(alloc), parse())?;
+    search.push_list(alloc, list)?;
+    Ok(search)
+}
+
+fn parse() -> ParseIgnore {
+    ParseIgnore {
+        support_precious: false,
+    }
+}
+
+/// A stack below `/w` with these overrides and globals.
+fn stack_of(
+    alloc: Global,
+    overrides: &[u8],
+    globals: &[u8],
+    source: Source,
+) -> Result<Stack, OutOfMemory> {
+    let overrides = search_of(alloc, overrides)?;
+    let globals = search_of(alloc, globals)?;
+    let ignore = Ignore::new(alloc, overrides, globals, None, source, parse())?;
+    let root = PathText::from_bytes(alloc, b"/w")?;
+    Ok(Stack::new(
+        alloc,
+        root,
+        State::IgnoreStack(ignore),
+        Case::Sensitive,
+        Bytes::new(alloc),
+        Vec::new(alloc),
+    ))
+}
+
+/// A worktree with these files in `/w`.
+fn tree_of(alloc: Global, files: &[(&[u8], &[u8])]) -> Result<MemoryWorktree, Fail> {
+    let mut tree = MemoryWorktree::new(alloc, false);
+    tree.add(alloc, b"/w", NewNode::Directory)?;
+    for (path, bytes) in files.iter() {
+        tree.add(alloc, path, NewNode::File(bytes))?;
+    }
+    Ok(tree)
+}
+
+/// What decides about a path: the kind where it is excluded, the pattern's text and its line.
+type Decision = (Option<Kind>, Bytes, usize);
+
+fn decision_at(
+    alloc: Global,
+    stack: &mut Stack,
+    tree: &mut MemoryWorktree,
+    path: &[u8],
+) -> Result<Decision, AtPathError> {
+    stack.at_path(alloc, path, None, tree, &mut MemoryStore::new(alloc))?;
+    let platform = stack.platform();
+    match platform.matching_exclude_pattern() {
+        Some(found) => Ok((
+            platform.excluded_kind(),
+            Bytes::from_slice(alloc, found.pattern.text())?,
+            found.sequence_number,
+        )),
+        None => Ok((None, Bytes::new(alloc), 0)),
+    }
+}
+
+#[test]
+fn an_excluded_directory_of_the_globals(rt: HostRuntime) -> Result<(), Fail> {
+    let alloc = rt.alloc();
+    let mut tree = tree_of(alloc, &[])?;
+    let mut stack = stack_of(alloc, b"", b"/a/", Source::default())?;
+    let (kind, text, line) = decision_at(alloc, &mut stack, &mut tree, b"a/f")?;
+    assert_eq!(rt; kind, Some(Kind::Expendable));
+    assert_eq!(rt; text.as_bytes(), b"a".as_slice());
+    assert_eq!(rt; line, 1);
+    assert!(rt; stack.platform().is_excluded());
+    assert_eq!(rt; stack.platform().path(), b"/w/a/f".as_slice());
+    Ok(())
+}
+
+#[test]
+fn a_negative_match_of_the_nearest_directory(rt: HostRuntime) -> Result<(), Fail> {
+    let alloc = rt.alloc();
+    let files: [(&[u8], &[u8]); 2] = [
+        (b"/w/.gitignore", b"build/\n"),
+        (b"/w/build/.gitignore", b"!sub/\n"),
+    ];
+    let mut tree = tree_of(alloc, &files)?;
+    let mut stack = stack_of(alloc, b"", b"", Source::default())?;
+    let (kind, text, line) = decision_at(alloc, &mut stack, &mut tree, b"build/sub/x")?;
+    assert_eq!(rt; kind, None);
+    assert_eq!(rt; text.as_bytes(), b"sub".as_slice());
+    assert_eq!(rt; line, 1);
+    Ok(())
+}
+
+#[test]
+fn a_sibling_is_not_asked_any_more(rt: HostRuntime) -> Result<(), Fail> {
+    let alloc = rt.alloc();
+    let mut tree = tree_of(alloc, &[(b"/w/a/b/.gitignore", b"*\n")])?;
+    let mut stack = stack_of(alloc, b"", b"", Source::default())?;
+    let (inside, _, _) = decision_at(alloc, &mut stack, &mut tree, b"a/b/c")?;
+    assert_eq!(rt; inside, Some(Kind::Expendable));
+    let (outside, _, _) = decision_at(alloc, &mut stack, &mut tree, b"a/b")?;
+    assert_eq!(rt; outside, None);
+    let refused = decision_at(alloc, &mut stack, &mut tree, b"../x");
+    assert!(rt; matches!(refused, Err(AtPathError::NotNormal)));
+    assert_eq!(rt; stack.statistics().platforms, 3);
+    assert_eq!(rt; stack.statistics().delegate.push_element, 4);
+    assert_eq!(rt; stack.statistics().delegate.push_directory, 3);
+    assert_eq!(rt; stack.statistics().delegate.pop_directory, 1);
+    assert_eq!(rt; stack.statistics().ignore.tried_pattern_files, 3);
+    assert_eq!(rt; stack.statistics().ignore.pattern_files, 1);
+    decision_at(alloc, &mut stack, &mut tree, b"a/x")?;
+    assert_eq!(rt; stack.statistics().delegate.push_directory, 3);
+    assert_eq!(rt; stack.statistics().delegate.pop_directory, 1);
+    Ok(())
+}
+
+/// Paths looked up one after another answer as they do in a stack of their own.
+#[test]
+fn history_decides_nothing(rt: HostRuntime) -> Result<(), Fail> {
+    let alloc = rt.alloc();
+    let files: [(&[u8], &[u8]); 4] = [
+        (b"/w/.gitignore", b"*.o\n!k.o\n/out/\n"),
+        (b"/w/a/.gitignore", b"!x.o\nlog\n"),
+        (b"/w/a/b/.gitignore", b"*\n!keep\n"),
+        (b"/w/out/.gitignore", b"!*.o\n"),
+    ];
+    let mut tree = tree_of(alloc, &files)?;
+    let mut stack = stack_of(alloc, b"forced\n", b"*~\n!a/b/forced\n", Source::default())?;
+    let paths: [&[u8]; 12] = [
+        b"x.o",
+        b"a/x.o",
+        b"a/b/x.o",
+        b"a/b/keep",
+        b"out/x.o",
+        b"a/log",
+        b"a/b",
+        b"",
+        b"a/b/forced",
+        b"k.o",
+        b"a//c/y~",
+        b"a/b/c/keep",
+    ];
+    for path in paths.iter() {
+        let (kind, text, line) = decision_at(alloc, &mut stack, &mut tree, path)?;
+        let mut fresh = stack_of(alloc, b"forced\n", b"*~\n!a/b/forced\n", Source::default())?;
+        let (fresh_kind, fresh_text, fresh_line) = decision_at(alloc, &mut fresh, &mut tree, path)?;
+        assert_eq!(rt; kind, fresh_kind);
+        assert_eq!(rt; text.as_bytes(), fresh_text.as_bytes());
+        assert_eq!(rt; line, fresh_line);
+    }
+    Ok(())
+}
+
+#[test]
+fn rules_files_that_are_refused(rt: HostRuntime) -> Result<(), Fail> {
+    let alloc = rt.alloc();
+    let nodes: [(NewNode, RulesWhy); 2] = [
+        (NewNode::Link(b".gitignore"), RulesWhy::LinkLimit),
+        (NewNode::Other, RulesWhy::Special),
+    ];
+    for (node, want) in nodes {
+        let mut tree = MemoryWorktree::new(alloc, false);
+        tree.add(alloc, b"/w/a/.gitignore", node)?;
+        let mut stack = stack_of(alloc, b"", b"", Source::default())?;
+        match decision_at(alloc, &mut stack, &mut tree, b"a/f") {
+            Err(AtPathError::RulesFile { path, why }) => {
+                assert_eq!(rt; path.as_bytes(), b"/w/a/.gitignore".as_slice());
+                assert_eq!(rt; why, want);
+            },
+            _ => assert!(rt; false),
+        }
+        let (kind, _, _) = decision_at(alloc, &mut stack, &mut tree, b"g")?;
+        assert_eq!(rt; kind, None);
+    }
+    Ok(())
+}
+
+#[test]
+fn a_fault_is_no_answer_and_the_next_lookup_is_right(rt: HostRuntime) -> Result<(), Fail> {
+    let alloc = rt.alloc();
+    let mut tree = tree_of(alloc, &[(b"/w/.gitignore", b"f\n")])?;
+    tree.fail(alloc, CallKind::Read, 1)?;
+    let mut stack = stack_of(alloc, b"", b"", Source::default())?;
+    let refused = decision_at(alloc, &mut stack, &mut tree, b"f");
+    assert!(rt;
+        matches!(
+            refused,
+            Err(AtPathError::RulesFile {
+                why: RulesWhy::Fault,
+                ..
+            })
+        )
+    );
+    let (kind, _, _) = decision_at(alloc, &mut stack, &mut tree, b"f")?;
+    assert_eq!(rt; kind, Some(Kind::Expendable));
+    Ok(())
+}
+
+#[test]
+fn entries_and_sources(rt: HostRuntime) -> Result<(), Fail> {
+    let alloc = rt.alloc();
+    let mut objects = MemoryStore::new(alloc);
+    let mut tree = tree_of(alloc, &[(b"/w/.gitignore", b"d/\n")])?;
+    let mut stack = stack_of(alloc, b"", b"", Source::default())?;
+    let table: [(&[u8], Option<Mode>, bool); 4] = [
+        (b"d/", None, true),
+        (b"d", None, false),
+        (b"d", Some(Mode::COMMIT), true),
+        (b"d/", Some(Mode::FILE), false),
+    ];
+    for (path, mode, want) in table {
+        stack.at_entry(alloc, path, mode, &mut tree, &mut objects)?;
+        assert_eq!(rt; stack.platform().is_excluded(), want);
+    }
+    assert_eq!(rt; stack.take_statistics().platforms, 4);
+    assert_eq!(rt; stack.statistics().platforms, 0);
+    let mut mapped = stack_of(alloc, b"", b"", Source::default().adjust_for_bare(true))?;
+    mapped.at_entry(alloc, b"d/", None, &mut tree, &mut objects)?;
+    assert!(rt; !mapped.platform().is_excluded());
+    assert_eq!(rt; mapped.statistics().ignore.tried_pattern_files, 0);
+    Ok(())
+}
+
+#[test]
+fn letters_and_debug_text(rt: HostRuntime) -> Result<(), Fail> {
+    let alloc = rt.alloc();
+    let mut tree = tree_of(alloc, &[(b"/w/.gitignore", b"NAME\n")])?;
+    let mut stack = stack_of(alloc, b"", b"", Source::default())?;
+    stack.set_case(Case::Fold);
+    let (kind, _, _) = decision_at(alloc, &mut stack, &mut tree, b"name")?;
+    assert_eq!(rt; kind, Some(Kind::Expendable));
+    assert_eq!(rt; stack.base(), b"/w".as_slice());
+    assert!(rt; stack.has_excludes() && !stack.has_attributes());
+    let text = format!(in alloc; "{:?}", stack.platform())?;
+    assert_eq!(rt; text.as_str(), "\"/w/name\"");
+    Ok(())
+}
