@@ -16,8 +16,8 @@ use crate::{branch, field, path, update, url};
 use git_config_lite::ValueError;
 use std::alloc::Global;
 
-/// Every value is the last one that there is for a name, overrides included. Names are compared by their bytes; a name that
-/// is not told has no values.
+/// Every value is the last one that there is for a name, overrides included, also for a name that stands in an override alone.
+/// Names are compared by their bytes.
 impl File {
     /// The last value of a key of a submodule.
     fn value(&self, name: &[u8], key: &[u8]) -> Option<&[u8]>
@@ -71,8 +71,7 @@ impl File {
         branch::branch_of(alloc, name, self.value(name, b"branch"))
     }
 
-    /// Whether a fetch goes on into the submodule: its `fetchRecurseSubmodules`, if it is set. Where it is not,
-    /// `fetch.recurseSubmodules` decides. `Invalid` comes exactly where it is no boolean and not `on-demand`.
+    /// Whether a fetch goes on into the submodule: its `fetchRecurseSubmodules`, if it is set. `Invalid` comes exactly where it is no boolean and not `on-demand`.
     pub fn fetch_recurse(
         &self,
         alloc: Global,

@@ -84,8 +84,9 @@ impl File {
     /// Adds what a configuration says in place of `.gitmodules`, behind all that is there.
     ///
     /// For each name that has a value of `branch`, `fetchRecurseSubmodules`, `ignore`, `update` or `url` there, in the order
-    /// of their bytes, this is one section with the last value of each of these keys. It stays as it was where memory is
-    /// refused.
+    /// of their bytes, this is one section with the last value of each of these keys; a key without value counts as the
+    /// empty text. The section has the configuration's path and source, or `Api` where that is `Modules`. The file stays as it
+    /// was where memory is refused.
     pub fn append_submodule_overrides(
         &mut self,
         alloc: Global,
@@ -117,7 +118,7 @@ impl File {
         &self.config
     }
 
-    /// The path of the first section that has one, which is that of `.gitmodules` if that is a file with sections.
+    /// The path of the first section that has one, an override of a configuration among them; none without such a section.
     pub fn config_path(&self) -> Option<&[u8]>
         ensures { option_copied result ≡ access.config_path self.now.sections }
     {

@@ -23,7 +23,7 @@ pub enum Error {
         /// How many of its bytes stand before the fault.
         at: usize,
     },
-    /// A value begins with a slash, or leads out of the top.
+    /// The path of a value's spec begins with a slash, or leads out of the top.
     #[error("NormalizePattern")]
     NormalizePattern {
         /// Which value, counted from 1.
@@ -122,12 +122,12 @@ impl IsActivePlatform {
         }
     }
 
-    /// Whether the submodule of a name is active, as gitsubmodules(7) has it under "Active submodules".
+    /// Whether the submodule of a name is active: the rule of gitsubmodules(7) under "Active submodules", for the name in place
+    /// of the path.
     ///
     /// `submodule.NAME.active` of the configuration decides, if it is set; the error has its text where it is no boolean.
     /// Else, where `submodule.active` has values, they decide: the submodule is active if the name, as that of a directory,
-    /// is matched and not excluded. Else it is active if the configuration has a `submodule.NAME.url`. The configuration is
-    /// the one that the specs are of.
+    /// is matched and not excluded. Else it is active if the configuration has a `submodule.NAME.url`.
     pub fn is_active<'c>(
         &mut self,
         config: &'c config::File,

@@ -85,7 +85,7 @@ impl Url {
     /// A scheme, which is a letter and then letters, digits, `+`, `.` and `-`, is followed by `://`, the authority up to
     /// the first `/`, and the path. Else a text whose first `:` has some byte before it and no `/` is `[user@]host:path`
     /// over ssh, and any other one a path on this machine. `EmptyHost` comes exactly where http, https, ssh or git have no
-    /// host, and `Port` exactly where there is one and the port is no number from 0 to 65535; an empty port is none.
+    /// host, and else `Port` exactly where the port is no number from 0 to 65535; an empty port is none.
     pub fn parse(alloc: Global, text: &[u8]) -> Result<Url, UrlError>
         ensures { UrlGives result (url_of text.now) }
     {

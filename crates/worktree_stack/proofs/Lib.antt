@@ -5,3 +5,4 @@ pub mod Decided
 pub mod Stepping
 pub mod Descent
 pub mod Looking
+pub mod Listing

@@ -7,7 +7,12 @@ use Rattle.worktree_fs.specs.Paths.{spelled, without_last}
 use Rattle.worktree_fs.specs.PathStack.{Call, push, kept, names_at}
 use Rattle.worktree_stack.specs.declared.statistics.DelegateStatistics.{DelegateStatistics}
 use Rattle.worktree_stack.specs.Counted.{count_call, count_calls}
-use Rattle.worktree_stack.specs.Stacked.{Stacked}
+use Rattle.glob_rules.specs.declared.ignore.Kind.{Kind}
+use Rattle.gitbase_core.specs.Path.{components}
+use Rattle.worktree_fs.specs.Tree.{Names}
+use Rattle.worktree_stack.specs.Setup.{excluded_kind}
+use Rattle.worktree_stack.specs.Excludes.{exclude, rule_of}
+use Rattle.worktree_stack.specs.Stacked.{Stacked, Made, rulebook_of}
 
 -- whether a path is a directory, by its mode: nothing is known without one, and submodules count as directories
 abbrev pub is_dir_of : Option Mode → Option Bool
@@ -56,3 +61,7 @@ pub record IsCounted (calls : List Call) (old new : DelegateStatistics) : Type 0
 abbrev pub refused_one : {T E : Type 0} → Result T E → ℕ
 refused_one (Ok done) = 0
 refused_one (Err error) = 1
+
+-- what becomes of a path in a tree by the rules of a stack that was made so, where nothing is known of its kind
+unfoldable pub kind_alone : Made → Names → List ℕ → Option Kind
+kind_alone made t path = excluded_kind (rule_of (exclude (rulebook_of made t) (components path) None))

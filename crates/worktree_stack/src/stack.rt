@@ -1,5 +1,5 @@
 //! A stack of the directories above a path, with the rules of each.
-ghost use Rattle.std.specs.Prelude.{◌≡◌, ◌⊎◌, ◌≤◌, ◌+◌, ◌++◌, ◌∷◌, [], ℕ, Bool, true, false, length, drop, replicate, is_some, option_map, Some, None, IfOk, IfErr, OnOk, OnErr, IsErrOf};
+ghost use Rattle.std.specs.Prelude.{◌≡◌, ◌⊎◌, ◌≤◌, ◌+◌, ◌++◌, ◌∷◌, [], ℕ, Bool, true, false, length, map, is_some, option_map, Some, None, IfOk, IfErr, OnOk, OnErr, IsErrOf};
 ghost use Rattle.std.specs.Borrow.{sem};
 ghost use Rattle.worktree_stack.specs.Lending.{LendsState};
 ghost use Rattle.gitbase_core.specs.Path.{components};
@@ -11,7 +11,7 @@ ghost use Rattle.worktree_fs.specs.Tree.{Names};
 ghost use Rattle.worktree_stack.specs.Setup.{Held, deciding_hit};
 ghost use Rattle.glob_rules.specs.Ignore.{match_of};
 ghost use Rattle.worktree_stack.specs.Stacked.{Stacked, AreThoseOf, IsInStep, made_of, pushed, held_of};
-ghost use Rattle.worktree_stack.specs.Lookups.{is_dir_of, is_dir_of_entry, IsLookedUp, staying, stepped, IsOnWay, IsCounted, refused_one};
+ghost use Rattle.worktree_stack.specs.Lookups.{kind_alone, is_dir_of, is_dir_of_entry, IsLookedUp, staying, stepped, IsOnWay, IsCounted, refused_one};
 ghost use Rattle.worktree_stack.specs.Counted.{no_statistics, one_more, count_platform, count_call, count_calls, count_reading, count_readings};
 ghost use Rattle.worktree_stack.specs.Excludes.{ancestors};
 ghost use Rattle.worktree_stack.specs.Refused.{OnFault, IsAbout, IsOnWayTo, Refuses, IsOfFile, IsRefusedFor};
@@ -23,7 +23,7 @@ use crate::platform::Platform;
 use crate::{AtPathError, State, Statistics};
 use gitbase_core::{Bytes, Find, Mode, ObjectId, PathText};
 use glob_rules::Case;
-use glob_rules::ignore::Match;
+use glob_rules::ignore::{Kind, Match};
 use std::alloc::Global;
 use std::marker::Model;
 use worktree_fs::{PathStack, Worktree, is_normal};
@@ -67,7 +67,7 @@ impl Model for Stack {
 impl Stack {
     /// A stack below a worktree root, on which nothing is pushed; takes no memory.
     ///
-    /// `worktree_root` is absolute, without `.` and `..`. `case` says how letters compare in all rules. `buf` is used when files
+    /// `worktree_root` is to be absolute, without `.` and `..`, as paths in the worktree begin with it. `case` says how letters compare in all rules. `buf` is used when files
     /// are read. Mappings of rules files to blobs are not taken yet: `id_mappings` has none.
     pub fn new(
         alloc: Global,
@@ -92,8 +92,7 @@ impl Stack {
         }
     }
 
-    /// Whether a last component that is a link is to be refused in checkout: nothing reads this but on Windows, where gitoxide
-    /// has it.
+    /// Sets a flag that nothing reads: gitoxide asks it on Windows, in checkout.
     pub fn enable_terminal_symlink_check(&mut self)
         ensures { self.new ≡ self.old }
     {
@@ -149,14 +148,14 @@ impl Stack {
         &self.state
     }
 
-    /// What the stack says of the path that was looked up last.
+    /// What the stack says of the path that was looked up last. It speaks of a path only after a lookup that was answered.
     pub fn platform(&self) -> Platform<'_>
         ensures { result ≡ self.now }
     {
         Platform::new(self)
     }
 
-    /// The whole path that was looked up last; after a refusal the deepest directory that is pushed.
+    /// The whole path that was looked up last.
     pub(crate) fn current(&self) -> &[u8]
         ensures { result.now ≡ full_path self.now.root (spelled self.now.current) }
     {
@@ -194,11 +193,12 @@ impl Stack {
     /// reading the rules of each. [`Stack::platform`] then says what holds for it.
     ///
     /// Empty components mean nothing. `mode` is that of the path in an index, where it is known, and says whether the path is a
-    /// directory. Only the last component may be a link or be missing.
+    /// directory. Whether anything is at the path makes no difference.
     ///
-    /// Refused are a path that begins with `/` or has a component `.` or `..` (`NotNormal`, and nothing changes but the count of
-    /// lookups), and one with a directory above it whose rules file is a link without an end or neither file nor directory, or
-    /// could not be read (`RulesFile`). After that the directories that are pushed lie on the way to the path.
+    /// A path that begins with `/` or has a component `.` or `..` is refused exactly so (`NotNormal`), and nothing changes but the
+    /// count of lookups. `RulesFile` comes only for the rules file of a directory above the path, or of the root where the path
+    /// is empty, which leads along too many links, is neither file nor directory, or could not be read. After that the
+    /// directories that are pushed lie on the way to the path.
     ///
     /// `objects` are not asked, as long as no rules file is mapped to a blob.
     pub fn at_path<W: Worktree, F: Find>(
@@ -295,5 +295,35 @@ impl Stack {
             _ => mode,
         };
         self.at_path(alloc, relative, mode, worktree, objects)
+    }
+
+    /// What may become of each of some paths where it is excluded, none where it is not; as `git check-ignore` answers for a
+    /// list of paths. Nothing is known of their kinds. What was looked up before decides nothing.
+    ///
+    /// Refused at the first path for which [`Stack::at_path`] is, and for its reasons.
+    pub fn excluded_kinds<W: Worktree, F: Find>(
+        &mut self,
+        alloc: Global,
+        paths: &[Bytes],
+        worktree: &mut W,
+        objects: &mut F,
+    ) -> Result<Vec<Option<Kind>>, AtPathError>
+        ensures kinds { (t : Names) → W.told worktree.old ≡ Some t → IsInStep t self.old
+            → IfOk result (λ kinds. kinds.items ≡ map (kind_alone (made_of self.old) t) paths.now) }
+        ensures setup { made_of self.new ≡ made_of self.old }
+        ensures in_step { (t : Names) → W.told worktree.old ≡ Some t → IsInStep t self.old → IsInStep t self.new }
+        ensures cause { IfErr result (OnFault (Rose (W.faults worktree.old) (W.faults worktree.new))) }
+        ensures tree { W.told worktree.new ≡ W.told worktree.old }
+        ensures faults { W.faults worktree.old ≤ W.faults worktree.new }
+        ensures list_faults { W.list_faults worktree.new ≡ W.list_faults worktree.old }
+        ensures lists { W.lists worktree.new ≡ W.lists worktree.old }
+        ensures objects { F.holds objects.new ≡ F.holds objects.old }
+    {
+        let mut kinds = Vec::with_capacity(alloc, paths.len())?;
+        for path in paths {
+            self.at_path(alloc, path.as_bytes(), None, worktree, objects)?;
+            kinds.push(self.platform().excluded_kind())?;
+        }
+        Ok(kinds)
     }
 }
