@@ -2,6 +2,8 @@ pub mod Asked
 pub mod Class
 pub mod Enters
 pub mod Entries
+pub mod Excludes
 pub mod Kinds
 pub mod Meanings
 pub mod Paths
+pub mod Refused

@@ -1,19 +1,26 @@
 //! The class of a path.
-ghost use Rattle.std.specs.Prelude.{◌≡◌, ◌≤◌, ◌⊎◌, true, Some, None, [], IfOk, IfErr};
+ghost use Rattle.std.specs.Prelude.{◌≡◌, ◌≤◌, ◌⊎◌, Option, true, false, Some, None, [], IfOk, IfErr, OnOk};
+ghost use Rattle.worktree_fs.specs.Paths.{is_normal};
 ghost use Rattle.worktree_fs.specs.Tree.{Names};
 ghost use Rattle.worktree_fs.specs.Causes.{Quiet, Rose};
-ghost use Rattle.dir_classify.specs.Kinds.{is_dir, answers_alike, first_of_kinds};
+ghost use Rattle.worktree_stack.specs.Stacked.{Made};
+ghost use Rattle.dir_classify.specs.Kinds.{first_of_kinds};
 ghost use Rattle.dir_classify.specs.Paths.{full_path};
-ghost use Rattle.dir_classify.specs.Class.{class, is_dot_git, class_dot_git, class_of_kind};
+ghost use Rattle.dir_classify.specs.Class.{class, asks, asks_unread, is_dot_git, class_dot_git, is_indexed, class_of_kind, status_of_rules};
 ghost use Rattle.dir_classify.specs.Meanings.{meanings};
+ghost use Rattle.dir_classify.specs.Excludes.{made_with, InStepIf};
+ghost use Rattle.dir_classify.specs.Refused.{IsAbout, Refuses, OnAccess, OnFault};
 ghost use Rattle.dir_classify.specs.Asked.{asked, IsSwallowed, root_class};
 
 use crate::entry::{Entry, Kind, PathspecMatch, Property, Status};
 use crate::error::Error;
+use crate::excludes::excluded;
 use crate::index::{InIndex, in_index};
-use gitbase_core::{OutOfMemory, PathText, State};
+use gitbase_core::{Find, OutOfMemory, PathText, State};
+use glob_rules::ignore;
 use std::alloc::Global;
 use worktree_fs::{ReadError, Worktree};
+use worktree_stack::Stack;
 
 /// The class of a path: all that an entry says of it.
 #[derive(Clone, Copy, Debug)]
@@ -49,29 +56,59 @@ impl From<&Entry> for Outcome {
 ///
 /// `disk_kind` is the kind of its node where the caller knows it. Where neither that nor an up-to-date entry of the
 /// index tells the kind, the worktree is asked, if `ask_disk` allows it; a fault of that question reads as no kind,
-/// and is counted by the worktree. The only error is want of memory.
-pub fn path<W: Worktree>(
+/// and is counted by the worktree.
+///
+/// `excludes` are asked, where they are given, for a path that the index does not have: it is excluded by the rules of
+/// the directories above it, which are read as they are needed, and kept for the next path. `objects` are not asked, as
+/// long as no rules file is mapped to a blob.
+///
+/// Refused is a path with a directory above it whose rules file is a link without an end or neither file nor
+/// directory, or could not be read (`ExcludesAccess`). `rela_path` is normal: no component is `.` or `..`.
+pub fn path<W: Worktree, F: Find>(
     alloc: Global,
     worktree_root: &[u8],
     rela_path: &[u8],
     disk_kind: Option<Kind>,
     ask_disk: bool,
     index: &State,
+    excludes: &mut Option<Stack>,
     worktree: &mut W,
+    objects: &mut F,
 ) -> Result<Outcome, Error>
-    ensures class { (t : Names) → W.told worktree.old ≡ Some t → Quiet (W.faults worktree.old) (W.faults worktree.new)
-        → IfOk result (λ c. c ≡ class (meanings index.now) rela_path.now disk_kind
+    // Over a told tree with which the rules are in step, and without a fault, it is exactly the class, and every rules
+    // file that it needs was read. A fault of the question for the kind reads as no kind.
+    ensures class { (t : Names) → W.told worktree.old ≡ Some t → InStepIf t excludes.old
+        → Quiet (W.faults worktree.old) (W.faults worktree.new)
+        → IfOk result (λ c. c ≡ class (meanings index.now (made_with excludes.old) t) rela_path.now disk_kind
         (asked t (full_path worktree_root.now rela_path.now) ask_disk)) }
-    ensures swallowed { (t : Names) → W.told worktree.old ≡ Some t
-        → IfOk result (IsSwallowed (meanings index.now) rela_path.now disk_kind
+    ensures read { (t : Names) → W.told worktree.old ≡ Some t → InStepIf t excludes.old
+        → Quiet (W.faults worktree.old) (W.faults worktree.new)
+        → OnOk result (asks_unread (meanings index.now (made_with excludes.old) t) rela_path.now disk_kind
+        (asked t (full_path worktree_root.now rela_path.now) ask_disk) ≡ false) }
+    ensures swallowed { (t : Names) → W.told worktree.old ≡ Some t → InStepIf t excludes.old
+        → IfOk result (IsSwallowed (meanings index.now (made_with excludes.old) t) rela_path.now disk_kind
         (asked t (full_path worktree_root.now rela_path.now) ask_disk)) }
-    ensures refused { IfErr result (λ e. e ≡ Error.OutOfMemory) }
+
+    // Each refusal has its cause.
+    ensures about { is_normal rela_path.now ≡ true → IfErr result (IsAbout (made_with excludes.old) rela_path.now) }
+    ensures refused { (t : Names) → W.told worktree.old ≡ Some t
+        → IfErr result (Refuses t (made_with excludes.old) rela_path.now) }
+    ensures asks { (t : Names) → W.told worktree.old ≡ Some t → Quiet (W.faults worktree.old) (W.faults worktree.new)
+        → IfErr result (OnAccess (asks (meanings index.now (made_with excludes.old) t) rela_path.now disk_kind
+        (asked t (full_path worktree_root.now rela_path.now) ask_disk) ≡ true)) }
+    ensures cause { IfErr result (OnFault (Rose (W.faults worktree.old) (W.faults worktree.new))) }
+
+    // What stays.
+    ensures made { made_with excludes.new ≡ made_with excludes.old }
+    ensures in_step { (t : Names) → W.told worktree.old ≡ Some t → InStepIf t excludes.old → InStepIf t excludes.new }
     ensures tree { W.told worktree.new ≡ W.told worktree.old }
     ensures faults { W.faults worktree.old ≤ W.faults worktree.new }
     ensures list_faults { W.list_faults worktree.new ≡ W.list_faults worktree.old }
-    ensures reads { W.reads worktree.new ≡ W.reads worktree.old }
+    ensures reads { made_with excludes.old ≡ None → W.reads worktree.new ≡ W.reads worktree.old }
     ensures lists { W.lists worktree.new ≡ W.lists worktree.old }
     ensures precomposes { W.precomposes worktree.new ≡ W.precomposes worktree.old }
+    ensures objects { F.holds objects.new ≡ F.holds objects.old }
+    ensures object_faults { F.faults objects.new ≡ F.faults objects.old }
 {
     let full = full_path(alloc, worktree_root, rela_path)?;
     at(
@@ -81,47 +118,85 @@ pub fn path<W: Worktree>(
         disk_kind,
         ask_disk,
         index,
+        excludes,
         worktree,
+        objects,
     )
 }
 
 /// The class of `rela_path` as [`path`] says it, for a caller that has the whole path already.
-#[tactic(auto, unfolding(crate::specs::Class::class))]
-pub fn at<W: Worktree>(
+#[tactic(auto, unfolding(crate::specs::Class::class, crate::specs::Class::asks))]
+pub fn at<W: Worktree, F: Find>(
     alloc: Global,
     full_path: &[u8],
     rela_path: &[u8],
     disk_kind: Option<Kind>,
     ask_disk: bool,
     index: &State,
+    excludes: &mut Option<Stack>,
     worktree: &mut W,
+    objects: &mut F,
 ) -> Result<Outcome, Error>
-    ensures class { (t : Names) → W.told worktree.old ≡ Some t → Quiet (W.faults worktree.old) (W.faults worktree.new)
-        → IfOk result (λ c. c ≡ class (meanings index.now) rela_path.now disk_kind (asked t full_path.now ask_disk)) }
-    ensures swallowed { (t : Names) → W.told worktree.old ≡ Some t
-        → IfOk result (IsSwallowed (meanings index.now) rela_path.now disk_kind (asked t full_path.now ask_disk)) }
-    ensures refused { IfErr result (λ e. e ≡ Error.OutOfMemory) }
+    // Over a told tree with which the rules are in step, and without a fault, it is exactly the class, and every rules
+    // file that it needs was read. A fault of the question for the kind reads as no kind.
+    ensures class { (t : Names) → W.told worktree.old ≡ Some t → InStepIf t excludes.old
+        → Quiet (W.faults worktree.old) (W.faults worktree.new)
+        → IfOk result (λ c. c ≡ class (meanings index.now (made_with excludes.old) t) rela_path.now disk_kind
+        (asked t full_path.now ask_disk)) }
+    ensures read { (t : Names) → W.told worktree.old ≡ Some t → InStepIf t excludes.old
+        → Quiet (W.faults worktree.old) (W.faults worktree.new)
+        → OnOk result (asks_unread (meanings index.now (made_with excludes.old) t) rela_path.now disk_kind
+        (asked t full_path.now ask_disk) ≡ false) }
+    ensures swallowed { (t : Names) → W.told worktree.old ≡ Some t → InStepIf t excludes.old
+        → IfOk result (IsSwallowed (meanings index.now (made_with excludes.old) t) rela_path.now disk_kind
+        (asked t full_path.now ask_disk)) }
+
+    // Each refusal has its cause.
+    ensures about { is_normal rela_path.now ≡ true → IfErr result (IsAbout (made_with excludes.old) rela_path.now) }
+    ensures refused { (t : Names) → W.told worktree.old ≡ Some t
+        → IfErr result (Refuses t (made_with excludes.old) rela_path.now) }
+    ensures asks { (t : Names) → W.told worktree.old ≡ Some t → Quiet (W.faults worktree.old) (W.faults worktree.new)
+        → IfErr result (OnAccess (asks (meanings index.now (made_with excludes.old) t) rela_path.now disk_kind
+        (asked t full_path.now ask_disk) ≡ true)) }
+    ensures cause { IfErr result (OnFault (Rose (W.faults worktree.old) (W.faults worktree.new))) }
+
+    // What stays.
+    ensures made { made_with excludes.new ≡ made_with excludes.old }
+    ensures in_step { (t : Names) → W.told worktree.old ≡ Some t → InStepIf t excludes.old → InStepIf t excludes.new }
     ensures tree { W.told worktree.new ≡ W.told worktree.old }
     ensures faults { W.faults worktree.old ≤ W.faults worktree.new }
     ensures list_faults { W.list_faults worktree.new ≡ W.list_faults worktree.old }
-    ensures reads { W.reads worktree.new ≡ W.reads worktree.old }
+    ensures reads { made_with excludes.old ≡ None → W.reads worktree.new ≡ W.reads worktree.old }
     ensures lists { W.lists worktree.new ≡ W.lists worktree.old }
     ensures precomposes { W.precomposes worktree.new ≡ W.precomposes worktree.old }
+    ensures objects { F.holds objects.new ≡ F.holds objects.old }
+    ensures object_faults { F.faults objects.new ≡ F.faults objects.old }
 {
     if is_dot_git(rela_path) {
         return Ok(class_dot_git(disk_kind));
     }
     let entry = in_index(index, rela_path);
-    let known = first_of_kinds(entry.up_to_date, disk_kind);
-    if known.is_some() || !ask_disk {
-        return Ok(class_of_kind(entry, known));
+    let kind = settled_kind(
+        alloc,
+        full_path,
+        entry.up_to_date,
+        disk_kind,
+        ask_disk,
+        worktree,
+    )?;
+    if is_indexed(entry, kind) {
+        return Ok(class_of_kind(entry, kind, None));
     }
-    let on_disk = kind_on_disk(alloc, worktree, full_path)?;
-    Ok(class_of_kind(entry, on_disk))
+    if rela_path.is_empty() {
+        return Ok(class_of_kind(entry, kind, None));
+    }
+    let excluded = excluded(alloc, rela_path, kind, excludes, worktree, objects)?;
+    Ok(class_of_kind(entry, kind, excluded))
 }
 
 /// The class of the worktree root, whose kind is asked first; a fault of that question reads as no kind, and is
-/// counted by the worktree. The only error is want of memory.
+/// counted by the worktree. No rules are asked for it. The only error is want of memory.
+#[tactic(auto, unfolding(crate::specs::Class::class))]
 pub fn root<W: Worktree>(
     alloc: Global,
     worktree_root: &[u8],
@@ -129,10 +204,10 @@ pub fn root<W: Worktree>(
     worktree: &mut W,
 ) -> Result<Outcome, Error>
     ensures class { (t : Names) → W.told worktree.old ≡ Some t → Quiet (W.faults worktree.old) (W.faults worktree.new)
-        → IfOk result (λ c. c ≡ root_class (meanings index.now) t worktree_root.now) }
-    ensures swallowed { (t : Names) → W.told worktree.old ≡ Some t
-        → IfOk result (λ c. (c ≡ root_class (meanings index.now) t worktree_root.now)
-        ⊎ (c ≡ class (meanings index.now) [] None None)) }
+        → (made : Option Made) → IfOk result (λ c. c ≡ root_class (meanings index.now made t) t worktree_root.now) }
+    ensures swallowed { (t : Names) → W.told worktree.old ≡ Some t → (made : Option Made)
+        → IfOk result (λ c. (c ≡ root_class (meanings index.now made t) t worktree_root.now)
+        ⊎ (c ≡ class (meanings index.now made t) [] None None)) }
     ensures refused { IfErr result (λ e. e ≡ Error.OutOfMemory) }
     ensures tree { W.told worktree.new ≡ W.told worktree.old }
     ensures faults { W.faults worktree.old ≤ W.faults worktree.new }
@@ -142,7 +217,37 @@ pub fn root<W: Worktree>(
     ensures precomposes { W.precomposes worktree.new ≡ W.precomposes worktree.old }
 {
     let disk_kind = kind_on_disk(alloc, worktree, worktree_root)?;
-    at(alloc, worktree_root, &[], disk_kind, false, index, worktree)
+    let entry = in_index(index, &[]);
+    let kind = first_of_kinds(entry.up_to_date, disk_kind);
+    Ok(class_of_kind(entry, kind, None))
+}
+
+/// The kind of a path: of an up-to-date entry, else the one that is known, else that of the node at the whole path
+/// where the disk may be asked. A fault reads as no kind.
+fn settled_kind<W: Worktree>(
+    alloc: Global,
+    full_path: &[u8],
+    up_to_date: Option<Kind>,
+    disk_kind: Option<Kind>,
+    ask_disk: bool,
+    worktree: &mut W,
+) -> Result<Option<Kind>, OutOfMemory>
+    ensures kind { (t : Names) → W.told worktree.old ≡ Some t → IfOk result (λ kind.
+        (kind ≡ first_of_kinds up_to_date (first_of_kinds disk_kind (asked t full_path.now ask_disk)))
+        ⊎ ((kind ≡ first_of_kinds up_to_date (first_of_kinds disk_kind None))
+        × Rose (W.faults worktree.old) (W.faults worktree.new))) }
+    ensures tree { W.told worktree.new ≡ W.told worktree.old }
+    ensures faults { W.faults worktree.old ≤ W.faults worktree.new }
+    ensures list_faults { W.list_faults worktree.new ≡ W.list_faults worktree.old }
+    ensures reads { W.reads worktree.new ≡ W.reads worktree.old }
+    ensures lists { W.lists worktree.new ≡ W.lists worktree.old }
+    ensures precomposes { W.precomposes worktree.new ≡ W.precomposes worktree.old }
+{
+    let known = first_of_kinds(up_to_date, disk_kind);
+    if known.is_some() || !ask_disk {
+        return Ok(known);
+    }
+    kind_on_disk(alloc, worktree, full_path)
 }
 
 /// The kind of the node at a whole path. A fault reads as no kind.
@@ -196,16 +301,20 @@ fn class_dot_git(known: Option<Kind>) -> Outcome
     }
 }
 
-/// The class of a path whose kind is settled.
-fn class_of_kind(entry: InIndex, kind: Option<Kind>) -> Outcome
-    ensures { result ≡ class_of_kind entry kind }
+/// The class of a path whose kind is settled; `excluded` is what the rules say of it, if they are asked.
+fn class_of_kind(
+    entry: InIndex,
+    kind: Option<Kind>,
+    excluded: Option<ignore::Kind>,
+) -> Outcome
+    ensures { result ≡ class_of_kind entry kind excluded }
 {
     let status = if entry.sparse.is_some() {
         Status::Pruned
     } else if is_indexed(entry, kind) {
         Status::Tracked
     } else {
-        Status::Untracked
+        status_of_rules(excluded)
     };
     Outcome {
         status,
@@ -216,10 +325,23 @@ fn class_of_kind(entry: InIndex, kind: Option<Kind>) -> Outcome
     }
 }
 
-/// Whether index and disk agree on whether a path holds names.
-fn is_indexed(entry: InIndex, kind: Option<Kind>) -> bool
-    ensures { result ≡ answers_alike (is_dir entry.kind) (is_dir kind) }
+/// The status of a path that the index does not have.
+fn status_of_rules(excluded: Option<ignore::Kind>) -> Status
+    ensures { result ≡ status_of_rules excluded }
 {
+    match excluded {
+        Some(kind) => Status::Ignored(kind),
+        None => Status::Untracked,
+    }
+}
+
+/// Whether the index has a path: it lies outside a sparse checkout, or index and disk agree on whether it holds names.
+fn is_indexed(entry: InIndex, kind: Option<Kind>) -> bool
+    ensures { result ≡ is_indexed entry kind }
+{
+    if entry.sparse.is_some() {
+        return true;
+    }
     match (entry.kind, kind) {
         (None, None) => true,
         (Some(indexed), Some(on_disk)) => indexed.is_dir() == on_disk.is_dir(),

@@ -1,10 +1,11 @@
 //! Entries: a path with all that is known of it.
 ghost use Rattle.std.specs.Prelude.{◌≡◌, Bool, true, false, Option, IfOk};
 ghost use Rattle.dir_classify.specs.Kinds.{is_directory_kind};
-ghost use Rattle.dir_classify.specs.Enters.{is_pruned_status, can_recurse};
+ghost use Rattle.dir_classify.specs.Enters.{is_pruned_status, is_ignored_status, can_recurse};
 ghost use Rattle.dir_classify.specs.Entries.{entry_of};
 
 use gitbase_core::{EntryKind, OutOfMemory, PathText};
+use glob_rules::ignore;
 use std::alloc::Global;
 use worktree_fs::NodeKind;
 
@@ -84,6 +85,8 @@ pub enum Status {
     Pruned,
     /// In the index, as a node of the same shape as on disk.
     Tracked,
+    /// On disk alone, and excluded by an ignore rule, which says what may become of it.
+    Ignored(ignore::Kind),
     /// On disk alone.
     Untracked,
 }
@@ -96,9 +99,16 @@ impl Status {
         matches!(self, Status::Pruned)
     }
 
+    /// Whether the path is on disk alone and excluded.
+    pub fn is_ignored(&self) -> bool
+        ensures { result ≡ is_ignored_status self.now }
+    {
+        matches!(self, Status::Ignored(_))
+    }
+
     /// Whether a walk looks into a path of this status whose kind on disk is `file_type`: into directories that
-    /// are not pruned, and into repositories only where the worktree root itself is seen as one. The default
-    /// recursion of gitoxide's `Status::can_recurse`.
+    /// are neither pruned nor ignored, and into repositories only where the worktree root itself is seen as one. The
+    /// default recursion of gitoxide's `Status::can_recurse`, for a walk without path specs.
     pub fn can_recurse(&self, file_type: Option<Kind>, worktree_root_is_repository: bool) -> bool
         ensures { result ≡ can_recurse self.now file_type worktree_root_is_repository }
     {
@@ -107,7 +117,7 @@ impl Status {
             Some(Kind::Repository) => worktree_root_is_repository,
             _ => false,
         };
-        is_open && !self.is_pruned()
+        is_open && !(self.is_pruned() || self.is_ignored())
     }
 }
 

@@ -3,6 +3,7 @@ use bstr::BStr;
 use gitbase_core::{OutOfMemory, PathText};
 use std::alloc::{AllocError, AllocFailed};
 use thiserror::Error;
+use worktree_stack::AtPathError;
 
 /// Why the names of a directory could not be read.
 #[derive(Clone, Copy, Debug, PartialEq, Eq)]
@@ -22,6 +23,9 @@ pub enum Error {
     /// The worktree root is absent or no directory, or its kind could not be learnt.
     #[error("Worktree root at '{}' is not a directory", shown(.root))]
     WorktreeRootIsFile { root: PathText },
+    /// A rules file that says whether a path is excluded was not read.
+    #[error("Failed to update the excludes stack to see if a path is excluded")]
+    ExcludesAccess(AtPathError),
     /// The directory at `path` was to be entered, and its names could not be listed. Without a fault that is so
     /// where the index calls an up-to-date path a directory that is none on disk.
     #[error("Failed to read the directory at '{}'", shown(.path))]
@@ -51,6 +55,20 @@ impl From<OutOfMemory> for Error {
 
     fn from(_refused: OutOfMemory) -> Error {
         Error::OutOfMemory
+    }
+}
+
+impl From<AtPathError> for Error {
+    ghost use Rattle.std.specs.Prelude.{◌≡◌};
+    ghost use Rattle.dir_classify.specs.Refused.{access_error};
+
+    ghost from_gives = { λ refused error. error ≡ access_error refused };
+
+    fn from(refused: AtPathError) -> Error {
+        match refused {
+            AtPathError::OutOfMemory => Error::OutOfMemory,
+            refused => Error::ExcludesAccess(refused),
+        }
     }
 }
 

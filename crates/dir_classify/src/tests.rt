@@ -1,10 +1,18 @@
 //! Classes worked out by hand, and each call that takes memory with enough of it.
 use crate::classify::{self, Outcome};
-use crate::{Entry, EntryRef, Error, Kind, Options, PathspecMatch, Property, ReadWhy, Status};
-use gitbase_core::{Flags, IndexEntry, Mode, ObjectId, PathText, State};
+use crate::{
+    EmissionMode, Entry, EntryRef, Error, Kind, Options, PathspecMatch, Property, ReadWhy, Status,
+};
+use gitbase_core::{
+    Bytes, Flags, IndexEntry, MemoryStore, Mode, ObjectId, OutOfMemory, PathText, State,
+};
+use glob_rules::Case;
+use glob_rules::ignore::{self, List, ParseIgnore, Search};
 use std::alloc::Global;
 use std::test::Fail;
 use worktree_fs::{AddError, CallKind, MemoryWorktree, NewNode};
+use worktree_stack::ignore_source::Source;
+use worktree_stack::{AtPathError, Ignore, RulesWhy, Stack};
 
 /// A worktree in `/w` with nodes of every kind.
 fn sample(alloc: Global) -> Result<MemoryWorktree, AddError> {
@@ -166,13 +174,37 @@ fn is_row(class: &Outcome, row: &Row) -> bool {
         && class.pathspec_match == Some(PathspecMatch::Always)
 }
 
+/// The class of a path in `/w`, over a store that holds nothing.
+fn class_of(
+    alloc: Global,
+    path: &[u8],
+    known: Option<Kind>,
+    ask: bool,
+    index: &State,
+    excludes: &mut Option<Stack>,
+    tree: &mut MemoryWorktree,
+) -> Result<Outcome, Error> {
+    let mut objects = MemoryStore::new(alloc);
+    classify::path(
+        alloc,
+        b"/w",
+        path,
+        known,
+        ask,
+        index,
+        excludes,
+        tree,
+        &mut objects,
+    )
+}
+
 #[test]
 fn classes(rt: HostRuntime) -> Result<(), Fail> {
     let alloc = rt.alloc();
     let mut tree = sample(alloc)?;
     let index = index(alloc)?;
     for row in ROWS {
-        let class = classify::path(alloc, b"/w", row.0, None, true, &index, &mut tree)?;
+        let class = class_of(alloc, row.0, None, true, &index, &mut None, &mut tree)?;
         assert!(rt; is_row(&class, &row));
     }
     assert_eq!(rt; tree.fault_count(), 0);
@@ -195,7 +227,7 @@ fn where_a_kind_comes_from(rt: HostRuntime) -> Result<(), Fail> {
         (b"plain", None, true, Some(Kind::File)),
     ];
     for (path, known, ask, kind) in rows {
-        let class = classify::path(alloc, b"/w", path, known, ask, &index, &mut tree)?;
+        let class = class_of(alloc, path, known, ask, &index, &mut None, &mut tree)?;
         assert_eq!(rt; class.disk_kind, kind);
     }
     assert_eq!(rt; tree.fault_count(), 1);
@@ -209,6 +241,100 @@ fn where_a_kind_comes_from(rt: HostRuntime) -> Result<(), Fail> {
         let class = classify::root(alloc, root, &index, &mut tree)?;
         assert_eq!(rt; (class.status, class.disk_kind), (status, kind));
     }
+    Ok(())
+}
+
+/// Rules below `/w`: these globals, and a rules file in each directory.
+fn rules(alloc: Global, globals: &[u8]) -> Result<Option<Stack>, OutOfMemory> {
+    let parse = ParseIgnore {
+        support_precious: true,
+    };
+    let list = List::from_bytes(alloc, globals, None, PathText::new(alloc), parse)?;
+    let mut search = Search::new(alloc);
+    search.push_list(alloc, list)?;
+    let none = Search::new(alloc);
+    let ignore = Ignore::new(alloc, none, search, None, Source::default(), parse)?;
+    let root = PathText::from_bytes(alloc, b"/w")?;
+    Ok(Some(Stack::new(
+        alloc,
+        root,
+        worktree_stack::State::IgnoreStack(ignore),
+        Case::Sensitive,
+        Bytes::new(alloc),
+        Vec::new(alloc),
+    )))
+}
+
+/// What the index does not have is asked of the rules, with what its kind says of directories; the root is not.
+#[test]
+fn excluded_paths(rt: HostRuntime) -> Result<(), Fail> {
+    let alloc = rt.alloc();
+    let mut tree = sample(alloc)?;
+    tree.add(alloc, b"/w/dir/.gitignore", NewNode::File(b"!in\n"))?;
+    let index = index(alloc)?;
+    let mut excludes = rules(alloc, b"?*\n!pipe\n!dir\n$link\n!/plain/\n")?;
+    let dropped = Status::Ignored(ignore::Kind::Expendable);
+    let kept = Status::Ignored(ignore::Kind::Precious);
+    let rows: [(&[u8], Status); 12] = [
+        (b"plain", dropped),
+        (b"link", kept),
+        (b"pipe", Status::Untracked),
+        (b"dir", Status::Untracked),
+        (b"dir/in", Status::Untracked),
+        (b"dir/.gitignore", dropped),
+        (b"dir/.git", Status::Pruned),
+        (b"tracked", Status::Tracked),
+        (b"tracked.dir/in", Status::Tracked),
+        (b"was.file", dropped),
+        (b"was.file/in", dropped),
+        (b"skipped", Status::Pruned),
+    ];
+    for (path, status) in rows {
+        let class = class_of(alloc, path, None, true, &index, &mut excludes, &mut tree)?;
+        assert_eq!(rt; class.status, status);
+        assert_eq!(rt; class.pathspec_match, Some(PathspecMatch::Always));
+    }
+    let mut by_kind = rules(alloc, b"plain/\n")?;
+    let kinds: [(Option<Kind>, Status); 4] = [
+        (Some(Kind::Directory), dropped),
+        (Some(Kind::Repository), dropped),
+        (Some(Kind::File), Status::Untracked),
+        (None, Status::Untracked),
+    ];
+    for (kind, status) in kinds {
+        let ask = kind.is_none();
+        let class = class_of(alloc, b"plain", kind, ask, &index, &mut by_kind, &mut tree)?;
+        assert_eq!(rt; class.status, status);
+    }
+    Ok(())
+}
+
+/// Whether a class was refused for this rules file.
+fn is_refused(class: Result<Outcome, Error>, file: &[u8], reason: RulesWhy) -> bool {
+    match class {
+        Err(Error::ExcludesAccess(AtPathError::RulesFile { path, why })) => {
+            path.as_bytes() == file && why == reason
+        }
+        _ => false,
+    }
+}
+
+/// A refused rules file is named, and what needs none is still answered.
+#[test]
+fn refused_rules(rt: HostRuntime) -> Result<(), Fail> {
+    let alloc = rt.alloc();
+    let mut tree = sample(alloc)?;
+    tree.add(alloc, b"/w/dir/.gitignore", NewNode::Other)?;
+    let index = index(alloc)?;
+    let mut excludes = rules(alloc, b"")?;
+    for path in [b"dir".as_slice(), b"plain", b"tracked", b"dir/.git"] {
+        class_of(alloc, path, None, true, &index, &mut excludes, &mut tree)?;
+    }
+    let special = class_of(alloc, b"dir/in", None, true, &index, &mut excludes, &mut tree);
+    assert!(rt; is_refused(special, b"/w/dir/.gitignore", RulesWhy::Special));
+    tree.fail(alloc, CallKind::Read, 3)?;
+    let faulted = class_of(alloc, b"module/in", None, true, &index, &mut excludes, &mut tree);
+    assert!(rt; is_refused(faulted, b"/w/module/.gitignore", RulesWhy::Fault));
     Ok(())
 }
 
@@ -237,10 +363,13 @@ fn entries_change_hands(rt: HostRuntime) -> Result<(), Fail> {
     );
     assert!(rt; Kind::Repository.is_dir() && !Kind::Symlink.is_dir());
     assert!(rt; Status::Pruned.is_pruned());
+    assert!(rt; Status::Ignored(ignore::Kind::Precious).is_ignored());
+    assert_eq!(rt; EmissionMode::default(), EmissionMode::Matching);
     assert!(rt; Status::Tracked.can_recurse(Some(Kind::Repository), true));
     assert_eq!(rt;
         Options::default(),
         Options {
+            emit_ignored: None,
             emit_tracked: false
         }
     );
@@ -264,6 +393,11 @@ fn errors_print(rt: HostRuntime) -> Result<(), Fail> {
     assert_eq!(rt;
         format!(in alloc; "{error}")?.as_str(),
         "Worktree root at '/w' is not a directory"
+    );
+    let error = Error::ExcludesAccess(AtPathError::NotNormal);
+    assert_eq!(rt;
+        format!(in alloc; "{error}")?.as_str(),
+        "Failed to update the excludes stack to see if a path is excluded"
     );
     Ok(())
 }

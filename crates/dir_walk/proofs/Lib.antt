@@ -17,3 +17,4 @@ pub mod Sorting
 pub mod Steps
 pub mod Whole
 pub mod Strict
+pub mod Unread

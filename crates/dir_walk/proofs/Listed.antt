@@ -18,7 +18,7 @@ use Rattle.dir_classify.specs.Class.{Meanings}
 use Rattle.dir_classify.specs.Entries.{entry_at, class_in}
 use Rattle.dir_walk.specs.declared.outcome.Outcome.{Outcome}
 use Rattle.dir_walk.specs.Emissions.{Emission, is_shown, plain}
-use Rattle.dir_walk.specs.Walked.{Walked, items, report_of, entered_at, empty_class, leaf}
+use Rattle.dir_walk.specs.Walked.{Walked, both, items, report_of, entered_at, empty_class, leaf}
 use Rattle.dir_walk.specs.Report.{is_refused, depth_of}
 use Rattle.dir_walk.specs.Emits.{Emits, Gives, shown_by, size}
 use Rattle.dir_walk.proofs.Counts.{count_by-append, count_by-cons, list_any-append}
@@ -42,15 +42,26 @@ or-swap false true true d = refl
 or-swap false true false d = refl
 or-swap false false c d = refl
 
-pub refused-or : (limit : ℕ) → IsOr (is_refused limit)
-refused-or limit =
+deep_or_broken : ℕ → Walked → Bool
+deep_or_broken limit w = list_any (λ path. nat_lt limit (depth_of path)) w.entered || list_any (λ path. true) w.broken
+
+deep_or_broken-both : (limit : ℕ) (a b : Walked) → deep_or_broken limit (both a b) ≡ (deep_or_broken limit a || deep_or_broken limit b)
+unfolding deep_or_broken
+deep_or_broken-both limit a b =
+    let deep : List ℕ → Bool = λ path. nat_lt limit (depth_of path) in
+    ap (λ c. c || list_any (λ path. true) (a.broken ++ b.broken)) (list_any-append deep a.entered b.entered)
+    ∙ ap (λ c. (list_any deep a.entered || list_any deep b.entered) || c) (list_any-append (λ path. true) a.broken b.broken)
+    ∙ or-swap (list_any deep a.entered) (list_any deep b.entered) (list_any (λ path. true) a.broken) (list_any (λ path. true) b.broken)
+
+pub refused-or : (limit : ℕ) (m : Meanings) → IsOr (is_refused limit m)
+unfolding deep_or_broken
+refused-or limit m =
     record {
       zero = refl;
       adds = λ a b.
-          let deep : List ℕ → Bool = λ path. nat_lt limit (depth_of path) in
-          ap (λ c. c || list_any (λ path. true) (a.broken ++ b.broken)) (list_any-append deep a.entered b.entered)
-          ∙ ap (λ c. (list_any deep a.entered || list_any deep b.entered) || c) (list_any-append (λ path. true) a.broken b.broken)
-          ∙ or-swap (list_any deep a.entered) (list_any deep b.entered) (list_any (λ path. true) a.broken) (list_any (λ path. true) b.broken);
+          ap (λ c. c || list_any m.is_unread (a.asked ++ b.asked)) (deep_or_broken-both limit a b)
+          ∙ ap (λ c. (deep_or_broken limit a || deep_or_broken limit b) || c) (list_any-append m.is_unread a.asked b.asked)
+          ∙ or-swap (deep_or_broken limit a) (deep_or_broken limit b) (list_any m.is_unread a.asked) (list_any m.is_unread b.asked);
     }
 
 -- ---- a directory without names, and one with names
@@ -84,15 +95,15 @@ module _ (o : Options) (limit : ℕ) (m : Meanings) (t : Names) (full d : List �
 
   -- without names
   pub Gives-empty : (before mid after : List Emission) (start now stop : Outcome) → length listed ≡ 0 → Emits before mid start now (λ p. 0) 0 1
-      → Emits mid after now stop (λ p. shown_by o p (plain (entry_at d (empty_class c)) ∷ [])) 1 0 → Gives o limit (entered_at m d c (look t full (is_empty d))) before after start stop
+      → Emits mid after now stop (λ p. shown_by o p (plain (entry_at d (empty_class c)) ∷ [])) 1 0 → Gives o limit m (entered_at m d c (look t full (is_empty d))) before after start stop
   Gives-empty before mid after start now stop bare opened emitted =
       let w : Walked = record (leaf (entry_at d (empty_class c))) { entered = d ∷ [] } in
-      let gives : Gives o limit w before after start stop =
+      let gives : Gives o limit m w before after start stop =
       record {
         emits = Emits-then before mid after start now stop _ _ _ _ _ _ _ _ _ opened emitted (λ p. omega arith) (omega arith) (omega arith);
-        whole = ap (λ b. (b || false) || false) (within_limit limit d low);
+        whole = ap (λ b. ((b || false) || false) || false) (within_limit limit d low);
       } in
-      subst (λ (v : Walked). Gives o limit v before after start stop) (sym (looked w (empty_report m d c lists.names (length-names listed (look t full (is_empty d)) lists ∙ bare)))) gives
+      subst (λ (v : Walked). Gives o limit m v before after start stop) (sym (looked w (empty_report m d c lists.names (length-names listed (look t full (is_empty d)) lists ∙ bare)))) gives
 
   module _ (are : AreNames listed) where
     distinct : IsDistinct bytes_eq (names_of lists.names)
@@ -122,12 +133,12 @@ module _ (o : Options) (limit : ℕ) (m : Meanings) (t : Names) (full d : List �
 
     -- with names, all of which were walked
     pub Gives-listed : (i : ℕ) (before after : List Emission) (start stop : Outcome) → 0 < length listed → length listed ≤ i → SoFar o limit m t full d (take i listed) before after start stop
-        → Gives o limit (entered_at m d c (look t full (is_empty d))) before after start stop
+        → Gives o limit m (entered_at m d c (look t full (is_empty d))) before after start stop
     Gives-listed i before after start stop some past so_far =
         let all : SoFar o limit m t full d listed before after start stop = rw take_all at so_far in
         let v : Walked = items m d lists.names in
         let w : Walked = record v { entered = d ∷ v.entered } in
-        let gives : Gives o limit w before after start stop =
+        let gives : Gives o limit m w before after start stop =
         record {
           emits = record {
             entries = λ p. omega (arith, all.emits.entries p, all_sum (λ x. shown_by o p x.out) (shown-sum o p));
@@ -135,11 +146,11 @@ module _ (o : Options) (limit : ℕ) (m : Meanings) (t : Names) (full d : List �
             seen = λ fits. omega (arith, all.emits.seen fits, all_sum (λ x. size x.out) out-sum);
             read = λ fits. omega (arith, all.emits.read fits, all_sum (λ x. size x.entered) entered-sum, count_by-cons (λ _. true) d v.entered);
           };
-          whole = ap (λ b. (b || list_any (λ path. nat_lt limit (depth_of path)) v.entered) || list_any (λ path. true) v.broken) (within_limit limit d low)
-              ∙ sym (all_any (is_refused limit) (refused-or limit)) ∙ all.whole;
+          whole = ap (λ b. ((b || list_any (λ path. nat_lt limit (depth_of path)) v.entered) || list_any (λ path. true) v.broken) || list_any m.is_unread v.asked) (within_limit limit d low)
+              ∙ sym (all_any (is_refused limit m) (refused-or limit m)) ∙ all.whole;
         } in
         let there : 0 < length (names_of lists.names) = omega (arith, length-names listed (look t full (is_empty d)) lists, some) in
-        subst (λ (x : Walked). Gives o limit x before after start stop) (sym (looked w (full_report m d c lists.names there))) gives
+        subst (λ (x : Walked). Gives o limit m x before after start stop) (sym (looked w (full_report m d c lists.names there))) gives
 
 -- what is shown of a directory with names is what is shown of what they lead to
 pub listed-out : (o : Options) (m : Meanings) (t : Names) (full d : List ℕ) (c : Class) (listed : List (List ℕ)) (lists : ListsNames (look t full (is_empty d)) listed) → AreNames listed → (p : Emission → Bool) → 0 < length listed

@@ -37,7 +37,7 @@ item_told m t full d name = item_looked m (joined d name) (look t (joined full n
 pub record SoFar (o : Options) (limit : ℕ) (m : Meanings) (t : Names) (full d : List ℕ) (taken : List (List ℕ)) (before after : List Emission) (start stop : Outcome) : Type 0 where
   pub emits : Emits before after start stop (λ p. sum_by (λ q. shown_by o p (item_told m t full d q).out) taken) (sum_by (λ q. size (item_told m t full d q).out) taken)
       (1 + sum_by (λ q. size (item_told m t full d q).entered) taken)
-  pub whole : list_any (λ q. is_refused limit (item_told m t full d q)) taken ≡ false
+  pub whole : list_any (λ q. is_refused limit m (item_told m t full d q)) taken ≡ false
 
 pub SoFar-none : (o : Options) (limit : ℕ) (m : Meanings) (t : Names) (full d : List ℕ) (before after : List Emission) (start stop : Outcome) → Emits before after start stop (λ p. 0) 0 1
     → SoFar o limit m t full d [] before after start stop
@@ -45,16 +45,16 @@ SoFar-none o limit m t full d before after start stop e = record { emits = e; wh
 
 pub SoFar-more : (o : Options) (limit : ℕ) (m : Meanings) (t : Names) (full d : List ℕ) (names : List (List ℕ)) (i : ℕ) (q : List ℕ) (before mid after : List Emission) (start now stop : Outcome) (node : Node)
     → i < length names → q ≡ get_or names i q → look t (joined full q) false ≡ found node
-    → SoFar o limit m t full d (take i names) before mid start now → Gives o limit (item m (joined d q) node) mid after now stop → SoFar o limit m t full d (take (i + 1) names) before after start stop
+    → SoFar o limit m t full d (take i names) before mid start now → Gives o limit m (item m (joined d q) node) mid after now stop → SoFar o limit m t full d (take (i + 1) names) before after start stop
 SoFar-more o limit m t full d names i q before mid after start now stop node inside is there so_far given =
     let w : List ℕ → Walked = item_told m t full d in
     let here : w q ≡ item m (joined d q) node = ap (item_looked m (joined d q)) there in
-    let gives : Gives o limit (w q) mid after now stop = subst (λ (v : Walked). Gives o limit v mid after now stop) (sym here) given in
+    let gives : Gives o limit m (w q) mid after now stop = subst (λ (v : Walked). Gives o limit m v mid after now stop) (sym here) given in
     let one = λ (f : List ℕ → ℕ). sum_by_more f names i q inside ∙ ap (λ (n : List ℕ). sum_by f (take i names) + f n) (sym is) in
     record {
       emits = Emits-then before mid after start now stop _ _ _ _ _ _ _ _ _ so_far.emits gives.emits
           (λ p. sym (one (λ r. shown_by o p (w r).out))) (sym (one (λ r. size (w r).out))) (omega (arith, one (λ r. size (w r).entered)));
-      whole = rw (list_any_more (λ r. is_refused limit (w r)) names i q inside, ← is, gives.whole, so_far.whole) refl;
+      whole = rw (list_any_more (λ r. is_refused limit m (w r)) names i q inside, ← is, gives.whole, so_far.whole) refl;
     }
 
 -- ---- the node of a name that was listed

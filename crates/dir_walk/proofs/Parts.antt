@@ -12,7 +12,7 @@ use Rattle.dir_walk.specs.declared.outcome.Outcome.{Outcome}
 use Rattle.dir_walk.specs.Emissions.{Emission}
 use Rattle.dir_walk.specs.Emits.{IsPart, Gives, shown_by}
 use Rattle.dir_walk.specs.Report.{walked}
-use Rattle.dir_walk.specs.Walked.{Walked, item, entered_at, child_class}
+use Rattle.dir_walk.specs.Walked.{Walked, item, entered_at, child_class, child_asks, asking}
 use Rattle.dir_walk.proofs.Listed.{listed-out}
 use Rattle.dir_walk.proofs.Named.{SoFar, item_looked, item_told}
 use Rattle.dir_walk.proofs.Roots.{RootEntered}
@@ -24,13 +24,13 @@ use Rattle.dir_walk.proofs.Steps.{entered-item}
 pub part_unchanged : (o : Options) (out before : List Emission) → IsPart o out before before
 part_unchanged o out before = record { counts = λ p. omega arith }
 
-pub IsPart-whole : (o : Options) (limit : ℕ) (w : Walked) (before after : List Emission) (start stop : Outcome) → Gives o limit w before after start stop → IsPart o w.out before after
-IsPart-whole o limit w before after start stop h = record { counts = λ p. omega (arith, h.emits.entries p) }
+pub IsPart-whole : (o : Options) (limit : ℕ) (m : Meanings) (w : Walked) (before after : List Emission) (start stop : Outcome) → Gives o limit m w before after start stop → IsPart o w.out before after
+IsPart-whole o limit m w before after start stop h = record { counts = λ p. omega (arith, h.emits.entries p) }
 
 pub IsPart-entered : (o : Options) (m : Meanings) (t : Names) (full path : List ℕ) (node : Node) (c : Class) (before after : List Emission) → look t full false ≡ found node → is_empty path ≡ false → c ≡ child_class m path node
     → enters c false ≡ true → IsPart o (entered_at m path c (look t full (is_empty path))).out before after → IsPart o (item m path node).out before after
 IsPart-entered o m t full path node c before after there some is into h =
-    let same : entered_at m path c (look t full (is_empty path)) ≡ item m path node = entered-item m t full path node c there some is into in
+    let same : asking (child_asks m path node) path (entered_at m path c (look t full (is_empty path))) ≡ item m path node = entered-item m t full path node c there some is into in
     subst (λ (w : Walked). IsPart o w.out before after) same h
 
 -- ---- within a directory

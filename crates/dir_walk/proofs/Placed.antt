@@ -1,5 +1,5 @@
 -- Paths of names: what they lead to, how deep they lie, and that both forms of a path go together.
-use Rattle.std.proofs.Common.{◌≡◌, ℕ, suc, ◌+◌, ◌-◌, List, [], ◌∷◌, ◌++◌, Bool, true, false, ◌||◌, length, get_or, refl, sym, ap, ◌∙◌, append_assoc, arith, eqb-true, length-append}
+use Rattle.std.proofs.Common.{◌≡◌, ℕ, suc, ◌+◌, ◌-◌, List, [], ◌∷◌, ◌++◌, Bool, true, false, not, ◌||◌, length, get_or, refl, sym, ap, ◌∙◌, append_assoc, arith, eqb-true, length-append}
 use Rattle.std.proofs.lemmas.List.{append-nil}
 use Rattle.std.specs.Prelude.{◌==◌, if◌then◌else◌}
 use Rattle.std.specs.List.{list_any}
@@ -7,6 +7,8 @@ use Rattle.gitbase_core.specs.Path.{is_slash, is_empty, ends_in_slash, component
 use Rattle.worktree_fs.specs.Tree.{Node, Names, child, look, found, directory}
 use Rattle.worktree_fs.specs.Tree as tree
 use Rattle.worktree_fs.specs.Naming.{IsName}
+use Rattle.worktree_fs.specs.Paths.{is_dots, is_normal}
+use Rattle.std.proofs.lemmas.Bool.{and_parts}
 use Rattle.worktree_fs.specs.Join.{at_child}
 use Rattle.worktree_fs.proofs.Join.{look-join, look-join_slash, look-join_empty}
 use Rattle.worktree_fs.proofs.NameParts.{name_parts, pieces-name}
@@ -137,8 +139,56 @@ joined_twice root (a ∷ d) name some plain =
     ∙ ap (λ (p : List ℕ). root ++ p) (between-more b (a ∷ d) (47 ∷ name) ∙ ap (between b) (sym (joined-plain a d name plain)))
     ∙ sym (joined-between root (joined (a ∷ d) name))
 
+-- ---- a normal path
+
+-- the components of the path of a name in a directory
+components-child : (d name : List ℕ) → IsName name → components (joined d name) ≡ components d ++ name ∷ []
+components-child [] name is = pieces-name name is
+components-child (a ∷ d) name is = go (ends_in_slash (a ∷ d)) refl
+  where
+    behind_slash : (front : List ℕ) → components (front ++ 47 ∷ name) ≡ components front ++ name ∷ []
+    behind_slash front = pieces-join front name ∙ ap (λ (l : List (List ℕ)). tree.pieces front ++ l) (pieces-name name is)
+
+    go : (slash : Bool) → ends_in_slash (a ∷ d) ≡ slash → components (joined (a ∷ d) name) ≡ components (a ∷ d) ++ name ∷ []
+    go false e = ap components (joined-plain a d name e) ∙ behind_slash (a ∷ d)
+    go true e =
+        let front = without_slash (a ∷ d) e in
+        let at_slash : components (a ∷ d) ≡ components front.0 = ap components front.1 ∙ pieces-join front.0 [] ∙ append-nil (tree.pieces front.0) in
+        ap components (joined-slash (a ∷ d) name e ∙ ap (λ (p : List ℕ). p ++ name) front.1 ∙ append_assoc front.0 (47 ∷ []) name) ∙ behind_slash front.0
+        ∙ ap (λ (l : List (List ℕ)). l ++ name ∷ []) (sym at_slash)
+
+is_absolute-child : (d name : List ℕ) → IsName name → tree.is_absolute d ≡ false → tree.is_absolute (joined d name) ≡ false
+is_absolute-child [] [] is e = refl
+is_absolute-child [] (b ∷ bytes) is e = (or-false (b == 47) (list_any (λ x. x == 47) bytes) (name_parts (b ∷ bytes) is).no_slash).0
+is_absolute-child (a ∷ d) name is e = go (ends_in_slash (a ∷ d))
+  where
+    go : (slash : Bool) → tree.is_absolute (if slash then (a ∷ d) ++ name else (a ∷ d) ++ 47 ∷ name) ≡ false
+    go true = e
+    go false = e
+
+any-last : (xs : List (List ℕ)) (x : List ℕ) → list_any is_dots xs ≡ false → is_dots x ≡ false → list_any is_dots (xs ++ x ∷ []) ≡ false
+any-last [] x e f = rw f refl
+any-last (y ∷ xs) x e f =
+    let parts = or-false (is_dots y) (list_any is_dots xs) e in
+    rw (parts.0, any-last xs x parts.1 f) refl
+
+not-true : (b : Bool) → not b ≡ true → b ≡ false
+not-true false e = refl
+not-true true e = absurd (cc e)
+
+-- the path of a name in a directory is normal where the directory's is
+normal-child : (d name : List ℕ) → IsName name → is_normal d ≡ true → is_normal (joined d name) ≡ true
+normal-child d name is normal =
+    let parts = and_parts (not (tree.is_absolute d)) (not (list_any is_dots (components d))) normal in
+    let name_is = name_parts name is in
+    let dots : is_dots name ≡ false = rw (name_is.no_dot, name_is.no_dot_dot) refl in
+    let none : list_any is_dots (components (joined d name)) ≡ false = ap (list_any is_dots) (components-child d name is) ∙ any-last (components d) name (not-true (list_any is_dots (components d)) parts.1) dots in
+    rw (is_absolute-child d name is (not-true (tree.is_absolute d) parts.0), none) refl
+
+-- ---- both forms together
+
 pub IsPlaced-root : (root : List ℕ) → IsPlaced root root []
-IsPlaced-root root = record { full_is = refl; plain = refl }
+IsPlaced-root root = record { full_is = refl; plain = refl; normal = refl }
 
 -- both forms of the path of a name in a directory go together
 pub IsPlaced-child : (root full rela name : List ℕ) → IsName name → IsPlaced root full rela → IsPlaced root (joined full name) (joined rela name)
@@ -146,11 +196,13 @@ IsPlaced-child root full [] name is at =
     record {
       full_is = ap (λ (p : List ℕ). joined p name) at.full_is ∙ sym (full_path-some root name (joined-some [] name is));
       plain = joined-ends [] name is;
+      normal = normal-child [] name is at.normal;
     }
 IsPlaced-child root full (a ∷ rela) name is at =
     record {
       full_is = ap (λ (p : List ℕ). joined p name) at.full_is ∙ joined_twice root (a ∷ rela) name refl at.plain ∙ sym (full_path-some root (joined (a ∷ rela) name) (joined-some (a ∷ rela) name is));
       plain = joined-ends (a ∷ rela) name is;
+      normal = normal-child (a ∷ rela) name is at.normal;
     }
 
 -- ---- how deep it lies

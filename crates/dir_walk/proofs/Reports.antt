@@ -58,7 +58,7 @@ report-walked o limit m t root at before after entries outcome tree start at_is 
     let counted : SameCounts after (shown o w.out) = λ p. omega (arith, given.entries p, ap (count_by p) start) in
     let once : HasDistinctPaths after = record { once = λ path. omega (arith, distinct.once path, counted (λ x. bytes_eq path (path_of x))) } in
     let same : by_path (shown o w.out) ≡ entries = sym (sorted once ∙ by_path-same after (shown o w.out) counted distinct) in
-    ap (option_and_then (report_from o limit root)) given.walked_is
+    ap (option_and_then (report_from o limit m root)) given.walked_is
     ∙ ap (λ (b : Bool). cond b None (Some (record { outcome = counts o w; root = root; entries = by_path (shown o w.out) }))) given.whole
     ∙ ap (λ (n : Outcome). Some (record { outcome = n; root = root; entries = by_path (shown o w.out) })) (sym given.outcome_is)
     ∙ ap (λ (q : List ℕ). Some (record { outcome = outcome; root = q; entries = by_path (shown o w.out) })) (sym at_is)
@@ -84,9 +84,9 @@ walked-hides_none o limit m t root r tree e = go (walked m t root) refl e
         let is = walked-report m t root w e in
         subst (λ (v : Walked). hides_guarded (by_path (shown o v.out)) v.met ≡ false) (sym is.is) (report-hides_none o m (root_class m t root) is.names (IsTree-look t root true (directory is.names) tree is.there))
 
-    go : (walk : Option Walked) → walked m t root ≡ walk → option_and_then (report_from o limit root) walk ≡ Some r → IsSomeAnd walk (λ w. hides_guarded r.entries w.met ≡ false)
+    go : (walk : Option Walked) → walked m t root ≡ walk → option_and_then (report_from o limit m root) walk ≡ Some r → IsSomeAnd walk (λ w. hides_guarded r.entries w.met ≡ false)
     go None is f = absurd (cc f)
-    go (Some w) is f = with_entries (is_refused limit w) f
+    go (Some w) is f = with_entries (is_refused limit m w) f
       where
         with_entries : (b : Bool) → cond b None (Some (record { outcome = counts o w; root = root; entries = by_path (shown o w.out) })) ≡ Some r → hides_guarded r.entries w.met ≡ false
         with_entries true g = absurd (cc g)

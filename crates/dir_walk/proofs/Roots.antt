@@ -7,6 +7,7 @@ use Rattle.gitbase_core.specs.declared.entry.IndexEntry.{IndexEntry}
 use Rattle.worktree_fs.specs.Tree.{Names, Look, look, found, absent, too_many_links, file, link, directory, other}
 use Rattle.worktree_fs.specs.Answers.{kind_of}
 use Rattle.worktree_fs.specs.declared.answers.NodeKind.TheVariants as nodes
+use Rattle.worktree_stack.specs.Stacked.{Made}
 use Rattle.dir_classify.specs.declared.entry.Kind.{Kind}
 use Rattle.dir_classify.specs.declared.entry.Kind.TheVariants.{Directory}
 use Rattle.dir_classify.specs.declared.classify.Outcome.{Outcome}
@@ -29,18 +30,25 @@ quiet-or-rose before now = go (nat_lt now (min (before + 1) (2 ^ 64 - 1))) refl
     go true e = inl (ltb-true now (min (before + 1) (2 ^ 64 - 1)) e)
     go false e = inr (ltb-false now (min (before + 1) (2 ^ 64 - 1)) e)
 
+pub unless-rose : (before now : ℕ) (P : Type 0) → (Quiet before now → P) → P ⊎ Rose before now
+unless-rose before now P f = go (quiet-or-rose before now)
+  where
+    go : Quiet before now ⊎ Rose before now → P ⊎ Rose before now
+    go (inl quiet) = inl (f quiet)
+    go (inr rose) = inr rose
+
 -- ---- the class of the worktree root
 
 -- the class of a worktree root, by its kind
 abbrev root_of : Option Kind → Outcome
-root_of kind = class_of_kind not_indexed (first_of_kinds None (first_of_kinds kind None))
+root_of kind = class_of_kind not_indexed (first_of_kinds None (first_of_kinds kind None)) None
 
 abbrev kind_at : Look → Option Kind
 kind_at at = option_map from_node (kind_of at)
 
 class-root : (m : Meanings) (kind : Option Kind) → m.in_index [] ≡ not_indexed → class m [] kind None ≡ root_of kind
 unfolding class
-class-root m kind unindexed = ap (λ (e : InIndex). class_of_kind e (first_of_kinds e.up_to_date (first_of_kinds kind None))) unindexed
+class-root m kind unindexed = ap (λ (e : InIndex). class_of_kind e (first_of_kinds e.up_to_date (first_of_kinds kind None)) None) unindexed
 
 -- whether it is entered, by what its path leads to without following a last link, and following it
 abbrev enters_root : Look → Look → Bool
@@ -108,9 +116,9 @@ no-root m t root c unindexed is out =
     }
 
 -- the index has nothing at the empty path
-pub unindexed-root : (index : List IndexEntry) → (meanings index).in_index [] ≡ not_indexed
+pub unindexed-root : (index : List IndexEntry) (made : Option Made) (t : Names) → (meanings index made t).in_index [] ≡ not_indexed
 unfolding in_index
-unindexed-root index = refl
+unindexed-root index made t = refl
 
 pub entered-true : (b e : Bool) (Failed : Type 0) → (b ≡ e) ⊎ ((b ≡ false) × Failed) → b ≡ true → e ≡ true
 entered-true b e Failed (inl same) is = sym same ∙ is

@@ -4,7 +4,8 @@ use Rattle.std.specs.Str.{bytes_eq}
 use Rattle.std.specs.Cmp.Lexicographic.{same_text}
 use Rattle.std.proofs.lemmas.Cmp.{nat_list_eq_equiv}
 use Rattle.dir_classify.specs.declared.entry.Status.{Status}
-use Rattle.dir_classify.specs.declared.entry.Status.TheVariants.{Pruned, Tracked, Untracked}
+use Rattle.dir_classify.specs.declared.entry.Status.TheVariants.{Pruned, Tracked, Ignored, Untracked}
+use Rattle.glob_rules.specs.declared.ignore.Kind.TheVariants.{Expendable, Precious}
 use Rattle.dir_classify.specs.declared.entry.Property.{Property}
 use Rattle.dir_classify.specs.declared.entry.Property.TheVariants.{DotGit, EmptyDirectory, EmptyDirectoryAndCWD, TrackedExcluded}
 use Rattle.dir_classify.specs.declared.entry.Kind.{Kind}
@@ -18,16 +19,22 @@ use Rattle.dir_walk.specs.Emissions.{Emission, emission_of}
 abbrev of_status : Status → ℕ
 of_status Pruned = 0
 of_status Tracked = 1
-of_status Untracked = 2
+of_status (Ignored Expendable) = 2
+of_status (Ignored Precious) = 3
+of_status Untracked = 4
 
 abbrev to_status : ℕ → Status
 to_status zero = Pruned
 to_status (suc zero) = Tracked
-to_status (suc (suc n)) = Untracked
+to_status (suc (suc zero)) = Ignored Expendable
+to_status (suc (suc (suc zero))) = Ignored Precious
+to_status (suc (suc (suc (suc n)))) = Untracked
 
 status_back : (x : Status) → to_status (of_status x) ≡ x
 status_back Pruned = refl
 status_back Tracked = refl
+status_back (Ignored Expendable) = refl
+status_back (Ignored Precious) = refl
 status_back Untracked = refl
 
 abbrev of_property : Property → ℕ

@@ -1,12 +1,20 @@
 -- A whole walk: its refusals, its completeness, and what it gives.
-use Rattle.std.proofs.Common.{◌≡◌, inl, inr, ℕ, ◌-◌, ◌^◌, ◌<◌, min, List, [], ◌∷◌, Bool, true, false, ◌||◌, Option, Some, None, Err, count_by, length, refl, sym, ap, subst, ◌∙◌, arith}
+use Rattle.std.proofs.Common.{◌≡◌, ◌⊎◌, inl, inr, ℕ, ◌-◌, ◌^◌, ◌<◌, min, List, [], ◌∷◌, Bool, true, false, ◌||◌, Option, Some, None, Err, count_by, length, refl, sym, ap, subst, ◌∙◌, arith}
 use Rattle.std.specs.Prelude.{IsSomeAnd, nat_lt}
 use Rattle.std.specs.List.{list_any}
 use Rattle.std.specs.Str.{bytes_eq}
 use Rattle.std.specs.Cmp.Lexicographic.{same_text}
 use Rattle.std.proofs.lemmas.Bool.{true≢false}
 use borrow.Author.Tests.{lt-ltb}
+use Rattle.gitbase_core.specs.declared.entry.IndexEntry.{IndexEntry}
+use Rattle.gitbase_core.specs.Path.{components}
 use Rattle.worktree_fs.specs.Tree.{Names, look, found, directory}
+use Rattle.worktree_stack.specs.declared.error.AtPathError.{AtPathError}
+use Rattle.worktree_stack.specs.declared.error.AtPathError.TheVariants as inner
+use Rattle.worktree_stack.specs.declared.error.RulesWhy.{RulesWhy}
+use Rattle.worktree_stack.specs.declared.error.RulesWhy.TheVariants as whys
+use Rattle.worktree_stack.specs.Refused as lookups
+use Rattle.worktree_stack.specs.Stacked.{Made}
 use Rattle.worktree_fs.specs.Causes.{Quiet, Rose}
 use Rattle.worktree_fs.specs.Answers.{list_of}
 use Rattle.worktree_fs.specs.declared.answers.ListError.{ListError}
@@ -17,38 +25,45 @@ use Rattle.dir_classify.specs.declared.error.Error.{Error}
 use Rattle.dir_classify.specs.declared.error.Error.TheVariants as errors
 use Rattle.dir_classify.specs.declared.error.ReadWhy.TheVariants as reads
 use Rattle.dir_classify.specs.Class.{Meanings}
+use Rattle.dir_classify.specs.Meanings.{meanings}
+use Rattle.dir_classify.specs.Refused.{OnFault}
 use Rattle.dir_classify.specs.Entries.{class_in}
 use Rattle.dir_walk.specs.declared.outcome.Outcome.{Outcome}
 use Rattle.dir_walk.specs.Emissions.{Emission, is_shown}
 use Rattle.dir_walk.specs.Walked.{Walked, entered_at, report_of}
 use Rattle.dir_walk.specs.Report.{depth_of, is_refused, walked, shown, IsWalkable}
-use Rattle.dir_walk.specs.Refused.{is_among, is_to_enter, IsTooDeep, IsBroken, IsUnread, Refuses, DirectoryRefuses, WalkRefuses, OnFault}
+use Rattle.dir_walk.specs.Refused.{is_among, is_to_enter, IsTooDeep, IsBroken, IsUnread, IsNoAccess, Refuses, DirectoryRefuses, WalkRefuses}
 use Rattle.dir_walk.specs.Emits.{Gives, WalkGives, shown_by}
 use Rattle.dir_walk.proofs.Counts.{or-right, count_by-filter, count_all}
+use Rattle.dir_walk.proofs.Refusals.{Within, Refuses-within}
 use Rattle.dir_walk.proofs.Roots.{RootEntered}
+use Rattle.dir_walk.proofs.Unread.{unread-ancestor}
 
 -- ---- refusals
 
 -- a refusal below the worktree root is one of the walk
-pub WalkRefuses-directory : (t : Names) (m : Meanings) (root : List ℕ) (limit : ℕ) (Failed : Type 0) (c : Class) (e : Error) → RootEntered m t root c → DirectoryRefuses t m root limit root [] c e → WalkRefuses t m root limit Failed e
-WalkRefuses-directory t m root limit Failed c e at refused = go e refused
+pub WalkRefuses-directory : (t : Names) (made : Option Made) (m : Meanings) (root : List ℕ) (limit : ℕ) (P Q : Type 0) (c : Class) (e : Error) → RootEntered m t root c → (P → Q) → DirectoryRefuses t made m root limit P root [] c e
+    → WalkRefuses t made m root limit Q e
+WalkRefuses-directory t made m root limit P Q c e at longer refused = go e refused
   where
     w : Walked
     w = report_of m [] c at.names
 
-    within : (P : Walked → Type 0) → P w → IsSomeAnd (walked m t root) P
-    within P h = subst (λ (o : Option Walked). IsSomeAnd o P) (sym at.walked_is) h
+    within : (R : Walked → Type 0) → R w → IsSomeAnd (walked m t root) R
+    within R h = subst (λ (o : Option Walked). IsSomeAnd o R) (sym at.walked_is) h
 
     -- the root was listed
     listed : {X : Type 0} (why : ListError) → list_of (look t root true) ≡ Err why → X
     listed why e = absurd (let f : list_of (found (directory at.names)) ≡ Err why = ap list_of (sym at.there) ∙ e in cc f)
 
-    seen : (f : Error) → Refuses t m root limit (entered_at m [] c (look t root true)) f → Refuses t m root limit w f
-    seen f h = subst (λ (v : Walked). Refuses t m root limit v f) (ap (entered_at m [] c) at.there) h
+    seen : (f : Error) → Refuses t made m root limit P (entered_at m [] c (look t root true)) f → Refuses t made m root limit Q w f
+    seen f h = Refuses-within t made m root limit P Q w w f (record { entered = λ p h. h; broken = λ p h. h; asked = λ p h. h }) longer (subst (λ (v : Walked). Refuses t made m root limit P v f) (ap (entered_at m [] c) at.there) h)
 
-    go : (f : Error) → DirectoryRefuses t m root limit root [] c f → WalkRefuses t m root limit Failed f
+    go : (f : Error) → DirectoryRefuses t made m root limit P root [] c f → WalkRefuses t made m root limit Q f
     go (errors.WorktreeRootIsFile path) (inl h) = absurd h
     go (errors.WorktreeRootIsFile path) (inr h) = absurd h
+    go (errors.ExcludesAccess inner) (inl h) = absurd h
+    go (errors.ExcludesAccess inner) (inr h) = within (λ v. IsSomeAnd made (λ rules. IsNoAccess t rules v Q inner)) (seen (errors.ExcludesAccess inner) h)
     go (errors.TooDeep path) (inl h) = absurd h
     go (errors.TooDeep path) (inr h) = within (λ v. IsTooDeep root limit v path) (seen (errors.TooDeep path) h)
     go (errors.ReadDir path reads.Absent) (inl h) = listed lists.Absent h.1
@@ -58,8 +73,21 @@ WalkRefuses-directory t m root limit Failed c e at refused = go e refused
     go (errors.DirEntry path) h = tt
     go errors.OutOfMemory h = tt
 
+lookup-weaker : (P Q : Type 0) (e : AtPathError) → (P → Q) → lookups.OnFault P e → lookups.OnFault Q e
+lookup-weaker P Q inner.NotNormal f h = tt
+lookup-weaker P Q (inner.Component why) f h = tt
+lookup-weaker P Q (inner.Collision path) f h = tt
+lookup-weaker P Q (inner.Directory path why) f h = tt
+lookup-weaker P Q (inner.RulesFile path whys.Link) f h = tt
+lookup-weaker P Q (inner.RulesFile path whys.LinkLimit) f h = tt
+lookup-weaker P Q (inner.RulesFile path whys.Special) f h = tt
+lookup-weaker P Q (inner.RulesFile path whys.Fault) f h = f h
+lookup-weaker P Q (inner.Blob id why) f h = tt
+lookup-weaker P Q inner.OutOfMemory f h = tt
+
 pub OnFault-weaker : (P Q : Type 0) (e : Error) → (P → Q) → OnFault P e → OnFault Q e
 OnFault-weaker P Q (errors.WorktreeRootIsFile path) f h = tt
+OnFault-weaker P Q (errors.ExcludesAccess e) f h = lookup-weaker P Q e f h
 OnFault-weaker P Q (errors.TooDeep path) f h = tt
 OnFault-weaker P Q (errors.ReadDir path reads.Absent) f h = tt
 OnFault-weaker P Q (errors.ReadDir path reads.NotADirectory) f h = tt
@@ -77,41 +105,93 @@ any-implies p q (x ∷ xs) implies e = go (any-implies p q xs implies) (p x) ref
     go later true is f = ap (λ b. b || list_any q xs) (implies x is)
     go later false is f = or-right (q x) (list_any q xs) (later f)
 
--- what is among the broken paths, or is to be entered and lies too deep, makes a walk refused
-broken-refused : (limit : ℕ) (w : Walked) (path : List ℕ) → is_among path w.broken ≡ true → is_refused limit w ≡ true
-broken-refused limit w path e = or-right (list_any (λ d. nat_lt limit (depth_of d)) w.entered) (list_any (λ d. true) w.broken) (any-implies (bytes_eq path) (λ d. true) w.broken (λ d is. refl) e)
+deep_or_broken : ℕ → Walked → Bool
+deep_or_broken limit w = list_any (λ d. nat_lt limit (depth_of d)) w.entered || list_any (λ d. true) w.broken
 
-deep-refused : (limit : ℕ) (w : Walked) (path : List ℕ) → limit < depth_of path → is_to_enter path w ≡ true → is_refused limit w ≡ true
-deep-refused limit w path deep e = go (is_among path w.entered) refl e
+entered-refused : (limit : ℕ) (m : Meanings) (w : Walked) → deep_or_broken limit w ≡ true → is_refused limit m w ≡ true
+unfolding deep_or_broken
+entered-refused limit m w e = ap (λ b. b || list_any m.is_unread w.asked) e
+
+-- what is among the broken paths, or is to be entered and lies too deep, makes a walk refused
+broken-among : (limit : ℕ) (w : Walked) (path : List ℕ) → is_among path w.broken ≡ true → deep_or_broken limit w ≡ true
+unfolding deep_or_broken
+broken-among limit w path e = or-right (list_any (λ d. nat_lt limit (depth_of d)) w.entered) (list_any (λ d. true) w.broken) (any-implies (bytes_eq path) (λ d. true) w.broken (λ d is. refl) e)
+
+deep-among : (limit : ℕ) (w : Walked) (path : List ℕ) → limit < depth_of path → is_to_enter path w ≡ true → deep_or_broken limit w ≡ true
+unfolding deep_or_broken
+deep-among limit w path deep e = go (is_among path w.entered) refl e
   where
     is_deep : nat_lt limit (depth_of path) ≡ true
     is_deep = lt-ltb limit (depth_of path) deep
 
-    go : (b : Bool) → is_among path w.entered ≡ b → (b || is_among path w.broken) ≡ true → is_refused limit w ≡ true
+    go : (b : Bool) → is_among path w.entered ≡ b → (b || is_among path w.broken) ≡ true → deep_or_broken limit w ≡ true
     go true is f =
         ap (λ b. b || list_any (λ d. true) w.broken)
         (any-implies (bytes_eq path) (λ d. nat_lt limit (depth_of d)) w.entered (λ d same. ap (λ (q : List ℕ). nat_lt limit (depth_of q)) (sym (same_text path d (sym same))) ∙ is_deep) is)
-    go false is f = broken-refused limit w path f
+    go false is f = broken-among limit w path f
 
-unread-refused : (t : Names) (m : Meanings) (root : List ℕ) (limit : ℕ) (w : Walked) (why : ListError) (path : List ℕ) → IsBroken t m root w why path → is_refused limit w ≡ true
-unread-refused t m root limit w why path h = broken-refused limit w h.below h.broken
+deep-refused : (limit : ℕ) (m : Meanings) (w : Walked) (path : List ℕ) → limit < depth_of path → is_to_enter path w ≡ true → is_refused limit m w ≡ true
+deep-refused limit m w path deep e = entered-refused limit m w (deep-among limit w path deep e)
 
-not-both : {X : Type 0} (o : Option Walked) (P : Walked → Type 0) (limit : ℕ) → IsSomeAnd o P → IsSomeAnd o (λ w. is_refused limit w ≡ false) → ((w : Walked) → P w → is_refused limit w ≡ true) → X
-not-both None P limit h k f = absurd h
-not-both (Some w) P limit h k f = absurd (true≢false (sym (f w h) ∙ k))
+unread-refused : (t : Names) (m : Meanings) (root : List ℕ) (limit : ℕ) (w : Walked) (why : ListError) (path : List ℕ) → IsBroken t m root w why path → is_refused limit m w ≡ true
+unread-refused t m root limit w why path h = entered-refused limit m w (broken-among limit w h.below h.broken)
+
+-- and so does what is asked about and cannot be read
+asked-refused : (limit : ℕ) (m : Meanings) (w : Walked) (path : List ℕ) → is_among path w.asked ≡ true → m.is_unread path ≡ true → is_refused limit m w ≡ true
+unfolding deep_or_broken
+asked-refused limit m w path e unread =
+    or-right (deep_or_broken limit w) (list_any m.is_unread w.asked) (any-implies (bytes_eq path) m.is_unread w.asked (λ d same. ap m.is_unread (sym (same_text path d (sym same))) ∙ unread) e)
+
+module _ (t : Names) (rules : Made) (entries : List IndexEntry) (limit before now : ℕ) (w : Walked) (quiet : Quiet before now) where
+  m : Meanings
+  m = meanings entries (Some rules) t
+
+  of_file : (path file : List ℕ) (why : RulesWhy) → (is_among path w.asked ≡ true) ⊎ Rose before now → lookups.IsRefusedAncestor t rules.root rules.setup (components path) file why → is_refused limit m w ≡ true
+  unfolding m
+  of_file path file why (inl asked) h = asked-refused limit m w path asked (unread-ancestor t rules path file why h)
+  of_file path file why (inr rose) h = absurd (omega (arith, rose, quiet))
+
+  access-refused : (e : AtPathError) → lookups.OnFault (Rose before now) e → IsNoAccess t rules w (Rose before now) e → is_refused limit (meanings entries (Some rules) t) w ≡ true
+  unfolding m
+  access-refused inner.NotNormal cause h = absurd h.access.on_way
+  access-refused (inner.Component why) cause h = absurd h.access.on_way
+  access-refused (inner.Collision path) cause h = absurd h.access.on_way
+  access-refused (inner.Directory path why) cause h = absurd h.access.on_way
+  access-refused (inner.RulesFile path whys.Link) cause h = absurd h.access.on_way
+  access-refused (inner.RulesFile path whys.LinkLimit) cause h = of_file h.path path whys.LinkLimit h.asked h.refused
+  access-refused (inner.RulesFile path whys.Special) cause h = of_file h.path path whys.Special h.asked h.refused
+  access-refused (inner.RulesFile path whys.Fault) cause h = absurd (omega (arith, cause, quiet))
+  access-refused (inner.Blob id why) cause h = absurd h.access.on_way
+  access-refused inner.OutOfMemory cause h = absurd (h.access.some_memory refl)
+
+no-access : (t : Names) (made : Option Made) (entries : List IndexEntry) (limit before now : ℕ) (w : Walked) (e : AtPathError) → Quiet before now → lookups.OnFault (Rose before now) e
+    → IsSomeAnd made (λ rules. IsNoAccess t rules w (Rose before now) e) → is_refused limit (meanings entries made t) w ≡ true
+no-access t None entries limit before now w e quiet cause h = absurd h
+no-access t (Some rules) entries limit before now w e quiet cause h = access-refused t rules entries limit before now w quiet e cause h
+
+not-both : {X : Type 0} (o : Option Walked) (P : Walked → Type 0) (limit : ℕ) (m : Meanings) → IsSomeAnd o P → IsSomeAnd o (λ w. is_refused limit m w ≡ false) → ((w : Walked) → P w → is_refused limit m w ≡ true) → X
+not-both None P limit m h k f = absurd h
+not-both (Some w) P limit m h k f = absurd (true≢false (sym (f w h) ∙ k))
 
 -- where nothing failed and the tree can be walked, want of memory alone is left
-pub only-memory : (t : Names) (m : Meanings) (root : List ℕ) (limit before now : ℕ) (e : Error) → OnFault (Rose before now) e → WalkRefuses t m root limit (Rose before now) e → Quiet before now → IsWalkable limit m t root → e ≡ errors.OutOfMemory
-only-memory t m root limit before now (errors.WorktreeRootIsFile path) cause (inl h) quiet walkable = absurd (subst (λ (o : Option Walked). IsSomeAnd o (λ w. is_refused limit w ≡ false)) h.not_entered walkable)
-only-memory t m root limit before now (errors.WorktreeRootIsFile path) cause (inr h) quiet walkable = absurd (omega (arith, h, quiet))
-only-memory t m root limit before now (errors.TooDeep path) cause h quiet walkable = not-both (walked m t root) (λ w. IsTooDeep root limit w path) limit h walkable (λ w k. deep-refused limit w k.below k.deep k.to_enter)
-only-memory t m root limit before now (errors.ReadDir path reads.Absent) cause h quiet walkable =
-    not-both (walked m t root) (λ w. IsBroken t m root w lists.Absent path) limit h walkable (λ w k. unread-refused t m root limit w lists.Absent path k)
-only-memory t m root limit before now (errors.ReadDir path reads.NotADirectory) cause h quiet walkable =
-    not-both (walked m t root) (λ w. IsBroken t m root w lists.NotADirectory path) limit h walkable (λ w k. unread-refused t m root limit w lists.NotADirectory path k)
-only-memory t m root limit before now (errors.ReadDir path reads.Fault) cause h quiet walkable = absurd (omega (arith, cause, quiet))
-only-memory t m root limit before now (errors.DirEntry path) cause h quiet walkable = absurd (omega (arith, cause, quiet))
-only-memory t m root limit before now errors.OutOfMemory cause h quiet walkable = refl
+module _ (t : Names) (made : Option Made) (entries : List IndexEntry) (root : List ℕ) (limit before now : ℕ) where
+  all : Meanings
+  all = meanings entries made t
+
+  pub only-memory : (e : Error) → OnFault (Rose before now) e → WalkRefuses t made (meanings entries made t) root limit (Rose before now) e → Quiet before now → IsWalkable limit (meanings entries made t) t root → e ≡ errors.OutOfMemory
+  unfolding all
+  only-memory (errors.WorktreeRootIsFile path) cause (inl h) quiet walkable = absurd (subst (λ (o : Option Walked). IsSomeAnd o (λ w. is_refused limit all w ≡ false)) h.not_entered walkable)
+  only-memory (errors.WorktreeRootIsFile path) cause (inr h) quiet walkable = absurd (omega (arith, h, quiet))
+  only-memory (errors.ExcludesAccess e) cause h quiet walkable =
+      not-both (walked all t root) (λ w. IsSomeAnd made (λ rules. IsNoAccess t rules w (Rose before now) e)) limit all h walkable (λ w k. no-access t made entries limit before now w e quiet cause k)
+  only-memory (errors.TooDeep path) cause h quiet walkable = not-both (walked all t root) (λ w. IsTooDeep root limit w path) limit all h walkable (λ w k. deep-refused limit all w k.below k.deep k.to_enter)
+  only-memory (errors.ReadDir path reads.Absent) cause h quiet walkable =
+      not-both (walked all t root) (λ w. IsBroken t all root w lists.Absent path) limit all h walkable (λ w k. unread-refused t all root limit w lists.Absent path k)
+  only-memory (errors.ReadDir path reads.NotADirectory) cause h quiet walkable =
+      not-both (walked all t root) (λ w. IsBroken t all root w lists.NotADirectory path) limit all h walkable (λ w k. unread-refused t all root limit w lists.NotADirectory path k)
+  only-memory (errors.ReadDir path reads.Fault) cause h quiet walkable = absurd (omega (arith, cause, quiet))
+  only-memory (errors.DirEntry path) cause h quiet walkable = absurd (omega (arith, cause, quiet))
+  only-memory errors.OutOfMemory cause h quiet walkable = refl
 
 -- ---- what it gives
 
@@ -125,10 +205,10 @@ shown-filter : (o : Options) (p : Emission → Bool) (out : List Emission) → s
 shown-filter o p out = sym (count_by-filter p (λ x. is_shown o (class_in x.0)) out)
 
 pub WalkGives-directory : (o : Options) (limit : ℕ) (m : Meanings) (t : Names) (root : List ℕ) (c : Class) (before after : List Emission) (start stop : Outcome) → RootEntered m t root c
-    → start.read_dir_calls ≡ 0 → start.returned_entries ≡ 0 → start.seen_entries ≡ 0 → Gives o limit (entered_at m [] c (look t root true)) before after start stop → WalkGives o limit m t root before after stop
+    → start.read_dir_calls ≡ 0 → start.returned_entries ≡ 0 → start.seen_entries ≡ 0 → Gives o limit m (entered_at m [] c (look t root true)) before after start stop → WalkGives o limit m t root before after stop
 WalkGives-directory o limit m t root c before after start stop at read0 returned0 seen0 given =
     let w : Walked = report_of m [] c at.names in
-    let gives : Gives o limit w before after start stop = subst (λ (v : Walked). Gives o limit v before after start stop) (ap (entered_at m [] c) at.there) given in
+    let gives : Gives o limit m w before after start stop = subst (λ (v : Walked). Gives o limit m v before after start stop) (ap (entered_at m [] c) at.there) given in
     record {
       w = w;
       walked_is = at.walked_is;

@@ -1,17 +1,16 @@
 -- Entries as a walk emits them.
-use Rattle.std.specs.Prelude.{ℕ, Bool, true, false, not, ◌&&◌, ◌||◌, if◌then◌else◌, List, [], ◌∷◌, Option, Some, None}
+use Rattle.std.specs.Prelude.{ℕ, Bool, true, false, not, ◌&&◌, ◌||◌, if◌then◌else◌, List, [], ◌∷◌, Option, Some, None, is_some}
 use Rattle.std.specs.Ordering.{nat_cmp, is_lt}
 use Rattle.std.specs.Cmp.Lexicographic.{slice_cmp}
 use Rattle.dir_classify.specs.declared.entry.Entry.{Entry}
 use Rattle.dir_classify.specs.declared.entry.Status.{Status}
-use Rattle.dir_classify.specs.declared.entry.Status.TheVariants.{Pruned, Tracked, Untracked}
+use Rattle.dir_classify.specs.declared.entry.Status.TheVariants.{Pruned, Tracked, Ignored, Untracked}
 use Rattle.dir_classify.specs.declared.entry.Property.{Property}
 use Rattle.dir_classify.specs.declared.entry.Property.TheVariants.{DotGit, EmptyDirectory, EmptyDirectoryAndCWD, TrackedExcluded}
 use Rattle.dir_classify.specs.declared.entry.PathspecMatch.{PathspecMatch}
 use Rattle.dir_classify.specs.declared.entry.PathspecMatch.TheVariants.{Always, Excluded, Prefix, WildcardMatch, Verbatim}
 use Rattle.dir_classify.specs.declared.options.Options.{Options}
 use Rattle.dir_classify.specs.declared.classify.Outcome.{Outcome}
-use Rattle.dir_classify.specs.Enters.{is_pruned_status}
 
 -- an entry, with the status of the directory that was folded over it, if one was
 abbrev pub Emission : Type 0
@@ -32,6 +31,7 @@ path_of emission = emission.0.rela_path
 abbrev pub is_tracked_status : Status → Bool
 is_tracked_status Tracked = true
 is_tracked_status Pruned = false
+is_tracked_status (Ignored kind) = false
 is_tracked_status Untracked = false
 
 abbrev pub is_empty_directory : Option Property → Bool
@@ -50,9 +50,16 @@ is_unmatched (Some Prefix) = false
 is_unmatched (Some WildcardMatch) = false
 is_unmatched (Some Verbatim) = false
 
--- an empty directory is hidden, a tracked path unless it is asked for, and what is pruned or unmatched
+-- tracked and ignored paths are shown where they are asked for, and no pruned ones
+abbrev pub is_wanted : Options → Status → Bool
+is_wanted o Pruned = false
+is_wanted o Tracked = o.emit_tracked
+is_wanted o (Ignored kind) = is_some o.emit_ignored
+is_wanted o Untracked = true
+
+-- an empty directory is hidden, what is not wanted by its status, and what no spec matches
 abbrev pub is_shown : Options → Outcome → Bool
-is_shown o c = not (is_empty_directory c.property) && (o.emit_tracked || not (is_tracked_status c.status)) && not (is_pruned_status c.status) && not (is_unmatched c.pathspec_match)
+is_shown o c = not (is_empty_directory c.property) && is_wanted o c.status && not (is_unmatched c.pathspec_match)
 
 -- ---- by path
 

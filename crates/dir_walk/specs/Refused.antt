@@ -1,11 +1,15 @@
 -- Why a walk is refused.
-use Rattle.std.specs.Prelude.{◌≡◌, ◌≢◌, ◌⊎◌, ◌<◌, ℕ, Bool, true, false, ◌||◌, List, Some, None, Err, IsSomeAnd}
+use Rattle.std.specs.Prelude.{◌≡◌, ◌≢◌, ◌⊎◌, ◌<◌, ℕ, Bool, true, false, ◌||◌, List, Option, Some, None, Err, IsSomeAnd}
 use Rattle.std.specs.List.{list_any}
 use Rattle.std.specs.Str.{bytes_eq}
-use Rattle.gitbase_core.specs.Path.{is_empty, ends_in_slash}
+use Rattle.gitbase_core.specs.Path.{components, is_empty, ends_in_slash}
 use Rattle.worktree_fs.specs.Tree.{Names, Look, look}
 use Rattle.worktree_fs.specs.Answers.{kind_of, list_of}
 use Rattle.worktree_fs.specs.declared.answers.NodeKind.TheVariants as nodes
+use Rattle.worktree_fs.specs.Paths.{is_normal}
+use Rattle.worktree_stack.specs.declared.error.AtPathError.{AtPathError}
+use Rattle.worktree_stack.specs.Stacked.{Made}
+use Rattle.worktree_stack.specs.Refused as lookups
 use Rattle.worktree_fs.specs.declared.answers.ListError.{ListError}
 use Rattle.worktree_fs.specs.declared.answers.ListError.TheVariants as lists
 use Rattle.dir_classify.specs.declared.entry.Kind.TheVariants.{Directory}
@@ -16,6 +20,7 @@ use Rattle.dir_classify.specs.declared.error.ReadWhy.{ReadWhy}
 use Rattle.dir_classify.specs.declared.error.ReadWhy.TheVariants as reads
 use Rattle.dir_classify.specs.Class.{Meanings}
 use Rattle.dir_classify.specs.Paths.{full_path}
+use Rattle.dir_classify.specs.Refused.{IsAccess}
 use Rattle.dir_walk.specs.Walked.{Walked, entered_at}
 use Rattle.dir_walk.specs.Report.{depth_of, walked}
 
@@ -34,23 +39,19 @@ pub record IsBelowLimit (root : List ℕ) (limit : ℕ) (path : List ℕ) : Type
   pub path_is : path ≡ full_path root below
   pub deep : limit < depth_of below
 
--- what a refusal says of the paths and the limit that were handed in
-abbrev pub IsAbout : List ℕ → ℕ → Error → Type 0
-IsAbout root limit (errors.WorktreeRootIsFile path) = path ≡ root
-IsAbout root limit (errors.TooDeep path) = IsBelowLimit root limit path
-IsAbout root limit (errors.ReadDir path why) = Unit {0}
-IsAbout root limit (errors.DirEntry path) = Unit {0}
-IsAbout root limit errors.OutOfMemory = Unit {0}
+-- a lookup of some path in the rules was refused
+pub record IsSomeAccess (made : Made) (e : AtPathError) : Type 0 where
+  pub path : List ℕ
+  pub access : IsAccess made path e
 
--- what holds where the worktree failed
-abbrev pub OnFault : Type 0 → Error → Type 0
-OnFault Holds (errors.WorktreeRootIsFile path) = Unit {0}
-OnFault Holds (errors.TooDeep path) = Unit {0}
-OnFault Holds (errors.ReadDir path reads.Absent) = Unit {0}
-OnFault Holds (errors.ReadDir path reads.NotADirectory) = Unit {0}
-OnFault Holds (errors.ReadDir path reads.Fault) = Holds
-OnFault Holds (errors.DirEntry path) = Holds
-OnFault Holds errors.OutOfMemory = Unit {0}
+-- what a refusal says of the rules, the paths and the limit that were handed in
+abbrev pub IsAbout : Option Made → List ℕ → ℕ → Error → Type 0
+IsAbout made root limit (errors.WorktreeRootIsFile path) = path ≡ root
+IsAbout made root limit (errors.ExcludesAccess e) = IsSomeAnd made (λ rules. IsSomeAccess rules e)
+IsAbout made root limit (errors.TooDeep path) = IsBelowLimit root limit path
+IsAbout made root limit (errors.ReadDir path why) = Unit {0}
+IsAbout made root limit (errors.DirEntry path) = Unit {0}
+IsAbout made root limit errors.OutOfMemory = Unit {0}
 
 -- ---- what holds over a told tree
 
@@ -76,33 +77,45 @@ IsUnread t m root w path reads.Absent = IsBroken t m root w lists.Absent path
 IsUnread t m root w path reads.NotADirectory = IsBroken t m root w lists.NotADirectory path
 IsUnread t m root w path reads.Fault = Unit {0}
 
--- a refusal within what is walked below the worktree root
-abbrev pub Refuses : Names → Meanings → List ℕ → ℕ → Walked → Error → Type 0
-Refuses t m root limit w (errors.WorktreeRootIsFile path) = ⊥
-Refuses t m root limit w (errors.TooDeep path) = IsTooDeep root limit w path
-Refuses t m root limit w (errors.ReadDir path why) = IsUnread t m root w path why
-Refuses t m root limit w (errors.DirEntry path) = Unit {0}
-Refuses t m root limit w errors.OutOfMemory = Unit {0}
+-- the lookup of a path in the rules was refused, by a rules file that the tree refuses; its class asks the rules,
+-- unless the worktree failed, which may have hidden what the index has there
+pub record IsNoAccess (t : Names) (made : Made) (w : Walked) (Failed : Type 0) (e : AtPathError) : Type 0 where
+  pub path : List ℕ
+  pub asked : (is_among path w.asked ≡ true) ⊎ Failed
+  pub access : IsAccess made path e
+  pub refused : lookups.Refuses t made.root made.setup (components path) e
+
+-- A refusal within what is walked below the worktree root. `made` is what the rules were made with, and `Failed` says
+-- that the worktree failed.
+abbrev pub Refuses : Names → Option Made → Meanings → List ℕ → ℕ → Type 0 → Walked → Error → Type 0
+Refuses t made m root limit Failed w (errors.WorktreeRootIsFile path) = ⊥
+Refuses t made m root limit Failed w (errors.ExcludesAccess e) = IsSomeAnd made (λ rules. IsNoAccess t rules w Failed e)
+Refuses t made m root limit Failed w (errors.TooDeep path) = IsTooDeep root limit w path
+Refuses t made m root limit Failed w (errors.ReadDir path why) = IsUnread t m root w path why
+Refuses t made m root limit Failed w (errors.DirEntry path) = Unit {0}
+Refuses t made m root limit Failed w errors.OutOfMemory = Unit {0}
 
 -- the worktree root is not entered, and its node, a link not followed, is no directory
 pub record IsNoRoot (t : Names) (m : Meanings) (root : List ℕ) : Type 0 where
   pub not_entered : walked m t root ≡ None
   pub node : kind_of (look t root false) ≢ Some nodes.Directory
 
--- a refusal of a walk, where `Failed` says that the worktree failed in it
-abbrev pub WalkRefuses : Names → Meanings → List ℕ → ℕ → Type 0 → Error → Type 0
-WalkRefuses t m root limit Failed (errors.WorktreeRootIsFile path) = IsNoRoot t m root ⊎ Failed
-WalkRefuses t m root limit Failed (errors.TooDeep path) = IsSomeAnd (walked m t root) (λ w. IsTooDeep root limit w path)
-WalkRefuses t m root limit Failed (errors.ReadDir path why) = IsSomeAnd (walked m t root) (λ w. IsUnread t m root w path why)
-WalkRefuses t m root limit Failed (errors.DirEntry path) = Unit {0}
-WalkRefuses t m root limit Failed errors.OutOfMemory = Unit {0}
+-- a refusal of a walk
+abbrev pub WalkRefuses : Names → Option Made → Meanings → List ℕ → ℕ → Type 0 → Error → Type 0
+WalkRefuses t made m root limit Failed (errors.WorktreeRootIsFile path) = IsNoRoot t m root ⊎ Failed
+WalkRefuses t made m root limit Failed (errors.ExcludesAccess e) = IsSomeAnd (walked m t root) (λ w. IsSomeAnd made (λ rules. IsNoAccess t rules w Failed e))
+WalkRefuses t made m root limit Failed (errors.TooDeep path) = IsSomeAnd (walked m t root) (λ w. IsTooDeep root limit w path)
+WalkRefuses t made m root limit Failed (errors.ReadDir path why) = IsSomeAnd (walked m t root) (λ w. IsUnread t m root w path why)
+WalkRefuses t made m root limit Failed (errors.DirEntry path) = Unit {0}
+WalkRefuses t made m root limit Failed errors.OutOfMemory = Unit {0}
 
 -- ---- where a walk stands
 
--- the whole path is that of the relative one, which does not end in a slash
+-- the whole path is that of the relative one, which is normal and does not end in a slash
 pub record IsPlaced (root full rela : List ℕ) : Type 0 where
   pub full_is : full ≡ full_path root rela
   pub plain : ends_in_slash rela ≡ false
+  pub normal : is_normal rela ≡ true
 
 -- ---- a listing that is refused
 
@@ -117,6 +130,7 @@ read_error path lists.OutOfMemory = errors.OutOfMemory
 -- why the directory at a whole path was not listed, by what that leads to
 abbrev pub OpenRefuses : List ℕ → Look → Error → Type 0
 OpenRefuses full at (errors.WorktreeRootIsFile path) = ⊥
+OpenRefuses full at (errors.ExcludesAccess e) = ⊥
 OpenRefuses full at (errors.TooDeep path) = ⊥
 OpenRefuses full at (errors.ReadDir path reads.Absent) = (path ≡ full) × (list_of at ≡ Err lists.Absent)
 OpenRefuses full at (errors.ReadDir path reads.NotADirectory) = (path ≡ full) × (list_of at ≡ Err lists.NotADirectory)
@@ -125,5 +139,6 @@ OpenRefuses full at (errors.DirEntry path) = Unit {0}
 OpenRefuses full at errors.OutOfMemory = Unit {0}
 
 -- a refusal of a directory that is entered: its own listing, or within it
-abbrev pub DirectoryRefuses : Names → Meanings → List ℕ → ℕ → List ℕ → List ℕ → Outcome → Error → Type 0
-DirectoryRefuses t m root limit full d c e = OpenRefuses full (look t full (is_empty d)) e ⊎ Refuses t m root limit (entered_at m d c (look t full (is_empty d))) e
+abbrev pub DirectoryRefuses : Names → Option Made → Meanings → List ℕ → ℕ → Type 0 → List ℕ → List ℕ → Outcome → Error → Type 0
+DirectoryRefuses t made m root limit Failed full d c e =
+    OpenRefuses full (look t full (is_empty d)) e ⊎ Refuses t made m root limit Failed (entered_at m d c (look t full (is_empty d))) e

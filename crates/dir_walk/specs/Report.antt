@@ -49,9 +49,10 @@ walked m t root =
 abbrev pub depth_of : List ℕ → ℕ
 depth_of path = length (components path)
 
--- something is to be entered that is no directory, or lies deeper than the limit
-abbrev pub is_refused : ℕ → Walked → Bool
-is_refused limit w = list_any (λ path. nat_lt limit (depth_of path)) w.entered || list_any (λ path. true) w.broken
+-- something is to be entered that is no directory, or lies deeper than the limit, or the rules of a path that asks
+-- them cannot be read
+abbrev pub is_refused : ℕ → Meanings → Walked → Bool
+is_refused limit m w = list_any (λ path. nat_lt limit (depth_of path)) w.entered || list_any (λ path. true) w.broken || list_any m.is_unread w.asked
 
 -- the entries that are shown
 abbrev pub shown : Options → List Emission → List Emission
@@ -67,15 +68,15 @@ counts o w =
     }
 
 -- the report is defined: the worktree root is a directory or a link to one, no directory lies deeper than the limit,
--- and what the index has as an up-to-date directory is one on disk
+-- what the index has as an up-to-date directory is one on disk, and the rules of each path that asks them can be read
 abbrev pub IsWalkable : ℕ → Meanings → Names → List ℕ → Type 0
-IsWalkable limit m t root = IsSomeAnd (walked m t root) (λ w. is_refused limit w ≡ false)
+IsWalkable limit m t root = IsSomeAnd (walked m t root) (λ w. is_refused limit m w ≡ false)
 
-abbrev pub report_from : Options → ℕ → List ℕ → Walked → Option Report
-report_from o limit root w = if is_refused limit w then None else Some (record { outcome = counts o w; root = root; entries = by_path (shown o w.out) })
+abbrev pub report_from : Options → ℕ → Meanings → List ℕ → Walked → Option Report
+report_from o limit m root w = if is_refused limit m w then None else Some (record { outcome = counts o w; root = root; entries = by_path (shown o w.out) })
 
 -- The report of the worktree at `root` in the tree `t`: the entries that are shown, in ascending order of their
--- paths, and the counts. None where the worktree root is not entered, or where something is to be entered that is no
--- directory or lies deeper than the limit.
+-- paths, and the counts. None where the worktree root is not entered, where something is to be entered that is no
+-- directory or lies deeper than the limit, or where the rules of a path that asks them cannot be read.
 unfoldable pub report : Options → ℕ → Meanings → Names → List ℕ → Option Report
-report o limit m t root = option_and_then (report_from o limit root) (walked m t root)
+report o limit m t root = option_and_then (report_from o limit m root) (walked m t root)

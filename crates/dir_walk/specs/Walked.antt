@@ -1,5 +1,5 @@
 -- What the walk of a path gives, by recursion on the tree.
-use Rattle.std.specs.Prelude.{ℕ, false, if◌then◌else◌, List, [], ◌∷◌, ◌++◌, Option, Some, None, option_map}
+use Rattle.std.specs.Prelude.{ℕ, Bool, false, if◌then◌else◌, List, [], ◌∷◌, ◌++◌, Option, Some, None, option_map}
 use Rattle.gitbase_core.specs.Path.{joined}
 use Rattle.worktree_fs.specs.Tree.{Node, Names, none, named, file, link, directory, other, Look, found, absent, too_many_links}
 use Rattle.worktree_fs.specs.Answers.{kind_of}
@@ -9,7 +9,7 @@ use Rattle.dir_classify.specs.declared.entry.Property.TheVariants.{EmptyDirector
 use Rattle.dir_classify.specs.declared.entry.PathspecMatch.TheVariants.{Always}
 use Rattle.dir_classify.specs.declared.classify.Outcome.{Outcome}
 use Rattle.dir_classify.specs.Kinds.{from_node}
-use Rattle.dir_classify.specs.Class.{Meanings, class, enters}
+use Rattle.dir_classify.specs.Class.{Meanings, class, asks, enters}
 use Rattle.dir_classify.specs.Entries.{entry_at}
 use Rattle.dir_walk.specs.Emissions.{Emission, plain}
 
@@ -20,14 +20,16 @@ pub record Walked : Type 0 where
   pub entered : List (List ℕ)
   -- the paths that are to be entered and are no directories
   pub broken : List (List ℕ)
+  -- the paths whose class asks the ignore rules
+  pub asked : List (List ℕ)
   -- the leaves met: each path that is classed and not entered, and each directory without names, with its entry
   pub met : List Entry
 
 abbrev pub nothing : Walked
-nothing = record { out = []; entered = []; broken = []; met = [] }
+nothing = record { out = []; entered = []; broken = []; asked = []; met = [] }
 
 abbrev pub both : Walked → Walked → Walked
-both a b = record { out = a.out ++ b.out; entered = a.entered ++ b.entered; broken = a.broken ++ b.broken; met = a.met ++ b.met }
+both a b = record { out = a.out ++ b.out; entered = a.entered ++ b.entered; broken = a.broken ++ b.broken; asked = a.asked ++ b.asked; met = a.met ++ b.met }
 
 -- a path that is not entered is one entry
 abbrev pub leaf : Entry → Walked
@@ -35,6 +37,10 @@ leaf entry = record nothing { out = plain entry ∷ []; met = entry ∷ [] }
 
 abbrev pub broken_at : List ℕ → Walked
 broken_at path = record nothing { broken = path ∷ [] }
+
+-- what a path gives, and besides that its class asks the rules, or not
+abbrev pub asking : Bool → List ℕ → Walked → Walked
+asking b path w = record w { asked = if b then path ∷ w.asked else w.asked }
 
 -- the property of a directory without names: its own, else that it is empty
 abbrev pub property_without_names : Option Property → Option Property
@@ -54,6 +60,10 @@ directory_of d c (named name node rest) w = record w { entered = d ∷ w.entered
 abbrev pub child_class : Meanings → List ℕ → Node → Outcome
 child_class m path node = class m path None (option_map from_node (kind_of (found node)))
 
+-- whether it asks the ignore rules
+abbrev pub child_asks : Meanings → List ℕ → Node → Bool
+child_asks m path node = asks m path None (option_map from_node (kind_of (found node)))
+
 -- a child that is no directory is a leaf, unless its class says that it is to be entered
 abbrev pub item_of_other : List ℕ → Outcome → Walked
 item_of_other path c = if enters c false then broken_at path else leaf (entry_at path c)
@@ -61,12 +71,12 @@ item_of_other path c = if enters c false then broken_at path else leaf (entry_at
 -- what a child of a directory gives, and what the children of a directory give together
 unfoldable mutual
   pub item : Meanings → List ℕ → Node → Walked
-  item m path (file bytes) = item_of_other path (child_class m path (file bytes))
-  item m path (link target) = item_of_other path (child_class m path (link target))
-  item m path other = item_of_other path (child_class m path other)
+  item m path (file bytes) = asking (child_asks m path (file bytes)) path (item_of_other path (child_class m path (file bytes)))
+  item m path (link target) = asking (child_asks m path (link target)) path (item_of_other path (child_class m path (link target)))
+  item m path other = asking (child_asks m path other) path (item_of_other path (child_class m path other))
   item m path (directory names) =
       let c = child_class m path (directory names) in
-      if enters c false then directory_of path c names (items m path names) else leaf (entry_at path c)
+      asking (child_asks m path (directory names)) path (if enters c false then directory_of path c names (items m path names) else leaf (entry_at path c))
 
   pub items : Meanings → List ℕ → Names → Walked
   items m d none = nothing

@@ -1,7 +1,7 @@
 //! Which entries are emitted.
 ghost use Rattle.std.specs.Prelude.{◌≡◌, [], ◌∷◌, OnOk, OnErr};
 ghost use Rattle.dir_classify.specs.Entries.{entry_at};
-ghost use Rattle.dir_walk.specs.Emissions.{is_shown, is_tracked_status, is_empty_directory, is_unmatched, plain};
+ghost use Rattle.dir_walk.specs.Emissions.{is_shown, is_wanted, is_empty_directory, is_unmatched, plain};
 ghost use Rattle.dir_walk.specs.Emits.{Emits, Extends, shown_by};
 
 use crate::collect::Collect;
@@ -44,17 +44,21 @@ pub fn emit(
 fn is_shown(options: Options, class: &classify::Outcome) -> bool
     ensures { result ≡ is_shown options class.now }
 {
-    let is_asked_for = options.emit_tracked | !is_tracked(class.status);
     !is_empty_directory(class.property)
-        & is_asked_for
-        & !class.status.is_pruned()
+        & is_wanted(options, class.status)
         & !is_unmatched(class.pathspec_match)
 }
 
-fn is_tracked(status: Status) -> bool
-    ensures { result ≡ is_tracked_status status }
+/// Whether entries of a status are asked for.
+fn is_wanted(options: Options, status: Status) -> bool
+    ensures { result ≡ is_wanted options status }
 {
-    matches!(status, Status::Tracked)
+    match status {
+        Status::Pruned => false,
+        Status::Tracked => options.emit_tracked,
+        Status::Ignored(_) => options.emit_ignored.is_some(),
+        Status::Untracked => true,
+    }
 }
 
 fn is_empty_directory(property: Option<Property>) -> bool

@@ -1,15 +1,25 @@
 //! Walks worked out by hand, and each call that takes memory with enough of it.
 use crate::walk::walk;
 use crate::{Collect, Outcome, Report, walk_by_path};
-use dir_classify::{Entry, Error, Options, ReadWhy, Status};
-use gitbase_core::{Flags, IndexEntry, Mode, ObjectId, PathText, State};
+use dir_classify::{EmissionMode, Entry, Error, Options, ReadWhy, Status};
+use gitbase_core::{
+    Bytes, Flags, IndexEntry, MemoryStore, Mode, ObjectId, OutOfMemory, PathText, State,
+};
+use glob_rules::Case;
+use glob_rules::ignore::{Kind, List, ParseIgnore, Search};
 use std::alloc::Global;
 use std::test::Fail;
 use worktree_fs::{AddError, CallKind, MemoryWorktree, NewNode};
+use worktree_stack::ignore_source::Source;
+use worktree_stack::{AtPathError, Ignore, RulesWhy, Stack};
 
-const ALL: Options = Options { emit_tracked: true };
+const ALL: Options = Options {
+    emit_ignored: Some(EmissionMode::Matching),
+    emit_tracked: true,
+};
 
 const UNTRACKED: Options = Options {
+    emit_ignored: None,
     emit_tracked: false,
 };
 
@@ -37,6 +47,41 @@ fn index(alloc: Global, paths: &[&[u8]], flags: Flags) -> Result<State, Fail> {
     Ok(State::from_entries(entries)?)
 }
 
+/// The report of a worktree in which no path is ignored.
+fn report(
+    alloc: Global,
+    root: &[u8],
+    tree: &mut MemoryWorktree,
+    index: &State,
+    limit: usize,
+    options: Options,
+) -> Result<Report, Error> {
+    report_with(alloc, root, tree, index, &mut None, limit, options)
+}
+
+/// The report of a worktree, over a store that holds nothing.
+fn report_with(
+    alloc: Global,
+    root: &[u8],
+    tree: &mut MemoryWorktree,
+    index: &State,
+    excludes: &mut Option<Stack>,
+    limit: usize,
+    options: Options,
+) -> Result<Report, Error> {
+    let mut objects = MemoryStore::new(alloc);
+    walk_by_path(
+        alloc,
+        root,
+        tree,
+        &mut objects,
+        index,
+        excludes,
+        limit,
+        options,
+    )
+}
+
 /// Whether these are the paths of the entries, each with its status, in this order.
 fn are(entries: &[(Entry, Option<Status>)], want: &[(&[u8], Status)]) -> bool {
     entries.len() == want.len()
@@ -59,15 +104,15 @@ fn tracked_and_untracked(rt: HostRuntime) -> Result<(), Fail> {
         (UNTRACKED, &[(b"d/u", Status::Untracked)]),
     ];
     for (options, want) in rows {
-        let report = walk_by_path(alloc, b"/w", &mut tree, &index, 1, options)?;
-        assert!(rt; are(report.entries.as_slice(), want));
+        let found = report(alloc, b"/w", &mut tree, &index, 1, options)?;
+        assert!(rt; are(found.entries.as_slice(), want));
         let outcome = Outcome {
             read_dir_calls: 3,
             returned_entries: want.len(),
             seen_entries: 3,
         };
-        assert_eq!(rt; report.outcome, outcome);
-        assert_eq!(rt; report.root.as_bytes(), b"/w".as_slice());
+        assert_eq!(rt; found.outcome, outcome);
+        assert_eq!(rt; found.root.as_bytes(), b"/w".as_slice());
     }
     Ok(())
 }
@@ -82,10 +127,10 @@ fn order_of_paths(rt: HostRuntime) -> Result<(), Fail> {
     for reversed in [false, true] {
         tree.set_reversed(reversed);
         for root in [b"/w".as_slice(), b"//w/", b"/w/../w"] {
-            let report = walk_by_path(alloc, root, &mut tree, &index, 1, UNTRACKED)?;
+            let found = report(alloc, root, &mut tree, &index, 1, UNTRACKED)?;
             assert!(rt;
                 are(
-                    report.entries.as_slice(),
+                    found.entries.as_slice(),
                     &[
                         (b"B", new),
                         (b"a.b", new),
@@ -96,8 +141,8 @@ fn order_of_paths(rt: HostRuntime) -> Result<(), Fail> {
                 )
             );
         }
-        let report = walk_by_path(alloc, b"/", &mut tree, &index, 2, UNTRACKED)?;
-        assert_eq!(rt; report.entries.as_slice().len(), 5);
+        let found = report(alloc, b"/", &mut tree, &index, 2, UNTRACKED)?;
+        assert_eq!(rt; found.entries.as_slice().len(), 5);
     }
     Ok(())
 }
@@ -110,6 +155,7 @@ enum Answer {
     TooDeep,
     Unread(ReadWhy),
     NoEntry,
+    NoRules(RulesWhy),
     OutOfMemory,
 }
 
@@ -118,16 +164,22 @@ fn answer_of(
     alloc: Global,
     tree: &mut MemoryWorktree,
     index: &State,
+    excludes: &mut Option<Stack>,
     root: &[u8],
     limit: usize,
 ) -> (PathText, Answer) {
-    match walk_by_path(alloc, root, tree, index, limit, UNTRACKED) {
-        Ok(report) => (report.root, Answer::Walked(report.entries.as_slice().len())),
+    match report_with(alloc, root, tree, index, excludes, limit, UNTRACKED) {
+        Ok(found) => (found.root, Answer::Walked(found.entries.as_slice().len())),
         Err(Error::WorktreeRootIsFile { root }) => (root, Answer::NoRoot),
         Err(Error::TooDeep { path }) => (path, Answer::TooDeep),
         Err(Error::ReadDir { path, why }) => (path, Answer::Unread(why)),
         Err(Error::DirEntry { parent_directory }) => (parent_directory, Answer::NoEntry),
-        Err(Error::OutOfMemory) => (PathText::new(alloc), Answer::OutOfMemory),
+        Err(Error::ExcludesAccess(AtPathError::RulesFile { path, why })) => {
+            (path, Answer::NoRules(why))
+        }
+        Err(Error::ExcludesAccess(_)) | Err(Error::OutOfMemory) => {
+            (PathText::new(alloc), Answer::OutOfMemory)
+        }
     }
 }
 
@@ -157,7 +209,7 @@ fn roots_and_depths(rt: HostRuntime) -> Result<(), Fail> {
         (b"/n", 9, b"/n", Answer::NoRoot),
     ];
     for (root, limit, path, want) in rows {
-        let (found, answer) = answer_of(alloc, &mut tree, &index, root, limit);
+        let (found, answer) = answer_of(alloc, &mut tree, &index, &mut None, root, limit);
         assert_eq!(rt; answer, want);
         assert_eq!(rt; found.as_bytes(), path);
     }
@@ -178,7 +230,7 @@ fn directories_of_the_index(rt: HostRuntime) -> Result<(), Fail> {
     for (node, path, want) in rows {
         let mut tree = files(alloc, &[b"/w/e/f"])?;
         tree.add(alloc, b"/w/d", node)?;
-        let (found, answer) = answer_of(alloc, &mut tree, &index, b"/w", 9);
+        let (found, answer) = answer_of(alloc, &mut tree, &index, &mut None, b"/w", 9);
         assert_eq!(rt; answer, want);
         assert_eq!(rt; found.as_bytes(), path);
     }
@@ -204,7 +256,7 @@ fn faults(rt: HostRuntime) -> Result<(), Fail> {
     for (call, nth, path, want) in rows {
         let mut tree = files(alloc, &[b"/w/d/f"])?;
         tree.fail(alloc, call, nth)?;
-        let (found, answer) = answer_of(alloc, &mut tree, &index, b"/w", 9);
+        let (found, answer) = answer_of(alloc, &mut tree, &index, &mut None, b"/w", 9);
         assert_eq!(rt; answer, want);
         assert_eq!(rt; found.as_bytes(), path);
         assert_eq!(rt; tree.fault_count(), 1);
@@ -221,7 +273,17 @@ fn collected(rt: HostRuntime) -> Result<(), Fail> {
     let index = index(alloc, &[], Flags::empty())?;
     let mut delegate = Collect::new(alloc);
     for root in [b"/w".as_slice(), b"/w/e", b"/"] {
-        let (outcome, answer) = walk(alloc, root, &mut tree, &index, 2, ALL, &mut delegate)?;
+        let (outcome, answer) = walk(
+            alloc,
+            root,
+            &mut tree,
+            &mut MemoryStore::new(alloc),
+            &index,
+            &mut None,
+            2,
+            ALL,
+            &mut delegate,
+        )?;
         assert_eq!(rt; answer.as_bytes(), root);
         assert_eq!(rt;
             outcome.seen_entries as usize,
@@ -236,5 +298,126 @@ fn collected(rt: HostRuntime) -> Result<(), Fail> {
     );
     let sorted = delegate.into_entries_by_path(alloc)?;
     assert_eq!(rt; sorted.into_vec().len(), 2);
+    Ok(())
+}
+
+/// Rules below `/w`: those of each directory alone.
+fn rules(alloc: Global) -> Result<Option<Stack>, OutOfMemory> {
+    let parse = ParseIgnore {
+        support_precious: false,
+    };
+    let none = List::from_bytes(alloc, b"", None, PathText::new(alloc), parse)?;
+    let mut globals = Search::new(alloc);
+    globals.push_list(alloc, none)?;
+    let overrides = Search::new(alloc);
+    let ignore = Ignore::new(alloc, overrides, globals, None, Source::default(), parse)?;
+    let root = PathText::from_bytes(alloc, b"/w")?;
+    Ok(Some(Stack::new(
+        alloc,
+        root,
+        worktree_stack::State::IgnoreStack(ignore),
+        Case::Sensitive,
+        Bytes::new(alloc),
+        Vec::new(alloc),
+    )))
+}
+
+/// Ignored paths are told from untracked ones, hidden unless they are asked for, and ignored directories are not
+/// entered; the same rules serve for a second walk.
+#[test]
+fn ignored(rt: HostRuntime) -> Result<(), Fail> {
+    let alloc = rt.alloc();
+    let mut tree = files(alloc, &[b"/w/a.o", b"/w/d/b.o", b"/w/d/c", b"/w/k.o", b"/w/x/y"])?;
+    tree.add(
+        alloc,
+        b"/w/.gitignore",
+        NewNode::File(b"*.o\n!k.o\n/x/\n"),
+    )?;
+    let index = index(alloc, &[b"d/b.o"], Flags::empty())?;
+    let mut excludes = rules(alloc)?;
+    let new = Status::Untracked;
+    let dropped = Status::Ignored(Kind::Expendable);
+    let rows: [(Options, &[(&[u8], Status)]); 2] = [
+        (
+            ALL,
+            &[
+                (b".gitignore", new),
+                (b"a.o", dropped),
+                (b"d/b.o", Status::Tracked),
+                (b"d/c", new),
+                (b"k.o", new),
+                (b"x", dropped),
+            ],
+        ),
+        (
+            UNTRACKED,
+            &[(b".gitignore", new), (b"d/c", new), (b"k.o", new)],
+        ),
+    ];
+    for reversed in [false, true] {
+        tree.set_reversed(reversed);
+        for (options, want) in rows {
+            let found = report_with(
+                alloc,
+                b"/w",
+                &mut tree,
+                &index,
+                &mut excludes,
+                1,
+                options,
+            )?;
+            assert!(rt; are(found.entries.as_slice(), want));
+            assert_eq!(rt; found.outcome.read_dir_calls, 2);
+            assert_eq!(rt; found.outcome.seen_entries, 6);
+        }
+    }
+    Ok(())
+}
+
+/// A rules file that cannot be read refuses the walk where a path below it asks the rules, and nowhere else.
+#[test]
+fn refused_rules(rt: HostRuntime) -> Result<(), Fail> {
+    let alloc = rt.alloc();
+    let index = index(alloc, &[b"t/f"], Flags::empty())?;
+    let rows: [(&[u8], NewNode, u64, &[u8], Answer); 5] = [
+        (
+            b"/w/.gitignore",
+            NewNode::Link(b".gitignore"),
+            9,
+            b"/w/.gitignore",
+            Answer::NoRules(RulesWhy::LinkLimit),
+        ),
+        (
+            b"/w/d/.gitignore",
+            NewNode::Other,
+            9,
+            b"/w/d/.gitignore",
+            Answer::NoRules(RulesWhy::Special),
+        ),
+        (
+            b"/w/d/.gitignore",
+            NewNode::File(b"f\n"),
+            2,
+            b"/w/d/.gitignore",
+            Answer::NoRules(RulesWhy::Fault),
+        ),
+        (
+            b"/w/d/.gitignore",
+            NewNode::Directory,
+            9,
+            b"/w",
+            Answer::Walked(1),
+        ),
+        (b"/w/d/g", NewNode::File(b""), 9, b"/w", Answer::Walked(2)),
+    ];
+    for (path, node, nth, named, want) in rows {
+        let mut tree = files(alloc, &[b"/w/d/f", b"/w/t/f"])?;
+        tree.add(alloc, path, node)?;
+        tree.fail(alloc, CallKind::Read, nth)?;
+        let mut excludes = rules(alloc)?;
+        let (found, answer) = answer_of(alloc, &mut tree, &index, &mut excludes, b"/w", 9);
+        assert_eq!(rt; answer, want);
+        assert_eq!(rt; found.as_bytes(), named);
+    }
     Ok(())
 }

@@ -6,8 +6,8 @@ use std::test::Fail;
 use worktree_fs::{CallKind, MemorySink, MemoryWorktree, NewNode, PlannedInterrupt};
 use worktree_report::run;
 
-/// The two lines that each setup needs today.
-const REQUIRED: &[u8] = b"option recurse_repositories yes\noption excludes no\n";
+/// The line that each setup needs today.
+const REQUIRED: &[u8] = b"option recurse_repositories yes\n";
 
 const REPORT: &[&[u8]] = &[b"report", b"/w", b"/s"];
 
@@ -109,7 +109,77 @@ static REPORTS: [Row; 5] = [
     },
 ];
 
-static REFUSALS: [Row; 5] = [
+static IGNORED: [Row; 6] = [
+    Row {
+        name: "a rule and one that takes a path out of it",
+        nodes: &[
+            (b"/w/.gitignore", NewNode::File(b"*.o\n!k.o\n")),
+            (b"/w/a.o", A_FILE),
+            (b"/w/k.o", A_FILE),
+        ],
+        setup: b"option recurse_repositories yes\noption emit_ignored matching\n",
+        status: 0,
+        out: b"untracked file - always - -\t.gitignore\nignored file - always - -\ta.o\nuntracked file - always - -\tk.o\n",
+        err: b"",
+    },
+    Row {
+        name: "the same without ignored paths",
+        nodes: &[
+            (b"/w/.gitignore", NewNode::File(b"*.o\n!k.o\n")),
+            (b"/w/a.o", A_FILE),
+            (b"/w/k.o", A_FILE),
+        ],
+        setup: REQUIRED,
+        status: 0,
+        out: b"untracked file - always - -\t.gitignore\nuntracked file - always - -\tk.o\n",
+        err: b"",
+    },
+    Row {
+        name: "the same without rules",
+        nodes: &[
+            (b"/w/.gitignore", NewNode::File(b"*.o\n!k.o\n")),
+            (b"/w/a.o", A_FILE),
+        ],
+        setup: b"option recurse_repositories yes\noption excludes no\noption emit_ignored matching\n",
+        status: 0,
+        out: b"untracked file - always - -\t.gitignore\nuntracked file - always - -\ta.o\n",
+        err: b"",
+    },
+    Row {
+        name: "a precious file",
+        nodes: &[(b"/w/d/key", A_FILE), (b"/w/d/x", A_FILE)],
+        setup: b"option recurse_repositories yes\nglobal $key\noption precious yes\noption emit_ignored matching\n",
+        status: 0,
+        out: b"precious file - always - -\td/key\nuntracked file - always - -\td/x\n",
+        err: b"",
+    },
+    Row {
+        name: "the same where no rule is precious",
+        nodes: &[(b"/w/d/key", A_FILE), (b"/w/d/x", A_FILE)],
+        setup: b"option recurse_repositories yes\nglobal $key\noption precious no\noption emit_ignored matching\n",
+        status: 0,
+        out: b"untracked file - always - -\td/key\nuntracked file - always - -\td/x\n",
+        err: b"",
+    },
+    Row {
+        name: "overrides above a nested rules file above globals, an excluded directory, and a tracked path in one",
+        nodes: &[
+            (b"/w/build/x", A_FILE),
+            (b"/w/d/.gitignore", NewNode::File(b"!a\nb\nc\n")),
+            (b"/w/d/a", A_FILE),
+            (b"/w/d/b", A_FILE),
+            (b"/w/d/c", A_FILE),
+            (b"/w/v/new", A_FILE),
+            (b"/w/v/t", A_FILE),
+        ],
+        setup: b"option recurse_repositories yes\noption emit_ignored matching\noption emit_tracked yes\nindex 100644 0 - - v/t\nglobal a\nglobal build/\nglobal v/\noverride !b\n",
+        status: 0,
+        out: b"ignored directory - always - -\tbuild\nuntracked file - always - -\td/.gitignore\nuntracked file - always - -\td/a\nuntracked file - always - -\td/b\nignored file - always - -\td/c\nignored file - always - -\tv/new\ntracked file file always - -\tv/t\n",
+        err: b"",
+    },
+];
+
+static REFUSALS: [Row; 9] = [
     Row {
         name: "a root that is a file",
         nodes: &[(b"/w", A_FILE)],
@@ -143,6 +213,38 @@ static REFUSALS: [Row; 5] = [
         err: b"setup: line 3\n",
     },
     Row {
+        name: "a way of emitting that is not there",
+        nodes: &[(b"/w/a", A_FILE)],
+        setup: b"global\x20\noption emit_ignored collapse\noption recurse_repositories yes\n",
+        status: 3,
+        out: b"",
+        err: b"setup: line 2\n",
+    },
+    Row {
+        name: "a rule without a space before it",
+        nodes: &[(b"/w/a", A_FILE)],
+        setup: b"global\noption recurse_repositories yes\n",
+        status: 3,
+        out: b"",
+        err: b"setup: line 1\n",
+    },
+    Row {
+        name: "a rules file that is a link to itself",
+        nodes: &[(b"/w/a", A_FILE), (b"/w/.gitignore", NewNode::Link(b".gitignore"))],
+        setup: REQUIRED,
+        status: 4,
+        out: b"",
+        err: b"walk: rules-file /w/.gitignore\n",
+    },
+    Row {
+        name: "a rules file that is neither file nor directory",
+        nodes: &[(b"/w/a", A_FILE), (b"/w/.gitignore", NewNode::Other)],
+        setup: REQUIRED,
+        status: 4,
+        out: b"",
+        err: b"walk: rules-file /w/.gitignore\n",
+    },
+    Row {
         name: "index lines that do not ascend, behind a comment and an empty line",
         nodes: &[(b"/w/a", A_FILE)],
         setup: b"# two\n\nindex 100644 0 - - b\nindex 100644 0 - - a\n",
@@ -167,6 +269,16 @@ fn check_row(rt: &impl Abort, alloc: Global, row: &Row, reversed: bool) -> Resul
 fn reports_each_path(rt: HostRuntime) -> Result<(), Fail> {
     let alloc = rt.alloc();
     for row in &REPORTS {
+        check_row(&rt, alloc, row, false)?;
+        check_row(&rt, alloc, row, true)?;
+    }
+    Ok(())
+}
+
+#[test]
+fn asks_ignore_rules(rt: HostRuntime) -> Result<(), Fail> {
+    let alloc = rt.alloc();
+    for row in &IGNORED {
         check_row(&rt, alloc, row, false)?;
         check_row(&rt, alloc, row, true)?;
     }
@@ -241,6 +353,7 @@ fn counts_faults(rt: HostRuntime) -> Result<(), Fail> {
     let alloc = rt.alloc();
     for (call, nth, status, err) in [
         (CallKind::Read, 1, 6, b"worktree fault\n".as_slice()),
+        (CallKind::Read, 2, 6, b"worktree fault\n".as_slice()),
         (CallKind::ListOpen, 1, 6, b"worktree fault\n".as_slice()),
         (CallKind::ListEntry, 1, 6, b"worktree fault\n".as_slice()),
         (CallKind::Kind, 2, 0, b"".as_slice()),

@@ -3,3 +3,4 @@ pub mod Writes
 pub mod SetupLines
 pub mod Statuses
 pub mod Runs
+pub mod Walks

@@ -1,53 +1,36 @@
 -- One more line of a setup.
-use Rattle.std.proofs.Common.{◌≡◌, ℕ, suc, ◌+◌, ◌<◌, ◌≤◌, List, [], ◌∷◌, ◌++◌, length, take, drop, get_or, map, Bool, true, false, cond, Option, Some, None, refl, sym, ap, ◌∙◌, arith, add-one, append-nil, drop-cons, length-take, take_all, Bor}
+use Rattle.std.proofs.Common.{◌≡◌, ℕ, suc, ◌+◌, ◌<◌, ◌≤◌, List, [], ◌∷◌, ◌++◌, length, take, drop, get_or, map, Bool, true, false, cond, Option, Some, None, refl, sym, ap, ◌∙◌, arith, add-one, append_assoc, append-nil, drop-cons, length-take, take_all, Bor}
 use Rattle.std.proofs.lemmas.List.{length-map, take_more, drop_all, get_or-map}
-use Rattle.std.proofs.lemmas.List.Elements.{filter_map-append}
-use Rattle.std.specs.List.{filter_map}
 use Rattle.gitbase_core.specs.declared.entry.IndexEntry.{IndexEntry}
 use Rattle.worktree_report.specs.declared.setup.option.SetupOption.{SetupOption}
-use Rattle.worktree_report.specs.declared.setup.line.SetupLine.{SetupLine}
-use Rattle.worktree_report.specs.declared.setup.line.SetupLine.TheVariants.{Skipped, Sets, Indexes}
-use Rattle.worktree_report.specs.SetupSaid.{Said}
-use Rattle.worktree_report.specs.SetupText.{line_of, option_in, options_in, entry_in, entries_in, said, is_refused, first_outside}
-use Rattle.worktree_report.specs.SetupParsed.{taken}
+use Rattle.worktree_report.specs.SetupSaid.{Said, nothing, both}
+use Rattle.worktree_report.specs.SetupText.{line_of, says, said, is_refused, taken, first_outside}
 
-abbrev one : {X : Type 0} → Option X → List X
-one None = []
-one (Some x) = x ∷ []
+abbrev said_of : List SetupOption → List IndexEntry → List ℕ → List ℕ → Said
+said_of options index overrides globals = record { options = options; index = index; overrides = overrides; globals = globals }
 
--- what a filter gives of one line more
-filter_map-push : {X : Type 0} (f : List ℕ → Option X) (lines : List (List ℕ)) (line : List ℕ) → filter_map f (lines ++ line ∷ []) ≡ filter_map f lines ++ one (f line)
-filter_map-push {X} f lines line = filter_map-append f lines (line ∷ []) ∙ ap (λ (xs : List X). filter_map f lines ++ xs) (alone (f line))
-  where
-    alone : (o : Option X) → filter_map {X = Option X} (λ x. x) (o ∷ []) ≡ one o
-    alone None = refl
-    alone (Some x) = refl
+-- two records with the same fields
+same : {o1 o2 : List SetupOption} {i1 i2 : List IndexEntry} {r1 r2 g1 g2 : List ℕ} → o1 ≡ o2 → i1 ≡ i2 → r1 ≡ r2 → g1 ≡ g2 → said_of o1 i1 r1 g1 ≡ said_of o2 i2 r2 g2
+same o i r g = cc
 
-abbrev with_line : Said → Option SetupLine → Said
-with_line all m = record { options = all.options ++ one (option_in m); index = all.index ++ one (entry_in m) }
+-- saying nothing more is saying no more
+both-nothing : (a : Said) → both a nothing ≡ a
+both-nothing a =
+    same (append-nil a.options) (append-nil a.index) (append-nil a.overrides) (append-nil a.globals)
 
-abbrev said_of : List SetupOption → List IndexEntry → Said
-said_of options index = record { options = options; index = index }
+both-assoc : (a b c : Said) → both (both a b) c ≡ both a (both b c)
+both-assoc a b c =
+    same (append_assoc a.options b.options c.options) (append_assoc a.index b.index c.index) (append_assoc a.overrides b.overrides c.overrides) (append_assoc a.globals b.globals c.globals)
 
-said-append : (lines : List (List ℕ)) (line : List ℕ) → said (lines ++ line ∷ []) ≡ with_line (said lines) (line_of line)
-said-append lines line =
-    ap (λ (options : List SetupOption). said_of options (entries_in (lines ++ line ∷ []))) (filter_map-push (λ l. option_in (line_of l)) lines line)
-    ∙ ap (λ (index : List IndexEntry). said_of (options_in lines ++ one (option_in (line_of line))) index) (filter_map-push (λ l. entry_in (line_of l)) lines line)
-
-same_said : (all : Said) → all ≡ said_of (all.options ++ []) (all.index ++ [])
-same_said all =
-    ap (λ (options : List SetupOption). said_of options all.index) (sym (append-nil all.options))
-    ∙ ap (λ (index : List IndexEntry). said_of (all.options ++ []) index) (sym (append-nil all.index))
-
-one_more : (all : Said) (m : Option SetupLine) → taken all m ≡ cond (is_refused all m) None (Some (with_line all m))
-one_more all None = refl
-one_more all (Some Skipped) = ap (λ (s : Said). Some s) (same_said all)
-one_more all (Some (Sets o)) = ap (λ (index : List IndexEntry). cond (is_refused all (Some (Sets o))) None (Some (said_of (all.options ++ o ∷ []) index))) (sym (append-nil all.index))
-one_more all (Some (Indexes e)) = ap (λ (options : List SetupOption). cond (is_refused all (Some (Indexes e))) None (Some (said_of options (all.index ++ e ∷ [])))) (sym (append-nil all.options))
+said-append : (lines : List (List ℕ)) (line : List ℕ) → said (lines ++ line ∷ []) ≡ both (said lines) (says (line_of line))
+unfolding said
+said-append [] line = both-nothing (says (line_of line))
+said-append (first ∷ lines) line =
+    ap (both (says (line_of first))) (said-append lines line) ∙ sym (both-assoc (says (line_of first)) (said lines) (says (line_of line)))
 
 -- the step of the code is that of the definition
 taken-said : (earlier : List (List ℕ)) (line : List ℕ) → taken (said earlier) (line_of line) ≡ cond (is_refused (said earlier) (line_of line)) None (Some (said (earlier ++ line ∷ [])))
-taken-said earlier line = one_more (said earlier) (line_of line) ∙ ap (λ (s : Said). cond (is_refused (said earlier) (line_of line)) None (Some s)) (sym (said-append earlier line))
+taken-said earlier line = ap (λ (s : Said). cond (is_refused (said earlier) (line_of line)) None (Some s)) (sym (said-append earlier line))
 
 refused_is : {X : Type 0} (b : Bool) (x : X) → cond b None (Some x) ≡ None → b ≡ true
 refused_is true x e = refl

@@ -1,6 +1,10 @@
 -- The refusal of the program that stands for one of a part of it.
+use Rattle.std.specs.Prelude.{[]}
 use Rattle.worktree_fs.specs.declared.answers.ReadError.{ReadError}
 use Rattle.worktree_fs.specs.declared.answers.ReadError.TheVariants as read
+use Rattle.worktree_stack.specs.declared.error.AtPathError.{AtPathError}
+use Rattle.worktree_stack.specs.declared.error.AtPathError.TheVariants as inner
+use Rattle.worktree_stack.specs.declared.error.RulesWhy.TheVariants as rules
 use Rattle.dir_classify.specs.declared.error.Error.{Error}
 use Rattle.dir_classify.specs.declared.error.Error.TheVariants as walk
 use Rattle.dir_classify.specs.declared.error.ReadWhy.TheVariants as why
@@ -18,8 +22,22 @@ abbrev pub of_setup : SetupError → Refusal
 of_setup (setup.Line line) = refusals.Setup line
 of_setup setup.OutOfMemory = refusals.OutOfMemory
 
+-- The rules were not asked. Only what a rules file is and a fault come in a walk.
+abbrev pub of_lookup : AtPathError → Refusal
+of_lookup inner.NotNormal = refusals.Walk words.Lookup []
+of_lookup (inner.Component why) = refusals.Walk words.Lookup []
+of_lookup (inner.Collision path) = refusals.Walk words.Lookup path
+of_lookup (inner.Directory path why) = refusals.Walk words.Lookup path
+of_lookup (inner.RulesFile path rules.Link) = refusals.Walk words.RulesFile path
+of_lookup (inner.RulesFile path rules.LinkLimit) = refusals.Walk words.RulesFile path
+of_lookup (inner.RulesFile path rules.Special) = refusals.Walk words.RulesFile path
+of_lookup (inner.RulesFile path rules.Fault) = refusals.Fault
+of_lookup (inner.Blob id why) = refusals.Walk words.Lookup []
+of_lookup inner.OutOfMemory = refusals.OutOfMemory
+
 abbrev pub of_walk : Error → Refusal
 of_walk (walk.WorktreeRootIsFile root) = refusals.Walk words.RootIsFile root
+of_walk (walk.ExcludesAccess refused) = of_lookup refused
 of_walk (walk.ReadDir path why.Absent) = refusals.Walk words.AbsentDirectory path
 of_walk (walk.ReadDir path why.NotADirectory) = refusals.Walk words.NotADirectory path
 of_walk (walk.ReadDir path why.Fault) = refusals.Fault

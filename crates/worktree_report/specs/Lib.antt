@@ -13,6 +13,7 @@ pub mod SetupParsed
 pub mod Refusals
 pub mod Converted
 pub mod SetupAt
+pub mod Excluding
 pub mod Steps
 pub mod SetupIndex
 pub mod Run

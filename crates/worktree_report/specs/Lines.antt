@@ -1,8 +1,9 @@
 -- The lines of a report.
 use Rattle.std.specs.Prelude.{ℕ, List, [], ◌∷◌, ◌++◌, codes, Option, Some, None}
 use Rattle.std.specs.List.{flat_map}
+use Rattle.glob_rules.specs.declared.ignore.Kind.TheVariants.{Expendable, Precious}
 use Rattle.dir_classify.specs.declared.entry.Status.{Status}
-use Rattle.dir_classify.specs.declared.entry.Status.TheVariants.{Pruned, Tracked, Untracked}
+use Rattle.dir_classify.specs.declared.entry.Status.TheVariants.{Pruned, Tracked, Ignored, Untracked}
 use Rattle.dir_classify.specs.declared.entry.Kind.{Kind}
 use Rattle.dir_classify.specs.declared.entry.Kind.TheVariants.{Untrackable, File, Symlink, Directory, Repository}
 use Rattle.dir_classify.specs.declared.entry.PathspecMatch.{PathspecMatch}
@@ -12,9 +13,12 @@ use Rattle.dir_classify.specs.declared.entry.Property.TheVariants.{DotGit, Empty
 use Rattle.dir_walk.specs.Emissions.{Emission}
 use Rattle.worktree_report.specs.Escapes.{escaped}
 
+-- an ignored path that is worth keeping is precious
 abbrev pub status_word : Status → List ℕ
 status_word Pruned = codes "pruned"
 status_word Tracked = codes "tracked"
+status_word (Ignored Expendable) = codes "ignored"
+status_word (Ignored Precious) = codes "precious"
 status_word Untracked = codes "untracked"
 
 -- a dash stands for none, in each word

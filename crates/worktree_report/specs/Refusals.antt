@@ -21,6 +21,8 @@ abbrev pub word_of : WalkWord → List ℕ
 word_of words.RootIsFile = codes "root-is-file"
 word_of words.AbsentDirectory = codes "absent-directory"
 word_of words.NotADirectory = codes "not-a-directory"
+word_of words.RulesFile = codes "rules-file"
+word_of words.Lookup = codes "lookup"
 word_of words.TooDeep = codes "too-deep"
 
 -- the line on standard error, its line feed included

@@ -4,6 +4,7 @@ use Rattle.std.specs.Result.{result_ok}
 use Rattle.worktree_fs.specs.Tree.{Names, look}
 use Rattle.dir_classify.specs.declared.options.Options.{Options}
 use Rattle.dir_classify.specs.declared.error.Error.{Error}
+use Rattle.dir_classify.specs.Class.{Meanings}
 use Rattle.dir_classify.specs.Meanings.{meanings}
 use Rattle.dir_walk.specs.declared.report.Report.{Report}
 use Rattle.dir_walk.specs.Distinct.{Ascends}
@@ -17,6 +18,7 @@ use Rattle.worktree_report.specs.declared.refusal.Refusal.TheVariants as refusal
 use Rattle.worktree_report.specs.Steps.{◌>>=◌}
 use Rattle.worktree_report.specs.Words.{Command, command_of}
 use Rattle.worktree_report.specs.SetupAt.{setup_at}
+use Rattle.worktree_report.specs.Excluding.{excludes_of}
 use Rattle.worktree_report.specs.Lines.{lines_of}
 use Rattle.worktree_report.specs.Converted.{of_walk}
 
@@ -25,19 +27,23 @@ abbrev pub depth_limit : ℕ
 depth_limit = 256
 
 abbrev pub walk_options : SetupOptions → Options
-walk_options options = record { emit_tracked = options.emit_tracked }
+walk_options options = record { emit_tracked = options.emit_tracked; emit_ignored = options.emit_ignored }
+
+-- what the layers below say of the paths of the work tree at `root`: the index, and the ignore rules
+abbrev pub meant_in : Names → List ℕ → Setup → Meanings
+meant_in t root setup = meanings setup.index (excludes_of root setup) t
 
 -- the lines of the report of the work tree at `root`; none where there is no such report
 abbrev pub text_of : Names → List ℕ → Setup → Option (List ℕ)
-text_of t root setup = option_map (λ r. lines_of r.entries) (report (walk_options setup.options) depth_limit (meanings setup.index) t root)
+text_of t root setup = option_map (λ r. lines_of r.entries) (report (walk_options setup.options) depth_limit (meant_in t root setup) t root)
 
 -- What makes a report safe to act on: its entries ascend strictly by path, so that none stands twice, and beneath no
 -- path of one lies a leaf that the walk met and that is tracked or a repository, unless it is pruned.
 pub record IsSafeAt (t : Names) (root : List ℕ) (setup : Setup) : Type 0 where
   pub made : Report
-  pub is : report (walk_options setup.options) depth_limit (meanings setup.index) t root ≡ Some made
+  pub is : report (walk_options setup.options) depth_limit (meant_in t root setup) t root ≡ Some made
   pub ascending : Ascends made.entries
-  pub hides_none : IsSomeAnd (walked (meanings setup.index) t root) (λ w. hides_guarded made.entries w.met ≡ false)
+  pub hides_none : IsSomeAnd (walked (meant_in t root setup) t root) (λ w. hides_guarded made.entries w.met ≡ false)
 
 -- The bytes that the words ask for, over the tree `t`. None where they ask for nothing, where the setup they name is no
 -- file or has a line outside the grammar, and where there is no report of the worktree they name.
@@ -65,7 +71,7 @@ pub record RefusesSetup (t : Names) (words : List (List ℕ)) (line : ℕ) : Typ
 pub record RefusesWalkAt (t : Names) (root : List ℕ) (setup : Setup) (Failed : Type 0) (word : WalkWord) (path : List ℕ) : Type 0 where
   pub error : Error
   pub is : of_walk error ≡ refusals.Walk word path
-  pub cause : WalkRefuses t (meanings setup.index) root depth_limit Failed error
+  pub cause : WalkRefuses t (excludes_of root setup) (meant_in t root setup) root depth_limit Failed error
 
 -- the walk that the words ask for is refused with a word and a path
 pub record RefusesWalk (t : Names) (words : List (List ℕ)) (Failed : Type 0) (word : WalkWord) (path : List ℕ) : Type 0 where
@@ -75,23 +81,26 @@ pub record RefusesWalk (t : Names) (words : List (List ℕ)) (Failed : Type 0) (
   pub read : setup_at (look t command.setup true) ≡ Ok setup
   pub refused : RefusesWalkAt t command.root setup Failed word path
 
--- the word and the path of a refused walk are about the root that was handed in and the limit, told tree or not
-pub record IsAboutWalkAt (root : List ℕ) (word : WalkWord) (path : List ℕ) : Type 0 where
+-- the word and the path of a refused walk are about the root, the rules and the limit that were handed in, told tree or not
+pub record IsAboutWalkAt (root : List ℕ) (setup : Setup) (word : WalkWord) (path : List ℕ) : Type 0 where
   pub error : Error
   pub is : of_walk error ≡ refusals.Walk word path
-  pub about : IsAbout root depth_limit error
+  pub about : IsAbout (excludes_of root setup) root depth_limit error
 
+-- the same of the words, with some setup: where rules are asked, their files have one name, below the root, by any setup
 pub record IsAboutWalk (words : List (List ℕ)) (word : WalkWord) (path : List ℕ) : Type 0 where
   pub command : Command
+  pub setup : Setup
   pub named : command_of words ≡ Some command
-  pub about : IsAboutWalkAt command.root word path
+  pub about : IsAboutWalkAt command.root setup word path
 
 -- The words, the setup and the worktree are as they should be: the words are in the grammar, the setup is a file in its
--- grammar, and the worktree root is a directory or a link to one, in which no directory lies too deep and each
--- up-to-date directory of the index is one on disk.
+-- grammar, and the worktree root is a directory or a link to one, in which no directory lies too deep, each up-to-date
+-- directory of the index is one on disk, and each rules file that is asked is a file, a directory, nothing, or a link
+-- that leads to one of these.
 pub record IsValid (t : Names) (words : List (List ℕ)) : Type 0 where
   pub command : Command
   pub setup : Setup
   pub named : command_of words ≡ Some command
   pub read : setup_at (look t command.setup true) ≡ Ok setup
-  pub walkable : IsWalkable depth_limit (meanings setup.index) t command.root
+  pub walkable : IsWalkable depth_limit (meant_in t command.root setup) t command.root

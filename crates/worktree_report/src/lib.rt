@@ -2,6 +2,7 @@
 #![tactic(auto)]
 
 mod escape;
+mod excludes;
 mod lines;
 mod program;
 mod reading;

@@ -6,6 +6,7 @@ ghost use Rattle.dir_walk.specs.Emissions.{emission_of};
 use crate::escape::add_escaped;
 use dir_classify::{Entry, Kind, PathspecMatch, Property, Status};
 use gitbase_core::{Bytes, OutOfMemory};
+use glob_rules::ignore;
 use std::alloc::Global;
 
 fn status_word(status: Status) -> &'static [u8]
@@ -14,6 +15,8 @@ fn status_word(status: Status) -> &'static [u8]
     match status {
         Status::Pruned => b"pruned",
         Status::Tracked => b"tracked",
+        Status::Ignored(ignore::Kind::Expendable) => b"ignored",
+        Status::Ignored(ignore::Kind::Precious) => b"precious",
         Status::Untracked => b"untracked",
     }
 }

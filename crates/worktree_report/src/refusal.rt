@@ -17,6 +17,10 @@ pub enum WalkWord {
     AbsentDirectory,
     /// What was to be entered is no directory.
     NotADirectory,
+    /// A rules file leads along more links than are followed, or to what is neither a file nor a directory.
+    RulesFile,
+    /// The rules could not be asked for another reason, which does not come in a walk.
+    Lookup,
     /// What was to be entered lies deeper than the limit.
     TooDeep,
 }
@@ -70,6 +74,8 @@ fn word_of(word: WalkWord) -> &'static [u8]
         WalkWord::RootIsFile => b"root-is-file",
         WalkWord::AbsentDirectory => b"absent-directory",
         WalkWord::NotADirectory => b"not-a-directory",
+        WalkWord::RulesFile => b"rules-file",
+        WalkWord::Lookup => b"lookup",
         WalkWord::TooDeep => b"too-deep",
     }
 }

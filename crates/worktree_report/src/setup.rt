@@ -1,6 +1,6 @@
 //! The setup of a report, and the text that it is read from.
 ghost use Rattle.std.specs.Prelude.{◌≡◌, ◌==◌, ◌+◌, ◌≤◌, List, ℕ, length, map, count_by, IfOk};
-ghost use Rattle.worktree_report.specs.SetupText.{text_lines, lacks_line_feed, number_of_lines, options_meant, has_required, setup_of};
+ghost use Rattle.worktree_report.specs.SetupText.{text_lines, lacks_line_feed, number_of_lines, emit_ignored_of, options_meant, has_required, setup_of};
 ghost use Rattle.worktree_report.specs.SetupParsed.{ParseGives};
 
 mod draft;
@@ -9,9 +9,10 @@ mod index_line;
 mod line;
 mod option;
 
+use dir_classify::EmissionMode;
 use draft::read_lines;
-use gitbase_core::{OutOfMemory, State};
-use option::{SetupOption, is_set, is_yes};
+use gitbase_core::{Bytes, OutOfMemory, State};
+use option::{SetupOption, is_set, is_set_to};
 use std::alloc::Global;
 
 /// The options of a setup, under the names that its lines give them.
@@ -19,10 +20,14 @@ use std::alloc::Global;
 pub struct SetupOptions {
     /// Whether repositories below the root are looked into like directories.
     pub recurse_repositories: bool,
-    /// Whether ignore rules are read.
+    /// Whether ignore rules are asked.
     pub excludes: bool,
     /// Whether tracked paths are reported.
     pub emit_tracked: bool,
+    /// Whether ignored paths are reported, and how.
+    pub emit_ignored: Option<EmissionMode>,
+    /// Whether a leading `$` makes an ignore rule one for files that are worth keeping.
+    pub precious: bool,
 }
 
 /// What a report is made from, beside the worktree.
@@ -30,6 +35,10 @@ pub struct SetupOptions {
 pub struct Setup {
     /// The entries of the index.
     pub index: State,
+    /// Ignore rules that come before those of any directory, each with a line feed.
+    pub overrides: Bytes,
+    /// Ignore rules that come after those of all directories, each with a line feed.
+    pub globals: Bytes,
     pub options: SetupOptions,
 }
 
@@ -87,20 +96,33 @@ fn line_behind(bytes: &[u8]) -> usize
     }
 }
 
-/// Whether the options are set that have to be.
+/// Whether the option is set that has to be.
 fn has_required(options: &[SetupOption]) -> bool
     ensures { result ≡ has_required options.now }
 {
-    is_set(b"recurse_repositories", options) && is_set(b"excludes", options)
+    is_set(b"recurse_repositories", options)
+}
+
+/// Whether and how ignored paths are reported.
+fn emit_ignored_of(options: &[SetupOption]) -> Option<EmissionMode>
+    ensures { result ≡ emit_ignored_of options.now }
+{
+    if is_set_to(b"emit_ignored", b"matching", options) {
+        Some(EmissionMode::Matching)
+    } else {
+        None
+    }
 }
 
 fn options_meant(options: &[SetupOption]) -> SetupOptions
     ensures { result ≡ options_meant options.now }
 {
     SetupOptions {
-        recurse_repositories: is_yes(b"recurse_repositories", options),
-        excludes: is_yes(b"excludes", options),
-        emit_tracked: is_yes(b"emit_tracked", options),
+        recurse_repositories: is_set_to(b"recurse_repositories", b"yes", options),
+        excludes: !is_set_to(b"excludes", b"no", options),
+        emit_tracked: is_set_to(b"emit_tracked", b"yes", options),
+        emit_ignored: emit_ignored_of(options),
+        precious: is_set_to(b"precious", b"yes", options),
     }
 }
 
@@ -122,6 +144,8 @@ pub fn parse(alloc: Global, bytes: &[u8]) -> Result<Setup, SetupError>
     let options = options_meant(&draft.options);
     Ok(Setup {
         index: draft.index,
+        overrides: Bytes::from_vec(draft.overrides),
+        globals: Bytes::from_vec(draft.globals),
         options,
     })
 }

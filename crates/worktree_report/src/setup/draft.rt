@@ -1,7 +1,7 @@
 //! What the lines of a setup say together, line by line.
-ghost use Rattle.std.specs.Prelude.{◌≡◌, List, ℕ, map, IfOk, OnOk};
-ghost use Rattle.worktree_report.specs.SetupText.{line_of};
-ghost use Rattle.worktree_report.specs.SetupParsed.{ReadGives, taken};
+ghost use Rattle.std.specs.Prelude.{◌≡◌, ◌++◌, ◌∷◌, [], map, IfOk, OnOk};
+ghost use Rattle.worktree_report.specs.SetupText.{line_of, taken};
+ghost use Rattle.worktree_report.specs.SetupParsed.{ReadGives};
 
 use crate::setup::SetupError;
 use crate::setup::line::{SetupLine, line_of};
@@ -15,6 +15,10 @@ use std::marker::Model;
 pub struct Draft {
     pub options: Vec<SetupOption>,
     pub index: State,
+    /// Ignore rules that come before those of any directory, each with its line feed.
+    pub overrides: Vec<u8>,
+    /// Ignore rules that come after those of all directories, each with its line feed.
+    pub globals: Vec<u8>,
 }
 
 impl Model for Draft {
@@ -22,7 +26,16 @@ impl Model for Draft {
 
     ghost Value = { Said };
 
-    ghost view = { λ draft. record { options = draft.options.items; index = draft.index } };
+    ghost view = { λ draft. record { options = draft.options.items; index = draft.index; overrides = draft.overrides.items; globals = draft.globals.items } };
+}
+
+/// Adds an ignore rule and a line feed.
+fn add_rule(text: &mut Vec<u8>, rule: &[u8]) -> Result<(), OutOfMemory>
+    ensures { OnOk result (text.new.items ≡ text.old.items ++ rule.now ++ 10 ∷ []) }
+{
+    text.extend_from_slice(rule)?;
+    text.push(b'\n')?;
+    Ok(())
 }
 
 /// What is said with one more line. None where that is outside the grammar.
@@ -46,18 +59,29 @@ fn taken(alloc: Global, mut draft: Draft, line: &[u8]) -> Result<Option<Draft>, 
             draft.index.push(alloc, entry)?;
             Ok(Some(draft))
         }
+        Some(SetupLine::OverrideRule(rule)) => {
+            add_rule(&mut draft.overrides, rule.as_bytes())?;
+            Ok(Some(draft))
+        }
+        Some(SetupLine::GlobalRule(rule)) => {
+            add_rule(&mut draft.globals, rule.as_bytes())?;
+            Ok(Some(draft))
+        }
     }
 }
 
 /// What the lines say together.
 ///
 /// `Line` names the first line outside the grammar, counted from 1.
+#[tactic(auto, unfolding(crate::specs::SetupText::said))]
 pub fn read_lines(alloc: Global, lines: &[&[u8]]) -> Result<Draft, SetupError>
     ensures { ReadGives result (map (λ line. line.now) lines.now) }
 {
     let mut draft = Draft {
         options: Vec::new(alloc),
         index: State::new(alloc),
+        overrides: Vec::new(alloc),
+        globals: Vec::new(alloc),
     };
     for (i, line) in lines.iter().enumerate() {
         match taken(alloc, draft, line)? {

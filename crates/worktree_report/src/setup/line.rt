@@ -1,12 +1,12 @@
 //! What a line of a setup says by itself.
 ghost use Rattle.std.specs.Prelude.{◌≡◌, IfOk};
-ghost use Rattle.worktree_report.specs.SetupText.{is_skipped, keyword_line, line_of};
+ghost use Rattle.worktree_report.specs.SetupText.{is_skipped, rule_line, keyword_line, line_of};
 ghost use Rattle.worktree_report.specs.SetupSeen.{seen};
 
 use crate::setup::field::{Field, parted};
 use crate::setup::index_line::index_entry;
 use crate::setup::option::{SetupOption, option_of};
-use gitbase_core::{IndexEntry, OutOfMemory};
+use gitbase_core::{Bytes, IndexEntry, OutOfMemory};
 use std::alloc::Global;
 
 /// What a line says.
@@ -18,6 +18,10 @@ pub enum SetupLine {
     Sets(SetupOption),
     /// The index has an entry.
     Indexes(IndexEntry),
+    /// An ignore rule that comes before those of any directory.
+    OverrideRule(Bytes),
+    /// An ignore rule that comes after those of all directories.
+    GlobalRule(Bytes),
 }
 
 fn is_skipped(line: &[u8]) -> bool
@@ -34,6 +38,21 @@ fn keyword_line(alloc: Global, fields: Field<'_>) -> Result<Option<SetupLine>, O
     }
     if fields.word == b"index".as_slice() {
         return Ok(index_entry(alloc, fields.rest)?.map(SetupLine::Indexes));
+    }
+    rule_line(alloc, fields)
+}
+
+/// A line that gives an ignore rule.
+fn rule_line(alloc: Global, fields: Field<'_>) -> Result<Option<SetupLine>, OutOfMemory>
+    ensures { IfOk result (λ line. line ≡ rule_line (seen fields.entry)) }
+{
+    if fields.word == b"override".as_slice() {
+        let rule = Bytes::from_slice(alloc, fields.rest)?;
+        return Ok(Some(SetupLine::OverrideRule(rule)));
+    }
+    if fields.word == b"global".as_slice() {
+        let rule = Bytes::from_slice(alloc, fields.rest)?;
+        return Ok(Some(SetupLine::GlobalRule(rule)));
     }
     Ok(None)
 }

@@ -1,7 +1,7 @@
 //! The options of a setup.
-ghost use Rattle.std.specs.Prelude.{◌≡◌, ◌&&◌, codes, IfOk};
+ghost use Rattle.std.specs.Prelude.{◌≡◌, ◌&&◌, IfOk};
 ghost use Rattle.std.specs.Str.{bytes_eq};
-ghost use Rattle.worktree_report.specs.SetupOptions.{may_be, option_of, is_set, is_yes};
+ghost use Rattle.worktree_report.specs.SetupOptions.{is_switch, may_be, option_of, is_set, is_set_to};
 
 use crate::setup::field::parted;
 use gitbase_core::{Bytes, OutOfMemory};
@@ -14,18 +14,25 @@ pub struct SetupOption {
     pub value: Bytes,
 }
 
+/// Whether an option is no or yes.
+fn is_switch(name: &[u8]) -> bool
+    ensures { result ≡ is_switch name.now }
+{
+    name == b"excludes".as_slice()
+        || name == b"emit_tracked".as_slice()
+        || name == b"precious".as_slice()
+}
+
 /// Whether an option may have a value.
 fn may_be(name: &[u8], value: &[u8]) -> bool
     ensures { result ≡ may_be name.now value.now }
 {
     if name == b"recurse_repositories".as_slice() {
         value == b"yes".as_slice()
-    } else if name == b"excludes".as_slice() {
-        value == b"no".as_slice()
-    } else if name == b"emit_tracked".as_slice() {
-        value == b"no".as_slice() || value == b"yes".as_slice()
+    } else if name == b"emit_ignored".as_slice() {
+        value == b"no".as_slice() || value == b"matching".as_slice()
     } else {
-        false
+        is_switch(name) && (value == b"no".as_slice() || value == b"yes".as_slice())
     }
 }
 
@@ -52,15 +59,15 @@ pub fn is_set(name: &[u8], options: &[SetupOption]) -> bool
     options.iter().any(|option| option.name.as_bytes() == name)
 }
 
-fn sets_yes(option: &SetupOption, name: &[u8]) -> bool
-    ensures { result ≡ (bytes_eq option.now.name name.now && bytes_eq option.now.value (codes "yes")) }
+fn sets(option: &SetupOption, name: &[u8], value: &[u8]) -> bool
+    ensures { result ≡ (bytes_eq option.now.name name.now && bytes_eq option.now.value value.now) }
 {
-    option.name.as_bytes() == name && option.value.as_bytes() == b"yes".as_slice()
+    option.name.as_bytes() == name && option.value.as_bytes() == value
 }
 
-/// Whether an option is set to yes.
-pub fn is_yes(name: &[u8], options: &[SetupOption]) -> bool
-    ensures { result ≡ is_yes name.now options.now }
+/// Whether an option is set to a value.
+pub fn is_set_to(name: &[u8], value: &[u8], options: &[SetupOption]) -> bool
+    ensures { result ≡ is_set_to name.now value.now options.now }
 {
-    options.iter().any(|option| sets_yes(option, name))
+    options.iter().any(|option| sets(option, name, value))
 }

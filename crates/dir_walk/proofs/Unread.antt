@@ -1,0 +1,41 @@
+-- A rules file that is refused, of a directory above a path.
+use Rattle.std.proofs.Common.{◌≡◌, ℕ, List, [], ◌∷◌, ◌++◌, Bool, true, false, not, ◌&&◌, map, Some, Err, refl, sym, ap, ◌∙◌}
+use Rattle.std.specs.List.{list_all}
+use Rattle.gitbase_core.specs.Path.{components}
+use Rattle.glob_rules.specs.Ignore.{Rules}
+use Rattle.worktree_fs.specs.Tree.{Names}
+use Rattle.worktree_fs.specs.Paths.{spelled, fronts, without_last}
+use Rattle.worktree_stack.specs.declared.error.RulesWhy.{RulesWhy}
+use Rattle.worktree_stack.specs.Reading.{reading, is_read}
+use Rattle.worktree_stack.specs.Stacked.{Made}
+use Rattle.worktree_stack.specs.Refused.{IsRefusedAncestor}
+use Rattle.dir_classify.specs.Meanings.{is_unread_in}
+
+all-map : {X Y : Type 0} (p : Y → Bool) (f : X → Y) (xs : List X) → list_all p (map f xs) ≡ list_all (λ x. p (f x)) xs
+all-map p f [] = refl
+all-map p f (x ∷ xs) = ap (λ b. p (f x) && b) (all-map p f xs)
+
+and-right : (a b : Bool) → b ≡ false → (a && b) ≡ false
+and-right true b e = e
+and-right false b e = refl
+
+tail_is : {X : Type 0} {x y : X} {xs ys : List X} → x ∷ xs ≡ y ∷ ys → xs ≡ ys
+tail_is e = cc
+
+head_is : {X : Type 0} {x y : X} {xs ys : List X} → x ∷ xs ≡ y ∷ ys → x ≡ y
+head_is e = cc
+
+-- a test that a front fails is failed by the fronts together
+all-front : (p : List (List ℕ) → Bool) (names front rest : List (List ℕ)) → names ≡ front ++ rest → p front ≡ false → list_all p (fronts names) ≡ false
+all-front p [] [] rest e fails = ap (λ b. b && true) fails
+all-front p (name ∷ names) [] rest e fails = ap (λ b. b && list_all p (map (λ f. name ∷ f) (fronts names))) fails
+all-front p [] (x ∷ front) rest e fails = absurd (cc e)
+all-front p (name ∷ names) (x ∷ front) rest e fails =
+    and-right (p []) (list_all p (map (λ f. name ∷ f) (fronts names)))
+    (all-map p (λ f. name ∷ f) (fronts names) ∙ all-front (λ f. p (name ∷ f)) names front rest (tail_is e) (ap (λ (n : List ℕ). p (n ∷ front)) (head_is e) ∙ fails))
+
+pub unread-ancestor : (t : Names) (rules : Made) (path file : List ℕ) (why : RulesWhy) → IsRefusedAncestor t rules.root rules.setup (components path) file why → is_unread_in (Some rules) t path ≡ true
+unfolding is_unread_in
+unread-ancestor t rules path file why h =
+    ap not
+    (all-front (λ directory. is_read (reading rules.setup t rules.root (spelled directory))) (without_last (components path)) h.ancestor h.rest h.above (ap is_read h.refused))

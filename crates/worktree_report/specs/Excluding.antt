@@ -1,0 +1,32 @@
+-- The ignore rules that a setup asks for.
+use Rattle.std.specs.Prelude.{ℕ, List, [], ◌∷◌, Bool, Option, Some, None, codes, if◌then◌else◌}
+use Rattle.glob_rules.specs.Ignore.{Rules, entries}
+use Rattle.glob_rules.specs.declared.Case.TheVariants.{Sensitive}
+use Rattle.worktree_stack.specs.declared.ignore_source.Source.TheVariants.{WorktreeThenIdMappingIfNotSkipped}
+use Rattle.worktree_stack.specs.Setup.{Setup as Rulings}
+use Rattle.worktree_stack.specs.Stacked.{Made}
+use Rattle.worktree_report.specs.declared.setup.Setup.{Setup}
+
+-- the rules in a text that was read from no file; they are for every path
+abbrev pub rules_in : Bool → List ℕ → Rules
+rules_in precious text = record { entries = entries precious text; source = None; base = [] }
+
+-- the override lines as one list above those of directories, the global lines as one below them; each directory has the
+-- rules of its `.gitignore`, read from the worktree
+abbrev pub rules_given : Setup → Rulings
+rules_given setup =
+    record {
+      overrides = rules_in setup.options.precious setup.overrides ∷ [];
+      globals = rules_in setup.options.precious setup.globals ∷ [];
+      file_name = codes ".gitignore";
+      source = WorktreeThenIdMappingIfNotSkipped;
+      precious = setup.options.precious;
+    }
+
+-- what the rules of the work tree at `root` are made with; letters compare as they stand
+abbrev pub rules_of : List ℕ → Setup → Made
+rules_of root setup = record { root = root; case = Sensitive; setup = rules_given setup }
+
+-- they are asked where the options say so
+abbrev pub excludes_of : List ℕ → Setup → Option Made
+excludes_of root setup = if setup.options.excludes then Some (rules_of root setup) else None

@@ -1,0 +1,69 @@
+//! The ignore rules that a setup asks for.
+ghost use Rattle.std.specs.Prelude.{◌≡◌, ◌∷◌, [], IfOk};
+ghost use Rattle.worktree_fs.specs.Tree.{Names};
+ghost use Rattle.worktree_stack.specs.Stacked.{IsInStep, made_of};
+ghost use Rattle.dir_classify.specs.Excludes.{made_with, InStepIf};
+ghost use Rattle.worktree_report.specs.Excluding.{rules_in, rules_given, rules_of, excludes_of};
+
+use crate::setup::Setup;
+use gitbase_core::{Bytes, OutOfMemory, PathText};
+use glob_rules::Case;
+use glob_rules::ignore::{List, ParseIgnore, Search};
+use std::alloc::Global;
+use worktree_stack::ignore_source::Source;
+use worktree_stack::{Ignore, Stack, State};
+
+/// The rules in a text that was read from no file, as the one list of a search.
+fn search_of(alloc: Global, text: &[u8], parse: ParseIgnore) -> Result<Search, OutOfMemory>
+    ensures { IfOk result (λ search. search ≡ rules_in parse.support_precious text.now ∷ []) }
+{
+    let list = List::from_bytes(alloc, text, None, PathText::new(alloc), parse)?;
+    let mut search = Search::new(alloc);
+    search.push_list(alloc, list)?;
+    Ok(search)
+}
+
+/// The rules of a setup, before any directory is looked at.
+fn ignore_of(alloc: Global, setup: &Setup) -> Result<Ignore, OutOfMemory>
+    ensures made { IfOk result (λ ignore. ignore.setup ≡ rules_given setup.now) }
+    ensures lists { IfOk result (λ ignore. ignore.lists ≡ []) }
+    ensures matches { IfOk result (λ ignore. ignore.matches ≡ []) }
+{
+    let parse = ParseIgnore {
+        support_precious: setup.options.precious,
+    };
+    let overrides = search_of(alloc, setup.overrides.as_bytes(), parse)?;
+    let globals = search_of(alloc, setup.globals.as_bytes(), parse)?;
+    let source = Source::WorktreeThenIdMappingIfNotSkipped;
+    Ignore::new(alloc, overrides, globals, None, source, parse)
+}
+
+/// The rules of a setup below a worktree root, with no directory pushed.
+fn stack_of(alloc: Global, root: &[u8], setup: &Setup) -> Result<Stack, OutOfMemory>
+    ensures made { IfOk result (λ stack. made_of stack ≡ rules_of root.now setup.now) }
+    ensures in_step { (t : Names) → IfOk result (IsInStep t) }
+{
+    let ignore = ignore_of(alloc, setup)?;
+    Ok(Stack::new(
+        alloc,
+        PathText::from_bytes(alloc, root)?,
+        State::IgnoreStack(ignore),
+        Case::Sensitive,
+        Bytes::new(alloc),
+        Vec::new(alloc),
+    ))
+}
+
+/// The ignore rules of the work tree at `root`, where the options ask for them. They are made from the setup alone, and read
+/// no rules file yet: so they are in step with any tree.
+///
+/// Fails only where memory is refused.
+pub fn excludes_of(alloc: Global, root: &[u8], setup: &Setup) -> Result<Option<Stack>, OutOfMemory>
+    ensures made { IfOk result (λ excludes. made_with excludes ≡ excludes_of root.now setup.now) }
+    ensures in_step { (t : Names) → IfOk result (InStepIf t) }
+{
+    if !setup.options.excludes {
+        return Ok(None);
+    }
+    Ok(Some(stack_of(alloc, root, setup)?))
+}
