@@ -302,11 +302,7 @@ fn class_dot_git(known: Option<Kind>) -> Outcome
 }
 
 /// The class of a path whose kind is settled; `excluded` is what the rules say of it, if they are asked.
-fn class_of_kind(
-    entry: InIndex,
-    kind: Option<Kind>,
-    excluded: Option<ignore::Kind>,
-) -> Outcome
+fn class_of_kind(entry: InIndex, kind: Option<Kind>, excluded: Option<ignore::Kind>) -> Outcome
     ensures { result ≡ class_of_kind entry kind excluded }
 {
     let status = if entry.sparse.is_some() {

@@ -330,10 +330,26 @@ fn refused_rules(rt: HostRuntime) -> Result<(), Fail> {
     for path in [b"dir".as_slice(), b"plain", b"tracked", b"dir/.git"] {
         class_of(alloc, path, None, true, &index, &mut excludes, &mut tree)?;
     }
-    let special = class_of(alloc, b"dir/in", None, true, &index, &mut excludes, &mut tree);
+    let special = class_of(
+        alloc,
+        b"dir/in",
+        None,
+        true,
+        &index,
+        &mut excludes,
+        &mut tree,
+    );
     assert!(rt; is_refused(special, b"/w/dir/.gitignore", RulesWhy::Special));
     tree.fail(alloc, CallKind::Read, 3)?;
-    let faulted = class_of(alloc, b"module/in", None, true, &index, &mut excludes, &mut tree);
+    let faulted = class_of(
+        alloc,
+        b"module/in",
+        None,
+        true,
+        &index,
+        &mut excludes,
+        &mut tree,
+    );
     assert!(rt; is_refused(faulted, b"/w/module/.gitignore", RulesWhy::Fault));
     Ok(())
 }

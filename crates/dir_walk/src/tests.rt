@@ -327,12 +327,11 @@ fn rules(alloc: Global) -> Result<Option<Stack>, OutOfMemory> {
 #[test]
 fn ignored(rt: HostRuntime) -> Result<(), Fail> {
     let alloc = rt.alloc();
-    let mut tree = files(alloc, &[b"/w/a.o", b"/w/d/b.o", b"/w/d/c", b"/w/k.o", b"/w/x/y"])?;
-    tree.add(
+    let mut tree = files(
         alloc,
-        b"/w/.gitignore",
-        NewNode::File(b"*.o\n!k.o\n/x/\n"),
+        &[b"/w/a.o", b"/w/d/b.o", b"/w/d/c", b"/w/k.o", b"/w/x/y"],
     )?;
+    tree.add(alloc, b"/w/.gitignore", NewNode::File(b"*.o\n!k.o\n/x/\n"))?;
     let index = index(alloc, &[b"d/b.o"], Flags::empty())?;
     let mut excludes = rules(alloc)?;
     let new = Status::Untracked;
@@ -357,15 +356,7 @@ fn ignored(rt: HostRuntime) -> Result<(), Fail> {
     for reversed in [false, true] {
         tree.set_reversed(reversed);
         for (options, want) in rows {
-            let found = report_with(
-                alloc,
-                b"/w",
-                &mut tree,
-                &index,
-                &mut excludes,
-                1,
-                options,
-            )?;
+            let found = report_with(alloc, b"/w", &mut tree, &index, &mut excludes, 1, options)?;
             assert!(rt; are(found.entries.as_slice(), want));
             assert_eq!(rt; found.outcome.read_dir_calls, 2);
             assert_eq!(rt; found.outcome.seen_entries, 6);

@@ -230,7 +230,10 @@ static REFUSALS: [Row; 9] = [
     },
     Row {
         name: "a rules file that is a link to itself",
-        nodes: &[(b"/w/a", A_FILE), (b"/w/.gitignore", NewNode::Link(b".gitignore"))],
+        nodes: &[
+            (b"/w/a", A_FILE),
+            (b"/w/.gitignore", NewNode::Link(b".gitignore")),
+        ],
         setup: REQUIRED,
         status: 4,
         out: b"",

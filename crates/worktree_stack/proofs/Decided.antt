@@ -1,18 +1,16 @@
 -- What a stack says of the path at which it stands, in step with a tree, is what the rules of the tree say.
-use Rattle.std.specs.Prelude.{◌≡◌, ℕ, Bool, if◌then◌else◌, List, [], ◌∷◌, Option, Some, None, option_map}
-use Rattle.std.proofs.Common.{refl, sym, ap, ◌∙◌, subst, rules}
+use Rattle.std.specs.Prelude.{◌≡◌, ℕ, Bool, if◌then◌else◌, List, [], ◌∷◌, Option, Some, None}
+use Rattle.std.proofs.Common.{refl, sym, ap, ◌∙◌, subst}
 use Rattle.gitbase_core.specs.Path.{components}
 use Rattle.gitbase_core.proofs.Names.{AreNames-components}
-use Rattle.glob_rules.specs.declared.Case.{Case}
-use Rattle.glob_rules.specs.Ignore.{Hit, hit_or}
 use Rattle.worktree_fs.specs.Tree.{Names}
 use Rattle.worktree_fs.specs.Paths.{spelled, fronts, without_last}
 use Rattle.worktree_fs.proofs.Spelled.{components-spelled}
-use Rattle.worktree_stack.specs.Setup.{Held, own_hit, deciding_hit}
-use Rattle.worktree_stack.specs.Excludes.{Rulebook, Decision, or_else, is_positive, own, own_of_directory, above, exclude, rule_of, ancestors}
+use Rattle.worktree_stack.specs.Setup.{Held, deciding_hit}
+use Rattle.worktree_stack.specs.Excludes.{Rulebook, Decision, or_else, is_positive, own, above, exclude, rule_of}
 use Rattle.worktree_stack.specs.Stacked.{Stacked, AreThoseOf, IsInStep, made_of, rulebook_of, pushed}
 use Rattle.worktree_stack.specs.Lookups.{IsLookedUp}
-use Rattle.worktree_stack.proofs.Deciding.{IsHeld, own_is, deciding_is}
+use Rattle.worktree_stack.proofs.Deciding.{own_is, deciding_is}
 
 none_else : (d : Option Decision) → or_else d None ≡ d
 none_else None = refl

@@ -1,11 +1,10 @@
 -- A stack whose rules and matches are those of the directories above a path decides about it as the rulebook does.
-use Rattle.std.specs.Prelude.{◌≡◌, ℕ, Bool, true, false, not, List, [], ◌∷◌, ◌++◌, map, reverse, Option, Some, None, option_map, if◌then◌else◌}
-use Rattle.std.proofs.Common.{refl, sym, ap, ◌∙◌, rules}
+use Rattle.std.specs.Prelude.{◌≡◌, ℕ, Bool, true, false, not, List, [], ◌∷◌, ◌++◌, map, reverse, Option, Some, None, if◌then◌else◌}
+use Rattle.std.proofs.Common.{refl, sym, ap, ◌∙◌}
 use Rattle.std.proofs.lemmas.List.{reverse-append, map-append}
-use Rattle.glob_rules.specs.declared.Case.{Case}
-use Rattle.glob_rules.specs.Ignore.{Rules, Hit, hit_or, list_hit, first_hit, search_hit}
-use Rattle.worktree_fs.specs.Paths.{spelled, fronts, without_last}
-use Rattle.worktree_stack.specs.Setup.{Setup, Held, own_hit, first_rule, directory_hit, deciding_hit, excludes}
+use Rattle.glob_rules.specs.Ignore.{Hit, hit_or, list_hit, first_hit, search_hit}
+use Rattle.worktree_fs.specs.Paths.{spelled}
+use Rattle.worktree_stack.specs.Setup.{Held, own_hit, first_rule, directory_hit, deciding_hit, excludes}
 use Rattle.worktree_stack.specs.Excludes.{Rulebook, Group, Decision, by_group, or_else, is_positive, in_directories, own, own_of_directory, first_decision, above, exclude, rule_of, ancestors}
 
 rule_of_group : (group : Group) (hit : Option Hit) → rule_of (by_group group hit) ≡ hit

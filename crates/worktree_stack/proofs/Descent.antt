@@ -1,7 +1,7 @@
 -- How far a lookup has come on the way down to its path.
-use Rattle.std.specs.Prelude.{◌≡◌, ◌⊎◌, ℕ, ◌+◌, ◌-◌, Bool, true, false, List, [], ◌∷◌, ◌++◌, length, Option, Some, None, is_some, Result, Ok, Err, OnOk, OnErr, IfErr}
-use Rattle.std.proofs.Common.{refl, sym, ap, ◌∙◌, subst, rules, append_assoc, arith}
-use Rattle.std.proofs.lemmas.List.{append-nil, length-append}
+use Rattle.std.specs.Prelude.{◌≡◌, ℕ, true, false, List, [], ◌∷◌, ◌++◌, Option, Some, None, is_some}
+use Rattle.std.proofs.Common.{refl, sym, ap, ◌∙◌, subst, append_assoc}
+use Rattle.std.proofs.lemmas.List.{append-nil}
 use Rattle.worktree_fs.specs.Tree.{Names}
 use Rattle.worktree_fs.specs.Paths.{spelled, is_nil, without_last}
 use Rattle.worktree_fs.specs.PathStack.{Call, push, push_directory, pop_directory, names_at, calls_for, calls_below}
@@ -15,8 +15,8 @@ use Rattle.worktree_stack.specs.Setup.{Setup}
 use Rattle.worktree_stack.specs.Counted.{count_call, count_calls, count_reading, count_readings}
 use Rattle.worktree_stack.specs.Reading.{reading, rules_file}
 use Rattle.worktree_stack.specs.Stacked.{Stacked}
-use Rattle.worktree_stack.specs.Lookups.{stepped, IsLookedUp, IsOnTheWay, IsOnWay, IsCounted}
-use Rattle.worktree_stack.specs.Refused.{IsOfFile, IsRefusedFor, IsOfAncestor, IsOnWayTo, IsRefusedAncestor, Refuses}
+use Rattle.worktree_stack.specs.Lookups.{stepped, IsLookedUp, IsOnWay, IsCounted}
+use Rattle.worktree_stack.specs.Refused.{IsOfFile, IsRefusedFor, IsOnWayTo, Refuses}
 
 -- the components before the rest of a path are those of the deepest directory
 pub record IsBelow (whole : List (List ℕ)) (at : Option (List (List ℕ))) (rest : List (List ℕ)) : Type 0 where

@@ -1,7 +1,7 @@
 -- A stack stays in step where a directory is pushed or popped.
-use Rattle.std.specs.Prelude.{◌≡◌, ℕ, ◌-◌, Bool, true, false, ◌&&◌, List, [], ◌∷◌, ◌++◌, length, take, map, reverse, Option, Some, None, is_some, option_map, Result, Ok}
+use Rattle.std.specs.Prelude.{◌≡◌, ℕ, ◌-◌, Bool, true, false, ◌&&◌, List, [], ◌∷◌, ◌++◌, length, take, map, Option, Some, None, is_some, Ok}
 use Rattle.std.specs.List.{list_all}
-use Rattle.std.proofs.Common.{refl, sym, ap, ◌∙◌, subst, rules, arith}
+use Rattle.std.proofs.Common.{refl, sym, ap, ◌∙◌, subst, arith}
 use Rattle.std.proofs.lemmas.List.{map-append, length-append, take_all, take-append-le}
 use Rattle.glob_rules.specs.declared.Case.{Case}
 use Rattle.glob_rules.specs.Ignore.{Rules, Hit}
@@ -10,9 +10,9 @@ use Rattle.worktree_fs.specs.Paths.{spelled, fronts, without_last}
 use Rattle.worktree_fs.specs.PathStack.{one_up, names_at}
 use Rattle.worktree_fs.proofs.Spelled.{without_last-snoc}
 use Rattle.worktree_stack.specs.Setup.{Setup, Held, own_hit}
-use Rattle.worktree_stack.specs.Excludes.{Rulebook, own_of_directory, rule_of, ancestors}
+use Rattle.worktree_stack.specs.Excludes.{own_of_directory, rule_of, ancestors}
 use Rattle.worktree_stack.specs.Reading.{reading, rulebook, is_read, rules_or_none}
-use Rattle.worktree_stack.specs.Stacked.{Stacked, AreThoseOf, IsInStep, pushed}
+use Rattle.worktree_stack.specs.Stacked.{AreThoseOf, pushed}
 use Rattle.worktree_stack.proofs.Deciding.{own_is}
 
 -- the fronts of a list are those without its last element, and the list

@@ -1,6 +1,6 @@
 -- What becomes of the paths of a list, looked up one after another.
 use Rattle.std.specs.Prelude.{◌≡◌, ℕ, ◌+◌, ◌<◌, List, [], ◌∷◌, ◌++◌, length, map, take, get_or, Option, None}
-use Rattle.std.proofs.Common.{refl, sym, ap, ◌∙◌}
+use Rattle.std.proofs.Common.{sym, ap, ◌∙◌}
 use Rattle.std.proofs.lemmas.List.{map-append, take_more}
 use Rattle.gitbase_core.specs.Path.{components}
 use Rattle.glob_rules.specs.declared.ignore.Kind.{Kind}

@@ -1,13 +1,13 @@
 -- What a step of a lookup tells of the stack before it.
-use Rattle.std.specs.Prelude.{◌≡◌, ℕ, Bool, true, false, List, [], ◌∷◌, ◌++◌, Option, Some, None, is_some, Result, Ok, Err, OnOk, OnErr}
-use Rattle.std.proofs.Common.{refl, sym, ap, ◌∙◌, subst, rules}
+use Rattle.std.specs.Prelude.{◌≡◌, ℕ, false, List, [], Option, Some, None, is_some, Result, Ok, Err, OnOk, OnErr}
+use Rattle.std.proofs.Common.{refl, sym, ap, ◌∙◌, subst}
 use Rattle.std.proofs.lemmas.List.{append-nil}
 use Rattle.worktree_fs.specs.Tree.{Names}
 use Rattle.worktree_fs.specs.Paths.{spelled}
-use Rattle.worktree_fs.specs.PathStack.{Call, push, push_directory, names_at, root_calls, calls_for}
+use Rattle.worktree_fs.specs.PathStack.{push_directory, names_at, root_calls, calls_for}
 use Rattle.worktree_stack.specs.declared.statistics.DelegateStatistics.{DelegateStatistics}
 use Rattle.worktree_stack.specs.declared.statistics.RulesStatistics.{RulesStatistics}
-use Rattle.worktree_stack.specs.Counted.{count_call, count_calls, count_reading, count_readings}
+use Rattle.worktree_stack.specs.Counted.{count_call, count_reading, count_readings}
 use Rattle.worktree_stack.specs.Stacked.{Stacked, IsInStep}
 use Rattle.worktree_stack.specs.Lookups.{stepped, IsCounted}
 

@@ -1,9 +1,9 @@
 -- What is popped of a stack on the way to a path.
-use Rattle.std.specs.Prelude.{◌≡◌, ℕ, suc, ◌+◌, ◌-◌, ◌<◌, ◌≤◌, Bool, true, false, List, [], ◌∷◌, ◌++◌, length, replicate, Option, Some, None, if◌then◌else◌}
+use Rattle.std.specs.Prelude.{◌≡◌, ℕ, suc, ◌+◌, ◌<◌, ◌≤◌, Bool, true, false, List, [], ◌∷◌, length, replicate, Option, Some, None, if◌then◌else◌}
 use Rattle.std.specs.Str.{bytes_eq}
-use Rattle.std.proofs.Common.{refl, sym, ap, ◌∙◌, arith}
+use Rattle.std.proofs.Common.{refl, sym, ap, arith}
 use Rattle.worktree_fs.specs.Paths.{without_last, common_front}
-use Rattle.worktree_fs.specs.PathStack.{one_up, kept, surplus, pop_directory}
+use Rattle.worktree_fs.specs.PathStack.{one_up, surplus, pop_directory}
 use Rattle.worktree_stack.specs.declared.statistics.DelegateStatistics.{DelegateStatistics}
 use Rattle.worktree_stack.specs.Counted.{count_call, count_calls}
 use Rattle.worktree_stack.specs.Lookups.{staying}

@@ -1,5 +1,5 @@
 -- What a stack counts: each count rises by one at what it counts, and stands still at the last value of its type.
-use Rattle.std.specs.Prelude.{◌≡◌, ℕ, ◌+◌, ◌-◌, ◌^◌, min, Bool, true, List, [], ◌∷◌, ◌++◌}
+use Rattle.std.specs.Prelude.{ℕ, ◌+◌, ◌-◌, ◌^◌, min, true, List, [], ◌∷◌}
 use Rattle.worktree_fs.specs.Tree.{Names, Look, look, found, absent, too_many_links, file, link, directory, other}
 use Rattle.worktree_fs.specs.PathStack.{Call, push_directory, push, pop_directory}
 use Rattle.worktree_stack.specs.declared.ignore_source.Source.{Source}

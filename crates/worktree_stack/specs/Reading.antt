@@ -2,7 +2,7 @@
 --
 -- A file gives its rules, for the paths beneath the directory. Nothing and a directory give none. A link that is not to be
 -- followed, one that leads along more links than are followed, and a node of another kind are refused.
-use Rattle.std.specs.Prelude.{ℕ, Bool, true, false, List, [], Some, None, Result, Ok, Err}
+use Rattle.std.specs.Prelude.{ℕ, Bool, true, false, List, Some, Result, Ok, Err}
 use Rattle.gitbase_core.specs.Path.{joined}
 use Rattle.worktree_fs.specs.Tree.{Names, Look, look, found, absent, too_many_links, file, link, directory, other}
 use Rattle.worktree_fs.specs.Paths.{spelled, full_path}

@@ -1,5 +1,5 @@
 -- Why a lookup is refused.
-use Rattle.std.specs.Prelude.{◌≡◌, ◌⊎◌, ℕ, Bool, false, List, ◌++◌, Result, Ok, Err}
+use Rattle.std.specs.Prelude.{◌≡◌, ◌⊎◌, ℕ, false, List, ◌++◌, Result, Err}
 use Rattle.gitbase_core.specs.Path.{components}
 use Rattle.glob_rules.specs.Ignore.{Rules}
 use Rattle.worktree_fs.specs.Tree.{Names}

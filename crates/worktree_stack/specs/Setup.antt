@@ -1,5 +1,5 @@
 -- What the exclude state of a stack holds.
-use Rattle.std.specs.Prelude.{ℕ, Bool, List, [], ◌∷◌, reverse, Option, Some, None, option_map, codes, false, not, if◌then◌else◌}
+use Rattle.std.specs.Prelude.{ℕ, Bool, List, [], ◌∷◌, reverse, Option, Some, None, codes, false, not, if◌then◌else◌}
 use Rattle.glob_rules.specs.declared.Case.{Case}
 use Rattle.glob_rules.specs.declared.ignore.Kind.{Kind}
 use Rattle.glob_rules.specs.Ignore.{Rules, Hit, hit_or, search_hit}

@@ -1,5 +1,4 @@
-use Rattle.std.proofs.Common.{ap, rules}
-use Rattle.worktree_stack.specs.Stacked.{Stacked}
+use Rattle.std.proofs.Common.{rules}
 use Rattle.worktree_stack.proofs.InStep.{pushed-below}
 use Rattle.worktree_stack.proofs.Stepping.{on_ok_said, on_err, read_below, in_step_below, counted_below}
 use Rattle.worktree_stack.proofs.stack.Stack.descend.Goals as goal

@@ -1,4 +1,4 @@
-use Rattle.std.proofs.Common.{◌≡◌, ◌∙◌, ◌+◌, [], None, get_or, sym, ap, subst, arith, rules}
+use Rattle.std.proofs.Common.{◌≡◌, ◌∙◌, sym, ap, subst, arith}
 use Rattle.gitbase_core.specs.Path.{components}
 use Rattle.worktree_stack.specs.Stacked.{Stacked, IsInStep, made_of}
 use Rattle.worktree_stack.specs.Lookups.{IsLookedUp, kind_alone}
@@ -16,11 +16,11 @@ loop-path-preserved g c =
           let there = c.at_path.ensures.in_step t (before.tree ∙ told) (before.in_step t told in_step) in
           let same : c.platform.result ≡ c.at_path.new.self = c.platform.ensures in
           let kind : c.excluded_kind.result ≡ kind_alone (made_of c.args.self.now) t path =
-              kind_at t c.platform.result (made_of c.args.self.now) path c.excluded_kind.result
-              (ap made_of same ∙ c.at_path.ensures.made ∙ before.setup)
-              (ap (λ (s : Stacked). s.is_dir) same ∙ c.in_ok-at_path.ensures.is_dir)
-              (c.excluded_kind.ensures.exclude t (subst (IsInStep t) (sym same) there) path
-              (subst (λ (s : Stacked). IsLookedUp s (components path)) (sym same) c.in_ok-at_path.ensures.looked_up)) in
+          kind_at t c.platform.result (made_of c.args.self.now) path c.excluded_kind.result
+          (ap made_of same ∙ c.at_path.ensures.made ∙ before.setup)
+          (ap (λ (s : Stacked). s.is_dir) same ∙ c.in_ok-at_path.ensures.is_dir)
+          (c.excluded_kind.ensures.exclude t (subst (IsInStep t) (sym same) there) path
+          (subst (λ (s : Stacked). IsLookedUp s (components path)) (sym same) c.in_ok-at_path.ensures.looked_up)) in
           kinds_more (kind_alone (made_of c.args.self.now) t) c.args.paths.now c.loop-path.path-index c.loop-path.kinds.items c.push.new.self.items c.excluded_kind.result c.path-item.result
           c.loop-path-test.true c.in_ok-push.ensures.items (before.kinds t told in_step) (kind ∙ ap (kind_alone (made_of c.args.self.now) t) (c.as_bytes.ensures ∙ c.path-item.is));
       tree = c.at_path.ensures.tree ∙ before.tree;

@@ -1,4 +1,4 @@
-use Rattle.std.proofs.Common.{◌≡◌, ◌∙◌, ◌++◌, ℕ, List, Some, OnOk, OnErr, IfErr, refl, ap, subst, length, arith}
+use Rattle.std.proofs.Common.{◌≡◌, ◌∙◌, ◌++◌, ℕ, List, OnOk, OnErr, IfErr, refl, ap, subst, length, arith}
 use Rattle.gitbase_core.specs.Path.{components}
 use Rattle.worktree_fs.specs.PathStack.{names_at, calls_below}
 use Rattle.worktree_stack.specs.declared.statistics.Statistics.{Statistics}
@@ -7,7 +7,7 @@ use Rattle.worktree_stack.specs.Stacked.{Made, made_of}
 use Rattle.worktree_stack.specs.Lookups.{IsLookedUp, IsOnWay}
 use Rattle.worktree_stack.specs.Refused.{IsOnWayTo, Refuses}
 use Rattle.worktree_stack.proofs.Stepping.{on_ok_said}
-use Rattle.worktree_stack.proofs.Looking.{IsStaying, whole, ends, stay_names, all_counted, some_counted, all_readings, root-length, length-pushed, on_err_so}
+use Rattle.worktree_stack.proofs.Looking.{whole, ends, stay_names, all_counted, some_counted, all_readings, root-length, length-pushed, on_err_so}
 use Rattle.worktree_stack.proofs.stack.Stack.look_up.Goals as goal
 
 pub push_rest-requires-clause-end : goal.push_rest-requires-clause-end

@@ -1,6 +1,6 @@
 use Rattle.std.proofs.Common.{◌≡◌, ◌+◌, ◌<◌, ◌∙◌, replicate, ap, arith, rules}
 use Rattle.gitbase_core.specs.Path.{components}
-use Rattle.worktree_fs.specs.PathStack.{one_up, surplus, pop_directory}
+use Rattle.worktree_fs.specs.PathStack.{surplus, pop_directory}
 use Rattle.worktree_stack.specs.declared.statistics.Statistics.{Statistics}
 use Rattle.worktree_stack.specs.Counted.{count_calls}
 use Rattle.worktree_stack.specs.Lookups.{staying}

@@ -1,4 +1,4 @@
-use Rattle.std.proofs.Common.{rules, ap, ◌∙◌, sym}
+use Rattle.std.proofs.Common.{rules}
 use Rattle.worktree_stack.specs.Stacked.{held_of}
 use Rattle.worktree_stack.proofs.InStep.{pushed_more}
 use Rattle.worktree_stack.proofs.stack.Stack.push_rules.Goals as goal
