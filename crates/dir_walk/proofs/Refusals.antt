@@ -18,7 +18,7 @@ use Rattle.dir_classify.specs.Class.{Meanings, enters}
 use Rattle.dir_walk.specs.Walked.{Walked, item, items, entered_at, report_of, directory_of, item_of_other, child_class, child_asks, asking, leaf}
 use Rattle.dir_classify.specs.Entries.{entry_at}
 use Rattle.dir_walk.specs.Report.{depth_of}
-use Rattle.dir_walk.specs.Refused.{is_among, is_to_enter, IsTooDeep, IsBroken, IsSomeAccess, IsNoAccess, IsAbout, Refuses, DirectoryRefuses, IsPlaced}
+use Rattle.dir_walk.specs.Refused.{is_among, is_to_enter, IsTooDeep, IsBroken, IsSomeAccess, IsNoAccess, IsRefusedLookup, IsNotListed, IsAbout, IsInTree, OpenRefuses, Refuses, DirectoryRefuses, IsPlaced}
 use Rattle.dir_classify.specs.Refused as classes
 use Rattle.dir_walk.proofs.Classes.{up_to_date-broken}
 use Rattle.dir_walk.proofs.Counts.{list_any-append, or-right}
@@ -144,6 +144,30 @@ Refuses-class t made m root limit Failed path node (errors.TooDeep p) about refu
 Refuses-class t made m root limit Failed path node (errors.ReadDir p why) about refused asks = absurd about
 Refuses-class t made m root limit Failed path node (errors.DirEntry p) about refused asks = tt
 Refuses-class t made m root limit Failed path node errors.OutOfMemory about refused asks = tt
+
+-- it says of the tree what the lookup said
+pub IsInTree-class : (t : Names) (made : Option Made) (path : List ℕ) (e : Error) → classes.IsAbout made path e → classes.Refuses t made path e → IsInTree t made e
+IsInTree-class t made path (errors.WorktreeRootIsFile p) about refused = tt
+IsInTree-class t made path (errors.ExcludesAccess e) about refused = go made about refused
+  where
+    go : (k : Option Made) → classes.IsAbout k path (errors.ExcludesAccess e) → classes.Refuses t k path (errors.ExcludesAccess e) → IsSomeAnd k (λ rules. IsRefusedLookup t rules e)
+    go None a r = absurd a
+    go (Some rules) a r = record { path = path; access = a; refused = r }
+IsInTree-class t made path (errors.TooDeep p) about refused = tt
+IsInTree-class t made path (errors.ReadDir p why) about refused = absurd about
+IsInTree-class t made path (errors.DirEntry p) about refused = tt
+IsInTree-class t made path errors.OutOfMemory about refused = tt
+
+-- and so does a listing
+pub IsInTree-open : (t : Names) (made : Option Made) (full : List ℕ) (follow : Bool) (e : Error) → OpenRefuses full (look t full follow) e → IsInTree t made e
+IsInTree-open t made full follow (errors.WorktreeRootIsFile p) h = tt
+IsInTree-open t made full follow (errors.ExcludesAccess e) h = absurd h
+IsInTree-open t made full follow (errors.TooDeep p) h = tt
+IsInTree-open t made full follow (errors.ReadDir p reads.Absent) h = record { follow = follow; node = ap (λ (q : List ℕ). list_of (look t q follow)) h.0 ∙ h.1 }
+IsInTree-open t made full follow (errors.ReadDir p reads.NotADirectory) h = record { follow = follow; node = ap (λ (q : List ℕ). list_of (look t q follow)) h.0 ∙ h.1 }
+IsInTree-open t made full follow (errors.ReadDir p reads.Fault) h = tt
+IsInTree-open t made full follow (errors.DirEntry p) h = tt
+IsInTree-open t made full follow errors.OutOfMemory h = tt
 
 pub IsAbout-class : (made : Option Made) (root : List ℕ) (limit : ℕ) (path : List ℕ) (e : Error) → classes.IsAbout made path e → IsAbout made root limit e
 IsAbout-class made root limit path (errors.WorktreeRootIsFile p) about = absurd about

@@ -77,6 +77,28 @@ IsUnread t m root w path reads.Absent = IsBroken t m root w lists.Absent path
 IsUnread t m root w path reads.NotADirectory = IsBroken t m root w lists.NotADirectory path
 IsUnread t m root w path reads.Fault = Unit {0}
 
+-- a lookup of some path in the rules was refused, by a rules file that the tree refuses
+pub record IsRefusedLookup (t : Names) (made : Made) (e : AtPathError) : Type 0 where
+  pub path : List ℕ
+  pub access : IsAccess made path e
+  pub refused : lookups.Refuses t made.root made.setup (components path) e
+
+-- what the path leads to in the tree, a last link followed or not, cannot be listed
+pub record IsNotListed (t : Names) (why : ListError) (path : List ℕ) : Type 0 where
+  pub follow : Bool
+  pub node : list_of (look t path follow) ≡ Err why
+
+-- what a refusal says of the tree, whether or not the rules are in step with it
+abbrev pub IsInTree : Names → Option Made → Error → Type 0
+IsInTree t made (errors.WorktreeRootIsFile path) = Unit {0}
+IsInTree t made (errors.ExcludesAccess e) = IsSomeAnd made (λ rules. IsRefusedLookup t rules e)
+IsInTree t made (errors.TooDeep path) = Unit {0}
+IsInTree t made (errors.ReadDir path reads.Absent) = IsNotListed t lists.Absent path
+IsInTree t made (errors.ReadDir path reads.NotADirectory) = IsNotListed t lists.NotADirectory path
+IsInTree t made (errors.ReadDir path reads.Fault) = Unit {0}
+IsInTree t made (errors.DirEntry path) = Unit {0}
+IsInTree t made errors.OutOfMemory = Unit {0}
+
 -- the lookup of a path in the rules was refused, by a rules file that the tree refuses; its class asks the rules,
 -- unless the worktree failed, which may have hidden what the index has there
 pub record IsNoAccess (t : Names) (made : Made) (w : Walked) (Failed : Type 0) (e : AtPathError) : Type 0 where

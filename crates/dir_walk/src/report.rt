@@ -8,7 +8,7 @@ ghost use Rattle.dir_classify.specs.Refused.{OnFault};
 ghost use Rattle.dir_walk.specs.Report.{report, walked, IsWalkable};
 ghost use Rattle.dir_walk.specs.Distinct.{Ascends};
 ghost use Rattle.dir_walk.specs.Guarded.{hides_guarded};
-ghost use Rattle.dir_walk.specs.Refused.{IsAbout, WalkRefuses};
+ghost use Rattle.dir_walk.specs.Refused.{IsAbout, IsInTree, WalkRefuses};
 
 use crate::collect::{Collect, EmittedEntries};
 use crate::outcome::Outcome;
@@ -60,6 +60,7 @@ pub fn walk_by_path<W: Worktree, F: Find>(
     // Each refusal has its cause, and a tree that can be walked is.
     ensures about { IfErr result (IsAbout (made_with excludes.old) worktree_root.now depth_limit) }
     ensures cause { IfErr result (OnFault (Rose (W.faults worktree.old) (W.faults worktree.new))) }
+    ensures found { (t : Names) → W.told worktree.old ≡ Some t → IfErr result (IsInTree t (made_with excludes.old)) }
     ensures refused { (t : Names) → W.told worktree.old ≡ Some t → InStepIf t excludes.old
         → IfErr result (WalkRefuses t (made_with excludes.old) (meanings index.now (made_with excludes.old) t)
         worktree_root.now depth_limit (Rose (W.faults worktree.old) (W.faults worktree.new))) }

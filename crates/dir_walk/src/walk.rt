@@ -12,7 +12,7 @@ ghost use Rattle.dir_classify.specs.Refused.{OnFault};
 ghost use Rattle.dir_walk.specs.Emissions.{Emission};
 ghost use Rattle.dir_walk.specs.Walked.{Walked, item, empty_class, entered_at};
 ghost use Rattle.dir_walk.specs.Report.{depth_of, root_kind, is_root_entered, walked, IsWalkable};
-ghost use Rattle.dir_walk.specs.Refused.{IsAbout, Refuses, DirectoryRefuses, IsPlaced, read_error, OpenRefuses, WalkRefuses};
+ghost use Rattle.dir_walk.specs.Refused.{IsAbout, IsInTree, Refuses, DirectoryRefuses, IsPlaced, read_error, OpenRefuses, WalkRefuses};
 ghost use Rattle.dir_walk.specs.Emits.{Emits, Extends, IsPart, Gives, Keeps, KeepsAll, Stands, WalkGives};
 
 use crate::collect::Collect;
@@ -126,6 +126,8 @@ fn walk_name<W: Worktree, F: Find>(
     ensures about { (made : Option Made) → made_with excludes.old ≡ made
         → (root : List ℕ) → IsPlaced root place.now.full place.now.rela
         → (limit : ℕ) → levels + depth_of place.now.rela ≡ limit + 1 → IfErr result (IsAbout made root limit) }
+    ensures found { (t : Names) (made : Option Made) → W.told worktree.old ≡ Some t → made_with excludes.old ≡ made
+        → (root : List ℕ) → IsPlaced root place.now.full place.now.rela → IfErr result (IsInTree t made) }
     ensures refused { (t : Names) (made : Option Made) → Stands (W.told worktree.old) excludes.old t made
         → is_empty place.now.rela ≡ false → (node : Node) → look t place.now.full false ≡ found node
         → (root : List ℕ) → IsPlaced root place.now.full place.now.rela
@@ -213,6 +215,8 @@ fn walk_directory<W: Worktree, F: Find>(
     ensures about { (made : Option Made) → made_with excludes.old ≡ made
         → (root : List ℕ) → IsPlaced root place.now.full place.now.rela
         → (limit : ℕ) → levels + depth_of place.now.rela ≡ limit → IfErr result (IsAbout made root limit) }
+    ensures found { (t : Names) (made : Option Made) → W.told worktree.old ≡ Some t → made_with excludes.old ≡ made
+        → (root : List ℕ) → IsPlaced root place.now.full place.now.rela → IfErr result (IsInTree t made) }
     ensures refused { (t : Names) (made : Option Made) → Stands (W.told worktree.old) excludes.old t made
         → (root : List ℕ) → IsPlaced root place.now.full place.now.rela
         → (limit : ℕ) → levels + depth_of place.now.rela ≡ limit
@@ -333,6 +337,7 @@ pub fn walk<W: Worktree, F: Find>(
     // Each refusal has its cause, and a tree that can be walked is.
     ensures about { IfErr result (IsAbout (made_with excludes.old) worktree_root.now depth_limit) }
     ensures cause { IfErr result (OnFault (Rose (W.faults worktree.old) (W.faults worktree.new))) }
+    ensures found { (t : Names) → W.told worktree.old ≡ Some t → IfErr result (IsInTree t (made_with excludes.old)) }
     ensures refused { (t : Names) → W.told worktree.old ≡ Some t → InStepIf t excludes.old
         → IfErr result (WalkRefuses t (made_with excludes.old) (meanings index.now (made_with excludes.old) t)
         worktree_root.now depth_limit (Rose (W.faults worktree.old) (W.faults worktree.new))) }

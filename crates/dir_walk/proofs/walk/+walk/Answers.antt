@@ -18,7 +18,7 @@ use Rattle.dir_walk.proofs.Emitting.{Extends-none, Extends-then}
 use Rattle.dir_walk.proofs.Named.{SoFar-none, SoFar-more, listed-at}
 use Rattle.dir_walk.proofs.Listed.{Gives-empty, Gives-listed}
 use Rattle.dir_walk.proofs.Parts.{IsPart-so_far, IsPart-child, IsPart-entered}
-use Rattle.dir_walk.proofs.Refusals.{DirectoryRefuses-name, Refuses-directory, Refuses-class, IsTooDeep-name}
+use Rattle.dir_walk.proofs.Refusals.{DirectoryRefuses-name, Refuses-directory, Refuses-class, IsInTree-class, IsInTree-open, IsTooDeep-name}
 use Rattle.dir_walk.proofs.Roots.{unless-rose}
 use Rattle.dir_walk.proofs.Steps.{Child, name-at, child-some, child-level, child-placed, class-told, access-told, stands-later, Gives-unentered, Gives-entered}
 use Rattle.dir_walk.proofs.walk.+walk.Goals as goal
@@ -271,3 +271,35 @@ walk_name-returns-in_err-class-clause-refused g t c = λ tree made stands some n
     (rw (c.as_bytes.ensures, stands.made_is) at (c.in_err-class.ensures.refused tree stands.tree))
     (unless-rose before now (OnAccess (child_asks m place.rela node ≡ true) e)
     (λ quiet. access-told m tree place.full place.rela node e there (rw (c.as_bytes-full.ensures, c.as_bytes.ensures, stands.made_is) at (c.in_err-class.ensures.asks tree stands.tree quiet)))))
+
+pub walk_name-returns-in_err-class-clause-found : goal.walk_name-returns-in_err-class-clause-found
+walk_name-returns-in_err-class-clause-found g t c = λ tree made told same root placed.
+    let place = c.args.place.now in
+    let p = err_from_is_err_and c.from_residual.result c.from_residual.ensures.1 in
+    let normal : is_normal c.as_bytes.result.now ≡ true = ap is_normal c.as_bytes.ensures ∙ placed.normal in
+    rw (p.1, p.2)
+    (IsInTree-class tree made place.rela c.in_err-class.field-0.0 (rw (c.as_bytes.ensures, same) at (c.in_err-class.ensures.about normal)) (rw (c.as_bytes.ensures, same) at (c.in_err-class.ensures.refused tree told)))
+
+pub walk_name-returns-clause-found : goal.walk_name-returns-clause-found
+walk_name-returns-clause-found g t c = λ tree made told same root placed. c.walk_directory.ensures.found tree made (c.at.ensures.tree ∙ told) (c.at.ensures.made ∙ same) root placed
+
+pub walk_directory-returns-in_err-names-clause-found : goal.walk_directory-returns-in_err-names-clause-found
+walk_directory-returns-in_err-names-clause-found g t c = λ tree made told same root placed.
+    let place = c.args.place.now in
+    let p = err_from_is_err_and c.from_residual.result c.from_residual.ensures.1 in
+    rw (p.1, p.2) (IsInTree-open tree made place.full (is_empty place.rela) c.in_err-names.field-0.0 (c.in_err-names.ensures.refused tree told))
+
+pub walk_directory-returns-in_err-walk_name-clause-found : goal.walk_directory-returns-in_err-walk_name-clause-found
+walk_directory-returns-in_err-walk_name-clause-found g t c = λ tree made told same root placed.
+    let place = c.args.place.now in
+    let at = c.set_child.new.self in
+    let keeps0 = c.loop-name.invariant.keeps in
+    let p = err_from_is_err_and c.from_residual-in_err-walk_name.result c.from_residual-in_err-walk_name.ensures.1 in
+    let child : Child place.full place.rela at.full at.rela c.name-item.result =
+    record {
+      is_name = name-at c.as_slice-name-items.result.now c.loop-name.name-index c.name-item.result c.loop-name-test.true c.name-item.is (rw c.as_slice-name-items.ensures c.in_ok-names.ensures.names);
+      full_is = c.in_ok-set_child.ensures.full ∙ ap (joined place.full) c.as_bytes-in-loop-name.ensures;
+      rela_is = c.in_ok-set_child.ensures.rela ∙ ap (joined place.rela) c.as_bytes-in-loop-name.ensures;
+    } in
+    rw (p.1, p.2)
+    (c.in_err-walk_name.ensures.found tree made (keeps0.tree ∙ told) (keeps0.made ∙ same) root (child-placed root place.full place.rela at.full at.rela c.name-item.result child placed))

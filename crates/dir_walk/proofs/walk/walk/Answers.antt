@@ -154,3 +154,12 @@ returns-in_err-root-2-clause-part g c = λ tree told step quiet w is.
     (IsPart-directory c.args.options (meanings c.args.index.now (made_with c.args.excludes.now) tree) tree root c.in_ok-class.class entries after w at is
     (subst (λ (q : List ℕ). IsPart c.args.options (entered_at (meanings c.args.index.now (made_with c.args.excludes.now) tree) [] c.in_ok-class.class (look tree q true)).out entries after) c.in_ok-place.ensures.full
     (subst (λ (q : List ℕ). IsPart c.args.options (entered_at (meanings c.args.index.now (made_with c.args.excludes.now) tree) q c.in_ok-class.class (look tree place.full (is_empty q))).out entries after) c.in_ok-place.ensures.rela part)))
+
+pub returns-in_err-walk_directory-clause-found : goal.returns-in_err-walk_directory-clause-found
+returns-in_err-walk_directory-clause-found g c = λ tree told.
+    let root = c.args.worktree_root.now in
+    let place = c.in_ok-place.place in
+    let placed : IsPlaced root place.full place.rela =
+    subst (λ (q : List ℕ). IsPlaced root q place.rela) (sym c.in_ok-place.ensures.full) (subst (λ (q : List ℕ). IsPlaced root root q) (sym c.in_ok-place.ensures.rela) (IsPlaced-root root)) in
+    let p = err_from_is_err_and c.from_residual-in_err-walk_directory.result c.from_residual-in_err-walk_directory.ensures.1 in
+    rw (p.1, p.2) (c.in_err-walk_directory.ensures.found tree (made_with c.args.excludes.now) (c.is_root_entered.ensures.keeps.tree ∙ c.root.ensures.tree ∙ told) refl root placed)
