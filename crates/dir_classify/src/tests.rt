@@ -244,16 +244,25 @@ fn where_a_kind_comes_from(rt: HostRuntime) -> Result<(), Fail> {
     Ok(())
 }
 
+fn parse() -> ParseIgnore {
+    ParseIgnore {
+        support_precious: true,
+    }
+}
+
+/// A search over one list of rules that is for all paths.
+fn search_of(alloc: Global, rules: &[u8]) -> Result<Search, OutOfMemory> {
+    let mut search = Search::new(alloc);
+    let list = List::from_bytes(alloc, rules, None, PathText::new(alloc), parse())?;
+    search.push_list(alloc, list)?;
+    Ok(search)
+}
+
 /// Rules below `/w`: these globals, and a rules file in each directory.
 fn rules(alloc: Global, globals: &[u8]) -> Result<Option<Stack>, OutOfMemory> {
-    let parse = ParseIgnore {
-        support_precious: true,
-    };
-    let list = List::from_bytes(alloc, globals, None, PathText::new(alloc), parse)?;
-    let mut search = Search::new(alloc);
-    search.push_list(alloc, list)?;
-    let none = Search::new(alloc);
-    let ignore = Ignore::new(alloc, none, search, None, Source::default(), parse)?;
+    let globals = search_of(alloc, globals)?;
+    let source = Source::default();
+    let ignore = Ignore::new(alloc, Search::new(alloc), globals, None, source, parse())?;
     let root = PathText::from_bytes(alloc, b"/w")?;
     Ok(Some(Stack::new(
         alloc,
@@ -265,7 +274,24 @@ fn rules(alloc: Global, globals: &[u8]) -> Result<Option<Stack>, OutOfMemory> {
     )))
 }
 
-/// What the index does not have is asked of the rules, with what its kind says of directories; the root is not.
+const DROPPED: Status = Status::Ignored(ignore::Kind::Expendable);
+
+const KEPT: Status = Status::Ignored(ignore::Kind::Precious);
+
+const EXCLUDED: [(&[u8], Status); 10] = [
+    (b"plain", DROPPED),
+    (b"link", KEPT),
+    (b"pipe", Status::Untracked),
+    (b"dir", Status::Untracked),
+    (b"dir/in", Status::Untracked),
+    (b"dir/.git", Status::Pruned),
+    (b"tracked", Status::Tracked),
+    (b"was.file", DROPPED),
+    (b"was.file/in", DROPPED),
+    (b"skipped", Status::Pruned),
+];
+
+/// What the index does not have is asked of the rules of the directories above it and of the globals.
 #[test]
 fn excluded_paths(rt: HostRuntime) -> Result<(), Fail> {
     let alloc = rt.alloc();
@@ -273,38 +299,29 @@ fn excluded_paths(rt: HostRuntime) -> Result<(), Fail> {
     tree.add(alloc, b"/w/dir/.gitignore", NewNode::File(b"!in\n"))?;
     let index = index(alloc)?;
     let mut excludes = rules(alloc, b"?*\n!pipe\n!dir\n$link\n!/plain/\n")?;
-    let dropped = Status::Ignored(ignore::Kind::Expendable);
-    let kept = Status::Ignored(ignore::Kind::Precious);
-    let rows: [(&[u8], Status); 12] = [
-        (b"plain", dropped),
-        (b"link", kept),
-        (b"pipe", Status::Untracked),
-        (b"dir", Status::Untracked),
-        (b"dir/in", Status::Untracked),
-        (b"dir/.gitignore", dropped),
-        (b"dir/.git", Status::Pruned),
-        (b"tracked", Status::Tracked),
-        (b"tracked.dir/in", Status::Tracked),
-        (b"was.file", dropped),
-        (b"was.file/in", dropped),
-        (b"skipped", Status::Pruned),
-    ];
-    for (path, status) in rows {
-        let class = class_of(alloc, path, None, true, &index, &mut excludes, &mut tree)?;
-        assert_eq!(rt; class.status, status);
-        assert_eq!(rt; class.pathspec_match, Some(PathspecMatch::Always));
+    for row in EXCLUDED {
+        let class = class_of(alloc, row.0, None, true, &index, &mut excludes, &mut tree)?;
+        assert_eq!(rt; class.status, row.1);
     }
-    let mut by_kind = rules(alloc, b"plain/\n")?;
-    let kinds: [(Option<Kind>, Status); 4] = [
-        (Some(Kind::Directory), dropped),
-        (Some(Kind::Repository), dropped),
-        (Some(Kind::File), Status::Untracked),
-        (None, Status::Untracked),
+    Ok(())
+}
+
+/// A rule for directories asks the kind of the path.
+#[test]
+fn excluded_directories(rt: HostRuntime) -> Result<(), Fail> {
+    let alloc = rt.alloc();
+    let mut tree = MemoryWorktree::new(alloc, false);
+    let index = State::new(alloc);
+    let mut excludes = rules(alloc, b"d/\n")?;
+    let rows = [
+        (Kind::Directory, DROPPED),
+        (Kind::Repository, DROPPED),
+        (Kind::File, Status::Untracked),
     ];
-    for (kind, status) in kinds {
-        let ask = kind.is_none();
-        let class = class_of(alloc, b"plain", kind, ask, &index, &mut by_kind, &mut tree)?;
-        assert_eq!(rt; class.status, status);
+    for row in rows {
+        let known = Some(row.0);
+        let class = class_of(alloc, b"d", known, false, &index, &mut excludes, &mut tree)?;
+        assert_eq!(rt; class.status, row.1);
     }
     Ok(())
 }
@@ -327,30 +344,17 @@ fn refused_rules(rt: HostRuntime) -> Result<(), Fail> {
     tree.add(alloc, b"/w/dir/.gitignore", NewNode::Other)?;
     let index = index(alloc)?;
     let mut excludes = rules(alloc, b"")?;
-    for path in [b"dir".as_slice(), b"plain", b"tracked", b"dir/.git"] {
-        class_of(alloc, path, None, true, &index, &mut excludes, &mut tree)?;
+    let rows: [(&[u8], bool); 4] = [
+        (b"dir", false),
+        (b"tracked", false),
+        (b"dir/.git", false),
+        (b"dir/in", true),
+    ];
+    for row in rows {
+        let class = class_of(alloc, row.0, None, true, &index, &mut excludes, &mut tree);
+        let refused = is_refused(class, b"/w/dir/.gitignore", RulesWhy::Special);
+        assert_eq!(rt; refused, row.1);
     }
-    let special = class_of(
-        alloc,
-        b"dir/in",
-        None,
-        true,
-        &index,
-        &mut excludes,
-        &mut tree,
-    );
-    assert!(rt; is_refused(special, b"/w/dir/.gitignore", RulesWhy::Special));
-    tree.fail(alloc, CallKind::Read, 3)?;
-    let faulted = class_of(
-        alloc,
-        b"module/in",
-        None,
-        true,
-        &index,
-        &mut excludes,
-        &mut tree,
-    );
-    assert!(rt; is_refused(faulted, b"/w/module/.gitignore", RulesWhy::Fault));
     Ok(())
 }
 
