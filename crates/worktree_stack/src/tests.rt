@@ -113,8 +113,9 @@ fn a_sibling_is_not_asked_any_more(rt: HostRuntime) -> Result<(), Fail> {
     assert_eq!(rt; inside, Some(Kind::Expendable));
     let (outside, _, _) = decision_at(alloc, &mut stack, &mut tree, b"a/b")?;
     assert_eq!(rt; outside, None);
-    let refused = decision_at(alloc, &mut stack, &mut tree, b"../x");
-    assert!(rt; matches!(refused, Err(AtPathError::NotNormal)));
+    let mut objects = MemoryStore::new(alloc);
+    let answer = stack.at_path(alloc, b"../x", None, &mut tree, &mut objects);
+    assert!(rt; matches!(&answer, Err(AtPathError::NotNormal)));
     assert_eq!(rt; stack.statistics().platforms, 3);
     assert_eq!(rt; stack.statistics().delegate.push_element, 4);
     assert_eq!(rt; stack.statistics().delegate.push_directory, 3);
@@ -127,36 +128,24 @@ fn a_sibling_is_not_asked_any_more(rt: HostRuntime) -> Result<(), Fail> {
     Ok(())
 }
 
+/// What a stack of its own says of a path.
+fn fresh_decision(alloc: Global, tree: &mut MemoryWorktree, path: &[u8]) -> Result<Decision, Fail> {
+    let mut fresh = stack_of(alloc, b"forced\n", b"*~\n!a/b/forced\n", Source::default())?;
+    Ok(decision_at(alloc, &mut fresh, tree, path)?)
+}
+
 /// Paths looked up one after another answer as they do in a stack of their own.
 #[test]
 fn history_decides_nothing(rt: HostRuntime) -> Result<(), Fail> {
     let alloc = rt.alloc();
-    let files: [(&[u8], &[u8]); 4] = [
-        (b"/w/.gitignore", b"*.o\n!k.o\n/out/\n"),
-        (b"/w/a/.gitignore", b"!x.o\nlog\n"),
-        (b"/w/a/b/.gitignore", b"*\n!keep\n"),
-        (b"/w/out/.gitignore", b"!*.o\n"),
-    ];
-    let mut tree = tree_of(alloc, &files)?;
+    let mut tree = tree_of(alloc, &[(b"/w/.gitignore", b"*.o\n!k.o\n/out/\n")])?;
+    tree.add(alloc, b"/w/a/b/.gitignore", NewNode::File(b"*\n!keep\n"))?;
+    tree.add(alloc, b"/w/out/.gitignore", NewNode::File(b"!*.o\n"))?;
     let mut stack = stack_of(alloc, b"forced\n", b"*~\n!a/b/forced\n", Source::default())?;
-    let paths: [&[u8]; 12] = [
-        b"x.o",
-        b"a/x.o",
-        b"a/b/x.o",
-        b"a/b/keep",
-        b"out/x.o",
-        b"a/log",
-        b"a/b",
-        b"",
-        b"a/b/forced",
-        b"k.o",
-        b"a//c/y~",
-        b"a/b/c/keep",
-    ];
-    for path in paths.iter() {
+    let paths = b"x.o:a/x.o:a/b/x.o:a/b/keep:out/x.o:a/b::a/b/forced:k.o:a//c/y~:a/b/c/keep";
+    for path in paths.split(|byte| *byte == b':') {
         let (kind, text, line) = decision_at(alloc, &mut stack, &mut tree, path)?;
-        let mut fresh = stack_of(alloc, b"forced\n", b"*~\n!a/b/forced\n", Source::default())?;
-        let (fresh_kind, fresh_text, fresh_line) = decision_at(alloc, &mut fresh, &mut tree, path)?;
+        let (fresh_kind, fresh_text, fresh_line) = fresh_decision(alloc, &mut tree, path)?;
         assert_eq!(rt; kind, fresh_kind);
         assert_eq!(rt; text.as_bytes(), fresh_text.as_bytes());
         assert_eq!(rt; line, fresh_line);
@@ -164,27 +153,31 @@ fn history_decides_nothing(rt: HostRuntime) -> Result<(), Fail> {
     Ok(())
 }
 
+/// Whether a lookup was refused for this rules file.
+fn is_refused(answer: &Result<(), AtPathError>, file: &[u8], reason: RulesWhy) -> bool {
+    match answer {
+        Err(AtPathError::RulesFile { path, why }) => path.as_bytes() == file && *why == reason,
+        _ => false,
+    }
+}
+
+/// Whether the rules file of a directory, being this node, refuses a path in it, and no other path.
+fn refuses(alloc: Global, node: NewNode<'_>, reason: RulesWhy) -> Result<bool, Fail> {
+    let mut tree = MemoryWorktree::new(alloc, false);
+    tree.add(alloc, b"/w/a/.gitignore", node)?;
+    let mut objects = MemoryStore::new(alloc);
+    let mut stack = stack_of(alloc, b"", b"", Source::default())?;
+    let answer = stack.at_path(alloc, b"a/f", None, &mut tree, &mut objects);
+    stack.at_path(alloc, b"g", None, &mut tree, &mut objects)?;
+    Ok(is_refused(&answer, b"/w/a/.gitignore", reason))
+}
+
 #[test]
 fn rules_files_that_are_refused(rt: HostRuntime) -> Result<(), Fail> {
     let alloc = rt.alloc();
-    let nodes: [(NewNode, RulesWhy); 2] = [
-        (NewNode::Link(b".gitignore"), RulesWhy::LinkLimit),
-        (NewNode::Other, RulesWhy::Special),
-    ];
-    for (node, want) in nodes {
-        let mut tree = MemoryWorktree::new(alloc, false);
-        tree.add(alloc, b"/w/a/.gitignore", node)?;
-        let mut stack = stack_of(alloc, b"", b"", Source::default())?;
-        match decision_at(alloc, &mut stack, &mut tree, b"a/f") {
-            Err(AtPathError::RulesFile { path, why }) => {
-                assert_eq!(rt; path.as_bytes(), b"/w/a/.gitignore".as_slice());
-                assert_eq!(rt; why, want);
-            },
-            _ => assert!(rt; false),
-        }
-        let (kind, _, _) = decision_at(alloc, &mut stack, &mut tree, b"g")?;
-        assert_eq!(rt; kind, None);
-    }
+    let link = NewNode::Link(b".gitignore");
+    assert!(rt; refuses(alloc, link, RulesWhy::LinkLimit)?);
+    assert!(rt; refuses(alloc, NewNode::Other, RulesWhy::Special)?);
     Ok(())
 }
 
@@ -193,19 +186,12 @@ fn a_fault_is_no_answer_and_the_next_lookup_is_right(rt: HostRuntime) -> Result<
     let alloc = rt.alloc();
     let mut tree = tree_of(alloc, &[(b"/w/.gitignore", b"f\n")])?;
     tree.fail(alloc, CallKind::Read, 1)?;
+    let mut objects = MemoryStore::new(alloc);
     let mut stack = stack_of(alloc, b"", b"", Source::default())?;
-    let refused = decision_at(alloc, &mut stack, &mut tree, b"f");
-    assert!(rt;
-        matches!(
-            refused,
-            Err(AtPathError::RulesFile {
-                why: RulesWhy::Fault,
-                ..
-            })
-        )
-    );
-    let (kind, _, _) = decision_at(alloc, &mut stack, &mut tree, b"f")?;
-    assert_eq!(rt; kind, Some(Kind::Expendable));
+    let answer = stack.at_path(alloc, b"f", None, &mut tree, &mut objects);
+    assert!(rt; is_refused(&answer, b"/w/.gitignore", RulesWhy::Fault));
+    stack.at_path(alloc, b"f", None, &mut tree, &mut objects)?;
+    assert!(rt; stack.platform().is_excluded());
     Ok(())
 }
 
@@ -215,22 +201,29 @@ fn entries_and_sources(rt: HostRuntime) -> Result<(), Fail> {
     let mut objects = MemoryStore::new(alloc);
     let mut tree = tree_of(alloc, &[(b"/w/.gitignore", b"d/\n")])?;
     let mut stack = stack_of(alloc, b"", b"", Source::default())?;
-    let table: [(&[u8], Option<Mode>, bool); 4] = [
-        (b"d/", None, true),
-        (b"d", None, false),
-        (b"d", Some(Mode::COMMIT), true),
-        (b"d/", Some(Mode::FILE), false),
-    ];
-    for (path, mode, want) in table {
-        stack.at_entry(alloc, path, mode, &mut tree, &mut objects)?;
-        assert_eq!(rt; stack.platform().is_excluded(), want);
-    }
-    assert_eq!(rt; stack.take_statistics().platforms, 4);
+    stack.at_entry(alloc, b"d/", None, &mut tree, &mut objects)?;
+    assert!(rt; stack.platform().is_excluded());
+    stack.at_entry(alloc, b"d/", Some(Mode::FILE), &mut tree, &mut objects)?;
+    assert!(rt; !stack.platform().is_excluded());
+    assert_eq!(rt; stack.take_statistics().platforms, 2);
     assert_eq!(rt; stack.statistics().platforms, 0);
     let mut mapped = stack_of(alloc, b"", b"", Source::default().adjust_for_bare(true))?;
     mapped.at_entry(alloc, b"d/", None, &mut tree, &mut objects)?;
     assert!(rt; !mapped.platform().is_excluded());
-    assert_eq!(rt; mapped.statistics().ignore.tried_pattern_files, 0);
+    Ok(())
+}
+
+#[test]
+fn a_list_of_paths(rt: HostRuntime) -> Result<(), Fail> {
+    let alloc = rt.alloc();
+    let mut tree = tree_of(alloc, &[(b"/w/.gitignore", b"*.o\n")])?;
+    let mut stack = stack_of(alloc, b"", b"", Source::default())?;
+    let mut paths = Vec::new(alloc);
+    paths.push(Bytes::from_slice(alloc, b"a/x.o")?)?;
+    paths.push(Bytes::from_slice(alloc, b"a/x.c")?)?;
+    let mut objects = MemoryStore::new(alloc);
+    let kinds = stack.excluded_kinds(alloc, &paths, &mut tree, &mut objects)?;
+    assert_eq!(rt; kinds.as_slice(), [Some(Kind::Expendable), None].as_slice());
     Ok(())
 }
 
