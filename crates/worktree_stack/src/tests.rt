@@ -113,18 +113,35 @@ fn a_sibling_is_not_asked_any_more(rt: HostRuntime) -> Result<(), Fail> {
     assert_eq!(rt; inside, Some(Kind::Expendable));
     let (outside, _, _) = decision_at(alloc, &mut stack, &mut tree, b"a/b")?;
     assert_eq!(rt; outside, None);
+    Ok(())
+}
+
+#[test]
+fn a_path_that_is_not_normal_is_counted(rt: HostRuntime) -> Result<(), Fail> {
+    let alloc = rt.alloc();
+    let mut tree = tree_of(alloc, &[])?;
+    let mut stack = stack_of(alloc, b"", b"", Source::default())?;
     let mut objects = MemoryStore::new(alloc);
     let answer = stack.at_path(alloc, b"../x", None, &mut tree, &mut objects);
     assert!(rt; matches!(&answer, Err(AtPathError::NotNormal)));
-    assert_eq!(rt; stack.statistics().platforms, 3);
-    assert_eq!(rt; stack.statistics().delegate.push_element, 4);
-    assert_eq!(rt; stack.statistics().delegate.push_directory, 3);
-    assert_eq!(rt; stack.statistics().delegate.pop_directory, 1);
-    assert_eq!(rt; stack.statistics().ignore.tried_pattern_files, 3);
-    assert_eq!(rt; stack.statistics().ignore.pattern_files, 1);
-    decision_at(alloc, &mut stack, &mut tree, b"a/x")?;
-    assert_eq!(rt; stack.statistics().delegate.push_directory, 3);
-    assert_eq!(rt; stack.statistics().delegate.pop_directory, 1);
+    assert_eq!(rt; stack.statistics().platforms, 1);
+    assert_eq!(rt; stack.statistics().delegate.push_directory, 0);
+    Ok(())
+}
+
+#[test]
+fn steps_are_counted(rt: HostRuntime) -> Result<(), Fail> {
+    let alloc = rt.alloc();
+    let mut tree = tree_of(alloc, &[(b"/w/a/b/.gitignore", b"*\n")])?;
+    let mut stack = stack_of(alloc, b"", b"", Source::default())?;
+    decision_at(alloc, &mut stack, &mut tree, b"a/b/c")?;
+    decision_at(alloc, &mut stack, &mut tree, b"a/b")?;
+    let counts = *stack.statistics();
+    assert_eq!(rt; counts.delegate.push_element, 4);
+    assert_eq!(rt; counts.delegate.push_directory, 3);
+    assert_eq!(rt; counts.delegate.pop_directory, 1);
+    assert_eq!(rt; counts.ignore.tried_pattern_files, 3);
+    assert_eq!(rt; counts.ignore.pattern_files, 1);
     Ok(())
 }
 
@@ -196,7 +213,7 @@ fn a_fault_is_no_answer_and_the_next_lookup_is_right(rt: HostRuntime) -> Result<
 }
 
 #[test]
-fn entries_and_sources(rt: HostRuntime) -> Result<(), Fail> {
+fn entries_that_end_in_a_slash(rt: HostRuntime) -> Result<(), Fail> {
     let alloc = rt.alloc();
     let mut objects = MemoryStore::new(alloc);
     let mut tree = tree_of(alloc, &[(b"/w/.gitignore", b"d/\n")])?;
@@ -207,9 +224,16 @@ fn entries_and_sources(rt: HostRuntime) -> Result<(), Fail> {
     assert!(rt; !stack.platform().is_excluded());
     assert_eq!(rt; stack.take_statistics().platforms, 2);
     assert_eq!(rt; stack.statistics().platforms, 0);
+    Ok(())
+}
+
+#[test]
+fn mappings_alone_give_no_rules(rt: HostRuntime) -> Result<(), Fail> {
+    let alloc = rt.alloc();
+    let mut tree = tree_of(alloc, &[(b"/w/.gitignore", b"d\n")])?;
     let mut mapped = stack_of(alloc, b"", b"", Source::default().adjust_for_bare(true))?;
-    mapped.at_entry(alloc, b"d/", None, &mut tree, &mut objects)?;
-    assert!(rt; !mapped.platform().is_excluded());
+    let (kind, _, _) = decision_at(alloc, &mut mapped, &mut tree, b"d")?;
+    assert_eq!(rt; kind, None);
     Ok(())
 }
 
