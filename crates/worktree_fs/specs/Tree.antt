@@ -1,7 +1,9 @@
 -- A tree of nodes, and what a path leads to in it.
-use Rattle.std.specs.Prelude.{ℕ, zero, suc, Bool, true, false, not, ◌&&◌, ◌||◌, ◌==◌, if◌then◌else◌, List, [], ◌∷◌, ◌++◌, Option, Some, None, filter}
+use Rattle.std.specs.Prelude.{ℕ, zero, suc, Bool, true, false, not, ◌&&◌, ◌||◌, ◌==◌, if◌then◌else◌, List, [], ◌∷◌, ◌++◌, Option, Some, None}
 use Rattle.std.specs.Str.{bytes_eq, is_utf8}
-use Rattle.std.specs.List.{slice_split, list_any}
+use Rattle.std.specs.List.{list_any}
+use Rattle.gitbase_core.specs.Path.{components}
+pub use Rattle.gitbase_core.specs.Path.{is_empty, is_absolute}
 
 mutual
   -- a file with its bytes, a link with its target, a directory with its named nodes, or a node of another kind
@@ -26,17 +28,13 @@ abbrev pub child : Names → List ℕ → Option Node
 child none name = None
 child (named n node rest) name = if bytes_eq n name then Some node else child rest name
 
-abbrev pub is_empty : List ℕ → Bool
-is_empty [] = true
-is_empty (b ∷ bytes) = false
-
 -- whether the bytes can be a path or a link's target: UTF-8 without a NUL
 unfoldable pub is_text : List ℕ → Bool
 is_text bytes = is_utf8 bytes && not (list_any (λ b. b == 0) bytes)
 
--- the components of a path: its pieces between slashes, the empty ones left out
+-- the pieces of a path along which it leads: its components
 abbrev pub pieces : List ℕ → List (List ℕ)
-pieces path = filter (λ piece. not (is_empty piece)) (slice_split (λ b. b == 47) path)
+pieces path = components path
 
 -- `.`, the directory itself
 abbrev pub is_dot : List ℕ → Bool
@@ -45,11 +43,6 @@ is_dot piece = bytes_eq piece (46 ∷ [])
 -- `..`, the directory above
 abbrev pub is_dot_dot : List ℕ → Bool
 is_dot_dot piece = bytes_eq piece (46 ∷ 46 ∷ [])
-
--- whether a path begins at the root, and not where it is met
-abbrev pub is_absolute : List ℕ → Bool
-is_absolute [] = false
-is_absolute (b ∷ path) = b == 47
 
 -- where a resolution stands: the directory reached, and the directories above it up to the root, the nearest first
 pub record Place : Type 0 where
