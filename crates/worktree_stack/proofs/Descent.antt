@@ -1,5 +1,5 @@
 -- How far a lookup has come on the way down to its path.
-use Rattle.std.specs.Prelude.{◌≡◌, ℕ, true, false, List, [], ◌∷◌, ◌++◌, Option, Some, None, is_some}
+use Rattle.std.specs.Prelude.{◌≡◌, ℕ, Bool, true, false, List, [], ◌∷◌, ◌++◌, Option, Some, None, is_some}
 use Rattle.std.proofs.Common.{refl, sym, ap, ◌∙◌, subst, append_assoc}
 use Rattle.std.proofs.lemmas.List.{append-nil}
 use Rattle.worktree_fs.specs.Tree.{Names}
@@ -15,7 +15,7 @@ use Rattle.worktree_stack.specs.Setup.{Setup}
 use Rattle.worktree_stack.specs.Counted.{count_call, count_calls, count_reading, count_readings}
 use Rattle.worktree_stack.specs.Reading.{reading, rules_file}
 use Rattle.worktree_stack.specs.Stacked.{Stacked}
-use Rattle.worktree_stack.specs.Lookups.{stepped, IsLookedUp, IsOnWay, IsCounted}
+use Rattle.worktree_stack.specs.Lookups.{stepped, IsLookedUp, IsOnWay}
 use Rattle.worktree_stack.specs.Refused.{IsOfFile, IsRefusedFor, IsOnWayTo, Refuses}
 
 -- the components before the rest of a path are those of the deepest directory
@@ -116,70 +116,22 @@ at_root whole s s' rest below none left =
       current = ap (λ (x : Stacked). x.current) left ∙ names_is ∙ sym whole_is;
     }
 
--- the calls that were made so far, counted
-pub record IsSoFar (calls : List Call) (old new : DelegateStatistics) (names rest : List (List ℕ)) (made : List Call) : Type 0 where
-  pub front : calls ≡ made ++ calls_below names rest
-  pub counted : new ≡ count_calls old made
+-- ---- the calls that are left
 
-pub count-append : (s : DelegateStatistics) (a b : List Call) → count_calls s (a ++ b) ≡ count_calls (count_calls s a) b
-count-append s [] b = refl
-count-append s (call ∷ a) b = count-append (count_call s call) a b
+module _ (calls made : List Call) (names rest more : List (List ℕ)) (name : List ℕ) (front : calls ≡ made ++ calls_below names rest) (first : rest ≡ name ∷ more) where
+  -- those for the first component that is left come first
+  pub next-calls : (b : Bool) → is_nil more ≡ b → calls ≡ made ++ (calls_for names name b ++ calls_below (names ++ name ∷ []) more)
+  next-calls b more_is =
+      front ∙ ap (λ r. made ++ calls_below names r) first ∙ ap (λ b. made ++ (calls_for names name b ++ calls_below (names ++ name ∷ []) more)) more_is
 
-pub readings-append : (setup : Setup) (t : Names) (root : List ℕ) (s : RulesStatistics) (a b : List Call)
-    → count_readings setup t root s (a ++ b) ≡ count_readings setup t root (count_readings setup t root s a) b
-readings-append setup t root s [] b = refl
-readings-append setup t root s (push_directory path ∷ a) b = readings-append setup t root (count_reading setup.source setup t root s path) a b
-readings-append setup t root s (push path is_last ∷ a) b = readings-append setup t root s a b
-readings-append setup t root s (pop_directory ∷ a) b = readings-append setup t root s a b
+  pub further : is_nil more ≡ false → calls ≡ (made ++ calls_for names name false) ++ calls_below (names ++ name ∷ []) more
+  further more_is = next-calls false more_is ∙ sym (append_assoc made (calls_for names name false) (calls_below (names ++ name ∷ []) more))
 
--- one component more
-pub further : (calls : List Call) (old now new : DelegateStatistics) (names rest more : List (List ℕ)) (name : List ℕ) (made : List Call)
-    → IsSoFar calls old now names rest made → rest ≡ name ∷ more → is_nil more ≡ false → new ≡ count_calls now (calls_for names name false)
-    → IsSoFar calls old new (names ++ name ∷ []) more (made ++ calls_for names name false)
-further calls old now new names rest more name made so_far first more_is counted =
-    record {
-      front = so_far.front ∙ ap (λ r. made ++ calls_below names r) first ∙ ap (λ b. made ++ (calls_for names name b ++ calls_below (names ++ name ∷ []) more)) more_is
-          ∙ sym (append_assoc made (calls_for names name false) (calls_below (names ++ name ∷ []) more));
-      counted = counted ∙ ap (λ s. count_calls s (calls_for names name false)) so_far.counted ∙ sym (count-append old made (calls_for names name false));
-    }
+-- and those for the last one are all
+pub last-calls : (calls made : List Call) (names rest more : List (List ℕ)) (name : List ℕ) → calls ≡ made ++ calls_below names rest → rest ≡ name ∷ more
+    → is_nil more ≡ true → calls ≡ made ++ calls_for names name true
+last-calls calls made names rest [] name front first more_is = front ∙ ap (λ r. made ++ calls_below names r) first
+last-calls calls made names rest (other ∷ more) name front first more_is = absurd (cc more_is)
 
--- the last component
-pub finished : (calls : List Call) (old now new : DelegateStatistics) (names rest more : List (List ℕ)) (name : List ℕ) (made : List Call)
-    → IsSoFar calls old now names rest made → rest ≡ name ∷ more → is_nil more ≡ true → new ≡ count_calls now (calls_for names name true)
-    → new ≡ count_calls old calls
-finished calls old now new names rest [] name made so_far first more_is counted =
-    let all : calls ≡ made ++ calls_for names name true = so_far.front ∙ ap (λ r. made ++ calls_below names r) first in
-    counted ∙ ap (λ s. count_calls s (calls_for names name true)) so_far.counted ∙ sym (count-append old made (calls_for names name true)) ∙ sym (ap (count_calls old) all)
-finished calls old now new names rest (other ∷ more) name made so_far first more_is counted = absurd (cc more_is)
-
--- nothing was left
-pub finished_root : (calls : List Call) (old now : DelegateStatistics) (names rest : List (List ℕ)) (made : List Call)
-    → IsSoFar calls old now names rest made → rest ≡ [] → now ≡ count_calls old calls
-finished_root calls old now names rest made so_far none =
-    so_far.counted ∙ sym (ap (count_calls old) (so_far.front ∙ ap (λ r. made ++ calls_below names r) none ∙ append-nil made))
-
--- a step that was refused
-pub stopped : (calls : List Call) (old now new : DelegateStatistics) (names rest more : List (List ℕ)) (name : List ℕ) (made : List Call)
-    → IsSoFar calls old now names rest made → rest ≡ name ∷ more → is_nil more ≡ false → IsCounted (calls_for names name false) now new → IsCounted calls old new
-stopped calls old now new names rest more name made so_far first more_is counted =
-    record {
-      made = made ++ counted.made;
-      unmade = counted.unmade ++ calls_below (names ++ name ∷ []) more;
-      front = so_far.front ∙ ap (λ r. made ++ calls_below names r) first ∙ ap (λ b. made ++ (calls_for names name b ++ calls_below (names ++ name ∷ []) more)) more_is
-          ∙ ap (λ c. made ++ (c ++ calls_below (names ++ name ∷ []) more)) counted.front
-          ∙ ap (λ c. made ++ c) (append_assoc counted.made counted.unmade (calls_below (names ++ name ∷ []) more))
-          ∙ sym (append_assoc made counted.made (counted.unmade ++ calls_below (names ++ name ∷ []) more));
-      counted = counted.counted ∙ ap (λ s. count_calls s counted.made) so_far.counted ∙ sym (count-append old made counted.made);
-    }
-
--- a stop before any further call
-pub stopped_here : (calls : List Call) (old now : DelegateStatistics) (names rest : List (List ℕ)) (made : List Call) → IsSoFar calls old now names rest made → IsCounted calls old now
-stopped_here calls old now names rest made so_far =
-    record { made = made; unmade = calls_below names rest; front = so_far.front; counted = so_far.counted }
-
--- a last component has no rules file
-pub readings_last : (setup : Setup) (t : Names) (root : List ℕ) (s : RulesStatistics) (calls : List Call) (old now : DelegateStatistics) (names rest more : List (List ℕ)) (name : List ℕ) (made : List Call)
-    → IsSoFar calls old now names rest made → rest ≡ name ∷ more → is_nil more ≡ true → count_readings setup t root s calls ≡ count_readings setup t root s made
-readings_last setup t root s calls old now names rest [] name made so_far first more_is =
-    ap (count_readings setup t root s) (so_far.front ∙ ap (λ r. made ++ calls_below names r) first) ∙ readings-append setup t root s made (calls_for names name true)
-readings_last setup t root s calls old now names rest (other ∷ more) name made so_far first more_is = absurd (cc more_is)
+pub no-calls : (calls made : List Call) (names rest : List (List ℕ)) → calls ≡ made ++ calls_below names rest → rest ≡ [] → calls ≡ made
+no-calls calls made names rest front none = front ∙ ap (λ r. made ++ calls_below names r) none ∙ append-nil made

@@ -7,7 +7,7 @@ use Rattle.glob_rules.specs.declared.Case.{Case}
 use Rattle.glob_rules.specs.Ignore.{Rules, Hit}
 use Rattle.worktree_fs.specs.Tree.{Names}
 use Rattle.worktree_fs.specs.Paths.{spelled, fronts, without_last}
-use Rattle.worktree_fs.specs.PathStack.{one_up, names_at}
+use Rattle.worktree_fs.specs.PathStack.{one_up, names_at, directories}
 use Rattle.worktree_fs.proofs.Spelled.{without_last-snoc}
 use Rattle.worktree_stack.specs.Setup.{Setup, Held, own_hit}
 use Rattle.worktree_stack.specs.Excludes.{own_of_directory, rule_of, ancestors}
@@ -96,6 +96,30 @@ one_less setup case root t names lists matches those =
           ∙ take-last (map (λ d. rule_of (own_of_directory book d)) (ancestors names)) (rule_of (own_of_directory book names));
     }
 
+up-ancestors : (names : List (List ℕ)) → ancestors names ≡ pushed (one_up (Some names))
+up-ancestors [] = refl
+up-ancestors (name ∷ names) = refl
+
+directories-pushed : (at : Option (List (List ℕ))) → directories at ≡ map spelled (pushed at)
+directories-pushed None = refl
+directories-pushed (Some names) = refl
+
+directories-last : (names : List (List ℕ)) → map spelled (fronts names) ≡ map spelled (ancestors names) ++ spelled names ∷ []
+directories-last names = ap (map spelled) (pushed-ancestors names) ∙ map-append spelled (ancestors names) (names ∷ [])
+
+-- the directories without the deepest one
+pub directories-up : (at : Option (List (List ℕ))) → directories (one_up at) ≡ without_last (directories at)
+directories-up None = refl
+directories-up (Some names) =
+    directories-pushed (one_up (Some names)) ∙ ap (map spelled) (sym (up-ancestors names))
+    ∙ sym (ap without_last (directories-last names) ∙ without_last-snoc (map spelled (ancestors names)) (spelled names))
+
+-- and with one below it
+pub directories-below : (at : Option (List (List ℕ))) (names : List (List ℕ)) → pushed at ≡ ancestors names
+    → directories (Some names) ≡ directories at ++ spelled names ∷ []
+directories-below at names above =
+    directories-last names ∙ ap (λ (d : List (List ℕ)). d ++ spelled names ∷ []) (ap (map spelled) (sym above) ∙ sym (directories-pushed at))
+
 module _ (case : Case) (t : Names) where
   -- said of equal parts
   pub said_of : (setup setup' : Setup) (root root' : List ℕ) (directories directories' : List (List (List ℕ))) (lists lists' : List Rules) (matches matches' : List (Option Hit))
@@ -107,10 +131,6 @@ module _ (case : Case) (t : Names) where
       (subst (λ x. AreThoseOf setup' case root' t x lists matches) c
       (subst (λ x. AreThoseOf setup' case x t directories lists matches) b
       (subst (λ x. AreThoseOf x case root t directories lists matches) a those))))
-
-  up-ancestors : (names : List (List ℕ)) → ancestors names ≡ pushed (one_up (Some names))
-  up-ancestors [] = refl
-  up-ancestors (name ∷ names) = refl
 
   -- the deepest directory is popped
   less : (setup : Setup) (root : List ℕ) (at : Option (List (List ℕ))) (lists : List Rules) (matches : List (Option Hit))

@@ -3,6 +3,7 @@ pub mod InStep
 pub mod Surplus
 pub mod Decided
 pub mod Stepping
+pub mod Carrying
 pub mod Descent
 pub mod Looking
 pub mod Listing

@@ -11,8 +11,7 @@ use Rattle.worktree_stack.specs.declared.statistics.RulesStatistics.{RulesStatis
 use Rattle.worktree_stack.specs.Setup.{Setup}
 use Rattle.worktree_stack.specs.Counted.{count_calls, count_readings}
 use Rattle.worktree_stack.specs.Stacked.{pushed}
-use Rattle.worktree_stack.specs.Lookups.{staying, IsCounted}
-use Rattle.worktree_stack.proofs.Descent.{count-append, readings-append}
+use Rattle.worktree_stack.specs.Lookups.{staying}
 
 -- the root is pushed, and what is no ancestor is popped: what stays, and what is left of the path behind it
 pub record IsStaying (at at1 at2 : Option (List (List ℕ))) (parts left : List (List ℕ)) : Type 0 where
@@ -47,56 +46,11 @@ module _ (at at1 at2 : Option (List (List ℕ))) (parts left : List (List ℕ)) 
       go None = refl
       go (Some names) = refl
 
-  calls_are : lookup_calls at parts ≡ root_calls at ++ replicate (surplus at1 parts) pop_directory ++ calls_below (names_at at2) left
+  pub calls_are : lookup_calls at parts ≡ root_calls at ++ replicate (surplus at1 parts) pop_directory ++ calls_below (names_at at2) left
   calls_are =
       sym (ap (λ n. root_calls at ++ replicate n pop_directory ++ calls_below (names_at at2) left) popped-same
       ∙ ap (λ names. root_calls at ++ replicate (surplus at parts) pop_directory ++ calls_below names left) stay_names
       ∙ ap (λ l. root_calls at ++ replicate (surplus at parts) pop_directory ++ calls_below (kept (names_at at) parts) l) left_names)
-
-  -- what was counted before the rest of the path
-  module _ (d0 d1 d2 d3 : DelegateStatistics) (first : d1 ≡ count_calls d0 (root_calls at)) (second : d2 ≡ count_calls d1 (replicate (surplus at1 parts) pop_directory)) where
-    before : d2 ≡ count_calls d0 (root_calls at ++ replicate (surplus at1 parts) pop_directory)
-    before = second ∙ ap (λ d. count_calls d (replicate (surplus at1 parts) pop_directory)) first ∙ sym (count-append d0 (root_calls at) (replicate (surplus at1 parts) pop_directory))
-
-    pub all_counted : d3 ≡ count_calls d2 (calls_below (names_at at2) left) → d3 ≡ count_calls d0 (lookup_calls at parts)
-    all_counted third =
-        third ∙ ap (λ d. count_calls d (calls_below (names_at at2) left)) before
-        ∙ sym (count-append d0 (root_calls at ++ replicate (surplus at1 parts) pop_directory) (calls_below (names_at at2) left))
-        ∙ sym (ap (count_calls d0) calls_are)
-
-    pub some_counted : IsCounted (calls_below (names_at at2) left) d2 d3 → IsCounted (lookup_calls at parts) d0 d3
-    some_counted third =
-        let front : List Call = root_calls at ++ replicate (surplus at1 parts) pop_directory in
-        record {
-          made = front ++ third.made;
-          unmade = third.unmade;
-          front = calls_are ∙ ap (λ c. front ++ c) third.front ∙ sym (append_assoc front third.made third.unmade);
-          counted = third.counted ∙ ap (λ d. count_calls d third.made) before ∙ sym (count-append d0 front third.made);
-        }
-
-  readings-pops : (setup : Setup) (t : Names) (root : List ℕ) (r : RulesStatistics) (n : ℕ) → count_readings setup t root r (replicate n pop_directory) ≡ r
-  readings-pops setup t root r zero = refl
-  readings-pops setup t root r (suc n) = readings-pops setup t root r n
-
-  pub all_readings : (setup : Setup) (t : Names) (root : List ℕ) (r0 r1 r2 r3 : RulesStatistics) → r1 ≡ count_readings setup t root r0 (root_calls at) → r2 ≡ r1
-      → r3 ≡ count_readings setup t root r2 (calls_below (names_at at2) left) → r3 ≡ count_readings setup t root r0 (lookup_calls at parts)
-  all_readings setup t root r0 r1 r2 r3 first second third =
-      let pops = replicate (surplus at1 parts) pop_directory in
-      third
-      ∙ ap (λ r. count_readings setup t root r (calls_below (names_at at2) left)) (second ∙ first ∙ sym (readings-pops setup t root (count_readings setup t root r0 (root_calls at)) (surplus at1 parts)) ∙ sym (readings-append setup t root r0 (root_calls at) pops))
-      ∙ sym (readings-append setup t root r0 (root_calls at ++ pops) (calls_below (names_at at2) left))
-      ∙ sym (ap (count_readings setup t root r0) calls_are)
-
--- the root alone was refused
-pub root_counted : (at : Option (List (List ℕ))) (parts : List (List ℕ)) (d0 d1 : DelegateStatistics) → d1 ≡ count_calls d0 (root_calls at) → IsCounted (lookup_calls at parts) d0 d1
-root_counted at parts d0 d1 counted =
-    let stay = kept (names_at at) parts in
-    record {
-      made = root_calls at;
-      unmade = replicate (surplus at parts) pop_directory ++ calls_below stay (drop (length stay) parts);
-      front = append_assoc (root_calls at) (replicate (surplus at parts) pop_directory) (calls_below stay (drop (length stay) parts));
-      counted = counted;
-    }
 
 pub length-fronts : (names : List (List ℕ)) → length (fronts names) ≡ length names + 1
 length-fronts [] = refl
@@ -115,7 +69,3 @@ root-length (Some names) parts = omega (arith, length-fronts (kept names parts))
 pub fewer-stay : (at : Option (List (List ℕ))) (parts : List (List ℕ)) → length (pushed (staying at parts)) ≤ length (pushed at)
 fewer-stay None parts = omega arith
 fewer-stay (Some names) parts = omega (arith, length-fronts (kept names parts), length-fronts names, kept-fits names parts)
-
-pub on_err_so : {T E P Q : Type 0} → (P → Q) → (r : Result T E) → OnErr r P → OnErr r Q
-on_err_so f (Ok v) p = tt
-on_err_so f (Err e) p = f p

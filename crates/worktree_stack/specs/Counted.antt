@@ -59,3 +59,15 @@ count_readings setup t root s [] = s
 count_readings setup t root s (push_directory path ∷ calls) = count_readings setup t root (count_reading setup.source setup t root s path) calls
 count_readings setup t root s (push path is_last ∷ calls) = count_readings setup t root s calls
 count_readings setup t root s (pop_directory ∷ calls) = count_readings setup t root s calls
+
+-- how many rules files were looked for in the worktree, one in each directory that is pushed; none where rules come from
+-- mappings alone
+abbrev pub try_from : Source → ℕ → ℕ
+try_from IdMapping count = count
+try_from WorktreeThenIdMappingIfNotSkipped count = one_more count
+
+abbrev pub count_tried : Source → ℕ → List Call → ℕ
+count_tried source count [] = count
+count_tried source count (push_directory path ∷ calls) = count_tried source (try_from source count) calls
+count_tried source count (push path is_last ∷ calls) = count_tried source count calls
+count_tried source count (pop_directory ∷ calls) = count_tried source count calls

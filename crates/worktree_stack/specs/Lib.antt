@@ -5,4 +5,5 @@ pub mod Stacked
 pub mod Refused
 pub mod Counted
 pub mod Lookups
+pub mod Steps
 pub mod Lending

@@ -50,13 +50,6 @@ abbrev pub IsOnWay : Option (List (List ℕ)) → List (List ℕ) → Type 0
 IsOnWay None names = Unit {0}
 IsOnWay (Some pushed) names = IsOnTheWay names pushed
 
--- the first of the calls of a lookup were made, and counted
-pub record IsCounted (calls : List Call) (old new : DelegateStatistics) : Type 0 where
-  pub made : List Call
-  pub unmade : List Call
-  pub front : calls ≡ made ++ unmade
-  pub counted : new ≡ count_calls old made
-
 -- one for a refusal: the directory whose rules file was refused may have been read
 abbrev pub refused_one : {T E : Type 0} → Result T E → ℕ
 refused_one (Ok done) = 0

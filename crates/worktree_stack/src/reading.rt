@@ -1,11 +1,14 @@
 //! The rules file of a directory.
-ghost use Rattle.std.specs.Prelude.{true, ◌≡◌, ◌≤◌, ◌+◌, Some, Ok, IfOk, IfErr, OnOk};
+ghost use Rattle.std.specs.Prelude.{true, ◌≡◌, ◌≤◌, ◌+◌, ◌∷◌, [], Some, Ok, IfOk, IfErr, OnOk};
 ghost use Rattle.gitbase_core.specs.Path.{joined};
 ghost use Rattle.worktree_fs.specs.Tree.{Names, look, found, file};
 ghost use Rattle.worktree_fs.specs.Causes.{Rose};
 ghost use Rattle.worktree_fs.specs.Paths.{full_path};
 ghost use Rattle.worktree_stack.specs.Reading.{rules_file, rules_at, reading};
-ghost use Rattle.worktree_stack.specs.Counted.{count_file, count_reading};
+ghost use Rattle.worktree_stack.specs.Counted.{count_file};
+ghost use Rattle.worktree_stack.specs.Steps.{HasRead, HasTried, HasTriedFile, IsForMemory};
+ghost use Rattle.worktree_stack.specs.declared.ignore_source.Source.TheVariants.{IdMapping};
+ghost use Rattle.worktree_fs.specs.PathStack.{push_directory};
 ghost use Rattle.worktree_stack.specs.Refused.{OnFault, IsOfFile, IsRefusedFor};
 
 use crate::ignore_source::Source;
@@ -31,8 +34,11 @@ pub fn read_rules<W: Worktree>(
         → IfOk result (λ list. reading ignore.now.setup t root.now directory.now ≡ Ok list) }
     ensures refused { (t : Names) → W.told worktree.old ≡ Some t
         → IfErr result (IsRefusedFor (reading ignore.now.setup t root.now directory.now)) }
-    ensures counted { (t : Names) → W.told worktree.old ≡ Some t
-        → OnOk result (statistics.new ≡ count_reading ignore.now.setup.source ignore.now.setup t root.now statistics.old directory.now) }
+    ensures counted { OnOk result
+        (HasRead (W.told worktree.old) ignore.now.setup root.now (push_directory directory.now ∷ []) statistics.old statistics.new) }
+    ensures tried { IfErr result (HasTried (statistics.new ≡ statistics.old)
+        (HasRead (W.told worktree.old) ignore.now.setup root.now (push_directory directory.now ∷ []) statistics.old statistics.new)) }
+    ensures mapped { ignore.now.setup.source ≡ IdMapping → (worktree.new ≡ worktree.old) × IfErr result IsForMemory }
     ensures about { IfErr result (IsOfFile (rules_file root.now ignore.now.setup directory.now)) }
     ensures cause { IfErr result (OnFault (Rose (W.faults worktree.old) (W.faults worktree.new))) }
     ensures tree { W.told worktree.new ≡ W.told worktree.old }
@@ -65,8 +71,9 @@ fn read_file<W: Worktree>(
         → IfOk result (λ list. rules_at ignore.now.setup directory.now path (look t path true) ≡ Ok list) }
     ensures refused { (t : Names) → W.told worktree.old ≡ Some t
         → IfErr result (IsRefusedFor (rules_at ignore.now.setup directory.now path (look t path true))) }
-    ensures counted { (t : Names) → W.told worktree.old ≡ Some t
-        → OnOk result (statistics.new ≡ count_file statistics.old (look t path true)) }
+    ensures counted { OnOk result (HasTriedFile (W.told worktree.old) path statistics.old statistics.new) }
+    ensures tried { IfErr result (HasTried (statistics.new ≡ statistics.old)
+        (HasTriedFile (W.told worktree.old) path statistics.old statistics.new)) }
     ensures about { IfErr result (IsOfFile path) }
     ensures cause { IfErr result (OnFault (Rose (W.faults worktree.old) (W.faults worktree.new))) }
     ensures tree { W.told worktree.new ≡ W.told worktree.old }
@@ -103,7 +110,8 @@ fn list_of(
     statistics: &mut RulesStatistics,
 ) -> Result<List, AtPathError>
     ensures rules { IfOk result (λ list. rules_at ignore.now.setup directory.now path (found (file bytes.now)) ≡ Ok list) }
-    ensures counted { OnOk result (statistics.new ≡ count_file statistics.old (found (file bytes.now))) }
+    ensures counted { statistics.new ≡ count_file statistics.old (found (file bytes.now)) }
+    ensures later { statistics.old.pattern_files ≤ statistics.new.pattern_files }
     ensures refused { IfErr result (λ e. e ≡ AtPathError.OutOfMemory) }
 {
     statistics.tried_pattern_files = statistics.tried_pattern_files.saturating_add(1);

@@ -11,8 +11,10 @@ ghost use Rattle.worktree_fs.specs.Tree.{Names};
 ghost use Rattle.worktree_stack.specs.Setup.{Held, deciding_hit};
 ghost use Rattle.glob_rules.specs.Ignore.{match_of};
 ghost use Rattle.worktree_stack.specs.Stacked.{Stacked, AreThoseOf, IsInStep, made_of, pushed, held_of};
-ghost use Rattle.worktree_stack.specs.Lookups.{kind_alone, is_dir_of, is_dir_of_entry, IsLookedUp, staying, stepped, IsOnWay, IsCounted, refused_one};
-ghost use Rattle.worktree_stack.specs.Counted.{no_statistics, one_more, count_platform, count_call, count_calls, count_reading, count_readings};
+ghost use Rattle.worktree_stack.specs.Lookups.{kind_alone, is_dir_of, is_dir_of_entry, IsLookedUp, staying, IsOnWay, refused_one};
+ghost use Rattle.worktree_stack.specs.Steps.{CarriesOut, Stops, IsForMemory};
+ghost use Rattle.worktree_stack.specs.declared.ignore_source.Source.TheVariants.{IdMapping};
+ghost use Rattle.worktree_stack.specs.Counted.{no_statistics, one_more, count_platform};
 ghost use Rattle.worktree_stack.specs.Excludes.{ancestors};
 ghost use Rattle.worktree_stack.specs.Refused.{OnFault, IsAbout, IsOnWayTo, Refuses, IsOfFile, IsRefusedFor};
 ghost use Rattle.worktree_stack.specs.Reading.{rules_file, reading};
@@ -218,7 +220,9 @@ impl Stack {
 
         // Each refusal has its cause.
         ensures normal { is_normal relative.now ≡ false
-            → IsErrOf result AtPathError.NotNormal × (self.new ≡ record self.old { statistics = count_platform self.old.statistics }) }
+            → IsErrOf result AtPathError.NotNormal × (self.new ≡ record self.old { statistics = count_platform self.old.statistics })
+            × (worktree.new ≡ worktree.old) }
+        ensures mapped { self.old.held.setup.source ≡ IdMapping → (worktree.new ≡ worktree.old) × IfErr result IsForMemory }
         ensures about { IfErr result (IsAbout self.old.root self.old.held.setup relative.now) }
         ensures refused { (t : Names) → W.told worktree.old ≡ Some t
             → IfErr result (Refuses t self.old.root self.old.held.setup (components relative.now)) }
@@ -227,12 +231,10 @@ impl Stack {
         // What is counted, and what stays.
         ensures platforms { self.new.statistics.platforms ≡ one_more self.old.statistics.platforms }
         ensures attributes { self.new.statistics.attributes ≡ self.old.statistics.attributes }
-        ensures delegate { OnOk result (self.new.statistics.delegate
-            ≡ count_calls self.old.statistics.delegate (lookup_calls self.old.at (components relative.now))) }
-        ensures delegate_refused { OnErr result (IsCounted (lookup_calls self.old.at (components relative.now)) self.old.statistics.delegate self.new.statistics.delegate) }
-        ensures ignore { (t : Names) → W.told worktree.old ≡ Some t
-            → OnOk result (self.new.statistics.ignore
-            ≡ count_readings self.old.held.setup t self.old.root self.old.statistics.ignore (lookup_calls self.old.at (components relative.now))) }
+        ensures carried { OnOk result (CarriesOut (W.told worktree.old)
+            (lookup_calls self.old.at (components relative.now)) self.old self.new) }
+        ensures stopped { IfErr result (Stops (W.told worktree.old)
+            (lookup_calls self.old.at (components relative.now)) self.old self.new) }
         ensures reads { W.reads worktree.new + length (pushed (staying self.old.at (components relative.now)))
             ≤ W.reads worktree.old + length (pushed self.new.at) + refused_one result }
         ensures tree { W.told worktree.new ≡ W.told worktree.old }
@@ -267,19 +269,19 @@ impl Stack {
         ensures is_dir { OnOk result (self.new.is_dir ≡ is_dir_of_entry relative.now mode) }
         ensures on_way { OnErr result ((is_normal relative.now ≡ false) ⊎ IsOnWay self.new.at (components relative.now)) }
         ensures normal { is_normal relative.now ≡ false
-            → IsErrOf result AtPathError.NotNormal × (self.new ≡ record self.old { statistics = count_platform self.old.statistics }) }
+            → IsErrOf result AtPathError.NotNormal × (self.new ≡ record self.old { statistics = count_platform self.old.statistics })
+            × (worktree.new ≡ worktree.old) }
+        ensures mapped { self.old.held.setup.source ≡ IdMapping → (worktree.new ≡ worktree.old) × IfErr result IsForMemory }
         ensures about { IfErr result (IsAbout self.old.root self.old.held.setup relative.now) }
         ensures refused { (t : Names) → W.told worktree.old ≡ Some t
             → IfErr result (Refuses t self.old.root self.old.held.setup (components relative.now)) }
         ensures cause { IfErr result (OnFault (Rose (W.faults worktree.old) (W.faults worktree.new))) }
         ensures platforms { self.new.statistics.platforms ≡ one_more self.old.statistics.platforms }
         ensures attributes { self.new.statistics.attributes ≡ self.old.statistics.attributes }
-        ensures delegate { OnOk result (self.new.statistics.delegate
-            ≡ count_calls self.old.statistics.delegate (lookup_calls self.old.at (components relative.now))) }
-        ensures delegate_refused { OnErr result (IsCounted (lookup_calls self.old.at (components relative.now)) self.old.statistics.delegate self.new.statistics.delegate) }
-        ensures ignore { (t : Names) → W.told worktree.old ≡ Some t
-            → OnOk result (self.new.statistics.ignore
-            ≡ count_readings self.old.held.setup t self.old.root self.old.statistics.ignore (lookup_calls self.old.at (components relative.now))) }
+        ensures carried { OnOk result (CarriesOut (W.told worktree.old)
+            (lookup_calls self.old.at (components relative.now)) self.old self.new) }
+        ensures stopped { IfErr result (Stops (W.told worktree.old)
+            (lookup_calls self.old.at (components relative.now)) self.old self.new) }
         ensures reads { W.reads worktree.new + length (pushed (staying self.old.at (components relative.now)))
             ≤ W.reads worktree.old + length (pushed self.new.at) + refused_one result }
         ensures tree { W.told worktree.new ≡ W.told worktree.old }

@@ -1,13 +1,15 @@
 //! The steps of a lookup: what is pushed and popped on the way from one path to the next.
-ghost use Rattle.std.specs.Prelude.{◌≡◌, ◌≤◌, ◌+◌, ◌++◌, ◌∷◌, [], ℕ, true, false, length, drop, replicate, is_some, Some, None, IfErr, OnOk, OnErr};
+ghost use Rattle.std.specs.Prelude.{◌≡◌, ◌≤◌, ◌+◌, ◌++◌, ◌∷◌, [], ℕ, true, false, length, drop, replicate, is_some, Option, Some, None, IfErr, OnOk, OnErr};
 ghost use Rattle.gitbase_core.specs.Path.{components};
 ghost use Rattle.worktree_fs.specs.Causes.{Rose};
 ghost use Rattle.worktree_fs.specs.Paths.{spelled, fronts, IsComponent};
 ghost use Rattle.worktree_fs.specs.PathStack.{names_at, one_up, surplus, lookup_calls, root_calls, calls_for, calls_below, push_directory, pop_directory};
 ghost use Rattle.worktree_fs.specs.Tree.{Names};
-ghost use Rattle.worktree_stack.specs.Counted.{count_platform, count_call, count_calls, count_reading, count_readings};
+ghost use Rattle.worktree_stack.specs.Counted.{count_platform, count_call};
+ghost use Rattle.worktree_stack.specs.Steps.{HasRead, HasTried, CarriesOut, Stops, IsForMemory};
+ghost use Rattle.worktree_stack.specs.declared.ignore_source.Source.TheVariants.{IdMapping};
 ghost use Rattle.worktree_stack.specs.Excludes.{ancestors};
-ghost use Rattle.worktree_stack.specs.Lookups.{is_dir_of, IsLookedUp, staying, stepped, IsOnWay, IsCounted, refused_one};
+ghost use Rattle.worktree_stack.specs.Lookups.{is_dir_of, IsLookedUp, staying, stepped, IsOnWay, refused_one};
 ghost use Rattle.worktree_stack.specs.Reading.{rules_file, reading};
 ghost use Rattle.worktree_stack.specs.Refused.{OnFault, IsOnWayTo, Refuses, IsOfFile, IsRefusedFor};
 ghost use Rattle.worktree_stack.specs.Stacked.{AreThoseOf, IsInStep, made_of, pushed};
@@ -27,10 +29,19 @@ impl Stack {
         ensures at { self.new.at ≡ one_up self.old.at }
         ensures in_step { (t : Names) → IsInStep t self.old → IsInStep t self.new }
         ensures is_dir { self.new.is_dir ≡ self.old.is_dir }
-        ensures counted { self.new.statistics ≡ record self.old.statistics { delegate = count_call self.old.statistics.delegate pop_directory } }
+        ensures platforms { self.new.statistics.platforms ≡ self.old.statistics.platforms }
+        ensures attributes { self.new.statistics.attributes ≡ self.old.statistics.attributes }
+        ensures carried { (told : Option Names) → CarriesOut told (pop_directory ∷ []) self.old self.new }
     {
         self.state.pop_directory();
         self.stack.pop();
+        self.count_pop();
+    }
+
+    /// Counts a directory that is popped.
+    fn count_pop(&mut self)
+        ensures { self.new ≡ record self.old { statistics = record self.old.statistics { delegate = count_call self.old.statistics.delegate pop_directory } } }
+    {
         let counts = &mut self.statistics.delegate;
         counts.pop_directory = counts.pop_directory.saturating_add(1);
     }
@@ -52,8 +63,12 @@ impl Stack {
         ensures in_step { (t : Names) → W.told worktree.old ≡ Some t
             → AreThoseOf self.old.held.setup self.old.case self.old.root t (ancestors self.old.current) self.old.held.lists self.old.held.matches
             → OnOk result (AreThoseOf self.old.held.setup self.old.case self.old.root t (fronts self.old.current) self.new.held.lists self.new.held.matches) }
-        ensures ignore { (t : Names) → W.told worktree.old ≡ Some t
-            → OnOk result (self.new.statistics.ignore ≡ count_reading self.old.held.setup.source self.old.held.setup t self.old.root self.old.statistics.ignore (spelled self.old.current)) }
+        ensures read { OnOk result (HasRead (W.told worktree.old) self.old.held.setup self.old.root
+            (push_directory (spelled self.old.current) ∷ []) self.old.statistics.ignore self.new.statistics.ignore) }
+        ensures tried { IfErr result (HasTried (self.new.statistics.ignore ≡ self.old.statistics.ignore)
+            (HasRead (W.told worktree.old) self.old.held.setup self.old.root
+            (push_directory (spelled self.old.current) ∷ []) self.old.statistics.ignore self.new.statistics.ignore)) }
+        ensures mapped { self.old.held.setup.source ≡ IdMapping → (worktree.new ≡ worktree.old) × IfErr result IsForMemory }
         ensures about { IfErr result (IsOfFile (rules_file self.old.root self.old.held.setup (spelled self.old.current))) }
         ensures refused { (t : Names) → W.told worktree.old ≡ Some t
             → IfErr result (IsRefusedFor (reading self.old.held.setup t self.old.root (spelled self.old.current))) }
@@ -88,10 +103,10 @@ impl Stack {
         ensures at { self.new.at ≡ staying self.old.at (components relative.now) }
         ensures is_dir { self.new.is_dir ≡ self.old.is_dir }
         ensures in_step { (t : Names) → IsInStep t self.old → IsInStep t self.new }
-        ensures counted { self.new.statistics ≡ record self.old.statistics {
-          delegate =
-              count_calls self.old.statistics.delegate (replicate (surplus self.old.at (components relative.now)) pop_directory);
-        } }
+        ensures platforms { self.new.statistics.platforms ≡ self.old.statistics.platforms }
+        ensures attributes { self.new.statistics.attributes ≡ self.old.statistics.attributes }
+        ensures carried { (told : Option Names)
+            → CarriesOut told (replicate (surplus self.old.at (components relative.now)) pop_directory) self.old self.new }
     {
         for _ in 0..self.stack.surplus(relative) {
             self.pop_directory();
@@ -112,11 +127,12 @@ impl Stack {
         ensures is_dir { self.new.is_dir ≡ self.old.is_dir }
         ensures platforms { self.new.statistics.platforms ≡ self.old.statistics.platforms }
         ensures attributes { self.new.statistics.attributes ≡ self.old.statistics.attributes }
-        ensures delegate { self.new.statistics.delegate ≡ count_call self.old.statistics.delegate (push_directory (spelled self.old.current)) }
+        ensures carried { pushed self.old.at ≡ ancestors self.old.current
+            → OnOk result (CarriesOut (W.told worktree.old) (push_directory (spelled self.old.current) ∷ []) self.old self.new) }
+        ensures stopped { IfErr result (Stops (W.told worktree.old) (push_directory (spelled self.old.current) ∷ []) self.old self.new) }
+        ensures mapped { self.old.held.setup.source ≡ IdMapping → (worktree.new ≡ worktree.old) × IfErr result IsForMemory }
         ensures in_step { (t : Names) → W.told worktree.old ≡ Some t → pushed self.old.at ≡ ancestors self.old.current
             → IsInStep t self.old → IsInStep t self.new }
-        ensures ignore { (t : Names) → W.told worktree.old ≡ Some t
-            → OnOk result (self.new.statistics.ignore ≡ count_reading self.old.held.setup.source self.old.held.setup t self.old.root self.old.statistics.ignore (spelled self.old.current)) }
         ensures about { IfErr result (IsOfFile (rules_file self.old.root self.old.held.setup (spelled self.old.current))) }
         ensures refused { (t : Names) → W.told worktree.old ≡ Some t
             → IfErr result (IsRefusedFor (reading self.old.held.setup t self.old.root (spelled self.old.current))) }
@@ -129,10 +145,10 @@ impl Stack {
         ensures precomposes { W.precomposes worktree.new ≡ W.precomposes worktree.old }
     {
         if let Err(refused) = self.push_rules(alloc, worktree) {
-            self.stack.leave();
+            self.leave();
             return Err(refused);
         }
-        self.stack.enter_current();
+        self.enter_current();
         Ok(())
     }
 
@@ -155,6 +171,13 @@ impl Stack {
         self.stack.leave();
     }
 
+    /// Pushes the current path, whose rules are pushed.
+    fn enter_current(&mut self)
+        ensures { self.new ≡ record self.old { at = Some self.old.current } }
+    {
+        self.stack.enter_current();
+    }
+
     /// Whether the root is pushed.
     fn is_root_pushed(&self) -> bool
         ensures { result ≡ is_some self.now.at }
@@ -171,10 +194,10 @@ impl Stack {
         ensures is_dir { self.new.is_dir ≡ self.old.is_dir }
         ensures platforms { self.new.statistics.platforms ≡ self.old.statistics.platforms }
         ensures attributes { self.new.statistics.attributes ≡ self.old.statistics.attributes }
-        ensures delegate { self.new.statistics.delegate ≡ count_calls self.old.statistics.delegate (root_calls self.old.at) }
+        ensures carried { OnOk result (CarriesOut (W.told worktree.old) (root_calls self.old.at) self.old self.new) }
+        ensures stopped { IfErr result (Stops (W.told worktree.old) (root_calls self.old.at) self.old self.new) }
+        ensures mapped { self.old.held.setup.source ≡ IdMapping → (worktree.new ≡ worktree.old) × IfErr result IsForMemory }
         ensures in_step { (t : Names) → W.told worktree.old ≡ Some t → IsInStep t self.old → IsInStep t self.new }
-        ensures ignore { (t : Names) → W.told worktree.old ≡ Some t
-            → OnOk result (self.new.statistics.ignore ≡ count_readings self.old.held.setup t self.old.root self.old.statistics.ignore (root_calls self.old.at)) }
         ensures about { IfErr result (IsOfFile (rules_file self.old.root self.old.held.setup [])) }
         ensures refused { (t : Names) → W.told worktree.old ≡ Some t
             → IfErr result (IsRefusedFor (reading self.old.held.setup t self.old.root [])) }
@@ -208,11 +231,10 @@ impl Stack {
         ensures is_dir { self.new.is_dir ≡ self.old.is_dir }
         ensures platforms { self.new.statistics.platforms ≡ self.old.statistics.platforms }
         ensures attributes { self.new.statistics.attributes ≡ self.old.statistics.attributes }
-        ensures delegate { OnOk result (self.new.statistics.delegate ≡ count_calls self.old.statistics.delegate (calls_for (names_at self.old.at) name.now false)) }
-        ensures counted { OnErr result (IsCounted (calls_for (names_at self.old.at) name.now false) self.old.statistics.delegate self.new.statistics.delegate) }
+        ensures carried { OnOk result (CarriesOut (W.told worktree.old) (calls_for (names_at self.old.at) name.now false) self.old self.new) }
+        ensures stopped { IfErr result (Stops (W.told worktree.old) (calls_for (names_at self.old.at) name.now false) self.old self.new) }
+        ensures mapped { self.old.held.setup.source ≡ IdMapping → (worktree.new ≡ worktree.old) × IfErr result IsForMemory }
         ensures in_step { (t : Names) → W.told worktree.old ≡ Some t → IsInStep t self.old → IsInStep t self.new }
-        ensures ignore { (t : Names) → W.told worktree.old ≡ Some t
-            → OnOk result (self.new.statistics.ignore ≡ count_readings self.old.held.setup t self.old.root self.old.statistics.ignore (calls_for (names_at self.old.at) name.now false)) }
         ensures about { IfErr result (IsOfFile (rules_file self.old.root self.old.held.setup (spelled (names_at self.old.at ++ name.now ∷ [])))) }
         ensures refused { (t : Names) → W.told worktree.old ≡ Some t
             → IfErr result (IsRefusedFor (reading self.old.held.setup t self.old.root (spelled (names_at self.old.at ++ name.now ∷ [])))) }
@@ -244,11 +266,10 @@ impl Stack {
         ensures is_dir { self.new.is_dir ≡ self.old.is_dir }
         ensures platforms { self.new.statistics.platforms ≡ self.old.statistics.platforms }
         ensures attributes { self.new.statistics.attributes ≡ self.old.statistics.attributes }
-        ensures delegate { OnOk result (self.new.statistics.delegate ≡ count_calls self.old.statistics.delegate (calls_below (names_at self.old.at) (components left.now))) }
-        ensures counted { OnErr result (IsCounted (calls_below (names_at self.old.at) (components left.now)) self.old.statistics.delegate self.new.statistics.delegate) }
+        ensures carried { OnOk result (CarriesOut (W.told worktree.old) (calls_below (names_at self.old.at) (components left.now)) self.old self.new) }
+        ensures stopped { IfErr result (Stops (W.told worktree.old) (calls_below (names_at self.old.at) (components left.now)) self.old self.new) }
+        ensures mapped { self.old.held.setup.source ≡ IdMapping → (worktree.new ≡ worktree.old) × IfErr result IsForMemory }
         ensures in_step { (t : Names) → W.told worktree.old ≡ Some t → IsInStep t self.old → IsInStep t self.new }
-        ensures ignore { (t : Names) → W.told worktree.old ≡ Some t
-            → OnOk result (self.new.statistics.ignore ≡ count_readings self.old.held.setup t self.old.root self.old.statistics.ignore (calls_below (names_at self.old.at) (components left.now))) }
         ensures about { IfErr result (IsOnWayTo self.old.root self.old.held.setup (names_at self.old.at ++ components left.now)) }
         ensures refused { (t : Names) → W.told worktree.old ≡ Some t
             → IfErr result (Refuses t self.old.root self.old.held.setup (names_at self.old.at ++ components left.now)) }
@@ -286,11 +307,10 @@ impl Stack {
         ensures is_dir { self.new.is_dir ≡ self.old.is_dir }
         ensures platforms { self.new.statistics.platforms ≡ self.old.statistics.platforms }
         ensures attributes { self.new.statistics.attributes ≡ self.old.statistics.attributes }
-        ensures delegate { OnOk result (self.new.statistics.delegate ≡ count_calls self.old.statistics.delegate (lookup_calls self.old.at (components relative.now))) }
-        ensures counted { OnErr result (IsCounted (lookup_calls self.old.at (components relative.now)) self.old.statistics.delegate self.new.statistics.delegate) }
+        ensures carried { OnOk result (CarriesOut (W.told worktree.old) (lookup_calls self.old.at (components relative.now)) self.old self.new) }
+        ensures stopped { IfErr result (Stops (W.told worktree.old) (lookup_calls self.old.at (components relative.now)) self.old self.new) }
+        ensures mapped { self.old.held.setup.source ≡ IdMapping → (worktree.new ≡ worktree.old) × IfErr result IsForMemory }
         ensures in_step { (t : Names) → W.told worktree.old ≡ Some t → IsInStep t self.old → IsInStep t self.new }
-        ensures ignore { (t : Names) → W.told worktree.old ≡ Some t
-            → OnOk result (self.new.statistics.ignore ≡ count_readings self.old.held.setup t self.old.root self.old.statistics.ignore (lookup_calls self.old.at (components relative.now))) }
         ensures about { IfErr result (IsOnWayTo self.old.root self.old.held.setup (components relative.now)) }
         ensures refused { (t : Names) → W.told worktree.old ≡ Some t
             → IfErr result (Refuses t self.old.root self.old.held.setup (components relative.now)) }

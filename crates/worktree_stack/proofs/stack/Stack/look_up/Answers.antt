@@ -1,13 +1,15 @@
-use Rattle.std.proofs.Common.{◌≡◌, ◌∙◌, ◌++◌, ℕ, List, OnOk, OnErr, IfErr, refl, ap, subst, length, arith}
+use Rattle.std.proofs.Common.{◌≡◌, ◌∙◌, ◌++◌, [], ℕ, List, replicate, OnOk, OnErr, IfErr, sym, ap, subst, length, arith}
+use Rattle.std.proofs.lemmas.List.{append-nil}
+use Rattle.std.proofs.lemmas.Result.{IfErr-weaker}
+use Rattle.worktree_fs.proofs.Lookups.{on_ok}
 use Rattle.gitbase_core.specs.Path.{components}
-use Rattle.worktree_fs.specs.PathStack.{names_at, calls_below}
-use Rattle.worktree_stack.specs.declared.statistics.Statistics.{Statistics}
-use Rattle.worktree_stack.specs.Counted.{count_calls, count_readings}
+use Rattle.worktree_fs.specs.PathStack.{Call, names_at, calls_below, root_calls, surplus, pop_directory}
 use Rattle.worktree_stack.specs.Stacked.{Made, made_of}
 use Rattle.worktree_stack.specs.Lookups.{IsLookedUp, IsOnWay}
 use Rattle.worktree_stack.specs.Refused.{IsOnWayTo, Refuses}
-use Rattle.worktree_stack.proofs.Stepping.{on_ok_said}
-use Rattle.worktree_stack.proofs.Looking.{whole, ends, stay_names, all_counted, some_counted, all_readings, root-length, length-pushed, on_err_so}
+use Rattle.worktree_stack.specs.Steps.{CarriesOut, Stops}
+use Rattle.worktree_stack.proofs.Carrying.{carries-as, carries-then, stops-after}
+use Rattle.worktree_stack.proofs.Looking.{whole, ends, stay_names, calls_are, root-length, length-pushed}
 use Rattle.worktree_stack.proofs.stack.Stack.look_up.Goals as goal
 
 pub push_rest-requires-clause-end : goal.push_rest-requires-clause-end
@@ -29,36 +31,37 @@ returns-clause-on_way g c =
     (record { rooted = c.in_ok-push_root.ensures.at; popped = c.pop_surplus.ensures.at; left_is = c.rest-left.ensures }))
     c.push_rest.ensures.on_way
 
-pub returns-clause-delegate : goal.returns-clause-delegate
-returns-clause-delegate g c =
-    on_ok_said c.push_rest.result _ _ _
-    (all_counted c.args.self.now.at c.push_root.new.self.at c.pop_surplus.new.self.at (components c.args.relative.now) (components c.rest-left.result.now)
-    (record { rooted = c.in_ok-push_root.ensures.at; popped = c.pop_surplus.ensures.at; left_is = c.rest-left.ensures })
-    c.args.self.now.statistics.delegate c.push_root.new.self.statistics.delegate c.pop_surplus.new.self.statistics.delegate
-    (count_calls c.pop_surplus.new.self.statistics.delegate (calls_below (names_at c.pop_surplus.new.self.at) (components c.rest-left.result.now)))
-    c.push_root.ensures.delegate (ap (λ (s : Statistics). s.delegate) c.pop_surplus.ensures.counted) refl)
-    c.push_rest.ensures.delegate
 
-pub returns-clause-counted : goal.returns-clause-counted
-returns-clause-counted g c =
-    on_err_so
-    (some_counted c.args.self.now.at c.push_root.new.self.at c.pop_surplus.new.self.at (components c.args.relative.now) (components c.rest-left.result.now)
-    (record { rooted = c.in_ok-push_root.ensures.at; popped = c.pop_surplus.ensures.at; left_is = c.rest-left.ensures })
-    c.args.self.now.statistics.delegate c.push_root.new.self.statistics.delegate c.pop_surplus.new.self.statistics.delegate c.push_rest.new.self.statistics.delegate
-    c.push_root.ensures.delegate (ap (λ (s : Statistics). s.delegate) c.pop_surplus.ensures.counted))
-    c.push_rest.result c.push_rest.ensures.counted
 
-pub returns-clause-ignore : goal.returns-clause-ignore
-returns-clause-ignore g c t told =
-    let made : made_of c.pop_surplus.new.self ≡ made_of c.args.self.now = c.pop_surplus.ensures.made ∙ c.push_root.ensures.made in
-    let left : List (List ℕ) = components c.rest-left.result.now in
-    on_ok_said c.push_rest.result _ _ _
-    (ap (λ (m : Made). count_readings m.setup t m.root c.pop_surplus.new.self.statistics.ignore (calls_below (names_at c.pop_surplus.new.self.at) left)) made
-    ∙ all_readings c.args.self.now.at c.push_root.new.self.at c.pop_surplus.new.self.at (components c.args.relative.now) left
+
+pub returns-clause-carried : goal.returns-clause-carried
+returns-clause-carried g c =
+    let told = g.W.Worktree.told c.args.worktree.now in
+    on_ok c.push_rest.result
+    (λ carries.
+    carries-as told _ _ c.args.self.now c.push_rest.new.self
+    (calls_are c.args.self.now.at c.push_root.new.self.at c.pop_surplus.new.self.at (components c.args.relative.now) (components c.rest-left.result.now)
+    (record { rooted = c.in_ok-push_root.ensures.at; popped = c.pop_surplus.ensures.at; left_is = c.rest-left.ensures }))
+    (carries-then told _ _ c.args.self.now c.pop_surplus.new.self c.push_rest.new.self
+    (carries-then told _ _ c.args.self.now c.push_root.new.self c.pop_surplus.new.self c.in_ok-push_root.ensures.carried (c.pop_surplus.ensures.carried told))
+    (subst (λ t. CarriesOut t (calls_below (names_at c.pop_surplus.new.self.at) (components c.rest-left.result.now)) c.pop_surplus.new.self c.push_rest.new.self) c.push_root.ensures.tree carries)))
+    c.push_rest.ensures.carried
+
+pub returns-clause-stopped : goal.returns-clause-stopped
+returns-clause-stopped g c =
+    let told = g.W.Worktree.told c.args.worktree.now in
+    let below : List Call = calls_below (names_at c.pop_surplus.new.self.at) (components c.rest-left.result.now) in
+    let before : List Call = root_calls c.args.self.now.at ++ replicate (surplus c.push_root.new.self.at (components c.args.relative.now)) pop_directory in
+    IfErr-weaker c.push_rest.result _ _
+    (λ e stops.
+    stops-after told _ before below [] c.args.self.now c.pop_surplus.new.self c.push_rest.new.self
+    (calls_are c.args.self.now.at c.push_root.new.self.at c.pop_surplus.new.self.at (components c.args.relative.now) (components c.rest-left.result.now)
     (record { rooted = c.in_ok-push_root.ensures.at; popped = c.pop_surplus.ensures.at; left_is = c.rest-left.ensures })
-    c.args.self.now.held.setup t c.args.self.now.root c.args.self.now.statistics.ignore c.push_root.new.self.statistics.ignore c.pop_surplus.new.self.statistics.ignore _
-    (c.in_ok-push_root.ensures.ignore t told) (ap (λ (s : Statistics). s.ignore) c.pop_surplus.ensures.counted) refl)
-    (c.push_rest.ensures.ignore t (c.push_root.ensures.tree ∙ told))
+    ∙ ap (λ l. before ++ l) (sym (append-nil below)))
+    (carries-then told _ _ c.args.self.now c.push_root.new.self c.pop_surplus.new.self c.in_ok-push_root.ensures.carried (c.pop_surplus.ensures.carried told))
+    (c.pop_surplus.ensures.is_dir ∙ c.push_root.ensures.is_dir) e
+    (subst (λ t. Stops t below c.pop_surplus.new.self c.push_rest.new.self e) c.push_root.ensures.tree stops))
+    c.push_rest.ensures.stopped
 
 pub returns-clause-about : goal.returns-clause-about
 returns-clause-about g c =

@@ -1,10 +1,11 @@
-use Rattle.std.proofs.Common.{◌≡◌, ◌+◌, ◌<◌, ◌∙◌, replicate, ap, arith, rules}
+use Rattle.std.proofs.Common.{◌≡◌, ◌+◌, ◌<◌, ◌∙◌, replicate, suc, sym, ap, arith, rules}
 use Rattle.gitbase_core.specs.Path.{components}
 use Rattle.worktree_fs.specs.PathStack.{surplus, pop_directory}
-use Rattle.worktree_stack.specs.declared.statistics.Statistics.{Statistics}
-use Rattle.worktree_stack.specs.Counted.{count_calls}
+use Rattle.worktree_stack.specs.Stacked.{Stacked}
 use Rattle.worktree_stack.specs.Lookups.{staying}
-use Rattle.worktree_stack.proofs.Surplus.{staying-up, surplus-up, staying-all, counted-up}
+use Rattle.worktree_stack.proofs.Surplus.{staying-up, surplus-up, staying-all}
+use Rattle.worktree_stack.proofs.Carrying.{carries-then, carries-as}
+use Rattle.worktree_stack.proofs.Stepping.{replicate-more}
 use Rattle.worktree_stack.proofs.stack.Stack.pop_surplus.Goals as goal
 
 pub loop-preserved : goal.loop-preserved
@@ -19,12 +20,20 @@ loop-preserved c =
       stays = ap (λ d. staying d parts) c.pop_directory.ensures.at ∙ staying-up at parts some ∙ c.loop.invariant.stays;
       left = omega (arith, up, c.loop.invariant.left);
       in_step = λ t in_step. c.pop_directory.ensures.in_step t (c.loop.invariant.in_step t in_step);
-      counted = ap (λ (s : Statistics). count_calls s.delegate (replicate (surplus c.pop_directory.new.self.at parts) pop_directory)) c.pop_directory.ensures.counted
-          ∙ counted-up c.loop.self.statistics.delegate (surplus at parts) (surplus c.pop_directory.new.self.at parts) up
-          ∙ c.loop.invariant.counted;
-      others = search rules;
+      platforms = c.pop_directory.ensures.platforms ∙ c.loop.invariant.platforms;
+      attributes = c.pop_directory.ensures.attributes ∙ c.loop.invariant.attributes;
+      carried = λ told.
+          carries-as told _ _ c.args.self.now c.pop_directory.new.self (sym (replicate-more c.loop.counter pop_directory))
+          (carries-then told _ _ c.args.self.now c.loop.self c.pop_directory.new.self (c.loop.invariant.carried told) (c.pop_directory.ensures.carried told));
     }
 
 pub returns-clause-at : goal.returns-clause-at
 returns-clause-at c =
     staying-all c.loop.self.at (components c.args.relative.now) (omega (arith, c.loop.invariant.left, c.loop-test.false, c.loop.auto.counter-end)) ∙ c.loop.invariant.stays
+
+pub returns-clause-carried : goal.returns-clause-carried
+returns-clause-carried c told =
+    let parts = components c.args.relative.now in
+    let all : surplus c.args.self.now.at parts ≡ c.loop.counter =
+    omega (arith, c.loop-test.false, c.loop.auto.counter-end, c.surplus-end.ensures, ap (λ (s : Stacked). surplus s.at parts) c.self.view_is) in
+    carries-as told _ _ c.args.self.now c.loop.self (ap (λ n. replicate n pop_directory) all) (c.loop.invariant.carried told)

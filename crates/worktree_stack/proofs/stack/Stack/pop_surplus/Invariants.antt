@@ -1,9 +1,9 @@
-use Rattle.std.proofs.Common.{◌≡◌, ◌+◌, replicate}
+use Rattle.std.proofs.Common.{◌≡◌, ◌+◌, replicate, Option}
 use Rattle.gitbase_core.specs.Path.{components}
 use Rattle.worktree_fs.specs.PathStack.{surplus, pop_directory}
 use Rattle.worktree_fs.specs.Tree.{Names}
 use Rattle.worktree_stack.specs.Stacked.{IsInStep, made_of}
-use Rattle.worktree_stack.specs.Counted.{count_calls}
+use Rattle.worktree_stack.specs.Steps.{CarriesOut}
 use Rattle.worktree_stack.specs.Lookups.{staying}
 use Rattle.worktree_stack.proofs.stack.Stack.pop_surplus.Given as goal
 
@@ -16,7 +16,7 @@ invariant-loop l =
       stays : staying l.self.at parts ≡ staying l.fn.self.at parts;
       left : surplus l.self.at parts + l.counter ≡ l.end;
       in_step : (t : Names) → IsInStep t l.fn.self → IsInStep t l.self;
-      counted : count_calls l.self.statistics.delegate (replicate (surplus l.self.at parts) pop_directory)
-          ≡ count_calls l.fn.self.statistics.delegate (replicate (surplus l.fn.self.at parts) pop_directory);
-      others : l.self.statistics ≡ record l.fn.self.statistics { delegate = l.self.statistics.delegate };
+      platforms : l.self.statistics.platforms ≡ l.fn.self.statistics.platforms;
+      attributes : l.self.statistics.attributes ≡ l.fn.self.statistics.attributes;
+      carried : (told : Option Names) → CarriesOut told (replicate l.counter pop_directory) l.fn.self l.self;
     }
