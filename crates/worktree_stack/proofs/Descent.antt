@@ -4,15 +4,12 @@ use Rattle.std.proofs.Common.{refl, sym, ap, ◌∙◌, subst, append_assoc}
 use Rattle.std.proofs.lemmas.List.{append-nil}
 use Rattle.worktree_fs.specs.Tree.{Names}
 use Rattle.worktree_fs.specs.Paths.{spelled, is_nil, without_last}
-use Rattle.worktree_fs.specs.PathStack.{Call, push, push_directory, pop_directory, names_at, calls_for, calls_below}
+use Rattle.worktree_fs.specs.PathStack.{Call, names_at, calls_for, calls_below}
 use Rattle.worktree_fs.proofs.Spelled.{without_last-snoc}
 use Rattle.worktree_stack.specs.declared.error.AtPathError.{AtPathError}
 use Rattle.worktree_stack.specs.declared.error.AtPathError.TheVariants as errors
 use Rattle.worktree_stack.specs.declared.error.RulesWhy.TheVariants as whys
-use Rattle.worktree_stack.specs.declared.statistics.DelegateStatistics.{DelegateStatistics}
-use Rattle.worktree_stack.specs.declared.statistics.RulesStatistics.{RulesStatistics}
 use Rattle.worktree_stack.specs.Setup.{Setup}
-use Rattle.worktree_stack.specs.Counted.{count_call, count_calls, count_reading, count_readings}
 use Rattle.worktree_stack.specs.Reading.{reading, rules_file}
 use Rattle.worktree_stack.specs.Stacked.{Stacked}
 use Rattle.worktree_stack.specs.Lookups.{stepped, IsLookedUp, IsOnWay}

@@ -1,11 +1,9 @@
 -- What a step of a lookup tells of the stack before it.
-use Rattle.std.specs.Prelude.{◌≡◌, ℕ, zero, suc, ◌+◌, Bool, false, List, [], ◌∷◌, ◌++◌, replicate, Option, Some, None, is_some, Result, Ok, Err, OnOk, OnErr}
+use Rattle.std.specs.Prelude.{◌≡◌, ℕ, zero, suc, ◌+◌, Bool, false, List, [], ◌∷◌, ◌++◌, replicate, Option, Some, Result, Ok, Err, OnOk, OnErr}
 use Rattle.std.proofs.Common.{refl, sym, ap, ◌∙◌, subst, arith}
-use Rattle.std.proofs.lemmas.List.{append-nil}
 use Rattle.worktree_fs.specs.Tree.{Names}
 use Rattle.worktree_fs.specs.Paths.{spelled}
 use Rattle.worktree_fs.specs.PathStack.{push, push_directory, pop_directory, one_up, names_at, directories, calls_for}
-use Rattle.worktree_stack.specs.declared.statistics.DelegateStatistics.{DelegateStatistics}
 use Rattle.worktree_stack.specs.declared.statistics.RulesStatistics.{RulesStatistics}
 use Rattle.worktree_stack.specs.declared.statistics.Statistics.{Statistics}
 use Rattle.worktree_stack.specs.Counted.{count_call}
@@ -92,6 +90,7 @@ replicate-more n x = go n ∙ ap (λ k. replicate k x) more
   where
     more : suc n ≡ n + 1
     more = omega arith
+
     go : (n : ℕ) → replicate n x ++ x ∷ [] ≡ replicate (suc n) x
     go zero = refl
     go (suc n) = ap (λ l. x ∷ l) (go n)

@@ -4,9 +4,8 @@ use Rattle.gitbase_core.specs.declared.entry.Mode.{Mode}
 use Rattle.gitbase_core.specs.Entry.{mode_bits, commit_mode, dir_mode}
 use Rattle.gitbase_core.specs.Path.{ends_in_slash}
 use Rattle.worktree_fs.specs.Paths.{spelled, without_last}
-use Rattle.worktree_fs.specs.PathStack.{Call, push, kept, names_at}
-use Rattle.worktree_stack.specs.declared.statistics.DelegateStatistics.{DelegateStatistics}
-use Rattle.worktree_stack.specs.Counted.{count_call, count_calls}
+use Rattle.worktree_fs.specs.PathStack.{push, kept, names_at}
+use Rattle.worktree_stack.specs.Counted.{count_call}
 use Rattle.glob_rules.specs.declared.ignore.Kind.{Kind}
 use Rattle.gitbase_core.specs.Path.{components}
 use Rattle.worktree_fs.specs.Tree.{Names}

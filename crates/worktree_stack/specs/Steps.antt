@@ -2,7 +2,7 @@
 --
 -- A lookup pushes the root where it is not pushed, pops the directories that are not above its path, and pushes those that
 -- are. Each of these calls is counted, and each push of a directory tries its rules file.
-use Rattle.std.specs.Prelude.{◌≡◌, ◌⊎◌, ◌≤◌, ℕ, true, List, [], ◌∷◌, ◌++◌, map, Option, Some, None, Result, Ok, Err}
+use Rattle.std.specs.Prelude.{◌≡◌, ◌⊎◌, ◌≤◌, ℕ, true, List, [], ◌∷◌, ◌++◌, map, Option, Some, None, Result, Err}
 use Rattle.glob_rules.specs.Ignore.{Rules}
 use Rattle.worktree_fs.specs.Tree.{Names, look}
 use Rattle.worktree_fs.specs.PathStack.{Call, push_directory, granted, left_by, directories, names_at}

@@ -1,6 +1,6 @@
 //! The rules that exclude paths: those of a caller, and those of the directories on the way to a path.
 ghost use Rattle.std.specs.Prelude.{◌≡◌, ◌≤◌, ◌+◌, ◌-◌, ◌++◌, [], ◌∷◌, true, Some, IfOk, IfErr, OnOk, OnErr, option_map, reverse, length, take};
-ghost use Rattle.glob_rules.specs.Ignore.{match_of, hit_or};
+ghost use Rattle.glob_rules.specs.Ignore.{match_of, hit_or, search_hit};
 ghost use Rattle.worktree_stack.specs.Setup.{Held, file_name_or_default, own_hit, first_rule, directory_hit, deciding_hit};
 
 use crate::ignore_source::Source;
@@ -137,34 +137,52 @@ impl Ignore {
     ) -> Option<Match<'_>>
         ensures { option_map match_of result ≡ own_hit self.now path.now is_dir case }
     {
-        if let Some(found) = self
-            .overrides
-            .pattern_matching_relative_path(path, is_dir, case)
-        {
+        if let Some(found) = self.match_in_overrides(path, is_dir, case) {
             return Some(found);
         }
-        if let Some(found) = self
-            .stack
-            .pattern_matching_relative_path(path, is_dir, case)
-        {
+        if let Some(found) = self.match_in_directories(path, is_dir, case) {
             return Some(found);
         }
-        self.globals
-            .pattern_matching_relative_path(path, is_dir, case)
+        self.match_in_globals(path, is_dir, case)
     }
 
     /// The rule that holds for the empty path by itself, beneath no directory.
     fn match_of_root(&self, is_dir: Option<bool>, case: Case) -> Option<Match<'_>>
         ensures { option_map match_of result ≡ deciding_hit self.now [] is_dir case }
     {
-        if let Some(found) = self
-            .overrides
-            .pattern_matching_relative_path(&[], is_dir, case)
-        {
-            return Some(found);
+        match self.match_in_overrides(&[], is_dir, case) {
+            Some(found) => Some(found),
+            None => self.match_in_globals(&[], is_dir, case),
         }
+    }
+
+    /// The last rule of the overrides that matches a path.
+    fn match_in_overrides(&self, path: &[u8], is_dir: Option<bool>, case: Case) -> Option<Match<'_>>
+        ensures { option_map match_of result ≡ search_hit self.now.setup.overrides path.now is_dir case }
+    {
+        self.overrides
+            .pattern_matching_relative_path(path, is_dir, case)
+    }
+
+    /// The last rule of the nearest pushed directory that has one which matches a path.
+    fn match_in_directories(
+        &self,
+        path: &[u8],
+        is_dir: Option<bool>,
+        case: Case,
+    ) -> Option<Match<'_>>
+        ensures { option_map match_of result ≡ search_hit self.now.lists path.now is_dir case }
+    {
+        self.stack
+            .pattern_matching_relative_path(path, is_dir, case)
+    }
+
+    /// The last rule of the globals that matches a path.
+    fn match_in_globals(&self, path: &[u8], is_dir: Option<bool>, case: Case) -> Option<Match<'_>>
+        ensures { option_map match_of result ≡ search_hit self.now.setup.globals path.now is_dir case }
+    {
         self.globals
-            .pattern_matching_relative_path(&[], is_dir, case)
+            .pattern_matching_relative_path(path, is_dir, case)
     }
 
     /// The own match of the nearest pushed directory that has one.

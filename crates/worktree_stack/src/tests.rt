@@ -8,10 +8,11 @@ use std::alloc::Global;
 use std::test::Fail;
 use worktree_fs::{CallKind, MemoryWorktree, NewNode};
 
-/// A search over one list of rules that is for all paths.
-fn search_of(alloc: Global, rules: &[u8]) -> Result<Search, OutOfMemory> {
+/// A search over one list of rules that is for all paths, and was read in this file.
+fn search_of(alloc: Global, rules: &[u8], file: &[u8]) -> Result<Search, OutOfMemory> {
     let mut search = Search::new(alloc);
-    let list = List::from_bytes(alloc, rules, None, PathText::new(alloc), parse())?;
+    let source = Some(PathText::from_bytes(alloc, file)?);
+    let list = List::from_bytes(alloc, rules, source, PathText::new(alloc), parse())?;
     search.push_list(alloc, list)?;
     Ok(search)
 }
@@ -29,8 +30,8 @@ fn stack_of(
     globals: &[u8],
     source: Source,
 ) -> Result<Stack, OutOfMemory> {
-    let overrides = search_of(alloc, overrides)?;
-    let globals = search_of(alloc, globals)?;
+    let overrides = search_of(alloc, overrides, b"/overrides")?;
+    let globals = search_of(alloc, globals, b"/globals")?;
     let ignore = Ignore::new(alloc, overrides, globals, None, source, parse())?;
     let root = PathText::from_bytes(alloc, b"/w")?;
     Ok(Stack::new(
@@ -74,6 +75,14 @@ fn decision_at(
     }
 }
 
+/// Whether the rule that decides about the path looked up last was read in this file, and is negative or not.
+fn is_from(stack: &Stack, file: &[u8], is_negative: bool) -> bool {
+    match stack.platform().matching_exclude_pattern() {
+        Some(found) => found.source == Some(file) && found.pattern.is_negative() == is_negative,
+        None => false,
+    }
+}
+
 #[test]
 fn an_excluded_directory_of_the_globals(rt: HostRuntime) -> Result<(), Fail> {
     let alloc = rt.alloc();
@@ -84,6 +93,7 @@ fn an_excluded_directory_of_the_globals(rt: HostRuntime) -> Result<(), Fail> {
     assert_eq!(rt; text.as_bytes(), b"a".as_slice());
     assert_eq!(rt; line, 1);
     assert!(rt; stack.platform().is_excluded());
+    assert!(rt; is_from(&stack, b"/globals", false));
     assert_eq!(rt; stack.platform().path(), b"/w/a/f".as_slice());
     Ok(())
 }
@@ -101,6 +111,7 @@ fn a_negative_match_of_the_nearest_directory(rt: HostRuntime) -> Result<(), Fail
     assert_eq!(rt; kind, None);
     assert_eq!(rt; text.as_bytes(), b"sub".as_slice());
     assert_eq!(rt; line, 1);
+    assert!(rt; is_from(&stack, b"/w/build/.gitignore", true));
     Ok(())
 }
 
@@ -126,6 +137,44 @@ fn a_path_that_is_not_normal_is_counted(rt: HostRuntime) -> Result<(), Fail> {
     assert!(rt; matches!(&answer, Err(AtPathError::NotNormal)));
     assert_eq!(rt; stack.statistics().platforms, 1);
     assert_eq!(rt; stack.statistics().delegate.push_directory, 0);
+    Ok(())
+}
+
+#[test]
+fn a_path_that_is_not_normal_leaves_what_is_pushed(rt: HostRuntime) -> Result<(), Fail> {
+    let alloc = rt.alloc();
+    let mut tree = tree_of(alloc, &[(b"/w/a/b/.gitignore", b"*\n")])?;
+    let mut stack = stack_of(alloc, b"", b"", Source::default())?;
+    decision_at(alloc, &mut stack, &mut tree, b"a/b/c")?;
+    decision_at(alloc, &mut stack, &mut tree, b"a/b")?;
+    let mut objects = MemoryStore::new(alloc);
+    let answer = stack.at_path(alloc, b"../x", None, &mut tree, &mut objects);
+    assert!(rt; matches!(&answer, Err(AtPathError::NotNormal)));
+    let pushed = stack.take_statistics();
+    assert_eq!(rt; pushed.delegate.push_directory, 3);
+    assert_eq!(rt; pushed.delegate.pop_directory, 1);
+    decision_at(alloc, &mut stack, &mut tree, b"a/z")?;
+    assert_eq!(rt; stack.statistics().delegate.push_directory, 0);
+    assert_eq!(rt; stack.statistics().delegate.pop_directory, 0);
+    Ok(())
+}
+
+/// A lookup that was refused leaves the directories up to the refused one, which are not read again.
+#[test]
+fn what_a_refusal_leaves_is_not_read_again(rt: HostRuntime) -> Result<(), Fail> {
+    let alloc = rt.alloc();
+    let mut tree = tree_of(alloc, &[])?;
+    tree.add(alloc, b"/w/a/b/.gitignore", NewNode::Other)?;
+    let mut objects = MemoryStore::new(alloc);
+    let mut stack = stack_of(alloc, b"", b"", Source::default())?;
+    let answer = stack.at_path(alloc, b"a/b/c/d", None, &mut tree, &mut objects);
+    assert!(rt; is_refused(&answer, b"/w/a/b/.gitignore", RulesWhy::Special));
+    let counts = stack.take_statistics();
+    assert_eq!(rt; counts.delegate.push_element, 2);
+    assert_eq!(rt; counts.delegate.push_directory, 3);
+    assert_eq!(rt; counts.ignore.tried_pattern_files, 2);
+    stack.at_path(alloc, b"a/f", None, &mut tree, &mut objects)?;
+    assert_eq!(rt; stack.statistics().ignore.tried_pattern_files, 0);
     Ok(())
 }
 

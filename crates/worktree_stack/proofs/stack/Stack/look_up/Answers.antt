@@ -31,9 +31,6 @@ returns-clause-on_way g c =
     (record { rooted = c.in_ok-push_root.ensures.at; popped = c.pop_surplus.ensures.at; left_is = c.rest-left.ensures }))
     c.push_rest.ensures.on_way
 
-
-
-
 pub returns-clause-carried : goal.returns-clause-carried
 returns-clause-carried g c =
     let told = g.W.Worktree.told c.args.worktree.now in

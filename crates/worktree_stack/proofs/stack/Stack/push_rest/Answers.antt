@@ -87,14 +87,11 @@ returns-then-next-clause-looked_up g c =
     at_last _ c.loop-next.self c.push.new.self (components c.loop-next.rest.now) (components c.in-Some.next.rest.now) c.in-Some.next.name.now
     c.loop-next.invariant.below c.in-Some.ensures.0 (sym c.in-Some.ensures.2 ∙ c.if-next.true) c.in_ok-push.ensures.made
 
-
-
 pub returns-in_err-descend-clause-on_way : goal.returns-in_err-descend-clause-on_way
 returns-in_err-descend-clause-on_way g c =
     on_err c.from_residual-in_err-descend.result
     (on_way_same _ c.loop-next.self.at c.descend.new.self.at c.in_err-descend.ensures.at_refused
     (on_way _ c.loop-next.self.at (components c.loop-next.rest.now) (components c.in-Some.next.rest.now) c.in-Some.next.name.now c.loop-next.invariant.below c.in-Some.ensures.0))
-
 
 pub returns-in_err-descend-clause-about : goal.returns-in_err-descend-clause-about
 returns-in_err-descend-clause-about g c =
