@@ -164,6 +164,7 @@ impl PathStack {
     }
 
     /// Pushes a path one component below the deepest directory, and makes it current.
+    #[tactic(auto, using(crate::proofs::Calls::refused_one))]
     fn push_child<D: PathDelegate>(
         &mut self,
         alloc: Global,
