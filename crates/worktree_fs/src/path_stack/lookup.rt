@@ -21,6 +21,8 @@ impl PathStack {
     /// nothing. `Delegate` comes only where the delegate refused a call, with its error, and ends the calls. After it,
     /// and after `OutOfMemory`, the directories are pushed that the calls until then leave, and the deepest of them is
     /// the current path.
+    ///
+    /// However the lookup ends, the delegate's own rule ties what it holds then to what it held before.
     pub fn make_relative_path_current<D: PathDelegate>(
         &mut self,
         alloc: Global,
@@ -39,6 +41,7 @@ impl PathStack {
         ensures counted { IfErr result (OfDelegate (λ _. Rose (D.refusals delegate.old) (D.refusals delegate.new))) }
         ensures cause { IfErr result (OfDelegate (D.causes delegate.new)) }
         ensures later { D.refusals delegate.old ≤ D.refusals delegate.new }
+        ensures ruled { (first : D) → D.rule first delegate.old → D.rule first delegate.new }
     {
         if !is_normal(relative) {
             return Err(PathStackError::NotNormal);
@@ -64,6 +67,7 @@ impl PathStack {
         ensures counted { IfErr result (OfDelegate (λ _. Rose (D.refusals delegate.old) (D.refusals delegate.new))) }
         ensures cause { IfErr result (OfDelegate (D.causes delegate.new)) }
         ensures later { D.refusals delegate.old ≤ D.refusals delegate.new }
+        ensures ruled { (first : D) → D.rule first delegate.old → D.rule first delegate.new }
         ensures normal { is_not_normal result ≡ false }
     {
         self.leave();
@@ -85,6 +89,7 @@ impl PathStack {
         ensures given { Granted (D.given delegate.old) (D.given delegate.new) self.old.deepest self.new.deepest
             (replicate (surplus self.old.deepest (components relative.now)) pop_directory) }
         ensures later { D.refusals delegate.old ≤ D.refusals delegate.new }
+        ensures ruled { (first : D) → D.rule first delegate.old → D.rule first delegate.new }
     {
         let surplus = self.surplus(relative);
         for _ in 0..surplus {
@@ -112,6 +117,7 @@ impl PathStack {
         ensures counted { IfErr result (OfDelegate (λ _. Rose (D.refusals delegate.old) (D.refusals delegate.new))) }
         ensures cause { IfErr result (OfDelegate (D.causes delegate.new)) }
         ensures later { D.refusals delegate.old ≤ D.refusals delegate.new }
+        ensures ruled { (first : D) → D.rule first delegate.old → D.rule first delegate.new }
         ensures normal { is_not_normal result ≡ false }
     {
         let mut rest = left;
@@ -145,6 +151,7 @@ impl PathStack {
         ensures counted { IfErr result (OfDelegate (λ _. Rose (D.refusals delegate.old) (D.refusals delegate.new))) }
         ensures cause { IfErr result (OfDelegate (D.causes delegate.new)) }
         ensures later { D.refusals delegate.old ≤ D.refusals delegate.new }
+        ensures ruled { (first : D) → D.rule first delegate.old → D.rule first delegate.new }
         ensures normal { is_not_normal result ≡ false }
     {
         self.push_child(alloc, name, false, delegate)?;
@@ -157,6 +164,7 @@ impl PathStack {
     }
 
     /// Pushes a path one component below the deepest directory, and makes it current.
+    #[tactic(auto, using(crate::proofs::Calls::refused_one))]
     fn push_child<D: PathDelegate>(
         &mut self,
         alloc: Global,
@@ -174,6 +182,7 @@ impl PathStack {
         ensures counted { IfErr result (OfDelegate (λ _. Rose (D.refusals delegate.old) (D.refusals delegate.new))) }
         ensures cause { IfErr result (OfDelegate (D.causes delegate.new)) }
         ensures later { D.refusals delegate.old ≤ D.refusals delegate.new }
+        ensures ruled { (first : D) → D.rule first delegate.old → D.rule first delegate.new }
         ensures normal { is_not_normal result ≡ false }
     {
         if let Err(_refused) = self.set_current(alloc, name) {

@@ -10,6 +10,7 @@ pub loop-next-init : goal.loop-next-init
 loop-next-init g c = record {
   descended = descended-none c.args.self.now _ (components c.args.left.now) c.requires.deepest c.requires.end;
   later = omega arith;
+  ruled = λ first held. held;
 }
 
 pub returns-in_err-push_child-clause-stopped : goal.returns-in_err-push_child-clause-stopped
@@ -78,6 +79,7 @@ loop-next-preserved g c = record {
       descended-more c.args.self.now c.loop-next.self _ _ _ (components c.args.left.now) (components c.loop-next.rest.now) (components c.in-Some.next.rest.now) c.in-Some.next.name.now
       c.loop-next.invariant.descended c.in-Some.ensures.0 c.descend.new.self (sym c.in-Some.ensures.2 ∙ c.if-next.false) c.in_ok-descend.ensures.state c.in_ok-descend.ensures.given;
   later = omega (arith, c.loop-next.invariant.later, c.descend.ensures.later);
+  ruled = λ first held. c.descend.ensures.ruled first (c.loop-next.invariant.ruled first held);
 }
 
 pub returns-clause-state : goal.returns-clause-state
@@ -93,3 +95,15 @@ returns-clause-root g c = c.loop-next.invariant.descended.root
 
 pub returns-clause-later : goal.returns-clause-later
 returns-clause-later g c = c.loop-next.invariant.later
+
+pub returns-in_err-push_child-clause-ruled : goal.returns-in_err-push_child-clause-ruled
+returns-in_err-push_child-clause-ruled g c first held = c.push_child.ensures.ruled first (c.loop-next.invariant.ruled first held)
+
+pub returns-then-next-clause-ruled : goal.returns-then-next-clause-ruled
+returns-then-next-clause-ruled g c first held = c.push_child.ensures.ruled first (c.loop-next.invariant.ruled first held)
+
+pub returns-in_err-descend-clause-ruled : goal.returns-in_err-descend-clause-ruled
+returns-in_err-descend-clause-ruled g c first held = c.descend.ensures.ruled first (c.loop-next.invariant.ruled first held)
+
+pub returns-clause-ruled : goal.returns-clause-ruled
+returns-clause-ruled g c first held = c.loop-next.invariant.ruled first held
