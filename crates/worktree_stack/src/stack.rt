@@ -199,8 +199,9 @@ impl Stack {
     ///
     /// A path that begins with `/` or has a component `.` or `..` is refused exactly so (`NotNormal`), and nothing changes but the
     /// count of lookups. `RulesFile` comes only for the rules file of a directory above the path, or of the root where the path
-    /// is empty, which leads along too many links, is neither file nor directory, or could not be read. After that the
-    /// directories that are pushed lie on the way to the path.
+    /// is empty, which leads along too many links, is neither file nor directory, or could not be read. The directories above
+    /// that one are pushed then, and the next lookup goes on from there; where memory is refused, those up to some directory
+    /// on the way.
     ///
     /// `objects` are not asked, as long as no rules file is mapped to a blob.
     pub fn at_path<W: Worktree, F: Find>(
