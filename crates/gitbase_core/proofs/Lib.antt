@@ -10,3 +10,4 @@ pub mod Runs
 pub mod RunLists
 pub mod PathSearch
 pub mod Stores
+pub mod Beneath
