@@ -4,7 +4,7 @@ use Rattle.std.proofs.lemmas.List.{append-nil}
 use Rattle.std.specs.Prelude.{◌==◌, if◌then◌else◌}
 use Rattle.std.specs.List.{list_any}
 use Rattle.gitbase_core.specs.Path.{is_slash, is_empty, ends_in_slash, components, joined}
-use Rattle.worktree_fs.specs.Tree.{Node, Names, child, look, found, directory}
+use Rattle.worktree_fs.specs.Tree.{Names, child, look, found, directory}
 use Rattle.worktree_fs.specs.Tree as tree
 use Rattle.worktree_fs.specs.Naming.{IsName}
 use Rattle.worktree_fs.specs.Paths.{is_dots, is_normal}

@@ -15,10 +15,10 @@ use Rattle.dir_classify.specs.declared.error.Error.{Error}
 use Rattle.dir_classify.specs.declared.error.Error.TheVariants as errors
 use Rattle.dir_classify.specs.declared.error.ReadWhy.TheVariants as reads
 use Rattle.dir_classify.specs.Class.{Meanings, enters}
-use Rattle.dir_walk.specs.Walked.{Walked, item, items, entered_at, report_of, directory_of, item_of_other, child_class, child_asks, asking, leaf}
+use Rattle.dir_walk.specs.Walked.{Walked, item, items, entered_at, report_of, directory_of, child_class, child_asks, asking, leaf}
 use Rattle.dir_classify.specs.Entries.{entry_at}
 use Rattle.dir_walk.specs.Report.{depth_of}
-use Rattle.dir_walk.specs.Refused.{is_among, is_to_enter, IsTooDeep, IsBroken, IsSomeAccess, IsNoAccess, IsRefusedLookup, IsNotListed, IsAbout, IsInTree, OpenRefuses, Refuses, DirectoryRefuses, IsPlaced}
+use Rattle.dir_walk.specs.Refused.{is_among, is_to_enter, IsTooDeep, IsBroken, IsSomeAccess, IsNoAccess, IsRefusedLookup, IsAbout, IsInTree, OpenRefuses, Refuses, DirectoryRefuses, IsPlaced}
 use Rattle.dir_classify.specs.Refused as classes
 use Rattle.dir_walk.proofs.Classes.{up_to_date-broken}
 use Rattle.dir_walk.proofs.Counts.{list_any-append, or-right}

@@ -1,8 +1,7 @@
 -- A rules file that is refused, of a directory above a path.
-use Rattle.std.proofs.Common.{◌≡◌, ℕ, List, [], ◌∷◌, ◌++◌, Bool, true, false, not, ◌&&◌, map, Some, Err, refl, sym, ap, ◌∙◌}
+use Rattle.std.proofs.Common.{◌≡◌, ℕ, List, [], ◌∷◌, ◌++◌, Bool, true, false, not, ◌&&◌, map, Some, refl, ap, ◌∙◌}
 use Rattle.std.specs.List.{list_all}
 use Rattle.gitbase_core.specs.Path.{components}
-use Rattle.glob_rules.specs.Ignore.{Rules}
 use Rattle.worktree_fs.specs.Tree.{Names}
 use Rattle.worktree_fs.specs.Paths.{spelled, fronts, without_last}
 use Rattle.worktree_stack.specs.declared.error.RulesWhy.{RulesWhy}

@@ -35,7 +35,7 @@ use Rattle.dir_walk.specs.Report.{depth_of, is_refused, walked, shown, IsWalkabl
 use Rattle.dir_walk.specs.Refused.{is_among, is_to_enter, IsTooDeep, IsBroken, IsUnread, IsNoAccess, Refuses, DirectoryRefuses, WalkRefuses}
 use Rattle.dir_walk.specs.Emits.{Gives, WalkGives, shown_by}
 use Rattle.dir_walk.proofs.Counts.{or-right, count_by-filter, count_all}
-use Rattle.dir_walk.proofs.Refusals.{Within, Refuses-within}
+use Rattle.dir_walk.proofs.Refusals.{Refuses-within}
 use Rattle.dir_walk.proofs.Roots.{RootEntered}
 use Rattle.dir_walk.proofs.Unread.{unread-ancestor}
 

@@ -1,10 +1,10 @@
 -- Overrides tell no names of `.gitmodules`.
-use Rattle.std.proofs.Common.{◌≡◌, ℕ, List, [], ◌∷◌, ◌++◌, Bool, true, false, Option, Some, None, cond, codes, refl, sym, ap, ◌∙◌}
+use Rattle.std.proofs.Common.{◌≡◌, ℕ, List, [], ◌∷◌, ◌++◌, Bool, true, false, Some, None, cond, codes, refl, sym, ap, ◌∙◌}
 use Rattle.git_config_lite.specs.declared.metadata.Source.{Source}
 use Rattle.git_config_lite.specs.declared.metadata.Source.TheVariants.{GitInstallation, System, Git, User, Local, Env, Api, Modules}
 use Rattle.git_config_lite.specs.declared.metadata.Metadata.{Metadata}
 use Rattle.git_config_lite.specs.Sections.{Section, Configuration}
-use Rattle.git_config_lite.specs.Lookups.{sections_named, is_asked_for}
+use Rattle.git_config_lite.specs.Lookups.{is_asked_for}
 use Rattle.git_config_lite.specs.Writers.{appended}
 use Rattle.submodule.specs.Names.{is_modules, submodule_sections, told, with_name, names_after, module_names}
 use Rattle.submodule.specs.Overrides.{override_source, override_meta, override_section, section_for, sections_for, ordered_names, overrides, is_overriding}

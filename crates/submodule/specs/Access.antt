@@ -1,5 +1,5 @@
 -- What is said of a submodule. Every value read is the last one, overrides included.
-use Rattle.std.specs.Prelude.{◌≡◌, ℕ, List, [], ◌∷◌, codes, bytes_eq, Bool, true, false, not, ◌&&◌, Option, Some, None, is_some, option_map, find, Result, Ok, Err, if◌then◌else◌}
+use Rattle.std.specs.Prelude.{◌≡◌, ℕ, List, [], ◌∷◌, codes, bytes_eq, Bool, true, false, not, ◌&&◌, Option, Some, None, is_some, find, Result, Ok, Err, if◌then◌else◌}
 use Rattle.gitbase_core.specs.Path.{is_absolute, normalized}
 use Rattle.git_config_lite.specs.declared.metadata.Source.{Source}
 use Rattle.git_config_lite.specs.Sections.{Section}
@@ -28,7 +28,6 @@ use Rattle.submodule.specs.declared.url.Error.{Error as UrlRefusal}
 use Rattle.submodule.specs.declared.url.Error.TheVariants as url_errors
 use Rattle.submodule.specs.declared.path.Error.{Error as PathError}
 use Rattle.submodule.specs.declared.path.Error.TheVariants as path_errors
-use Rattle.submodule.specs.declared.field.FieldName.{FieldName}
 use Rattle.submodule.specs.declared.field.FieldName.TheVariants as fields
 use Rattle.submodule.specs.declared.field.FieldError.{FieldError}
 use Rattle.submodule.specs.declared.field.FieldError.TheVariants as field_errors

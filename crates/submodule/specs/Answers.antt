@@ -1,14 +1,12 @@
 -- What the calls that answer of a submodule give. Want of memory is always free.
-use Rattle.std.specs.Prelude.{◌≡◌, ℕ, List, Option, Some, None, Result, Ok, Err}
+use Rattle.std.specs.Prelude.{◌≡◌, ℕ, List, Option, Result, Ok, Err}
 use Rattle.std.specs.Borrow.{Bor}
 use Rattle.git_config_lite.specs.Sections.{Configuration}
 use Rattle.submodule.specs.declared.init.Error.{Error as InitError}
 use Rattle.submodule.specs.declared.init.Error.TheVariants as init_errors
-use Rattle.submodule.specs.declared.ignore.Ignore.{Ignore}
 use Rattle.submodule.specs.declared.branch.Branch.{Branch}
 use Rattle.submodule.specs.declared.branch.Error.{Error as BranchError}
 use Rattle.submodule.specs.declared.branch.Error.TheVariants as branch_errors
-use Rattle.submodule.specs.declared.update.Update.{Update}
 use Rattle.submodule.specs.declared.update.Error.{Error as UpdateError}
 use Rattle.submodule.specs.declared.update.Error.TheVariants as update_errors
 use Rattle.submodule.specs.declared.url.Url.{Url}

@@ -3,7 +3,7 @@
 -- `.` is the branch that is checked out in the superproject. Any other text is read as what is fetched: behind one optional
 -- `+`, what stands before the first `:` is the name, and no name is `HEAD`. A name is refused where git's rules for the
 -- names of references refuse it.
-use Rattle.std.specs.Prelude.{ℕ, List, [], ◌∷◌, codes, bytes_eq, Bool, nat_eq, nat_le, ◌==◌, ◌||◌, count_by, Option, Some, None, Result, Ok, Err, if◌then◌else◌}
+use Rattle.std.specs.Prelude.{ℕ, List, [], ◌∷◌, codes, bytes_eq, Bool, nat_eq, nat_le, ◌==◌, ◌||◌, count_by, Option, Some, None, if◌then◌else◌}
 use Rattle.std.specs.List.{list_any, starts_with, ends_with}
 use Rattle.submodule.specs.Texts.{is_empty, before, has_pair}
 use Rattle.submodule.specs.declared.branch.Branch.{Branch}

@@ -1,5 +1,5 @@
 -- What the calls answer that copy what they found. Want of memory is always free.
-use Rattle.std.specs.Prelude.{◌≡◌, ℕ, List, Option, Some, None, Result, Ok, Err}
+use Rattle.std.specs.Prelude.{◌≡◌, Option, Some, None, Result, Ok, Err}
 use Rattle.submodule.specs.declared.branch.Branch.{Branch}
 use Rattle.submodule.specs.declared.branch.RefspecError.{RefspecError}
 use Rattle.submodule.specs.declared.branch.RefspecError.TheVariants as refspec_errors

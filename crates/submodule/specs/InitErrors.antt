@@ -1,5 +1,4 @@
 -- How a configuration that is refused is a `.gitmodules` that is.
-use Rattle.std.specs.Prelude.{ℕ}
 use Rattle.git_config_lite.specs.declared.error.ParseError.{ParseError}
 use Rattle.git_config_lite.specs.declared.error.ParseError.TheVariants as parse_errors
 use Rattle.submodule.specs.declared.init.Error.{Error}

@@ -1,5 +1,5 @@
 -- What `fetchRecurseSubmodules` says: a boolean, or the word `on-demand`.
-use Rattle.std.specs.Prelude.{ℕ, List, codes, bytes_eq, Bool, true, false, Option, Some, None, option_map, Result, Ok, Err, if◌then◌else◌}
+use Rattle.std.specs.Prelude.{ℕ, List, codes, bytes_eq, Bool, true, false, Option, Some, option_map, Result, Ok, Err, if◌then◌else◌}
 use Rattle.std.specs.Borrow.{Bor}
 use Rattle.submodule.specs.declared.fetch_recurse.FetchRecurse.{FetchRecurse}
 use Rattle.submodule.specs.declared.fetch_recurse.FetchRecurse.TheVariants.{OnDemand, Always, Never}

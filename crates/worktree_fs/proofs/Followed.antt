@@ -1,5 +1,5 @@
 -- Where a last link is followed, none is found.
-use Rattle.std.proofs.Common.{◌≡◌, ℕ, zero, suc, List, [], ◌∷◌, ◌++◌, Bool, true, false, cond, Option, Some, None, Result, Ok, Err, IfOk, refl, ap, subst}
+use Rattle.std.proofs.Common.{◌≡◌, ℕ, zero, suc, List, [], ◌∷◌, ◌++◌, Bool, true, false, cond, Option, Some, None, Result, Ok, IfOk, refl, ap, subst}
 use Rattle.worktree_fs.specs.Answers.{read_of}
 use Rattle.worktree_fs.specs.declared.answers.ReadAnswer.{ReadAnswer}
 use Rattle.worktree_fs.specs.declared.answers.ReadAnswer.TheVariants as answers

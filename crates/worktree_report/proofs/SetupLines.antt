@@ -1,5 +1,5 @@
 -- One more line of a setup.
-use Rattle.std.proofs.Common.{◌≡◌, ℕ, suc, ◌+◌, ◌<◌, ◌≤◌, List, [], ◌∷◌, ◌++◌, length, take, drop, get_or, map, Bool, true, false, cond, Option, Some, None, refl, sym, ap, ◌∙◌, arith, add-one, append_assoc, append-nil, drop-cons, length-take, take_all, Bor}
+use Rattle.std.proofs.Common.{◌≡◌, ℕ, suc, ◌+◌, ◌<◌, ◌≤◌, List, [], ◌∷◌, ◌++◌, length, take, drop, get_or, map, Bool, true, false, cond, Some, None, refl, sym, ap, ◌∙◌, arith, add-one, append_assoc, append-nil, drop-cons, length-take, take_all, Bor}
 use Rattle.std.proofs.lemmas.List.{length-map, take_more, drop_all, get_or-map}
 use Rattle.gitbase_core.specs.declared.entry.IndexEntry.{IndexEntry}
 use Rattle.worktree_report.specs.declared.setup.option.SetupOption.{SetupOption}

@@ -1,5 +1,5 @@
 -- What a walk answers, with the ignore rules that a setup asks for.
-use Rattle.std.proofs.Common.{◌≡◌, ℕ, List, Bool, false, Option, Some, Err, IsErrOf, IsSomeAnd, sym, ap, ◌∙◌, subst, option_map}
+use Rattle.std.proofs.Common.{◌≡◌, ℕ, List, false, Option, Some, Err, IsErrOf, IsSomeAnd, sym, ap, ◌∙◌, subst, option_map}
 use Rattle.worktree_fs.specs.Tree.{Names}
 use Rattle.worktree_stack.specs.Stacked.{Made}
 use Rattle.dir_classify.specs.declared.error.Error.{Error}

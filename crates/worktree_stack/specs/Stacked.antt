@@ -13,8 +13,7 @@ use Rattle.worktree_stack.specs.Excludes.{Rulebook, own_of_directory, rule_of}
 use Rattle.worktree_stack.specs.Reading.{reading, rulebook, is_read}
 
 -- A stack: its root, how letters compare, what its exclude state holds, the directories that are pushed (none, or a directory
--- and all above it), the path that was made current last and whether
--- it is a directory, and what was counted.
+-- and all above it), the path that was made current last and whether it is a directory, and what was counted.
 pub record Stacked : Type 0 where
   pub root : List ℕ
   pub case : Case

@@ -69,8 +69,9 @@ impl Model for Stack {
 impl Stack {
     /// A stack below a worktree root, on which nothing is pushed; takes no memory.
     ///
-    /// `worktree_root` is to be absolute, without `.` and `..`, as paths in the worktree begin with it. `case` says how letters compare in all rules. `buf` is used when files
-    /// are read. Mappings of rules files to blobs are not taken yet: `id_mappings` has none.
+    /// `worktree_root` is to be absolute, without `.` and `..`, as paths in the worktree begin with it. `case` says how
+    /// letters compare in all rules. `buf` is used when files are read. Mappings of rules files to blobs are not taken yet:
+    /// `id_mappings` has none.
     pub fn new(
         alloc: Global,
         worktree_root: PathText,

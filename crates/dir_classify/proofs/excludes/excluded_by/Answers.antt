@@ -1,5 +1,5 @@
-use Rattle.std.proofs.Common.{ap, sym, ◌∙◌, subst}
-use Rattle.worktree_stack.specs.Stacked.{Stacked, made_of, IsInStep}
+use Rattle.std.proofs.Common.{◌∙◌}
+use Rattle.worktree_stack.specs.Stacked.{Stacked, made_of}
 use Rattle.dir_classify.specs.Kinds.{is_dir}
 use Rattle.dir_classify.proofs.Looked.{excluded-looked, read-looked}
 use Rattle.dir_classify.proofs.excludes.excluded_by.Goals as goal
