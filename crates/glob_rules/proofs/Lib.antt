@@ -1,6 +1,7 @@
 pub mod Members
 pub mod Splits
 pub mod Steps
+mod Again
 pub mod Reached
 pub mod Decide
 pub mod Parts
@@ -8,7 +9,7 @@ pub mod Plain
 pub mod Shapes
 pub mod Fronts
 pub mod Stems
-pub mod Places
+pub mod LongForms
 pub mod Longest
 pub mod Led
 pub mod Matched

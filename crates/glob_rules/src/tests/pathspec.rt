@@ -156,6 +156,16 @@ fn kinds_and_places_of_matches(rt: HostRuntime) -> Result<(), Fail> {
     Ok(())
 }
 
+/// How a matcher of any kind matches a path, of which nothing else is known.
+fn found<M: Matcher>(matcher: &M, path: &[u8]) -> Option<Match> {
+    matcher.pattern_matching_relative_path(path, None)
+}
+
+/// Whether a matcher of any kind has a directory in front of all its specs.
+fn has_prefix<M: Matcher>(matcher: &M) -> bool {
+    !matcher.prefix_directory().is_empty()
+}
+
 /// What a matcher of any kind says of a path: whether it can match, and whether it covers, without and with what leads to
 /// it.
 fn said<M: Matcher>(matcher: &M, path: &[u8]) -> [bool; 3] {
@@ -199,7 +209,7 @@ fn where_a_list_may_match(rt: HostRuntime) -> Result<(), Fail> {
         let search = search_of(rt.alloc(), specs, AS_WRITTEN)?;
         assert_eq!(rt; said(&search, path), *want, "{specs:?} {path:?}");
         assert_eq!(rt; common(&search), *directory, "{specs:?}");
-        assert!(rt; search.prefix_directory().is_empty());
+        assert!(rt; !has_prefix(&search));
     }
     Ok(())
 }
@@ -209,8 +219,5 @@ fn without_path_specs_all_is_matched(rt: HostRuntime) {
     let all = Search::from_specs(Vec::new(rt.alloc()));
     assert_eq!(rt; said(&all, b"a"), [true, true, true]);
     assert_eq!(rt; common(&all), b".".as_slice());
-    assert_eq!(rt;
-        all.pattern_matching_relative_path(b"a", None),
-        positive(MatchKind::Always, 0)
-    );
+    assert_eq!(rt; found(&all, b"a"), positive(MatchKind::Always, 0));
 }
