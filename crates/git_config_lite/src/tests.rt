@@ -1,7 +1,7 @@
 //! Worked cases, the answers of git, and each call with ample memory.
 mod answers;
 
-use crate::{File, Metadata, ParseError, Source};
+use crate::{File, Metadata, ParseError, Source, ValueError};
 use answers::{ANSWERS, BOOLEAN_DIFFERENCES, BOOLEANS, DIFFERENCES};
 use bstr::ByteSlice;
 use gitbase_core::{OutOfMemory, PathText};
@@ -88,6 +88,29 @@ fn a_configuration_that_grows(rt: HostRuntime) -> Result<(), Fail> {
         Some(b" v".as_slice())
     );
     assert!(rt; file.meta().source == Source::Local);
+    Ok(())
+}
+
+#[test]
+fn a_nul_in_a_value_stays(rt: HostRuntime) -> Result<(), Fail> {
+    let file = File::from_bytes(rt.alloc(), b"[a]\nk = v\0w\nj = 1\0k\n", local())?;
+    assert_eq!(rt; file.string(b"a", None, b"k"), Some(b"v\0w".as_slice()));
+    assert_eq!(rt;
+        file.boolean(b"a", None, b"j").err().map(|e| e.input),
+        Some(b"1\0k".as_slice())
+    );
+    Ok(())
+}
+
+#[test]
+fn errors_are_shown_by_their_names(rt: HostRuntime) -> Result<(), Fail> {
+    let texts = format!(in rt.alloc();
+        "{} {} {}",
+        ParseError::Syntax { line: 3 },
+        ParseError::OutOfMemory,
+        ValueError { input: b"x" }
+    )?;
+    assert_eq!(rt; texts.as_str(), "Syntax OutOfMemory ValueError");
     Ok(())
 }
 

@@ -185,6 +185,8 @@ error^a^-^k^[a]~k = x~\n\
 /// - git counts a line behind a text that ends in a quote; here it is the line of the quote
 /// - git drops the CR of a last line without LF; here a CR is dropped only before an LF
 /// - git skips a CR at the start of a line; here it is no blank
+/// - git takes a NUL in a subsection, and ends the name of a key before it; here a NUL may not stand there
+/// - git ends a value before a NUL; here the NUL stays
 pub const DIFFERENCES: &[u8] = b"\
 =>!1^a^-^k^k = v~\n\
 |v=>!1^b^-^k^[a] [b]~k = v~\n\
@@ -198,6 +200,9 @@ pub const DIFFERENCES: &[u8] = b"\
 !3=>!2^a^-^k^[a]~k = \"a\\\n\
 |v=>|v\r^a^-^k^[a]~k = v\r\n\
 |v=>!2^a^-^k^[a]~\rk = v~\n\
+|v=>!1^a^-^s^[a \"s\x00t\"]~k = v~\n\
+=>!1^a^\"s^k^[a \"s\x00t\"]~k = v~\n\
+|v=>|v\x00w^a^-^k^[a]~k = v\x00w~\n\
 ";
 
 /// The same for booleans:
@@ -205,10 +210,16 @@ pub const DIFFERENCES: &[u8] = b"\
 /// - git reads hexadecimal numbers; here digits are decimal
 /// - git reads digits behind a 0 as octal; here they are decimal
 /// - git refuses numbers from 2^31 on; here a number is true whatever its size
+/// - git skips white space at the front of a number; here a number begins with its sign or a digit
 pub const BOOLEAN_DIFFERENCES: &[u8] = b"\
 true=>error^a^-^k^[a]~k = 0x10~\n\
 false=>error^a^-^k^[a]~k = 0x0~\n\
 error=>true^a^-^k^[a]~k = 08~\n\
 error=>true^a^-^k^[a]~k = 3000000000~\n\
 error=>true^a^-^k^[a]~k = 3g~\n\
+true=>error^a^-^k^[a]~k = \" 1\"~\n\
+false=>error^a^-^k^[a]~k = \"\\t0k\"~\n\
+true=>error^a^-^k^[a]~k = \"\\n9\"~\n\
+false=>error^a^-^k^[a]~k = \" -0\"~\n\
+true=>error^a^-^k^[a]~k = \x0b1~\n\
 ";
