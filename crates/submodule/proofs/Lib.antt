@@ -2,3 +2,4 @@ mod Ports
 mod OneSection
 mod KeptNames
 mod DistinctNames
+mod Parts

@@ -1,5 +1,5 @@
 -- A key that the one section takes.
-use Rattle.std.proofs.Common.{◌≡◌, ℕ, ◌+◌, List, [], ◌∷◌, length, Result, Ok, Err, OnOk, OnErr, refl, ap, ◌∙◌, arith}
+use Rattle.std.proofs.Common.{◌≡◌, ℕ, List, [], ◌∷◌, length, Result, Ok, Err, OnOk, OnErr, refl, ap, ◌∙◌, arith}
 use Rattle.git_config_lite.specs.declared.entry.Entry.{Entry}
 use Rattle.git_config_lite.specs.Sections.{Section, Configuration, adding_entry}
 use Rattle.git_config_lite.specs.Writers.{entry_with, with_value}

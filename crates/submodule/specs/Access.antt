@@ -1,10 +1,10 @@
 -- What is said of a submodule. Every value read is the last one, overrides included.
 use Rattle.std.specs.Prelude.{◌≡◌, ℕ, List, [], ◌∷◌, codes, bytes_eq, Bool, true, false, not, ◌&&◌, Option, Some, None, is_some, find, Result, Ok, Err, if◌then◌else◌}
-use Rattle.gitbase_core.specs.Path.{is_absolute, normalized}
+use Rattle.std.specs.Option.{option_or}
+use Rattle.gitbase_core.specs.Path.{is_empty, is_absolute, normalized}
 use Rattle.git_config_lite.specs.declared.metadata.Source.{Source}
 use Rattle.git_config_lite.specs.Sections.{Section}
 use Rattle.git_config_lite.specs.Lookups.{string_with_source, boolean}
-use Rattle.submodule.specs.Texts.{is_empty}
 use Rattle.submodule.specs.Names.{is_modules, module_names}
 use Rattle.submodule.specs.Overrides.{value}
 use Rattle.submodule.specs.Ignores.{ignore_of}
@@ -34,23 +34,22 @@ use Rattle.submodule.specs.declared.field.FieldError.TheVariants as field_errors
 
 -- ---- path: not empty, not absolute, and it leads to a place inside the work tree
 
-abbrev pub path_inside : List ℕ → List ℕ → Option (List ℕ) → Result (List ℕ) PathError
-path_inside name text None = Err (path_errors.OutsideOfWorktree name text)
-path_inside name text (Some _) = Ok text
+abbrev pub is_path : List ℕ → Bool
+is_path text = not (is_empty text) && (not (is_absolute text) && is_some (normalized text))
+
+-- why a text that is no such path is refused
+abbrev pub path_refusal : List ℕ → List ℕ → PathError
+path_refusal name text =
+    if is_empty text then path_errors.Missing name
+    else if is_absolute text then path_errors.Absolute name text
+    else path_errors.OutsideOfWorktree name text
 
 abbrev pub path_by : List ℕ → Option (List ℕ) → Result (List ℕ) PathError
 path_by name None = Err (path_errors.Missing name)
-path_by name (Some text) =
-    if is_empty text then Err (path_errors.Missing name)
-    else if is_absolute text then Err (path_errors.Absolute name text)
-    else path_inside name text (normalized text)
+path_by name (Some text) = if is_path text then Ok text else Err (path_refusal name text)
 
 abbrev pub path : List ℕ → List Section → Result (List ℕ) PathError
 path name sections = path_by name (value name (codes "path") sections)
-
--- the same as a test
-abbrev pub is_path : List ℕ → Bool
-is_path text = not (is_empty text) && (not (is_absolute text) && is_some (normalized text))
 
 -- a value of `path` is this path, and one that may be given
 abbrev pub has_path : List ℕ → Option (List ℕ) → Bool
@@ -154,11 +153,7 @@ shallow name sections = boolean (codes "submodule") (Some name) (codes "shallow"
 
 -- ---- the file
 
-abbrev pub path_or : Option (List ℕ) → Option (List ℕ) → Option (List ℕ)
-path_or None other = other
-path_or (Some path) other = Some path
-
 -- the path of the first section that has one
 abbrev pub config_path : List Section → Option (List ℕ)
 config_path [] = None
-config_path (section ∷ sections) = path_or section.meta.path (config_path sections)
+config_path (section ∷ sections) = option_or section.meta.path (config_path sections)

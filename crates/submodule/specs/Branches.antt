@@ -5,7 +5,8 @@
 -- names of references refuse it.
 use Rattle.std.specs.Prelude.{ℕ, List, [], ◌∷◌, codes, bytes_eq, Bool, nat_eq, nat_le, ◌==◌, ◌||◌, count_by, Option, Some, None, if◌then◌else◌}
 use Rattle.std.specs.List.{list_any, starts_with, ends_with}
-use Rattle.submodule.specs.Texts.{is_empty, before, has_pair}
+use Rattle.gitbase_core.specs.Path.{is_empty}
+use Rattle.submodule.specs.Texts.{before, contains}
 use Rattle.submodule.specs.declared.branch.Branch.{Branch}
 use Rattle.submodule.specs.declared.branch.Branch.TheVariants.{CurrentInSuperproject, Name}
 
@@ -15,7 +16,8 @@ is_bad_byte b = nat_le b 32 || (b == 127 || (b == 126 || (b == 94 || (b == 63 ||
 
 -- `..`, `@{`, `//`, or a component behind a slash that begins with a dot
 abbrev pub has_bad_pair : List ℕ → Bool
-has_bad_pair name = has_pair 46 46 name || (has_pair 64 123 name || (has_pair 47 47 name || has_pair 47 46 name))
+has_bad_pair name =
+    contains (codes "..") name || (contains (codes "@{") name || (contains (codes "//") name || contains (codes "/.") name))
 
 -- a slash or a dot at the start
 abbrev pub has_bad_start : List ℕ → Bool

@@ -3,9 +3,10 @@
 -- For each name, in the order of their bytes, that has a value of one of the keys `branch`, `fetchRecurseSubmodules`,
 -- `ignore`, `update` and `url`, one section `submodule` with the last value of each of these keys that it has, in this order.
 -- They carry the path of the configuration and what it belongs to, which is the calling program if it says `.gitmodules`.
-use Rattle.std.specs.Prelude.{ℕ, List, [], ◌∷◌, ◌++◌, codes, Bool, ◌||◌, Option, Some, None, is_some, option_map, option_to_list, Result, Ok, Err, if◌then◌else◌}
+use Rattle.std.specs.Prelude.{ℕ, List, [], ◌∷◌, ◌++◌, codes, Bool, flat_map, Option, Some, None, is_some, option_map, option_to_list, Result, Ok, Err, if◌then◌else◌}
 use Rattle.std.specs.Cmp.Lexicographic.{slice_cmp}
 use Rattle.std.specs.Ordering.{nat_cmp}
+use Rattle.std.specs.List.{list_any}
 use Rattle.std.specs.BTreeSet.{insert_key}
 use Rattle.git_config_lite.specs.declared.metadata.Source.{Source}
 use Rattle.git_config_lite.specs.declared.metadata.Source.TheVariants.{GitInstallation, System, Git, User, Local, Env, Api, Modules}
@@ -39,23 +40,17 @@ value name key sections = string (codes "submodule") (Some name) key sections
 abbrev pub override : List ℕ → List ℕ → List Section → List Entry
 override name key sections = option_to_list (option_map (entry_with key) (value name key sections))
 
--- the keys of a submodule that override
+-- the keys that override, in the order in which they are written
+abbrev pub overriding_keys : List (List ℕ)
+overriding_keys = codes "branch" ∷ codes "fetchRecurseSubmodules" ∷ codes "ignore" ∷ codes "update" ∷ codes "url" ∷ []
+
+-- those of a submodule, with their last values
 abbrev pub override_entries : List Section → List ℕ → List Entry
-override_entries sections name =
-    override name (codes "branch") sections
-    ++ override name (codes "fetchRecurseSubmodules") sections
-    ++ override name (codes "ignore") sections
-    ++ override name (codes "update") sections
-    ++ override name (codes "url") sections
+override_entries sections name = flat_map (λ key. override name key sections) overriding_keys
 
 -- a submodule has some key that overrides
 abbrev pub is_overriding : List Section → List ℕ → Bool
-is_overriding sections name =
-    is_some (value name (codes "branch") sections)
-    || (is_some (value name (codes "fetchRecurseSubmodules") sections)
-    || (is_some (value name (codes "ignore") sections)
-    || (is_some (value name (codes "update") sections)
-    || is_some (value name (codes "url") sections))))
+is_overriding sections name = list_any (λ key. is_some (value name key sections)) overriding_keys
 
 abbrev pub override_section : Metadata → List Section → List ℕ → Section
 override_section meta sections name =

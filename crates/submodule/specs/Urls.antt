@@ -10,7 +10,8 @@
 use Rattle.std.specs.Prelude.{ℕ, ◌+◌, ◌-◌, ◌*◌, List, [], ◌∷◌, codes, bytes_eq, Bool, false, nat_eq, nat_le, nat_lt, ◌==◌, ◌&&◌, ◌||◌, drop, take, length, Option, Some, None, option_map, Result, Ok, Err, if◌then◌else◌}
 use Rattle.std.specs.List.{list_all, starts_with}
 use Rattle.git_config_lite.specs.Texts.{is_letter, is_digit, begins, begins_with, run_length}
-use Rattle.submodule.specs.Texts.{is_empty, has, place, before, onward, behind_last, before_last}
+use Rattle.gitbase_core.specs.Path.{is_empty}
+use Rattle.submodule.specs.Texts.{has, place, before, onward, behind_last, ahead_of_last}
 use Rattle.submodule.specs.declared.url.Url.{Url}
 use Rattle.submodule.specs.declared.url.UrlError.{UrlError}
 use Rattle.submodule.specs.declared.url.UrlError.TheVariants as errors
@@ -19,7 +20,7 @@ use Rattle.submodule.specs.declared.url.UrlError.TheVariants as errors
 
 -- what stands before the last `@`, if there is one
 abbrev pub login : List ℕ → Option (List ℕ)
-login authority = if has 64 authority then Some (before_last 64 authority) else None
+login authority = if has 64 authority then Some (ahead_of_last 64 authority) else None
 
 -- what stands behind the first such byte, if there is one
 abbrev pub behind : ℕ → List ℕ → Option (List ℕ)
@@ -60,7 +61,7 @@ abbrev pub bracketed : List ℕ → Place
 bracketed part = bracketed_by part (closed part)
 
 abbrev pub bare : List ℕ → Place
-bare part = if has 58 part then place_at (before_last 58 part) (behind_last 58 part) else place_at part []
+bare part = if has 58 part then place_at (ahead_of_last 58 part) (behind_last 58 part) else place_at part []
 
 abbrev pub host_and_port : List ℕ → Place
 host_and_port part = if begins_with 91 part then bracketed part else bare part
@@ -94,13 +95,14 @@ abbrev pub needs_host : List ℕ → Bool
 needs_host scheme =
     bytes_eq scheme (codes "http") || (bytes_eq scheme (codes "https") || (bytes_eq scheme (codes "ssh") || bytes_eq scheme (codes "git")))
 
-abbrev pub some_text : List ℕ → Option (List ℕ)
-some_text text = if is_empty text then None else Some text
+-- the host of a url: an empty one is none
+abbrev pub host_of : List ℕ → Option (List ℕ)
+host_of host = if is_empty host then None else Some host
 
 abbrev pub with_port : List ℕ → Option (List ℕ) → List ℕ → List ℕ → Result (Option ℕ) UrlError → Result Url UrlError
 with_port scheme login host path (Err e) = Err e
 with_port scheme login host path (Ok port) =
-    Ok (record { scheme = scheme; user = user_of login; password = password_of login; host = some_text host; port = port; path = path })
+    Ok (record { scheme = scheme; user = user_of login; password = password_of login; host = host_of host; port = port; path = path })
 
 -- a host is empty that may not be
 abbrev pub lacks_host : List ℕ → List ℕ → Bool

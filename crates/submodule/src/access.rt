@@ -71,7 +71,8 @@ impl File {
         branch::branch_of(alloc, name, self.value(name, b"branch"))
     }
 
-    /// Whether a fetch goes on into the submodule: its `fetchRecurseSubmodules`, if it is set. `Invalid` comes exactly where it is no boolean and not `on-demand`.
+    /// Whether a fetch goes on into the submodule: its `fetchRecurseSubmodules`, if it is set. `Invalid` comes exactly where
+    /// it is no boolean and not `on-demand`.
     pub fn fetch_recurse(
         &self,
         alloc: Global,

@@ -10,7 +10,7 @@ ghost use Rattle.submodule.specs.declared.branch.Error.TheVariants as refusals;
 ghost use Rattle.submodule.specs.declared.branch.RefspecError.TheVariants as refspec_errors;
 
 use crate::shown::shown;
-use crate::text::{before, has_pair};
+use crate::text::{before, contains};
 use gitbase_core::{Bytes, OutOfMemory};
 use std::alloc::Global;
 
@@ -51,8 +51,11 @@ pub enum Error {
     /// Its value names none.
     #[error("The value '{}' of the 'branch' field of submodule '{}' couldn't be turned into a valid fetch refspec", shown(.actual), shown(.submodule))]
     Refspec {
+        /// The name of the submodule.
         submodule: Bytes,
+        /// The value.
         actual: Bytes,
+        /// Why the value names none.
         source: RefspecError,
     },
     /// Want of memory.
@@ -140,10 +143,7 @@ fn has_bad_byte(name: &[u8]) -> bool
 fn has_bad_pair(name: &[u8]) -> bool
     ensures { result ≡ branches.has_bad_pair name.now }
 {
-    has_pair(b'.', b'.', name)
-        || has_pair(b'@', b'{', name)
-        || has_pair(b'/', b'/', name)
-        || has_pair(b'/', b'.', name)
+    contains(b"..", name) || contains(b"@{", name) || contains(b"//", name) || contains(b"/.", name)
 }
 
 /// A slash or a dot at the start.

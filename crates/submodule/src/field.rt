@@ -36,8 +36,11 @@ pub enum FieldError {
     /// Its value is none of the words.
     #[error("The '{}' field of submodule '{}' was invalid: '{}'", .field, shown(.submodule), shown(.actual))]
     Invalid {
+        /// Which of the keys it is.
         field: FieldName,
+        /// The name of the submodule.
         submodule: Bytes,
+        /// The value.
         actual: Bytes,
     },
     /// Want of memory.

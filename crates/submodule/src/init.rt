@@ -5,9 +5,12 @@ use gitbase_core::OutOfMemory;
 /// Why the text of `.gitmodules` is refused.
 #[derive(Clone, Copy, Debug, PartialEq, Eq, thiserror::Error)]
 pub enum Error {
-    /// A line is outside the grammar of configurations: the first such line, counted from 1.
+    /// A line is outside the grammar of configurations.
     #[error("Parse")]
-    Parse { line: usize },
+    Parse {
+        /// The first such line, counted from 1.
+        line: usize,
+    },
     /// Want of memory.
     #[error("OutOfMemory")]
     OutOfMemory,

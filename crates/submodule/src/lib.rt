@@ -3,10 +3,10 @@
 
 mod access;
 pub mod branch;
-pub mod fetch_recurse;
+mod fetch_recurse;
 mod field;
 mod file;
-pub mod ignore;
+mod ignore;
 pub mod init;
 pub mod is_active_platform;
 mod names;

@@ -14,13 +14,26 @@ use std::alloc::Global;
 pub enum Error {
     /// Its path is not set, or empty.
     #[error("The submodule '{}' was missing its 'path' field or it was empty", shown(.submodule))]
-    Missing { submodule: Bytes },
+    Missing {
+        /// The name of the submodule.
+        submodule: Bytes,
+    },
     /// Its path begins with a slash.
     #[error("The path '{}' of submodule '{}' needs to be relative", shown(.actual), shown(.submodule))]
-    Absolute { submodule: Bytes, actual: Bytes },
+    Absolute {
+        /// The name of the submodule.
+        submodule: Bytes,
+        /// The value.
+        actual: Bytes,
+    },
     /// Its path leads out of the work tree.
     #[error("The path '{}' would lead outside of the repository worktree", shown(.actual))]
-    OutsideOfWorktree { submodule: Bytes, actual: Bytes },
+    OutsideOfWorktree {
+        /// The name of the submodule.
+        submodule: Bytes,
+        /// The value.
+        actual: Bytes,
+    },
     /// Want of memory.
     #[error("OutOfMemory")]
     OutOfMemory,

@@ -10,7 +10,7 @@ mod texts;
 use crate::{Branch, FetchRecurse, File, Ignore, RefspecError, Update, Url, UrlError, update};
 use git_config_lite as config;
 use git_config_lite::{Metadata, Source, ValueError};
-use gitbase_core::Bytes;
+use gitbase_core::{Bytes, OutOfMemory};
 use std::alloc::Global;
 use std::test::Fail;
 
@@ -26,6 +26,10 @@ pub fn local(alloc: Global, text: &[u8]) -> Result<config::File, config::ParseEr
 /// The submodules of a text alone.
 pub fn modules(alloc: Global, text: &[u8]) -> Result<File, Fail> {
     Ok(File::from_bytes(alloc, text, None, &local(alloc, b"")?)?)
+}
+
+pub fn text(alloc: Global, bytes: &[u8]) -> Result<Bytes, OutOfMemory> {
+    Bytes::from_slice(alloc, bytes)
 }
 
 #[test]
@@ -101,6 +105,12 @@ fn urls(rt: HostRuntime) -> Result<(), Fail> {
         path: bytes(b"../y")?,
     };
     assert!(rt; Url::parse(alloc, b"../y")? == near);
+    Ok(())
+}
+
+#[test]
+fn urls_without_a_host_or_with_a_wrong_port(rt: HostRuntime) -> Result<(), Fail> {
+    let alloc = rt.alloc();
     let refused: [(&[u8], UrlError); 4] = [
         (b"https:///x", UrlError::EmptyHost),
         (b"git@:x", UrlError::EmptyHost),

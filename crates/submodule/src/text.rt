@@ -1,8 +1,10 @@
-//! Where a byte stands in a text, and what is before and behind it.
-ghost use Rattle.std.specs.Prelude.{◌≡◌, ◌≤◌, ◌<◌, ◌==◌, ◌+◌, not, drop, length, position, IfSome};
+//! Where a byte or a part stands in a text, and what is before and behind it.
+ghost use Rattle.std.specs.Prelude.{◌≡◌, ◌≤◌, ◌+◌, not, drop, length};
 ghost use Rattle.std.specs.List.{suffix_len};
-ghost use Rattle.git_config_lite.specs.Texts.{begins_with};
+ghost use Rattle.bstr.specs.Find.{is_byte};
 ghost use Rattle.submodule.specs.Texts as texts;
+
+use bstr::ByteSlice;
 
 /// Whether a byte stands in a text.
 pub fn has(byte: u8, text: &[u8]) -> bool
@@ -11,20 +13,12 @@ pub fn has(byte: u8, text: &[u8]) -> bool
     text.iter().any(|other| *other == byte)
 }
 
-/// Where a byte stands first.
-fn first_place(byte: u8, text: &[u8]) -> Option<usize>
-    ensures place { result ≡ position (λ b. b == byte) text.now }
-    ensures within { IfSome result (λ at. at < length text.now) }
-{
-    text.iter().position(|other| *other == byte)
-}
-
 /// Where a byte stands first; the length of the text where it does not stand in it.
 pub fn place(byte: u8, text: &[u8]) -> usize
     ensures value { result ≡ texts.place byte text.now }
     ensures within { result ≤ length text.now }
 {
-    match first_place(byte, text) {
+    match text.find_byte(byte) {
         Some(at) => at,
         None => text.len(),
     }
@@ -46,17 +40,12 @@ pub fn onward(byte: u8, text: &[u8]) -> &[u8]
 
 /// Where what is behind the last such byte begins; 0 where there is none.
 fn end_place(byte: u8, text: &[u8]) -> usize
-    ensures value { result ≡ texts.end_place byte text.now }
-    ensures within { result ≤ length text.now }
+    ensures { result + suffix_len (λ b. not (is_byte byte b)) text.now ≡ length text.now }
 {
-    let mut at = text.len();
-    while at > 0 {
-        if text[at - 1] == byte {
-            return at;
-        }
-        at -= 1;
+    match text.rfind_byte(byte) {
+        Some(at) => at + 1,
+        None => 0,
     }
-    at
 }
 
 /// What stands behind the last such byte, or the whole text.
@@ -67,8 +56,8 @@ pub fn behind_last(byte: u8, text: &[u8]) -> &[u8]
 }
 
 /// What stands before the last such byte, or nothing.
-pub fn before_last(byte: u8, text: &[u8]) -> &[u8]
-    ensures { result.now ≡ texts.before_last byte text.now }
+pub fn ahead_of_last(byte: u8, text: &[u8]) -> &[u8]
+    ensures { result.now ≡ texts.ahead_of_last byte text.now }
 {
     text.split_at(end_place(byte, text).saturating_sub(1)).0
 }
@@ -83,36 +72,9 @@ pub fn behind_first(text: &[u8]) -> &[u8]
     }
 }
 
-/// Whether the first byte is this one.
-fn begins_with(byte: u8, text: &[u8]) -> bool
-    ensures { result ≡ begins_with byte text.now }
+/// Whether a part stands somewhere in a text.
+pub fn contains(part: &[u8], text: &[u8]) -> bool
+    ensures { result ≡ texts.contains part.now text.now }
 {
-    match text {
-        [first, ..] => *first == byte,
-        [] => false,
-    }
-}
-
-/// Whether a text begins with one byte and then another.
-fn begins_with_pair(first: u8, second: u8, text: &[u8]) -> bool
-    ensures { result ≡ texts.begins_with_pair first second text.now }
-{
-    match text {
-        [byte, after @ ..] => *byte == first && begins_with(second, after),
-        [] => false,
-    }
-}
-
-/// Whether the first byte stands directly before the second one somewhere.
-pub fn has_pair(first: u8, second: u8, text: &[u8]) -> bool
-    ensures { result ≡ texts.has_pair first second text.now }
-{
-    let mut rest = text;
-    while !rest.is_empty() {
-        if begins_with_pair(first, second, rest) {
-            return true;
-        }
-        rest = behind_first(rest);
-    }
-    false
+    text.contains_str(part)
 }

@@ -56,10 +56,20 @@ impl From<OutOfMemory> for UpdateParseError {
 pub enum Error {
     /// Its value is none of the words.
     #[error("The 'update' field of submodule '{}' was invalid: '{}'", shown(.submodule), shown(.actual))]
-    Invalid { submodule: Bytes, actual: Bytes },
+    Invalid {
+        /// The name of the submodule.
+        submodule: Bytes,
+        /// The value.
+        actual: Bytes,
+    },
     /// `.gitmodules` asks for a command.
     #[error("The 'update' field of submodule '{}' tried to set command '{}' to be shared", shown(.submodule), shown(.actual))]
-    CommandForbiddenInModulesConfiguration { submodule: Bytes, actual: Bytes },
+    CommandForbiddenInModulesConfiguration {
+        /// The name of the submodule.
+        submodule: Bytes,
+        /// The command, without its `!`.
+        actual: Bytes,
+    },
     /// Want of memory.
     #[error("OutOfMemory")]
     OutOfMemory,

@@ -59,10 +59,18 @@ impl From<OutOfMemory> for UrlError {
 pub enum Error {
     /// Its url is not set, or empty.
     #[error("The submodule '{}' was missing its 'url' field or it was empty", shown(.submodule))]
-    Missing { submodule: Bytes },
+    Missing {
+        /// The name of the submodule.
+        submodule: Bytes,
+    },
     /// Its url is none.
     #[error("The url of submodule '{}' could not be parsed", shown(.submodule))]
-    Parse { submodule: Bytes, source: UrlError },
+    Parse {
+        /// The name of the submodule.
+        submodule: Bytes,
+        /// Why the value is no url.
+        source: UrlError,
+    },
     /// Want of memory.
     #[error("OutOfMemory")]
     OutOfMemory,

@@ -5,10 +5,10 @@ ghost use Rattle.submodule.specs.Urls as urls;
 ghost use Rattle.submodule.specs.Seen as seen;
 
 use crate::port::port;
-use crate::text::{before, before_last, behind_first, behind_last, has, onward, place};
+use crate::text::{ahead_of_last, before, behind_first, behind_last, has, onward, place};
 use crate::url::UrlError;
 
-/// The parts of a url.
+/// The parts of a url, as [`crate::Url`] has them.
 #[derive(Clone, Copy, Debug)]
 pub struct UrlParts<'a> {
     pub scheme: &'a [u8],
@@ -31,7 +31,7 @@ fn login(authority: &[u8]) -> Option<&[u8]>
     ensures { option_copied result ≡ urls.login authority.now }
 {
     if has(b'@', authority) {
-        Some(before_last(b'@', authority))
+        Some(ahead_of_last(b'@', authority))
     } else {
         None
     }
@@ -113,7 +113,7 @@ fn bare(part: &[u8]) -> HostAndPort<'_>
 {
     if has(b':', part) {
         HostAndPort {
-            host: before_last(b':', part),
+            host: ahead_of_last(b':', part),
             port: behind_last(b':', part),
         }
     } else {
@@ -153,12 +153,13 @@ fn lacks_host(scheme: &[u8], host: &[u8]) -> bool
     }
 }
 
-fn some_text(text: &[u8]) -> Option<&[u8]>
-    ensures { option_copied result ≡ urls.some_text text.now }
+/// The host of a url: an empty one is none.
+fn host_of(host: &[u8]) -> Option<&[u8]>
+    ensures { option_copied result ≡ urls.host_of host.now }
 {
-    match text {
+    match host {
         [] => None,
-        _ => Some(text),
+        _ => Some(host),
     }
 }
 
@@ -179,7 +180,7 @@ fn with_host<'a>(
         scheme,
         user: user_of(login),
         password: password_of(login),
-        host: some_text(place.host),
+        host: host_of(place.host),
         port,
         path,
     })

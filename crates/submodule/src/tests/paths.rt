@@ -1,14 +1,9 @@
 //! Names and paths, and the file as a whole.
-use super::{local, modules};
+use super::{local, modules, text};
 use crate::{File, path};
 use git_config_lite::Source;
-use gitbase_core::{Bytes, OutOfMemory, PathText};
-use std::alloc::Global;
+use gitbase_core::PathText;
 use std::test::Fail;
-
-fn text(alloc: Global, bytes: &[u8]) -> Result<Bytes, OutOfMemory> {
-    Bytes::from_slice(alloc, bytes)
-}
 
 #[test]
 fn a_path_that_is_not_there_is_missing(rt: HostRuntime) -> Result<(), Fail> {
@@ -31,18 +26,24 @@ fn a_path_that_is_not_there_is_missing(rt: HostRuntime) -> Result<(), Fail> {
 #[test]
 fn a_path_stays_in_the_work_tree(rt: HostRuntime) -> Result<(), Fail> {
     let alloc = rt.alloc();
-    let lines = b"[submodule \"a\"]\npath = /x\n[submodule \"o\"]\npath = x/../../y\n";
+    let lines =
+        b"[submodule \"a\"]\npath = /x\n[submodule \"o\"]\npath = ../x\n[submodule \"b\"]\npath = x/../../y\n";
     let file = modules(alloc, lines)?;
     let absolute = path::Error::Absolute {
         submodule: text(alloc, b"a")?,
         actual: text(alloc, b"/x")?,
     };
     assert!(rt; file.path(alloc, b"a").err() == Some(absolute));
-    let outside = path::Error::OutsideOfWorktree {
+    let above = path::Error::OutsideOfWorktree {
         submodule: text(alloc, b"o")?,
+        actual: text(alloc, b"../x")?,
+    };
+    assert!(rt; file.path(alloc, b"o").err() == Some(above));
+    let beside = path::Error::OutsideOfWorktree {
+        submodule: text(alloc, b"b")?,
         actual: text(alloc, b"x/../../y")?,
     };
-    assert!(rt; file.path(alloc, b"o").err() == Some(outside));
+    assert!(rt; file.path(alloc, b"b").err() == Some(beside));
     Ok(())
 }
 

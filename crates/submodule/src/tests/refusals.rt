@@ -1,13 +1,7 @@
 //! What refusals name.
-use super::{local, modules};
+use super::{local, modules, text};
 use crate::{FieldError, FieldName, File, RefspecError, UrlError, branch, init, update, url};
-use gitbase_core::{Bytes, OutOfMemory};
-use std::alloc::Global;
 use std::test::Fail;
-
-fn text(alloc: Global, bytes: &[u8]) -> Result<Bytes, OutOfMemory> {
-    Bytes::from_slice(alloc, bytes)
-}
 
 #[test]
 fn the_first_line_outside_the_grammar_is_named(rt: HostRuntime) -> Result<(), Fail> {
