@@ -129,9 +129,10 @@ impl MemoryWorktree {
         self.is_reversed = on;
     }
 
-    /// How many calls failed.
+    /// How many calls failed. A tree in memory tells all that it holds, whatever failed.
     pub fn fault_count(&self) -> u64
-        ensures { result ≡ self.now.faults }
+        ensures count { result ≡ self.now.faults }
+        ensures told { told_by self.now.tree ≡ Some self.now.tree }
     {
         self.faults
     }
