@@ -1,5 +1,5 @@
 -- How the calls of several steps follow each other, in a stack.
-use Rattle.std.specs.Prelude.{◌≡◌, ◌⊎◌, ℕ, List, [], ◌∷◌, ◌++◌, map, Option, Some, None}
+use Rattle.std.specs.Prelude.{◌≡◌, ◌⊎◌, ℕ, ◌+◌, List, [], ◌∷◌, ◌++◌, map, Option, Some, None}
 use Rattle.std.proofs.Common.{inl, inr, refl, sym, ap, ◌∙◌, subst, append_assoc, arith}
 use Rattle.std.proofs.lemmas.List.{append-nil, map-append}
 use Rattle.worktree_fs.specs.Tree.{Names}
@@ -14,7 +14,7 @@ use Rattle.worktree_stack.specs.declared.statistics.DelegateStatistics.{Delegate
 use Rattle.worktree_stack.specs.declared.statistics.RulesStatistics.{RulesStatistics}
 use Rattle.worktree_stack.specs.Setup.{Setup}
 use Rattle.worktree_stack.specs.Reading.{reading, rules_file}
-use Rattle.worktree_stack.specs.Counted.{count_call, count_calls, count_reading, count_readings, count_tried, try_from}
+use Rattle.worktree_stack.specs.Counted.{count_call, count_calls, count_reading, count_readings, count_tried, try_from, tries}
 use Rattle.worktree_stack.specs.Stacked.{Stacked, Made, made_of}
 use Rattle.worktree_stack.specs.Refused.{IsOfFile, IsRefusedFor}
 use Rattle.worktree_stack.specs.Steps.{HasRead, HasTried, CarriesOut, IsStopped, IsStoppedAt, IsStoppedEarly, IsReason, Stops, call_for}
@@ -38,6 +38,12 @@ tried-append source count (push_directory path ∷ a) b = tried-append source (t
 tried-append source count (push path is_last ∷ a) b = tried-append source count a b
 tried-append source count (pop_directory ∷ a) b = tried-append source count a b
 
+tries-append : (source : Source) (a b : List Call) → tries source (a ++ b) ≡ tries source a + tries source b
+tries-append source [] b = omega arith
+tries-append source (push_directory path ∷ a) b = omega (arith, tries-append source a b)
+tries-append source (push path is_last ∷ a) b = tries-append source a b
+tries-append source (pop_directory ∷ a) b = tries-append source a b
+
 left-append : (paths : List (List ℕ)) (a b : List Call) → left_by paths (map granted (a ++ b)) ≡ left_by (left_by paths (map granted a)) (map granted b)
 left-append paths a b = ap (left_by paths) (map-append granted a b) ∙ left_by-append paths (map granted a) (map granted b)
 
@@ -49,6 +55,7 @@ module _ (told : Option Names) (setup : Setup) (root : List ℕ) where
         tried = ap (λ (s : RulesStatistics). s.tried_pattern_files) same;
         buffers = ap (λ (s : RulesStatistics). s.patterns_buffers) same;
         files = omega (arith, ap (λ (s : RulesStatistics). s.pattern_files) same);
+        most = omega (arith, ap (λ (s : RulesStatistics). s.pattern_files) same);
         exact = λ t told_is. same;
       }
 
@@ -59,6 +66,7 @@ module _ (told : Option Names) (setup : Setup) (root : List ℕ) where
         tried = second.tried ∙ ap (λ n. count_tried setup.source n b) first.tried ∙ sym (tried-append setup.source s0.tried_pattern_files a b);
         buffers = second.buffers ∙ first.buffers;
         files = omega (arith, first.files, second.files);
+        most = omega (arith, first.most, second.most, tries-append setup.source a b);
         exact = λ t told_is. second.exact t told_is ∙ ap (λ s. count_readings setup t root s b) (first.exact t told_is) ∙ sym (readings-append setup t root s0 a b);
       }
 

@@ -4,7 +4,8 @@ use Rattle.std.proofs.Common.{refl, sym, ap, ◌∙◌, subst, append_assoc}
 use Rattle.std.proofs.lemmas.List.{append-nil}
 use Rattle.worktree_fs.specs.Tree.{Names}
 use Rattle.worktree_fs.specs.Paths.{spelled, is_nil, without_last}
-use Rattle.worktree_fs.specs.PathStack.{Call, names_at, calls_for, calls_below}
+use Rattle.worktree_fs.specs.PathStack.{Call, names_at, IsOnWay, calls_for, calls_below}
+use Rattle.worktree_fs.proofs.Fronts.{without_last-append}
 use Rattle.worktree_fs.proofs.Spelled.{without_last-snoc}
 use Rattle.worktree_stack.specs.declared.error.AtPathError.{AtPathError}
 use Rattle.worktree_stack.specs.declared.error.AtPathError.TheVariants as errors
@@ -12,7 +13,7 @@ use Rattle.worktree_stack.specs.declared.error.RulesWhy.TheVariants as whys
 use Rattle.worktree_stack.specs.Setup.{Setup}
 use Rattle.worktree_stack.specs.Reading.{reading, rules_file}
 use Rattle.worktree_stack.specs.Stacked.{Stacked}
-use Rattle.worktree_stack.specs.Lookups.{stepped, IsLookedUp, IsOnWay}
+use Rattle.worktree_stack.specs.Lookups.{stepped, IsLookedUp}
 use Rattle.worktree_stack.specs.Refused.{IsOfFile, IsRefusedFor, IsOnWayTo, Refuses}
 
 -- the components before the rest of a path are those of the deepest directory
@@ -39,22 +40,16 @@ below_next whole at at' rest more name below first more_is at_is =
       end = λ none. absurd (not_nil more more_is none);
     }
 
--- a list without its last element, where another list follows the first
-above-front : (names : List (List ℕ)) (name : List ℕ) (more : List (List ℕ)) → without_last (names ++ name ∷ more) ≡ names ++ without_last (name ∷ more)
-above-front [] name more = refl
-above-front (first ∷ []) name more = refl
-above-front (first ∷ second ∷ names) name more = ap (λ (l : List (List ℕ)). first ∷ l) (above-front (second ∷ names) name more)
-
 -- a component that is not the last one is an ancestor
 above-some : (names more : List (List ℕ)) (name : List ℕ) → is_nil more ≡ false → without_last (names ++ name ∷ more) ≡ (names ++ name ∷ []) ++ without_last more
 above-some names [] name e = absurd (cc e)
-above-some names (other ∷ more) name e = above-front names name (other ∷ more) ∙ sym (append_assoc names (name ∷ []) (without_last (other ∷ more)))
+above-some names (other ∷ more) name e = without_last-append names name (other ∷ more) ∙ sym (append_assoc names (name ∷ []) (without_last (other ∷ more)))
 
 -- the deepest directory lies on the way
 pub on_way : (whole : List (List ℕ)) (at : Option (List (List ℕ))) (rest more : List (List ℕ)) (name : List ℕ) → IsBelow whole at rest → rest ≡ name ∷ more → IsOnWay at whole
 on_way whole at rest more name below first =
     subst (λ d. IsOnWay d whole) (sym below.some)
-    (record { rest = without_last (name ∷ more); joined = ap without_last (below.whole_is ∙ ap (λ (r : List (List ℕ)). names_at at ++ r) first) ∙ above-front (names_at at) name more })
+    (record { rest = without_last (name ∷ more); joined = ap without_last (below.whole_is ∙ ap (λ (r : List (List ℕ)). names_at at ++ r) first) ∙ without_last-append (names_at at) name more })
 
 pub on_way_same : (whole : List (List ℕ)) (at at' : Option (List (List ℕ))) → at' ≡ at → IsOnWay at whole → IsOnWay at' whole
 on_way_same whole at at' same way = subst (λ d. IsOnWay d whole) (sym same) way

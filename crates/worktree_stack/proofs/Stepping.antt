@@ -44,6 +44,7 @@ module _ (told : Option Names) where
           tried = ap (λ (s : RulesStatistics). s.tried_pattern_files) same;
           buffers = ap (λ (s : RulesStatistics). s.patterns_buffers) same;
           files = omega (arith, ap (λ (s : RulesStatistics). s.pattern_files) same);
+          most = omega (arith, ap (λ (s : RulesStatistics). s.pattern_files) same);
           exact = λ t told_is. same;
         };
       }
@@ -56,7 +57,7 @@ module _ (told : Option Names) where
         setup = refl;
         left = refl;
         counted = refl;
-        read = record { tried = refl; buffers = refl; files = omega arith; exact = λ t told_is. refl };
+        read = record { tried = refl; buffers = refl; files = omega arith; most = omega arith; exact = λ t told_is. refl };
       } in
       subst (λ (x : Stacked). CarriesOut told (push path is_last ∷ []) s x) (sym stepped_is) there
 

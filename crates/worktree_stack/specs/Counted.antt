@@ -71,3 +71,14 @@ count_tried source count [] = count
 count_tried source count (push_directory path ∷ calls) = count_tried source (try_from source count) calls
 count_tried source count (push path is_last ∷ calls) = count_tried source count calls
 count_tried source count (pop_directory ∷ calls) = count_tried source count calls
+
+-- how many files those are
+abbrev pub tries_from : Source → ℕ
+tries_from IdMapping = 0
+tries_from WorktreeThenIdMappingIfNotSkipped = 1
+
+abbrev pub tries : Source → List Call → ℕ
+tries source [] = 0
+tries source (push_directory path ∷ calls) = tries_from source + tries source calls
+tries source (push path is_last ∷ calls) = tries source calls
+tries source (pop_directory ∷ calls) = tries source calls

@@ -40,15 +40,6 @@ stepped s name =
       statistics = record s.statistics { delegate = count_call s.statistics.delegate (push (spelled (names_at s.at ++ name ∷ [])) false) };
     }
 
--- what is pushed lies on the way to a path: nothing, or one of its proper ancestors with all above it
-pub record IsOnTheWay (names pushed : List (List ℕ)) : Type 0 where
-  pub rest : List (List ℕ)
-  pub joined : without_last names ≡ pushed ++ rest
-
-abbrev pub IsOnWay : Option (List (List ℕ)) → List (List ℕ) → Type 0
-IsOnWay None names = Unit {0}
-IsOnWay (Some pushed) names = IsOnTheWay names pushed
-
 -- one for a refusal: the directory whose rules file was refused may have been read
 abbrev pub refused_one : {T E : Type 0} → Result T E → ℕ
 refused_one (Ok done) = 0

@@ -1,5 +1,5 @@
 -- Why a lookup is refused.
-use Rattle.std.specs.Prelude.{◌≡◌, ◌⊎◌, ℕ, false, List, ◌++◌, Result, Err}
+use Rattle.std.specs.Prelude.{◌≡◌, ◌⊎◌, ℕ, false, List, ◌++◌, slice_get, Some, Result, Err}
 use Rattle.gitbase_core.specs.Path.{components}
 use Rattle.glob_rules.specs.Ignore.{Rules}
 use Rattle.worktree_fs.specs.Tree.{Names}
@@ -98,3 +98,9 @@ Refuses t root setup names (errors.RulesFile path whys.Special) = IsRefusedAnces
 Refuses t root setup names (errors.RulesFile path whys.Fault) = Unit {0}
 Refuses t root setup names (errors.Blob id why) = Unit {0}
 Refuses t root setup names errors.OutOfMemory = Unit {0}
+
+-- ---- a list of lookups
+
+-- it is what is said of a refusal at one of these paths, or there is no memory for the answer
+abbrev pub IsOfOne : List (List ℕ) → (List ℕ → AtPathError → Type 0) → AtPathError → Type 0
+IsOfOne paths Said e = (e ≡ errors.OutOfMemory) ⊎ ((k : ℕ) × (path : List ℕ) × (slice_get paths k ≡ Some path) × Said path e)

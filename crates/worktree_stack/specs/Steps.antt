@@ -2,7 +2,7 @@
 --
 -- A lookup pushes the root where it is not pushed, pops the directories that are not above its path, and pushes those that
 -- are. Each of these calls is counted, and each push of a directory tries its rules file.
-use Rattle.std.specs.Prelude.{◌≡◌, ◌⊎◌, ◌≤◌, ℕ, true, List, [], ◌∷◌, ◌++◌, map, Option, Some, None, Result, Err}
+use Rattle.std.specs.Prelude.{◌≡◌, ◌⊎◌, ◌≤◌, ℕ, ◌+◌, true, List, [], ◌∷◌, ◌++◌, map, Option, Some, None, Result, Err}
 use Rattle.glob_rules.specs.Ignore.{Rules}
 use Rattle.worktree_fs.specs.Tree.{Names, look}
 use Rattle.worktree_fs.specs.PathStack.{Call, push_directory, granted, left_by, directories, names_at}
@@ -13,7 +13,7 @@ use Rattle.worktree_stack.specs.declared.error.RulesWhy.TheVariants as whys
 use Rattle.worktree_stack.specs.declared.statistics.RulesStatistics.{RulesStatistics}
 use Rattle.worktree_stack.specs.Setup.{Setup}
 use Rattle.worktree_stack.specs.Reading.{rules_file, reading}
-use Rattle.worktree_stack.specs.Counted.{one_more, count_file, count_calls, count_readings, count_tried}
+use Rattle.worktree_stack.specs.Counted.{one_more, count_file, count_calls, count_readings, count_tried, tries}
 use Rattle.worktree_stack.specs.Stacked.{Stacked, made_of}
 
 -- ---- the rules files that were read
@@ -24,14 +24,16 @@ pub record HasTriedFile (told : Option Names) (path : List ℕ) (old new : Rules
   pub tried : new.tried_pattern_files ≡ one_more old.tried_pattern_files
   pub buffers : new.patterns_buffers ≡ old.patterns_buffers
   pub files : old.pattern_files ≤ new.pattern_files
+  pub most : new.pattern_files ≤ old.pattern_files + 1
   pub exact : (t : Names) → told ≡ Some t → new ≡ count_file old (look t path true)
 
--- What was counted of the rules files on the way: each was tried, and none of them is a blob. Which of them were files is
--- told by the tree, where it is told.
+-- What was counted of the rules files on the way: each was tried, and none of them is a blob. Those that were files are among
+-- them; which they were is told by the tree, where it is told.
 pub record HasRead (told : Option Names) (setup : Setup) (root : List ℕ) (calls : List Call) (old new : RulesStatistics) : Type 0 where
   pub tried : new.tried_pattern_files ≡ count_tried setup.source old.tried_pattern_files calls
   pub buffers : new.patterns_buffers ≡ old.patterns_buffers
   pub files : old.pattern_files ≤ new.pattern_files
+  pub most : new.pattern_files ≤ old.pattern_files + tries setup.source calls
   pub exact : (t : Names) → told ≡ Some t → new ≡ count_readings setup t root old calls
 
 -- what a refusal has counted: nothing, but that memory may have ended behind the reading
@@ -108,11 +110,11 @@ Stops told calls old new (errors.Blob id why) = ⊥
 Stops told calls old new errors.OutOfMemory = IsStoppedEarly told calls old new
 
 -- a refusal that is not for a rules file
-abbrev pub IsForMemory : AtPathError → Type 0
-IsForMemory errors.NotNormal = Unit {0}
-IsForMemory (errors.Component why) = ⊥
-IsForMemory (errors.Collision path) = ⊥
-IsForMemory (errors.Directory path why) = ⊥
-IsForMemory (errors.RulesFile path why) = ⊥
-IsForMemory (errors.Blob id why) = ⊥
-IsForMemory errors.OutOfMemory = Unit {0}
+abbrev pub IsNoRulesFile : AtPathError → Type 0
+IsNoRulesFile errors.NotNormal = Unit {0}
+IsNoRulesFile (errors.Component why) = ⊥
+IsNoRulesFile (errors.Collision path) = ⊥
+IsNoRulesFile (errors.Directory path why) = ⊥
+IsNoRulesFile (errors.RulesFile path why) = ⊥
+IsNoRulesFile (errors.Blob id why) = ⊥
+IsNoRulesFile errors.OutOfMemory = Unit {0}

@@ -1,12 +1,12 @@
 //! The rules file of a directory.
 ghost use Rattle.std.specs.Prelude.{true, ◌≡◌, ◌≤◌, ◌+◌, ◌∷◌, [], Some, Ok, IfOk, IfErr, OnOk};
 ghost use Rattle.gitbase_core.specs.Path.{joined};
-ghost use Rattle.worktree_fs.specs.Tree.{Names, look, found, file};
+ghost use Rattle.worktree_fs.specs.Tree.{Names, look, found, absent, file};
 ghost use Rattle.worktree_fs.specs.Causes.{Rose};
 ghost use Rattle.worktree_fs.specs.Paths.{full_path};
 ghost use Rattle.worktree_stack.specs.Reading.{rules_file, rules_at, reading};
 ghost use Rattle.worktree_stack.specs.Counted.{count_file};
-ghost use Rattle.worktree_stack.specs.Steps.{HasRead, HasTried, HasTriedFile, IsForMemory};
+ghost use Rattle.worktree_stack.specs.Steps.{HasRead, HasTried, HasTriedFile, IsNoRulesFile};
 ghost use Rattle.worktree_stack.specs.declared.ignore_source.Source.TheVariants.{IdMapping};
 ghost use Rattle.worktree_fs.specs.PathStack.{push_directory};
 ghost use Rattle.worktree_stack.specs.Refused.{OnFault, IsOfFile, IsRefusedFor};
@@ -38,7 +38,7 @@ pub fn read_rules<W: Worktree>(
         (HasRead (W.told worktree.old) ignore.now.setup root.now (push_directory directory.now ∷ []) statistics.old statistics.new) }
     ensures tried { IfErr result (HasTried (statistics.new ≡ statistics.old)
         (HasRead (W.told worktree.old) ignore.now.setup root.now (push_directory directory.now ∷ []) statistics.old statistics.new)) }
-    ensures mapped { ignore.now.setup.source ≡ IdMapping → (worktree.new ≡ worktree.old) × IfErr result IsForMemory }
+    ensures mapped { ignore.now.setup.source ≡ IdMapping → (worktree.new ≡ worktree.old) × IfErr result IsNoRulesFile }
     ensures about { IfErr result (IsOfFile (rules_file root.now ignore.now.setup directory.now)) }
     ensures cause { IfErr result (OnFault (Rose (W.faults worktree.old) (W.faults worktree.new))) }
     ensures tree { W.told worktree.new ≡ W.told worktree.old }
@@ -88,7 +88,7 @@ fn read_file<W: Worktree>(
             return list_of(alloc, buffer, path, directory, ignore, statistics);
         },
         Ok(ReadAnswer::Absent) | Ok(ReadAnswer::IsDirectory) => {
-            statistics.tried_pattern_files = statistics.tried_pattern_files.saturating_add(1);
+            count_no_file(statistics);
             return Ok(List::new(alloc));
         },
         Ok(ReadAnswer::IsLink) => RulesWhy::Link,
@@ -98,6 +98,13 @@ fn read_file<W: Worktree>(
         Err(ReadError::OutOfMemory) => return Err(AtPathError::OutOfMemory),
     };
     Err(AtPathError::RulesFile { path, why })
+}
+
+/// Counts a rules file that is not there, or is a directory.
+fn count_no_file(statistics: &mut RulesStatistics)
+    ensures { statistics.new ≡ count_file statistics.old absent }
+{
+    statistics.tried_pattern_files = statistics.tried_pattern_files.saturating_add(1);
 }
 
 /// The rules of a file whose bytes were read.
@@ -111,7 +118,8 @@ fn list_of(
 ) -> Result<List, AtPathError>
     ensures rules { IfOk result (λ list. rules_at ignore.now.setup directory.now path (found (file bytes.now)) ≡ Ok list) }
     ensures counted { statistics.new ≡ count_file statistics.old (found (file bytes.now)) }
-    ensures later { statistics.old.pattern_files ≤ statistics.new.pattern_files }
+    ensures files { statistics.old.pattern_files ≤ statistics.new.pattern_files }
+    ensures most { statistics.new.pattern_files ≤ statistics.old.pattern_files + 1 }
     ensures refused { IfErr result (λ e. e ≡ AtPathError.OutOfMemory) }
 {
     statistics.tried_pattern_files = statistics.tried_pattern_files.saturating_add(1);

@@ -6,20 +6,20 @@ ghost use Rattle.gitbase_core.specs.Path.{components};
 ghost use Rattle.glob_rules.specs.declared.Case.TheVariants as cases;
 ghost use Rattle.worktree_fs.specs.Causes.{Rose};
 ghost use Rattle.worktree_fs.specs.Paths.{is_normal, full_path, spelled, fronts, IsComponent};
-ghost use Rattle.worktree_fs.specs.PathStack.{names_at, one_up, surplus, lookup_calls, root_calls, calls_for, calls_below, push, push_directory, pop_directory};
+ghost use Rattle.worktree_fs.specs.PathStack.{names_at, one_up, surplus, lookup_calls, root_calls, calls_for, calls_below, push, push_directory, pop_directory, IsOnWay};
 ghost use Rattle.worktree_fs.specs.Tree.{Names};
 ghost use Rattle.worktree_stack.specs.Setup.{Held, deciding_hit};
 ghost use Rattle.glob_rules.specs.Ignore.{match_of};
 ghost use Rattle.worktree_stack.specs.Stacked.{Stacked, AreThoseOf, IsInStep, made_of, pushed, held_of};
-ghost use Rattle.worktree_stack.specs.Lookups.{kind_alone, is_dir_of, is_dir_of_entry, IsLookedUp, staying, IsOnWay, refused_one};
-ghost use Rattle.worktree_stack.specs.Steps.{CarriesOut, Stops, IsForMemory};
+ghost use Rattle.worktree_stack.specs.Lookups.{kind_alone, is_dir_of, is_dir_of_entry, IsLookedUp, staying, refused_one};
+ghost use Rattle.worktree_stack.specs.Steps.{CarriesOut, Stops, IsNoRulesFile};
 ghost use Rattle.worktree_stack.specs.declared.ignore_source.Source.TheVariants.{IdMapping};
 ghost use Rattle.worktree_stack.specs.Counted.{no_statistics, one_more, count_platform};
 ghost use Rattle.worktree_stack.specs.Excludes.{ancestors};
-ghost use Rattle.worktree_stack.specs.Refused.{OnFault, IsAbout, IsOnWayTo, Refuses, IsOfFile, IsRefusedFor};
+ghost use Rattle.worktree_stack.specs.Refused.{OnFault, IsAbout, IsOfOne, IsOnWayTo, Refuses, IsOfFile, IsRefusedFor};
 ghost use Rattle.worktree_stack.specs.Reading.{rules_file, reading};
 
-mod delegate;
+mod steps;
 
 use crate::platform::Platform;
 use crate::{AtPathError, State, Statistics};
@@ -224,7 +224,7 @@ impl Stack {
         ensures normal { is_normal relative.now ≡ false
             → IsErrOf result AtPathError.NotNormal × (self.new ≡ record self.old { statistics = count_platform self.old.statistics })
             × (worktree.new ≡ worktree.old) }
-        ensures mapped { self.old.held.setup.source ≡ IdMapping → (worktree.new ≡ worktree.old) × IfErr result IsForMemory }
+        ensures mapped { self.old.held.setup.source ≡ IdMapping → (worktree.new ≡ worktree.old) × IfErr result IsNoRulesFile }
         ensures about { IfErr result (IsAbout self.old.root self.old.held.setup relative.now) }
         ensures refused { (t : Names) → W.told worktree.old ≡ Some t
             → IfErr result (Refuses t self.old.root self.old.held.setup (components relative.now)) }
@@ -273,7 +273,7 @@ impl Stack {
         ensures normal { is_normal relative.now ≡ false
             → IsErrOf result AtPathError.NotNormal × (self.new ≡ record self.old { statistics = count_platform self.old.statistics })
             × (worktree.new ≡ worktree.old) }
-        ensures mapped { self.old.held.setup.source ≡ IdMapping → (worktree.new ≡ worktree.old) × IfErr result IsForMemory }
+        ensures mapped { self.old.held.setup.source ≡ IdMapping → (worktree.new ≡ worktree.old) × IfErr result IsNoRulesFile }
         ensures about { IfErr result (IsAbout self.old.root self.old.held.setup relative.now) }
         ensures refused { (t : Names) → W.told worktree.old ≡ Some t
             → IfErr result (Refuses t self.old.root self.old.held.setup (components relative.now)) }
@@ -304,7 +304,8 @@ impl Stack {
     /// What may become of each of some paths where it is excluded, none where it is not; as `git check-ignore` answers for a
     /// list of paths. Nothing is known of their kinds. What was looked up before decides nothing.
     ///
-    /// Refused at the first path for which [`Stack::at_path`] is, and for its reasons.
+    /// Refused at the first path for which [`Stack::at_path`] is, and for its reasons, or where there is no memory for the
+    /// answer.
     pub fn excluded_kinds<W: Worktree, F: Find>(
         &mut self,
         alloc: Global,
@@ -314,6 +315,9 @@ impl Stack {
     ) -> Result<Vec<Option<Kind>>, AtPathError>
         ensures kinds { (t : Names) → W.told worktree.old ≡ Some t → IsInStep t self.old
             → IfOk result (λ kinds. kinds.items ≡ map (kind_alone (made_of self.old) t) paths.now) }
+        ensures about { IfErr result (IsOfOne paths.now (λ path e. IsAbout self.old.root self.old.held.setup path e)) }
+        ensures refused { (t : Names) → W.told worktree.old ≡ Some t
+            → IfErr result (IsOfOne paths.now (λ path e. Refuses t self.old.root self.old.held.setup (components path) e)) }
         ensures setup { made_of self.new ≡ made_of self.old }
         ensures in_step { (t : Names) → W.told worktree.old ≡ Some t → IsInStep t self.old → IsInStep t self.new }
         ensures cause { IfErr result (OnFault (Rose (W.faults worktree.old) (W.faults worktree.new))) }
@@ -321,7 +325,9 @@ impl Stack {
         ensures faults { W.faults worktree.old ≤ W.faults worktree.new }
         ensures list_faults { W.list_faults worktree.new ≡ W.list_faults worktree.old }
         ensures lists { W.lists worktree.new ≡ W.lists worktree.old }
+        ensures precomposes { W.precomposes worktree.new ≡ W.precomposes worktree.old }
         ensures objects { F.holds objects.new ≡ F.holds objects.old }
+        ensures object_faults { F.faults objects.new ≡ F.faults objects.old }
     {
         let mut kinds = Vec::with_capacity(alloc, paths.len())?;
         for path in paths {

@@ -23,6 +23,18 @@ fn parse() -> ParseIgnore {
     }
 }
 
+/// A stack below `/w` with this state.
+fn stack_with(alloc: Global, ignore: Ignore) -> Result<Stack, OutOfMemory> {
+    Ok(Stack::new(
+        alloc,
+        PathText::from_bytes(alloc, b"/w")?,
+        State::IgnoreStack(ignore),
+        Case::Sensitive,
+        Bytes::new(alloc),
+        Vec::new(alloc),
+    ))
+}
+
 /// A stack below `/w` with these overrides and globals.
 fn stack_of(
     alloc: Global,
@@ -33,15 +45,7 @@ fn stack_of(
     let overrides = search_of(alloc, overrides, b"/overrides")?;
     let globals = search_of(alloc, globals, b"/globals")?;
     let ignore = Ignore::new(alloc, overrides, globals, None, source, parse())?;
-    let root = PathText::from_bytes(alloc, b"/w")?;
-    Ok(Stack::new(
-        alloc,
-        root,
-        State::IgnoreStack(ignore),
-        Case::Sensitive,
-        Bytes::new(alloc),
-        Vec::new(alloc),
-    ))
+    stack_with(alloc, ignore)
 }
 
 /// A worktree with these files in `/w`.
@@ -282,6 +286,53 @@ fn mappings_alone_give_no_rules(rt: HostRuntime) -> Result<(), Fail> {
     let mut tree = tree_of(alloc, &[(b"/w/.gitignore", b"d\n")])?;
     let mut mapped = stack_of(alloc, b"", b"", Source::default().adjust_for_bare(true))?;
     let (kind, _, _) = decision_at(alloc, &mut mapped, &mut tree, b"d")?;
+    assert_eq!(rt; kind, None);
+    Ok(())
+}
+
+#[test]
+fn another_name_of_rules_files(rt: HostRuntime) -> Result<(), Fail> {
+    let alloc = rt.alloc();
+    let files: [(&[u8], &[u8]); 2] = [(b"/w/.gitignore", b"*.o\n"), (b"/w/.rules", b"*.c\n")];
+    let mut tree = tree_of(alloc, &files)?;
+    let name = Bytes::from_slice(alloc, b".rules")?;
+    let ignore = Ignore::new(
+        alloc,
+        Search::new(alloc),
+        Search::new(alloc),
+        Some(name),
+        Source::default(),
+        parse(),
+    )?;
+    let mut stack = stack_with(alloc, ignore)?;
+    let (kind, text, _) = decision_at(alloc, &mut stack, &mut tree, b"x.c")?;
+    assert_eq!(rt; kind, Some(Kind::Expendable));
+    assert_eq!(rt; text.as_bytes(), b"*.c".as_slice());
+    let (kind, _, _) = decision_at(alloc, &mut stack, &mut tree, b"x.o")?;
+    assert_eq!(rt; kind, None);
+    Ok(())
+}
+
+#[test]
+fn a_state_is_lent_and_changed(rt: HostRuntime) -> Result<(), Fail> {
+    let alloc = rt.alloc();
+    let mut tree = tree_of(alloc, &[])?;
+    let mut stack = stack_of(alloc, b"", b"old\n", Source::default())?;
+    stack.enable_terminal_symlink_check();
+    let globals = search_of(alloc, b"new\n", b"/globals")?;
+    let ignore = Ignore::new(
+        alloc,
+        Search::new(alloc),
+        globals,
+        None,
+        Source::default(),
+        parse(),
+    )?;
+    *stack.state_mut() = State::IgnoreStack(ignore);
+    assert!(rt; matches!(stack.state(), State::IgnoreStack(_)));
+    let (kind, _, _) = decision_at(alloc, &mut stack, &mut tree, b"new")?;
+    assert_eq!(rt; kind, Some(Kind::Expendable));
+    let (kind, _, _) = decision_at(alloc, &mut stack, &mut tree, b"old")?;
     assert_eq!(rt; kind, None);
     Ok(())
 }

@@ -27,5 +27,7 @@ loop-path-preserved g c =
       faults = omega (arith, c.at_path.ensures.faults, before.faults);
       list_faults = c.at_path.ensures.list_faults ∙ before.list_faults;
       lists = c.at_path.ensures.lists ∙ before.lists;
+      precomposes = c.at_path.ensures.precomposes ∙ before.precomposes;
       objects = c.at_path.ensures.objects ∙ before.objects;
+      object_faults = c.at_path.ensures.object_faults ∙ before.object_faults;
     }

@@ -16,5 +16,7 @@ invariant-loop-path g l =
       faults : W.faults l.fn.worktree ≤ W.faults l.worktree;
       list_faults : W.list_faults l.worktree ≡ W.list_faults l.fn.worktree;
       lists : W.lists l.worktree ≡ W.lists l.fn.worktree;
+      precomposes : W.precomposes l.worktree ≡ W.precomposes l.fn.worktree;
       objects : g.F.Find.holds l.objects ≡ g.F.Find.holds l.fn.objects;
+      object_faults : g.F.Find.faults l.objects ≡ g.F.Find.faults l.fn.objects;
     }

@@ -3,9 +3,9 @@ use Rattle.std.proofs.lemmas.List.{append-nil}
 use Rattle.std.proofs.lemmas.Result.{IfErr-weaker}
 use Rattle.worktree_fs.proofs.Lookups.{on_ok}
 use Rattle.gitbase_core.specs.Path.{components}
-use Rattle.worktree_fs.specs.PathStack.{Call, names_at, calls_below, root_calls, surplus, pop_directory}
+use Rattle.worktree_fs.specs.PathStack.{Call, names_at, IsOnWay, calls_below, root_calls, surplus, pop_directory}
 use Rattle.worktree_stack.specs.Stacked.{Made, made_of}
-use Rattle.worktree_stack.specs.Lookups.{IsLookedUp, IsOnWay}
+use Rattle.worktree_stack.specs.Lookups.{IsLookedUp}
 use Rattle.worktree_stack.specs.Refused.{IsOnWayTo, Refuses}
 use Rattle.worktree_stack.specs.Steps.{CarriesOut, Stops}
 use Rattle.worktree_stack.proofs.Carrying.{carries-as, carries-then, stops-after}

@@ -3,13 +3,13 @@ ghost use Rattle.std.specs.Prelude.{◌≡◌, ◌≤◌, ◌+◌, ◌++◌, ◌
 ghost use Rattle.gitbase_core.specs.Path.{components};
 ghost use Rattle.worktree_fs.specs.Causes.{Rose};
 ghost use Rattle.worktree_fs.specs.Paths.{spelled, fronts, IsComponent};
-ghost use Rattle.worktree_fs.specs.PathStack.{names_at, one_up, surplus, lookup_calls, root_calls, calls_for, calls_below, push_directory, pop_directory};
+ghost use Rattle.worktree_fs.specs.PathStack.{names_at, one_up, surplus, lookup_calls, root_calls, calls_for, calls_below, push_directory, pop_directory, IsOnWay};
 ghost use Rattle.worktree_fs.specs.Tree.{Names};
 ghost use Rattle.worktree_stack.specs.Counted.{count_platform, count_call};
-ghost use Rattle.worktree_stack.specs.Steps.{HasRead, HasTried, CarriesOut, Stops, IsForMemory};
+ghost use Rattle.worktree_stack.specs.Steps.{HasRead, HasTried, CarriesOut, Stops, IsNoRulesFile};
 ghost use Rattle.worktree_stack.specs.declared.ignore_source.Source.TheVariants.{IdMapping};
 ghost use Rattle.worktree_stack.specs.Excludes.{ancestors};
-ghost use Rattle.worktree_stack.specs.Lookups.{is_dir_of, IsLookedUp, staying, stepped, IsOnWay, refused_one};
+ghost use Rattle.worktree_stack.specs.Lookups.{is_dir_of, IsLookedUp, staying, stepped, refused_one};
 ghost use Rattle.worktree_stack.specs.Reading.{rules_file, reading};
 ghost use Rattle.worktree_stack.specs.Refused.{OnFault, IsOnWayTo, Refuses, IsOfFile, IsRefusedFor};
 ghost use Rattle.worktree_stack.specs.Stacked.{AreThoseOf, IsInStep, made_of, pushed};
@@ -68,7 +68,7 @@ impl Stack {
         ensures tried { IfErr result (HasTried (self.new.statistics.ignore ≡ self.old.statistics.ignore)
             (HasRead (W.told worktree.old) self.old.held.setup self.old.root
             (push_directory (spelled self.old.current) ∷ []) self.old.statistics.ignore self.new.statistics.ignore)) }
-        ensures mapped { self.old.held.setup.source ≡ IdMapping → (worktree.new ≡ worktree.old) × IfErr result IsForMemory }
+        ensures mapped { self.old.held.setup.source ≡ IdMapping → (worktree.new ≡ worktree.old) × IfErr result IsNoRulesFile }
         ensures about { IfErr result (IsOfFile (rules_file self.old.root self.old.held.setup (spelled self.old.current))) }
         ensures refused { (t : Names) → W.told worktree.old ≡ Some t
             → IfErr result (IsRefusedFor (reading self.old.held.setup t self.old.root (spelled self.old.current))) }
@@ -130,7 +130,7 @@ impl Stack {
         ensures carried { pushed self.old.at ≡ ancestors self.old.current
             → OnOk result (CarriesOut (W.told worktree.old) (push_directory (spelled self.old.current) ∷ []) self.old self.new) }
         ensures stopped { IfErr result (Stops (W.told worktree.old) (push_directory (spelled self.old.current) ∷ []) self.old self.new) }
-        ensures mapped { self.old.held.setup.source ≡ IdMapping → (worktree.new ≡ worktree.old) × IfErr result IsForMemory }
+        ensures mapped { self.old.held.setup.source ≡ IdMapping → (worktree.new ≡ worktree.old) × IfErr result IsNoRulesFile }
         ensures in_step { (t : Names) → W.told worktree.old ≡ Some t → pushed self.old.at ≡ ancestors self.old.current
             → IsInStep t self.old → IsInStep t self.new }
         ensures about { IfErr result (IsOfFile (rules_file self.old.root self.old.held.setup (spelled self.old.current))) }
@@ -196,7 +196,7 @@ impl Stack {
         ensures attributes { self.new.statistics.attributes ≡ self.old.statistics.attributes }
         ensures carried { OnOk result (CarriesOut (W.told worktree.old) (root_calls self.old.at) self.old self.new) }
         ensures stopped { IfErr result (Stops (W.told worktree.old) (root_calls self.old.at) self.old self.new) }
-        ensures mapped { self.old.held.setup.source ≡ IdMapping → (worktree.new ≡ worktree.old) × IfErr result IsForMemory }
+        ensures mapped { self.old.held.setup.source ≡ IdMapping → (worktree.new ≡ worktree.old) × IfErr result IsNoRulesFile }
         ensures in_step { (t : Names) → W.told worktree.old ≡ Some t → IsInStep t self.old → IsInStep t self.new }
         ensures about { IfErr result (IsOfFile (rules_file self.old.root self.old.held.setup [])) }
         ensures refused { (t : Names) → W.told worktree.old ≡ Some t
@@ -233,7 +233,7 @@ impl Stack {
         ensures attributes { self.new.statistics.attributes ≡ self.old.statistics.attributes }
         ensures carried { OnOk result (CarriesOut (W.told worktree.old) (calls_for (names_at self.old.at) name.now false) self.old self.new) }
         ensures stopped { IfErr result (Stops (W.told worktree.old) (calls_for (names_at self.old.at) name.now false) self.old self.new) }
-        ensures mapped { self.old.held.setup.source ≡ IdMapping → (worktree.new ≡ worktree.old) × IfErr result IsForMemory }
+        ensures mapped { self.old.held.setup.source ≡ IdMapping → (worktree.new ≡ worktree.old) × IfErr result IsNoRulesFile }
         ensures in_step { (t : Names) → W.told worktree.old ≡ Some t → IsInStep t self.old → IsInStep t self.new }
         ensures about { IfErr result (IsOfFile (rules_file self.old.root self.old.held.setup (spelled (names_at self.old.at ++ name.now ∷ [])))) }
         ensures refused { (t : Names) → W.told worktree.old ≡ Some t
@@ -268,7 +268,7 @@ impl Stack {
         ensures attributes { self.new.statistics.attributes ≡ self.old.statistics.attributes }
         ensures carried { OnOk result (CarriesOut (W.told worktree.old) (calls_below (names_at self.old.at) (components left.now)) self.old self.new) }
         ensures stopped { IfErr result (Stops (W.told worktree.old) (calls_below (names_at self.old.at) (components left.now)) self.old self.new) }
-        ensures mapped { self.old.held.setup.source ≡ IdMapping → (worktree.new ≡ worktree.old) × IfErr result IsForMemory }
+        ensures mapped { self.old.held.setup.source ≡ IdMapping → (worktree.new ≡ worktree.old) × IfErr result IsNoRulesFile }
         ensures in_step { (t : Names) → W.told worktree.old ≡ Some t → IsInStep t self.old → IsInStep t self.new }
         ensures about { IfErr result (IsOnWayTo self.old.root self.old.held.setup (names_at self.old.at ++ components left.now)) }
         ensures refused { (t : Names) → W.told worktree.old ≡ Some t
@@ -309,7 +309,7 @@ impl Stack {
         ensures attributes { self.new.statistics.attributes ≡ self.old.statistics.attributes }
         ensures carried { OnOk result (CarriesOut (W.told worktree.old) (lookup_calls self.old.at (components relative.now)) self.old self.new) }
         ensures stopped { IfErr result (Stops (W.told worktree.old) (lookup_calls self.old.at (components relative.now)) self.old self.new) }
-        ensures mapped { self.old.held.setup.source ≡ IdMapping → (worktree.new ≡ worktree.old) × IfErr result IsForMemory }
+        ensures mapped { self.old.held.setup.source ≡ IdMapping → (worktree.new ≡ worktree.old) × IfErr result IsNoRulesFile }
         ensures in_step { (t : Names) → W.told worktree.old ≡ Some t → IsInStep t self.old → IsInStep t self.new }
         ensures about { IfErr result (IsOnWayTo self.old.root self.old.held.setup (components relative.now)) }
         ensures refused { (t : Names) → W.told worktree.old ≡ Some t
