@@ -25,7 +25,9 @@ use worktree_stack::Stack;
 /// The class of a path: all that an entry says of it.
 #[derive(Clone, Copy, Debug)]
 pub struct Outcome {
+    /// How the path stands to the index and the rules.
     pub status: Status,
+    /// What sets the path apart, where something does.
     pub property: Option<Property>,
     /// The kind of the node on disk; none where nothing is there, or where it could not be learnt.
     pub disk_kind: Option<Kind>,
@@ -58,9 +60,10 @@ impl From<&Entry> for Outcome {
 /// index tells the kind, the worktree is asked, if `ask_disk` allows it; a fault of that question reads as no kind,
 /// and is counted by the worktree.
 ///
-/// `excludes` are asked, where they are given, for a path that the index does not have: it is excluded by the rules of
-/// the directories above it, which are read as they are needed, and kept for the next path. `objects` are not asked, as
-/// long as no rules file is mapped to a blob.
+/// `excludes` are asked, where they are given, for a path that the index does not have, or has in another shape (a
+/// directory in a file's place, or the other way round): it is excluded by the rules of the directories above it, which
+/// are read as they are needed, and kept for the next path. `objects` are not asked, as long as no rules file is mapped
+/// to a blob.
 ///
 /// Refused is a path with a directory above it whose rules file is a link without an end or neither file nor
 /// directory, or could not be read (`ExcludesAccess`). `rela_path` is normal: no component is `.` or `..`.

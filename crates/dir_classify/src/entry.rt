@@ -138,11 +138,14 @@ pub enum PathspecMatch {
 
 /// A path with its class.
 ///
-/// `rela_path` is relative to the worktree root, its components parted by `/`; it is empty for the root itself.
-#[derive(Debug, Drop)]
+/// Entries stand in the order of their paths, byte by byte, and then of the other fields.
+#[derive(Debug, Drop, PartialEq, Eq, PartialOrd, Ord, Hash)]
 pub struct Entry {
+    /// The path relative to the worktree root, its components parted by `/`; empty for the root itself.
     pub rela_path: PathText,
+    /// How the path stands to the index and the rules.
     pub status: Status,
+    /// What sets the path apart, where something does.
     pub property: Option<Property>,
     /// The kind of the node on disk; none where nothing is there, or where it could not be learnt.
     pub disk_kind: Option<Kind>,
@@ -152,14 +155,20 @@ pub struct Entry {
     pub pathspec_match: Option<PathspecMatch>,
 }
 
-/// An entry over a borrowed path.
-#[derive(Clone, Copy, Debug)]
+/// An entry over a borrowed path, in the order of entries.
+#[derive(Clone, Copy, Debug, PartialEq, Eq, PartialOrd, Ord, Hash)]
 pub struct EntryRef<'a> {
+    /// The path relative to the worktree root, its components parted by `/`; empty for the root itself.
     pub rela_path: &'a [u8],
+    /// How the path stands to the index and the rules.
     pub status: Status,
+    /// What sets the path apart, where something does.
     pub property: Option<Property>,
+    /// The kind of the node on disk; none where nothing is there, or where it could not be learnt.
     pub disk_kind: Option<Kind>,
+    /// The kind that the index has at the path; none where it has nothing there.
     pub index_kind: Option<Kind>,
+    /// How the path specs match; none where none does.
     pub pathspec_match: Option<PathspecMatch>,
 }
 

@@ -1,7 +1,6 @@
 //! Why a walk was refused.
 use bstr::BStr;
 use gitbase_core::{OutOfMemory, PathText};
-use std::alloc::{AllocError, AllocFailed};
 use thiserror::Error;
 use worktree_stack::AtPathError;
 
@@ -69,27 +68,5 @@ impl From<AtPathError> for Error {
             AtPathError::OutOfMemory => Error::OutOfMemory,
             refused => Error::ExcludesAccess(refused),
         }
-    }
-}
-
-impl From<AllocError> for Error {
-    ghost use Rattle.std.specs.Prelude.{◌≡◌};
-    ghost use Rattle.dir_classify.specs.declared.error.Error.TheVariants as errors;
-
-    ghost from_gives = { λ _ error. error ≡ errors.OutOfMemory };
-
-    fn from(_refused: AllocError) -> Error {
-        Error::OutOfMemory
-    }
-}
-
-impl<T: Drop> From<AllocFailed<T>> for Error {
-    ghost use Rattle.std.specs.Prelude.{◌≡◌};
-    ghost use Rattle.dir_classify.specs.declared.error.Error.TheVariants as errors;
-
-    ghost from_gives = { λ _ error. error ≡ errors.OutOfMemory };
-
-    fn from(_refused: AllocFailed<T>) -> Error {
-        Error::OutOfMemory
     }
 }

@@ -9,6 +9,7 @@ use gitbase_core::{
 use glob_rules::Case;
 use glob_rules::ignore::{self, List, ParseIgnore, Search};
 use std::alloc::Global;
+use std::process::Abort;
 use std::test::Fail;
 use worktree_fs::{AddError, CallKind, MemoryWorktree, NewNode};
 use worktree_stack::ignore_source::Source;
@@ -397,27 +398,52 @@ fn entries_change_hands(rt: HostRuntime) -> Result<(), Fail> {
 }
 
 #[test]
+fn entries_stand_by_path_and_then_by_status(rt: HostRuntime) -> Result<(), Fail> {
+    let alloc = rt.alloc();
+    let plain = |rela_path, status| EntryRef {
+        rela_path,
+        status,
+        property: None,
+        disk_kind: Some(Kind::File),
+        index_kind: None,
+        pathspec_match: None,
+    };
+    let dot = plain(b"d.x".as_slice(), Status::Untracked);
+    let slash = plain(b"d/x".as_slice(), Status::Pruned);
+    let tracked = plain(b"d/x".as_slice(), Status::Tracked);
+    assert!(rt; dot < slash && slash < tracked && slash != tracked);
+    let (dot, slash, tracked) = (
+        dot.to_owned(alloc)?,
+        slash.to_owned(alloc)?,
+        tracked.to_owned(alloc)?,
+    );
+    assert!(rt; dot < slash && slash < tracked && slash != tracked);
+    Ok(())
+}
+
+/// Fails unless an error prints as this text.
+fn check_text(rt: &impl Abort, alloc: Global, error: Error, text: &str) -> Result<(), Fail> {
+    assert_eq!(rt; format!(in alloc; "{error}")?.as_str(), text);
+    Ok(())
+}
+
+#[test]
 fn errors_print(rt: HostRuntime) -> Result<(), Fail> {
     let alloc = rt.alloc();
-    let error = Error::ReadDir {
-        path: PathText::from_bytes(alloc, b"/w/\xff")?,
-        why: ReadWhy::Absent,
-    };
-    assert_eq!(rt;
-        format!(in alloc; "{error}")?.as_str(),
-        "Failed to read the directory at '/w/\u{fffd}'"
-    );
-    let error = Error::WorktreeRootIsFile {
-        root: PathText::from_bytes(alloc, b"/w")?,
-    };
-    assert_eq!(rt;
-        format!(in alloc; "{error}")?.as_str(),
-        "Worktree root at '/w' is not a directory"
-    );
+    let root = PathText::from_bytes(alloc, b"/w")?;
+    let text = "Worktree root at '/w' is not a directory";
+    check_text(&rt, alloc, Error::WorktreeRootIsFile { root }, text)?;
     let error = Error::ExcludesAccess(AtPathError::NotNormal);
-    assert_eq!(rt;
-        format!(in alloc; "{error}")?.as_str(),
-        "Failed to update the excludes stack to see if a path is excluded"
-    );
-    Ok(())
+    let text = "Failed to update the excludes stack to see if a path is excluded";
+    check_text(&rt, alloc, error, text)?;
+    let path = PathText::from_bytes(alloc, b"/w/\xff")?;
+    let why = ReadWhy::Absent;
+    let text = "Failed to read the directory at '/w/\u{fffd}'";
+    check_text(&rt, alloc, Error::ReadDir { path, why }, text)?;
+    let parent_directory = PathText::from_bytes(alloc, b"/w/d")?;
+    let text = "Could not obtain directory entry in root of '/w/d'";
+    check_text(&rt, alloc, Error::DirEntry { parent_directory }, text)?;
+    let path = PathText::from_bytes(alloc, b"/w/d")?;
+    check_text(&rt, alloc, Error::TooDeep { path }, "TooDeep")?;
+    check_text(&rt, alloc, Error::OutOfMemory, "OutOfMemory")
 }

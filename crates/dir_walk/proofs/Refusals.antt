@@ -1,11 +1,12 @@
 -- Refusals on the way up: from a name to its directory, and from a directory to its name.
-use Rattle.std.proofs.Common.{◌≡◌, ◌⊎◌, inl, inr, ℕ, ◌<◌, List, ◌∷◌, Bool, true, false, ◌||◌, Option, Some, None, Err, refl, sym, ap, subst, ◌∙◌}
-use Rattle.std.specs.Prelude.{if◌then◌else◌, IsSomeAnd}
+use Rattle.std.proofs.Common.{◌≡◌, ◌⊎◌, inl, inr, ℕ, ◌<◌, List, Bool, true, false, ◌||◌, Option, Some, None, Err, refl, sym, ap, subst, ◌∙◌}
+use Rattle.std.specs.Prelude.{IsSomeAnd}
 use Rattle.std.specs.Str.{bytes_eq}
 use Rattle.std.proofs.lemmas.Cmp.{nat_list_eq_equiv}
 use Rattle.gitbase_core.specs.Path.{joined, is_empty}
 use Rattle.worktree_fs.specs.Tree.{Node, Names, none, named, child, look, found, file, link, directory, other}
 use Rattle.worktree_fs.specs.Answers.{list_of}
+use Rattle.worktree_fs.specs.Paths.{is_normal}
 use Rattle.worktree_fs.specs.declared.answers.ListError.{ListError}
 use Rattle.worktree_fs.specs.declared.answers.ListError.TheVariants as lists
 use Rattle.worktree_stack.specs.declared.error.AtPathError.{AtPathError}
@@ -56,7 +57,7 @@ asked_within v w P Q path within f (inr p) = inr (f p)
 
 access_within : (t : Names) (made : Option Made) (v w : Walked) (P Q : Type 0) (e : AtPathError) → Within v w → (P → Q) → IsSomeAnd made (λ rules. IsNoAccess t rules v P e) → IsSomeAnd made (λ rules. IsNoAccess t rules w Q e)
 access_within t None v w P Q e within f h = absurd h
-access_within t (Some rules) v w P Q e within f h = record { path = h.path; asked = asked_within v w P Q h.path within f h.asked; access = h.access; refused = h.refused }
+access_within t (Some rules) v w P Q e within f h = record { path = h.path; normal = h.normal; asked = asked_within v w P Q h.path within f h.asked; access = h.access; refused = h.refused }
 
 -- to a result with more paths, and to a longer time in which the worktree may have failed
 pub Refuses-within : (t : Names) (made : Option Made) (m : Meanings) (root : List ℕ) (limit : ℕ) (P Q : Type 0) (v w : Walked) (e : Error) → Within v w → (P → Q) → Refuses t made m root limit P v e → Refuses t made m root limit Q w e
@@ -128,10 +129,10 @@ asked-name m path node e = go (enters (child_class m path node) false) refl
         ap (λ (w : Walked). is_among path w.asked) (item-leaf m path node out) ∙ among-asking (child_asks m path node) path (leaf (entry_at path (child_class m path node))) e
 
 -- a refusal of a class is one of the name
-pub Refuses-class : (t : Names) (made : Option Made) (m : Meanings) (root : List ℕ) (limit : ℕ) (Failed : Type 0) (path : List ℕ) (node : Node) (e : Error) → classes.IsAbout made path e → classes.Refuses t made path e
+pub Refuses-class : (t : Names) (made : Option Made) (m : Meanings) (root : List ℕ) (limit : ℕ) (Failed : Type 0) (path : List ℕ) (node : Node) (e : Error) → is_normal path ≡ true → classes.IsAbout made path e → classes.Refuses t made path e
     → classes.OnAccess (child_asks m path node ≡ true) e ⊎ Failed → Refuses t made m root limit Failed (item m path node) e
-Refuses-class t made m root limit Failed path node (errors.WorktreeRootIsFile p) about refused asks = about
-Refuses-class t made m root limit Failed path node (errors.ExcludesAccess e) about refused asks = go made about refused
+Refuses-class t made m root limit Failed path node (errors.WorktreeRootIsFile p) normal about refused asks = about
+Refuses-class t made m root limit Failed path node (errors.ExcludesAccess e) normal about refused asks = go made about refused
   where
     among : (child_asks m path node ≡ true) ⊎ Failed → (is_among path (item m path node).asked ≡ true) ⊎ Failed
     among (inl h) = inl (asked-name m path node h)
@@ -139,24 +140,24 @@ Refuses-class t made m root limit Failed path node (errors.ExcludesAccess e) abo
 
     go : (k : Option Made) → classes.IsAbout k path (errors.ExcludesAccess e) → classes.Refuses t k path (errors.ExcludesAccess e) → IsSomeAnd k (λ rules. IsNoAccess t rules (item m path node) Failed e)
     go None a r = absurd a
-    go (Some rules) a r = record { path = path; asked = among asks; access = a; refused = r }
-Refuses-class t made m root limit Failed path node (errors.TooDeep p) about refused asks = absurd about
-Refuses-class t made m root limit Failed path node (errors.ReadDir p why) about refused asks = absurd about
-Refuses-class t made m root limit Failed path node (errors.DirEntry p) about refused asks = tt
-Refuses-class t made m root limit Failed path node errors.OutOfMemory about refused asks = tt
+    go (Some rules) a r = record { path = path; normal = normal; asked = among asks; access = a; refused = r }
+Refuses-class t made m root limit Failed path node (errors.TooDeep p) normal about refused asks = absurd about
+Refuses-class t made m root limit Failed path node (errors.ReadDir p why) normal about refused asks = absurd about
+Refuses-class t made m root limit Failed path node (errors.DirEntry p) normal about refused asks = tt
+Refuses-class t made m root limit Failed path node errors.OutOfMemory normal about refused asks = tt
 
 -- it says of the tree what the lookup said
-pub IsInTree-class : (t : Names) (made : Option Made) (path : List ℕ) (e : Error) → classes.IsAbout made path e → classes.Refuses t made path e → IsInTree t made e
-IsInTree-class t made path (errors.WorktreeRootIsFile p) about refused = tt
-IsInTree-class t made path (errors.ExcludesAccess e) about refused = go made about refused
+pub IsInTree-class : (t : Names) (made : Option Made) (path : List ℕ) (e : Error) → is_normal path ≡ true → classes.IsAbout made path e → classes.Refuses t made path e → IsInTree t made e
+IsInTree-class t made path (errors.WorktreeRootIsFile p) normal about refused = tt
+IsInTree-class t made path (errors.ExcludesAccess e) normal about refused = go made about refused
   where
     go : (k : Option Made) → classes.IsAbout k path (errors.ExcludesAccess e) → classes.Refuses t k path (errors.ExcludesAccess e) → IsSomeAnd k (λ rules. IsRefusedLookup t rules e)
     go None a r = absurd a
-    go (Some rules) a r = record { path = path; access = a; refused = r }
-IsInTree-class t made path (errors.TooDeep p) about refused = tt
-IsInTree-class t made path (errors.ReadDir p why) about refused = absurd about
-IsInTree-class t made path (errors.DirEntry p) about refused = tt
-IsInTree-class t made path errors.OutOfMemory about refused = tt
+    go (Some rules) a r = record { path = path; normal = normal; access = a; refused = r }
+IsInTree-class t made path (errors.TooDeep p) normal about refused = tt
+IsInTree-class t made path (errors.ReadDir p why) normal about refused = absurd about
+IsInTree-class t made path (errors.DirEntry p) normal about refused = tt
+IsInTree-class t made path errors.OutOfMemory normal about refused = tt
 
 -- and so does a listing
 pub IsInTree-open : (t : Names) (made : Option Made) (full : List ℕ) (follow : Bool) (e : Error) → OpenRefuses full (look t full follow) e → IsInTree t made e
@@ -169,17 +170,17 @@ IsInTree-open t made full follow (errors.ReadDir p reads.Fault) h = tt
 IsInTree-open t made full follow (errors.DirEntry p) h = tt
 IsInTree-open t made full follow errors.OutOfMemory h = tt
 
-pub IsAbout-class : (made : Option Made) (root : List ℕ) (limit : ℕ) (path : List ℕ) (e : Error) → classes.IsAbout made path e → IsAbout made root limit e
-IsAbout-class made root limit path (errors.WorktreeRootIsFile p) about = absurd about
-IsAbout-class made root limit path (errors.ExcludesAccess e) about = go made about
+pub IsAbout-class : (made : Option Made) (root : List ℕ) (limit : ℕ) (path : List ℕ) (e : Error) → is_normal path ≡ true → classes.IsAbout made path e → IsAbout made root limit e
+IsAbout-class made root limit path (errors.WorktreeRootIsFile p) normal about = absurd about
+IsAbout-class made root limit path (errors.ExcludesAccess e) normal about = go made about
   where
     go : (k : Option Made) → classes.IsAbout k path (errors.ExcludesAccess e) → IsSomeAnd k (λ rules. IsSomeAccess rules e)
     go None a = absurd a
-    go (Some rules) a = record { path = path; access = a }
-IsAbout-class made root limit path (errors.TooDeep p) about = absurd about
-IsAbout-class made root limit path (errors.ReadDir p why) about = tt
-IsAbout-class made root limit path (errors.DirEntry p) about = tt
-IsAbout-class made root limit path errors.OutOfMemory about = tt
+    go (Some rules) a = record { path = path; normal = normal; access = a }
+IsAbout-class made root limit path (errors.TooDeep p) normal about = absurd about
+IsAbout-class made root limit path (errors.ReadDir p why) normal about = absurd about
+IsAbout-class made root limit path (errors.DirEntry p) normal about = absurd about
+IsAbout-class made root limit path errors.OutOfMemory normal about = tt
 
 -- the path of a node that is entered and is no directory is broken
 broken-among : (m : Meanings) (path : List ℕ) (c : Outcome) (node : Node) (why : ListError) → list_of (found node) ≡ Err why → is_among path (entered_at m path c (found node)).broken ≡ true

@@ -1,8 +1,10 @@
 -- What was walked and sorted is the report.
 use Rattle.std.proofs.Common.{◌≡◌, ℕ, List, [], Bool, true, false, cond, Option, Some, None, count_by, refl, sym, ap, subst, ◌∙◌, arith}
 use Rattle.std.specs.Prelude.{option_map, option_and_then, if◌then◌else◌, IsSomeAnd}
+use Rattle.std.specs.Result.{result_ok}
 use Rattle.std.specs.Str.{bytes_eq}
 use Rattle.worktree_fs.specs.Tree.{Names, Look, look, found, absent, too_many_links, file, link, directory, other}
+use Rattle.worktree_fs.specs.Answers.{list_of}
 use Rattle.worktree_fs.specs.Naming.{IsTree}
 use Rattle.worktree_fs.proofs.Subtree.{IsTree-look}
 use Rattle.dir_classify.specs.declared.options.Options.{Options}
@@ -15,7 +17,7 @@ use Rattle.dir_walk.specs.Emissions.{Emission, path_of, by_path}
 use Rattle.dir_walk.specs.Distinct.{HasDistinctPaths, Ascends}
 use Rattle.dir_walk.specs.Guarded.{hides_guarded}
 use Rattle.dir_walk.specs.Walked.{Walked, report_of}
-use Rattle.dir_walk.specs.Report.{walked, directory_at, is_root_entered, is_refused, shown, counts, report, report_from}
+use Rattle.dir_walk.specs.Report.{walked, is_root_entered, is_refused, shown, counts, report, report_from}
 use Rattle.dir_walk.specs.Emits.{WalkGives}
 use Rattle.dir_walk.proofs.Apart.{report-hides_none}
 use Rattle.dir_walk.proofs.DistinctPaths.{HasDistinctPaths-report}
@@ -35,7 +37,7 @@ walked-report m t root w e = go (is_root_entered t root c) (look t root true) re
     c : Class
     c = root_class m t root
 
-    go : (b : Bool) (l : Look) → look t root true ≡ l → (if b then option_map (report_of m [] c) (directory_at l) else None) ≡ Some w → IsReport m t root w
+    go : (b : Bool) (l : Look) → look t root true ≡ l → (if b then option_map (report_of m [] c) (result_ok (list_of l)) else None) ≡ Some w → IsReport m t root w
     go true (found (directory names)) at f = record { names = names; there = at; is = cc }
     go true (found (file bytes)) at f = absurd (cc f)
     go true (found (link target)) at f = absurd (cc f)

@@ -1,11 +1,12 @@
 -- When the worktree root is entered.
 use Rattle.std.proofs.Common.{◌≡◌, ◌⊎◌, inl, inr, ℕ, ◌+◌, ◌-◌, ◌^◌, ◌≤◌, min, List, [], Bool, true, false, ◌&&◌, Option, Some, None, refl, sym, ap, ◌∙◌, arith}
 use Rattle.std.specs.Prelude.{option_map, if◌then◌else◌, nat_lt}
+use Rattle.std.specs.Result.{result_ok}
 use borrow.Author.Tests.{ltb-true, ltb-false}
 use Rattle.worktree_fs.specs.Causes.{Quiet, Rose}
 use Rattle.gitbase_core.specs.declared.entry.IndexEntry.{IndexEntry}
 use Rattle.worktree_fs.specs.Tree.{Names, Look, look, found, absent, too_many_links, file, link, directory, other}
-use Rattle.worktree_fs.specs.Answers.{kind_of}
+use Rattle.worktree_fs.specs.Answers.{kind_of, list_of}
 use Rattle.worktree_fs.specs.declared.answers.NodeKind.TheVariants as nodes
 use Rattle.worktree_stack.specs.Stacked.{Made}
 use Rattle.dir_classify.specs.declared.entry.Kind.{Kind}
@@ -18,7 +19,7 @@ use Rattle.dir_classify.specs.Meanings.{meanings, in_index, not_indexed}
 use Rattle.dir_classify.specs.Class.{Meanings, class, class_of_kind}
 use Rattle.dir_classify.specs.Asked.{asked, root_class}
 use Rattle.dir_walk.specs.Walked.{report_of}
-use Rattle.dir_walk.specs.Report.{is_root_entered, walked, directory_at}
+use Rattle.dir_walk.specs.Report.{is_root_entered, walked}
 use Rattle.dir_walk.specs.Refused.{IsNoRoot}
 use Rattle.dir_walk.proofs.Follow.{look-follow}
 
@@ -95,8 +96,8 @@ root-entered m t root c unindexed (inl is) into =
     record {
       names = at.0;
       there = at.1;
-      walked_is = ap (λ b. if b then option_map (report_of m [] (root_class m t root)) (directory_at (look t root true)) else None) entered
-          ∙ ap (λ (l : Look). option_map (report_of m [] (root_class m t root)) (directory_at l)) at.1 ∙ ap (λ (k : Outcome). Some (report_of m [] k at.0)) (sym is);
+      walked_is = ap (λ b. if b then option_map (report_of m [] (root_class m t root)) (result_ok (list_of (look t root true))) else None) entered
+          ∙ ap (λ (l : Look). option_map (report_of m [] (root_class m t root)) (result_ok (list_of l))) at.1 ∙ ap (λ (k : Outcome). Some (report_of m [] k at.0)) (sym is);
     }
   where
     go : ((names : Names) × (look t root false ≡ found (directory names))) ⊎ ((names : Names) × (look t root true ≡ found (directory names))) → (names : Names) × (look t root true ≡ found (directory names))
@@ -111,7 +112,7 @@ unfolding walked
 no-root m t root c unindexed is out =
     let closed : is_root_entered t root (root_class m t root) ≡ false = ap (is_root_entered t root) (sym is) ∙ out in
     record {
-      not_entered = ap (λ b. if b then option_map (report_of m [] (root_class m t root)) (directory_at (look t root true)) else None) closed;
+      not_entered = ap (λ b. if b then option_map (report_of m [] (root_class m t root)) (result_ok (list_of (look t root true))) else None) closed;
       node = λ e. let f : false ≡ true = sym closed ∙ is_root_entered-looks m t root unindexed ∙ directory-entered (look t root false) (look t root true) e in cc f;
     }
 

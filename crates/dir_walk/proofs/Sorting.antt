@@ -12,17 +12,12 @@ use Rattle.std.proofs.lemmas.Bool.{true≢false}
 use Rattle.std.proofs.lemmas.Map.Text.{is_eq-slice_cmp}
 use Rattle.std.proofs.lemmas.List.Sorted.{sorted_far, ranks_by}
 use Rattle.dir_walk.specs.Emissions.{Emission, path_of, is_before, insert_emission, by_path}
-use Rattle.dir_walk.specs.Distinct.{HasDistinctPaths}
+use Rattle.dir_walk.specs.Distinct.{HasDistinctPaths, IsAscending}
 use Rattle.dir_walk.proofs.Counts.{count_by-cons, count_by-yes, count_by-no}
 use Rattle.dir_walk.proofs.Same.{same_emission, emission_is, emission_same}
 
 pub by_paths : IsStrictWeakOrder is_before
 by_paths = ranks_by nat_list_cmp_total path_of
-
--- none is before one in front of it
-abbrev pub IsAscending : List Emission → Type 0
-IsAscending [] = Unit {0}
-IsAscending (x ∷ xs) = AllByRecursion (λ y. is_before y x ≡ false) xs × IsAscending xs
 
 -- ---- from the sort of std
 
@@ -34,7 +29,7 @@ IsAscending-from_far : (xs : List Emission) → ((i j : ℕ) (d : Emission) → 
 IsAscending-from_far [] h = tt
 IsAscending-from_far (x ∷ xs) h = (all_after (λ y. is_before y x ≡ false) xs x (λ k p. h 0 (suc k) x (omega arith) (omega arith)), IsAscending-from_far xs (λ i j d p q. h (suc i) (suc j) d (omega arith) (omega arith)))
 
-IsAscending-from_sort : (xs : List Emission) → IsSortedBy is_before xs → IsAscending xs
+pub IsAscending-from_sort : (xs : List Emission) → IsSortedBy is_before xs → IsAscending xs
 IsAscending-from_sort xs up = IsAscending-from_far xs (sorted_far is_before by_paths xs up)
 
 -- ---- by_path

@@ -31,12 +31,13 @@ use Rattle.dir_walk.proofs.Named.{listed_name}
 use Rattle.dir_walk.proofs.Placed.{IsPlaced-child, depth_of-joined, joined-some}
 use Rattle.dir_walk.proofs.Refusals.{item-entered, item-leaf}
 
-pub IsAbout-read_error : (made : Option Made) (root : List ℕ) (limit : ℕ) (path : List ℕ) (e : ListError) → IsAbout made root limit (read_error path e)
-IsAbout-read_error made root limit path lists.Absent = tt
-IsAbout-read_error made root limit path lists.NotADirectory = tt
-IsAbout-read_error made root limit path lists.OpenFault = tt
-IsAbout-read_error made root limit path lists.EntryFault = tt
-IsAbout-read_error made root limit path lists.OutOfMemory = tt
+-- a listing that is refused names the directory, which is the root or lies below it
+pub IsAbout-read_error : (made : Option Made) (root full rela : List ℕ) (limit : ℕ) (e : ListError) → IsPlaced root full rela → IsAbout made root limit (read_error full e)
+IsAbout-read_error made root full rela limit lists.Absent at = record { below = rela; path_is = at.full_is; normal = at.normal }
+IsAbout-read_error made root full rela limit lists.NotADirectory at = record { below = rela; path_is = at.full_is; normal = at.normal }
+IsAbout-read_error made root full rela limit lists.OpenFault at = record { below = rela; path_is = at.full_is; normal = at.normal }
+IsAbout-read_error made root full rela limit lists.EntryFault at = record { below = rela; path_is = at.full_is; normal = at.normal }
+IsAbout-read_error made root full rela limit lists.OutOfMemory at = tt
 
 -- where a walk stands a call later
 pub stands-later : (told0 told1 : Option Names) (x0 x1 : Option Stacked) (t : Names) (made : Option Made) → told1 ≡ told0 → made_with x1 ≡ made_with x0 → ((u : Names) → told0 ≡ Some u → InStepIf u x0 → InStepIf u x1)

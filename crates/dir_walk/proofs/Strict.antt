@@ -5,9 +5,9 @@ use Rattle.std.specs.List.{AllByRecursion}
 use Rattle.std.proofs.lemmas.Cmp.{nat_list_eq_equiv}
 use Rattle.std.proofs.lemmas.Bool.{true≢false}
 use Rattle.dir_walk.specs.Emissions.{Emission, path_of, is_before, by_path}
-use Rattle.dir_walk.specs.Distinct.{HasDistinctPaths, Ascends}
+use Rattle.dir_walk.specs.Distinct.{HasDistinctPaths, Ascends, IsAscending}
 use Rattle.dir_walk.proofs.Counts.{count_by-cons, count_by-yes, count_by-no}
-use Rattle.dir_walk.proofs.Sorting.{IsAscending, IsAscending-by_path, tie, count_by-by_path}
+use Rattle.dir_walk.proofs.Sorting.{IsAscending-by_path, tie, count_by-by_path}
 
 none_pass : (p : Emission → Bool) (xs : List Emission) → count_by p xs ≡ 0 → AllByRecursion (λ y. p y ≡ false) xs
 none_pass p [] none = tt

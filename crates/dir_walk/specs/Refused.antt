@@ -33,15 +33,23 @@ is_to_enter path w = is_among path w.entered || is_among path w.broken
 
 -- ---- what holds of any worktree
 
--- a whole path that has more components below the worktree root than the limit
+-- the whole path of the worktree root or of what lies below it: what stands below the root is normal
+pub record IsBelow (root path : List ℕ) : Type 0 where
+  pub below : List ℕ
+  pub path_is : path ≡ full_path root below
+  pub normal : is_normal below ≡ true
+
+-- such a path that has more components below the worktree root than the limit
 pub record IsBelowLimit (root : List ℕ) (limit : ℕ) (path : List ℕ) : Type 0 where
   pub below : List ℕ
   pub path_is : path ≡ full_path root below
+  pub normal : is_normal below ≡ true
   pub deep : limit < depth_of below
 
--- a lookup of some path in the rules was refused
+-- a lookup of some normal path in the rules was refused
 pub record IsSomeAccess (made : Made) (e : AtPathError) : Type 0 where
   pub path : List ℕ
+  pub normal : is_normal path ≡ true
   pub access : IsAccess made path e
 
 -- what a refusal says of the rules, the paths and the limit that were handed in
@@ -49,8 +57,8 @@ abbrev pub IsAbout : Option Made → List ℕ → ℕ → Error → Type 0
 IsAbout made root limit (errors.WorktreeRootIsFile path) = path ≡ root
 IsAbout made root limit (errors.ExcludesAccess e) = IsSomeAnd made (λ rules. IsSomeAccess rules e)
 IsAbout made root limit (errors.TooDeep path) = IsBelowLimit root limit path
-IsAbout made root limit (errors.ReadDir path why) = Unit {0}
-IsAbout made root limit (errors.DirEntry path) = Unit {0}
+IsAbout made root limit (errors.ReadDir path why) = IsBelow root path
+IsAbout made root limit (errors.DirEntry path) = IsBelow root path
 IsAbout made root limit errors.OutOfMemory = Unit {0}
 
 -- ---- what holds over a told tree
@@ -77,9 +85,10 @@ IsUnread t m root w path reads.Absent = IsBroken t m root w lists.Absent path
 IsUnread t m root w path reads.NotADirectory = IsBroken t m root w lists.NotADirectory path
 IsUnread t m root w path reads.Fault = Unit {0}
 
--- a lookup of some path in the rules was refused, by a rules file that the tree refuses
+-- a lookup of some normal path in the rules was refused, by a rules file that the tree refuses
 pub record IsRefusedLookup (t : Names) (made : Made) (e : AtPathError) : Type 0 where
   pub path : List ℕ
+  pub normal : is_normal path ≡ true
   pub access : IsAccess made path e
   pub refused : lookups.Refuses t made.root made.setup (components path) e
 
@@ -99,10 +108,11 @@ IsInTree t made (errors.ReadDir path reads.Fault) = Unit {0}
 IsInTree t made (errors.DirEntry path) = Unit {0}
 IsInTree t made errors.OutOfMemory = Unit {0}
 
--- the lookup of a path in the rules was refused, by a rules file that the tree refuses; its class asks the rules,
--- unless the worktree failed, which may have hidden what the index has there
+-- the lookup of a normal path in the rules was refused, by a rules file that the tree refuses; its class asks the
+-- rules, unless the worktree failed, which may have hidden what the index has there
 pub record IsNoAccess (t : Names) (made : Made) (w : Walked) (Failed : Type 0) (e : AtPathError) : Type 0 where
   pub path : List ℕ
+  pub normal : is_normal path ≡ true
   pub asked : (is_among path w.asked ≡ true) ⊎ Failed
   pub access : IsAccess made path e
   pub refused : lookups.Refuses t made.root made.setup (components path) e

@@ -1,9 +1,10 @@
 -- The report of a worktree: what the walk from its root gives, filtered and in order, with its counts.
 use Rattle.std.specs.Prelude.{◌≡◌, ℕ, ◌-◌, ◌^◌, min, Bool, true, false, ◌&&◌, ◌||◌, if◌then◌else◌, nat_lt, List, [], filter, length, Option, Some, None, option_map, option_and_then, IsSomeAnd}
 use Rattle.std.specs.List.{list_any}
+use Rattle.std.specs.Result.{result_ok}
 use Rattle.gitbase_core.specs.Path.{components}
-use Rattle.worktree_fs.specs.Tree.{Names, Look, look, found, absent, too_many_links, file, link, directory, other}
-use Rattle.worktree_fs.specs.Answers.{kind_of}
+use Rattle.worktree_fs.specs.Tree.{Names, look}
+use Rattle.worktree_fs.specs.Answers.{kind_of, list_of}
 use Rattle.dir_classify.specs.declared.entry.Kind.{Kind}
 use Rattle.dir_classify.specs.declared.entry.Kind.TheVariants.{Directory}
 use Rattle.dir_classify.specs.declared.options.Options.{Options}
@@ -20,15 +21,6 @@ use Rattle.dir_walk.specs.Walked.{Walked, report_of}
 
 -- ---- the worktree root
 
--- the directory that a path leads to, where it leads to one
-abbrev pub directory_at : Look → Option Names
-directory_at (found (directory names)) = Some names
-directory_at (found (file bytes)) = None
-directory_at (found (link target)) = None
-directory_at (found other) = None
-directory_at absent = None
-directory_at too_many_links = None
-
 -- for the worktree root alone a link to a directory counts as one
 abbrev pub root_kind : Names → List ℕ → Option Kind → Option Kind
 root_kind t root kind = if is_symlink kind && is_directory (option_map from_node (kind_of (look t root true))) then Some Directory else kind
@@ -41,7 +33,7 @@ is_root_entered t root c = can_recurse c.status (root_kind t root c.disk_kind) (
 unfoldable pub walked : Meanings → Names → List ℕ → Option Walked
 walked m t root =
     let c = root_class m t root in
-    if is_root_entered t root c then option_map (report_of m [] c) (directory_at (look t root true)) else None
+    if is_root_entered t root c then option_map (report_of m [] c) (result_ok (list_of (look t root true))) else None
 
 -- ---- the report
 

@@ -2,7 +2,7 @@
 ghost use Rattle.std.specs.Prelude.{◌≡◌, ◌++◌, ◌∷◌, [], IsPermutation, IfOk, OnOk, OnErr};
 ghost use Rattle.dir_classify.specs.Entries.{entry_of};
 ghost use Rattle.dir_walk.specs.Emissions.{emission_of, by_path};
-ghost use Rattle.dir_walk.specs.Distinct.{HasDistinctPaths};
+ghost use Rattle.dir_walk.specs.Distinct.{HasDistinctPaths, IsAscending};
 
 use dir_classify::{Entry, EntryRef, Status};
 use gitbase_core::OutOfMemory;
@@ -76,6 +76,7 @@ impl EmittedEntries {
 /// A delegate of a walk that keeps what it is given, in the order in which it is given.
 #[derive(Debug, Drop)]
 pub struct Collect {
+    /// The entries in the order in which they were emitted; the name is spelled as gitoxide spells it.
     pub unorded_entries: EmittedEntries,
 }
 
@@ -105,11 +106,12 @@ impl Collect {
             .push(alloc, entry, collapsed_directory_status)
     }
 
-    /// The entries in ascending order of their paths, byte by byte. The room comes from the allocator that made the
-    /// list.
+    /// The entries in ascending order of their paths, byte by byte, with those of one path beside one another. The room
+    /// comes from the allocator that made the list.
     pub fn into_entries_by_path(self, _alloc: Global) -> Result<EmittedEntries, OutOfMemory>
         ensures sorted { HasDistinctPaths self.unorded_entries
             → IfOk result (λ entries. entries ≡ by_path self.unorded_entries) }
+        ensures ascending { IfOk result IsAscending }
         ensures same { IfOk result (λ entries. IsPermutation self.unorded_entries entries) }
     {
         let mut items = self.unorded_entries.into_vec();

@@ -9,7 +9,9 @@ use std::alloc::Global;
 /// root, as it stands in entries. The room of both is used again for the next path.
 #[derive(Debug, Drop)]
 pub struct Place {
+    /// The path behind the worktree root.
     pub full: Bytes,
+    /// The path relative to the worktree root.
     pub rela: Bytes,
 }
 

@@ -22,6 +22,7 @@ use worktree_stack::Stack;
 /// What a walk of a worktree gave.
 #[derive(Debug, Drop)]
 pub struct Report {
+    /// What the walk did, in numbers.
     pub outcome: Outcome,
     /// The worktree root.
     pub root: PathText,

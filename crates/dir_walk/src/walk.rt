@@ -49,7 +49,8 @@ fn open<W: Worktree>(
         → IfOk result (ListsNames (look t place.now.full (is_empty place.now.rela))) }
     ensures refused { (t : Names) → W.told worktree.old ≡ Some t
         → IfErr result (OpenRefuses place.now.full (look t place.now.full (is_empty place.now.rela))) }
-    ensures about { (made : Option Made) (root : List ℕ) (limit : ℕ) → IfErr result (IsAbout made root limit) }
+    ensures about { (made : Option Made) (root : List ℕ) → IsPlaced root place.now.full place.now.rela
+        → (limit : ℕ) → IfErr result (IsAbout made root limit) }
     ensures counted { (entries : List Emission) → Emits entries entries outcome.old outcome.new (λ p. 0) 0 1 }
 {
     outcome.read_dir_calls = outcome.read_dir_calls.saturating_add(1);
@@ -312,9 +313,11 @@ fn is_root_entered<W: Worktree>(
 /// Refused is a worktree root that is no directory (`WorktreeRootIsFile`), a directory below it that is to be entered
 /// and lies deeper than the limit (`TooDeep`), and one that cannot be listed (`ReadDir`, `DirEntry`): for a fault,
 /// or as the index calls an up-to-date path a directory that is none on disk. Refused is also a path that the index
-/// does not have, with a directory above it whose rules file is a link without an end or neither file nor directory, or
-/// could not be read (`ExcludesAccess`). A fault of the question for a kind is no refusal: the path has no kind then,
-/// and the worktree counted the fault. After a refusal the delegate has what it was given before.
+/// does not have, or has in another shape, with a directory above it whose rules file is a link without an end or
+/// neither file nor directory, or could not be read (`ExcludesAccess`). A fault of the question for a kind is no
+/// refusal: the path has no kind then, and the worktree counted the fault. Each path that a refusal names is the
+/// worktree root, lies below it, or is the rules file of one of these directories. After a refusal the delegate has
+/// what it was given before.
 #[tactic(auto, using(crate::proofs::Parts::part_unchanged))]
 pub fn walk<W: Worktree, F: Find>(
     alloc: Global,

@@ -25,7 +25,7 @@ use Rattle.dir_walk.proofs.walk.+walk.Goals as goal
 
 pub walk_directory-returns-in_err-names-clause-about : goal.walk_directory-returns-in_err-names-clause-about
 walk_directory-returns-in_err-names-clause-about g t c = λ made same root placed limit level.
-    let p = err_from_is_err_and c.from_residual.result c.from_residual.ensures.1 in rw (p.1, p.2) (c.in_err-names.ensures.about made root limit)
+    let p = err_from_is_err_and c.from_residual.result c.from_residual.ensures.1 in rw (p.1, p.2) (c.in_err-names.ensures.about made root placed limit)
 
 pub walk_directory-returns-then-is_empty-clause-gives : goal.walk_directory-returns-then-is_empty-clause-gives
 walk_directory-returns-then-is_empty-clause-gives g t c = λ tree made stands quiet limit level.
@@ -266,7 +266,7 @@ walk_name-returns-in_err-class-clause-refused g t c = λ tree made stands some n
     let p = err_from_is_err_and c.from_residual.result c.from_residual.ensures.1 in
     let normal : is_normal c.as_bytes.result.now ≡ true = ap is_normal c.as_bytes.ensures ∙ placed.normal in
     rw (p.1, p.2)
-    (Refuses-class tree made m root limit (Rose before now) place.rela node e
+    (Refuses-class tree made m root limit (Rose before now) place.rela node e placed.normal
     (rw (c.as_bytes.ensures, stands.made_is) at (c.in_err-class.ensures.about normal))
     (rw (c.as_bytes.ensures, stands.made_is) at (c.in_err-class.ensures.refused tree stands.tree))
     (unless-rose before now (OnAccess (child_asks m place.rela node ≡ true) e)
@@ -278,7 +278,7 @@ walk_name-returns-in_err-class-clause-found g t c = λ tree made told same root 
     let p = err_from_is_err_and c.from_residual.result c.from_residual.ensures.1 in
     let normal : is_normal c.as_bytes.result.now ≡ true = ap is_normal c.as_bytes.ensures ∙ placed.normal in
     rw (p.1, p.2)
-    (IsInTree-class tree made place.rela c.in_err-class.field-0.0 (rw (c.as_bytes.ensures, same) at (c.in_err-class.ensures.about normal)) (rw (c.as_bytes.ensures, same) at (c.in_err-class.ensures.refused tree told)))
+    (IsInTree-class tree made place.rela c.in_err-class.field-0.0 placed.normal (rw (c.as_bytes.ensures, same) at (c.in_err-class.ensures.about normal)) (rw (c.as_bytes.ensures, same) at (c.in_err-class.ensures.refused tree told)))
 
 pub walk_name-returns-clause-found : goal.walk_name-returns-clause-found
 walk_name-returns-clause-found g t c = λ tree made told same root placed. c.walk_directory.ensures.found tree made (c.at.ensures.tree ∙ told) (c.at.ensures.made ∙ same) root placed
