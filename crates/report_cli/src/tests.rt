@@ -9,6 +9,9 @@ use worktree_report::run;
 /// The line that each setup needs today.
 const REQUIRED: &[u8] = b"option recurse_repositories yes\n";
 
+/// The same, and no ignore rules.
+const WITHOUT_RULES: &[u8] = b"option recurse_repositories yes\noption excludes no\n";
+
 const REPORT: &[&[u8]] = &[b"report", b"/w", b"/s"];
 
 const USAGE: &[u8] = b"usage: report ROOT SETUP or generate N\n";
@@ -58,11 +61,19 @@ struct Row {
 
 const A_FILE: NewNode<'static> = NewNode::File(b"");
 
-static REPORTS: [Row; 5] = [
+static REPORTS: [Row; 8] = [
     Row {
         name: "one file",
         nodes: &[(b"/w/a", A_FILE)],
         setup: REQUIRED,
+        status: 0,
+        out: b"untracked file - always - -\ta\n",
+        err: b"",
+    },
+    Row {
+        name: "one file, without rules",
+        nodes: &[(b"/w/a", A_FILE)],
+        setup: WITHOUT_RULES,
         status: 0,
         out: b"untracked file - always - -\ta\n",
         err: b"",
@@ -84,9 +95,25 @@ static REPORTS: [Row; 5] = [
         err: b"",
     },
     Row {
+        name: "an empty root, without rules",
+        nodes: &[(b"/w", NewNode::Directory)],
+        setup: WITHOUT_RULES,
+        status: 0,
+        out: b"",
+        err: b"",
+    },
+    Row {
         name: "a root that is a link to a directory",
         nodes: &[(b"/w", NewNode::Link(b"/x")), (b"/x/a", A_FILE)],
         setup: REQUIRED,
+        status: 0,
+        out: b"untracked file - always - -\ta\n",
+        err: b"",
+    },
+    Row {
+        name: "a root that is a link to a directory, without rules",
+        nodes: &[(b"/w", NewNode::Link(b"/x")), (b"/x/a", A_FILE)],
+        setup: WITHOUT_RULES,
         status: 0,
         out: b"untracked file - always - -\ta\n",
         err: b"",
@@ -179,7 +206,7 @@ static IGNORED: [Row; 6] = [
     },
 ];
 
-static REFUSALS: [Row; 9] = [
+static REFUSALS: [Row; 11] = [
     Row {
         name: "a root that is a file",
         nodes: &[(b"/w", A_FILE)],
@@ -189,9 +216,25 @@ static REFUSALS: [Row; 9] = [
         err: b"walk: root-is-file /w\n",
     },
     Row {
+        name: "a root that is a file, without rules",
+        nodes: &[(b"/w", A_FILE)],
+        setup: WITHOUT_RULES,
+        status: 4,
+        out: b"",
+        err: b"walk: root-is-file /w\n",
+    },
+    Row {
         name: "no root",
         nodes: &[],
         setup: REQUIRED,
+        status: 4,
+        out: b"",
+        err: b"walk: root-is-file /w\n",
+    },
+    Row {
+        name: "no root, without rules",
+        nodes: &[],
+        setup: WITHOUT_RULES,
         status: 4,
         out: b"",
         err: b"walk: root-is-file /w\n",
@@ -330,14 +373,16 @@ fn chain(alloc: Global, depth: usize) -> Result<Vec<u8>, Fail> {
 #[test]
 fn enters_directories_to_the_limit(rt: HostRuntime) -> Result<(), Fail> {
     let alloc = rt.alloc();
-    for (depth, status) in [(256, 0), (257, 4)] {
+    for (depth, setup, status) in [
+        (256, REQUIRED, 0),
+        (257, REQUIRED, 4),
+        (256, WITHOUT_RULES, 0),
+        (257, WITHOUT_RULES, 4),
+    ] {
         let path = chain(alloc, depth)?;
         let mut tree = tree(
             alloc,
-            &[
-                (b"/s", NewNode::File(REQUIRED)),
-                (&path, NewNode::Directory),
-            ],
+            &[(b"/s", NewNode::File(setup)), (&path, NewNode::Directory)],
         )?;
         let answer = run_over(alloc, REPORT, &mut tree)?;
         assert_eq!(rt; answer.status, status);
@@ -354,17 +399,17 @@ fn enters_directories_to_the_limit(rt: HostRuntime) -> Result<(), Fail> {
 #[test]
 fn counts_faults(rt: HostRuntime) -> Result<(), Fail> {
     let alloc = rt.alloc();
-    for (call, nth, status, err) in [
-        (CallKind::Read, 1, 6, b"worktree fault\n".as_slice()),
-        (CallKind::Read, 2, 6, b"worktree fault\n".as_slice()),
-        (CallKind::ListOpen, 1, 6, b"worktree fault\n".as_slice()),
-        (CallKind::ListEntry, 1, 6, b"worktree fault\n".as_slice()),
-        (CallKind::Kind, 2, 0, b"".as_slice()),
+    let said = b"worktree fault\n".as_slice();
+    for (setup, call, nth, status, err) in [
+        (REQUIRED, CallKind::Read, 1, 6, said),
+        (REQUIRED, CallKind::Read, 2, 6, said),
+        (REQUIRED, CallKind::ListOpen, 1, 6, said),
+        (REQUIRED, CallKind::ListEntry, 1, 6, said),
+        (REQUIRED, CallKind::Kind, 2, 0, b"".as_slice()),
+        (WITHOUT_RULES, CallKind::Read, 1, 6, said),
+        (WITHOUT_RULES, CallKind::ListOpen, 1, 6, said),
     ] {
-        let mut tree = tree(
-            alloc,
-            &[(b"/s", NewNode::File(REQUIRED)), (b"/w/a", A_FILE)],
-        )?;
+        let mut tree = tree(alloc, &[(b"/s", NewNode::File(setup)), (b"/w/a", A_FILE)])?;
         tree.fail(alloc, call, nth)?;
         let answer = run_over(alloc, REPORT, &mut tree)?;
         assert_eq!(rt; answer.status, status);
@@ -380,11 +425,12 @@ fn says_that_output_was_refused(rt: HostRuntime) -> Result<(), Fail> {
     let alloc = rt.alloc();
     let words = words(alloc, REPORT)?;
     let mut interrupt = PlannedInterrupt::never();
-    for (room, nth, written) in [(65_536, 1, b"".as_slice()), (9, 9, b"untracked".as_slice())] {
-        let mut tree = tree(
-            alloc,
-            &[(b"/s", NewNode::File(REQUIRED)), (b"/w/a", A_FILE)],
-        )?;
+    for (setup, room, nth, written) in [
+        (REQUIRED, 65_536, 1, b"".as_slice()),
+        (REQUIRED, 9, 9, b"untracked".as_slice()),
+        (WITHOUT_RULES, 65_536, 1, b"".as_slice()),
+    ] {
+        let mut tree = tree(alloc, &[(b"/s", NewNode::File(setup)), (b"/w/a", A_FILE)])?;
         let mut out = MemorySink::new(alloc, room)?;
         out.fail_from(nth);
         let mut err = MemorySink::new(alloc, 65_536)?;

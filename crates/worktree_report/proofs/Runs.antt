@@ -48,7 +48,7 @@ widen_access : (t : Names) (made : Option Made) (w : Walked) (Failed Before : Ty
     → (Failed → Before) → IsSomeAnd made (λ rules. IsNoAccess t rules w Failed e) → IsSomeAnd made (λ rules. IsNoAccess t rules w Before e)
 widen_access t None w Failed Before e wider cause = cause
 widen_access t (Some rules) w Failed Before e wider cause =
-    record { path = cause.path; asked = elim cause.asked [ inl among ↦ inl among | inr failed ↦ inr (wider failed) ]; access = cause.access; refused = cause.refused }
+    record { path = cause.path; normal = cause.normal; asked = elim cause.asked [ inl among ↦ inl among | inr failed ↦ inr (wider failed) ]; access = cause.access; refused = cause.refused }
 
 widen_walked : (t : Names) (made : Option Made) (walked : Option Walked) (Failed Before : Type 0) (e : AtPathError)
     → (Failed → Before) → IsSomeAnd walked (λ w. IsSomeAnd made (λ rules. IsNoAccess t rules w Failed e))

@@ -1,12 +1,9 @@
 -- The words of the command line.
-use Rattle.std.specs.Prelude.{ℕ, List, [], ◌∷◌, Bool, not, ◌==◌, ◌&&◌, ◌||◌, if◌then◌else◌, codes, Option, Some, None}
+use Rattle.std.specs.Prelude.{ℕ, List, [], ◌∷◌, Bool, not, ◌==◌, ◌&&◌, if◌then◌else◌, codes, Option, Some, None}
 use Rattle.std.specs.Str.{bytes_eq}
-use Rattle.worktree_fs.specs.Tree.{is_absolute, is_dot, is_dot_dot}
+use Rattle.worktree_fs.specs.Tree.{is_absolute}
+use Rattle.worktree_fs.specs.Paths.{is_dots}
 use Rattle.std.specs.List.{slice_split, list_all, list_any}
-
--- `.` and `..` name no node of their own
-abbrev pub is_dots : List ℕ → Bool
-is_dots piece = is_dot piece || is_dot_dot piece
 
 -- an absolute path without `.` and `..` among the pieces between its slashes, and without NUL
 abbrev pub is_plain_path : List ℕ → Bool

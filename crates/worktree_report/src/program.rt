@@ -75,8 +75,10 @@ fn report_text<W: Worktree>(
 /// | 7 | `out` refused bytes, and counted it |
 /// | 8 | want of memory |
 ///
-/// With a status other than 0 and 7 nothing goes to `out`. A refusal of `err` changes nothing. The interrupt is not
-/// asked yet.
+/// A walk enters directories with at most 256 components below its root; one that lies deeper refuses it.
+///
+/// With a status other than 0 and 7 nothing goes to `out`. With each status other than 0 one line goes to `err`, with 0
+/// none; a refusal of `err` changes nothing. The interrupt is not asked yet.
 pub fn run<W: Worktree, I: Interrupt, S: Sink, E: Sink>(
     alloc: Global,
     words: &[Bytes],

@@ -39,6 +39,7 @@ pub struct Setup {
     pub overrides: Bytes,
     /// Ignore rules that come after those of all directories, each with a line feed.
     pub globals: Bytes,
+    /// The options, those that no line sets at their defaults.
     pub options: SetupOptions,
 }
 

@@ -2,7 +2,8 @@
 ghost use Rattle.std.specs.Prelude.{◌≡◌, ◌==◌, not, option_map, None};
 ghost use Rattle.std.specs.List.{slice_split, list_all, list_any};
 ghost use Rattle.worktree_fs.specs.Tree.{is_absolute};
-ghost use Rattle.worktree_report.specs.Words.{is_plain_path, is_dots, command_of};
+ghost use Rattle.worktree_fs.specs.Paths.{is_dots};
+ghost use Rattle.worktree_report.specs.Words.{is_plain_path, command_of};
 ghost use Rattle.worktree_report.specs.Named.{paths_of};
 
 use gitbase_core::Bytes;

@@ -2,7 +2,7 @@ use Rattle.std.proofs.Common.{rules, tests, not}
 use Rattle.std.specs.Prelude.{◌==◌}
 use Rattle.std.proofs.lemmas.Iterator.Search.{all_from_yields_List}
 use Rattle.std.proofs.lemmas.Iterator.Splits.{YieldsList-from_slice_split}
-use Rattle.worktree_report.specs.Words.{is_dots}
+use Rattle.worktree_fs.specs.Paths.{is_dots}
 use Rattle.worktree_report.proofs.words.has_no_dots.Goals as goal
 
 pub returns : goal.returns
