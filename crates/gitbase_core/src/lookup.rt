@@ -1,0 +1,273 @@
+//! Searches in an index without regard to the case of letters.
+ghost use Rattle.std.specs.Prelude.{◌≡◌, ◌≤◌, ◌++◌, ◌==◌, ◌||◌, [], All, Contains, IfOk, MatchOption, option_copied};
+ghost use Rattle.std.specs.List.{range_with_len};
+ghost use Rattle.std.specs.Ordering.{is_lt, is_eq};
+ghost use Rattle.gitbase_core.specs.Entry.{mode_bits, commit_mode, dir_mode};
+ghost use Rattle.gitbase_core.specs.Text.{fold_case};
+ghost use Rattle.gitbase_core.specs.Lookup.{folded_path_of, number_cmp, IsLookupOf, entry_at_icase, entry_beneath_icase, directory_kinds_icase, stands_in, kinds_icase};
+ghost use Rattle.gitbase_core.specs.Index.{path_cmp, prefix_cmp, key_begins, AscendsBy, IsLowerBound, IsRun};
+
+use crate::entry::{Flags, IndexEntry};
+use crate::index::State;
+use crate::kinds::{EntryKind, IndexKinds, NO_KINDS, entry_kinds};
+use crate::out_of_memory::OutOfMemory;
+use std::alloc::Global;
+use std::cmp::Ordering;
+use std::marker::Model;
+
+/// The numbers of the entries of an index in the order of their paths without regard to the case of ASCII letters, as
+/// gitoxide's `AccelerateLookup`: with it an entry is found by binary search where `ignore_case` holds.
+///
+/// Contracts see the list of all numbers, ascending by folded path, then by number.
+#[derive(Debug, Drop)]
+pub struct AccelerateLookup {
+    numbers: Vec<usize>,
+}
+
+impl Model for AccelerateLookup {
+    ghost use Rattle.std.specs.Prelude.{ℕ, List};
+
+    ghost Value = { List ℕ };
+
+    ghost view = { λ lookup. lookup.numbers.items };
+}
+
+impl AccelerateLookup {
+    /// The lookup of an index, which serves that index alone.
+    pub fn new(alloc: Global, state: &State) -> Result<AccelerateLookup, OutOfMemory>
+        ensures { IfOk result (IsLookupOf state.now) }
+    {
+        let entries = state.entries();
+        let mut numbers = numbers_below(alloc, entries.len())?;
+        numbers.sort_by(|a, b| compare_numbers(entries, *a, *b))?;
+        Ok(AccelerateLookup { numbers })
+    }
+}
+
+impl State {
+    /// The first entry, in the order of the index, whose path is `path` without regard to the case of ASCII letters.
+    ///
+    /// The lookup is one made from this index. Two binary searches find the entry; no clause speaks of the cost.
+    pub fn entry_by_path_icase(&self, path: &[u8], lookup: &AccelerateLookup) -> Option<&IndexEntry>
+        requires { IsLookupOf self.now lookup.now }
+        ensures { option_copied result ≡ entry_at_icase path.now self.now }
+    {
+        entry_at(self.entries(), &lookup.numbers, path)
+    }
+
+    /// The first entry, in the order of the index, whose path begins with `dir` and a slash without regard to the case of
+    /// ASCII letters.
+    ///
+    /// The lookup is one made from this index. The entries beneath `dir` are found by binary search, and all their
+    /// numbers are looked at for the least; no clause speaks of this cost.
+    pub fn entry_closest_to_directory_or_directory_icase(
+        &self,
+        dir: &[u8],
+        lookup: &AccelerateLookup,
+    ) -> Option<&IndexEntry>
+        requires { IsLookupOf self.now lookup.now }
+        ensures { option_copied result ≡ entry_beneath_icase dir.now self.now }
+    {
+        entry_beneath(self.entries(), &lookup.numbers, dir)
+    }
+
+    /// What the index says of `path` without regard to the case of ASCII letters; a sparse directory is not told so.
+    ///
+    /// Let the entry at the path, and the first one beneath it, be those that the two look-ups above find. Without an
+    /// entry at the path the one beneath shows a directory, which is vouched for where that one is. An entry at the path
+    /// that is a submodule or a sparse directory tells its kind by its mode. Beside another one at the path the entry
+    /// beneath shows a directory where it stands right in the directory of just this spelling; else the entry at the
+    /// path tells its kind. The lookup is one made from this index.
+    pub fn kinds_icase(&self, path: &[u8], lookup: &AccelerateLookup) -> IndexKinds
+        requires { IsLookupOf self.now lookup.now }
+        ensures { result ≡ kinds_icase self.now path.now }
+    {
+        let Some(entry) = self.entry_by_path_icase(path, lookup) else {
+            return directory_kinds(self.entry_closest_to_directory_or_directory_icase(
+                path, lookup,
+            ));
+        };
+        if entry.mode.is_submodule() || entry.mode.is_sparse() {
+            return entry_kinds(entry);
+        }
+        let beneath = self.entry_closest_to_directory_or_directory_icase(path, lookup);
+        if stands_in(path, beneath) {
+            return directory_kinds(beneath);
+        }
+        entry_kinds(entry)
+    }
+}
+
+/// The first entry whose path is `path` without regard to case.
+fn entry_at<'a>(entries: &'a [IndexEntry], numbers: &[usize], path: &[u8]) -> Option<&'a IndexEntry>
+    requires { IsLookupOf entries.now numbers.now }
+    ensures { option_copied result ≡ entry_at_icase path.now entries.now }
+{
+    let Some(number) = lower_bound(entries, numbers, path) else {
+        return None;
+    };
+    let Some(entry) = entries.get(number) else {
+        return None;
+    };
+    if compare(entry.path.as_bytes(), path).is_eq() {
+        return Some(entry);
+    }
+    None
+}
+
+/// The first entry beneath `dir` without regard to case.
+fn entry_beneath<'a>(
+    entries: &'a [IndexEntry],
+    numbers: &[usize],
+    dir: &[u8],
+) -> Option<&'a IndexEntry>
+    requires { IsLookupOf entries.now numbers.now }
+    ensures { option_copied result ≡ entry_beneath_icase dir.now entries.now }
+{
+    let (start, end) = run(entries, numbers, dir, b"/");
+    let Some(number) = least(&numbers[start..end]) else {
+        return None;
+    };
+    entries.get(number)
+}
+
+/// What an entry beneath a path says of it.
+///
+/// `ASSUME_VALID` vouches for a directory here, though not where case counts: gitoxide asks the entry as it asks one at
+/// the path.
+fn directory_kinds(beneath: Option<&IndexEntry>) -> IndexKinds
+    ensures { result ≡ directory_kinds_icase (option_copied beneath.entry) }
+{
+    let Some(entry) = beneath else {
+        return NO_KINDS;
+    };
+    let is_vouched_for = entry.flags.contains(Flags::UPTODATE)
+        || entry.flags.contains(Flags::ASSUME_VALID);
+    IndexKinds {
+        up_to_date: if is_vouched_for {
+            Some(EntryKind::Directory)
+        } else {
+            None
+        },
+        kind: Some(EntryKind::Directory),
+        is_left_out: false,
+    }
+}
+
+/// Whether an entry stands right in the directory of this spelling.
+fn stands_in(path: &[u8], beneath: Option<&IndexEntry>) -> bool
+    ensures { result ≡ stands_in path.now (option_copied beneath.entry) }
+{
+    let Some(entry) = beneath else {
+        return false;
+    };
+    match entry.path.parent() {
+        Some(up) => up == path,
+        None => false,
+    }
+}
+
+/// All numbers below a bound.
+fn numbers_below(alloc: Global, bound: usize) -> Result<Vec<usize>, OutOfMemory>
+    ensures { IfOk result (λ numbers. numbers.items ≡ range_with_len 0 bound) }
+{
+    let mut numbers = Vec::with_capacity(alloc, bound)?;
+    for number in 0..bound {
+        numbers.push(number)?;
+    }
+    Ok(numbers)
+}
+
+/// The path of the entry of a number.
+fn path_of(entries: &[IndexEntry], number: usize) -> &[u8]
+    ensures { fold_case result.now ≡ folded_path_of entries.now number }
+{
+    match entries.get(number) {
+        Some(entry) => entry.path.as_bytes(),
+        None => b"",
+    }
+}
+
+/// By folded path, then by number.
+fn compare_numbers(entries: &[IndexEntry], a: usize, b: usize) -> Ordering
+    ensures { result ≡ number_cmp entries.now a b }
+{
+    compare(path_of(entries, a), path_of(entries, b)).then(a.cmp(&b))
+}
+
+/// By the bytes in lower case.
+fn compare(left: &[u8], right: &[u8]) -> Ordering
+    ensures { result ≡ path_cmp (fold_case left.now) (fold_case right.now) }
+{
+    let both = left.len().min(right.len());
+    for i in 0..both {
+        let found = left[i]
+            .to_ascii_lowercase()
+            .cmp(&right[i].to_ascii_lowercase());
+        if found.is_ne() {
+            return found;
+        }
+    }
+    left.len().cmp(&right.len())
+}
+
+/// The first number whose entry's path, folded, does not stand below `path`.
+fn lower_bound(entries: &[IndexEntry], numbers: &[usize], path: &[u8]) -> Option<usize>
+    requires { AscendsBy (folded_path_of entries.now) numbers.now }
+    ensures { IsLowerBound (folded_path_of entries.now) (fold_case path.now) numbers.now result }
+{
+    let at = numbers.partition_point(|number| is_below(entries, *number, path));
+    numbers.get(at).copied()
+}
+
+/// Whether the path of the entry of a number, folded, stands below `path`.
+fn is_below(entries: &[IndexEntry], number: usize, path: &[u8]) -> bool
+    ensures { result ≡ is_lt (path_cmp (folded_path_of entries.now number) (fold_case path.now)) }
+{
+    compare(path_of(entries, number), path).is_lt()
+}
+
+/// Where the numbers stand whose entries' paths, folded, begin with `front` and `back` behind it.
+fn run(entries: &[IndexEntry], numbers: &[usize], front: &[u8], back: &[u8]) -> (usize, usize)
+    requires { AscendsBy (folded_path_of entries.now) numbers.now }
+    ensures { IsRun (key_begins (folded_path_of entries.now) (fold_case (front.now ++ back.now)))
+        numbers.now result.0 result.1 }
+{
+    let start = numbers.partition_point(|number| stands_before(entries, *number, front, back));
+    let (_, rest) = numbers.split_at(start);
+    let length = rest.partition_point(|number| stands_among(entries, *number, front, back));
+    (start, start + length)
+}
+
+/// Whether the path of the entry of a number, folded, stands before those that begin with `front` and `back` behind it.
+fn stands_before(entries: &[IndexEntry], number: usize, front: &[u8], back: &[u8]) -> bool
+    ensures { result
+        ≡ is_lt (prefix_cmp (fold_case (front.now ++ back.now)) (folded_path_of entries.now number)) }
+{
+    prefix_cmp(path_of(entries, number), front, back).is_lt()
+}
+
+/// Whether the path of the entry of a number, folded, begins with `front` and `back` behind it, folded.
+fn stands_among(entries: &[IndexEntry], number: usize, front: &[u8], back: &[u8]) -> bool
+    ensures { result
+        ≡ is_eq (prefix_cmp (fold_case (front.now ++ back.now)) (folded_path_of entries.now number)) }
+{
+    prefix_cmp(path_of(entries, number), front, back).is_eq()
+}
+
+/// Where a path, folded, stands beside those that begin with `front` and `back` behind it.
+fn prefix_cmp(path: &[u8], front: &[u8], back: &[u8]) -> Ordering
+    ensures { result ≡ prefix_cmp (fold_case (front.now ++ back.now)) (fold_case path.now) }
+{
+    let (start, rest) = path.split_at(path.len().min(front.len()));
+    let (rest, _) = rest.split_at(rest.len().min(back.len()));
+    compare(start, front).then(compare(rest, back))
+}
+
+/// The least of some numbers.
+fn least(numbers: &[usize]) -> Option<usize>
+    ensures { MatchOption result (numbers.now ≡ [])
+        (λ least. Contains numbers.now least × All (λ number. least ≤ number) numbers.now) }
+{
+    numbers.iter().copied().min()
+}

@@ -1,0 +1,21 @@
+//! Out of memory as an answer.
+use std::alloc::{AllocError, AllocFailed};
+
+/// The allocator refused a growth, as Rust's `TryReserveError`.
+///
+/// Each layer's error has a variant for it, and each program a status of its own.
+#[derive(Clone, Copy, Debug, PartialEq, Eq, thiserror::Error)]
+#[error("Out of memory: the allocator refused to make room")]
+pub struct OutOfMemory;
+
+impl From<AllocError> for OutOfMemory {
+    fn from(_refused: AllocError) -> OutOfMemory {
+        OutOfMemory
+    }
+}
+
+impl<T: Drop> From<AllocFailed<T>> for OutOfMemory {
+    fn from(_refused: AllocFailed<T>) -> OutOfMemory {
+        OutOfMemory
+    }
+}
