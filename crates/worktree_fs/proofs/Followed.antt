@@ -1,10 +1,11 @@
 -- Where a last link is followed, none is found.
 use Rattle.std.proofs.Common.{◌≡◌, ℕ, zero, suc, List, [], ◌∷◌, ◌++◌, Bool, true, false, cond, Option, Some, None, Result, Ok, IfOk, refl, ap, subst}
+use Rattle.gitbase_core.specs.Path.{components}
 use Rattle.worktree_fs.specs.Answers.{read_of}
 use Rattle.worktree_fs.specs.declared.answers.ReadAnswer.{ReadAnswer}
 use Rattle.worktree_fs.specs.declared.answers.ReadAnswer.TheVariants as answers
 use Rattle.worktree_fs.specs.declared.answers.ReadError.{ReadError}
-use Rattle.worktree_fs.specs.Tree.{Node, Names, file, link, directory, other, Place, Jump, Look, found, absent, too_many_links, child, enter, parent, start, pieces, is_text, is_dot, is_dot_dot, is_last, onward, along, behind, look}
+use Rattle.worktree_fs.specs.Tree.{Node, Names, file, link, directory, other, Place, Jump, Look, Spot, look_at, reached, nowhere, trail, spot, found, absent, too_many_links, child, enter, parent, start, is_text, is_dot, is_dot_dot, is_last, onward, along, behind, look}
 
 -- a path leads to no link
 abbrev pub NoLink : Look → Type 0
@@ -15,34 +16,34 @@ NoLink (found other) = Unit {0}
 NoLink absent = Unit {0}
 NoLink too_many_links = Unit {0}
 
-NoLink-if : (b : Bool) (x y : Look) → NoLink x → NoLink y → NoLink (cond b x y)
+NoLink-if : (b : Bool) (x y : Spot) → NoLink (look_at x) → NoLink (look_at y) → NoLink (look_at (cond b x y))
 NoLink-if true x y nx ny = nx
 NoLink-if false x y nx ny = ny
 
-NoLink-onward : (go : Place → Look) (jump : Jump) (place : Place) (rest : List (List ℕ)) (node : Option Node)
-    → ((p : Place) → NoLink (go p)) → ((p : Place) (target : List ℕ) (more : List (List ℕ)) → NoLink (jump p target more)) → NoLink (onward go jump true place rest node)
-NoLink-onward go jump place rest None along_on jumps = tt
-NoLink-onward go jump place rest (Some (directory names)) along_on jumps = along_on (enter place names)
-NoLink-onward go jump place rest (Some (link target)) along_on jumps = jumps place target rest
-NoLink-onward go jump place rest (Some (file bytes)) along_on jumps = NoLink-if (is_last rest) (found (file bytes)) absent tt tt
-NoLink-onward go jump place rest (Some other) along_on jumps = NoLink-if (is_last rest) (found other) absent tt tt
+NoLink-onward : (go : Place → Spot) (jump : Jump) (place : Place) (rest : List (List ℕ)) (name : List ℕ) (node : Option Node)
+    → ((p : Place) → NoLink (look_at (go p))) → ((p : Place) (target : List ℕ) (more : List (List ℕ)) → NoLink (look_at (jump p target more))) → NoLink (look_at (onward go jump true place rest name node))
+NoLink-onward go jump place rest name None along_on jumps = tt
+NoLink-onward go jump place rest name (Some (directory names)) along_on jumps = along_on (enter place name names)
+NoLink-onward go jump place rest name (Some (link target)) along_on jumps = jumps place target rest
+NoLink-onward go jump place rest name (Some (file bytes)) along_on jumps = NoLink-if (is_last rest) (reached (name ∷ trail place) (file bytes)) nowhere tt tt
+NoLink-onward go jump place rest name (Some other) along_on jumps = NoLink-if (is_last rest) (reached (name ∷ trail place) other) nowhere tt tt
 
-NoLink-along : (jump : Jump) (place : Place) (rest : List (List ℕ)) → ((p : Place) (target : List ℕ) (more : List (List ℕ)) → NoLink (jump p target more)) → NoLink (along jump true place rest)
+NoLink-along : (jump : Jump) (place : Place) (rest : List (List ℕ)) → ((p : Place) (target : List ℕ) (more : List (List ℕ)) → NoLink (look_at (jump p target more))) → NoLink (look_at (along jump true place rest))
 NoLink-along jump place [] jumps = tt
 NoLink-along jump place (piece ∷ rest) jumps =
     NoLink-if (is_dot piece) _ _ (NoLink-along jump place rest jumps)
     (NoLink-if (is_dot_dot piece) _ _ (NoLink-along jump (parent place) rest jumps)
-    (NoLink-onward (λ p. along jump true p rest) jump place rest (child place.here piece) (λ p. NoLink-along jump p rest jumps) jumps))
+    (NoLink-onward (λ p. along jump true p rest) jump place rest piece (child place.here piece) (λ p. NoLink-along jump p rest jumps) jumps))
 
-NoLink-behind : (links : ℕ) (place : Place) (target : List ℕ) (rest : List (List ℕ)) → NoLink (behind links true place target rest)
+NoLink-behind : (links : ℕ) (place : Place) (target : List ℕ) (rest : List (List ℕ)) → NoLink (look_at (behind links true place target rest))
 unfolding behind
 NoLink-behind zero place target rest = tt
 NoLink-behind (suc links) place target rest =
-    NoLink-if (is_text target) _ _ (NoLink-along (behind links true) (start place target) (pieces target ++ rest) (NoLink-behind links)) tt
+    NoLink-if (is_text target) _ _ (NoLink-along (behind links true) (start place target) (components target ++ rest) (NoLink-behind links)) tt
 
 pub NoLink-look : (root : Names) (path : List ℕ) → NoLink (look root path true)
-unfolding look
-NoLink-look root path = NoLink-if (is_text path) _ _ (NoLink-along (behind 32 true) (record { here = root; above = [] }) (pieces path) (NoLink-behind 32)) tt
+unfolding spot
+NoLink-look root path = NoLink-if (is_text path) _ _ (NoLink-along (behind 32 true) (record { here = root; above = [] }) (components path) (NoLink-behind 32)) tt
 
 pub link-unfollowed : (root : Names) (path : List ℕ) (follow : Bool) (target : List ℕ) → look root path follow ≡ found (link target) → follow ≡ false
 link-unfollowed root path true target e = absurd (subst NoLink e (NoLink-look root path))

@@ -1,7 +1,8 @@
 -- A name behind the path of a directory leads to the node of that name.
 use Rattle.std.proofs.Common.{◌≡◌, ℕ, zero, suc, Bool, true, false, List, [], ◌∷◌, ◌++◌, Option, Some, None, refl, not, if◌then◌else◌, sym, ap, ◌∙◌, append_assoc}
 use Rattle.std.proofs.lemmas.List.{append-nil}
-use Rattle.worktree_fs.specs.Tree.{Names, Node, Place, Look, Jump, found, absent, file, link, directory, other, child, is_text, is_dot, is_dot_dot, pieces, along, behind, resolve, look, start, parent, enter, is_last, onward}
+use Rattle.gitbase_core.specs.Path.{components}
+use Rattle.worktree_fs.specs.Tree.{Names, Node, Place, Spot, Jump, look_at, reached, nowhere, trail, spot, found, file, link, directory, other, child, is_text, is_dot, is_dot_dot, along, behind, resolve, look, start, parent, enter, is_last, onward}
 use Rattle.worktree_fs.specs.Naming.{IsName}
 use Rattle.worktree_fs.specs.Join.{at_child}
 use Rattle.worktree_fs.proofs.Texts.{is_text-append, is_text-slash, pieces-join}
@@ -12,53 +13,53 @@ is_last-push [] n = refl
 is_last-push (r ∷ rest) n = refl
 
 -- only a text leads anywhere
-text_if_found : (b : Bool) (l : Look) (node : Node) → (if b then l else absent) ≡ found node → (b ≡ true) × (l ≡ found node)
+text_if_found : (b : Bool) (l : Spot) (node : Node) → look_at (if b then l else nowhere) ≡ found node → (b ≡ true) × (look_at l ≡ found node)
 text_if_found true l node e = (refl, e)
 text_if_found false l node e = absurd (cc e)
 
 pub is_text-found : (root : Names) (path : List ℕ) (follow : Bool) (node : Node) → look root path follow ≡ found node → is_text path ≡ true
-unfolding look
-is_text-found root path follow node e = (text_if_found (is_text path) (resolve 32 follow (record { here = root; above = [] }) (pieces path)) node e).0
+unfolding spot
+is_text-found root path follow node e = (text_if_found (is_text path) (resolve 32 follow (record { here = root; above = [] }) (components path)) node e).0
 
 module _ (names : Names) (name : List ℕ) (is_name : IsName name) where
   -- a jump that leads to the directory leads to the node with the name behind
   abbrev Jumps : Jump → Jump → Type 0
-  Jumps following staying = (place : Place) (target : List ℕ) (rest : List (List ℕ)) → following place target rest ≡ found (directory names) → staying place target (rest ++ name ∷ []) ≡ at_child (child names name)
+  Jumps following staying = (place : Place) (target : List ℕ) (rest : List (List ℕ)) → look_at (following place target rest) ≡ found (directory names) → look_at (staying place target (rest ++ name ∷ [])) ≡ at_child (child names name)
 
   abbrev Goes : Jump → Jump → List (List ℕ) → Type 0
-  Goes following staying rest = (place : Place) → along following true place rest ≡ found (directory names) → along staying false place (rest ++ name ∷ []) ≡ at_child (child names name)
+  Goes following staying rest = (place : Place) → look_at (along following true place rest) ≡ found (directory names) → look_at (along staying false place (rest ++ name ∷ [])) ≡ at_child (child names name)
 
-  last : (staying : Jump) (place : Place) (o : Option Node) → onward (λ p. found (directory p.here)) staying false place [] o ≡ at_child o
-  last staying place None = refl
-  last staying place (Some (directory sub)) = refl
-  last staying place (Some (link target)) = refl
-  last staying place (Some (file bytes)) = refl
-  last staying place (Some other) = refl
+  last : (staying : Jump) (place : Place) (piece : List ℕ) (o : Option Node) → look_at (onward (λ p. reached (trail p) (directory p.here)) staying false place [] piece o) ≡ at_child o
+  last staying place piece None = refl
+  last staying place piece (Some (directory sub)) = refl
+  last staying place piece (Some (link target)) = refl
+  last staying place piece (Some (file bytes)) = refl
+  last staying place piece (Some other) = refl
 
-  through : (following staying : Jump) → Jumps following staying → (rest : List (List ℕ)) → Goes following staying rest → (place : Place) (o : Option Node)
-      → onward (λ p. along following true p rest) following true place rest o ≡ found (directory names)
-      → onward (λ p. along staying false p (rest ++ name ∷ [])) staying false place (rest ++ name ∷ []) o ≡ at_child (child names name)
-  through following staying jumps rest goes place None e = absurd (cc e)
-  through following staying jumps rest goes place (Some (directory sub)) e = goes (enter place sub) e
-  through following staying jumps rest goes place (Some (link target)) e =
-      ap (λ b. if not b then staying place target (rest ++ name ∷ []) else found (link target)) (is_last-push rest name) ∙ jumps place target rest e
-  through following staying jumps [] goes place (Some (file bytes)) e = absurd (cc e)
-  through following staying jumps (r ∷ rest) goes place (Some (file bytes)) e = absurd (cc e)
-  through following staying jumps [] goes place (Some other) e = absurd (cc e)
-  through following staying jumps (r ∷ rest) goes place (Some other) e = absurd (cc e)
+  through : (following staying : Jump) → Jumps following staying → (rest : List (List ℕ)) → Goes following staying rest → (place : Place) (piece : List ℕ) (o : Option Node)
+      → look_at (onward (λ p. along following true p rest) following true place rest piece o) ≡ found (directory names)
+      → look_at (onward (λ p. along staying false p (rest ++ name ∷ [])) staying false place (rest ++ name ∷ []) piece o) ≡ at_child (child names name)
+  through following staying jumps rest goes place piece None e = absurd (cc e)
+  through following staying jumps rest goes place piece (Some (directory sub)) e = goes (enter place piece sub) e
+  through following staying jumps rest goes place piece (Some (link target)) e =
+      ap (λ b. look_at (if not b then staying place target (rest ++ name ∷ []) else reached (piece ∷ trail place) (link target))) (is_last-push rest name) ∙ jumps place target rest e
+  through following staying jumps [] goes place piece (Some (file bytes)) e = absurd (cc e)
+  through following staying jumps (r ∷ rest) goes place piece (Some (file bytes)) e = absurd (cc e)
+  through following staying jumps [] goes place piece (Some other) e = absurd (cc e)
+  through following staying jumps (r ∷ rest) goes place piece (Some other) e = absurd (cc e)
 
   split : (following staying : Jump) → Jumps following staying → (rest : List (List ℕ)) → Goes following staying rest → (place : Place) (piece : List ℕ) (dot up : Bool)
-      → (if dot then along following true place rest else if up then along following true (parent place) rest else onward (λ p. along following true p rest) following true place rest (child place.here piece)) ≡ found (directory names)
-      → (if dot then along staying false place (rest ++ name ∷ []) else if up then along staying false (parent place) (rest ++ name ∷ []) else onward (λ p. along staying false p (rest ++ name ∷ [])) staying false place (rest ++ name ∷ []) (child place.here piece)) ≡ at_child (child names name)
+      → look_at (if dot then along following true place rest else if up then along following true (parent place) rest else onward (λ p. along following true p rest) following true place rest piece (child place.here piece)) ≡ found (directory names)
+      → look_at (if dot then along staying false place (rest ++ name ∷ []) else if up then along staying false (parent place) (rest ++ name ∷ []) else onward (λ p. along staying false p (rest ++ name ∷ [])) staying false place (rest ++ name ∷ []) piece (child place.here piece)) ≡ at_child (child names name)
   split following staying jumps rest goes place piece true up e = goes place e
   split following staying jumps rest goes place piece false true e = goes (parent place) e
-  split following staying jumps rest goes place piece false false e = through following staying jumps rest goes place (child place.here piece) e
+  split following staying jumps rest goes place piece false false e = through following staying jumps rest goes place piece (child place.here piece) e
 
   steps : (following staying : Jump) → Jumps following staying → (rest : List (List ℕ)) → Goes following staying rest
   steps following staying jumps [] place e =
-      ap (λ b. if b then along staying false place [] else if is_dot_dot name then along staying false (parent place) [] else onward (λ p. along staying false p []) staying false place [] (child place.here name)) (name_parts name is_name).no_dot
-      ∙ ap (λ b. if b then along staying false (parent place) [] else onward (λ p. along staying false p []) staying false place [] (child place.here name)) (name_parts name is_name).no_dot_dot
-      ∙ last staying place (child place.here name)
+      ap (λ b. look_at (if b then along staying false place [] else if is_dot_dot name then along staying false (parent place) [] else onward (λ p. along staying false p []) staying false place [] name (child place.here name))) (name_parts name is_name).no_dot
+      ∙ ap (λ b. look_at (if b then along staying false (parent place) [] else onward (λ p. along staying false p []) staying false place [] name (child place.here name))) (name_parts name is_name).no_dot_dot
+      ∙ last staying place name (child place.here name)
       ∙ ap (λ (n : Names). at_child (child n name)) (cc e)
   steps following staying jumps (piece ∷ rest) place e = split following staying jumps rest (steps following staying jumps rest) place piece (is_dot piece) (is_dot_dot piece) e
 
@@ -66,35 +67,35 @@ module _ (names : Names) (name : List ℕ) (is_name : IsName name) where
   unfolding behind
   all_jumps zero place target rest e = absurd (cc e)
   all_jumps (suc links) place target rest e =
-      let text = text_if_found (is_text target) (along (behind links true) true (start place target) (pieces target ++ rest)) (directory names) e in
-      ap (λ b. if b then along (behind links false) false (start place target) (pieces target ++ (rest ++ name ∷ [])) else absent) text.0
-      ∙ sym (ap (along (behind links false) false (start place target)) (append_assoc (pieces target) rest (name ∷ [])))
-      ∙ steps (behind links true) (behind links false) (all_jumps links) (pieces target ++ rest) (start place target) text.1
+      let text = text_if_found (is_text target) (along (behind links true) true (start place target) (components target ++ rest)) (directory names) e in
+      ap (λ b. look_at (if b then along (behind links false) false (start place target) (components target ++ (rest ++ name ∷ [])) else nowhere)) text.0
+      ∙ sym (ap (λ l. look_at (along (behind links false) false (start place target) l)) (append_assoc (components target) rest (name ∷ [])))
+      ∙ steps (behind links true) (behind links false) (all_jumps links) (components target ++ rest) (start place target) text.1
 
   -- any spelling of the path with the name behind
-  pub look-more : (root : Names) (path more : List ℕ) → is_text more ≡ true → pieces more ≡ pieces path ++ name ∷ []
+  pub look-more : (root : Names) (path more : List ℕ) → is_text more ≡ true → components more ≡ components path ++ name ∷ []
       → look root path true ≡ found (directory names) → look root more false ≡ at_child (child names name)
-  unfolding look
+  unfolding spot
   look-more root path more text is e =
-      let of_path = text_if_found (is_text path) (resolve 32 true (record { here = root; above = [] }) (pieces path)) (directory names) e in
-      ap (λ b. if b then resolve 32 false (record { here = root; above = [] }) (pieces more) else absent) text
-      ∙ ap (resolve 32 false (record { here = root; above = [] })) is
-      ∙ steps (behind 32 true) (behind 32 false) (all_jumps 32) (pieces path) (record { here = root; above = [] }) of_path.1
+      let of_path = text_if_found (is_text path) (resolve 32 true (record { here = root; above = [] }) (components path)) (directory names) e in
+      ap (λ b. look_at (if b then resolve 32 false (record { here = root; above = [] }) (components more) else nowhere)) text
+      ∙ ap (λ l. look_at (resolve 32 false (record { here = root; above = [] }) l)) is
+      ∙ steps (behind 32 true) (behind 32 false) (all_jumps 32) (components path) (record { here = root; above = [] }) of_path.1
 
   -- behind a slash
   pub look-join : (root : Names) (path : List ℕ) → look root path true ≡ found (directory names) → look root (path ++ 47 ∷ name) false ≡ at_child (child names name)
   look-join root path e =
       look-more root path (path ++ 47 ∷ name)
       (is_text-append path (47 ∷ name) (is_text-found root path true (directory names) e) (is_text-append (47 ∷ []) name is_text-slash (name_parts name is_name).text))
-      (pieces-join path name ∙ ap (λ l. pieces path ++ l) (pieces-name name is_name)) e
+      (pieces-join path name ∙ ap (λ l. components path ++ l) (pieces-name name is_name)) e
 
   -- without one, where the path ends in a slash
   pub look-join_slash : (root : Names) (front : List ℕ) → look root (front ++ 47 ∷ []) true ≡ found (directory names) → look root ((front ++ 47 ∷ []) ++ name) false ≡ at_child (child names name)
   look-join_slash root front e =
       look-more root (front ++ 47 ∷ []) ((front ++ 47 ∷ []) ++ name)
       (is_text-append (front ++ 47 ∷ []) name (is_text-found root (front ++ 47 ∷ []) true (directory names) e) (name_parts name is_name).text)
-      (ap pieces (append_assoc front (47 ∷ []) name) ∙ pieces-join front name ∙ ap (λ l. pieces front ++ l) (pieces-name name is_name)
-      ∙ ap (λ l. l ++ name ∷ []) (sym (pieces-join front [] ∙ append-nil (pieces front)))) e
+      (ap components (append_assoc front (47 ∷ []) name) ∙ pieces-join front name ∙ ap (λ l. components front ++ l) (pieces-name name is_name)
+      ∙ ap (λ l. l ++ name ∷ []) (sym (pieces-join front [] ∙ append-nil (components front)))) e
 
   -- and where it is empty
   pub look-join_empty : (root : Names) → look root [] true ≡ found (directory names) → look root name false ≡ at_child (child names name)

@@ -1,10 +1,10 @@
+pub mod ByNames
 pub mod Calls
 pub mod Distinct
 pub mod EntryNames
 pub mod Grown
 pub mod Join
 pub mod Lookups
-pub mod Mapped
 pub mod NameParts
 pub mod Obstacles
 pub mod Order
@@ -18,6 +18,14 @@ pub mod Tested
 pub mod Texts
 pub mod Followed
 pub mod Spelled
+mod Cuts
+pub mod Follow
+mod EntryFalls
+mod Repositories
+mod Trails
+mod Removals
+mod Ways
+mod Depths
 pub mod Fronts
 pub mod FullPaths
 pub mod Placed

@@ -1,9 +1,13 @@
 pub mod Answers
+pub mod ByNames
 pub mod Causes
+pub mod Changes
 pub mod Codes
+pub mod Composed
 pub mod Edges
 pub mod Grow
 pub mod Join
+pub mod Kept
 pub mod Memory
 pub mod Naming
 pub mod Order
@@ -11,10 +15,13 @@ pub mod PathStack
 pub mod Paths
 pub mod Placed
 pub mod Planned
+pub mod Repository
 pub mod Route
+pub mod Sites
 pub mod Step
 pub mod Stops
 pub mod Stored
 pub mod StoredFalls
 pub mod Told
 pub mod Tree
+pub mod Way

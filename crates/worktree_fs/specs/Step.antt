@@ -1,6 +1,6 @@
 -- What a step of a resolution leads to.
 use Rattle.std.specs.Prelude.{ℕ, List, [], ◌∷◌, Bool, true, false}
-use Rattle.worktree_fs.specs.Tree.{Names, Look, Place, found, absent, too_many_links, file, link, directory, other, none, resolve, parent, enter, root_of}
+use Rattle.worktree_fs.specs.Tree.{Look, Level, Place, look_at, found, absent, too_many_links, file, link, directory, other, none, resolve, parent, enter, root_of}
 use Rattle.worktree_fs.specs.Stored.{names_in, AreSorted}
 use Rattle.worktree_fs.specs.declared.memory.stored.Entry.{Entry}
 use Rattle.worktree_fs.specs.declared.memory.resolve.Step.{Step}
@@ -8,11 +8,11 @@ use Rattle.worktree_fs.specs.declared.memory.resolve.Step.TheVariants as steps
 use Rattle.worktree_fs.specs.declared.memory.resolve.Found.{Found}
 use Rattle.worktree_fs.specs.declared.memory.resolve.Found.TheVariants as ends
 
-abbrev pub is_root_below : List Names → Bool
+abbrev pub is_root_below : List Level → Bool
 is_root_below [] = true
 is_root_below (d ∷ above) = false
 
-abbrev pub place_of : List Entry → List Names → Place
+abbrev pub place_of : List Entry → List Level → Place
 place_of entries above = record { here = names_in entries; above = above }
 
 -- what a step from a place leads to, where so much is left
@@ -21,12 +21,12 @@ stepped follow place links left (steps.Directory entries) = found (directory (na
 stepped follow place links left (steps.Node node) = found node.now
 stepped follow place links left steps.Absent = absent
 stepped follow place links left steps.TooManyLinks = too_many_links
-stepped follow place links left steps.Up = resolve links follow (parent place) left
-stepped follow place links left steps.Root = resolve links follow (root_of place) left
+stepped follow place links left steps.Up = look_at (resolve links follow (parent place) left)
+stepped follow place links left steps.Root = look_at (resolve links follow (root_of place) left)
 
 -- a place in a directory of this one
 abbrev pub within : Place → Place
-within place = enter place none
+within place = enter place [] none
 
 -- what a step that ends a resolution leads to
 abbrev pub end_of : Step → Look

@@ -1,5 +1,5 @@
 -- A tree of nodes, and what a path leads to in it.
-use Rattle.std.specs.Prelude.{ℕ, zero, suc, Bool, true, false, not, ◌&&◌, ◌||◌, ◌==◌, if◌then◌else◌, List, [], ◌∷◌, ◌++◌, Option, Some, None}
+use Rattle.std.specs.Prelude.{ℕ, zero, suc, Bool, true, false, not, ◌&&◌, ◌||◌, ◌==◌, if◌then◌else◌, List, [], ◌∷◌, ◌++◌, map, Option, Some, None}
 use Rattle.std.specs.Str.{bytes_eq, is_utf8}
 use Rattle.std.specs.List.{list_any}
 use Rattle.gitbase_core.specs.Path.{components}
@@ -18,6 +18,13 @@ mutual
     none : Names
     named : List ℕ → Node → Names → Names
 
+-- whether a node is a directory
+abbrev pub is_directory : Node → Bool
+is_directory (file bytes) = false
+is_directory (link target) = false
+is_directory (directory names) = true
+is_directory other = false
+
 -- the names in a directory, in the order in which the tree has them
 abbrev pub names_of : Names → List (List ℕ)
 names_of none = []
@@ -32,10 +39,6 @@ child (named n node rest) name = if bytes_eq n name then Some node else child re
 unfoldable pub is_text : List ℕ → Bool
 is_text bytes = is_utf8 bytes && not (list_any (λ b. b == 0) bytes)
 
--- the pieces of a path along which it leads: its components
-abbrev pub pieces : List ℕ → List (List ℕ)
-pieces path = components path
-
 -- `.`, the directory itself
 abbrev pub is_dot : List ℕ → Bool
 is_dot piece = bytes_eq piece (46 ∷ [])
@@ -44,26 +47,35 @@ is_dot piece = bytes_eq piece (46 ∷ [])
 abbrev pub is_dot_dot : List ℕ → Bool
 is_dot_dot piece = bytes_eq piece (46 ∷ 46 ∷ [])
 
+-- a directory above, and the name in it by which one goes down
+pub record Level : Type 0 where
+  pub holds : Names
+  pub name : List ℕ
+
 -- where a resolution stands: the directory reached, and the directories above it up to the root, the nearest first
 pub record Place : Type 0 where
   pub here : Names
-  pub above : List Names
+  pub above : List Level
+
+-- the names that lead from the root to the place, the last one first
+abbrev pub trail : Place → List (List ℕ)
+trail place = map (λ (level : Level). level.name) place.above
 
 -- the directory above; the root is above itself
 abbrev pub parent : Place → Place
 parent place = up place.here place.above
   where
-    up : Names → List Names → Place
+    up : Names → List Level → Place
     up here [] = record { here = here; above = [] }
-    up here (d ∷ above) = record { here = d; above = above }
+    up here (level ∷ above) = record { here = level.holds; above = above }
 
--- a directory of the place
-abbrev pub enter : Place → Names → Place
-enter place names = record { here = names; above = place.here ∷ place.above }
+-- a directory of the place, by its name
+abbrev pub enter : Place → List ℕ → Names → Place
+enter place name names = record { here = names; above = record { holds = place.here; name = name } ∷ place.above }
 
-abbrev root_from : Names → List Names → Place
+abbrev root_from : Names → List Level → Place
 root_from here [] = record { here = here; above = [] }
-root_from here (d ∷ above) = root_from d above
+root_from here (level ∷ above) = root_from level.holds above
 
 abbrev pub root_of : Place → Place
 root_of place = root_from place.here place.above
@@ -76,43 +88,61 @@ abbrev pub is_last : List (List ℕ) → Bool
 is_last [] = true
 is_last (piece ∷ rest) = false
 
+-- where a path leads: to a node, with the names that lead there from the root without links, the last one first; to a
+-- name that its directory does not have, with the names that would lead there and the components behind it; nowhere; or on
+-- without an end within the links that may be followed
+pub data Spot : Type 0 where
+  reached : List (List ℕ) → Node → Spot
+  missing : List (List ℕ) → List (List ℕ) → Spot
+  nowhere : Spot
+  endless : Spot
+
+-- what lies behind a link of a place, with its target, and components to go on from there
+abbrev pub Jump : Type 0
+Jump = Place → List ℕ → List (List ℕ) → Spot
+
+-- from the node of a piece on: into a directory, behind a link unless it is the last and not to be followed,
+-- and no further than a file or another node
+abbrev pub onward : (Place → Spot) → Jump → Bool → Place → List (List ℕ) → List ℕ → Option Node → Spot
+onward go jump follow place rest name None = missing (name ∷ trail place) rest
+onward go jump follow place rest name (Some (directory names)) = go (enter place name names)
+onward go jump follow place rest name (Some (link target)) = if follow || not (is_last rest) then jump place target rest else reached (name ∷ trail place) (link target)
+onward go jump follow place rest name (Some (file bytes)) = if is_last rest then reached (name ∷ trail place) (file bytes) else nowhere
+onward go jump follow place rest name (Some other) = if is_last rest then reached (name ∷ trail place) other else nowhere
+
+-- along the components from a place, by `jump` behind each link on the way
+abbrev pub along : Jump → Bool → Place → List (List ℕ) → Spot
+along jump follow place [] = reached (trail place) (directory place.here)
+along jump follow place (piece ∷ rest) =
+    if is_dot piece then along jump follow place rest
+    else if is_dot_dot piece then along jump follow (parent place) rest
+    else onward (λ p. along jump follow p rest) jump follow place rest piece (child place.here piece)
+
+-- behind a link, where so many links may still be followed; a target that is no text leads nowhere
+unfoldable pub behind : ℕ → Bool → Jump
+behind zero follow place target rest = endless
+behind (suc links) follow place target rest =
+    if is_text target then along (behind links follow) follow (start place target) (components target ++ rest) else nowhere
+
+abbrev pub resolve : ℕ → Bool → Place → List (List ℕ) → Spot
+resolve links follow place rest = along (behind links follow) follow place rest
+
+-- Where a path leads from the root. Links on the way are followed, a last one where `follow` says so, and at most
+-- 32 of them. A path that is no text leads nowhere.
+unfoldable pub spot : Names → List ℕ → Bool → Spot
+spot root path follow = if is_text path then resolve 32 follow (record { here = root; above = [] }) (components path) else nowhere
+
 -- what a path leads to: a node, nothing, or no end within the links that may be followed
 pub data Look : Type 0 where
   found : Node → Look
   absent : Look
   too_many_links : Look
 
--- what lies behind a link of a place, with its target, and pieces to go on from there
-abbrev pub Jump : Type 0
-Jump = Place → List ℕ → List (List ℕ) → Look
+abbrev pub look_at : Spot → Look
+look_at (reached names node) = found node
+look_at (missing names rest) = absent
+look_at nowhere = absent
+look_at endless = too_many_links
 
--- from the node of a piece on: into a directory, behind a link unless it is the last and not to be followed,
--- and no further than a file or another node
-abbrev pub onward : (Place → Look) → Jump → Bool → Place → List (List ℕ) → Option Node → Look
-onward go jump follow place rest None = absent
-onward go jump follow place rest (Some (directory names)) = go (enter place names)
-onward go jump follow place rest (Some (link target)) = if follow || not (is_last rest) then jump place target rest else found (link target)
-onward go jump follow place rest (Some (file bytes)) = if is_last rest then found (file bytes) else absent
-onward go jump follow place rest (Some other) = if is_last rest then found other else absent
-
--- along the pieces from a place, by `jump` behind each link on the way
-abbrev pub along : Jump → Bool → Place → List (List ℕ) → Look
-along jump follow place [] = found (directory place.here)
-along jump follow place (piece ∷ rest) =
-    if is_dot piece then along jump follow place rest
-    else if is_dot_dot piece then along jump follow (parent place) rest
-    else onward (λ p. along jump follow p rest) jump follow place rest (child place.here piece)
-
--- behind a link, where so many links may still be followed; a target that is no text leads nowhere
-unfoldable pub behind : ℕ → Bool → Jump
-behind zero follow place target rest = too_many_links
-behind (suc links) follow place target rest =
-    if is_text target then along (behind links follow) follow (start place target) (pieces target ++ rest) else absent
-
-abbrev pub resolve : ℕ → Bool → Place → List (List ℕ) → Look
-resolve links follow place rest = along (behind links follow) follow place rest
-
--- What a path leads to from the root. Links on the way are followed, a last one where `follow` says so, and at most
--- 32 of them. A path that is no text leads nowhere.
-unfoldable pub look : Names → List ℕ → Bool → Look
-look root path follow = if is_text path then resolve 32 follow (record { here = root; above = [] }) (pieces path) else absent
+abbrev pub look : Names → List ℕ → Bool → Look
+look root path follow = look_at (spot root path follow)

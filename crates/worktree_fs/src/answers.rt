@@ -22,26 +22,26 @@ pub enum NodeKind {
 
 /// A call failed for a reason outside the program, and its failure was counted.
 #[derive(Clone, Copy, Debug, PartialEq, Eq, Error)]
-#[error("Fault")]
+#[error("Could not write to the output")]
 pub struct Fault;
 
 /// Why a directory was not listed.
 #[derive(Clone, Copy, Debug, PartialEq, Eq, Error)]
 pub enum ListError {
     /// The path leads nowhere.
-    #[error("Absent")]
+    #[error("Could not list a directory that does not exist")]
     Absent,
     /// The path leads to a node that is no directory.
-    #[error("NotADirectory")]
+    #[error("Could not list what is not a directory")]
     NotADirectory,
     /// The directory could not be opened; the failure was counted.
-    #[error("OpenFault")]
+    #[error("Failed to open a directory for listing")]
     OpenFault,
     /// Its names could not be read to their end; the failure was counted.
-    #[error("EntryFault")]
+    #[error("Could not obtain an entry of a directory")]
     EntryFault,
     /// The allocator refused memory.
-    #[error("OutOfMemory")]
+    #[error("Out of memory: the allocator refused to make room")]
     OutOfMemory,
 }
 
@@ -86,14 +86,36 @@ pub enum ReadAnswer {
     Special,
 }
 
+/// What came of the making of a directory.
+#[derive(Clone, Copy, Debug, PartialEq, Eq)]
+pub enum MakeAnswer {
+    /// It was made.
+    Made,
+    /// Its path has a node.
+    Exists,
+    /// The path before its name leads to no directory, or the path is no text.
+    NoParent,
+}
+
+/// What came of the removal of a node.
+#[derive(Clone, Copy, Debug, PartialEq, Eq)]
+pub enum RemoveAnswer {
+    /// It was removed.
+    Removed,
+    /// Nothing is there.
+    Absent,
+    /// It is a directory, which stays.
+    IsDirectory,
+}
+
 /// Why a question about a path has no answer.
 #[derive(Clone, Copy, Debug, PartialEq, Eq, Error)]
 pub enum ReadError {
     /// The call failed, and its failure was counted.
-    #[error("Fault")]
+    #[error("Could not access a path of the worktree")]
     Fault,
     /// The allocator refused memory.
-    #[error("OutOfMemory")]
+    #[error("Out of memory: the allocator refused to make room")]
     OutOfMemory,
 }
 

@@ -1,10 +1,14 @@
 //! Whether a long call is to stop.
-ghost use Rattle.std.specs.Prelude.{◌≡◌, ℕ, ◌≤◌, Some, None};
+ghost use Rattle.std.specs.Prelude.{◌≡◌, ℕ, ◌≤◌, Some, None, Ok, IfOk};
 ghost use Rattle.std.specs.Bool.{OnTrue, OnFalse};
-ghost use Rattle.worktree_fs.specs.Causes.{Counts, Rose};
-ghost use Rattle.worktree_fs.specs.Planned.{is_due, next, asked_again};
+ghost use Rattle.worktree_fs.specs.Causes.{Incremented, Increased};
+ghost use Rattle.worktree_fs.specs.Planned.{is_due, next, with_more, asked_again, unasked};
 
+use gitbase_core::OutOfMemory;
+use std::alloc::Global;
+use std::cell::Cell;
 use std::marker::Model;
+use std::rc::Rc;
 
 /// Something that may ask a long call to stop, and counts how often it was asked and how often it said so.
 ///
@@ -18,9 +22,22 @@ pub trait Interrupt {
 
     /// Whether to stop now.
     fn is_raised(&mut self) -> bool
-        ensures questions { Counts (questions self.old) (questions self.new) }
-        ensures cause { OnTrue result (Rose (raised self.old) (raised self.new)) }
+        ensures questions { Incremented (questions self.old) (questions self.new) }
+        ensures cause { OnTrue result (Increased (raised self.old) (raised self.new)) }
         ensures kept { OnFalse result (raised self.new ≡ raised self.old) }
+        ensures later { raised self.old ≤ raised self.new };
+
+    /// Another one that is raised as this one is, and was not asked yet.
+    ///
+    /// Who takes a fork hands it back by `absorb`: it cannot be let go in generic code.
+    fn fork(&self, alloc: Global) -> Result<Self, OutOfMemory>
+        ensures questions { IfOk result (λ fork. questions fork ≡ 0) }
+        ensures raised { IfOk result (λ fork. raised fork ≡ 0) };
+
+    /// Adds the counts of a fork, and lets it go.
+    fn absorb(&mut self, other: Self)
+        ensures questions { questions self.new ≡ with_more (questions self.old) (questions other) }
+        ensures raised { raised self.new ≡ with_more (raised self.old) (raised other) }
         ensures later { raised self.old ≤ raised self.new };
 }
 
@@ -35,9 +52,9 @@ pub struct PlannedInterrupt {
 }
 
 impl Model for PlannedInterrupt {
-    ghost use Rattle.worktree_fs.specs.Planned.{Asked};
+    ghost use Rattle.worktree_fs.specs.Planned.{InterruptModel};
 
-    ghost Value = { Asked };
+    ghost Value = { InterruptModel };
 
     ghost view = { λ i. record { first = i.first; questions = i.questions; raised = i.raised } };
 }
@@ -85,5 +102,92 @@ impl Interrupt for PlannedInterrupt {
             self.raised = self.raised.saturating_add(1);
         }
         is_due
+    }
+
+    /// Raised from the fork's own question of the same number on.
+    fn fork(&self, _alloc: Global) -> Result<PlannedInterrupt, OutOfMemory>
+        ensures { result ≡ Ok (unasked self.now) }
+    {
+        Ok(PlannedInterrupt {
+            first: self.first,
+            questions: 0,
+            raised: 0,
+        })
+    }
+
+    fn absorb(&mut self, other: PlannedInterrupt)
+        ensures state { self.new
+            ≡ record
+            { first = self.old.first; questions = with_more self.old.questions other.questions; raised = with_more self.old.raised other.raised } }
+        ensures later { self.old.raised ≤ self.new.raised }
+    {
+        self.questions = self.questions.saturating_add(other.questions);
+        self.raised = self.raised.saturating_add(other.raised);
+    }
+}
+
+/// An interrupt that is raised once its flag is, which it shares with its forks. Something that is called on the way,
+/// as a worktree of the caller's own, raises it through a fork.
+///
+/// Contracts see both counts, and not the flag.
+#[derive(Drop)]
+pub struct FlagInterrupt {
+    flag: Rc<Cell<bool>>,
+    questions: u64,
+    raised: u64,
+}
+
+impl Model for FlagInterrupt {
+    ghost use Rattle.worktree_fs.specs.Planned.{InterruptCounts};
+
+    ghost Value = { InterruptCounts };
+
+    ghost view = { λ i. record { questions = i.questions; raised = i.raised } };
+}
+
+impl FlagInterrupt {
+    /// One whose flag is not raised.
+    pub fn new(alloc: Global) -> Result<FlagInterrupt, OutOfMemory>
+        ensures { IfOk result (λ i. i ≡ record { questions = 0; raised = 0 }) }
+    {
+        Ok(FlagInterrupt {
+            flag: Rc::new(alloc, Cell::new(false))?,
+            questions: 0,
+            raised: 0,
+        })
+    }
+
+    /// Raises the flag, for its forks too.
+    pub fn raise(&self) {
+        self.flag.set(true);
+    }
+}
+
+impl Interrupt for FlagInterrupt {
+    ghost questions = { λ i. i.questions };
+
+    ghost raised = { λ i. i.raised };
+
+    fn is_raised(&mut self) -> bool {
+        self.questions = self.questions.saturating_add(1);
+        let is_raised = self.flag.get();
+        if is_raised {
+            self.raised = self.raised.saturating_add(1);
+        }
+        is_raised
+    }
+
+    /// Shares the flag.
+    fn fork(&self, _alloc: Global) -> Result<FlagInterrupt, OutOfMemory> {
+        Ok(FlagInterrupt {
+            flag: self.flag.clone()?,
+            questions: 0,
+            raised: 0,
+        })
+    }
+
+    fn absorb(&mut self, other: FlagInterrupt) {
+        self.questions = self.questions.saturating_add(other.questions);
+        self.raised = self.raised.saturating_add(other.raised);
     }
 }

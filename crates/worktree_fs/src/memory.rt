@@ -1,41 +1,52 @@
 //! A tree in memory, whose calls can be planned to fail.
-ghost use Rattle.std.specs.Prelude.{◌≡◌, ◌≤◌, ◌↔◌, ◌&&◌, not, true, false, map, [], Ok, Err, Some, None, IfOk, IfErr, OnOk, OnErr, IsErrOf, IsTrue, MatchResult, IfNone, IfSome, reverse, ◌++◌, ◌∷◌, if◌then◌else◌};
-ghost use Rattle.std.specs.List.{IsDistinct, AllByRecursion, list_all};
-ghost use Rattle.worktree_fs.specs.Tree.{directory, file, found, look, none, pieces, names_of};
+ghost use Rattle.std.specs.Prelude.{◌≡◌, ◌≤◌, ◌↔◌, ◌&&◌, not, true, false, [], Ok, Err, Some, None, IfOk, IfErr, OnOk, OnErr, IsErrOf, IsTrue, MatchResult, IfNone, IfSome, ◌++◌, ◌∷◌, if◌then◌else◌};
+ghost use Rattle.std.specs.List.{AllByRecursion, list_all};
+ghost use Rattle.gitbase_core.specs.Path.{components, pieces};
+ghost use Rattle.worktree_fs.specs.Tree.{directory, file, found, look, spot, none};
 ghost use Rattle.worktree_fs.specs.Naming.{IsName, is_name, AreNames};
 ghost use Rattle.worktree_fs.specs.Answers.{kind_of, read_of, UnlessRead, ListRefuses, OnListFault, UnlessListFault};
-ghost use Rattle.worktree_fs.specs.Causes.{Rose};
-ghost use Rattle.worktree_fs.specs.Planned.{next};
-ghost use Rattle.worktree_fs.specs.Grow.{grown, parts, is_normal, add_refusal, IsRefusedBy, node_of_new};
-ghost use Rattle.worktree_fs.specs.Stored.{names_in, AreSorted};
-ghost use Rattle.worktree_fs.specs.Step.{look_of, ListsSorted};
-ghost use Rattle.worktree_fs.specs.Memory.{no_calls, fails, called, listed, told_by, in_order, ListsInOrder};
+ghost use Rattle.worktree_fs.specs.Causes.{Increased};
+ghost use Rattle.worktree_fs.specs.Planned.{next, with_more};
+ghost use Rattle.worktree_fs.specs.Changes.{real_path, make_answer, after_make, remove_answer, after_remove};
+ghost use Rattle.worktree_fs.specs.Composed.{as_kept};
+ghost use Rattle.worktree_fs.specs.Grow.{grown, is_full_path, add_refusal, IsRefusedBy, node_of_new};
+ghost use Rattle.worktree_fs.specs.Step.{look_of};
+ghost use Rattle.worktree_fs.specs.Memory.{no_calls, fails, called, listed, told_by, ListsInOrder};
 
 mod grow;
+mod listing;
 mod plan;
 mod resolve;
+mod root;
 mod route;
 mod search;
+mod site;
+mod spell;
 mod stored;
+mod trace;
 
-use crate::names::{is_absolute, is_name};
-use crate::{ListError, NameList, NodeKind, ReadAnswer, ReadError, Worktree};
-use gitbase_core::{Bytes, OutOfMemory};
-use grow::{add_in, stored_of};
+use crate::composed::as_kept;
+use crate::names::{full_path, is_absolute, is_name};
+use crate::{
+    ListError, MakeAnswer, NameList, NodeKind, ReadAnswer, ReadError, RemoveAnswer, Worktree,
+};
+use gitbase_core::{Bytes, OutOfMemory, PathText};
+use grow::stored_of;
 pub use grow::{AddError, NewNode};
+use listing::list_of;
 pub use plan::CallKind;
 use plan::{CallCounts, Plan, is_named};
 use resolve::{Found, resolve};
+use root::Root;
 use std::alloc::Global;
 use std::marker::Model;
-use stored::Entry;
 
 /// A tree in memory, whose names are sorted in each directory and found by binary search.
 ///
 /// Contracts see all that it holds, the planned faults, and the counts.
 #[derive(Drop)]
 pub struct MemoryWorktree {
-    root: Vec<Entry>,
+    root: Root,
     composes: bool,
     is_reversed: bool,
     plans: Vec<Plan>,
@@ -55,10 +66,8 @@ impl Model for MemoryWorktree {
 
     ghost coded = { Prim.hlevel (codes, coded_names) };
 
-    ghost use Rattle.worktree_fs.specs.Stored.{names_in, AreSorted};
-
     ghost view = { λ m. record {
-      tree = names_in m.root.items;
+      tree = m.root;
       composes = m.composes;
       is_reversed = m.is_reversed;
       plans = m.plans.items;
@@ -68,21 +77,18 @@ impl Model for MemoryWorktree {
       reads = m.reads;
       lists = m.lists;
     } };
-
-    ghost invariant = { λ m. AreSorted m.root.items };
 }
 
 impl MemoryWorktree {
     /// A tree whose root holds nothing; takes no memory.
-    ///
-    /// One that composes names is not there yet.
     pub fn new(alloc: Global, composes: bool) -> MemoryWorktree
-        requires { composes ≡ false }
-        ensures new { result ≡ record { tree = none; composes = composes; is_reversed = false; plans = []; calls = no_calls; faults = 0; list_faults = 0; reads = 0; lists = 0 } }
+        ensures new { result
+            ≡ record
+            { tree = none; composes = composes; is_reversed = false; plans = []; calls = no_calls; faults = 0; list_faults = 0; reads = 0; lists = 0 } }
         ensures told { told_by result.tree ≡ Some none }
     {
         MemoryWorktree {
-            root: Vec::new(alloc),
+            root: Root::new(alloc),
             composes,
             is_reversed: false,
             plans: Vec::new(alloc),
@@ -99,23 +105,34 @@ impl MemoryWorktree {
     /// `NotNormal`, `NoParent` and `Exists` come, in this order, exactly where `AddError` says; the tree then stays as
     /// it was.
     pub fn add(&mut self, alloc: Global, path: &[u8], node: NewNode<'_>) -> Result<(), AddError>
-        ensures added { OnOk result (directory self.new.tree ≡ grown (pieces path.now) (node_of_new node.entry) (Some (directory self.old.tree))) }
-        ensures fits { OnOk result (add_refusal self.old.tree path.now ≡ None) }
-        ensures refused { IfErr result (IsRefusedBy (add_refusal self.old.tree path.now)) }
+        ensures added { OnOk result (directory self.new.tree
+            ≡ grown (components (as_kept self.old.composes path.now)) (node_of_new node.entry)
+            (Some (directory self.old.tree))) }
+        ensures fits { OnOk result (add_refusal self.old.tree
+            (as_kept self.old.composes path.now) ≡ None) }
+        ensures refused { IfErr result (IsRefusedBy (add_refusal self.old.tree
+            (as_kept self.old.composes path.now))) }
         ensures unchanged { OnErr result (self.new ≡ self.old) }
         ensures rest { self.new ≡ record self.old { tree = self.new.tree } }
         ensures told { OnOk result (told_by self.new.tree ≡ Some self.new.tree) }
     {
-        let Some(below) = below_root(path) else {
+        let kept = as_kept(alloc, self.composes, path)?;
+        let Some(below) = below_root(kept.as_bytes()) else {
             return Err(AddError::NotNormal);
         };
         let node = stored_of(alloc, node)?;
-        add_in(&mut self.root, alloc, below, node)
+        self.root.add(alloc, below, node)?;
+        self.is_told();
+        Ok(())
     }
 
     /// Plans that the `nth` call of a kind, counted from 1, fails, beside what was planned before.
     pub fn fail(&mut self, _alloc: Global, call: CallKind, nth: u64) -> Result<(), OutOfMemory>
-        ensures planned { OnOk result (self.new ≡ record self.old { plans = self.old.plans ++ (record { call = call; nth = nth }) ∷ [] }) }
+        ensures planned { OnOk result (self.new
+            ≡ record self.old {
+              plans = self.old.plans ++
+                  (record { call = call; nth = nth }) ∷ [];
+            }) }
         ensures unchanged { OnErr result (self.new ≡ self.old) }
     {
         self.plans.push(Plan { call, nth })?;
@@ -134,7 +151,15 @@ impl MemoryWorktree {
         ensures count { result ≡ self.now.faults }
         ensures told { told_by self.now.tree ≡ Some self.now.tree }
     {
+        self.is_told();
         self.faults
+    }
+
+    /// That the tree is told, whatever was done to it.
+    fn is_told(&self)
+        ensures { told_by self.now.tree ≡ Some self.now.tree }
+    {
+        let _entries = self.root.entries();
     }
 
     /// How many reads were asked for.
@@ -142,6 +167,41 @@ impl MemoryWorktree {
         ensures { result ≡ self.now.reads }
     {
         self.reads
+    }
+
+    /// Makes a directory, unless that is planned to fail.
+    fn made(&mut self, alloc: Global, path: &[u8]) -> Result<MakeAnswer, ReadError>
+        ensures fault { IsErrOf result ReadError.Fault ↔ IsTrue (fails self.old CallKind.MakeDir) }
+        ensures answer { IfOk result (λ answer. answer
+            ≡ make_answer self.old.composes self.old.tree (spot self.old.tree path.now false)) }
+        ensures made { OnOk result (self.new.tree
+            ≡ after_make self.old.composes self.old.tree (spot self.old.tree path.now false)) }
+        ensures refused { OnErr result (self.new.tree ≡ self.old.tree) }
+        ensures rest { self.new
+            ≡ record (called self.old CallKind.MakeDir) { tree = self.new.tree } }
+        ensures later { self.old.faults ≤ self.new.faults }
+    {
+        if self.fails(CallKind::MakeDir) {
+            return Err(ReadError::Fault);
+        }
+        Ok(self.root.make_dir(alloc, self.composes, path)?)
+    }
+
+    /// Removes a node, unless that is planned to fail.
+    fn removed(&mut self, path: &[u8]) -> Result<RemoveAnswer, ReadError>
+        ensures answer { result
+            ≡ (if fails self.old CallKind.RemoveNode then Err ReadError.Fault else Ok
+            (remove_answer (spot self.old.tree path.now false))) }
+        ensures tree { self.new.tree
+            ≡ (if fails self.old CallKind.RemoveNode then self.old.tree else after_remove self.old.tree (spot self.old.tree path.now false)) }
+        ensures rest { self.new
+            ≡ record (called self.old CallKind.RemoveNode) { tree = self.new.tree } }
+        ensures later { self.old.faults ≤ self.new.faults }
+    {
+        if self.fails(CallKind::RemoveNode) {
+            return Err(ReadError::Fault);
+        }
+        Ok(self.root.remove(path))
     }
 
     /// Counts a call, and whether it is planned to fail, which is counted too.
@@ -182,40 +242,51 @@ impl Worktree for MemoryWorktree {
 
     /// Never answers `OutOfMemory`.
     fn kind(&mut self, _alloc: Global, path: &[u8]) -> Result<Option<NodeKind>, ReadError>
-        ensures answer { result ≡ (if fails self.old CallKind.Kind then Err ReadError.Fault else Ok (kind_of (look self.old.tree path.now false))) }
+        ensures answer { result
+            ≡ (if fails self.old CallKind.Kind then Err ReadError.Fault else Ok (kind_of
+            (look self.old.tree path.now false))) }
         ensures state { self.new ≡ called self.old CallKind.Kind }
         ensures later { self.old.faults ≤ self.new.faults }
     {
         if self.fails(CallKind::Kind) {
             return Err(ReadError::Fault);
         }
-        Ok(kind_of(&resolve(&self.root, path, false)))
+        Ok(kind_of(&resolve(self.root.entries(), path, false)))
     }
 
     /// Never answers `OutOfMemory`.
     fn kind_following(&mut self, _alloc: Global, path: &[u8]) -> Result<Option<NodeKind>, ReadError>
-        ensures answer { result ≡ (if fails self.old CallKind.KindFollowing then Err ReadError.Fault else Ok (kind_of (look self.old.tree path.now true))) }
+        ensures answer { result
+            ≡ (if fails self.old CallKind.KindFollowing then Err ReadError.Fault else Ok (kind_of
+            (look self.old.tree path.now true))) }
         ensures state { self.new ≡ called self.old CallKind.KindFollowing }
         ensures later { self.old.faults ≤ self.new.faults }
     {
         if self.fails(CallKind::KindFollowing) {
             return Err(ReadError::Fault);
         }
-        Ok(kind_of(&resolve(&self.root, path, true)))
+        Ok(kind_of(&resolve(self.root.entries(), path, true)))
     }
 
     /// Sorted by bytes, or from last to first where that was asked for.
     fn list(&mut self, alloc: Global, path: &[u8], follow: bool) -> Result<NameList, ListError>
-        ensures opened { IsErrOf result ListError.OpenFault ↔ IsTrue (fails self.old CallKind.ListOpen) }
-        ensures read { IsErrOf result ListError.EntryFault ↔ IsTrue (not (fails self.old CallKind.ListOpen) && fails self.old CallKind.ListEntry) }
-        ensures answer { MatchResult result (ListsInOrder self.old.is_reversed (look self.old.tree path.now follow)) (ListRefuses (look self.old.tree path.now follow)) }
+        ensures opened { IsErrOf result ListError.OpenFault ↔ IsTrue
+            (fails self.old CallKind.ListOpen) }
+        ensures read { IsErrOf result ListError.EntryFault ↔ IsTrue (not
+            (fails self.old CallKind.ListOpen) && fails self.old CallKind.ListEntry) }
+        ensures answer { MatchResult result (ListsInOrder self.old.is_reversed
+            (look self.old.tree path.now follow)) (ListRefuses
+            (look self.old.tree path.now follow)) }
         ensures state { self.new ≡ listed self.old }
         ensures names { IfOk result AreNames }
-        ensures cause { OnListFault result (Rose self.old.faults self.new.faults) }
+        ensures cause { OnListFault result (Increased self.old.faults self.new.faults) }
         ensures faults { self.old.faults ≤ self.new.faults }
-        ensures list_cause { OnListFault result (Rose self.old.list_faults self.new.list_faults) }
+        ensures list_cause { OnListFault result
+            (Increased self.old.list_faults self.new.list_faults) }
         ensures list_faults { self.old.list_faults ≤ self.new.list_faults }
-        ensures list_faults_kept { UnlessListFault result (self.new.list_faults ≡ self.old.list_faults) }
+        ensures list_faults_kept { UnlessListFault result (self.new.list_faults
+            ≡ self.old.list_faults) }
+        ensures lists_later { self.old.lists ≤ self.new.lists }
     {
         self.lists = self.lists.saturating_add(1);
         if self.fails(CallKind::ListOpen) {
@@ -226,7 +297,11 @@ impl Worktree for MemoryWorktree {
             self.list_faults = self.list_faults.saturating_add(1);
             return Err(ListError::EntryFault);
         }
-        list_of(alloc, &resolve(&self.root, path, follow), self.is_reversed)
+        list_of(
+            alloc,
+            &resolve(self.root.entries(), path, follow),
+            self.is_reversed,
+        )
     }
 
     fn read(
@@ -237,17 +312,21 @@ impl Worktree for MemoryWorktree {
         into: &mut Bytes,
     ) -> Result<ReadAnswer, ReadError>
         ensures fault { IsErrOf result ReadError.Fault ↔ IsTrue (fails self.old CallKind.Read) }
-        ensures answer { IfOk result (λ answer. answer ≡ read_of (look self.old.tree path.now follow)) }
-        ensures bytes { result ≡ Ok ReadAnswer.Read → look self.old.tree path.now follow ≡ found (file into.new) }
+        ensures answer { IfOk result (λ answer. answer
+            ≡ read_of (look self.old.tree path.now follow)) }
+        ensures bytes { result ≡ Ok ReadAnswer.Read → look self.old.tree path.now follow
+            ≡ found (file into.new) }
         ensures into { UnlessRead result (into.new ≡ into.old) }
-        ensures state { self.new ≡ called (record self.old { reads = next self.old.reads }) CallKind.Read }
+        ensures state { self.new
+            ≡ called (record self.old { reads = next self.old.reads }) CallKind.Read }
         ensures later { self.old.faults ≤ self.new.faults }
+        ensures reads_later { self.old.reads ≤ self.new.reads }
     {
         self.reads = self.reads.saturating_add(1);
         if self.fails(CallKind::Read) {
             return Err(ReadError::Fault);
         }
-        match resolve(&self.root, path, follow) {
+        match resolve(self.root.entries(), path, follow) {
             Found::File(bytes) => {
                 into.set(alloc, bytes.as_bytes())?;
                 Ok(ReadAnswer::Read)
@@ -259,14 +338,102 @@ impl Worktree for MemoryWorktree {
             Found::TooManyLinks => Ok(ReadAnswer::LinkLimit),
         }
     }
+
+    fn real_path(
+        &mut self,
+        alloc: Global,
+        path: &[u8],
+        cwd: &[u8],
+    ) -> Result<Option<PathText>, ReadError>
+        ensures fault { IsErrOf result ReadError.Fault ↔ IsTrue (fails self.old CallKind.RealPath) }
+        ensures answer { IfOk result (λ real. real ≡ real_path self.old.tree path.now cwd.now) }
+        ensures state { self.new ≡ called self.old CallKind.RealPath }
+        ensures later { self.old.faults ≤ self.new.faults }
+    {
+        if self.fails(CallKind::RealPath) {
+            return Err(ReadError::Fault);
+        }
+        let full = full_path(alloc, path, cwd)?;
+        Ok(self.root.real_path(alloc, full.as_bytes())?)
+    }
+
+    fn make_dir(&mut self, alloc: Global, path: &[u8]) -> Result<MakeAnswer, ReadError>
+        ensures fault { IsErrOf result ReadError.Fault ↔ IsTrue (fails self.old CallKind.MakeDir) }
+        ensures answer { IfOk result (λ answer. answer
+            ≡ make_answer self.old.composes self.old.tree (spot self.old.tree path.now false)) }
+        ensures made { OnOk result (self.new.tree
+            ≡ after_make self.old.composes self.old.tree (spot self.old.tree path.now false)) }
+        ensures refused { OnErr result (self.new.tree ≡ self.old.tree) }
+        ensures rest { self.new
+            ≡ record (called self.old CallKind.MakeDir) { tree = self.new.tree } }
+        ensures told_before { told_by self.old.tree ≡ Some self.old.tree }
+        ensures told { told_by self.new.tree ≡ Some self.new.tree }
+        ensures later { self.old.faults ≤ self.new.faults }
+    {
+        self.is_told();
+        let answer = self.made(alloc, path);
+        self.is_told();
+        answer
+    }
+
+    /// Never answers `OutOfMemory`.
+    fn remove_node(&mut self, _alloc: Global, path: &[u8]) -> Result<RemoveAnswer, ReadError>
+        ensures answer { result
+            ≡ (if fails self.old CallKind.RemoveNode then Err ReadError.Fault else Ok
+            (remove_answer (spot self.old.tree path.now false))) }
+        ensures tree { self.new.tree
+            ≡ (if fails self.old CallKind.RemoveNode then self.old.tree else after_remove self.old.tree (spot self.old.tree path.now false)) }
+        ensures rest { self.new
+            ≡ record (called self.old CallKind.RemoveNode) { tree = self.new.tree } }
+        ensures told_before { told_by self.old.tree ≡ Some self.old.tree }
+        ensures told { told_by self.new.tree ≡ Some self.new.tree }
+        ensures later { self.old.faults ≤ self.new.faults }
+    {
+        self.is_told();
+        let answer = self.removed(path);
+        self.is_told();
+        answer
+    }
+
+    /// The tree is copied. No call of a fork is planned to fail.
+    fn fork(&self, alloc: Global) -> Result<MemoryWorktree, OutOfMemory>
+        ensures { IfOk result (λ fork. fork
+            ≡ record
+            { tree = self.now.tree; composes = self.now.composes; is_reversed = self.now.is_reversed; plans = []; calls = no_calls; faults = 0; list_faults = 0; reads = 0; lists = 0 }) }
+    {
+        Ok(MemoryWorktree {
+            root: self.root.copied(alloc)?,
+            composes: self.composes,
+            is_reversed: self.is_reversed,
+            plans: Vec::new(alloc),
+            calls: CallCounts::new(),
+            faults: 0,
+            list_faults: 0,
+            reads: 0,
+            lists: 0,
+        })
+    }
+
+    fn absorb(&mut self, other: MemoryWorktree)
+        ensures state { self.new
+            ≡ record self.old
+            { faults = with_more self.old.faults other.faults; list_faults = with_more self.old.list_faults other.list_faults; reads = with_more self.old.reads other.reads } }
+        ensures later { self.old.faults ≤ self.new.faults }
+        ensures list_faults_later { self.old.list_faults ≤ self.new.list_faults }
+        ensures reads_later { self.old.reads ≤ self.new.reads }
+    {
+        self.faults = self.faults.saturating_add(other.faults);
+        self.list_faults = self.list_faults.saturating_add(other.list_faults);
+        self.reads = self.reads.saturating_add(other.reads);
+    }
 }
 
 /// What stands behind the first slash of a normal path.
 fn below_root(path: &[u8]) -> Option<&[u8]>
-    ensures none { IfNone result (is_normal path.now ≡ false) }
-    ensures normal { IfSome result (λ below. is_normal path.now ≡ true) }
-    ensures names { IfSome result (λ below. AllByRecursion IsName (parts below.now)) }
-    ensures pieces { IfSome result (λ below. pieces path.now ≡ parts below.now) }
+    ensures none { IfNone result (is_full_path path.now ≡ false) }
+    ensures normal { IfSome result (λ below. is_full_path path.now ≡ true) }
+    ensures names { IfSome result (λ below. AllByRecursion IsName (pieces below.now)) }
+    ensures pieces { IfSome result (λ below. components path.now ≡ pieces below.now) }
 {
     if !is_absolute(path) {
         return None;
@@ -277,7 +444,7 @@ fn below_root(path: &[u8]) -> Option<&[u8]>
 
 /// Whether each piece between slashes is a name.
 fn are_names(path: &[u8]) -> bool
-    ensures { result ≡ list_all is_name (parts path.now) }
+    ensures { result ≡ list_all is_name (pieces path.now) }
 {
     path.split(|b| *b == b'/').all(|name| is_name(name))
 }
@@ -293,48 +460,4 @@ fn kind_of(found: &Found) -> Option<NodeKind>
         Found::Other => Some(NodeKind::Untrackable),
         Found::Absent | Found::TooManyLinks => None,
     }
-}
-
-/// The names of the directory that a path leads to.
-fn list_of(alloc: Global, found: &Found, is_reversed: bool) -> Result<NameList, ListError>
-    requires { ListsSorted found.now }
-    ensures answer { MatchResult result (ListsInOrder is_reversed (look_of found.now)) (ListRefuses (look_of found.now)) }
-    ensures names { IfOk result AreNames }
-    ensures no_fault { OnListFault result ⊥ }
-{
-    match found {
-        Found::Directory(entries) => {
-            let names = names_of(alloc, entries)?;
-            Ok(in_order(names, is_reversed))
-        }
-        Found::File(_) | Found::Link(_) | Found::Other => Err(ListError::NotADirectory),
-        Found::Absent | Found::TooManyLinks => Err(ListError::Absent),
-    }
-}
-
-/// The names from first to last, or from last to first.
-fn in_order(names: NameList, is_reversed: bool) -> NameList
-    requires { AreNames names }
-    ensures order { result ≡ (if is_reversed then reverse names else names) }
-    ensures names { AreNames result }
-{
-    let mut names = names;
-    if is_reversed {
-        names.reverse();
-    }
-    names
-}
-
-/// The names of a directory, from first to last.
-#[tactic(auto, using(crate::proofs::EntryNames::all_names))]
-fn names_of(alloc: Global, entries: &[Entry]) -> Result<NameList, OutOfMemory>
-    requires { AreSorted entries.now }
-    ensures value { IfOk result (λ names. names ≡ names_of (names_in entries.now)) }
-    ensures names { IfOk result AreNames }
-{
-    let mut names = NameList::new(alloc);
-    for entry in entries {
-        names.push(alloc, Bytes::from_slice(alloc, entry.name())?)?;
-    }
-    Ok(names)
 }

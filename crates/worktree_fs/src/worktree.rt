@@ -1,20 +1,23 @@
 //! A tree of files as code above sees it, call by call.
-ghost use Rattle.std.specs.Prelude.{◌≡◌, ◌≤◌, ℕ, Bool, true, false, Option, Some, IfOk, IsErrOf, MatchResult, Ok};
-ghost use Rattle.worktree_fs.specs.Tree.{Names, look, found, file, directory};
+ghost use Rattle.std.specs.Prelude.{◌≡◌, ◌≤◌, ℕ, Bool, true, false, Option, Some, None, IfOk, OnOk, OnErr, IsErrOf, MatchResult, Ok};
+ghost use Rattle.worktree_fs.specs.Tree.{Names, look, spot, found, file, directory};
 ghost use Rattle.worktree_fs.specs.Naming.{AreNames, IsTree};
 ghost use Rattle.worktree_fs.specs.Answers.{kind_of, read_of, UnlessRead, ListsNames, ListRefuses, OnListFault, UnlessListFault};
-ghost use Rattle.worktree_fs.specs.Causes.{Counts, Rose};
+ghost use Rattle.worktree_fs.specs.Changes.{real_path, make_answer, after_make, remove_answer, after_remove};
+ghost use Rattle.worktree_fs.specs.Causes.{Incremented, Increased, with_more};
 
-use crate::{ListError, NameList, NodeKind, ReadAnswer, ReadError};
-use gitbase_core::Bytes;
+use crate::{ListError, MakeAnswer, NameList, NodeKind, ReadAnswer, ReadError, RemoveAnswer};
+use gitbase_core::{Bytes, OutOfMemory, PathText};
 use std::alloc::Global;
 
 /// A tree of files, asked call by call.
 ///
-/// Paths begin at `/`, whether or not they are written so. Links on the way are followed, at most 32 of them in one
-/// call, and a last one only where the call says so. Absence, a wrong kind and a link are answers; whatever else a
-/// device may say is a fault, and is counted. Counts are of 64 bits, and stand at their last value. No call here
-/// changes the tree.
+/// In a told tree paths begin at `/`, whether or not they are written so; what a relative path means to a worktree that
+/// tells nothing is its own affair. Links on the way are followed, at most 32 of them in one call, and a last one only
+/// where the call says so. Absence, a wrong kind and a link are answers; whatever else a
+/// device may say is a fault, and is counted. Counts are of 64 bits, and stand
+/// at their last value. Only
+/// `make_dir` and `remove_node` change the tree.
 ///
 /// Contracts speak of the tree where the worktree tells it, and of the counts always.
 pub trait Worktree {
@@ -44,9 +47,11 @@ pub trait Worktree {
     ///
     /// A fault comes only where it was counted.
     fn kind(&mut self, alloc: Global, path: &[u8]) -> Result<Option<NodeKind>, ReadError>
-        ensures answer { (t : Names) → told self.old ≡ Some t → IfOk result (λ kind. kind ≡ kind_of (look t path.now false)) }
+        ensures answer { (t : Names) → told self.old ≡ Some t
+            → IfOk result (λ kind. kind ≡ kind_of (look t path.now false)) }
         ensures tree { told self.new ≡ told self.old }
-        ensures cause { IsErrOf result ReadError.Fault → Rose (faults self.old) (faults self.new) }
+        ensures cause { IsErrOf result ReadError.Fault
+            → Increased (faults self.old) (faults self.new) }
         ensures faults { faults self.old ≤ faults self.new }
         ensures list_faults { list_faults self.new ≡ list_faults self.old }
         ensures reads { reads self.new ≡ reads self.old }
@@ -58,9 +63,11 @@ pub trait Worktree {
     ///
     /// A fault comes only where it was counted.
     fn kind_following(&mut self, alloc: Global, path: &[u8]) -> Result<Option<NodeKind>, ReadError>
-        ensures answer { (t : Names) → told self.old ≡ Some t → IfOk result (λ kind. kind ≡ kind_of (look t path.now true)) }
+        ensures answer { (t : Names) → told self.old ≡ Some t
+            → IfOk result (λ kind. kind ≡ kind_of (look t path.now true)) }
         ensures tree { told self.new ≡ told self.old }
-        ensures cause { IsErrOf result ReadError.Fault → Rose (faults self.old) (faults self.new) }
+        ensures cause { IsErrOf result ReadError.Fault
+            → Increased (faults self.old) (faults self.new) }
         ensures faults { faults self.old ≤ faults self.new }
         ensures list_faults { list_faults self.new ≡ list_faults self.old }
         ensures reads { reads self.new ≡ reads self.old }
@@ -73,16 +80,21 @@ pub trait Worktree {
     /// it leads to another node, so too to a link that is not followed. `OpenFault` and `EntryFault` come only where
     /// they were counted, as faults and as faults of listings.
     fn list(&mut self, alloc: Global, path: &[u8], follow: bool) -> Result<NameList, ListError>
-        ensures answer { (t : Names) → told self.old ≡ Some t → MatchResult result (ListsNames (look t path.now follow)) (ListRefuses (look t path.now follow)) }
+        ensures answer { (t : Names) → told self.old ≡ Some t
+            → MatchResult result (ListsNames (look t path.now follow)) (ListRefuses
+            (look t path.now follow)) }
         ensures names { IfOk result AreNames }
         ensures tree { told self.new ≡ told self.old }
-        ensures cause { OnListFault result (Rose (faults self.old) (faults self.new)) }
+        ensures cause { OnListFault result (Increased (faults self.old) (faults self.new)) }
         ensures faults { faults self.old ≤ faults self.new }
-        ensures list_cause { OnListFault result (Rose (list_faults self.old) (list_faults self.new)) }
+        ensures list_cause { OnListFault result (Increased (list_faults self.old)
+            (list_faults self.new)) }
         ensures list_faults { list_faults self.old ≤ list_faults self.new }
-        ensures list_faults_kept { UnlessListFault result (list_faults self.new ≡ list_faults self.old) }
+        ensures list_faults_kept { UnlessListFault result (list_faults self.new
+            ≡ list_faults self.old) }
         ensures reads { reads self.new ≡ reads self.old }
-        ensures lists { Counts (lists self.old) (lists self.new) }
+        ensures lists { Incremented (lists self.old) (lists self.new) }
+        ensures lists_later { lists self.old ≤ lists self.new }
         ensures precomposes { precomposes self.new ≡ precomposes self.old };
 
     /// Reads the bytes of a file in the place of those in `into`, which stay for any other answer. With `follow` a
@@ -96,15 +108,103 @@ pub trait Worktree {
         follow: bool,
         into: &mut Bytes,
     ) -> Result<ReadAnswer, ReadError>
-        ensures answer { (t : Names) → told self.old ≡ Some t → IfOk result (λ answer. answer ≡ read_of (look t path.now follow)) }
-        ensures bytes { (t : Names) → told self.old ≡ Some t → result ≡ Ok ReadAnswer.Read → look t path.now follow ≡ found (file into.new) }
+        ensures answer { (t : Names) → told self.old ≡ Some t
+            → IfOk result (λ answer. answer ≡ read_of (look t path.now follow)) }
+        ensures bytes { (t : Names) → told self.old ≡ Some t → result ≡ Ok ReadAnswer.Read
+            → look t path.now follow ≡ found (file into.new) }
         ensures into { UnlessRead result (into.new ≡ into.old) }
         ensures link { result ≡ Ok ReadAnswer.IsLink → follow ≡ false }
         ensures tree { told self.new ≡ told self.old }
-        ensures cause { IsErrOf result ReadError.Fault → Rose (faults self.old) (faults self.new) }
+        ensures cause { IsErrOf result ReadError.Fault
+            → Increased (faults self.old) (faults self.new) }
         ensures faults { faults self.old ≤ faults self.new }
         ensures list_faults { list_faults self.new ≡ list_faults self.old }
-        ensures reads { Counts (reads self.old) (reads self.new) }
+        ensures reads { Incremented (reads self.old) (reads self.new) }
+        ensures reads_later { reads self.old ≤ reads self.new }
+        ensures lists { lists self.new ≡ lists self.old }
+        ensures precomposes { precomposes self.new ≡ precomposes self.old };
+
+    /// The path of the node that a path leads to, without links; none where it leads to none. A path that does not
+    /// begin at `/` is taken from `cwd`.
+    ///
+    /// A fault comes only where it was counted.
+    fn real_path(
+        &mut self,
+        alloc: Global,
+        path: &[u8],
+        cwd: &[u8],
+    ) -> Result<Option<PathText>, ReadError>
+        ensures answer { (t : Names) → told self.old ≡ Some t
+            → IfOk result (λ real. real ≡ real_path t path.now cwd.now) }
+        ensures tree { told self.new ≡ told self.old }
+        ensures cause { IsErrOf result ReadError.Fault
+            → Increased (faults self.old) (faults self.new) }
+        ensures faults { faults self.old ≤ faults self.new }
+        ensures list_faults { list_faults self.new ≡ list_faults self.old }
+        ensures reads { reads self.new ≡ reads self.old }
+        ensures lists { lists self.new ≡ lists self.old }
+        ensures precomposes { precomposes self.new ≡ precomposes self.old };
+
+    /// Makes a directory, whose parent has to be there. A last link is not followed: it is a node. Where names are listed
+    /// composed, the name of the new directory is composed too.
+    ///
+    /// A fault comes only where it was counted, and the tree then stays.
+    fn make_dir(&mut self, alloc: Global, path: &[u8]) -> Result<MakeAnswer, ReadError>
+        ensures answer { (t : Names) → told self.old ≡ Some t
+            → IfOk result (λ answer. answer
+            ≡ make_answer (precomposes self.old) t (spot t path.now false)) }
+        ensures made { (t : Names) → told self.old ≡ Some t
+            → OnOk result (told self.new
+            ≡ Some (after_make (precomposes self.old) t (spot t path.now false))) }
+        ensures kept { OnErr result (told self.new ≡ told self.old) }
+        ensures untold { told self.old ≡ None → told self.new ≡ None }
+        ensures cause { IsErrOf result ReadError.Fault
+            → Increased (faults self.old) (faults self.new) }
+        ensures faults { faults self.old ≤ faults self.new }
+        ensures list_faults { list_faults self.new ≡ list_faults self.old }
+        ensures reads { reads self.new ≡ reads self.old }
+        ensures lists { lists self.new ≡ lists self.old }
+        ensures precomposes { precomposes self.new ≡ precomposes self.old };
+
+    /// Removes a node that is no directory. A last link is not followed: it is removed itself.
+    ///
+    /// A fault comes only where it was counted, and the tree then stays.
+    fn remove_node(&mut self, alloc: Global, path: &[u8]) -> Result<RemoveAnswer, ReadError>
+        ensures answer { (t : Names) → told self.old ≡ Some t
+            → IfOk result (λ answer. answer ≡ remove_answer (spot t path.now false)) }
+        ensures removed { (t : Names) → told self.old ≡ Some t
+            → OnOk result (told self.new ≡ Some (after_remove t (spot t path.now false))) }
+        ensures kept { OnErr result (told self.new ≡ told self.old) }
+        ensures untold { told self.old ≡ None → told self.new ≡ None }
+        ensures cause { IsErrOf result ReadError.Fault
+            → Increased (faults self.old) (faults self.new) }
+        ensures faults { faults self.old ≤ faults self.new }
+        ensures list_faults { list_faults self.new ≡ list_faults self.old }
+        ensures reads { reads self.new ≡ reads self.old }
+        ensures lists { lists self.new ≡ lists self.old }
+        ensures precomposes { precomposes self.new ≡ precomposes self.old };
+
+    /// Another worktree over the same tree, whose counts are 0.
+    ///
+    /// Who takes a fork hands it back by `absorb`: it cannot be let go in generic code.
+    fn fork(&self, alloc: Global) -> Result<Self, OutOfMemory>
+        ensures tree { IfOk result (λ fork. told fork ≡ told self.now) }
+        ensures faults { IfOk result (λ fork. faults fork ≡ 0) }
+        ensures list_faults { IfOk result (λ fork. list_faults fork ≡ 0) }
+        ensures reads { IfOk result (λ fork. reads fork ≡ 0) }
+        ensures lists { IfOk result (λ fork. lists fork ≡ 0) }
+        ensures precomposes { IfOk result (λ fork. precomposes fork ≡ precomposes self.now) };
+
+    /// Adds the counts of a fork, but that of its listings, and lets it go.
+    fn absorb(&mut self, other: Self)
+        ensures tree { told self.new ≡ told self.old }
+        ensures faults { faults self.new ≡ with_more (faults self.old) (faults other) }
+        ensures later { faults self.old ≤ faults self.new }
+        ensures list_faults { list_faults self.new
+            ≡ with_more (list_faults self.old) (list_faults other) }
+        ensures list_faults_later { list_faults self.old ≤ list_faults self.new }
+        ensures reads { reads self.new ≡ with_more (reads self.old) (reads other) }
+        ensures reads_later { reads self.old ≤ reads self.new }
         ensures lists { lists self.new ≡ lists self.old }
         ensures precomposes { precomposes self.new ≡ precomposes self.old };
 

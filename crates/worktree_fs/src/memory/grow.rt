@@ -1,11 +1,14 @@
 //! Nodes that are added to a stored tree.
-ghost use Rattle.std.specs.Prelude.{◌≡◌, map, IfOk, IfErr, OnOk, OnErr, IfNone, IfSome, Some, None, [], ◌∷◌, ◌<◌, length};
+ghost use Rattle.std.specs.Prelude.{◌≡◌, map, IfOk, IfErr, OnOk, OnErr, IfNone, IfSome, Some, None, [], ◌∷◌, ◌<◌, ◌≤◌, length};
 ghost use Rattle.std.specs.List.{AllByRecursion};
-ghost use Rattle.worktree_fs.specs.Tree.{directory, named, none, child};
+ghost use Rattle.gitbase_core.specs.Path.{pieces};
+ghost use Rattle.worktree_fs.specs.Tree.{directory, named, names_of, none, child};
 ghost use Rattle.worktree_fs.specs.Naming.{IsName, IsTree};
 ghost use Rattle.worktree_fs.specs.Order.{IsGap};
 ghost use Rattle.worktree_fs.specs.Stored.{names_in, AreSorted};
-ghost use Rattle.worktree_fs.specs.Grow.{grown, put, parts, obstacle, IsRefusedBy, node_of_new};
+ghost use Rattle.worktree_fs.specs.Grow.{grown, put, obstacle, IsRefusedBy, node_of_new};
+ghost use Rattle.worktree_fs.specs.Changes.{cut};
+ghost use Rattle.worktree_fs.specs.Way.{IsWay, here_by, names_along, depth_of};
 ghost use Rattle.worktree_fs.specs.declared.memory.grow.AddError.TheVariants.{OutOfMemory as no_memory};
 
 use super::search::search;
@@ -31,16 +34,16 @@ pub enum NewNode<'a> {
 #[derive(Clone, Copy, Debug, PartialEq, Eq, Error)]
 pub enum AddError {
     /// The path does not begin with `/`, or one of its components is empty, `.` or `..`, holds a NUL, or is not UTF-8.
-    #[error("NotNormal")]
+    #[error("The path of a node to add has to be absolute, and its components have to be names")]
     NotNormal,
-    /// Before its end the path leads to a node that is no directory.
-    #[error("NoParent")]
+    /// Before its end the path leads to a node that is no directory; links are not followed.
+    #[error("The path of a node to add leads through a node that is not a directory")]
     NoParent,
     /// The path leads to a node.
-    #[error("Exists")]
+    #[error("There already is a node at the path of a node to add")]
     Exists,
     /// The allocator refused memory.
-    #[error("OutOfMemory")]
+    #[error("Out of memory: the allocator refused to make room")]
     OutOfMemory,
 }
 
@@ -72,6 +75,7 @@ impl<T: Drop> From<AllocFailed<T>> for AddError {
 pub fn stored_of(alloc: Global, node: NewNode) -> Result<Stored, OutOfMemory>
     ensures node { IfOk result (λ stored. stored ≡ node_of_new node.entry) }
     ensures tree { IfOk result IsTree }
+    ensures depth { IfOk result (λ stored. depth_of stored ≤ 1) }
 {
     let node = match node {
         NewNode::File(bytes) => Inner::File(Bytes::from_slice(alloc, bytes)?),
@@ -84,8 +88,8 @@ pub fn stored_of(alloc: Global, node: NewNode) -> Result<Stored, OutOfMemory>
 
 /// What stands before the first slash, and what stands behind it.
 pub fn cut_first(path: &[u8]) -> Option<(&[u8], &[u8])>
-    ensures none { IfNone result (parts path.now ≡ path.now ∷ []) }
-    ensures some { IfSome result (λ cut. parts path.now ≡ cut.0.now ∷ parts cut.1.now) }
+    ensures none { IfNone result (pieces path.now ≡ path.now ∷ []) }
+    ensures some { IfSome result (λ cut. pieces path.now ≡ cut.0.now ∷ pieces cut.1.now) }
     ensures shorter { IfSome result (λ cut. length cut.1.now < length path.now) }
 {
     for (i, b) in path.iter().enumerate() {
@@ -111,9 +115,9 @@ fn single(alloc: Global, name: &[u8], node: Stored) -> Result<Stored, OutOfMemor
 
 /// Directories along a path, and a node at its end.
 fn chain(alloc: Global, path: &[u8], node: Stored) -> Result<Stored, OutOfMemory>
-    requires names { AllByRecursion IsName (parts path.now) }
+    requires names { AllByRecursion IsName (pieces path.now) }
     requires tree { IsTree node }
-    ensures chain { IfOk result (λ made. made ≡ grown (parts path.now) node None) }
+    ensures chain { IfOk result (λ made. made ≡ grown (pieces path.now) node None) }
     ensures tree { IfOk result IsTree }
 {
     match cut_first(path) {
@@ -131,11 +135,14 @@ pub fn add_in(
     node: Stored,
 ) -> Result<(), AddError>
     requires sorted { AreSorted entries.old.items }
-    requires names { AllByRecursion IsName (parts path.now) }
+    requires names { AllByRecursion IsName (pieces path.now) }
     requires tree { IsTree node }
-    ensures grown { OnOk result (directory (names_in entries.new.items) ≡ grown (parts path.now) node (Some (directory (names_in entries.old.items)))) }
-    ensures free { OnOk result (obstacle (parts path.now) (Some (directory (names_in entries.old.items))) ≡ None) }
-    ensures refused { IfErr result (IsRefusedBy (obstacle (parts path.now) (Some (directory (names_in entries.old.items))))) }
+    ensures grown { OnOk result (directory (names_in entries.new.items)
+        ≡ grown (pieces path.now) node (Some (directory (names_in entries.old.items)))) }
+    ensures free { OnOk result (obstacle (pieces path.now) (Some (directory
+        (names_in entries.old.items))) ≡ None) }
+    ensures refused { IfErr result (IsRefusedBy (obstacle (pieces path.now) (Some (directory
+        (names_in entries.old.items))))) }
     ensures unchanged { OnErr result (entries.new.items ≡ entries.old.items) }
     ensures sorted { AreSorted entries.new.items }
 {
@@ -169,7 +176,8 @@ fn put_at(
     requires gap { IsGap (map (λ e. e.name) entries.old.items) name.now at }
     requires name { IsName name.now }
     requires tree { IsTree node }
-    ensures put { OnOk result (names_in entries.new.items ≡ put name.now node (names_in entries.old.items)) }
+    ensures put { OnOk result (names_in entries.new.items
+        ≡ put name.now node (names_in entries.old.items)) }
     ensures absent { child (names_in entries.old.items) name.now ≡ None }
     ensures unchanged { OnErr result (entries.new.items ≡ entries.old.items) }
     ensures sorted { AreSorted entries.new.items }
@@ -177,4 +185,50 @@ fn put_at(
     let name = Bytes::from_slice(alloc, name)?;
     entries.insert(at, Entry { name, node })?;
     Ok(())
+}
+
+/// Removes the node at a position of the directory at the end of a way.
+#[cycle(cut)]
+pub fn cut_at(entries: &mut Vec<Entry>, way: &[usize], at: usize)
+    requires sorted { AreSorted entries.old.items }
+    requires is_way { IsWay way.now (names_in entries.old.items) }
+    requires there { at < length (names_of (here_by way.now (names_in entries.old.items))) }
+    ensures cut { directory (names_in entries.new.items)
+        ≡ cut (names_along way.now at (names_in entries.old.items)) (directory
+        (names_in entries.old.items)) }
+    ensures sorted { AreSorted entries.new.items }
+{
+    match first_step(way) {
+        None => {
+            let _removed = entries.remove(at);
+        }
+        Some((first, rest)) => {
+            let entry = &mut entries[first];
+            entry.node.cut_at(rest, at);
+        }
+    }
+}
+
+/// The first position of a way, and those behind it.
+fn first_step(way: &[usize]) -> Option<(usize, &[usize])>
+    ensures none { IfNone result (way.now ≡ []) }
+    ensures some { IfSome result (λ step. way.now ≡ step.0 ∷ step.1.now) }
+{
+    match way.split_first() {
+        None => None,
+        Some((first, rest)) => Some((*first, rest)),
+    }
+}
+
+/// How many names a path has.
+pub fn count_parts(path: &[u8]) -> usize
+    ensures { result ≡ length (pieces path.now) }
+{
+    let mut count = 1;
+    let mut rest = path;
+    while let Some((_, behind)) = cut_first(rest) {
+        count += 1;
+        rest = behind;
+    }
+    count
 }

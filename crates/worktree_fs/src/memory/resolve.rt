@@ -1,6 +1,6 @@
 //! The resolution of a path in a stored tree, without memory of its own.
-ghost use Rattle.std.specs.Prelude.{◌≡◌, not, true, false, ◌&&◌, List, [], ◌*◌, ◌+◌, ◌^◌, ◌≤◌, length, Some};
-ghost use Rattle.worktree_fs.specs.Tree.{is_dot, is_dot_dot, is_text, is_absolute, is_last, resolve, behind, onward, Names, Place, look, found, link};
+ghost use Rattle.std.specs.Prelude.{◌≡◌, ℕ, not, true, false, ◌&&◌, List, ◌*◌, ◌+◌, ◌^◌, ◌≤◌, length, Some};
+ghost use Rattle.worktree_fs.specs.Tree.{is_dot, is_dot_dot, is_text, is_absolute, is_last, resolve, behind, onward, Level, Place, look_at, look, found, link};
 ghost use Rattle.worktree_fs.specs.Stored.{names_in, AreSorted};
 ghost use Rattle.worktree_fs.specs.Step.{stepped, within, is_root_below, place_of, end_of, look_of, ListsSorted, IsSettled, IsSound};
 
@@ -90,8 +90,8 @@ fn found_node(node: &Stored) -> Found<'_>
 #[cycle(walk)]
 fn walk<'a>(dir: &'a [Entry], is_root: bool, route: &mut Route<'a>, follow: bool) -> Step<'a>
     requires { AreSorted dir.now }
-    ensures leads { (above : List Names) → is_root ≡ is_root_below above
-        → resolve route.old.links follow (place_of dir.now above) route.old.left
+    ensures leads { (above : List Level) → is_root ≡ is_root_below above
+        → look_at (resolve route.old.links follow (place_of dir.now above) route.old.left)
         ≡ stepped follow (place_of dir.now above) route.new.links route.new.left result }
     ensures settled { is_root ≡ true → IsSettled result }
     ensures sound { IsSound result }
@@ -124,8 +124,8 @@ fn walk<'a>(dir: &'a [Entry], is_root: bool, route: &mut Route<'a>, follow: bool
 /// Goes on from a node, which is in the directory above.
 #[cycle(walk)]
 fn onward<'a>(node: &'a Stored, route: &mut Route<'a>, follow: bool) -> Step<'a>
-    ensures leads { (place : Place)
-        → onward (λ p. resolve route.old.links follow p route.old.left) (behind route.old.links follow) follow place route.old.left (Some node.now)
+    ensures leads { (place : Place) (name : List ℕ)
+        → look_at (onward (λ p. resolve route.old.links follow p route.old.left) (behind route.old.links follow) follow place route.old.left name (Some node.now))
         ≡ stepped follow (within place) route.new.links route.new.left result }
     ensures sound { IsSound result }
     ensures smaller { route.new.links * 2 ^ 64 + length route.new.left ≤ route.old.links * 2 ^ 64 + length route.old.left }
@@ -146,8 +146,8 @@ fn onward<'a>(node: &'a Stored, route: &mut Route<'a>, follow: bool) -> Step<'a>
 /// Follows a link, unless the path ends at it and it is not to be followed.
 fn through<'a>(node: &'a Stored, target: &'a [u8], route: &mut Route<'a>, follow: bool) -> Step<'a>
     requires { node.now ≡ link target.now }
-    ensures leads { (place : Place)
-        → onward (λ p. resolve route.old.links follow p route.old.left) (behind route.old.links follow) follow place route.old.left (Some (link target.now))
+    ensures leads { (place : Place) (name : List ℕ)
+        → look_at (onward (λ p. resolve route.old.links follow p route.old.left) (behind route.old.links follow) follow place route.old.left name (Some (link target.now)))
         ≡ stepped follow (within place) route.new.links route.new.left result }
     ensures sound { IsSound result }
     ensures smaller { route.new.links * 2 ^ 64 + length route.new.left ≤ route.old.links * 2 ^ 64 + length route.old.left }
@@ -169,7 +169,8 @@ fn through<'a>(node: &'a Stored, target: &'a [u8], route: &mut Route<'a>, follow
     }
 }
 
-fn ends_here(route: &Route, follow: bool) -> bool
+/// Whether the path ends at a link that is not to be followed.
+pub fn ends_here(route: &Route, follow: bool) -> bool
     ensures { result ≡ (not follow && is_last route.now.left) }
 {
     !follow && route.is_done()

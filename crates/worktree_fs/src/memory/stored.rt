@@ -1,8 +1,8 @@
 //! A stored tree, which contracts see as a node. The names of each directory are sorted.
-ghost use Rattle.std.specs.Prelude.{◌≡◌};
+ghost use Rattle.std.specs.Prelude.{◌≡◌, IfOk};
 
-use super::grow::{AddError, add_in};
-use gitbase_core::Bytes;
+use super::grow::{AddError, add_in, cut_at};
+use gitbase_core::{Bytes, OutOfMemory};
 use std::alloc::Global;
 use std::marker::Model;
 
@@ -82,16 +82,17 @@ impl Stored {
     ghost use Rattle.std.specs.Prelude.{Some, None, OnOk, OnErr, IfErr};
     ghost use Rattle.std.specs.List.{AllByRecursion};
     ghost use Rattle.worktree_fs.specs.Naming.{IsName, IsTree};
-    ghost use Rattle.worktree_fs.specs.Grow.{grown, parts, obstacle, IsRefusedBy};
+    ghost use Rattle.gitbase_core.specs.Path.{pieces};
+    ghost use Rattle.worktree_fs.specs.Grow.{grown, obstacle, IsRefusedBy};
 
     /// Puts a node at the end of a path below this one, with the directories on the way.
     #[cycle(add)]
     pub fn add(&mut self, alloc: Global, path: &[u8], node: Stored) -> Result<(), AddError>
-        requires names { AllByRecursion IsName (parts path.now) }
+        requires names { AllByRecursion IsName (pieces path.now) }
         requires tree { IsTree node }
-        ensures grown { OnOk result (self.new ≡ grown (parts path.now) node (Some self.old)) }
-        ensures free { OnOk result (obstacle (parts path.now) (Some self.old) ≡ None) }
-        ensures refused { IfErr result (IsRefusedBy (obstacle (parts path.now) (Some self.old))) }
+        ensures grown { OnOk result (self.new ≡ grown (pieces path.now) node (Some self.old)) }
+        ensures free { OnOk result (obstacle (pieces path.now) (Some self.old) ≡ None) }
+        ensures refused { IfErr result (IsRefusedBy (obstacle (pieces path.now) (Some self.old))) }
         ensures unchanged { OnErr result (self.new ≡ self.old) }
         ensures tree { IsTree self.new }
     {
@@ -100,6 +101,61 @@ impl Stored {
         };
         add_in(entries, alloc, path, node)
     }
+}
+
+impl Stored {
+    /// A copy of all that is below this node.
+    #[cycle(copy)]
+    pub fn copied(&self, alloc: Global) -> Result<Stored, OutOfMemory>
+        ensures { IfOk result (λ copy. copy ≡ self.now) }
+    {
+        let node = match &self.node {
+            Inner::File(bytes) => Inner::File(bytes.clone()?),
+            Inner::Link(target) => Inner::Link(target.clone()?),
+            Inner::Directory(entries) => Inner::Directory(copied(alloc, entries)?),
+            Inner::Other => Inner::Other,
+        };
+        Ok(Stored { node })
+    }
+}
+
+impl Stored {
+    ghost use Rattle.std.specs.Prelude.{◌<◌, length};
+    ghost use Rattle.worktree_fs.specs.Tree.{directory, names_of};
+    ghost use Rattle.worktree_fs.specs.Naming.{IsTree};
+    ghost use Rattle.worktree_fs.specs.Grow.{names_at};
+    ghost use Rattle.worktree_fs.specs.Changes.{cut};
+    ghost use Rattle.worktree_fs.specs.Way.{IsWay, here_by, names_along};
+    ghost use Rattle.std.specs.Prelude.{Some};
+
+    /// Removes the node at a position of the directory at the end of a way from this one.
+    #[cycle(cut)]
+    pub fn cut_at(&mut self, way: &[usize], at: usize)
+        requires is_directory { self.old ≡ directory (names_at (Some self.old)) }
+        requires is_way { IsWay way.now (names_at (Some self.old)) }
+        requires there { at < length (names_of (here_by way.now (names_at (Some self.old)))) }
+        ensures cut { self.new ≡ cut (names_along way.now at (names_at (Some self.old))) self.old }
+        ensures tree { IsTree self.new }
+    {
+        let Inner::Directory(entries) = &mut self.node else {
+            return;
+        };
+        cut_at(entries, way, at);
+    }
+}
+
+/// A copy of all that is below these entries.
+#[cycle(copy)]
+pub fn copied(alloc: Global, entries: &[Entry]) -> Result<Vec<Entry>, OutOfMemory>
+    ensures { IfOk result (λ copies. copies.items ≡ entries.now) }
+{
+    let mut copies = Vec::new(alloc);
+    for entry in entries {
+        let name = entry.name.clone()?;
+        let node = entry.node.copied(alloc)?;
+        copies.push(Entry { name, node })?;
+    }
+    Ok(copies)
 }
 
 impl Entry {

@@ -1,9 +1,14 @@
-use Rattle.std.proofs.Common.{rules, Result, Ok, Err, List, ℕ, ap, subst}
+use Rattle.std.proofs.Common.{◌≡◌, ◌∙◌, rules, Bool, true, Result, Ok, Err, List, ℕ, Some, None, false, refl, sym, ap, subst, if◌then◌else◌, OnOk, OnErr, IfOk}
 use Rattle.std.specs.Prelude.{MatchResult}
-use Rattle.worktree_fs.specs.Tree.{Names, look}
+use Rattle.worktree_fs.specs.Tree.{Names, look, spot}
 use Rattle.worktree_fs.specs.Answers.{ListsNames, ListRefuses}
-use Rattle.worktree_fs.specs.Memory.{Memory, ListsInOrder, told_by}
+use Rattle.worktree_fs.specs.Memory.{Memory, ListsInOrder, told_by, fails}
+use Rattle.worktree_fs.specs.declared.memory.plan.CallKind.TheVariants as calls
+use Rattle.worktree_fs.specs.Changes.{make_answer, after_make, remove_answer, after_remove}
 use Rattle.worktree_fs.specs.declared.answers.ListError.{ListError}
+use Rattle.worktree_fs.specs.declared.answers.ReadError.{ReadError}
+use Rattle.worktree_fs.specs.declared.answers.ReadError.TheVariants as errors
+use Rattle.worktree_fs.specs.declared.answers.RemoveAnswer.{RemoveAnswer}
 use Rattle.worktree_fs.proofs.Distinct.{lists_names}
 use Rattle.worktree_fs.proofs.Followed.{read-unfollowed}
 use Rattle.worktree_fs.proofs.Tested.{told_is}
@@ -27,6 +32,7 @@ list-tells c = record {
   list_faults_kept = c.ensures.list_faults_kept;
   reads = ap (λ (m : Memory). m.reads) c.ensures.state;
   lists = ap (λ (m : Memory). m.lists) c.ensures.state;
+  lists_later = c.ensures.lists_later;
   precomposes = ap (λ (m : Memory). m.composes) c.ensures.state;
 }
 
@@ -41,6 +47,72 @@ read-tells c = record {
   faults = c.ensures.later;
   list_faults = ap (λ (m : Memory). m.list_faults) c.ensures.state;
   reads = ap (λ (m : Memory). m.reads) c.ensures.state;
+  reads_later = c.ensures.reads_later;
   lists = ap (λ (m : Memory). m.lists) c.ensures.state;
   precomposes = ap (λ (m : Memory). m.composes) c.ensures.state;
 }
+
+made_of : {T P Q : Type 0} (r : Result T ReadError) → (P → Q) → OnOk r P → OnOk r Q
+made_of (Ok answer) f p = f p
+made_of (Err error) f p = tt
+
+kept_of : {T P Q : Type 0} (r : Result T ReadError) → (P → Q) → OnErr r P → OnErr r Q
+kept_of (Ok answer) f p = tt
+kept_of (Err error) f p = f p
+
+told_clash : (t : Names) → told_by t ≡ Some t → told_by t ≡ None → ⊥
+told_clash t e f = cc
+
+pub make_dir-tells : goal.make_dir-tells
+make_dir-tells c = record {
+  answer = λ t told. subst (λ (n : Names). IfOk c.result (λ answer. answer ≡ make_answer c.args.self.now.composes n (spot n c.args.path.now false))) (told_is c.args.self.now.tree t told) c.ensures.answer;
+  made = λ t told. made_of c.result (λ (is : c.new.self.now.tree ≡ after_make c.args.self.now.composes c.args.self.now.tree (spot c.args.self.now.tree c.args.path.now false)).
+      c.ensures.told ∙ ap Some (is ∙ ap (λ (n : Names). after_make c.args.self.now.composes n (spot n c.args.path.now false)) (told_is c.args.self.now.tree t told))) c.ensures.made;
+  kept = kept_of c.result (λ (is : c.new.self.now.tree ≡ c.args.self.now.tree). ap told_by is) c.ensures.refused;
+  untold = λ none. absurd (told_clash c.args.self.now.tree c.ensures.told_before none);
+  cause = search rules;
+  faults = c.ensures.later;
+  list_faults = ap (λ (m : Memory). m.list_faults) c.ensures.rest;
+  reads = ap (λ (m : Memory). m.reads) c.ensures.rest;
+  lists = ap (λ (m : Memory). m.lists) c.ensures.rest;
+  precomposes = ap (λ (m : Memory). m.composes) c.ensures.rest;
+}
+
+-- a removal that was planned to fail, or was made
+module _ (answer : RemoveAnswer) (old after : Names) where
+  abbrev faulted : Bool → Result RemoveAnswer ReadError
+  faulted b = if b then Err errors.Fault else Ok answer
+
+  answered : (b : Bool) (r : Result RemoveAnswer ReadError) → r ≡ faulted b → IfOk r (λ a. a ≡ answer)
+  answered true r e = subst (λ (x : Result RemoveAnswer ReadError). IfOk x (λ a. a ≡ answer)) (sym e) tt
+  answered false r e = subst (λ (x : Result RemoveAnswer ReadError). IfOk x (λ a. a ≡ answer)) (sym e) refl
+
+  changed : (b : Bool) (r : Result RemoveAnswer ReadError) (new : Names) → r ≡ faulted b → new ≡ (if b then old else after) → OnOk r (new ≡ after)
+  changed true r new e f = subst (λ (x : Result RemoveAnswer ReadError). OnOk x (new ≡ after)) (sym e) tt
+  changed false r new e f = subst (λ (x : Result RemoveAnswer ReadError). OnOk x (new ≡ after)) (sym e) f
+
+  unchanged : (b : Bool) (r : Result RemoveAnswer ReadError) (new : Names) → r ≡ faulted b → new ≡ (if b then old else after) → OnErr r (new ≡ old)
+  unchanged true r new e f = subst (λ (x : Result RemoveAnswer ReadError). OnErr x (new ≡ old)) (sym e) f
+  unchanged false r new e f = subst (λ (x : Result RemoveAnswer ReadError). OnErr x (new ≡ old)) (sym e) tt
+
+pub remove_node-tells : goal.remove_node-tells
+remove_node-tells c =
+    let old = c.args.self.now.tree in
+    let new = c.new.self.now.tree in
+    let at = spot old c.args.path.now false in
+    let planned = fails c.args.self.now calls.RemoveNode in
+    let after = after_remove old at in
+    record {
+      answer = λ t told. subst (λ (n : Names). IfOk c.result (λ answer. answer ≡ remove_answer (spot n c.args.path.now false))) (told_is old t told)
+          (answered (remove_answer at) old after planned c.result c.ensures.answer);
+      removed = λ t told. made_of c.result (λ (is : new ≡ after). c.ensures.told ∙ ap Some (is ∙ ap (λ (n : Names). after_remove n (spot n c.args.path.now false)) (told_is old t told)))
+          (changed (remove_answer at) old after planned c.result new c.ensures.answer c.ensures.tree);
+      kept = kept_of c.result (λ (is : new ≡ old). ap told_by is) (unchanged (remove_answer at) old after planned c.result new c.ensures.answer c.ensures.tree);
+      untold = λ none. absurd (told_clash old c.ensures.told_before none);
+      cause = search rules;
+      faults = c.ensures.later;
+      list_faults = ap (λ (m : Memory). m.list_faults) c.ensures.rest;
+      reads = ap (λ (m : Memory). m.reads) c.ensures.rest;
+      lists = ap (λ (m : Memory). m.lists) c.ensures.rest;
+      precomposes = ap (λ (m : Memory). m.composes) c.ensures.rest;
+    }

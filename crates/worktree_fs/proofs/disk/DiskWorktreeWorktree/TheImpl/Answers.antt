@@ -1,0 +1,110 @@
+-- The disk tells nothing of what it holds, and its counts are those of its own clauses.
+use Rattle.std.proofs.Common.{◌≡◌, List, ℕ, Option, Some, None, Ok, Err, refl, ap, OnErr, Result}
+use Rattle.worktree_fs.specs.Tree.{Names}
+use Rattle.worktree_fs.specs.Edges.{Disk}
+use Rattle.worktree_fs.specs.declared.answers.ReadError.{ReadError}
+use Rattle.worktree_fs.proofs.disk.DiskWorktreeWorktree.TheImpl.Goals as goal
+
+clash : (t : Names) → ◌≡◌ {A = Option Names} None (Some t) → ⊥
+clash t e = cc
+
+-- what stays of nothing stays on a refusal too
+stays : {T : Type 0} (r : Result T ReadError) → OnErr r (◌≡◌ {A = Option Names} None None)
+stays (Ok answer) = tt
+stays (Err error) = refl
+
+pub kind-tells : goal.kind-tells
+kind-tells g c = record {
+  answer = λ t told. absurd (clash t told);
+  tree = refl;
+  cause = c.ensures.cause;
+  faults = c.ensures.later;
+  list_faults = ap (λ (d : Disk). d.list_faults) c.ensures.state;
+  reads = ap (λ (d : Disk). d.reads) c.ensures.state;
+  lists = ap (λ (d : Disk). d.lists) c.ensures.state;
+  precomposes = ap (λ (d : Disk). d.composes) c.ensures.state;
+}
+
+pub kind_following-tells : goal.kind_following-tells
+kind_following-tells g c = record {
+  answer = λ t told. absurd (clash t told);
+  tree = refl;
+  cause = c.ensures.cause;
+  faults = c.ensures.later;
+  list_faults = ap (λ (d : Disk). d.list_faults) c.ensures.state;
+  reads = ap (λ (d : Disk). d.reads) c.ensures.state;
+  lists = ap (λ (d : Disk). d.lists) c.ensures.state;
+  precomposes = ap (λ (d : Disk). d.composes) c.ensures.state;
+}
+
+pub real_path-tells : goal.real_path-tells
+real_path-tells g c = record {
+  answer = λ t told. absurd (clash t told);
+  tree = refl;
+  cause = c.ensures.cause;
+  faults = c.ensures.later;
+  list_faults = ap (λ (d : Disk). d.list_faults) c.ensures.state;
+  reads = ap (λ (d : Disk). d.reads) c.ensures.state;
+  lists = ap (λ (d : Disk). d.lists) c.ensures.state;
+  precomposes = ap (λ (d : Disk). d.composes) c.ensures.state;
+}
+
+pub list-tells : goal.list-tells
+list-tells g c = record {
+  answer = λ t told. absurd (clash t told);
+  names = c.ensures.names;
+  tree = refl;
+  cause = c.ensures.cause;
+  faults = c.ensures.faults;
+  list_cause = c.ensures.list_cause;
+  list_faults = c.ensures.list_faults;
+  list_faults_kept = c.ensures.list_faults_kept;
+  reads = ap (λ (d : Disk). d.reads) c.ensures.state;
+  lists = ap (λ (d : Disk). d.lists) c.ensures.state;
+  lists_later = c.ensures.lists_later;
+  precomposes = ap (λ (d : Disk). d.composes) c.ensures.state;
+}
+
+pub read-tells : goal.read-tells
+read-tells g c = record {
+  answer = λ t told. absurd (clash t told);
+  bytes = λ t told. absurd (clash t told);
+  into = c.ensures.into;
+  link = c.ensures.link;
+  tree = refl;
+  cause = c.ensures.cause;
+  faults = c.ensures.later;
+  list_faults = ap (λ (d : Disk). d.list_faults) c.ensures.state;
+  reads = ap (λ (d : Disk). d.reads) c.ensures.state;
+  reads_later = c.ensures.reads_later;
+  lists = ap (λ (d : Disk). d.lists) c.ensures.state;
+  precomposes = ap (λ (d : Disk). d.composes) c.ensures.state;
+}
+
+pub make_dir-tells : goal.make_dir-tells
+make_dir-tells g c = record {
+  answer = λ t told. absurd (clash t told);
+  made = λ t told. absurd (clash t told);
+  kept = stays c.result;
+  untold = λ none. refl;
+  cause = c.ensures.cause;
+  faults = c.ensures.later;
+  list_faults = ap (λ (d : Disk). d.list_faults) c.ensures.state;
+  reads = ap (λ (d : Disk). d.reads) c.ensures.state;
+  lists = ap (λ (d : Disk). d.lists) c.ensures.state;
+  precomposes = ap (λ (d : Disk). d.composes) c.ensures.state;
+}
+
+pub remove_node-tells : goal.remove_node-tells
+remove_node-tells g c = record {
+  answer = λ t told. absurd (clash t told);
+  removed = λ t told. absurd (clash t told);
+  kept = stays c.result;
+  untold = λ none. refl;
+  cause = c.ensures.cause;
+  faults = c.ensures.later;
+  list_faults = ap (λ (d : Disk). d.list_faults) c.ensures.state;
+  reads = ap (λ (d : Disk). d.reads) c.ensures.state;
+  lists = ap (λ (d : Disk). d.lists) c.ensures.state;
+  precomposes = ap (λ (d : Disk). d.composes) c.ensures.state;
+}

@@ -1,0 +1,10 @@
+use Rattle.std.proofs.Common.{◌≡◌, take}
+use Rattle.worktree_fs.specs.Stored.{names_in, AreSorted}
+use Rattle.worktree_fs.specs.Way.{here_by}
+use Rattle.worktree_fs.proofs.memory.trace.descend.Given as goal
+
+abbrev pub invariant-loop-at : goal.invariant-loop-at
+invariant-loop-at l = record {
+  here : here_by (take l.at-index l.way) (names_in l.root) ≡ names_in l.dir;
+  sorted : AreSorted l.dir;
+}

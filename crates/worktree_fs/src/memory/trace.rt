@@ -1,0 +1,238 @@
+//! The resolution of a path that keeps the way down to what it leads to, without memory of its own.
+ghost use Rattle.std.specs.Prelude.{◌≡◌, [], ◌∷◌, ◌++◌, Bool, Some, ◌*◌, ◌+◌, ◌^◌, ◌≤◌, ◌<◌, length, vec_len, vec_capacity, if◌then◌else◌};
+ghost use Rattle.worktree_fs.specs.Tree.{resolve, spot, parent, onward, behind, is_last};
+ghost use Rattle.worktree_fs.specs.Stored.{names_in, AreSorted};
+ghost use Rattle.worktree_fs.specs.Way.{name_nth, node_nth, dir_nth, place_by, here_by, IsWay, StandsAt, TurnStands, turned, LeadsTo, depth_in};
+
+use super::resolve::ends_here;
+use super::route::Route;
+use super::search::search;
+use super::stored::{Entry, Inner, Stored};
+use crate::names::{is_absolute, is_dot, is_dot_dot, is_text};
+
+/// Where a path leads, beside the way down to the directory of it.
+#[derive(Drop)]
+pub enum End<'a> {
+    /// To the directory itself.
+    Directory,
+    /// To the node at a position of the directory, which is no directory.
+    Node(usize),
+    /// To a name that the directory does not have, and whether nothing of the path is behind it.
+    Missing(&'a [u8], bool),
+    /// Nowhere.
+    Nowhere,
+    /// Along more links than one resolution follows.
+    Endless,
+}
+
+/// What a piece of a path leads to, beside the way down to the directory of it.
+#[derive(Drop)]
+pub enum Turn<'a> {
+    /// Into the directory, with its entries.
+    Into(&'a [Entry]),
+    /// To a name that the directory does not have.
+    Missing(&'a [u8]),
+    /// To the node at a position of the directory.
+    Node(usize),
+    /// Nowhere.
+    Nowhere,
+    /// Along more links than one resolution follows.
+    Endless,
+}
+
+/// Where a path leads from the root, through at most 32 links. A last link is followed where `follow` says so. The way
+/// is a position for each directory on it, and there is room for the longest one.
+pub fn trace<'a>(root: &'a [Entry], path: &'a [u8], follow: bool, way: &mut Vec<usize>) -> End<'a>
+    requires root { AreSorted root.now }
+    requires room { depth_in (names_in root.now) ≤ vec_capacity way.old }
+    ensures leads { LeadsTo (spot (names_in root.now) path.now follow) (place_by
+        (names_in root.now) way.new.items) result }
+    ensures is_way { IsWay way.new.items (names_in root.now) }
+    ensures room { vec_capacity way.old ≤ vec_capacity way.new }
+{
+    way.clear();
+    if !is_text(path) {
+        return End::Nowhere;
+    }
+    let mut route = Route::new(path);
+    let mut dir = root;
+    while let Some(piece) = route.next() {
+        match take_piece(root, dir, piece, &mut route, follow, way) {
+            Turn::Into(entries) => dir = entries,
+            Turn::Missing(name) => return End::Missing(name, route.is_done()),
+            Turn::Node(at) => return End::Node(at),
+            Turn::Nowhere => return End::Nowhere,
+            Turn::Endless => return End::Endless,
+        }
+    }
+    End::Directory
+}
+
+/// Goes along one piece, from the directory at the end of the way.
+fn take_piece<'a>(
+    root: &'a [Entry],
+    dir: &'a [Entry],
+    piece: &'a [u8],
+    route: &mut Route<'a>,
+    follow: bool,
+    way: &mut Vec<usize>,
+) -> Turn<'a>
+    requires root { AreSorted root.now }
+    requires stands { StandsAt root.now dir.now way.old.items }
+    requires room { depth_in (names_in root.now) ≤ vec_capacity way.old }
+    ensures leads { resolve route.old.links follow (place_by (names_in root.now) way.old.items)
+        (piece.now ∷ route.old.left)
+        ≡ turned follow (place_by (names_in root.now) way.new.items) route.new.links route.new.left result }
+    ensures stands { TurnStands root.now way.new.items result }
+    ensures room { vec_capacity way.old ≤ vec_capacity way.new }
+    ensures smaller { route.new.links * 2 ^ 64 + length route.new.left ≤ route.old.links * 2 ^ 64 + length route.old.left }
+{
+    if is_dot(piece) {
+        return Turn::Into(dir);
+    }
+    if is_dot_dot(piece) {
+        return Turn::Into(up(root, dir, way));
+    }
+    match search(dir, piece) {
+        Ok(at) => on(root, dir, at, &dir[at].node, route, follow, way),
+        Err(_) => Turn::Missing(piece),
+    }
+}
+
+/// The directory above, or the root itself.
+fn up<'a>(root: &'a [Entry], dir: &'a [Entry], way: &mut Vec<usize>) -> &'a [Entry]
+    requires root { AreSorted root.now }
+    requires stands { StandsAt root.now dir.now way.old.items }
+    ensures parent { place_by (names_in root.now) way.new.items
+        ≡ parent (place_by (names_in root.now) way.old.items) }
+    ensures stands { StandsAt root.now result.now way.new.items }
+    ensures room { vec_capacity way.old ≤ vec_capacity way.new }
+{
+    match way.pop() {
+        Some(_) => descend(root, way),
+        None => dir,
+    }
+}
+
+/// The directory at the end of a way.
+pub fn descend<'a>(root: &'a [Entry], way: &[usize]) -> &'a [Entry]
+    requires root { AreSorted root.now }
+    ensures here { here_by way.now (names_in root.now) ≡ names_in result.now }
+    ensures sorted { AreSorted result.now }
+{
+    let mut dir = root;
+    for at in way {
+        dir = directory_at(dir, *at);
+    }
+    dir
+}
+
+/// The entries of the directory at a position; none where another node is there.
+pub fn directory_at(dir: &[Entry], at: usize) -> &[Entry]
+    requires { AreSorted dir.now }
+    ensures names { names_in result.now ≡ dir_nth (names_in dir.now) at }
+    ensures sorted { AreSorted result.now }
+{
+    if dir.len() <= at {
+        return &[];
+    }
+    match dir[at].node.inner() {
+        Inner::Directory(entries) => entries,
+        _ => &[],
+    }
+}
+
+/// Goes on from the node at a position of the directory at the end of the way.
+fn on<'a>(
+    root: &'a [Entry],
+    dir: &'a [Entry],
+    at: usize,
+    node: &'a Stored,
+    route: &mut Route<'a>,
+    follow: bool,
+    way: &mut Vec<usize>,
+) -> Turn<'a>
+    requires root { AreSorted root.now }
+    requires stands { StandsAt root.now dir.now way.old.items }
+    requires room { depth_in (names_in root.now) ≤ vec_capacity way.old }
+    requires there { at < length dir.now }
+    requires node { node_nth (names_in dir.now) at ≡ node.now }
+    ensures leads { onward (λ p. resolve route.old.links follow p route.old.left)
+        (behind route.old.links follow) follow
+        (place_by (names_in root.now) way.old.items) route.old.left (name_nth (names_in dir.now) at) (Some node.now)
+        ≡ turned follow (place_by (names_in root.now) way.new.items) route.new.links route.new.left result }
+    ensures stands { TurnStands root.now way.new.items result }
+    ensures room { vec_capacity way.old ≤ vec_capacity way.new }
+    ensures smaller { route.new.links * 2 ^ 64 + length route.new.left ≤ route.old.links * 2 ^ 64 + length route.old.left }
+{
+    match node.inner() {
+        Inner::Directory(entries) => {
+            go_down(way, at);
+            Turn::Into(entries)
+        }
+        Inner::Link(target) => {
+            if ends_here(route, follow) {
+                return Turn::Node(at);
+            }
+            through(root, dir, target.as_bytes(), route, way)
+        }
+        Inner::File(_) => leaf(at, route),
+        Inner::Other => leaf(at, route),
+    }
+}
+
+/// A node that is neither link nor directory ends the path, or nothing is behind it.
+fn leaf<'a>(at: usize, route: &Route<'_>) -> Turn<'a>
+    ensures { result ≡ (if is_last route.now.left then Turn.Node at else Turn.Nowhere) }
+{
+    if route.is_done() {
+        Turn::Node(at)
+    } else {
+        Turn::Nowhere
+    }
+}
+
+/// Goes down by a position, for which there is room.
+fn go_down(way: &mut Vec<usize>, at: usize)
+    requires { vec_len way.old < vec_capacity way.old }
+    ensures items { way.new.items ≡ way.old.items ++ at ∷ [] }
+    ensures room { vec_capacity way.old ≤ vec_capacity way.new }
+{
+    match way.push(at) {
+        Ok(()) => {}
+        Err(_) => unreachable!(),
+    }
+}
+
+/// Follows a link of the directory at the end of the way.
+fn through<'a>(
+    root: &'a [Entry],
+    dir: &'a [Entry],
+    target: &'a [u8],
+    route: &mut Route<'a>,
+    way: &mut Vec<usize>,
+) -> Turn<'a>
+    requires root { AreSorted root.now }
+    requires stands { StandsAt root.now dir.now way.old.items }
+    ensures leads { (follow : Bool)
+        → behind route.old.links follow (place_by
+        (names_in root.now) way.old.items) target.now route.old.left
+        ≡ turned follow (place_by (names_in root.now) way.new.items) route.new.links route.new.left result }
+    ensures stands { TurnStands root.now way.new.items result }
+    ensures room { vec_capacity way.old ≤ vec_capacity way.new }
+    ensures smaller { route.new.links * 2 ^ 64 + length route.new.left ≤ route.old.links * 2 ^ 64 + length route.old.left }
+{
+    if route.links() == 0 {
+        return Turn::Endless;
+    }
+    if !is_text(target) {
+        return Turn::Nowhere;
+    }
+    route.follow(target);
+    if is_absolute(target) {
+        way.clear();
+        Turn::Into(root)
+    } else {
+        Turn::Into(dir)
+    }
+}

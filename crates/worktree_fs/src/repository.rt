@@ -1,0 +1,204 @@
+//! Whether a path leads to a repository.
+ghost use Rattle.std.specs.Prelude.{◌≡◌, Some, None, Ok, IfOk, IsErrOf, if◌then◌else◌, unwrap_or, [], true};
+ghost use Rattle.gitbase_core.specs.Path.{parent};
+ghost use Rattle.worktree_fs.specs.Tree.{Names, look};
+ghost use Rattle.worktree_fs.specs.Causes.{NotIncreased, Increased};
+ghost use Rattle.worktree_fs.specs.Kept.{Asks};
+ghost use Rattle.worktree_fs.specs.Changes.{real_path, from_directory};
+ghost use Rattle.worktree_fs.specs.Repository.{is_path, is_git, is_git_directory, is_git_below, is_directory_at, file_at, is_head_at, common_of};
+
+use crate::git_texts::{gitdir_path, is_head, trimmed};
+use crate::names::full_path;
+use crate::{NodeKind, ReadAnswer, ReadError, Worktree};
+use gitbase_core::{Bytes, OutOfMemory, PathText};
+use std::alloc::Global;
+
+/// Whether the path without links of what a path leads to is `own`; false where it leads to nothing, and where the
+/// question failed, which is counted.
+pub fn real_path_is<W: Worktree>(
+    alloc: Global,
+    worktree: &mut W,
+    path: &[u8],
+    cwd: &[u8],
+    own: &[u8],
+) -> Result<bool, OutOfMemory>
+    ensures answer { (t : Names) → W.told worktree.old ≡ Some t
+        → NotIncreased (W.faults worktree.old) (W.faults worktree.new)
+        → IfOk result (λ is. is ≡ is_path (real_path t path.now cwd.now) own.now) }
+    ensures true_only { (t : Names) → W.told worktree.old ≡ Some t → result ≡ Ok true
+        → is_path (real_path t path.now cwd.now) own.now ≡ true }
+    ensures kept { Asks W.Worktree worktree.old worktree.new }
+    ensures reads { W.reads worktree.new ≡ W.reads worktree.old }
+{
+    match worktree.real_path(alloc, path, cwd) {
+        Ok(Some(real)) => Ok(real.as_bytes() == own),
+        Ok(None) | Err(ReadError::Fault) => Ok(false),
+        Err(ReadError::OutOfMemory) => Err(OutOfMemory),
+    }
+}
+
+/// Whether a path, links followed, leads to a repository: to a git directory, or to a file that names one; false too
+/// where a question failed, which is counted.
+pub fn is_git<W: Worktree>(
+    alloc: Global,
+    worktree: &mut W,
+    path: &[u8],
+) -> Result<bool, OutOfMemory>
+    ensures answer { (t : Names) → W.told worktree.old ≡ Some t
+        → NotIncreased (W.faults worktree.old) (W.faults worktree.new)
+        → IfOk result (λ is. is ≡ is_git t path.now) }
+    ensures true_only { (t : Names) → W.told worktree.old ≡ Some t → result ≡ Ok true
+        → is_git t path.now ≡ true }
+    ensures kept { Asks W.Worktree worktree.old worktree.new }
+{
+    match is_repository(alloc, worktree, path) {
+        Ok(is) => Ok(is),
+        Err(ReadError::Fault) => Ok(false),
+        Err(ReadError::OutOfMemory) => Err(OutOfMemory),
+    }
+}
+
+/// Whether a path leads to a repository.
+fn is_repository<W: Worktree>(
+    alloc: Global,
+    worktree: &mut W,
+    path: &[u8],
+) -> Result<bool, ReadError>
+    ensures answer { (t : Names) → W.told worktree.old ≡ Some t
+        → IfOk result (λ is. is ≡ is_git t path.now) }
+    ensures kept { Asks W.Worktree worktree.old worktree.new }
+    ensures cause { IsErrOf result ReadError.Fault
+        → Increased (W.faults worktree.old) (W.faults worktree.new) }
+{
+    if is_directory(alloc, worktree, path)? {
+        return is_git_directory(alloc, worktree, path, path);
+    }
+    let mut bytes = Bytes::new(alloc);
+    if !read_file(alloc, worktree, path, &mut bytes)? {
+        return Ok(false);
+    }
+    match gitdir_path(bytes.as_bytes()) {
+        Some(git) => {
+            let git = beside(alloc, git, path)?;
+            is_git_below(alloc, worktree, git.as_bytes())
+        }
+        None => Ok(false),
+    }
+}
+
+/// Whether a git directory that a file names is one.
+fn is_git_below<W: Worktree>(alloc: Global, worktree: &mut W, git: &[u8]) -> Result<bool, ReadError>
+    ensures answer { (t : Names) → W.told worktree.old ≡ Some t
+        → IfOk result (λ is. is ≡ is_git_below t git.now) }
+    ensures kept { Asks W.Worktree worktree.old worktree.new }
+    ensures cause { IsErrOf result ReadError.Fault
+        → Increased (W.faults worktree.old) (W.faults worktree.new) }
+{
+    let common = common_of(alloc, worktree, git)?;
+    is_git_directory(alloc, worktree, git, common.as_bytes())
+}
+
+/// The common directory of a git directory.
+fn common_of<W: Worktree>(alloc: Global, worktree: &mut W, git: &[u8]) -> Result<Bytes, ReadError>
+    ensures answer { (t : Names) → W.told worktree.old ≡ Some t
+        → IfOk result (λ common. common ≡ common_of t git.now) }
+    ensures kept { Asks W.Worktree worktree.old worktree.new }
+    ensures cause { IsErrOf result ReadError.Fault
+        → Increased (W.faults worktree.old) (W.faults worktree.new) }
+{
+    let path = full_path(alloc, b"commondir".as_slice(), git)?;
+    let mut bytes = Bytes::new(alloc);
+    if read_file(alloc, worktree, path.as_bytes(), &mut bytes)? {
+        return Ok(full_path(alloc, trimmed(bytes.as_bytes()), git)?);
+    }
+    Ok(Bytes::from_slice(alloc, git)?)
+}
+
+/// Whether a directory has a `HEAD`, and another has `objects` and `refs`.
+fn is_git_directory<W: Worktree>(
+    alloc: Global,
+    worktree: &mut W,
+    git: &[u8],
+    common: &[u8],
+) -> Result<bool, ReadError>
+    ensures answer { (t : Names) → W.told worktree.old ≡ Some t
+        → IfOk result (λ is. is ≡ is_git_directory t git.now common.now) }
+    ensures kept { Asks W.Worktree worktree.old worktree.new }
+    ensures cause { IsErrOf result ReadError.Fault
+        → Increased (W.faults worktree.old) (W.faults worktree.new) }
+{
+    let head = full_path(alloc, b"HEAD".as_slice(), git)?;
+    if !has_head(alloc, worktree, head.as_bytes())? {
+        return Ok(false);
+    }
+    let objects = full_path(alloc, b"objects".as_slice(), common)?;
+    if !is_directory(alloc, worktree, objects.as_bytes())? {
+        return Ok(false);
+    }
+    let refs = full_path(alloc, b"refs".as_slice(), common)?;
+    is_directory(alloc, worktree, refs.as_bytes())
+}
+
+/// Whether a file has the text of a `HEAD`.
+fn has_head<W: Worktree>(alloc: Global, worktree: &mut W, path: &[u8]) -> Result<bool, ReadError>
+    ensures answer { (t : Names) → W.told worktree.old ≡ Some t
+        → IfOk result (λ is. is ≡ is_head_at (file_at (look t path.now true))) }
+    ensures kept { Asks W.Worktree worktree.old worktree.new }
+    ensures cause { IsErrOf result ReadError.Fault
+        → Increased (W.faults worktree.old) (W.faults worktree.new) }
+{
+    let mut bytes = Bytes::new(alloc);
+    if !read_file(alloc, worktree, path, &mut bytes)? {
+        return Ok(false);
+    }
+    Ok(is_head(bytes.as_bytes()))
+}
+
+/// Whether a path leads to a directory.
+fn is_directory<W: Worktree>(
+    alloc: Global,
+    worktree: &mut W,
+    path: &[u8],
+) -> Result<bool, ReadError>
+    ensures answer { (t : Names) → W.told worktree.old ≡ Some t
+        → IfOk result (λ is. is ≡ is_directory_at (look t path.now true)) }
+    ensures kept { Asks W.Worktree worktree.old worktree.new }
+    ensures cause { IsErrOf result ReadError.Fault
+        → Increased (W.faults worktree.old) (W.faults worktree.new) }
+{
+    let kind = worktree.kind_following(alloc, path)?;
+    Ok(kind == Some(NodeKind::Directory))
+}
+
+/// Reads the bytes of a file, where a path leads to one.
+fn read_file<W: Worktree>(
+    alloc: Global,
+    worktree: &mut W,
+    path: &[u8],
+    into: &mut Bytes,
+) -> Result<bool, ReadError>
+    ensures answer { (t : Names) → W.told worktree.old ≡ Some t
+        → IfOk result (λ is. file_at (look t path.now true)
+        ≡ (if is then Some into.new else None)) }
+    ensures kept { Asks W.Worktree worktree.old worktree.new }
+    ensures cause { IsErrOf result ReadError.Fault
+        → Increased (W.faults worktree.old) (W.faults worktree.new) }
+{
+    match worktree.read(alloc, path, true, into)? {
+        ReadAnswer::Read => Ok(true),
+        _ => Ok(false),
+    }
+}
+
+/// A path, taken from the directory of a file where it is relative.
+fn beside(alloc: Global, path: &[u8], file: &[u8]) -> Result<Bytes, OutOfMemory>
+    ensures { IfOk result (λ full. full
+        ≡ from_directory path.now (unwrap_or (parent file.now) [])) }
+{
+    let file = PathText::from_bytes(alloc, file)?;
+    let directory: &[u8] = match file.parent() {
+        Some(directory) => directory,
+        None => &[],
+    };
+    full_path(alloc, path, directory)
+}

@@ -1,0 +1,224 @@
+//! The files of the system. Root may open every directory, so none that may not be opened is among them.
+use crate::rows::{kind_word, parted};
+use gitbase_core::Bytes;
+use std::alloc::Global;
+use std::rt::Files;
+use std::test::Fail;
+use std::{env, fs, io, process};
+use worktree_fs::{
+    DiskWorktree, ListError, MakeAnswer, NameList, ReadAnswer, ReadError, RemoveAnswer, Worktree,
+};
+
+/// Questions, parted by bars: what is asked, about which name in the folder, the answer, and how many faults were
+/// counted.
+const ROWS: &[u8] = b"\
+kind`f`file`|follow`f`file`|kind`f/`file`|kind`l`link`|follow`l`file`|kind`d`directory`|kind`a/`link`|\
+follow`a/`directory`|kind`a/b`file`|kind`f/x`none`|kind`z`none`|kind`p`link`|follow`p`fault`1|\
+kind`z\0`none`|kind`\xff`none`|\
+read`l`link`|read`d`directory`|read`z`absent`|through`p`fault`1|through`l`f`|\
+names`d`B a b `|names`a`not`|names of`a`B a b `|names of`f`not`|names of`z`absent`|names of`p`open`1|\
+composed`c`\xc3\xa4 `|names`c`a\xcc\x88 `|names`e`a\xcc\x88 \xc3\xa4 `|composed`e`entry`1|\
+real`a/../l`f`|real`z`none`|real`p`fault`1|\
+make`f`exists`|make`z/y`orphan`|make`f/y`orphan`|make`n`made`|kind`n`directory`|remove`n`directory`|\
+make`p/x`fault`1|remove`p`removed`|kind`p`none`|remove`p`absent`|remove`z/y`absent`";
+
+/// The path of a name in a folder.
+fn inside(alloc: Global, folder: &[u8], name: &[u8]) -> Option<Vec<u8>> {
+    let mut path = Vec::new(alloc);
+    path.extend_from_slice(folder).ok()?;
+    path.push(b'/').ok()?;
+    path.extend_from_slice(name).ok()?;
+    Some(path)
+}
+
+fn has_kind(
+    alloc: Global,
+    disk: &mut DiskWorktree<'_>,
+    path: &[u8],
+    follow: bool,
+    want: &[u8],
+) -> bool {
+    let kind = if follow {
+        disk.kind_following(alloc, path)
+    } else {
+        disk.kind(alloc, path)
+    };
+    match kind {
+        Ok(kind) => kind_word(kind) == want,
+        Err(ReadError::Fault) => want == b"fault".as_slice(),
+        Err(ReadError::OutOfMemory) => false,
+    }
+}
+
+fn reads(
+    alloc: Global,
+    disk: &mut DiskWorktree<'_>,
+    path: &[u8],
+    follow: bool,
+    want: &[u8],
+) -> bool {
+    let mut into = Bytes::new(alloc);
+    match disk.read(alloc, path, follow, &mut into) {
+        Ok(ReadAnswer::Read) => into.as_bytes() == want,
+        Ok(ReadAnswer::IsLink) => want == b"link".as_slice(),
+        Ok(ReadAnswer::IsDirectory) => want == b"directory".as_slice(),
+        Ok(ReadAnswer::Absent) => want == b"absent".as_slice(),
+        Err(ReadError::Fault) => want == b"fault".as_slice(),
+        _ => false,
+    }
+}
+
+fn are_names(names: &NameList, want: &[u8]) -> bool {
+    let mut words = want.split(|byte| *byte == b' ');
+    names
+        .as_slice()
+        .iter()
+        .all(|name| words.next() == Some(name.as_bytes()))
+        && words.next() == Some(b"".as_slice())
+}
+
+fn lists(
+    alloc: Global,
+    disk: &mut DiskWorktree<'_>,
+    path: &[u8],
+    follow: bool,
+    want: &[u8],
+) -> bool {
+    match disk.list(alloc, path, follow) {
+        Ok(names) => are_names(&names, want),
+        Err(ListError::Absent) => want == b"absent".as_slice(),
+        Err(ListError::NotADirectory) => want == b"not".as_slice(),
+        Err(ListError::OpenFault) => want == b"open".as_slice() && disk.list_fault_count() == 1,
+        Err(ListError::EntryFault) => want == b"entry".as_slice() && disk.list_fault_count() == 1,
+        Err(ListError::OutOfMemory) => false,
+    }
+}
+
+/// Whether the path without links ends so.
+fn has_real_path(alloc: Global, disk: &mut DiskWorktree<'_>, path: &[u8], want: &[u8]) -> bool {
+    match disk.real_path(alloc, path, b"/") {
+        Ok(Some(real)) => real.basename() == want,
+        Ok(None) => want == b"none".as_slice(),
+        Err(ReadError::Fault) => want == b"fault".as_slice(),
+        Err(ReadError::OutOfMemory) => false,
+    }
+}
+
+fn makes(alloc: Global, disk: &mut DiskWorktree<'_>, path: &[u8], want: &[u8]) -> bool {
+    match disk.make_dir(alloc, path) {
+        Ok(MakeAnswer::Made) => want == b"made".as_slice(),
+        Ok(MakeAnswer::Exists) => want == b"exists".as_slice(),
+        Ok(MakeAnswer::NoParent) => want == b"orphan".as_slice(),
+        Err(ReadError::Fault) => want == b"fault".as_slice(),
+        Err(ReadError::OutOfMemory) => false,
+    }
+}
+
+fn removes(alloc: Global, disk: &mut DiskWorktree<'_>, path: &[u8], want: &[u8]) -> bool {
+    match disk.remove_node(alloc, path) {
+        Ok(RemoveAnswer::Removed) => want == b"removed".as_slice(),
+        Ok(RemoveAnswer::Absent) => want == b"absent".as_slice(),
+        Ok(RemoveAnswer::IsDirectory) => want == b"directory".as_slice(),
+        Err(_) => false,
+    }
+}
+
+fn answers(
+    alloc: Global,
+    disk: &mut DiskWorktree<'_>,
+    question: &[u8],
+    path: &[u8],
+    want: &[u8],
+) -> bool {
+    match question {
+        b"kind" => has_kind(alloc, disk, path, false, want),
+        b"follow" => has_kind(alloc, disk, path, true, want),
+        b"read" => reads(alloc, disk, path, false, want),
+        b"through" => reads(alloc, disk, path, true, want),
+        b"names" => lists(alloc, disk, path, false, want),
+        b"names of" => lists(alloc, disk, path, true, want),
+        b"composed" => lists(alloc, disk, path, false, want),
+        b"real" => has_real_path(alloc, disk, path, want),
+        b"make" => makes(alloc, disk, path, want),
+        _ => removes(alloc, disk, path, want),
+    }
+}
+
+fn holds(rt: &HostRuntime, folder: &[u8], row: &[u8]) -> bool {
+    let (question, rest) = parted(row);
+    let (name, rest) = parted(rest);
+    let (want, faults) = parted(rest);
+    let mut disk = DiskWorktree::new(rt, question == b"composed".as_slice());
+    match inside(rt.alloc(), folder, name) {
+        Some(path) => {
+            answers(rt.alloc(), &mut disk, question, &path, want)
+                && disk.fault_count() == faults.len() as u64
+        }
+        None => false,
+    }
+}
+
+/// A name that is longer than the system takes is a fault; a relative path is taken from the current directory.
+fn has_limits(rt: &HostRuntime) -> bool {
+    let mut disk = DiskWorktree::new(rt, false);
+    let long = [b'x'; 5000];
+    has_kind(rt.alloc(), &mut disk, &long, false, b"fault")
+        && has_kind(rt.alloc(), &mut disk, b".", false, b"directory")
+        && disk.fault_count() == 1
+}
+
+/// A folder of this process among the temporary files.
+fn folder(rt: &HostRuntime) -> io::Result<String> {
+    let temporary = env::temp_dir(rt)?;
+    let id = process::id(rt.process());
+    Ok(format!(in rt.alloc(); "{}/worktree_fs_{id}", temporary.display())?)
+}
+
+fn make_node(rt: &HostRuntime, folder: &str, what: u8, name: &str) -> io::Result<()> {
+    let path = format!(in rt.alloc(); "{folder}/{name}")?;
+    let path = path.as_str();
+    match what {
+        b'd' => fs::create_dir(rt, path),
+        b'l' => rt.symlink("f", path),
+        b'p' => rt.symlink("p", path),
+        b'a' => rt.symlink("d", path),
+        _ => fs::write(rt, path, name),
+    }
+}
+
+fn make_nodes(rt: &HostRuntime, folder: &str) -> io::Result<()> {
+    fs::create_dir(rt, folder)?;
+    for name in ["d", "c", "e"] {
+        make_node(rt, folder, b'd', name)?;
+    }
+    for name in [
+        "f",
+        "d/b",
+        "d/B",
+        "d/a",
+        "c/a\u{308}",
+        "e/a\u{308}",
+        "e/\u{e4}",
+    ] {
+        make_node(rt, folder, b'f', name)?;
+    }
+    make_node(rt, folder, b'l', "l")?;
+    make_node(rt, folder, b'p', "p")?;
+    make_node(rt, folder, b'a', "a")
+}
+
+#[test]
+fn the_disk_answers_as_a_tree(rt: HostRuntime) -> Result<(), Fail> {
+    let folder = folder(&rt)?;
+    make_nodes(&rt, folder.as_str())?;
+    for row in ROWS.split(|byte| *byte == b'|') {
+        assert!(rt; holds(&rt, folder.as_bytes(), row), "{row:?}");
+    }
+    fs::remove_dir_all(&rt, folder.as_str())?;
+    Ok(())
+}
+
+#[test]
+fn the_disk_has_limits(rt: HostRuntime) {
+    assert!(rt; has_limits(&rt));
+}
