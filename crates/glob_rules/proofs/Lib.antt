@@ -1,8 +1,9 @@
 pub mod Members
+pub mod Names
 pub mod Splits
 pub mod Steps
-mod Again
 pub mod Reached
+pub mod Followed
 pub mod Decide
 pub mod Parts
 pub mod Plain
@@ -13,3 +14,4 @@ pub mod LongForms
 pub mod Longest
 pub mod Led
 pub mod Matched
+pub mod Places
