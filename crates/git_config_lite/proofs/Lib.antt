@@ -2,3 +2,5 @@ mod Subsections
 mod Pieces
 mod LastSection
 mod AllSections
+pub mod KeyRuns
+mod Placed

@@ -10,3 +10,4 @@ pub mod Writers
 pub mod Gives
 pub mod Seen
 pub mod Left
+pub mod SectionPlaces

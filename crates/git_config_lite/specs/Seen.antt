@@ -22,5 +22,5 @@ keyed k = record { key = k.key.now; text = option_copied k.text }
 abbrev pub found : FoundValue → Found
 found f = record { value = option_copied f.value; source = f.source }
 
-abbrev pub text_and_source : Bor (List ℕ) × Source → List ℕ × Source
-text_and_source p = (p.0.now, p.1)
+abbrev pub text_and_source_of : Bor (List ℕ) × Source → List ℕ × Source
+text_and_source_of p = (p.0.now, p.1)

@@ -7,6 +7,8 @@ ghost use Rattle.git_config_lite.specs.Seen as seen;
 
 use crate::entry::Entry;
 use crate::error::{ParseError, ValueError};
+use crate::found::FoundValue;
+use crate::index::Index;
 use crate::iterators::{Sections, Values};
 use crate::lookup::{last_found, text_of, truth_found};
 use crate::metadata::{Metadata, Source};
@@ -23,14 +25,20 @@ use std::marker::Model;
 pub struct File {
     meta: Metadata,
     sections: Vec<Section>,
+    /// Of all sections; none where they were not read, where some were pushed since, or where memory for it was refused.
+    index: Option<Index>,
 }
 
 impl Model for File {
+    ghost use Rattle.std.specs.Prelude.{IfSome};
     ghost use Rattle.git_config_lite.specs.Sections.{Configuration};
+    ghost use Rattle.git_config_lite.specs.SectionPlaces.{IsIndexOf};
 
     ghost Value = { Configuration };
 
     ghost view = { λ file. record { meta = file.meta; sections = file.sections.items } };
+
+    ghost invariant = { λ file. IfSome file.index (λ places. IsIndexOf places file.sections.items) };
 }
 
 impl File {
@@ -42,6 +50,7 @@ impl File {
         File {
             meta,
             sections: Vec::new(alloc),
+            index: None,
         }
     }
 
@@ -53,10 +62,30 @@ impl File {
         ensures { ParseGives result meta bytes.now }
     {
         let draft = read(alloc, &meta, bytes)?;
-        Ok(File {
+        Ok(File::with_index(alloc, meta, draft.sections))
+    }
+
+    /// A configuration of these sections, with an index where there is memory for one.
+    fn with_index(alloc: Global, meta: Metadata, sections: Vec<Section>) -> File
+        ensures sections { result.sections ≡ sections.items }
+        ensures meta { result.meta ≡ meta }
+    {
+        let index = Index::new(alloc, &sections).ok();
+        File {
             meta,
-            sections: draft.sections,
-        })
+            sections,
+            index,
+        }
+    }
+
+    /// The last value of a key in the sections of a name and subsection.
+    fn found(&self, section: &[u8], subsection: Option<&[u8]>, key: &[u8]) -> Option<FoundValue<'_>>
+        ensures { option_map seen.found result ≡ lookups.last_found section.now (option_copied subsection.entry) key.now self.now.sections }
+    {
+        match &self.index {
+            Some(index) => index.last_found(&self.sections, section, subsection, key),
+            None => last_found(&self.sections, section, subsection, key),
+        }
     }
 
     /// Where the configuration was read.
@@ -88,7 +117,7 @@ impl File {
     pub fn string(&self, section: &[u8], subsection: Option<&[u8]>, key: &[u8]) -> Option<&[u8]>
         ensures { option_copied result ≡ lookups.string section.now (option_copied subsection.entry) key.now self.now.sections }
     {
-        match last_found(&self.sections, section, subsection, key) {
+        match self.found(section, subsection, key) {
             Some(found) => Some(text_of(found.value)),
             None => None,
         }
@@ -101,10 +130,10 @@ impl File {
         subsection: Option<&[u8]>,
         key: &[u8],
     ) -> Option<(&[u8], Source)>
-        ensures { option_map seen.text_and_source result
+        ensures { option_map seen.text_and_source_of result
             ≡ lookups.string_with_source section.now (option_copied subsection.entry) key.now self.now.sections }
     {
-        match last_found(&self.sections, section, subsection, key) {
+        match self.found(section, subsection, key) {
             Some(found) => Some((text_of(found.value), found.source)),
             None => None,
         }
@@ -135,21 +164,31 @@ impl File {
     ) -> Result<Option<bool>, ValueError<'_>>
         ensures { truth_seen result ≡ lookups.boolean section.now (option_copied subsection.entry) key.now self.now.sections }
     {
-        truth_found(last_found(&self.sections, section, subsection, key))
+        truth_found(self.found(section, subsection, key))
     }
 
     /// Adds the sections of another configuration behind these. They keep where they were read, and this configuration
-    /// keeps where it was read; it stays as it was where memory is refused. The room comes from the allocator that made
-    /// this configuration.
-    pub fn append(&mut self, _alloc: Global, other: File) -> Result<(), OutOfMemory>
+    /// keeps where it was read; it stays as it was where memory is refused. The room for the sections comes from the
+    /// allocator that made this configuration, and that for finding them from `alloc`: where only the latter is refused,
+    /// look-ups are slower.
+    pub fn append(&mut self, alloc: Global, other: File) -> Result<(), OutOfMemory>
         ensures appended { OnOk result (self.new ≡ writers.appended self.old other) }
         ensures refused { OnErr result (self.new ≡ self.old) }
     {
         let File {
             meta: _meta,
             mut sections,
+            index,
         } = other;
+        if sections.is_empty() {
+            return Ok(());
+        }
+        let is_indexed = self.index.is_some() || index.is_some();
+        self.index = None;
         self.sections.append(&mut sections)?;
+        if is_indexed {
+            self.index = Index::new(alloc, &self.sections).ok();
+        }
         Ok(())
     }
 
@@ -169,6 +208,7 @@ impl File {
     {
         let subsection = Bytes::from_slice(alloc, subsection)?;
         let section = Section::new(alloc, name, Some(subsection), &self.meta)?;
+        self.index = None;
         self.sections.push(section)?;
         Ok(())
     }
@@ -187,6 +227,7 @@ impl File {
             key: Bytes::from_slice(alloc, key)?,
             value: Some(Bytes::from_slice(alloc, value)?),
         };
+        self.index = None;
         add_entry(&mut self.sections, entry)
     }
 }

@@ -8,6 +8,7 @@ mod error;
 mod file;
 mod found;
 mod header;
+mod index;
 mod iterators;
 mod key;
 mod left;
@@ -15,6 +16,7 @@ mod lookup;
 mod metadata;
 mod reading;
 mod section;
+mod section_place;
 mod subsection;
 mod text;
 mod value;
@@ -24,6 +26,3 @@ pub use file::File;
 pub use iterators::{Sections, Values};
 pub use metadata::{Metadata, Source};
 pub use section::Section;
-
-#[cfg(test)]
-mod tests;

@@ -3,3 +3,5 @@ mod OneSection
 mod KeptNames
 mod DistinctNames
 mod Parts
+mod KnownNames
+mod Tabled

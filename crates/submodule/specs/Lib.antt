@@ -15,3 +15,4 @@ pub mod Active
 pub mod ActiveSeen
 pub mod Seen
 pub mod Gives
+pub mod NamedPaths

@@ -4,13 +4,13 @@ use Rattle.std.specs.Borrow.{Bor}
 use Rattle.submodule.specs.declared.fetch_recurse.FetchRecurse.{FetchRecurse}
 use Rattle.submodule.specs.declared.fetch_recurse.FetchRecurse.TheVariants.{OnDemand, Always, Never}
 
-abbrev pub recurse_by : Bool → FetchRecurse
-recurse_by true = Always
-recurse_by false = Never
+abbrev pub recursion_of : Bool → FetchRecurse
+recursion_of true = Always
+recursion_of false = Never
 
 -- by what the value is as a boolean, or its text where it is none
 abbrev pub recurse : Result (Option Bool) (List ℕ) → Result (Option FetchRecurse) (List ℕ)
-recurse (Ok answer) = Ok (option_map recurse_by answer)
+recurse (Ok answer) = Ok (option_map recursion_of answer)
 recurse (Err text) = if bytes_eq text (codes "on-demand") then Ok (Some OnDemand) else Err text
 
 -- an answer, or the text that is refused

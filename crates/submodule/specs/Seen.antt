@@ -7,15 +7,15 @@ use Rattle.submodule.specs.declared.url_parts.UrlParts.{UrlParts}
 use Rattle.submodule.specs.declared.url_parts.HostAndPort.{HostAndPort}
 use Rattle.submodule.specs.Urls.{Place, place_at}
 
-abbrev pub url : UrlParts → Url
-url p = record { scheme = p.scheme.now; user = option_copied p.user; password = option_copied p.password; host = option_copied p.host; port = p.port; path = p.path.now }
+abbrev pub url_of_parts : UrlParts → Url
+url_of_parts p = record { scheme = p.scheme.now; user = option_copied p.user; password = option_copied p.password; host = option_copied p.host; port = p.port; path = p.path.now }
 
-abbrev pub url_or_refused : Result UrlParts UrlError → Result Url UrlError
-url_or_refused (Ok p) = Ok (url p)
-url_or_refused (Err e) = Err e
+abbrev pub parsed_url : Result UrlParts UrlError → Result Url UrlError
+parsed_url (Ok p) = Ok (url_of_parts p)
+parsed_url (Err e) = Err e
 
-abbrev pub place : HostAndPort → Place
-place p = place_at p.host.now p.port.now
+abbrev pub host_place : HostAndPort → Place
+host_place p = place_at p.host.now p.port.now
 
 -- two parts of a text
 abbrev pub pair : Option (Bor (List ℕ) × Bor (List ℕ)) → Option (List ℕ × List ℕ)

@@ -152,9 +152,9 @@ abbrev pub without_scheme : List ℕ → Option (List ℕ × List ℕ) → Resul
 without_scheme text None = Ok (local text)
 without_scheme text (Some split) = over_ssh split.0 split.1
 
-abbrev pub url_by : List ℕ → Option (List ℕ × List ℕ) → Result Url UrlError
-url_by text None = without_scheme text (with_colon text)
-url_by text (Some split) = absolute split.0 split.1
+abbrev pub url_by_scheme : List ℕ → Option (List ℕ × List ℕ) → Result Url UrlError
+url_by_scheme text None = without_scheme text (with_colon text)
+url_by_scheme text (Some split) = absolute split.0 split.1
 
 abbrev pub url_of : List ℕ → Result Url UrlError
-url_of text = url_by text (with_scheme text)
+url_of text = url_by_scheme text (with_scheme text)

@@ -28,8 +28,12 @@ impl File {
 
     /// Where the submodule stands in the work tree: its `path`, as it is written.
     ///
-    /// `Missing` comes exactly where it is not set or empty, `Absolute` where it begins with a slash, and
-    /// `OutsideOfWorktree` where it leads out of the work tree.
+    /// # Errors
+    ///
+    /// - `Missing` exactly where it is not set or empty.
+    /// - `Absolute` exactly where it begins with a slash.
+    /// - `OutsideOfWorktree` exactly where it leads out of the work tree otherwise.
+    /// - `OutOfMemory` for want of memory.
     pub fn path(&self, alloc: Global, name: &[u8]) -> Result<&[u8], path::Error>
         ensures value { answers.PathGives result (access.path name.now self.now.sections) }
         ensures inside { IfOk result (λ path. IsTrue (access.is_path path.now)) }
@@ -39,17 +43,25 @@ impl File {
 
     /// Where the submodule is fetched from: the parts of its `url`.
     ///
-    /// `Missing` comes exactly where it is not set or empty, and `Parse` where `Url::parse` refuses it, with its refusal.
+    /// # Errors
+    ///
+    /// - `Missing` exactly where it is not set or empty.
+    /// - `Parse` exactly where `Url::parse` refuses it, with its refusal.
+    /// - `OutOfMemory` for want of memory.
     pub fn url(&self, alloc: Global, name: &[u8]) -> Result<Url, url::Error>
         ensures { answers.UrlOfGives result (access.url name.now self.now.sections) }
     {
         url::url_of(alloc, name, self.value(name, b"url"))
     }
 
-    /// How the submodule is brought up to date: its `update`, if it is set.
+    /// How the submodule is brought up to date: its `update`, if it is set. A command is given only if a configuration asks
+    /// for it.
     ///
-    /// `Invalid` comes exactly where it is none of the words and no command, and `CommandForbiddenInModulesConfiguration`
-    /// exactly where it is a command and stands in `.gitmodules`. So a command is given only if a configuration asks for it.
+    /// # Errors
+    ///
+    /// - `Invalid` exactly where it is none of the words and no command.
+    /// - `CommandForbiddenInModulesConfiguration` exactly where it is a command and stands in `.gitmodules`.
+    /// - `OutOfMemory` for want of memory.
     pub fn update(&self, alloc: Global, name: &[u8]) -> Result<Option<Update>, update::Error>
         ensures value { answers.UpdateOfGives result (access.update name.now self.now.sections) }
         ensures command { IfOk result (λ update. IfSome update (access.IsAllowed (access.found_update name.now self.now.sections))) }

@@ -44,7 +44,7 @@ pub enum FieldError {
         actual: Bytes,
     },
     /// Want of memory.
-    #[error("OutOfMemory")]
+    #[error("Out of memory: the allocator refused to make room")]
     OutOfMemory,
 }
 

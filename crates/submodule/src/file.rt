@@ -12,6 +12,7 @@ use crate::is_active_platform::IsActivePlatform;
 use crate::names::{Names, names_of};
 use crate::overrides::overrides_of;
 use crate::path::has_path;
+use crate::path_table::PathTable;
 use crate::states::NamesAndActive;
 use crate::{init, is_active_platform};
 use git_config_lite as config;
@@ -28,26 +29,34 @@ use std::marker::Model;
 pub struct File {
     config: config::File,
     names: Vec<Bytes>,
+    /// Of these names; none where memory for it was refused.
+    table: Option<PathTable>,
 }
 
 impl Model for File {
-    ghost use Rattle.std.specs.Prelude.{◌≡◌};
+    ghost use Rattle.std.specs.Prelude.{◌≡◌, IfSome};
     ghost use Rattle.git_config_lite.specs.Sections.{Configuration};
     ghost use Rattle.submodule.specs.Names.{module_names};
+    ghost use Rattle.submodule.specs.NamedPaths.{IsTableOf};
 
     ghost Value = { Configuration };
 
     ghost view = { λ file. file.config };
 
-    ghost invariant = { λ file. file.names.items ≡ module_names file.config.sections };
+    ghost invariant = { λ file. (file.names.items ≡ module_names file.config.sections)
+        × IfSome file.table (λ table. IsTableOf table file.config.sections file.names.items) };
 }
 
 impl File {
     /// What the text of `.gitmodules` says, read from the file `path` if it is one, with the overrides of a configuration
     /// behind it.
     ///
-    /// The values are not looked at before they are asked for. `Parse` names the first line that is outside the grammar of
-    /// configurations, counted from 1.
+    /// The values are not looked at before they are asked for.
+    ///
+    /// # Errors
+    ///
+    /// - `Parse` names the first line that is outside the grammar of configurations, counted from 1.
+    /// - `OutOfMemory` for want of memory.
     pub fn from_bytes(
         alloc: Global,
         bytes: &[u8],
@@ -76,6 +85,7 @@ impl File {
         let mut file = File {
             config: modules,
             names,
+            table: None,
         };
         file.append_submodule_overrides(alloc, config)?;
         Ok(file)
@@ -96,7 +106,9 @@ impl File {
         ensures refused { OnErr result (self.new ≡ self.old) }
     {
         let overrides = overrides_of(alloc, config)?;
+        self.table = None;
         self.config.append(alloc, overrides)?;
+        self.table = PathTable::new(alloc, &self.config, &self.names).ok();
         Ok(())
     }
 
@@ -107,6 +119,7 @@ impl File {
         let File {
             config,
             names: _names,
+            table: _table,
         } = self;
         config
     }
@@ -147,6 +160,20 @@ impl File {
     ) -> Result<Option<&[u8]>, OutOfMemory>
         ensures { IfOk result (λ name. option_copied name ≡ access.name_by_path relative_path.now self.now.sections) }
     {
+        match &self.table {
+            Some(table) => table.name_of(alloc, relative_path, &self.config, &self.names),
+            None => self.first_name_of(alloc, relative_path),
+        }
+    }
+
+    /// The same, by going over the names.
+    fn first_name_of(
+        &self,
+        alloc: Global,
+        relative_path: &[u8],
+    ) -> Result<Option<&[u8]>, OutOfMemory>
+        ensures { IfOk result (λ name. option_copied name ≡ access.name_by_path relative_path.now self.now.sections) }
+    {
         for name in self.names() {
             let value = self.config.string(b"submodule", Some(name), b"path");
             if has_path(alloc, relative_path, value)? {
@@ -159,7 +186,10 @@ impl File {
     /// What decides which submodules are active by a configuration: the path specs of `submodule.active`. Letters fold in
     /// them if `defaults` says so.
     ///
-    /// `ParsePattern` and `NormalizePattern` name the first value that `Spec::parse` refuses so, counted from 1.
+    /// # Errors
+    ///
+    /// - `ParsePattern` and `NormalizePattern` name the first value that `Spec::parse` refuses, counted from 1.
+    /// - `OutOfMemory` for want of memory.
     pub fn is_active_platform(
         &self,
         alloc: Global,

@@ -9,9 +9,11 @@ mod file;
 mod ignore;
 pub mod init;
 pub mod is_active_platform;
+mod named_path;
 mod names;
 mod overrides;
 pub mod path;
+mod path_table;
 mod port;
 mod shown;
 mod states;
@@ -30,6 +32,3 @@ pub use names::Names;
 pub use states::NamesAndActive;
 pub use update::{Update, UpdateParseError};
 pub use url::{Url, UrlError};
-
-#[cfg(test)]
-mod tests;

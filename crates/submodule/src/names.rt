@@ -8,6 +8,7 @@ use git_config_lite as config;
 use git_config_lite::Section;
 use gitbase_core::{Bytes, OutOfMemory};
 use std::alloc::Global;
+use std::collections::BTreeSet;
 use std::marker::Model;
 
 /// The names of submodules, each once, in the order in which `.gitmodules` first tells them.
@@ -59,38 +60,60 @@ fn told(section: &Section) -> Option<&[u8]>
     }
 }
 
-/// Whether a name is one of these.
-fn is_among(name: &[u8], known: &[Bytes]) -> bool
-    ensures { result ≡ names.is_among name.now known.now }
-{
-    known.iter().any(|other| name == other.as_bytes())
+/// Names, each once, in the order in which they came.
+///
+/// Contracts see their list.
+#[derive(Drop)]
+struct Known {
+    names: Vec<Bytes>,
+    /// The same names, among which one is found without passing over all.
+    sorted: BTreeSet<Bytes>,
+}
+
+impl Model for Known {
+    ghost use Rattle.std.specs.Prelude.{ℕ, List};
+    ghost use Rattle.submodule.specs.Names.{AreSame};
+
+    ghost Value = { List (List ℕ) };
+
+    ghost view = { λ known. known.names.items };
+
+    ghost invariant = { λ known. AreSame known.sorted.keys known.names.items };
 }
 
 /// The names with one more, unless it is among them.
-fn with_name(
-    alloc: Global,
-    mut known: Vec<Bytes>,
-    name: Option<&[u8]>,
-) -> Result<Vec<Bytes>, OutOfMemory>
-    ensures { IfOk result (λ more. more.items ≡ names.with_name known.items (option_copied name.entry)) }
+fn with_name(alloc: Global, known: Known, name: Option<&[u8]>) -> Result<Known, OutOfMemory>
+    ensures { IfOk result (λ more. more ≡ names.with_name known (option_copied name.entry)) }
 {
     let Some(name) = name else {
         return Ok(known);
     };
-    if is_among(name, &known) {
-        return Ok(known);
+    let Known {
+        mut names,
+        mut sorted,
+    } = known;
+    let is_new = sorted.insert(Bytes::from_slice(alloc, name)?)?;
+    if !is_new {
+        return Ok(Known { names, sorted });
     }
-    known.push(Bytes::from_slice(alloc, name)?)?;
-    Ok(known)
+    names.push(Bytes::from_slice(alloc, name)?)?;
+    Ok(Known { names, sorted })
 }
 
 /// The names that `.gitmodules` tells.
 pub(crate) fn names_of(alloc: Global, config: &config::File) -> Result<Vec<Bytes>, OutOfMemory>
     ensures { IfOk result (λ made. made.items ≡ names.module_names config.now.sections) }
 {
-    let mut known = Vec::new(alloc);
+    let mut known = Known {
+        names: Vec::new(alloc),
+        sorted: BTreeSet::new(alloc),
+    };
     for section in config.sections_by_name(b"submodule") {
         known = with_name(alloc, known, told(section))?;
     }
-    Ok(known)
+    let Known {
+        names,
+        sorted: _sorted,
+    } = known;
+    Ok(names)
 }

@@ -35,7 +35,7 @@ pub enum Error {
         actual: Bytes,
     },
     /// Want of memory.
-    #[error("OutOfMemory")]
+    #[error("Out of memory: the allocator refused to make room")]
     OutOfMemory,
 }
 
@@ -92,7 +92,7 @@ fn is_inside(alloc: Global, path: &[u8]) -> Result<bool, OutOfMemory>
 }
 
 /// Whether a path may be that of a submodule: it is not empty, not absolute, and leads to a place inside the work tree.
-fn is_path(alloc: Global, path: &[u8]) -> Result<bool, OutOfMemory>
+pub(crate) fn is_path(alloc: Global, path: &[u8]) -> Result<bool, OutOfMemory>
     ensures { IfOk result (λ is. is ≡ access.is_path path.now) }
 {
     if path.is_empty() {

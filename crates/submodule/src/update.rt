@@ -1,6 +1,6 @@
 //! How a submodule is brought up to date.
 ghost use Rattle.std.specs.Prelude.{◌≡◌, option_map, IfOk};
-ghost use Rattle.git_config_lite.specs.Seen.{text_and_source};
+ghost use Rattle.git_config_lite.specs.Seen.{text_and_source_of};
 ghost use Rattle.submodule.specs.Updates as updates;
 ghost use Rattle.submodule.specs.Gives.{UpdateGives};
 ghost use Rattle.submodule.specs.Names as names;
@@ -33,10 +33,10 @@ pub enum Update {
 #[derive(Clone, Copy, Debug, PartialEq, Eq, thiserror::Error)]
 pub enum UpdateParseError {
     /// It is none of the words.
-    #[error("Invalid")]
+    #[error("The update is none of 'checkout', 'rebase', 'merge' and 'none', and no command behind a '!'")]
     Invalid,
     /// Want of memory.
-    #[error("OutOfMemory")]
+    #[error("Out of memory: the allocator refused to make room")]
     OutOfMemory,
 }
 
@@ -71,7 +71,7 @@ pub enum Error {
         actual: Bytes,
     },
     /// Want of memory.
-    #[error("OutOfMemory")]
+    #[error("Out of memory: the allocator refused to make room")]
     OutOfMemory,
 }
 
@@ -174,7 +174,7 @@ pub(crate) fn update_of(
     name: &[u8],
     found: Option<(&[u8], Source)>,
 ) -> Result<Option<Update>, Error>
-    ensures { answers.UpdateOfGives result (access.update_by name.now (option_map text_and_source found.entry)) }
+    ensures { answers.UpdateOfGives result (access.update_by name.now (option_map text_and_source_of found.entry)) }
 {
     match found {
         Some((value, source)) => Ok(Some(given(alloc, name, value, source)?)),

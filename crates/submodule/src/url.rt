@@ -33,13 +33,13 @@ pub struct Url {
 #[derive(Clone, Copy, Debug, PartialEq, Eq, thiserror::Error)]
 pub enum UrlError {
     /// It has no host, and its scheme needs one.
-    #[error("EmptyHost")]
+    #[error("The host of the URL is empty, and its scheme needs one")]
     EmptyHost,
     /// The port is no number from 0 to 65535.
-    #[error("Port")]
+    #[error("The port of the URL is no number from 0 to 65535")]
     Port,
     /// Want of memory.
-    #[error("OutOfMemory")]
+    #[error("Out of memory: the allocator refused to make room")]
     OutOfMemory,
 }
 
@@ -72,7 +72,7 @@ pub enum Error {
         source: UrlError,
     },
     /// Want of memory.
-    #[error("OutOfMemory")]
+    #[error("Out of memory: the allocator refused to make room")]
     OutOfMemory,
 }
 
@@ -92,8 +92,13 @@ impl Url {
     ///
     /// A scheme, which is a letter and then letters, digits, `+`, `.` and `-`, is followed by `://`, the authority up to
     /// the first `/`, and the path. Else a text whose first `:` has some byte before it and no `/` is `[user@]host:path`
-    /// over ssh, and any other one a path on this machine. `EmptyHost` comes exactly where http, https, ssh or git have no
-    /// host, and else `Port` exactly where the port is no number from 0 to 65535; an empty port is none.
+    /// over ssh, and any other one a path on this machine.
+    ///
+    /// # Errors
+    ///
+    /// - `EmptyHost` exactly where http, https, ssh or git have no host.
+    /// - `Port` exactly where, else, the port is no number from 0 to 65535; an empty port is none.
+    /// - `OutOfMemory` for want of memory.
     pub fn parse(alloc: Global, text: &[u8]) -> Result<Url, UrlError>
         ensures { UrlGives result (url_of text.now) }
     {
@@ -114,7 +119,7 @@ fn copied_text(alloc: Global, text: Option<&[u8]>) -> Result<Option<Bytes>, OutO
 
 /// A url of its own.
 fn copied(alloc: Global, parts: UrlParts<'_>) -> Result<Url, OutOfMemory>
-    ensures { IfOk result (λ url. url ≡ seen.url parts.entry) }
+    ensures { IfOk result (λ url. url ≡ seen.url_of_parts parts.entry) }
 {
     Ok(Url {
         scheme: Bytes::from_slice(alloc, parts.scheme)?,

@@ -93,7 +93,7 @@ fn closed(part: &[u8]) -> Option<(&[u8], &[u8])>
 
 /// A host in brackets.
 fn bracketed(part: &[u8]) -> HostAndPort<'_>
-    ensures { seen.place result ≡ urls.bracketed part.now }
+    ensures { seen.host_place result ≡ urls.bracketed part.now }
 {
     match closed(part) {
         Some((host, rest)) => HostAndPort {
@@ -109,7 +109,7 @@ fn bracketed(part: &[u8]) -> HostAndPort<'_>
 
 /// A host without brackets.
 fn bare(part: &[u8]) -> HostAndPort<'_>
-    ensures { seen.place result ≡ urls.bare part.now }
+    ensures { seen.host_place result ≡ urls.bare part.now }
 {
     if has(b':', part) {
         HostAndPort {
@@ -125,7 +125,7 @@ fn bare(part: &[u8]) -> HostAndPort<'_>
 }
 
 fn host_and_port(part: &[u8]) -> HostAndPort<'_>
-    ensures { seen.place result ≡ urls.host_and_port part.now }
+    ensures { seen.host_place result ≡ urls.host_and_port part.now }
 {
     match part {
         [b'[', ..] => bracketed(part),
@@ -170,7 +170,7 @@ fn with_host<'a>(
     place: HostAndPort<'a>,
     path: &'a [u8],
 ) -> Result<UrlParts<'a>, UrlError>
-    ensures { seen.url_or_refused result ≡ urls.with_host scheme.now (option_copied login.entry) (seen.place place.entry) path.now }
+    ensures { seen.parsed_url result ≡ urls.with_host scheme.now (option_copied login.entry) (seen.host_place place.entry) path.now }
 {
     if lacks_host(scheme, place.host) {
         return Err(UrlError::EmptyHost);
@@ -188,7 +188,7 @@ fn with_host<'a>(
 
 /// A url by its scheme and what is behind `://`.
 fn absolute<'a>(scheme: &'a [u8], rest: &'a [u8]) -> Result<UrlParts<'a>, UrlError>
-    ensures { seen.url_or_refused result ≡ urls.absolute scheme.now rest.now }
+    ensures { seen.parsed_url result ≡ urls.absolute scheme.now rest.now }
 {
     let authority = before(b'/', rest);
     with_host(
@@ -201,7 +201,7 @@ fn absolute<'a>(scheme: &'a [u8], rest: &'a [u8]) -> Result<UrlParts<'a>, UrlErr
 
 /// A url of `[user@]host` and a path, over ssh.
 fn over_ssh<'a>(authority: &'a [u8], path: &'a [u8]) -> Result<UrlParts<'a>, UrlError>
-    ensures { seen.url_or_refused result ≡ urls.over_ssh authority.now path.now }
+    ensures { seen.parsed_url result ≡ urls.over_ssh authority.now path.now }
 {
     let place = HostAndPort {
         host: behind_last(b'@', authority),
@@ -211,7 +211,7 @@ fn over_ssh<'a>(authority: &'a [u8], path: &'a [u8]) -> Result<UrlParts<'a>, Url
 }
 
 fn local(path: &[u8]) -> UrlParts<'_>
-    ensures { seen.url result ≡ urls.local path.now }
+    ensures { seen.url_of_parts result ≡ urls.local path.now }
 {
     UrlParts {
         scheme: b"file",
@@ -285,7 +285,7 @@ fn with_colon(text: &[u8]) -> Option<(&[u8], &[u8])>
 
 /// The parts of a url.
 pub fn parts_of(text: &[u8]) -> Result<UrlParts<'_>, UrlError>
-    ensures { seen.url_or_refused result ≡ urls.url_of text.now }
+    ensures { seen.parsed_url result ≡ urls.url_of text.now }
 {
     if let Some((scheme, rest)) = with_scheme(text) {
         return absolute(scheme, rest);

@@ -3,4 +3,4 @@ use Rattle.submodule.specs.Names.{names_after, module_names}
 use Rattle.submodule.proofs.names.names_of.Given as goal
 
 abbrev pub invariant-loop-section : goal.invariant-loop-section
-invariant-loop-section l = names_after l.known.items l.section-iterator ≡ module_names l.config.sections
+invariant-loop-section l = names_after l.known l.section-iterator ≡ module_names l.config.sections

@@ -1,0 +1,20 @@
+use Rattle.std.proofs.Common.{◌≡◌, ◌∙◌, ap, ℕ, List, reverse, option_copied}
+use Rattle.std.specs.List.{filter}
+use Rattle.git_config_lite.specs.declared.section_place.SectionPlace.{SectionPlace}
+use Rattle.git_config_lite.specs.SectionPlaces.{key_of, has_key, first_placed}
+use Rattle.git_config_lite.proofs.Placed.{placed}
+use Rattle.git_config_lite.proofs.index.Index.last_found.Goals as goal
+
+pub returns : goal.returns
+returns c =
+    let name = c.args.name.now in
+    let subsection = option_copied c.args.subsection in
+    let key = c.args.key.now in
+    let sections = c.args.sections.now in
+    let places = c.deref.result.now in
+    let all : places ≡ c.args.self.now = c.deref.ensures.value ∙ c.self.view_is in
+    c.last_placed.ensures
+    ∙ ap (λ (ps : List SectionPlace). first_placed name subsection key sections (reverse ps))
+    (c.run_of-run.ensures ∙ ap (λ (k : List ℕ). filter (has_key k) places) c.key_of.ensures)
+    ∙ ap (λ (ps : List SectionPlace). first_placed name subsection key sections (reverse (filter (has_key (key_of subsection)) ps))) all
+    ∙ placed name subsection key c.args.self.now sections c.requires

@@ -1,0 +1,158 @@
+//! Which submodules have a path, found without passing over all submodules.
+ghost use Rattle.std.specs.Prelude.{◌≡◌, ◌++◌, not, codes, find, option_copied, None, IfOk, if◌then◌else◌};
+ghost use Rattle.std.specs.List.{filter};
+ghost use Rattle.std.specs.List.Sorted.{IsSortedBy};
+ghost use Rattle.std.specs.Cmp.Lexicographic.{slice_cmp};
+ghost use Rattle.std.specs.Ordering.{nat_cmp, is_lt};
+ghost use Rattle.submodule.specs.NamedPaths as paths;
+ghost use Rattle.submodule.specs.Access as access;
+ghost use Rattle.submodule.specs.Overrides.{value};
+
+use crate::named_path::NamedPath;
+use crate::path::is_path;
+use git_config_lite as config;
+use gitbase_core::{Bytes, OutOfMemory};
+use std::alloc::Global;
+use std::marker::Model;
+
+/// The paths of submodules with their names, in the order of the paths.
+///
+/// Contracts see their list.
+#[derive(Debug, Drop)]
+pub struct PathTable {
+    rows: Vec<NamedPath>,
+}
+
+impl Model for PathTable {
+    ghost use Rattle.std.specs.Prelude.{List};
+    ghost use Rattle.std.specs.List.Sorted.{IsSortedBy};
+    ghost use Rattle.submodule.specs.declared.named_path.NamedPath as declared;
+    ghost use Rattle.submodule.specs.NamedPaths.{is_before};
+
+    ghost Value = { List declared.NamedPath };
+
+    ghost view = { λ table. table.rows.items };
+
+    ghost invariant = { λ table. IsSortedBy is_before table.rows.items };
+}
+
+/// Rows, and that of a name, if it says a path.
+fn with_row(
+    alloc: Global,
+    mut rows: Vec<NamedPath>,
+    name: &[u8],
+    path: Option<&[u8]>,
+) -> Result<Vec<NamedPath>, OutOfMemory>
+    ensures { IfOk result (λ more. more.items ≡ rows.items ++ paths.paths_of_name name.now (option_copied path.entry)) }
+{
+    let Some(path) = path else {
+        return Ok(rows);
+    };
+    rows.push(NamedPath {
+        path: Bytes::from_slice(alloc, path)?,
+        name: Bytes::from_slice(alloc, name)?,
+    })?;
+    Ok(rows)
+}
+
+/// The rows of names, in their order.
+fn rows_of(
+    alloc: Global,
+    config: &config::File,
+    names: &[Bytes],
+) -> Result<Vec<NamedPath>, OutOfMemory>
+    ensures { IfOk result (λ rows. rows.items ≡ paths.named_paths config.now.sections names.now) }
+{
+    let mut rows = Vec::new(alloc);
+    for name in names {
+        let name = name.as_bytes();
+        let path = config.string(b"submodule", Some(name), b"path");
+        rows = with_row(alloc, rows, name, path)?;
+    }
+    Ok(rows)
+}
+
+/// Whether the path of a row is less than this one.
+fn is_below(row: &NamedPath, path: &[u8]) -> bool
+    ensures { result ≡ is_lt (slice_cmp nat_cmp row.now.path path.now) }
+{
+    row.path.as_bytes().cmp(&path).is_lt()
+}
+
+/// Whether the path of a row is not greater than this one.
+fn is_up_to(row: &NamedPath, path: &[u8]) -> bool
+    ensures { result ≡ not (is_lt (slice_cmp nat_cmp path.now row.now.path)) }
+{
+    !path.cmp(&row.path.as_bytes()).is_lt()
+}
+
+/// The rows of a path, which stand beside one another.
+fn run_of<'a>(rows: &'a [NamedPath], path: &[u8]) -> &'a [NamedPath]
+    requires { IsSortedBy paths.is_before rows.now }
+    ensures { result.now ≡ filter (paths.is_at_path path.now) rows.now }
+{
+    let start = rows.partition_point(|row| is_below(row, path));
+    let (_, rest) = rows.split_at(start);
+    let length = rest.partition_point(|row| is_up_to(row, path));
+    let (run, _) = rest.split_at(length);
+    run
+}
+
+/// The name of the first row.
+fn first_name(rows: &[NamedPath]) -> Option<&[u8]>
+    ensures { option_copied result ≡ paths.first_name rows.now }
+{
+    match rows {
+        [row, ..] => Some(row.name.as_bytes()),
+        [] => None,
+    }
+}
+
+impl PathTable {
+    /// The table of names; fails only where memory is refused.
+    pub fn new(
+        alloc: Global,
+        config: &config::File,
+        names: &[Bytes],
+    ) -> Result<PathTable, OutOfMemory>
+        ensures { IfOk result (λ table. paths.IsTableOf table config.now.sections names.now) }
+    {
+        let mut rows = rows_of(alloc, config, names)?;
+        rows.sort_by(|a, b| a.path.as_bytes().cmp(b.path.as_bytes()))?;
+        Ok(PathTable { rows })
+    }
+
+    /// The first of the names whose path is this one; the table is that of these names.
+    pub fn name_of(
+        &self,
+        alloc: Global,
+        path: &[u8],
+        _config: &config::File,
+        _names: &[Bytes],
+    ) -> Result<Option<&[u8]>, OutOfMemory>
+        requires { paths.IsTableOf self.now _config.now.sections _names.now }
+        ensures { IfOk result (λ name. option_copied name
+            ≡ find (λ one. access.has_path path.now (value one (codes "path") _config.now.sections)) _names.now) }
+    {
+        self.given_name(alloc, path)
+    }
+
+    /// The first name of a path, if that may be one of a submodule.
+    fn given_name(&self, alloc: Global, path: &[u8]) -> Result<Option<&[u8]>, OutOfMemory>
+        ensures { IfOk result (λ name. option_copied name
+            ≡ (if access.is_path path.now then paths.first_name (filter (paths.is_at_path path.now) self.now) else None)) }
+    {
+        if is_path(alloc, path)? {
+            Ok(self.first_name(path))
+        } else {
+            Ok(None)
+        }
+    }
+
+    /// The first name of a path.
+    fn first_name(&self, path: &[u8]) -> Option<&[u8]>
+        ensures { option_copied result ≡ paths.first_name (filter (paths.is_at_path path.now) self.now) }
+    {
+        first_name(run_of(&self.rows, path))
+    }
+}
