@@ -1,0 +1,241 @@
+//! Globs and the rules of ignore files.
+use crate::rows::{joined, replaced};
+use crate::rule_answers as git;
+use bstr::ByteSlice;
+use gitbase_core::PathText;
+use glob_rules::ignore::{Kind, List, ParseIgnore, Search};
+use glob_rules::{Case, Pattern, WildMode, wildmatch};
+use std::alloc::Global;
+
+/// As git reads rules, which knows no precious files.
+const AS_GIT: ParseIgnore = ParseIgnore {
+    support_precious: false,
+};
+
+const WITH_PRECIOUS: ParseIgnore = ParseIgnore {
+    support_precious: true,
+};
+
+/// The rules of a text, for the paths beneath a directory.
+fn list_of(alloc: Global, rules: &[u8], base: &[u8], parse: ParseIgnore) -> Option<List> {
+    match (
+        PathText::from_bytes(alloc, b"rules"),
+        PathText::from_bytes(alloc, base),
+    ) {
+        (Ok(source), Ok(base)) => List::from_bytes(alloc, rules, Some(source), base, parse).ok(),
+        _ => None,
+    }
+}
+
+/// Whether a search took a list.
+fn is_pushed(alloc: Global, search: &mut Search, list: Option<List>) -> bool {
+    match list {
+        Some(list) => search.push_list(alloc, list).is_ok(),
+        None => false,
+    }
+}
+
+/// The line of the rule that holds for a path, or 0.
+fn line_of(search: &Search, path: &[u8], is_dir: bool, case: Case) -> usize {
+    match search.pattern_matching_relative_path(path, Some(is_dir), case) {
+        Some(found) => found.sequence_number,
+        None => 0,
+    }
+}
+
+/// Whether the last digit of a text is this number.
+fn is_digit(text: &[u8], number: usize) -> bool {
+    match text.last() {
+        Some(digit) => Some(usize::from(*digit)) == number.checked_add(usize::from(b'0')),
+        None => false,
+    }
+}
+
+/// Whether the line of a row decides about its path, by its rules with an LF in the place of each bar.
+fn is_decided(alloc: Global, row: Row<'_>, base: &[u8], case: Case) -> bool {
+    let mut search = Search::new(alloc);
+    match replaced(alloc, row.rules, b'|', b'\n') {
+        Some(rules) => {
+            is_pushed(alloc, &mut search, list_of(alloc, &rules, base, AS_GIT))
+                && is_digit(
+                    row.line,
+                    line_of(&search, row.path, row.kind.starts_with(b"d"), case),
+                )
+        }
+        None => false,
+    }
+}
+
+/// A row: the line that decides, the kind of the path, the path, and the rules.
+#[derive(Clone, Copy)]
+struct Row<'a> {
+    line: &'a [u8],
+    kind: &'a [u8],
+    path: &'a [u8],
+    rules: &'a [u8],
+}
+
+fn parted(row: &[u8]) -> (&[u8], &[u8]) {
+    row.split_once_str(b";").unwrap_or((row, b""))
+}
+
+fn row_of(row: &[u8]) -> Row<'_> {
+    let (line, rest) = parted(row);
+    let (kind, rest) = parted(rest);
+    let (path, rules) = parted(rest);
+    Row {
+        line,
+        kind,
+        path,
+        rules,
+    }
+}
+
+/// The first row of a table that git answers and these rules do not.
+fn first_lie(
+    alloc: Global,
+    table: &'static [u8],
+    base: &[u8],
+    case: Case,
+) -> Option<&'static [u8]> {
+    for row in table.split(|byte| *byte == b'\n') {
+        if !row.is_empty() && !is_decided(alloc, row_of(row), base, case) {
+            return Some(row);
+        }
+    }
+    None
+}
+
+#[test]
+fn rules_as_git_has_them(rt: HostRuntime) {
+    let alloc = rt.alloc();
+    assert_eq!(rt; first_lie(alloc, git::ANSWERS, b"", Case::Sensitive), None);
+    assert_eq!(rt; first_lie(alloc, git::FOLDED, b"", Case::Fold), None);
+    assert_eq!(rt;
+        first_lie(alloc, git::BENEATH, b"sub", Case::Sensitive),
+        None
+    );
+}
+
+#[test]
+fn rules_as_git_has_them_otherwise(rt: HostRuntime) {
+    let alloc = rt.alloc();
+    assert_eq!(rt;
+        first_lie(alloc, git::DIFFERENCES, b"", Case::Sensitive),
+        None
+    );
+    assert_eq!(rt;
+        first_lie(alloc, git::FOLDED_DIFFERENCES, b"", Case::Fold),
+        None
+    );
+    assert_eq!(rt;
+        first_lie(alloc, git::BENEATH_DIFFERENCES, b"sub", Case::Sensitive),
+        None
+    );
+}
+
+/// Whether the rule that holds for a path is precious, of this line, and in the list of this number.
+fn is_in_list(search: &Search, path: &[u8], number: usize, line: usize) -> bool {
+    match search.place_matching_relative_path(path, None, Case::Sensitive) {
+        Some((found, rule)) => {
+            found == number
+                && rule.sequence_number == line
+                && rule.kind == Kind::Precious
+                && rule.source == Some(b"rules".as_slice())
+        }
+        None => false,
+    }
+}
+
+fn is_copied(alloc: Global, search: &Search) -> bool {
+    match search.copy(alloc) {
+        Ok(copy) => is_in_list(&copy, b"d/b", 1, 2) && is_in_list(&copy, b"d/a", 0, 1),
+        Err(_) => false,
+    }
+}
+
+/// Whether two lists are asked from the highest, also by a copy, and may be taken off.
+fn are_lists(alloc: Global) -> bool {
+    let mut search = Search::new(alloc);
+    is_pushed(
+        alloc,
+        &mut search,
+        list_of(alloc, b"$a\n$b\n", b"", WITH_PRECIOUS),
+    ) && is_pushed(
+        alloc,
+        &mut search,
+        list_of(alloc, b"\n$/b\n", b"d", WITH_PRECIOUS),
+    ) && is_copied(alloc, &search)
+        && search.pop_list()
+        && is_in_list(&search, b"d/b", 0, 2)
+        && search.pop_list()
+        && !search.pop_list()
+}
+
+fn is_pattern(alloc: Global) -> bool {
+    match Pattern::parse(alloc, b"!/a/b/") {
+        Ok(Some(pattern)) => {
+            pattern.text() == b"a/b".as_slice()
+                && pattern.is_negative()
+                && pattern.must_be_dir()
+                && pattern.matches_repo_relative_path(b"d/A/b", b"d", Some(true), Case::Fold)
+        }
+        _ => false,
+    }
+}
+
+#[test]
+fn calls_answer_where_there_is_memory(rt: HostRuntime) {
+    assert!(rt; are_lists(rt.alloc()));
+    assert!(rt; is_pattern(rt.alloc()));
+}
+
+fn is_match(pattern: &[u8], text: &[u8]) -> bool {
+    let mode = WildMode {
+        case: Case::Sensitive,
+        wildcards_take_slash: false,
+    };
+    wildmatch(pattern, text, mode)
+}
+
+/// A text so many times, and an end behind it.
+fn many(alloc: Global, part: &[u8], times: u32, end: &[u8]) -> Option<Vec<u8>> {
+    let mut text = Vec::new(alloc);
+    for _ in 0..times {
+        if text.extend_from_slice(part).is_err() {
+            return None;
+        }
+    }
+    joined(alloc, &[&text, end])
+}
+
+/// Whether a pattern matches the text with `x` behind it alone, where both begin with many parts.
+fn ends_in_x(alloc: Global, part: &[u8], piece: &[u8], times: u32) -> bool {
+    match (
+        many(alloc, part, times, b"x"),
+        many(alloc, piece, times, b"x"),
+        many(alloc, piece, times, b"y"),
+    ) {
+        (Some(pattern), Some(text), Some(other)) => {
+            is_match(&pattern, &text) && !is_match(&pattern, &other)
+        }
+        _ => false,
+    }
+}
+
+/// A search that tries each place for each star would not end.
+#[test]
+fn stars_do_not_blow_up(rt: HostRuntime) {
+    let text = [b'a'; 400];
+    let path = b"a/a/a/a/a/a/a/a/a/a/a/a/a/a/a/a/a/a/a/a/a/a/a/a/a/a/a/a/a/a/a/a/a/a/a/a/a/a/a/a";
+    assert!(rt; !is_match(b"*a*a*a*a*a*a*a*a*a*a*a*a*b", &text));
+    assert!(rt; !is_match(b"**/a/**/a/**/a/**/a/**/a/**/a/**/a/**/a/**/b", path));
+    assert!(rt; !is_match(b"**/*a*a*a*a*a*a/**/a*a*a*a/b", path));
+}
+
+/// The stack would not hold a call for each star or `**/`.
+#[test]
+fn stars_need_no_stack(rt: HostRuntime) {
+    assert!(rt; ends_in_x(rt.alloc(), b"**/", b"", 400_000));
+    assert!(rt; ends_in_x(rt.alloc(), b"**/*?*/", b"a/", 100_000));
+}
