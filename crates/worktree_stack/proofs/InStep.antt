@@ -4,15 +4,14 @@ use Rattle.std.specs.List.{list_all}
 use Rattle.std.proofs.Common.{refl, sym, ap, ◌∙◌, subst, arith}
 use Rattle.std.proofs.lemmas.List.{map-append, length-append, take_all, take-append-le}
 use Rattle.glob_rules.specs.declared.Case.{Case}
-use Rattle.glob_rules.specs.Ignore.{Rules, Hit}
-use Rattle.worktree_fs.specs.Tree.{Names}
+use Rattle.glob_rules.specs.Ignore.{Rules}
 use Rattle.worktree_fs.specs.Paths.{spelled, fronts, without_last}
 use Rattle.worktree_fs.specs.PathStack.{one_up, names_at, directories}
 use Rattle.worktree_fs.proofs.Spelled.{without_last-snoc}
-use Rattle.worktree_stack.specs.Setup.{Setup, Held, own_hit}
-use Rattle.worktree_stack.specs.Excludes.{own_of_directory, rule_of, ancestors}
-use Rattle.worktree_stack.specs.Reading.{reading, rulebook, is_read, rules_or_none}
-use Rattle.worktree_stack.specs.Stacked.{AreThoseOf, pushed}
+use Rattle.worktree_stack.specs.Setup.{Setup, Made, Mapping, Held, setup_of, push_level, pop_level, own_decision, own_if}
+use Rattle.worktree_stack.specs.Excludes.{Decision, own_of_directory, ancestors}
+use Rattle.worktree_stack.specs.Reading.{Sources, reading, rulebook, is_read, rules_or_none}
+use Rattle.worktree_stack.specs.Stacked.{Stacked, made_of, AreThoseOf, HoldsFor, IsInStep, pushed}
 use Rattle.worktree_stack.proofs.Deciding.{own_is}
 
 -- the fronts of a list are those without its last element, and the list
@@ -47,30 +46,33 @@ left_true true b e = refl
 left_true false b e = absurd (cc e)
 
 -- one more directory
-pub one_more : (setup : Setup) (case : Case) (root : List ℕ) (t : Names) (names : List (List ℕ)) (lists : List Rules) (matches : List (Option Hit)) (list : Rules)
-    → AreThoseOf setup case root t (ancestors names) lists matches
-    → reading setup t root (spelled names) ≡ Ok list
-    → AreThoseOf setup case root t (fronts names) (lists ++ list ∷ []) (matches ++ own_hit (record { setup = setup; lists = lists; matches = matches }) (spelled names) (Some true) case ∷ [])
-one_more setup case root t names lists matches list those read =
-    let book = rulebook setup case t root in
-    let held : Held = record { setup = setup; lists = lists; matches = matches } in
-    let last : fronts names ≡ ancestors names ++ names ∷ [] = pushed-ancestors names in
-    let rules_is : rules_or_none (reading setup t root (spelled names)) ≡ list = ap rules_or_none read in
-    let own : own_hit held (spelled names) (Some true) case ≡ rule_of (own_of_directory book names) =
-    own_is book held names (Some true) (record { overrides = refl; globals = refl; lists = those.lists_are }) in
-    record {
-      are_read = ap (list_all (λ d. is_read (reading setup t root (spelled d)))) last
-          ∙ all-last (λ d. is_read (reading setup t root (spelled d))) (ancestors names) names
-          ∙ both_true _ _ those.are_read (ap is_read read);
-      lists_are = ap (λ (xs : List Rules). xs ++ list ∷ []) those.lists_are
-          ∙ ap (λ (r : Rules). map book.of_directory (ancestors names) ++ r ∷ []) (sym rules_is)
-          ∙ sym (map-append book.of_directory (ancestors names) (names ∷ []))
-          ∙ ap (map book.of_directory) (sym last);
-      matches_are = ap (λ (xs : List (Option Hit)). xs ++ own_hit held (spelled names) (Some true) case ∷ []) those.matches_are
-          ∙ ap (λ (hit : Option Hit). map (λ d. rule_of (own_of_directory book d)) (ancestors names) ++ hit ∷ []) own
-          ∙ sym (map-append (λ d. rule_of (own_of_directory book d)) (ancestors names) (names ∷ []))
-          ∙ ap (map (λ d. rule_of (own_of_directory book d))) (sym last);
-    }
+module _ (root : List ℕ) (case : Case) (mappings : List Mapping) (setup : Setup) where
+  one_more : (s : Sources) (names : List (List ℕ)) (lists : List Rules) (matches : List (Option Decision)) (list : Rules)
+      → AreThoseOf (record { root = root; case = case; mappings = mappings; ignore = Some setup }) s (ancestors names) lists matches
+      → reading (record { root = root; case = case; mappings = mappings; ignore = Some setup }) s (spelled names) ≡ Ok list
+      → AreThoseOf (record { root = root; case = case; mappings = mappings; ignore = Some setup }) s (fronts names) (lists ++ list ∷ [])
+      (matches ++ own_decision (record { setup = setup; lists = lists; matches = matches }) (spelled names) (Some true) case ∷ [])
+  one_more s names lists matches list those read =
+      let made : Made = record { root = root; case = case; mappings = mappings; ignore = Some setup } in
+      let book = rulebook made s in
+      let held : Held = record { setup = setup; lists = lists; matches = matches } in
+      let last : fronts names ≡ ancestors names ++ names ∷ [] = pushed-ancestors names in
+      let rules_is : rules_or_none (reading made s (spelled names)) ≡ list = ap rules_or_none read in
+      let own : own_decision held (spelled names) (Some true) case ≡ own_of_directory book names =
+      own_is book held names (Some true) (record { overrides = refl; globals = refl; lists = those.lists_are }) in
+      record {
+        are_read = ap (list_all (λ d. is_read (reading made s (spelled d)))) last
+            ∙ all-last (λ d. is_read (reading made s (spelled d))) (ancestors names) names
+            ∙ both_true _ _ those.are_read (ap is_read read);
+        lists_are = ap (λ (xs : List Rules). xs ++ list ∷ []) those.lists_are
+            ∙ ap (λ (r : Rules). map book.of_directory (ancestors names) ++ r ∷ []) (sym rules_is)
+            ∙ sym (map-append book.of_directory (ancestors names) (names ∷ []))
+            ∙ ap (map book.of_directory) (sym last);
+        matches_are = ap (λ (xs : List (Option Decision)). xs ++ own_decision held (spelled names) (Some true) case ∷ []) those.matches_are
+            ∙ ap (λ (hit : Option Decision). map (own_of_directory book) (ancestors names) ++ hit ∷ []) own
+            ∙ sym (map-append (own_of_directory book) (ancestors names) (names ∷ []))
+            ∙ ap (map (own_of_directory book)) (sym last);
+      }
 
 take-last : {A : Type 0} (xs : List A) (x : A) → take (length (xs ++ x ∷ []) - 1) (xs ++ x ∷ []) ≡ xs
 take-last xs x =
@@ -78,25 +80,25 @@ take-last xs x =
     ap (λ n. take n (xs ++ x ∷ [])) e ∙ take-append-le (length xs) xs (x ∷ []) (omega arith) ∙ take_all (length xs) xs (omega arith)
 
 -- one less
-pub one_less : (setup : Setup) (case : Case) (root : List ℕ) (t : Names) (names : List (List ℕ)) (lists : List Rules) (matches : List (Option Hit))
-    → AreThoseOf setup case root t (fronts names) lists matches
-    → AreThoseOf setup case root t (ancestors names) (take (length lists - 1) lists) (take (length matches - 1) matches)
-one_less setup case root t names lists matches those =
-    let book = rulebook setup case t root in
+pub one_less : (made : Made) (s : Sources) (names : List (List ℕ)) (lists : List Rules) (matches : List (Option Decision))
+    → AreThoseOf made s (fronts names) lists matches
+    → AreThoseOf made s (ancestors names) (take (length lists - 1) lists) (take (length matches - 1) matches)
+one_less made s names lists matches those =
+    let book = rulebook made s in
     let last : fronts names ≡ ancestors names ++ names ∷ [] = pushed-ancestors names in
     let lists_are : lists ≡ map book.of_directory (ancestors names) ++ book.of_directory names ∷ [] =
     those.lists_are ∙ ap (map book.of_directory) last ∙ map-append book.of_directory (ancestors names) (names ∷ []) in
-    let matches_are : matches ≡ map (λ d. rule_of (own_of_directory book d)) (ancestors names) ++ rule_of (own_of_directory book names) ∷ [] =
-    those.matches_are ∙ ap (map (λ d. rule_of (own_of_directory book d))) last ∙ map-append (λ d. rule_of (own_of_directory book d)) (ancestors names) (names ∷ []) in
+    let matches_are : matches ≡ map (own_of_directory book) (ancestors names) ++ own_of_directory book names ∷ [] =
+    those.matches_are ∙ ap (map (own_of_directory book)) last ∙ map-append (own_of_directory book) (ancestors names) (names ∷ []) in
     record {
-      are_read = left_true _ (is_read (reading setup t root (spelled names)))
-          (sym (all-last (λ d. is_read (reading setup t root (spelled d))) (ancestors names) names) ∙ ap (list_all (λ d. is_read (reading setup t root (spelled d)))) (sym last) ∙ those.are_read);
+      are_read = left_true _ (is_read (reading made s (spelled names)))
+          (sym (all-last (λ d. is_read (reading made s (spelled d))) (ancestors names) names) ∙ ap (list_all (λ d. is_read (reading made s (spelled d)))) (sym last) ∙ those.are_read);
       lists_are = ap (λ (xs : List Rules). take (length xs - 1) xs) lists_are ∙ take-last (map book.of_directory (ancestors names)) (book.of_directory names);
-      matches_are = ap (λ (xs : List (Option Hit)). take (length xs - 1) xs) matches_are
-          ∙ take-last (map (λ d. rule_of (own_of_directory book d)) (ancestors names)) (rule_of (own_of_directory book names));
+      matches_are = ap (λ (xs : List (Option Decision)). take (length xs - 1) xs) matches_are
+          ∙ take-last (map (own_of_directory book) (ancestors names)) (own_of_directory book names);
     }
 
-up-ancestors : (names : List (List ℕ)) → ancestors names ≡ pushed (one_up (Some names))
+pub up-ancestors : (names : List (List ℕ)) → ancestors names ≡ pushed (one_up (Some names))
 up-ancestors [] = refl
 up-ancestors (name ∷ names) = refl
 
@@ -120,53 +122,49 @@ pub directories-below : (at : Option (List (List ℕ))) (names : List (List ℕ)
 directories-below at names above =
     directories-last names ∙ ap (λ (d : List (List ℕ)). d ++ spelled names ∷ []) (ap (map spelled) (sym above) ∙ sym (directories-pushed at))
 
-module _ (case : Case) (t : Names) where
-  -- said of equal parts
-  pub said_of : (setup setup' : Setup) (root root' : List ℕ) (directories directories' : List (List (List ℕ))) (lists lists' : List Rules) (matches matches' : List (Option Hit))
-      → setup ≡ setup' → root ≡ root' → directories ≡ directories' → lists ≡ lists' → matches ≡ matches'
-      → AreThoseOf setup case root t directories lists matches → AreThoseOf setup' case root' t directories' lists' matches'
-  said_of setup setup' root root' directories directories' lists lists' matches matches' a b c d e those =
-      subst (λ x. AreThoseOf setup' case root' t directories' lists' x) e
-      (subst (λ x. AreThoseOf setup' case root' t directories' x matches) d
-      (subst (λ x. AreThoseOf setup' case root' t x lists matches) c
-      (subst (λ x. AreThoseOf setup' case x t directories lists matches) b
-      (subst (λ x. AreThoseOf x case root t directories lists matches) a those))))
-
+module _ (s : Sources) where
   -- the deepest directory is popped
-  less : (setup : Setup) (root : List ℕ) (at : Option (List (List ℕ))) (lists : List Rules) (matches : List (Option Hit))
-      → AreThoseOf setup case root t (pushed at) lists matches
-      → AreThoseOf setup case root t (pushed (one_up at)) (take (length lists - 1) lists) (take (length matches - 1) matches)
-  less setup root None lists matches those =
+  less : (made : Made) (at : Option (List (List ℕ))) (lists : List Rules) (matches : List (Option Decision))
+      → AreThoseOf made s (pushed at) lists matches
+      → AreThoseOf made s (pushed (one_up at)) (take (length lists - 1) lists) (take (length matches - 1) matches)
+  less made None lists matches those =
       record {
         are_read = those.are_read;
         lists_are = ap (λ (xs : List Rules). take (length xs - 1) xs) those.lists_are;
-        matches_are = ap (λ (xs : List (Option Hit)). take (length xs - 1) xs) those.matches_are;
+        matches_are = ap (λ (xs : List (Option Decision)). take (length xs - 1) xs) those.matches_are;
       }
-  less setup root (Some names) lists matches those =
-      subst (λ ds. AreThoseOf setup case root t ds (take (length lists - 1) lists) (take (length matches - 1) matches)) (up-ancestors names)
-      (one_less setup case root t names lists matches those)
+  less made (Some names) lists matches those =
+      subst (λ ds. AreThoseOf made s ds (take (length lists - 1) lists) (take (length matches - 1) matches)) (up-ancestors names)
+      (one_less made s names lists matches those)
 
-  pub popped : (held held' : Held) (root root' : List ℕ) (at at' : Option (List (List ℕ)))
-      → held'.setup ≡ held.setup → root' ≡ root → at' ≡ one_up at
-      → held'.lists ≡ take (length held.lists - 1) held.lists → held'.matches ≡ take (length held.matches - 1) held.matches
-      → AreThoseOf held.setup case root t (pushed at) held.lists held.matches
-      → AreThoseOf held'.setup case root' t (pushed at') held'.lists held'.matches
-  popped held held' root root' at at' setups roots ats lists matches those =
-      said_of held.setup held'.setup root root' (pushed (one_up at)) (pushed at') (take (length held.lists - 1) held.lists) held'.lists (take (length held.matches - 1) held.matches) held'.matches
-      (sym setups) (sym roots) (ap pushed (sym ats)) (sym lists) (sym matches) (less held.setup root at held.lists held.matches those)
+  less-held : (made : Made) (at : Option (List (List ℕ))) (held : Option Held) → HoldsFor made s (pushed at) held → HoldsFor made s (pushed (one_up at)) (pop_level held)
+  less-held made at None holds = tt
+  less-held made at (Some held) holds = less made at held.lists held.matches holds
+
+  pub popped : (old new : Stacked) → made_of new ≡ made_of old → new.at ≡ one_up old.at → new.ignore ≡ pop_level old.ignore → IsInStep s old → IsInStep s new
+  popped old new made at ignore step =
+      subst (λ (h : Option Held). HoldsFor (made_of new) s (pushed new.at) h) (sym ignore)
+      (subst (λ (a : Option (List (List ℕ))). HoldsFor (made_of new) s (pushed a) (pop_level old.ignore)) (sym at)
+      (subst (λ (m : Made). HoldsFor m s (pushed (one_up old.at)) (pop_level old.ignore)) (sym made) (less-held (made_of old) old.at old.ignore step)))
 
   -- a directory is pushed
-  pub pushed_more : (held held' : Held) (root path : List ℕ) (names : List (List ℕ)) (list : Rules) (matched : Option Hit)
-      → path ≡ spelled names → reading held.setup t root path ≡ Ok list → matched ≡ own_hit held path (Some true) case
-      → held'.lists ≡ held.lists ++ list ∷ [] → held'.matches ≡ held.matches ++ matched ∷ []
-      → AreThoseOf held.setup case root t (ancestors names) held.lists held.matches
-      → AreThoseOf held.setup case root t (fronts names) held'.lists held'.matches
-  pushed_more held held' root path names list matched paths read own lists matches those =
-      said_of held.setup held.setup root root (fronts names) (fronts names) (held.lists ++ list ∷ []) held'.lists
-      (held.matches ++ own_hit held (spelled names) (Some true) case ∷ []) held'.matches
-      refl refl refl (sym lists)
-      (ap (λ (p : List ℕ). held.matches ++ own_hit held p (Some true) case ∷ []) (sym paths) ∙ ap (λ (m : Option Hit). held.matches ++ m ∷ []) (sym own) ∙ sym matches)
-      (one_more held.setup case root t names held.lists held.matches list those (ap (reading held.setup t root) (sym paths) ∙ read))
+  more-held : (root : List ℕ) (case : Case) (mappings : List Mapping) (held : Option Held) (names : List (List ℕ)) (list : Rules) (matched : Option Decision)
+      → reading (record { root = root; case = case; mappings = mappings; ignore = setup_of held }) s (spelled names) ≡ Ok list → matched ≡ own_if held (spelled names) (Some true) case
+      → HoldsFor (record { root = root; case = case; mappings = mappings; ignore = setup_of held }) s (ancestors names) held
+      → HoldsFor (record { root = root; case = case; mappings = mappings; ignore = setup_of held }) s (fronts names) (push_level list matched held)
+  more-held root case mappings None names list matched read own holds = tt
+  more-held root case mappings (Some held) names list matched read own holds =
+      subst (λ (m : Option Decision). AreThoseOf (record { root = root; case = case; mappings = mappings; ignore = Some held.setup }) s (fronts names) (held.lists ++ list ∷ []) (held.matches ++ m ∷ []))
+      (sym own) (one_more root case mappings held.setup s names held.lists held.matches list holds read)
+
+  pub pushed_more : (old : Stacked) (held : Option Held) (path : List ℕ) (list : Rules) (matched : Option Decision)
+      → path ≡ spelled old.current → reading (made_of old) s (spelled old.current) ≡ Ok list → matched ≡ own_if old.ignore path (Some true) old.case
+      → held ≡ push_level list matched old.ignore
+      → HoldsFor (made_of old) s (ancestors old.current) old.ignore → HoldsFor (made_of old) s (fronts old.current) held
+  pushed_more old held path list matched paths read own held_is holds =
+      subst (λ (h : Option Held). HoldsFor (made_of old) s (fronts old.current) h) (sym held_is)
+      (more-held old.root old.case old.mappings old.ignore old.current list matched read
+      (own ∙ ap (λ (p : List ℕ). own_if old.ignore p (Some true) old.case) paths) holds)
 
 -- the directories above one below the deepest one are those that are pushed
 pub pushed-below : (at : Option (List (List ℕ))) (names : List (List ℕ)) (name : List ℕ) → is_some at ≡ true → names ≡ names_at at ++ name ∷ []

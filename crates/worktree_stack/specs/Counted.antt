@@ -1,22 +1,22 @@
 -- What a stack counts: each count rises by one at what it counts, and stands still at the last value of its type.
-use Rattle.std.specs.Prelude.{ℕ, ◌+◌, ◌-◌, ◌^◌, min, true, List, [], ◌∷◌}
-use Rattle.worktree_fs.specs.Tree.{Names, Look, look, found, absent, too_many_links, file, link, directory, other}
+use Rattle.std.specs.Prelude.{ℕ, ◌+◌, false, List, [], ◌∷◌, Option, Some, None, Result, Ok, Err}
+use Rattle.gitbase_core.specs.Causes.{next as one_more}
+use Rattle.gitbase_core.specs.Objects.{Object, object_at, blob, other as other_object}
+use Rattle.worktree_fs.specs.Tree.{Look, look, found, absent, too_many_links, file, link, directory, other}
 use Rattle.worktree_fs.specs.PathStack.{Call, push_directory, push, pop_directory}
-use Rattle.worktree_stack.specs.declared.ignore_source.Source.{Source}
-use Rattle.worktree_stack.specs.declared.ignore_source.Source.TheVariants.{IdMapping, WorktreeThenIdMappingIfNotSkipped}
 use Rattle.worktree_stack.specs.declared.statistics.Statistics.{Statistics}
 use Rattle.worktree_stack.specs.declared.statistics.DelegateStatistics.{DelegateStatistics}
 use Rattle.worktree_stack.specs.declared.statistics.RulesStatistics.{RulesStatistics}
-use Rattle.worktree_stack.specs.Setup.{Setup}
-use Rattle.worktree_stack.specs.Reading.{rules_file}
-
-abbrev pub one_more : ℕ → ℕ
-one_more count = min (count + 1) (2 ^ 64 - 1)
+use Rattle.glob_rules.specs.declared.Case.{Case}
+use Rattle.worktree_stack.specs.Setup.{Made, Mapping, Held, bare}
+use Rattle.worktree_stack.specs.Stacked.{Stacked}
+use Rattle.worktree_stack.specs.Reading.{Sources, Refusal, Place, in_tree, in_store, list_at, places_of}
 
 -- zeros
 abbrev pub no_rules_read : RulesStatistics
 no_rules_read = record { patterns_buffers = 0; pattern_files = 0; tried_pattern_files = 0 }
 
+-- zeros for all that is counted
 abbrev pub no_statistics : Statistics
 no_statistics =
     record {
@@ -26,9 +26,9 @@ no_statistics =
       ignore = no_rules_read;
     }
 
--- one lookup more
-abbrev pub count_platform : Statistics → Statistics
-count_platform s = record s { platforms = one_more s.platforms }
+-- one lookup more, which is not answered yet
+abbrev pub count_platform : Stacked → Stacked
+count_platform s = record s { is_answered = false; statistics = record s.statistics { platforms = one_more s.statistics.platforms } }
 
 -- one step on the way more
 abbrev pub count_call : DelegateStatistics → Call → DelegateStatistics
@@ -36,6 +36,7 @@ count_call s (push_directory path) = record s { push_directory = one_more s.push
 count_call s (push path is_last) = record s { push_element = one_more s.push_element }
 count_call s pop_directory = record s { pop_directory = one_more s.pop_directory }
 
+-- and some steps more, one after the other
 abbrev pub count_calls : DelegateStatistics → List Call → DelegateStatistics
 count_calls s [] = s
 count_calls s (call ∷ calls) = count_calls (count_call s call) calls
@@ -49,36 +50,93 @@ count_file s (found other) = s
 count_file s absent = record s { tried_pattern_files = one_more s.tried_pattern_files }
 count_file s too_many_links = s
 
-abbrev pub count_reading : Source → Setup → Names → List ℕ → RulesStatistics → List ℕ → RulesStatistics
-count_reading IdMapping setup t root s d = s
-count_reading WorktreeThenIdMappingIfNotSkipped setup t root s d = count_file s (look t (rules_file root setup d) true)
+-- a blob that was asked for, by what is under its id
+abbrev pub count_blob : RulesStatistics → Option Object → RulesStatistics
+count_blob s (Some (blob bytes)) = record s { patterns_buffers = one_more s.patterns_buffers }
+count_blob s (Some other_object) = s
+count_blob s None = s
 
--- the rules files that are read on the way
-abbrev pub count_readings : Setup → Names → List ℕ → RulesStatistics → List Call → RulesStatistics
-count_readings setup t root s [] = s
-count_readings setup t root s (push_directory path ∷ calls) = count_readings setup t root (count_reading setup.source setup t root s path) calls
-count_readings setup t root s (push path is_last ∷ calls) = count_readings setup t root s calls
-count_readings setup t root s (pop_directory ∷ calls) = count_readings setup t root s calls
+-- and of one place, by what is there
+abbrev pub count_at : Sources → RulesStatistics → Place → RulesStatistics
+count_at sources s (in_tree path follow) = count_file s (look sources.tree path follow)
+count_at sources s (in_store path id) = count_blob s (object_at sources.objects id)
 
--- how many rules files were looked for in the worktree, one in each directory that is pushed; none where rules come from
--- mappings alone
-abbrev pub try_from : Source → ℕ → ℕ
-try_from IdMapping count = count
-try_from WorktreeThenIdMappingIfNotSkipped count = one_more count
+-- where a place has no list, the next ones are asked
+abbrev pub count_next : Result (Option (List ℕ)) Refusal → RulesStatistics → RulesStatistics → RulesStatistics
+count_next (Ok None) here next = next
+count_next (Ok (Some bytes)) here next = here
+count_next (Err refusal) here next = here
 
-abbrev pub count_tried : Source → ℕ → List Call → ℕ
-count_tried source count [] = count
-count_tried source count (push_directory path ∷ calls) = count_tried source (try_from source count) calls
-count_tried source count (push path is_last ∷ calls) = count_tried source count calls
-count_tried source count (pop_directory ∷ calls) = count_tried source count calls
+-- the places that are asked for the rules of a directory
+abbrev pub count_places : Sources → RulesStatistics → List Place → RulesStatistics
+count_places sources s [] = s
+count_places sources s (place ∷ places) = count_next (list_at sources place) (count_at sources s place) (count_places sources (count_at sources s place) places)
 
--- how many files those are
-abbrev pub tries_from : Source → ℕ
-tries_from IdMapping = 0
-tries_from WorktreeThenIdMappingIfNotSkipped = 1
+-- and those that are asked on the way
+abbrev pub count_readings : Made → Sources → RulesStatistics → List Call → RulesStatistics
+count_readings made sources s [] = s
+count_readings made sources s (push_directory path ∷ calls) = count_readings made sources (count_places sources s (places_of made path)) calls
+count_readings made sources s (push path is_last ∷ calls) = count_readings made sources s calls
+count_readings made sources s (pop_directory ∷ calls) = count_readings made sources s calls
 
-abbrev pub tries : Source → List Call → ℕ
-tries source [] = 0
-tries source (push_directory path ∷ calls) = tries_from source + tries source calls
-tries source (push path is_last ∷ calls) = tries source calls
-tries source (pop_directory ∷ calls) = tries source calls
+-- how many rules files were looked for in the worktree, with those of some places
+abbrev pub try_at : ℕ → List Place → ℕ
+try_at count [] = count
+try_at count (in_tree path follow ∷ places) = try_at (one_more count) places
+try_at count (in_store path id ∷ places) = try_at count places
+
+-- the rules files among some places were looked for, and nothing else is counted
+abbrev pub tried_at : List Place → RulesStatistics → RulesStatistics
+tried_at places s = record s { tried_pattern_files = try_at s.tried_pattern_files places }
+
+-- how many rules files were looked for in the worktree, with those on the way
+abbrev pub count_tried : Made → ℕ → List Call → ℕ
+count_tried made count [] = count
+count_tried made count (push_directory path ∷ calls) = count_tried made (try_at count (places_of made path)) calls
+count_tried made count (push path is_last ∷ calls) = count_tried made count calls
+count_tried made count (pop_directory ∷ calls) = count_tried made count calls
+
+-- how many of some places are in the worktree, and how many in the store
+abbrev pub files_in : List Place → ℕ
+files_in [] = 0
+files_in (in_tree path follow ∷ places) = 1 + files_in places
+files_in (in_store path id ∷ places) = files_in places
+
+-- how many of some places are in the store
+abbrev pub blobs_in : List Place → ℕ
+blobs_in [] = 0
+blobs_in (in_tree path follow ∷ places) = blobs_in places
+blobs_in (in_store path id ∷ places) = 1 + blobs_in places
+
+-- and how many on the way
+abbrev pub files_on : Made → List Call → ℕ
+files_on made [] = 0
+files_on made (push_directory path ∷ calls) = files_in (places_of made path) + files_on made calls
+files_on made (push path is_last ∷ calls) = files_on made calls
+files_on made (pop_directory ∷ calls) = files_on made calls
+
+-- and in the store
+abbrev pub blobs_on : Made → List Call → ℕ
+blobs_on made [] = 0
+blobs_on made (push_directory path ∷ calls) = blobs_in (places_of made path) + blobs_on made calls
+blobs_on made (push path is_last ∷ calls) = blobs_on made calls
+blobs_on made (pop_directory ∷ calls) = blobs_on made calls
+
+-- a stack on which nothing is pushed and nothing is counted, with what its exclude state holds
+abbrev pub unpushed : List ℕ → Case → List Mapping → Option Held → Stacked
+unpushed root case mappings ignore =
+    record {
+      root = root;
+      case = case;
+      mappings = mappings;
+      ignore = ignore;
+      at = None;
+      current = [];
+      is_dir = None;
+      is_answered = false;
+      statistics = no_statistics;
+    }
+
+-- a stack that was made as another one, with nothing pushed and nothing counted
+abbrev pub fresh : Stacked → Stacked
+fresh s = unpushed s.root s.case s.mappings (bare s.ignore)

@@ -1,9 +1,13 @@
-pub mod Setup
 pub mod Excludes
+pub mod Setup
+pub mod Decided
 pub mod Reading
 pub mod Stacked
 pub mod Refused
 pub mod Counted
 pub mod Lookups
 pub mod Steps
+pub mod Placed
+pub mod LooksUp
 pub mod Lending
+pub mod Mappings

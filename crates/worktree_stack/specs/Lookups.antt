@@ -1,17 +1,15 @@
 -- Where a lookup leaves a stack.
-use Rattle.std.specs.Prelude.{◌≡◌, ℕ, ◌++◌, ◌||◌, ◌==◌, Bool, true, false, if◌then◌else◌, List, [], ◌∷◌, Option, Some, None, option_map, Result, Ok, Err}
+use Rattle.std.specs.Prelude.{◌≡◌, ℕ, ◌++◌, ◌||◌, ◌==◌, Bool, true, false, if◌then◌else◌, List, [], ◌∷◌, length, Option, Some, None, option_map, Result, Ok, Err}
 use Rattle.gitbase_core.specs.declared.entry.Mode.{Mode}
 use Rattle.gitbase_core.specs.Entry.{mode_bits, commit_mode, dir_mode}
 use Rattle.gitbase_core.specs.Path.{ends_in_slash}
 use Rattle.worktree_fs.specs.Paths.{spelled, without_last}
 use Rattle.worktree_fs.specs.PathStack.{push, kept, names_at}
 use Rattle.worktree_stack.specs.Counted.{count_call}
-use Rattle.glob_rules.specs.declared.ignore.Kind.{Kind}
-use Rattle.gitbase_core.specs.Path.{components}
-use Rattle.worktree_fs.specs.Tree.{Names}
-use Rattle.worktree_stack.specs.Setup.{excluded_kind}
-use Rattle.worktree_stack.specs.Excludes.{exclude, rule_of}
-use Rattle.worktree_stack.specs.Stacked.{Stacked, Made, rulebook_of}
+use Rattle.worktree_stack.specs.Setup.{Made, Setup}
+use Rattle.worktree_stack.specs.declared.ignore_source.Source.{Source}
+use Rattle.worktree_stack.specs.declared.ignore_source.Source.TheVariants.{IdMapping, WorktreeThenIdMappingIfNotSkipped}
+use Rattle.worktree_stack.specs.Stacked.{Stacked}
 
 -- whether a path is a directory, by its mode: nothing is known without one, and submodules count as directories
 abbrev pub is_dir_of : Option Mode → Option Bool
@@ -22,10 +20,29 @@ abbrev pub is_dir_of_entry : List ℕ → Option Mode → Option Bool
 is_dir_of_entry path None = if ends_in_slash path then Some true else None
 is_dir_of_entry path (Some mode) = is_dir_of (Some mode)
 
+-- whether rules files are looked for in the worktree
+abbrev pub asks_for : Source → Bool
+asks_for IdMapping = false
+asks_for WorktreeThenIdMappingIfNotSkipped = true
+
+-- and by an exclude state, if there is one
+abbrev pub asks_if : Option Setup → Bool
+asks_if None = false
+asks_if (Some setup) = asks_for setup.source
+
+-- a stack that was made so looks for rules files in the worktree
+abbrev pub asks_worktree : Made → Bool
+asks_worktree made = asks_if made.ignore
+
 -- a path stands looked up: exactly its proper ancestors are pushed, for the empty path the root alone
 pub record IsLookedUp (s : Stacked) (names : List (List ℕ)) : Type 0 where
   pub at : s.at ≡ Some (without_last names)
   pub current : s.current ≡ names
+
+-- a path lies in a directory: behind its components there is one more
+pub record IsIn (directory path name : List (List ℕ)) : Type 0 where
+  pub path_is : path ≡ directory ++ name
+  pub one : length name ≡ 1
 
 -- the directories that stay pushed in a lookup
 abbrev pub staying : Option (List (List ℕ)) → List (List ℕ) → Option (List (List ℕ))
@@ -44,7 +61,3 @@ stepped s name =
 abbrev pub refused_one : {T E : Type 0} → Result T E → ℕ
 refused_one (Ok done) = 0
 refused_one (Err error) = 1
-
--- what becomes of a path in a tree by the rules of a stack that was made so, where nothing is known of its kind
-unfoldable pub kind_alone : Made → Names → List ℕ → Option Kind
-kind_alone made t path = excluded_kind (rule_of (exclude (rulebook_of made t) (components path) None))

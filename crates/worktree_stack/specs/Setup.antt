@@ -1,55 +1,117 @@
--- What the exclude state of a stack holds.
-use Rattle.std.specs.Prelude.{ℕ, Bool, List, [], ◌∷◌, reverse, Option, Some, None, codes, false, not, if◌then◌else◌}
+-- What a stack was made with, and what it holds of each directory that is pushed.
+use Rattle.std.specs.Option.{option_or}
+use Rattle.std.specs.Prelude.{ℕ, ◌-◌, Bool, List, [], ◌∷◌, ◌++◌, length, take, slice_get, Option, Some, None, option_map, is_some, false, codes, if◌then◌else◌}
+use Rattle.std.specs.Str.{bytes_eq}
 use Rattle.glob_rules.specs.declared.Case.{Case}
 use Rattle.glob_rules.specs.declared.ignore.Kind.{Kind}
-use Rattle.glob_rules.specs.Ignore.{Rules, Hit, hit_or, search_hit}
+use Rattle.glob_rules.specs.declared.ignore.RuleGroup.TheVariants.{Overrides, Directory, Globals}
+use Rattle.glob_rules.specs.Ignore.{Rules, Hit, search_hit, search_place}
 use Rattle.worktree_stack.specs.declared.ignore_source.Source.{Source}
+use Rattle.worktree_stack.specs.Excludes.{Decision, by_group, is_positive, decisive}
 
--- What it was made with: lists above and below those of directories, the name of a directory's rules file, where such files
--- are read, and whether a leading `$` makes a rule precious.
+-- What an exclude state was made with: lists above and below those of directories, the name of a directory's rules file, where
+-- such files are read, whether a leading `$` makes a rule precious, and whether an excluded directory keeps all beneath it
+-- excluded.
 pub record Setup : Type 0 where
   pub overrides : List Rules
   pub globals : List Rules
   pub file_name : List ℕ
   pub source : Source
   pub precious : Bool
+  pub strict : Bool
+
+-- The path of a rules file, and the id of the blob that it is mapped to.
+abbrev pub Mapping : Type 0
+Mapping = List ℕ × List ℕ
+
+-- What a stack was made with: its root, how letters compare, the blobs of rules files, and its exclude state, if it has one.
+pub record Made : Type 0 where
+  pub root : List ℕ
+  pub case : Case
+  pub mappings : List Mapping
+  pub ignore : Option Setup
+
+-- it tells which paths are excluded
+abbrev pub has_excludes : Made → Bool
+has_excludes made = is_some made.ignore
+
+-- it tells the attributes of paths; no state does that yet
+abbrev pub has_attributes : Made → Bool
+has_attributes made = false
+
+-- the blob that a path is mapped to
+abbrev pub mapped_to : List Mapping → List ℕ → Option (List ℕ)
+mapped_to [] path = None
+mapped_to (mapping ∷ more) path = if bytes_eq mapping.0 path then Some mapping.1 else mapped_to more path
 
 -- `.gitignore`, where no name was given
 abbrev pub file_name_or_default : Option (List ℕ) → List ℕ
 file_name_or_default None = codes ".gitignore"
 file_name_or_default (Some name) = name
 
--- With that, for each directory that is pushed, the root first: its rules, and the rule that holds for it by itself.
+-- With that, for each directory that is pushed, the root first: its rules, and its own match.
 pub record Held : Type 0 where
   pub setup : Setup
   pub lists : List Rules
-  pub matches : List (Option Hit)
+  pub matches : List (Option Decision)
 
--- the rule that holds for a path by itself: of the overrides, else of a pushed directory, else of the globals
-abbrev pub own_hit : Held → List ℕ → Option Bool → Case → Option Hit
-own_hit held path is_dir case =
-    hit_or (search_hit held.setup.overrides path is_dir case)
-    (hit_or (search_hit held.lists path is_dir case) (search_hit held.setup.globals path is_dir case))
+-- what an exclude state was made with, if there is one
+abbrev pub setup_of : Option Held → Option Setup
+setup_of held = option_map (λ (h : Held). h.setup) held
 
--- the first of some rules that is there
-abbrev pub first_rule : List (Option Hit) → Option Hit
-first_rule [] = None
-first_rule (rule ∷ rest) = hit_or rule (first_rule rest)
+-- with one more directory
+abbrev pub push_level : Rules → Option Decision → Option Held → Option Held
+push_level list matched held = option_map (λ (h : Held). record h { lists = h.lists ++ list ∷ []; matches = h.matches ++ matched ∷ [] }) held
 
--- the rule of the last pushed directory that one holds for
-abbrev pub directory_hit : Held → Option Hit
-directory_hit held = first_rule (reverse held.matches)
+-- with one directory less
+abbrev pub pop_level : Option Held → Option Held
+pop_level held = option_map (λ (h : Held). record h { lists = take (length h.lists - 1) h.lists; matches = take (length h.matches - 1) h.matches }) held
 
--- there is a rule, and it excludes
-abbrev pub excludes : Option Hit → Bool
-excludes None = false
-excludes (Some rule) = not rule.pattern.is_negative
+-- with no directory pushed
+abbrev pub bare : Option Held → Option Held
+bare held = option_map (λ (h : Held). record h { lists = []; matches = [] }) held
 
--- the rule that decides about a path beneath the pushed directories; the empty path lies beneath none
-abbrev pub deciding_hit : Held → List ℕ → Option Bool → Case → Option Hit
-deciding_hit held [] is_dir case = own_hit (record held { lists = [] }) [] is_dir case
-deciding_hit held (b ∷ bytes) is_dir case =
-    if excludes (directory_hit held) then directory_hit held else hit_or (own_hit held (b ∷ bytes) is_dir case) (directory_hit held)
+-- the rule of the list with this number; the root's is the first
+abbrev pub by_place : Option (ℕ × Hit) → Option Decision
+by_place place = option_map (λ (p : ℕ × Hit). record { group = Directory p.0; rule = p.1 }) place
+
+-- the own match of a path: in the overrides, else in the lists of pushed directories, else in the globals
+abbrev pub own_decision : Held → List ℕ → Option Bool → Case → Option Decision
+own_decision held path is_dir case =
+    option_or (by_group Overrides (search_hit held.setup.overrides path is_dir case))
+    (option_or (by_place (search_place held.lists path is_dir case))
+    (by_group Globals (search_hit held.setup.globals path is_dir case)))
+
+-- the decision that is there, where one was found
+abbrev pub decision_in : Option (Option Decision) → Option Decision
+decision_in None = None
+decision_in (Some decision) = decision
+
+-- the own match of the pushed directory of this number
+abbrev pub decision_of : List (Option Decision) → Option ℕ → Option Decision
+decision_of matches None = None
+decision_of matches (Some number) = decision_in (slice_get matches number)
+
+-- the own match of a pushed directory that decides about a path beneath all of them
+abbrev pub directory_decision : Held → Option Decision
+directory_decision held = decisive held.setup.strict held.matches
+
+-- what decides about a path beneath the pushed directories; the empty path lies beneath none
+abbrev pub deciding : Held → List ℕ → Option Bool → Case → Option Decision
+deciding held [] is_dir case = own_decision (record held { lists = [] }) [] is_dir case
+deciding held (b ∷ bytes) is_dir case =
+    if is_positive (directory_decision held) then directory_decision held
+    else option_or (own_decision held (b ∷ bytes) is_dir case) (directory_decision held)
+
+-- the same where there are rules
+abbrev pub own_if : Option Held → List ℕ → Option Bool → Case → Option Decision
+own_if None path is_dir case = None
+own_if (Some held) path is_dir case = own_decision held path is_dir case
+
+-- and what decides about a path
+abbrev pub deciding_if : Option Held → List ℕ → Option Bool → Case → Option Decision
+deciding_if None path is_dir case = None
+deciding_if (Some held) path is_dir case = deciding held path is_dir case
 
 -- what becomes of a path with this rule: none where it is not excluded
 abbrev pub excluded_kind : Option Hit → Option Kind

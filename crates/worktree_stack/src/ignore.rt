@@ -1,13 +1,15 @@
 //! The rules that exclude paths: those of a caller, and those of the directories on the way to a path.
-ghost use Rattle.std.specs.Prelude.{◌≡◌, ◌≤◌, ◌+◌, ◌-◌, ◌++◌, [], ◌∷◌, true, Some, IfOk, IfErr, OnOk, OnErr, option_map, reverse, length, take};
-ghost use Rattle.glob_rules.specs.Ignore.{match_of, hit_or, search_hit};
-ghost use Rattle.worktree_stack.specs.Setup.{Held, file_name_or_default, own_hit, first_rule, directory_hit, deciding_hit};
+ghost use Rattle.std.specs.Prelude.{◌≡◌, ◌≤◌, ◌+◌, ◌-◌, ◌++◌, [], ◌∷◌, true, false, Some, IfOk, IfErr, OnOk, OnErr, option_map, is_some, reverse, length, take};
+ghost use Rattle.glob_rules.specs.Ignore.{search_hit, search_place};
+ghost use Rattle.worktree_stack.specs.Excludes.{by_group, first_decision, first_positive, decisive, is_positive};
+ghost use Rattle.worktree_stack.specs.Setup.{Held, push_level, pop_level, bare, file_name_or_default, by_place, decision_of, own_decision, directory_decision, deciding};
+ghost use Rattle.worktree_stack.specs.Decided.{decided_of};
 
 use crate::ignore_source::Source;
-use crate::matched::Matched;
+use crate::matched::{Decided, Matched};
 use gitbase_core::{Bytes, OutOfMemory};
 use glob_rules::Case;
-use glob_rules::ignore::{List, Match, ParseIgnore, Search};
+use glob_rules::ignore::{List, ParseIgnore, RuleGroup, Search};
 use std::alloc::Global;
 use std::marker::Model;
 
@@ -21,10 +23,13 @@ pub struct Ignore {
     exclude_file_name_for_directories: Bytes,
     source: Source,
     parse: ParseIgnore,
+    strict_parents: bool,
     /// The rules of each pushed directory, the root's first.
     stack: Search,
     /// The own match of each pushed directory, the root's first.
     matched_directories: Vec<Option<Matched>>,
+    /// Which of these decides about the paths beneath all of them; kept, so that it is searched only where a directory is popped.
+    deciding_directory: Option<usize>,
 }
 
 impl Model for Ignore {
@@ -33,10 +38,16 @@ impl Model for Ignore {
     ghost Value = { Held };
 
     ghost view = { λ i. record {
-      setup = record { overrides = i.overrides; globals = i.globals; file_name = i.exclude_file_name_for_directories; source = i.source; precious = i.parse.support_precious };
+      setup = record { overrides = i.overrides; globals = i.globals; file_name = i.exclude_file_name_for_directories; source = i.source; precious = i.parse.support_precious; strict = i.strict_parents };
       lists = i.stack;
       matches = i.matched_directories.items;
     } };
+
+    ghost use Rattle.std.specs.Prelude.{◌≡◌};
+    ghost use Rattle.worktree_stack.specs.Excludes.{decisive};
+    ghost use Rattle.worktree_stack.specs.Setup.{decision_of};
+
+    ghost invariant = { λ i. decision_of i.matched_directories.items i.deciding_directory ≡ decisive i.strict_parents i.matched_directories.items };
 }
 
 impl Ignore {
@@ -55,9 +66,11 @@ impl Ignore {
     ) -> Result<Ignore, OutOfMemory>
         ensures overrides { IfOk result (λ ignore. ignore.setup.overrides ≡ overrides) }
         ensures globals { IfOk result (λ ignore. ignore.setup.globals ≡ globals) }
-        ensures file_name { IfOk result (λ ignore. ignore.setup.file_name ≡ file_name_or_default exclude_file_name_for_directories) }
+        ensures file_name { IfOk result (λ ignore. ignore.setup.file_name ≡ file_name_or_default
+            exclude_file_name_for_directories) }
         ensures source { IfOk result (λ ignore. ignore.setup.source ≡ source) }
         ensures precious { IfOk result (λ ignore. ignore.setup.precious ≡ parse.support_precious) }
+        ensures strict { IfOk result (λ ignore. ignore.setup.strict ≡ false) }
         ensures lists { IfOk result (λ ignore. ignore.lists ≡ []) }
         ensures matches { IfOk result (λ ignore. ignore.matches ≡ []) }
     {
@@ -71,8 +84,37 @@ impl Ignore {
             exclude_file_name_for_directories: name,
             source,
             parse,
+            strict_parents: false,
             stack: Search::new(alloc),
             matched_directories: Vec::new(alloc),
+            deciding_directory: None,
+        })
+    }
+
+    /// The same rules, with strict parents or without: with them all beneath an excluded directory is excluded. Takes no memory.
+    pub fn with_strict_parents(self, on: bool) -> Ignore
+        ensures { result ≡ record self { setup = record self.setup { strict = on } } }
+    {
+        let mut ignore = self;
+        ignore.deciding_directory = deciding_directory(&ignore.matched_directories, on);
+        ignore.strict_parents = on;
+        ignore
+    }
+
+    /// The same rules with no directory pushed; fails only where memory is refused.
+    pub(crate) fn fresh(&self, alloc: Global) -> Result<Ignore, OutOfMemory>
+        ensures { IfOk result (λ ignore. Some ignore ≡ bare (Some self.now)) }
+    {
+        Ok(Ignore {
+            overrides: self.overrides.copy(alloc)?,
+            globals: self.globals.copy(alloc)?,
+            exclude_file_name_for_directories: Bytes::from_slice(alloc, self.file_name())?,
+            source: self.source,
+            parse: self.parse,
+            strict_parents: self.strict_parents,
+            stack: Search::new(alloc),
+            matched_directories: Vec::new(alloc),
+            deciding_directory: None,
         })
     }
 
@@ -104,38 +146,45 @@ impl Ignore {
         list: List,
         matched: Option<Matched>,
     ) -> Result<(), OutOfMemory>
-        ensures setup { self.new.setup ≡ self.old.setup }
-        ensures lists { OnOk result (self.new.lists ≡ self.old.lists ++ list ∷ []) }
-        ensures matches { OnOk result (self.new.matches ≡ self.old.matches ++ matched ∷ []) }
+        ensures pushed { OnOk result (Some self.new ≡ push_level list matched (Some self.old)) }
         ensures refused { OnErr result (self.new ≡ self.old) }
     {
+        let decides = deciding_with(
+            &self.matched_directories,
+            self.deciding_directory,
+            &matched,
+            self.strict_parents,
+        );
         self.matched_directories.push(matched)?;
         if let Err(refused) = self.stack.push_list(alloc, list) {
             self.matched_directories.pop();
             return Err(refused);
         }
+        self.deciding_directory = decides;
         Ok(())
     }
 
     /// Drops what was pushed last.
     pub(crate) fn pop_directory(&mut self)
-        ensures setup { self.new.setup ≡ self.old.setup }
-        ensures lists { self.new.lists ≡ take (length self.old.lists - 1) self.old.lists }
-        ensures matches { self.new.matches ≡ take (length self.old.matches - 1) self.old.matches }
+        ensures { Some self.new ≡ pop_level (Some self.old) }
     {
         self.matched_directories.pop();
+        self.deciding_directory = deciding_directory(
+            &self.matched_directories,
+            self.strict_parents,
+        );
         self.stack.pop_list();
     }
 
-    /// The rule that holds for a path by itself: of the overrides, else of the pushed directories from the last up, else of
-    /// the globals.
+    /// The own match of a path: in the overrides, else in the lists of the pushed directories from the last up, else in the
+    /// globals.
     pub(crate) fn own_match(
         &self,
         path: &[u8],
         is_dir: Option<bool>,
         case: Case,
-    ) -> Option<Match<'_>>
-        ensures { option_map match_of result ≡ own_hit self.now path.now is_dir case }
+    ) -> Option<Decided<'_>>
+        ensures { option_map decided_of result ≡ own_decision self.now path.now is_dir case }
     {
         if let Some(found) = self.match_in_overrides(path, is_dir, case) {
             return Some(found);
@@ -146,9 +195,9 @@ impl Ignore {
         self.match_in_globals(path, is_dir, case)
     }
 
-    /// The rule that holds for the empty path by itself, beneath no directory.
-    fn match_of_root(&self, is_dir: Option<bool>, case: Case) -> Option<Match<'_>>
-        ensures { option_map match_of result ≡ deciding_hit self.now [] is_dir case }
+    /// The own match of the empty path, beneath no directory.
+    fn match_of_root(&self, is_dir: Option<bool>, case: Case) -> Option<Decided<'_>>
+        ensures { option_map decided_of result ≡ deciding self.now [] is_dir case }
     {
         match self.match_in_overrides(&[], is_dir, case) {
             Some(found) => Some(found),
@@ -157,11 +206,25 @@ impl Ignore {
     }
 
     /// The last rule of the overrides that matches a path.
-    fn match_in_overrides(&self, path: &[u8], is_dir: Option<bool>, case: Case) -> Option<Match<'_>>
-        ensures { option_map match_of result ≡ search_hit self.now.setup.overrides path.now is_dir case }
+    fn match_in_overrides(
+        &self,
+        path: &[u8],
+        is_dir: Option<bool>,
+        case: Case,
+    ) -> Option<Decided<'_>>
+        ensures { option_map decided_of result ≡ by_group RuleGroup.Overrides
+            (search_hit self.now.setup.overrides path.now is_dir case) }
     {
-        self.overrides
+        match self
+            .overrides
             .pattern_matching_relative_path(path, is_dir, case)
+        {
+            Some(found) => Some(Decided {
+                group: RuleGroup::Overrides,
+                found,
+            }),
+            None => None,
+        }
     }
 
     /// The last rule of the nearest pushed directory that has one which matches a path.
@@ -170,44 +233,58 @@ impl Ignore {
         path: &[u8],
         is_dir: Option<bool>,
         case: Case,
-    ) -> Option<Match<'_>>
-        ensures { option_map match_of result ≡ search_hit self.now.lists path.now is_dir case }
+    ) -> Option<Decided<'_>>
+        ensures { option_map decided_of result ≡ by_place (search_place self.now.lists path.now
+            is_dir case) }
     {
-        self.stack
-            .pattern_matching_relative_path(path, is_dir, case)
+        match self.stack.place_matching_relative_path(path, is_dir, case) {
+            Some((depth, found)) => Some(Decided {
+                group: RuleGroup::Directory { depth },
+                found,
+            }),
+            None => None,
+        }
     }
 
     /// The last rule of the globals that matches a path.
-    fn match_in_globals(&self, path: &[u8], is_dir: Option<bool>, case: Case) -> Option<Match<'_>>
-        ensures { option_map match_of result ≡ search_hit self.now.setup.globals path.now is_dir case }
+    fn match_in_globals(&self, path: &[u8], is_dir: Option<bool>, case: Case) -> Option<Decided<'_>>
+        ensures { option_map decided_of result ≡ by_group RuleGroup.Globals
+            (search_hit self.now.setup.globals path.now is_dir case) }
     {
-        self.globals
+        match self
+            .globals
             .pattern_matching_relative_path(path, is_dir, case)
-    }
-
-    /// The own match of the nearest pushed directory that has one.
-    fn directory_match(&self) -> Option<Match<'_>>
-        ensures { option_map match_of result ≡ directory_hit self.now }
-    {
-        let mut at = self.matched_directories.len();
-        while at > 0 {
-            at -= 1;
-            if let Some(matched) = &self.matched_directories[at] {
-                return Some(matched.as_match());
-            }
+        {
+            Some(found) => Some(Decided {
+                group: RuleGroup::Globals,
+                found,
+            }),
+            None => None,
         }
-        None
     }
 
-    /// The rule that decides about a path: the own match of the nearest pushed directory that has one where that excludes
-    /// it, else the match of the path itself, else what such a directory has.
-    pub(crate) fn matching_exclude_pattern(
+    /// The own match of a pushed directory that decides about the paths beneath all of them.
+    fn directory_match(&self) -> Option<Decided<'_>>
+        ensures { option_map decided_of result ≡ directory_decision self.now }
+    {
+        let Some(at) = self.deciding_directory else {
+            return None;
+        };
+        match self.matched_directories.get(at) {
+            Some(Some(matched)) => Some(matched.as_decided()),
+            _ => None,
+        }
+    }
+
+    /// What decides about a path: the own match of a pushed directory where that excludes it, else the match of the path
+    /// itself, else what such a directory has.
+    pub(crate) fn deciding(
         &self,
         path: &[u8],
         is_dir: Option<bool>,
         case: Case,
-    ) -> Option<Match<'_>>
-        ensures { option_map match_of result ≡ deciding_hit self.now path.now is_dir case }
+    ) -> Option<Decided<'_>>
+        ensures { option_map decided_of result ≡ deciding self.now path.now is_dir case }
     {
         if path.is_empty() {
             return self.match_of_root(is_dir, case);
@@ -215,12 +292,109 @@ impl Ignore {
         let Some(above) = self.directory_match() else {
             return self.own_match(path, is_dir, case);
         };
-        if !above.pattern.is_negative() {
+        if !above.found.pattern.is_negative() {
             return Some(above);
         }
         match self.own_match(path, is_dir, case) {
             Some(own) => Some(own),
             None => Some(above),
         }
+    }
+}
+
+/// Which of the own matches of pushed directories decides about the paths beneath all of them.
+fn deciding_directory(matches: &[Option<Matched>], strict: bool) -> Option<usize>
+    ensures { decision_of matches.now result ≡ decisive strict matches.now }
+{
+    if strict {
+        return first_excluding(matches);
+    }
+    nearest(matches)
+}
+
+/// Which decides with one more, where `decides` does without it; nothing is searched.
+fn deciding_with(
+    matches: &[Option<Matched>],
+    decides: Option<usize>,
+    more: &Option<Matched>,
+    strict: bool,
+) -> Option<usize>
+    requires { decision_of matches.now decides ≡ decisive strict matches.now }
+    ensures { decision_of (matches.now ++ more.now ∷ []) result ≡ decisive strict
+        (matches.now ++ more.now ∷ []) }
+{
+    if strict {
+        return first_excluding_with(matches, decides, more);
+    }
+    if more.is_some() {
+        return Some(matches.len());
+    }
+    decides
+}
+
+/// Which decides with one more, where parents are strict.
+fn first_excluding_with(
+    matches: &[Option<Matched>],
+    decides: Option<usize>,
+    more: &Option<Matched>,
+) -> Option<usize>
+    requires { decision_of matches.now decides ≡ first_positive matches.now }
+    ensures { decision_of (matches.now ++ more.now ∷ []) result ≡ first_positive
+        (matches.now ++ more.now ∷ []) }
+{
+    if has_decision(matches, decides) {
+        return decides;
+    }
+    if excludes(more) {
+        return Some(matches.len());
+    }
+    None
+}
+
+/// Whether the directory of this number has an own match.
+fn has_decision(matches: &[Option<Matched>], number: Option<usize>) -> bool
+    ensures { result ≡ is_some (decision_of matches.now number) }
+{
+    let Some(at) = number else {
+        return false;
+    };
+    matches!(matches.get(at), Some(Some(_)))
+}
+
+/// The nearest directory that has an own match.
+fn nearest(matches: &[Option<Matched>]) -> Option<usize>
+    ensures { decision_of matches.now result ≡ first_decision (reverse matches.now) }
+{
+    let mut at = matches.len();
+    while at > 0 {
+        at -= 1;
+        if matches[at].is_some() {
+            return Some(at);
+        }
+    }
+    None
+}
+
+/// The directory nearest to the root that is excluded by its own match.
+fn first_excluding(matches: &[Option<Matched>]) -> Option<usize>
+    ensures { decision_of matches.now result ≡ first_positive matches.now }
+{
+    let mut at = 0;
+    while at < matches.len() {
+        if excludes(&matches[at]) {
+            return Some(at);
+        }
+        at += 1;
+    }
+    None
+}
+
+/// Whether an own match excludes.
+fn excludes(matched: &Option<Matched>) -> bool
+    ensures { result ≡ is_positive matched.now }
+{
+    match matched {
+        Some(matched) => !matched.is_negative(),
+        None => false,
     }
 }

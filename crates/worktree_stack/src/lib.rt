@@ -4,9 +4,9 @@
 pub mod error;
 pub mod ignore;
 pub mod ignore_source;
+mod mappings;
 mod matched;
 mod platform;
-mod reading;
 pub mod stack;
 pub mod state;
 pub mod statistics;
@@ -14,10 +14,8 @@ pub mod validate;
 
 pub use error::{AtPathError, BlobWhy, DirectoryWhy, RulesWhy};
 pub use ignore::Ignore;
+pub use mappings::PathIdMapping;
 pub use platform::Platform;
-pub use stack::{PathIdMapping, Stack};
+pub use stack::Stack;
 pub use state::State;
 pub use statistics::{DelegateStatistics, RulesStatistics, Statistics};
-
-#[cfg(test)]
-mod tests;

@@ -1,20 +1,30 @@
-//! A match that is kept longer than the lists that it came from.
+//! What decides about a path: a rule, and the group of lists that it comes from.
 ghost use Rattle.std.specs.Prelude.{◌≡◌, Some, true, IfOk, option_copied};
-ghost use Rattle.glob_rules.specs.Ignore.{match_of};
-ghost use Rattle.worktree_stack.specs.Setup.{own_hit};
+ghost use Rattle.worktree_stack.specs.Setup.{own_if};
+ghost use Rattle.worktree_stack.specs.Decided.{decided_of};
 
 use crate::Ignore;
 use gitbase_core::{OutOfMemory, PathText};
-use glob_rules::ignore::{Kind, Match};
+use glob_rules::ignore::{Kind, Match, RuleGroup};
 use glob_rules::{Case, Pattern};
 use std::alloc::Global;
 use std::marker::Model;
 
-/// The rule that holds for a directory, with what a match says of it.
+/// A rule that decides about a path, with the group of lists that it comes from.
+///
+/// Contracts see what the match refers to.
+#[derive(Clone, Copy)]
+pub struct Decided<'a> {
+    pub group: RuleGroup,
+    pub found: Match<'a>,
+}
+
+/// The rule that holds for a directory, kept longer than the lists that it came from.
 ///
 /// Contracts see what a match refers to.
 #[derive(Drop)]
 pub struct Matched {
+    group: RuleGroup,
     pattern: Pattern,
     kind: Kind,
     source: Option<PathText>,
@@ -22,23 +32,25 @@ pub struct Matched {
 }
 
 impl Model for Matched {
-    ghost use Rattle.glob_rules.specs.Ignore.{Hit};
+    ghost use Rattle.worktree_stack.specs.Excludes.{Decision};
 
-    ghost Value = { Hit };
+    ghost Value = { Decision };
 
-    ghost view = { λ m. record { pattern = m.pattern; kind = m.kind; source = m.source; line = m.sequence_number } };
+    ghost view = { λ m. record { group = m.group; rule = record { pattern = m.pattern; kind = m.kind; source = m.source; line = m.sequence_number } } };
 }
 
 impl Matched {
     /// What a match refers to, copied.
-    pub fn of(alloc: Global, found: &Match<'_>) -> Result<Matched, OutOfMemory>
-        ensures { IfOk result (λ matched. matched ≡ match_of found.now) }
+    pub fn of(alloc: Global, decided: &Decided<'_>) -> Result<Matched, OutOfMemory>
+        ensures { IfOk result (λ matched. matched ≡ decided_of decided.now) }
     {
+        let found = &decided.found;
         let source = match found.source {
             Some(source) => Some(PathText::from_bytes(alloc, source)?),
             None => None,
         };
         Ok(Matched {
+            group: decided.group,
             pattern: found.pattern.copy(alloc)?,
             kind: found.kind,
             source,
@@ -46,36 +58,50 @@ impl Matched {
         })
     }
 
-    /// The rule that holds for a directory by itself.
+    /// The own match of a directory.
     pub fn of_directory(
         alloc: Global,
-        ignore: &Ignore,
+        ignore: Option<&Ignore>,
         path: &[u8],
         case: Case,
     ) -> Result<Option<Matched>, OutOfMemory>
-        ensures { IfOk result (λ matched. matched ≡ own_hit ignore.now path.now (Some true) case) }
+        ensures { IfOk result (λ matched. matched ≡ own_if (option_copied ignore.entry) path.now
+            (Some true) case) }
     {
+        let Some(ignore) = ignore else {
+            return Ok(None);
+        };
         match ignore.own_match(path, Some(true), case) {
             Some(found) => Ok(Some(Matched::of(alloc, &found)?)),
             None => Ok(None),
         }
     }
 
-    /// The match.
-    pub fn as_match(&self) -> Match<'_>
-        ensures { match_of result ≡ self.now }
+    /// Whether the rule is negative.
+    pub fn is_negative(&self) -> bool
+        ensures { result ≡ self.now.rule.pattern.is_negative }
     {
-        Match {
-            pattern: &self.pattern,
-            kind: self.kind,
-            source: self.source(),
-            sequence_number: self.sequence_number,
+        self.pattern.is_negative()
+    }
+
+    /// The match.
+    pub fn as_decided(&self) -> Decided<'_>
+        ensures { decided_of result ≡ self.now }
+    {
+        Decided {
+            group: self.group,
+            found: Match {
+                pattern: &self.pattern,
+                kind: self.kind,
+                source: self.source(),
+                sequence_number: self.sequence_number,
+            },
         }
     }
 
     /// Where the rule was read.
     fn source(&self) -> Option<&[u8]>
-        ensures { option_copied result ≡ self.now.source }
+        ensures { option_copied result ≡ self.now.rule.source }
     {
         match &self.source {
             Some(source) => Some(source.as_bytes()),

@@ -1,17 +1,19 @@
 //! What a stack says of the path that was looked up last.
-ghost use Rattle.std.specs.Prelude.{◌≡◌, ℕ, List, option_map, is_some};
+ghost use Rattle.std.specs.Prelude.{◌≡◌, ℕ, List, true, option_map, is_some};
 ghost use Rattle.gitbase_core.specs.Path.{components};
 ghost use Rattle.glob_rules.specs.Ignore.{match_of};
 ghost use Rattle.worktree_fs.specs.Paths.{full_path, spelled};
-ghost use Rattle.worktree_fs.specs.Tree.{Names};
-ghost use Rattle.worktree_stack.specs.Setup.{excluded_kind, deciding_hit};
-ghost use Rattle.worktree_stack.specs.Stacked.{IsInStep, made_of, rulebook_of};
+ghost use Rattle.worktree_stack.specs.Setup.{excluded_kind, has_excludes, deciding_if};
+ghost use Rattle.worktree_stack.specs.Decided.{decided_of};
+ghost use Rattle.worktree_stack.specs.Stacked.{IsInStep, made_of};
+ghost use Rattle.worktree_stack.specs.Reading.{Sources, rulebook};
 ghost use Rattle.worktree_stack.specs.Lookups.{IsLookedUp};
-ghost use Rattle.worktree_stack.specs.Excludes.{exclude, rule_of};
+ghost use Rattle.worktree_stack.specs.Excludes.{exclude, rule_of, origin_of};
 
+use crate::matched::Decided;
 use crate::stack::Stack;
 use bstr::BStr;
-use glob_rules::ignore::{Kind, Match};
+use glob_rules::ignore::{Kind, Match, Origin};
 use std::fmt;
 use std::fmt::Write;
 use std::marker::Model;
@@ -48,24 +50,72 @@ impl<'a> Platform<'a> {
         parent.current()
     }
 
+    /// What decides whether the path is excluded.
+    fn deciding(&self) -> Option<Decided<'a>>
+        requires { has_excludes (made_of self.now) ≡ true }
+        ensures held { option_map decided_of result ≡ deciding_if self.now.ignore
+            (spelled self.now.current) self.now.is_dir self.now.case }
+        ensures exclude { (s : Sources) → IsInStep s self.now → (relative : List ℕ)
+            → IsLookedUp self.now (components relative)
+            → option_map decided_of result ≡ exclude (rulebook (made_of self.now) s)
+            (components relative) self.now.is_dir }
+    {
+        let parent: &'a Stack = self.parent;
+        parent.deciding()
+    }
+
     /// The rule that decides whether the path is excluded, a negative one among them; none where no rule matches it.
     ///
     /// The nearest directory above the path that a rule matches comes first: a positive rule of it decides, whatever the rules
     /// say of the path. Else the rule that matches the path decides, and where none does the negative one of the directory.
+    ///
+    /// With strict parents it is, of the directories above that a positive rule matches, the one nearest to the root, and negative
+    /// ones decide nothing beneath them. The empty path has no directory above it.
     pub fn matching_exclude_pattern(&self) -> Option<Match<'a>>
-        ensures held { option_map match_of result ≡ deciding_hit self.now.held (spelled self.now.current) self.now.is_dir self.now.case }
-        ensures exclude { (t : Names) → IsInStep t self.now → (relative : List ℕ) → IsLookedUp self.now (components relative)
-            → option_map match_of result ≡ rule_of (exclude (rulebook_of (made_of self.now) t) (components relative) self.now.is_dir) }
+        requires { has_excludes (made_of self.now) ≡ true }
+        ensures held { option_map match_of result ≡ rule_of
+            (deciding_if self.now.ignore (spelled self.now.current) self.now.is_dir self.now.case) }
+        ensures exclude { (s : Sources) → IsInStep s self.now → (relative : List ℕ)
+            → IsLookedUp self.now (components relative)
+            → option_map match_of result ≡ rule_of (exclude (rulebook (made_of self.now) s)
+            (components relative) self.now.is_dir) }
     {
-        let parent: &'a Stack = self.parent;
-        parent.matching_exclude_pattern()
+        match self.deciding() {
+            Some(decided) => Some(decided.found),
+            None => None,
+        }
+    }
+
+    /// Where the rule comes from that decides whether the path is excluded; none where no rule matches it. Takes no memory.
+    pub fn matching_origin(&self) -> Option<Origin>
+        requires { has_excludes (made_of self.now) ≡ true }
+        ensures held { result ≡ origin_of (deciding_if self.now.ignore (spelled self.now.current)
+            self.now.is_dir self.now.case) }
+        ensures exclude { (s : Sources) → IsInStep s self.now → (relative : List ℕ)
+            → IsLookedUp self.now (components relative)
+            → result ≡ origin_of (exclude (rulebook (made_of self.now) s) (components relative)
+            self.now.is_dir) }
+    {
+        match self.deciding() {
+            Some(decided) => Some(Origin {
+                group: decided.group,
+                line: decided.found.sequence_number,
+                negative: decided.found.pattern.is_negative(),
+            }),
+            None => None,
+        }
     }
 
     /// What may become of the path where it is excluded; none where it is not.
     pub fn excluded_kind(&self) -> Option<Kind>
-        ensures held { result ≡ excluded_kind (deciding_hit self.now.held (spelled self.now.current) self.now.is_dir self.now.case) }
-        ensures exclude { (t : Names) → IsInStep t self.now → (relative : List ℕ) → IsLookedUp self.now (components relative)
-            → result ≡ excluded_kind (rule_of (exclude (rulebook_of (made_of self.now) t) (components relative) self.now.is_dir)) }
+        requires { has_excludes (made_of self.now) ≡ true }
+        ensures held { result ≡ excluded_kind
+            (rule_of (deciding_if self.now.ignore (spelled self.now.current) self.now.is_dir
+            self.now.case)) }
+        ensures exclude { (s : Sources) → IsInStep s self.now → (relative : List ℕ)
+            → IsLookedUp self.now (components relative)
+            → result ≡ excluded_kind (rule_of (exclude (rulebook (made_of self.now) s)
+            (components relative) self.now.is_dir)) }
     {
         match self.matching_exclude_pattern() {
             Some(found) => if found.pattern.is_negative() {
@@ -79,9 +129,15 @@ impl<'a> Platform<'a> {
 
     /// Whether the path is excluded.
     pub fn is_excluded(&self) -> bool
-        ensures held { result ≡ is_some (excluded_kind (deciding_hit self.now.held (spelled self.now.current) self.now.is_dir self.now.case)) }
-        ensures exclude { (t : Names) → IsInStep t self.now → (relative : List ℕ) → IsLookedUp self.now (components relative)
-            → result ≡ is_some (excluded_kind (rule_of (exclude (rulebook_of (made_of self.now) t) (components relative) self.now.is_dir))) }
+        requires { has_excludes (made_of self.now) ≡ true }
+        ensures held { result ≡ is_some
+            (excluded_kind (rule_of (deciding_if self.now.ignore (spelled self.now.current)
+            self.now.is_dir self.now.case))) }
+        ensures exclude { (s : Sources) → IsInStep s self.now → (relative : List ℕ)
+            → IsLookedUp self.now (components relative)
+            → result ≡ is_some (excluded_kind
+            (rule_of (exclude (rulebook (made_of self.now) s) (components relative)
+            self.now.is_dir))) }
     {
         self.excluded_kind().is_some()
     }

@@ -1,10 +1,14 @@
 //! What a stack keeps for the directories on the way to a path.
-ghost use Rattle.std.specs.Prelude.{◌≡◌, ◌-◌, ◌++◌, ◌∷◌, [], length, take, OnOk, OnErr};
-ghost use Rattle.worktree_stack.specs.Stacked.{held_of};
+ghost use Rattle.std.specs.Prelude.{◌≡◌, true, IfOk, OnOk, OnErr, option_copied};
+ghost use Rattle.worktree_stack.specs.Stacked.{ignore_of};
+ghost use Rattle.worktree_stack.specs.Mappings.{mappings_in, are_ascending};
+ghost use Rattle.worktree_stack.specs.Setup.{setup_of, push_level, pop_level, bare};
 
-use crate::Ignore;
+use crate::mappings::PathIdMapping;
 use crate::matched::Matched;
-use gitbase_core::OutOfMemory;
+use crate::{Ignore, mappings};
+use gitbase_core::{OutOfMemory, State as Index};
+use glob_rules::Case;
 use glob_rules::ignore::List;
 use std::alloc::Global;
 
@@ -16,12 +20,44 @@ pub enum State {
 }
 
 impl State {
-    /// The rules that exclude paths.
-    pub(crate) fn ignore(&self) -> &Ignore
-        ensures { result.now ≡ held_of self.now }
+    /// The blobs that an index has for the rules files of this state, in the order of their paths; gitoxide's
+    /// `State::id_mappings_from_index`.
+    ///
+    /// An entry counts that is a plain file, merged or ours, and whose last component is the name of rules files, as letters
+    /// compare. Where rules are looked for in the worktree first, it is also to be marked as left out of the worktree. A path
+    /// that is named in other letters is kept, and is used for no directory, as a rules file is looked for under its name
+    /// alone. Fails only where memory is refused.
+    pub fn id_mappings_from_index(
+        &self,
+        alloc: Global,
+        index: &Index,
+        case: Case,
+    ) -> Result<Vec<PathIdMapping>, OutOfMemory>
+        ensures mappings { IfOk result (λ mappings. mappings.items ≡ mappings_in case
+            (setup_of (ignore_of self.now)) index.now) }
+        ensures ascending { IfOk result (λ mappings. are_ascending mappings.items ≡ true) }
+    {
+        match self.ignore() {
+            Some(ignore) => mappings::in_index(alloc, ignore, index, case),
+            None => Ok(Vec::new(alloc)),
+        }
+    }
+
+    /// The rules that exclude paths, where there are such.
+    pub(crate) fn ignore(&self) -> Option<&Ignore>
+        ensures { option_copied result ≡ ignore_of self.now }
     {
         match self {
-            State::IgnoreStack(ignore) => ignore,
+            State::IgnoreStack(ignore) => Some(ignore),
+        }
+    }
+
+    /// The same with no directory pushed; fails only where memory is refused.
+    pub(crate) fn fresh(&self, alloc: Global) -> Result<State, OutOfMemory>
+        ensures { IfOk result (λ state. ignore_of state ≡ bare (ignore_of self.now)) }
+    {
+        match self {
+            State::IgnoreStack(ignore) => Ok(State::IgnoreStack(ignore.fresh(alloc)?)),
         }
     }
 
@@ -32,10 +68,9 @@ impl State {
         list: List,
         matched: Option<Matched>,
     ) -> Result<(), OutOfMemory>
-        ensures setup { (held_of self.new).setup ≡ (held_of self.old).setup }
-        ensures lists { OnOk result ((held_of self.new).lists ≡ (held_of self.old).lists ++ list ∷ []) }
-        ensures matches { OnOk result ((held_of self.new).matches ≡ (held_of self.old).matches ++ matched ∷ []) }
-        ensures refused { OnErr result (held_of self.new ≡ held_of self.old) }
+        ensures pushed { OnOk result (ignore_of self.new ≡ push_level list matched
+            (ignore_of self.old)) }
+        ensures refused { OnErr result (ignore_of self.new ≡ ignore_of self.old) }
     {
         match self {
             State::IgnoreStack(ignore) => ignore.push_directory(alloc, list, matched),
@@ -44,9 +79,7 @@ impl State {
 
     /// Drops what was pushed last.
     pub(crate) fn pop_directory(&mut self)
-        ensures setup { (held_of self.new).setup ≡ (held_of self.old).setup }
-        ensures lists { (held_of self.new).lists ≡ take (length (held_of self.old).lists - 1) (held_of self.old).lists }
-        ensures matches { (held_of self.new).matches ≡ take (length (held_of self.old).matches - 1) (held_of self.old).matches }
+        ensures { ignore_of self.new ≡ pop_level (ignore_of self.old) }
     {
         match self {
             State::IgnoreStack(ignore) => ignore.pop_directory(),

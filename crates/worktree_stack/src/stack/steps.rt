@@ -1,24 +1,24 @@
 //! The steps of a lookup: what is pushed and popped on the way from one path to the next.
-ghost use Rattle.std.specs.Prelude.{◌≡◌, ◌≤◌, ◌+◌, ◌++◌, ◌∷◌, [], ℕ, true, false, length, drop, replicate, is_some, Option, Some, None, IfErr, OnOk, OnErr};
+ghost use Rattle.std.specs.Prelude.{◌≡◌, ◌≤◌, ◌+◌, ◌++◌, ◌∷◌, [], ℕ, true, false, length, drop, replicate, is_some, Option, Some, None, IfErr, IfSome, OnOk, OnErr};
+ghost use Rattle.gitbase_core.specs.Objects.{Objects};
 ghost use Rattle.gitbase_core.specs.Path.{components};
-ghost use Rattle.worktree_fs.specs.Causes.{Rose};
+ghost use Rattle.worktree_fs.specs.Causes.{Increased};
 ghost use Rattle.worktree_fs.specs.Paths.{spelled, fronts, IsComponent};
 ghost use Rattle.worktree_fs.specs.PathStack.{names_at, one_up, surplus, lookup_calls, root_calls, calls_for, calls_below, push_directory, pop_directory, IsOnWay};
 ghost use Rattle.worktree_fs.specs.Tree.{Names};
 ghost use Rattle.worktree_stack.specs.Counted.{count_platform, count_call};
-ghost use Rattle.worktree_stack.specs.Steps.{HasRead, HasTried, CarriesOut, Stops, IsNoRulesFile};
-ghost use Rattle.worktree_stack.specs.declared.ignore_source.Source.TheVariants.{IdMapping};
 ghost use Rattle.worktree_stack.specs.Excludes.{ancestors};
-ghost use Rattle.worktree_stack.specs.Lookups.{is_dir_of, IsLookedUp, staying, stepped, refused_one};
-ghost use Rattle.worktree_stack.specs.Reading.{rules_file, reading};
-ghost use Rattle.worktree_stack.specs.Refused.{OnFault, IsOnWayTo, Refuses, IsOfFile, IsRefusedFor};
-ghost use Rattle.worktree_stack.specs.Stacked.{AreThoseOf, IsInStep, made_of, pushed};
+ghost use Rattle.worktree_fs.specs.Kept.{Asks, AsksStore};
+ghost use Rattle.worktree_stack.specs.Lookups.{IsIn, asks_worktree, is_dir_of, IsLookedUp, staying, stepped, refused_one};
+ghost use Rattle.worktree_stack.specs.Reading.{Sources, Tells};
+ghost use Rattle.worktree_stack.specs.Refused.{RefusesAt};
+ghost use Rattle.worktree_stack.specs.Stacked.{HoldsFor, IsInStep, HasAsMany, IsLevel, made_of, pushed};
+ghost use Rattle.worktree_stack.specs.Steps.{HasRead, HasTried, CarriesOut, Stops};
 
 use super::Stack;
 use crate::AtPathError;
 use crate::matched::Matched;
-use crate::reading::read_rules;
-use gitbase_core::{Mode, OutOfMemory};
+use gitbase_core::{Find, Mode, OutOfMemory, relative_to};
 use std::alloc::Global;
 use worktree_fs::{Worktree, next_component};
 
@@ -27,11 +27,13 @@ impl Stack {
     fn pop_directory(&mut self)
         ensures made { made_of self.new ≡ made_of self.old }
         ensures at { self.new.at ≡ one_up self.old.at }
-        ensures in_step { (t : Names) → IsInStep t self.old → IsInStep t self.new }
+        ensures in_step { (s : Sources) → IsInStep s self.old → IsInStep s self.new }
+        ensures levels { IsLevel self.old → IsLevel self.new }
         ensures is_dir { self.new.is_dir ≡ self.old.is_dir }
+        ensures answered { self.new.is_answered ≡ self.old.is_answered }
         ensures platforms { self.new.statistics.platforms ≡ self.old.statistics.platforms }
-        ensures attributes { self.new.statistics.attributes ≡ self.old.statistics.attributes }
-        ensures carried { (told : Option Names) → CarriesOut told (pop_directory ∷ []) self.old self.new }
+        ensures carried { (told : Option Names) (holds : Option Objects)
+            → CarriesOut told holds (pop_directory ∷ []) self.old self.new }
     {
         self.state.pop_directory();
         self.stack.pop();
@@ -40,59 +42,71 @@ impl Stack {
 
     /// Counts a directory that is popped.
     fn count_pop(&mut self)
-        ensures { self.new ≡ record self.old { statistics = record self.old.statistics { delegate = count_call self.old.statistics.delegate pop_directory } } }
+        ensures { self.new ≡ record self.old {
+          statistics = record self.old.statistics
+              { delegate = count_call self.old.statistics.delegate pop_directory };
+        } }
     {
         let counts = &mut self.statistics.delegate;
         counts.pop_directory = counts.pop_directory.saturating_add(1);
     }
 
+    /// Counts a directory that is to be pushed.
+    fn count_push(&mut self)
+        ensures { self.new ≡ record self.old {
+          statistics = record self.old.statistics {
+            delegate = count_call self.old.statistics.delegate
+                (push_directory (spelled self.old.current));
+          };
+        } }
+    {
+        let counts = &mut self.statistics.delegate;
+        counts.push_directory = counts.push_directory.saturating_add(1);
+    }
+
     /// Pushes the rules of the current path, without the path.
-    fn push_rules<W: Worktree>(
+    fn push_rules<W: Worktree, F: Find>(
         &mut self,
         alloc: Global,
         worktree: &mut W,
+        objects: &mut F,
     ) -> Result<(), AtPathError>
         ensures made { made_of self.new ≡ made_of self.old }
         ensures at { self.new.at ≡ self.old.at }
         ensures current { self.new.current ≡ self.old.current }
         ensures is_dir { self.new.is_dir ≡ self.old.is_dir }
+        ensures answered { self.new.is_answered ≡ self.old.is_answered }
         ensures platforms { self.new.statistics.platforms ≡ self.old.statistics.platforms }
         ensures attributes { self.new.statistics.attributes ≡ self.old.statistics.attributes }
-        ensures delegate { self.new.statistics.delegate ≡ count_call self.old.statistics.delegate (push_directory (spelled self.old.current)) }
-        ensures held { OnErr result (self.new.held ≡ self.old.held) }
-        ensures in_step { (t : Names) → W.told worktree.old ≡ Some t
-            → AreThoseOf self.old.held.setup self.old.case self.old.root t (ancestors self.old.current) self.old.held.lists self.old.held.matches
-            → OnOk result (AreThoseOf self.old.held.setup self.old.case self.old.root t (fronts self.old.current) self.new.held.lists self.new.held.matches) }
-        ensures read { OnOk result (HasRead (W.told worktree.old) self.old.held.setup self.old.root
-            (push_directory (spelled self.old.current) ∷ []) self.old.statistics.ignore self.new.statistics.ignore) }
-        ensures tried { IfErr result (HasTried (self.new.statistics.ignore ≡ self.old.statistics.ignore)
-            (HasRead (W.told worktree.old) self.old.held.setup self.old.root
-            (push_directory (spelled self.old.current) ∷ []) self.old.statistics.ignore self.new.statistics.ignore)) }
-        ensures mapped { self.old.held.setup.source ≡ IdMapping → (worktree.new ≡ worktree.old) × IfErr result IsNoRulesFile }
-        ensures about { IfErr result (IsOfFile (rules_file self.old.root self.old.held.setup (spelled self.old.current))) }
-        ensures refused { (t : Names) → W.told worktree.old ≡ Some t
-            → IfErr result (IsRefusedFor (reading self.old.held.setup t self.old.root (spelled self.old.current))) }
-        ensures cause { IfErr result (OnFault (Rose (W.faults worktree.old) (W.faults worktree.new))) }
-        ensures tree { W.told worktree.new ≡ W.told worktree.old }
-        ensures faults { W.faults worktree.old ≤ W.faults worktree.new }
-        ensures list_faults { W.list_faults worktree.new ≡ W.list_faults worktree.old }
+        ensures delegate { self.new.statistics.delegate ≡ count_call self.old.statistics.delegate
+            (push_directory (spelled self.old.current)) }
+        ensures held { OnErr result (self.new.ignore ≡ self.old.ignore) }
+        ensures in_step { (s : Sources) → Tells (W.told worktree.old) (F.holds objects.old) s
+            → HoldsFor (made_of self.old) s (ancestors self.old.current) self.old.ignore
+            → OnOk result (HoldsFor (made_of self.old) s (fronts self.old.current)
+            self.new.ignore) }
+        ensures levels { HasAsMany (ancestors self.old.current) self.old.ignore
+            → OnOk result (HasAsMany (fronts self.old.current) self.new.ignore) }
+        ensures read { OnOk result (HasRead (W.told worktree.old) (F.holds objects.old)
+            (made_of self.old) (push_directory (spelled self.old.current) ∷ [])
+            self.old.statistics.ignore self.new.statistics.ignore) }
+        ensures tried { IfErr result (HasTried (W.told worktree.old) (F.holds objects.old)
+            (made_of self.old) (spelled self.old.current) self.old.statistics.ignore
+            self.new.statistics.ignore) }
+        ensures refused { IfErr result (RefusesAt (W.told worktree.old) (F.holds objects.old)
+            (Increased (W.faults worktree.old) (W.faults worktree.new))
+            (Increased (F.faults objects.old) (F.faults objects.new)) (made_of self.old)
+            (spelled self.old.current)) }
+        ensures untouched { asks_worktree (made_of self.old) ≡ false → worktree.new ≡ worktree.old }
+        ensures store_untouched { (made_of self.old).mappings ≡ [] → objects.new ≡ objects.old }
+        ensures leaves { Asks W.Worktree worktree.old worktree.new }
+        ensures leaves_store { AsksStore F.Find objects.old objects.new }
         ensures reads { W.reads worktree.new ≤ W.reads worktree.old + 1 }
-        ensures lists { W.lists worktree.new ≡ W.lists worktree.old }
-        ensures precomposes { W.precomposes worktree.new ≡ W.precomposes worktree.old }
     {
-        let counts = &mut self.statistics.delegate;
-        counts.push_directory = counts.push_directory.saturating_add(1);
+        self.count_push();
         let directory = self.stack.current_relative();
         let matched = Matched::of_directory(alloc, self.state.ignore(), directory, self.case)?;
-        let list = read_rules(
-            alloc,
-            worktree,
-            self.stack.root(),
-            directory,
-            self.state.ignore(),
-            &mut self.buf,
-            &mut self.statistics.ignore,
-        )?;
+        let list = self.read_rules(alloc, worktree, objects)?;
         self.state.push_directory(alloc, list, matched)?;
         Ok(())
     }
@@ -102,49 +116,53 @@ impl Stack {
         ensures made { made_of self.new ≡ made_of self.old }
         ensures at { self.new.at ≡ staying self.old.at (components relative.now) }
         ensures is_dir { self.new.is_dir ≡ self.old.is_dir }
-        ensures in_step { (t : Names) → IsInStep t self.old → IsInStep t self.new }
+        ensures answered { self.new.is_answered ≡ self.old.is_answered }
         ensures platforms { self.new.statistics.platforms ≡ self.old.statistics.platforms }
-        ensures attributes { self.new.statistics.attributes ≡ self.old.statistics.attributes }
-        ensures carried { (told : Option Names)
-            → CarriesOut told (replicate (surplus self.old.at (components relative.now)) pop_directory) self.old self.new }
+        ensures in_step { (s : Sources) → IsInStep s self.old → IsInStep s self.new }
+        ensures levels { IsLevel self.old → IsLevel self.new }
+        ensures carried { (told : Option Names) (holds : Option Objects)
+            → CarriesOut told holds (replicate (surplus self.old.at (components relative.now))
+            pop_directory) self.old self.new }
     {
-        for _ in 0..self.stack.surplus(relative) {
+        for _ in 0..self.surplus(relative) {
             self.pop_directory();
         }
     }
 
     /// Pushes the current path as a directory, with its rules. Where that is refused nothing is pushed, and the deepest
     /// directory is the current path.
-    fn push_directory<W: Worktree>(
+    fn push_directory<W: Worktree, F: Find>(
         &mut self,
         alloc: Global,
         worktree: &mut W,
+        objects: &mut F,
     ) -> Result<(), AtPathError>
         ensures made { made_of self.new ≡ made_of self.old }
         ensures at { OnOk result (self.new.at ≡ Some self.old.current) }
         ensures current { OnOk result (self.new.current ≡ self.old.current) }
         ensures at_refused { OnErr result (self.new.at ≡ self.old.at) }
         ensures is_dir { self.new.is_dir ≡ self.old.is_dir }
+        ensures answered { self.new.is_answered ≡ self.old.is_answered }
         ensures platforms { self.new.statistics.platforms ≡ self.old.statistics.platforms }
-        ensures attributes { self.new.statistics.attributes ≡ self.old.statistics.attributes }
         ensures carried { pushed self.old.at ≡ ancestors self.old.current
-            → OnOk result (CarriesOut (W.told worktree.old) (push_directory (spelled self.old.current) ∷ []) self.old self.new) }
-        ensures stopped { IfErr result (Stops (W.told worktree.old) (push_directory (spelled self.old.current) ∷ []) self.old self.new) }
-        ensures mapped { self.old.held.setup.source ≡ IdMapping → (worktree.new ≡ worktree.old) × IfErr result IsNoRulesFile }
-        ensures in_step { (t : Names) → W.told worktree.old ≡ Some t → pushed self.old.at ≡ ancestors self.old.current
-            → IsInStep t self.old → IsInStep t self.new }
-        ensures about { IfErr result (IsOfFile (rules_file self.old.root self.old.held.setup (spelled self.old.current))) }
-        ensures refused { (t : Names) → W.told worktree.old ≡ Some t
-            → IfErr result (IsRefusedFor (reading self.old.held.setup t self.old.root (spelled self.old.current))) }
-        ensures cause { IfErr result (OnFault (Rose (W.faults worktree.old) (W.faults worktree.new))) }
-        ensures tree { W.told worktree.new ≡ W.told worktree.old }
-        ensures faults { W.faults worktree.old ≤ W.faults worktree.new }
-        ensures list_faults { W.list_faults worktree.new ≡ W.list_faults worktree.old }
+            → OnOk result (CarriesOut (W.told worktree.old) (F.holds objects.old)
+            (push_directory (spelled self.old.current) ∷ []) self.old self.new) }
+        ensures stopped { IfErr result (Stops (W.told worktree.old) (F.holds objects.old)
+            (Increased (W.faults worktree.old) (W.faults worktree.new))
+            (Increased (F.faults objects.old) (F.faults objects.new))
+            (push_directory (spelled self.old.current) ∷ []) self.old self.new) }
+        ensures in_step { (s : Sources) → Tells (W.told worktree.old) (F.holds objects.old) s
+            → pushed self.old.at ≡ ancestors self.old.current → IsInStep s self.old
+            → IsInStep s self.new }
+        ensures levels { pushed self.old.at ≡ ancestors self.old.current → IsLevel self.old
+            → IsLevel self.new }
+        ensures untouched { asks_worktree (made_of self.old) ≡ false → worktree.new ≡ worktree.old }
+        ensures store_untouched { (made_of self.old).mappings ≡ [] → objects.new ≡ objects.old }
+        ensures leaves { Asks W.Worktree worktree.old worktree.new }
+        ensures leaves_store { AsksStore F.Find objects.old objects.new }
         ensures reads { W.reads worktree.new ≤ W.reads worktree.old + 1 }
-        ensures lists { W.lists worktree.new ≡ W.lists worktree.old }
-        ensures precomposes { W.precomposes worktree.new ≡ W.precomposes worktree.old }
     {
-        if let Err(refused) = self.push_rules(alloc, worktree) {
+        if let Err(refused) = self.push_rules(alloc, worktree, objects) {
             self.leave();
             return Err(refused);
         }
@@ -156,7 +174,8 @@ impl Stack {
     fn push(&mut self, alloc: Global, name: &[u8]) -> Result<(), OutOfMemory>
         requires { IsComponent name.now }
         ensures made { OnOk result (self.new ≡ stepped self.old name.now) }
-        ensures refused { OnErr result (self.new ≡ record self.old { current = names_at self.old.at }) }
+        ensures refused { OnErr result
+            (self.new ≡ record self.old { current = names_at self.old.at }) }
     {
         self.stack.set_current(alloc, name)?;
         let counts = &mut self.statistics.delegate;
@@ -186,42 +205,49 @@ impl Stack {
     }
 
     /// Pushes the root, unless it is pushed.
-    fn push_root<W: Worktree>(&mut self, alloc: Global, worktree: &mut W) -> Result<(), AtPathError>
+    fn push_root<W: Worktree, F: Find>(
+        &mut self,
+        alloc: Global,
+        worktree: &mut W,
+        objects: &mut F,
+    ) -> Result<(), AtPathError>
         ensures made { made_of self.new ≡ made_of self.old }
         ensures at { OnOk result (self.new.at ≡ Some (names_at self.old.at)) }
         ensures at_refused { OnErr result (self.new.at ≡ self.old.at) }
         ensures none { OnErr result (self.old.at ≡ None) }
         ensures is_dir { self.new.is_dir ≡ self.old.is_dir }
+        ensures answered { self.new.is_answered ≡ self.old.is_answered }
         ensures platforms { self.new.statistics.platforms ≡ self.old.statistics.platforms }
-        ensures attributes { self.new.statistics.attributes ≡ self.old.statistics.attributes }
-        ensures carried { OnOk result (CarriesOut (W.told worktree.old) (root_calls self.old.at) self.old self.new) }
-        ensures stopped { IfErr result (Stops (W.told worktree.old) (root_calls self.old.at) self.old self.new) }
-        ensures mapped { self.old.held.setup.source ≡ IdMapping → (worktree.new ≡ worktree.old) × IfErr result IsNoRulesFile }
-        ensures in_step { (t : Names) → W.told worktree.old ≡ Some t → IsInStep t self.old → IsInStep t self.new }
-        ensures about { IfErr result (IsOfFile (rules_file self.old.root self.old.held.setup [])) }
-        ensures refused { (t : Names) → W.told worktree.old ≡ Some t
-            → IfErr result (IsRefusedFor (reading self.old.held.setup t self.old.root [])) }
-        ensures cause { IfErr result (OnFault (Rose (W.faults worktree.old) (W.faults worktree.new))) }
-        ensures tree { W.told worktree.new ≡ W.told worktree.old }
-        ensures faults { W.faults worktree.old ≤ W.faults worktree.new }
-        ensures list_faults { W.list_faults worktree.new ≡ W.list_faults worktree.old }
-        ensures reads { W.reads worktree.new ≤ W.reads worktree.old + length (root_calls self.old.at) }
-        ensures lists { W.lists worktree.new ≡ W.lists worktree.old }
-        ensures precomposes { W.precomposes worktree.new ≡ W.precomposes worktree.old }
+        ensures carried { OnOk result (CarriesOut (W.told worktree.old) (F.holds objects.old)
+            (root_calls self.old.at) self.old self.new) }
+        ensures stopped { IfErr result (Stops (W.told worktree.old) (F.holds objects.old)
+            (Increased (W.faults worktree.old) (W.faults worktree.new))
+            (Increased (F.faults objects.old) (F.faults objects.new)) (root_calls self.old.at)
+            self.old self.new) }
+        ensures in_step { (s : Sources) → Tells (W.told worktree.old) (F.holds objects.old) s
+            → IsInStep s self.old → IsInStep s self.new }
+        ensures levels { IsLevel self.old → IsLevel self.new }
+        ensures untouched { asks_worktree (made_of self.old) ≡ false → worktree.new ≡ worktree.old }
+        ensures store_untouched { (made_of self.old).mappings ≡ [] → objects.new ≡ objects.old }
+        ensures leaves { Asks W.Worktree worktree.old worktree.new }
+        ensures leaves_store { AsksStore F.Find objects.old objects.new }
+        ensures reads { W.reads worktree.new ≤ W.reads worktree.old + length
+            (root_calls self.old.at) }
     {
         if self.is_root_pushed() {
             return Ok(());
         }
         self.leave();
-        self.push_directory(alloc, worktree)
+        self.push_directory(alloc, worktree, objects)
     }
 
     /// Pushes the component below the deepest directory as a directory, with its rules.
-    fn descend<W: Worktree>(
+    fn descend<W: Worktree, F: Find>(
         &mut self,
         alloc: Global,
         name: &[u8],
         worktree: &mut W,
+        objects: &mut F,
     ) -> Result<(), AtPathError>
         requires component { IsComponent name.now }
         requires some { is_some self.old.at ≡ true }
@@ -229,57 +255,61 @@ impl Stack {
         ensures at { OnOk result (self.new.at ≡ Some (names_at self.old.at ++ name.now ∷ [])) }
         ensures at_refused { OnErr result (self.new.at ≡ self.old.at) }
         ensures is_dir { self.new.is_dir ≡ self.old.is_dir }
+        ensures answered { self.new.is_answered ≡ self.old.is_answered }
         ensures platforms { self.new.statistics.platforms ≡ self.old.statistics.platforms }
-        ensures attributes { self.new.statistics.attributes ≡ self.old.statistics.attributes }
-        ensures carried { OnOk result (CarriesOut (W.told worktree.old) (calls_for (names_at self.old.at) name.now false) self.old self.new) }
-        ensures stopped { IfErr result (Stops (W.told worktree.old) (calls_for (names_at self.old.at) name.now false) self.old self.new) }
-        ensures mapped { self.old.held.setup.source ≡ IdMapping → (worktree.new ≡ worktree.old) × IfErr result IsNoRulesFile }
-        ensures in_step { (t : Names) → W.told worktree.old ≡ Some t → IsInStep t self.old → IsInStep t self.new }
-        ensures about { IfErr result (IsOfFile (rules_file self.old.root self.old.held.setup (spelled (names_at self.old.at ++ name.now ∷ [])))) }
-        ensures refused { (t : Names) → W.told worktree.old ≡ Some t
-            → IfErr result (IsRefusedFor (reading self.old.held.setup t self.old.root (spelled (names_at self.old.at ++ name.now ∷ [])))) }
-        ensures cause { IfErr result (OnFault (Rose (W.faults worktree.old) (W.faults worktree.new))) }
-        ensures tree { W.told worktree.new ≡ W.told worktree.old }
-        ensures faults { W.faults worktree.old ≤ W.faults worktree.new }
-        ensures list_faults { W.list_faults worktree.new ≡ W.list_faults worktree.old }
+        ensures carried { OnOk result (CarriesOut (W.told worktree.old) (F.holds objects.old)
+            (calls_for (names_at self.old.at) name.now false) self.old self.new) }
+        ensures stopped { IfErr result (Stops (W.told worktree.old) (F.holds objects.old)
+            (Increased (W.faults worktree.old) (W.faults worktree.new))
+            (Increased (F.faults objects.old) (F.faults objects.new))
+            (calls_for (names_at self.old.at) name.now false) self.old self.new) }
+        ensures in_step { (s : Sources) → Tells (W.told worktree.old) (F.holds objects.old) s
+            → IsInStep s self.old → IsInStep s self.new }
+        ensures levels { IsLevel self.old → IsLevel self.new }
+        ensures untouched { asks_worktree (made_of self.old) ≡ false → worktree.new ≡ worktree.old }
+        ensures store_untouched { (made_of self.old).mappings ≡ [] → objects.new ≡ objects.old }
+        ensures leaves { Asks W.Worktree worktree.old worktree.new }
+        ensures leaves_store { AsksStore F.Find objects.old objects.new }
         ensures reads { W.reads worktree.new ≤ W.reads worktree.old + 1 }
-        ensures lists { W.lists worktree.new ≡ W.lists worktree.old }
-        ensures precomposes { W.precomposes worktree.new ≡ W.precomposes worktree.old }
     {
         self.push(alloc, name)?;
-        self.push_directory(alloc, worktree)
+        self.push_directory(alloc, worktree, objects)
     }
 
     /// Pushes the components that are left of a path below the deepest directory, all but the last one with its rules.
-    fn push_rest<W: Worktree>(
+    fn push_rest<W: Worktree, F: Find>(
         &mut self,
         alloc: Global,
         left: &[u8],
         worktree: &mut W,
+        objects: &mut F,
     ) -> Result<(), AtPathError>
         requires some { is_some self.old.at ≡ true }
         requires end { components left.now ≡ [] → names_at self.old.at ≡ [] }
         ensures made { made_of self.new ≡ made_of self.old }
         ensures some { is_some self.new.at ≡ true }
-        ensures looked_up { OnOk result (IsLookedUp self.new (names_at self.old.at ++ components left.now)) }
-        ensures on_way { OnErr result (IsOnWay self.new.at (names_at self.old.at ++ components left.now)) }
+        ensures looked_up { OnOk result
+            (IsLookedUp self.new (names_at self.old.at ++ components left.now)) }
+        ensures on_way { OnErr result
+            (IsOnWay self.new.at (names_at self.old.at ++ components left.now)) }
         ensures is_dir { self.new.is_dir ≡ self.old.is_dir }
+        ensures answered { self.new.is_answered ≡ self.old.is_answered }
         ensures platforms { self.new.statistics.platforms ≡ self.old.statistics.platforms }
-        ensures attributes { self.new.statistics.attributes ≡ self.old.statistics.attributes }
-        ensures carried { OnOk result (CarriesOut (W.told worktree.old) (calls_below (names_at self.old.at) (components left.now)) self.old self.new) }
-        ensures stopped { IfErr result (Stops (W.told worktree.old) (calls_below (names_at self.old.at) (components left.now)) self.old self.new) }
-        ensures mapped { self.old.held.setup.source ≡ IdMapping → (worktree.new ≡ worktree.old) × IfErr result IsNoRulesFile }
-        ensures in_step { (t : Names) → W.told worktree.old ≡ Some t → IsInStep t self.old → IsInStep t self.new }
-        ensures about { IfErr result (IsOnWayTo self.old.root self.old.held.setup (names_at self.old.at ++ components left.now)) }
-        ensures refused { (t : Names) → W.told worktree.old ≡ Some t
-            → IfErr result (Refuses t self.old.root self.old.held.setup (names_at self.old.at ++ components left.now)) }
-        ensures cause { IfErr result (OnFault (Rose (W.faults worktree.old) (W.faults worktree.new))) }
-        ensures tree { W.told worktree.new ≡ W.told worktree.old }
-        ensures faults { W.faults worktree.old ≤ W.faults worktree.new }
-        ensures list_faults { W.list_faults worktree.new ≡ W.list_faults worktree.old }
-        ensures reads { W.reads worktree.new + length (names_at self.old.at) ≤ W.reads worktree.old + length (names_at self.new.at) + refused_one result }
-        ensures lists { W.lists worktree.new ≡ W.lists worktree.old }
-        ensures precomposes { W.precomposes worktree.new ≡ W.precomposes worktree.old }
+        ensures carried { OnOk result (CarriesOut (W.told worktree.old) (F.holds objects.old)
+            (calls_below (names_at self.old.at) (components left.now)) self.old self.new) }
+        ensures stopped { IfErr result (Stops (W.told worktree.old) (F.holds objects.old)
+            (Increased (W.faults worktree.old) (W.faults worktree.new))
+            (Increased (F.faults objects.old) (F.faults objects.new))
+            (calls_below (names_at self.old.at) (components left.now)) self.old self.new) }
+        ensures in_step { (s : Sources) → Tells (W.told worktree.old) (F.holds objects.old) s
+            → IsInStep s self.old → IsInStep s self.new }
+        ensures levels { IsLevel self.old → IsLevel self.new }
+        ensures untouched { asks_worktree (made_of self.old) ≡ false → worktree.new ≡ worktree.old }
+        ensures store_untouched { (made_of self.old).mappings ≡ [] → objects.new ≡ objects.old }
+        ensures leaves { Asks W.Worktree worktree.old worktree.new }
+        ensures leaves_store { AsksStore F.Find objects.old objects.new }
+        ensures reads { W.reads worktree.new + length (names_at self.old.at) ≤ W.reads
+            worktree.old + length (names_at self.new.at) + refused_one result }
     {
         let mut rest = left;
         while let Some(next) = next_component(rest) {
@@ -287,7 +317,7 @@ impl Stack {
                 self.push(alloc, next.name)?;
                 return Ok(());
             }
-            self.descend(alloc, next.name, worktree)?;
+            self.descend(alloc, next.name, worktree, objects)?;
             rest = next.rest;
         }
         self.leave();
@@ -295,59 +325,77 @@ impl Stack {
     }
 
     /// Goes to a normal path.
-    pub(super) fn look_up<W: Worktree>(
+    pub(super) fn look_up<W: Worktree, F: Find>(
         &mut self,
         alloc: Global,
         relative: &[u8],
         worktree: &mut W,
+        objects: &mut F,
     ) -> Result<(), AtPathError>
         ensures made { made_of self.new ≡ made_of self.old }
         ensures looked_up { OnOk result (IsLookedUp self.new (components relative.now)) }
         ensures on_way { OnErr result (IsOnWay self.new.at (components relative.now)) }
         ensures is_dir { self.new.is_dir ≡ self.old.is_dir }
+        ensures answered { self.new.is_answered ≡ self.old.is_answered }
         ensures platforms { self.new.statistics.platforms ≡ self.old.statistics.platforms }
-        ensures attributes { self.new.statistics.attributes ≡ self.old.statistics.attributes }
-        ensures carried { OnOk result (CarriesOut (W.told worktree.old) (lookup_calls self.old.at (components relative.now)) self.old self.new) }
-        ensures stopped { IfErr result (Stops (W.told worktree.old) (lookup_calls self.old.at (components relative.now)) self.old self.new) }
-        ensures mapped { self.old.held.setup.source ≡ IdMapping → (worktree.new ≡ worktree.old) × IfErr result IsNoRulesFile }
-        ensures in_step { (t : Names) → W.told worktree.old ≡ Some t → IsInStep t self.old → IsInStep t self.new }
-        ensures about { IfErr result (IsOnWayTo self.old.root self.old.held.setup (components relative.now)) }
-        ensures refused { (t : Names) → W.told worktree.old ≡ Some t
-            → IfErr result (Refuses t self.old.root self.old.held.setup (components relative.now)) }
-        ensures cause { IfErr result (OnFault (Rose (W.faults worktree.old) (W.faults worktree.new))) }
-        ensures tree { W.told worktree.new ≡ W.told worktree.old }
-        ensures faults { W.faults worktree.old ≤ W.faults worktree.new }
-        ensures list_faults { W.list_faults worktree.new ≡ W.list_faults worktree.old }
-        ensures reads { W.reads worktree.new + length (pushed (staying self.old.at (components relative.now)))
-            ≤ W.reads worktree.old + length (pushed self.new.at) + refused_one result }
-        ensures lists { W.lists worktree.new ≡ W.lists worktree.old }
-        ensures precomposes { W.precomposes worktree.new ≡ W.precomposes worktree.old }
+        ensures carried { OnOk result (CarriesOut (W.told worktree.old) (F.holds objects.old)
+            (lookup_calls self.old.at (components relative.now)) self.old self.new) }
+        ensures stopped { IfErr result (Stops (W.told worktree.old) (F.holds objects.old)
+            (Increased (W.faults worktree.old) (W.faults worktree.new))
+            (Increased (F.faults objects.old) (F.faults objects.new))
+            (lookup_calls self.old.at (components relative.now)) self.old self.new) }
+        ensures in_step { (s : Sources) → Tells (W.told worktree.old) (F.holds objects.old) s
+            → IsInStep s self.old → IsInStep s self.new }
+        ensures levels { IsLevel self.old → IsLevel self.new }
+        ensures untouched { asks_worktree (made_of self.old) ≡ false → worktree.new ≡ worktree.old }
+        ensures store_untouched { (made_of self.old).mappings ≡ [] → objects.new ≡ objects.old }
+        ensures leaves { Asks W.Worktree worktree.old worktree.new }
+        ensures leaves_store { AsksStore F.Find objects.old objects.new }
+        ensures reads { W.reads worktree.new + length
+            (pushed (staying self.old.at (components relative.now))) ≤ W.reads worktree.old + length
+            (pushed self.new.at) + refused_one result }
     {
-        self.push_root(alloc, worktree)?;
+        self.push_root(alloc, worktree, objects)?;
         self.pop_surplus(relative);
         let left = self.rest(relative);
-        self.push_rest(alloc, left, worktree)
+        self.push_rest(alloc, left, worktree, objects)
     }
 
     /// What is left of a path behind as many components as the deepest directory has.
     fn rest<'p>(&self, relative: &'p [u8]) -> &'p [u8]
-        ensures { components result.now ≡ drop (length (names_at self.now.at)) (components relative.now) }
+        ensures { components result.now ≡ drop (length (names_at self.now.at))
+            (components relative.now) }
     {
+        if let Some(rest) = name_in(self.stack.deepest(), relative) {
+            return rest;
+        }
         self.stack.rest(relative)
     }
 
-    /// Counts a lookup.
-    pub(super) fn count_platform(&mut self)
-        ensures { self.new ≡ record self.old { statistics = count_platform self.old.statistics } }
+    /// How many of the directories that are pushed are not above a path.
+    fn surplus(&self, relative: &[u8]) -> usize
+        ensures { result ≡ surplus self.now.at (components relative.now) }
     {
+        if name_in(self.stack.deepest(), relative).is_some() {
+            return 0;
+        }
+        self.stack.surplus(relative)
+    }
+
+    /// Counts a lookup, which is not answered yet.
+    pub(super) fn count_platform(&mut self)
+        ensures { self.new ≡ count_platform self.old }
+    {
+        self.is_answered = false;
         self.statistics.platforms = self.statistics.platforms.saturating_add(1);
     }
 
-    /// Keeps whether the current path is a directory.
-    pub(super) fn keep_mode(&mut self, mode: Option<Mode>)
-        ensures { self.new ≡ record self.old { is_dir = is_dir_of mode } }
+    /// Answers for the current path, with whether it is a directory.
+    pub(super) fn answer(&mut self, mode: Option<Mode>)
+        ensures { self.new ≡ record self.old { is_dir = is_dir_of mode; is_answered = true } }
     {
         self.is_dir = mode_is_dir(mode);
+        self.is_answered = true;
     }
 }
 
@@ -358,5 +406,27 @@ fn mode_is_dir(mode: Option<Mode>) -> Option<bool>
     match mode {
         Some(mode) => Some(mode.is_submodule() || mode.is_sparse()),
         None => None,
+    }
+}
+
+/// What a path has behind a directory, where that is one component: in the directory that is pushed already, a lookup begins
+/// with it.
+fn name_in<'p>(directory: &[u8], path: &'p [u8]) -> Option<&'p [u8]>
+    ensures { IfSome result (λ name. IsIn (components directory.now) (components path.now)
+        (components name.now)) }
+{
+    match relative_to(path, directory) {
+        Some(rest) if is_one_component(rest) => Some(rest),
+        _ => None,
+    }
+}
+
+/// Whether a path has one component.
+fn is_one_component(path: &[u8]) -> bool
+    ensures { result ≡ true → length (components path.now) ≡ 1 }
+{
+    match next_component(path) {
+        Some(next) => next.is_last,
+        None => false,
     }
 }

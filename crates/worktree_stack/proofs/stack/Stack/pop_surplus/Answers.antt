@@ -1,7 +1,6 @@
 use Rattle.std.proofs.Common.{◌≡◌, ◌+◌, ◌<◌, ◌∙◌, replicate, sym, ap, arith, rules}
 use Rattle.gitbase_core.specs.Path.{components}
 use Rattle.worktree_fs.specs.PathStack.{surplus, pop_directory}
-use Rattle.worktree_stack.specs.Stacked.{Stacked}
 use Rattle.worktree_stack.specs.Lookups.{staying}
 use Rattle.worktree_stack.proofs.Surplus.{staying-up, surplus-up, staying-all}
 use Rattle.worktree_stack.proofs.Carrying.{carries-then, carries-as}
@@ -17,14 +16,15 @@ loop-preserved c =
     record {
       setup = search rules;
       is_dir = c.pop_directory.ensures.is_dir ∙ c.loop.invariant.is_dir;
+      answered = c.pop_directory.ensures.answered ∙ c.loop.invariant.answered;
       stays = ap (λ d. staying d parts) c.pop_directory.ensures.at ∙ staying-up at parts some ∙ c.loop.invariant.stays;
       left = omega (arith, up, c.loop.invariant.left);
-      in_step = λ t in_step. c.pop_directory.ensures.in_step t (c.loop.invariant.in_step t in_step);
+      in_step = λ s in_step. c.pop_directory.ensures.in_step s (c.loop.invariant.in_step s in_step);
+      levels = λ level. c.pop_directory.ensures.levels (c.loop.invariant.levels level);
       platforms = c.pop_directory.ensures.platforms ∙ c.loop.invariant.platforms;
-      attributes = c.pop_directory.ensures.attributes ∙ c.loop.invariant.attributes;
-      carried = λ told.
-          carries-as told _ _ c.args.self.now c.pop_directory.new.self (sym (replicate-more c.loop.counter pop_directory))
-          (carries-then told _ _ c.args.self.now c.loop.self c.pop_directory.new.self (c.loop.invariant.carried told) (c.pop_directory.ensures.carried told));
+      carried = λ told holds.
+          carries-as told holds _ _ c.args.self.now c.pop_directory.new.self (sym (replicate-more c.loop.counter pop_directory))
+          (carries-then told holds _ _ c.args.self.now c.loop.self c.pop_directory.new.self (c.loop.invariant.carried told holds) (c.pop_directory.ensures.carried told holds));
     }
 
 pub returns-clause-at : goal.returns-clause-at
@@ -32,8 +32,8 @@ returns-clause-at c =
     staying-all c.loop.self.at (components c.args.relative.now) (omega (arith, c.loop.invariant.left, c.loop-test.false, c.loop.auto.counter-end)) ∙ c.loop.invariant.stays
 
 pub returns-clause-carried : goal.returns-clause-carried
-returns-clause-carried c told =
+returns-clause-carried c told holds =
     let parts = components c.args.relative.now in
     let all : surplus c.args.self.now.at parts ≡ c.loop.counter =
-    omega (arith, c.loop-test.false, c.loop.auto.counter-end, c.surplus-end.ensures, ap (λ (s : Stacked). surplus s.at parts) c.self.view_is) in
-    carries-as told _ _ c.args.self.now c.loop.self (ap (λ n. replicate n pop_directory) all) (c.loop.invariant.carried told)
+    omega (arith, c.loop-test.false, c.loop.auto.counter-end, c.surplus-end.ensures) in
+    carries-as told holds _ _ c.args.self.now c.loop.self (ap (λ n. replicate n pop_directory) all) (c.loop.invariant.carried told holds)

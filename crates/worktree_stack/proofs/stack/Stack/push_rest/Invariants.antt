@@ -1,36 +1,37 @@
-use Rattle.std.proofs.Common.{◌≡◌, ◌≤◌, ◌+◌, ◌++◌, List, Some, is_some, true, length}
+use Rattle.std.proofs.Common.{◌≡◌, ◌≤◌, ◌+◌, ◌++◌, List, [], is_some, true, false, length}
 use Rattle.gitbase_core.specs.Path.{components}
 use Rattle.worktree_fs.specs.PathStack.{Call, names_at, calls_below}
-use Rattle.worktree_fs.specs.Tree.{Names}
-use Rattle.worktree_stack.specs.Stacked.{IsInStep, made_of}
+use Rattle.worktree_fs.specs.Kept.{Asks, AsksStore}
+use Rattle.worktree_stack.specs.Lookups.{asks_worktree}
+use Rattle.worktree_stack.specs.Reading.{Sources, Tells}
+use Rattle.worktree_stack.specs.Stacked.{IsInStep, IsLevel, made_of}
 use Rattle.worktree_stack.specs.Steps.{CarriesOut}
-use Rattle.worktree_stack.specs.declared.ignore_source.Source.TheVariants.{IdMapping}
 use Rattle.worktree_stack.proofs.Descent.{IsBelow}
 use Rattle.worktree_stack.proofs.stack.Stack.push_rest.Given as goal
 
 abbrev pub invariant-loop-next : goal.invariant-loop-next
 invariant-loop-next g l =
     let W = g.W.Worktree in
+    let F = g.F.Find in
     let names = names_at l.fn.self.at in
     let calls = calls_below names (components l.fn.left) in
     record {
-      made_of : made_of l.self ≡ made_of l.fn.self;
+      setup : made_of l.self ≡ made_of l.fn.self;
       some : is_some l.self.at ≡ true;
       below : IsBelow (names ++ components l.fn.left) l.self.at (components l.rest);
       made : List Call;
       front : calls ≡ made ++ calls_below (names_at l.self.at) (components l.rest);
-      carried : CarriesOut (W.told l.fn.worktree) made l.fn.self l.self;
+      carried : CarriesOut (W.told l.fn.worktree) (F.holds l.fn.objects) made l.fn.self l.self;
       is_dir : l.self.is_dir ≡ l.fn.self.is_dir;
+      answered : l.self.is_answered ≡ l.fn.self.is_answered;
       platforms : l.self.statistics.platforms ≡ l.fn.self.statistics.platforms;
-      attributes : l.self.statistics.attributes ≡ l.fn.self.statistics.attributes;
-      in_step : (t : Names) → W.told l.fn.worktree ≡ Some t → IsInStep t l.fn.self → IsInStep t l.self;
-      mapped : l.fn.self.held.setup.source ≡ IdMapping → l.worktree ≡ l.fn.worktree;
-      tree : W.told l.worktree ≡ W.told l.fn.worktree;
-      faults : W.faults l.fn.worktree ≤ W.faults l.worktree;
-      list_faults : W.list_faults l.worktree ≡ W.list_faults l.fn.worktree;
+      in_step : (s : Sources) → Tells (W.told l.fn.worktree) (F.holds l.fn.objects) s → IsInStep s l.fn.self → IsInStep s l.self;
+      levels : IsLevel l.fn.self → IsLevel l.self;
+      untouched : asks_worktree (made_of l.fn.self) ≡ false → l.worktree ≡ l.fn.worktree;
+      store_untouched : (made_of l.fn.self).mappings ≡ [] → l.objects ≡ l.fn.objects;
+      leaves : Asks W l.fn.worktree l.worktree;
+      leaves_store : AsksStore F l.fn.objects l.objects;
       reads : W.reads l.worktree + length names ≤ W.reads l.fn.worktree + length (names_at l.self.at);
-      lists : W.lists l.worktree ≡ W.lists l.fn.worktree;
-      precomposes : W.precomposes l.worktree ≡ W.precomposes l.fn.worktree;
     }
 
 abbrev pub decreases-loop-next : goal.decreases-loop-next

@@ -1,0 +1,57 @@
+-- The blobs that rules files are mapped to, and which of them an index has.
+use Rattle.std.specs.Prelude.{ℕ, ◌==◌, ◌&&◌, ◌||◌, Bool, true, List, [], ◌∷◌, map, filter, Option, Some, None, if◌then◌else◌}
+use Rattle.std.specs.List.{list_all}
+use Rattle.std.specs.Ordering.{is_lt}
+use Rattle.std.specs.Str.{bytes_eq}
+use Rattle.gitbase_core.specs.declared.entry.IndexEntry.{IndexEntry}
+use Rattle.gitbase_core.specs.Entry.{mode_bits, file_mode, skip_worktree_flag}
+use Rattle.gitbase_core.specs.Index.{path_cmp}
+use Rattle.gitbase_core.specs.Kinds.{has_flag}
+use Rattle.gitbase_core.specs.Path.{basename}
+use Rattle.gitbase_core.specs.Text.{eq_ignore_case}
+use Rattle.glob_rules.specs.declared.Case.{Case}
+use Rattle.glob_rules.specs.declared.Case.TheVariants.{Sensitive, Fold}
+use Rattle.worktree_stack.specs.declared.ignore_source.Source.{Source}
+use Rattle.worktree_stack.specs.declared.ignore_source.Source.TheVariants.{IdMapping, WorktreeThenIdMappingIfNotSkipped}
+use Rattle.worktree_stack.specs.Setup.{Setup, Mapping}
+
+-- ---- in order
+
+-- the path of one stands before that of another, by its bytes
+abbrev pub stands_before : Mapping → Mapping → Bool
+stands_before a b = is_lt (path_cmp a.0 b.0)
+
+-- the path of each stands before those behind it, by its bytes, so that none is mapped twice
+abbrev pub are_ascending : List Mapping → Bool
+are_ascending [] = true
+are_ascending (mapping ∷ more) = list_all (stands_before mapping) more && are_ascending more
+
+-- ---- from an index
+
+-- the last component of a path is the name of rules files, as letters compare
+abbrev pub is_named : Case → List ℕ → List ℕ → Bool
+is_named Sensitive name path = bytes_eq (basename path) name
+is_named Fold name path = eq_ignore_case (basename path) name
+
+-- where the worktree is asked first, a blob counts only where the file is left out of the worktree
+abbrev pub counts_for : Source → IndexEntry → Bool
+counts_for IdMapping e = true
+counts_for WorktreeThenIdMappingIfNotSkipped e = has_flag skip_worktree_flag e
+
+-- an entry is that of a rules file: of a plain file, merged or ours
+abbrev pub is_rules_entry : Case → Setup → IndexEntry → Bool
+is_rules_entry case setup e =
+    mode_bits e.mode == file_mode && (e.stage == 0 || e.stage == 2) && is_named case setup.file_name e.path && counts_for setup.source e
+
+-- an entry's path, and the blob that it has
+abbrev pub mapping_of : IndexEntry → Mapping
+mapping_of e = (e.path, e.id)
+
+-- the blobs that an index has for the rules files of an exclude state, if there is one, in the order of the index
+abbrev pub mappings_in : Case → Option Setup → List IndexEntry → List Mapping
+mappings_in case None entries = []
+mappings_in case (Some setup) entries = map mapping_of (filter (is_rules_entry case setup) entries)
+
+-- how letters compare
+abbrev pub case_of : Bool → Case
+case_of ignore_case = if ignore_case then Fold else Sensitive

@@ -1,0 +1,158 @@
+//! The blobs that rules files are mapped to.
+ghost use Rattle.std.specs.Prelude.{◌≡◌, ◌||◌, ◌==◌, true, IfOk, map, filter};
+ghost use Rattle.gitbase_core.specs.Index.{path_cmp, IsIndex};
+ghost use Rattle.worktree_stack.specs.Mappings.{are_ascending, is_named, counts_for, is_rules_entry, mapping_of};
+ghost use Rattle.worktree_stack.specs.Setup.{Setup, mapped_to};
+
+use crate::Ignore;
+use crate::ignore_source::Source;
+use gitbase_core::{
+    Flags, IndexEntry, Mode, ObjectId, OutOfMemory, PathText, State as Index, basename,
+    eq_ignore_case,
+};
+use glob_rules::Case;
+use std::alloc::Global;
+use std::cmp::Ordering;
+use std::marker::Model;
+
+/// The path of a rules file, and the id of the blob that an index has for it.
+pub type PathIdMapping = (PathText, ObjectId);
+
+/// The blobs of rules files, in the order of their paths.
+///
+/// Contracts see the list.
+#[derive(Drop)]
+pub(crate) struct Mappings {
+    items: Vec<PathIdMapping>,
+}
+
+impl Model for Mappings {
+    ghost use Rattle.std.specs.Prelude.{List};
+    ghost use Rattle.worktree_stack.specs.Setup.{Mapping};
+    ghost use Rattle.worktree_stack.specs.Mappings.{are_ascending};
+    ghost use Rattle.std.specs.Prelude.{◌≡◌, true};
+
+    ghost Value = { List Mapping };
+
+    ghost view = { λ m. m.items.items };
+
+    ghost invariant = { λ m. are_ascending m.items.items ≡ true };
+}
+
+impl Mappings {
+    /// These mappings, whose paths ascend.
+    pub fn new(items: Vec<PathIdMapping>) -> Mappings
+        requires { are_ascending items.items ≡ true }
+        ensures { result ≡ items.items }
+    {
+        Mappings { items }
+    }
+
+    /// The blob that a path is mapped to. It is found by binary search; no clause speaks of the cost.
+    pub fn id_of(&self, path: &[u8]) -> Option<ObjectId>
+        ensures { result ≡ mapped_to self.now path.now }
+    {
+        id_at(&self.items, path)
+    }
+
+    /// Equal mappings; fails only where memory is refused.
+    pub fn copy(&self, alloc: Global) -> Result<Mappings, OutOfMemory>
+        ensures { IfOk result (λ copy. copy ≡ self.now) }
+    {
+        let items = copy_of(alloc, &self.items)?;
+        Ok(Mappings { items })
+    }
+}
+
+/// Equal mappings.
+fn copy_of(alloc: Global, mappings: &[PathIdMapping]) -> Result<Vec<PathIdMapping>, OutOfMemory>
+    ensures { IfOk result (λ copy. copy.items ≡ mappings.now) }
+{
+    let mut copy = Vec::with_capacity(alloc, mappings.len())?;
+    for mapping in mappings {
+        copy.push((
+            PathText::from_bytes(alloc, mapping.0.as_bytes())?,
+            mapping.1,
+        ))?;
+    }
+    Ok(copy)
+}
+
+/// The blob that a path is mapped to.
+fn id_at(mappings: &[PathIdMapping], path: &[u8]) -> Option<ObjectId>
+    requires { are_ascending mappings.now ≡ true }
+    ensures { result ≡ mapped_to mappings.now path.now }
+{
+    match mappings.binary_search_by(|mapping| compare(mapping, path)) {
+        Ok(at) => Some(mappings[at].1),
+        Err(_) => None,
+    }
+}
+
+/// Where the path of a mapping stands beside another.
+fn compare(mapping: &PathIdMapping, path: &[u8]) -> Ordering
+    ensures { result ≡ path_cmp mapping.now.0 path.now }
+{
+    mapping.0.as_bytes().cmp(&path)
+}
+
+/// The blobs that an index has for the rules files of directories, in the order of the index.
+pub(crate) fn in_index(
+    alloc: Global,
+    ignore: &Ignore,
+    index: &Index,
+    case: Case,
+) -> Result<Vec<PathIdMapping>, OutOfMemory>
+    ensures mappings { IfOk result (λ mappings. mappings.items ≡ map mapping_of
+        (filter (is_rules_entry case ignore.now.setup) index.now)) }
+    ensures ascending { IfOk result (λ mappings. are_ascending mappings.items ≡ true) }
+{
+    let mut mappings = Vec::new(alloc);
+    for entry in index.entries() {
+        if is_rules_entry(entry, ignore.file_name(), ignore.source(), case) {
+            mappings.push((
+                PathText::from_bytes(alloc, entry.path.as_bytes())?,
+                entry.id,
+            ))?;
+        }
+    }
+    Ok(mappings)
+}
+
+/// Whether an entry of an index is that of a rules file of this name, which rules are read from.
+fn is_rules_entry(entry: &IndexEntry, name: &[u8], source: Source, case: Case) -> bool
+    ensures { (setup : Setup) → setup.file_name ≡ name.now → setup.source ≡ source
+        → result ≡ is_rules_entry case setup entry.now }
+{
+    entry.mode == Mode::FILE
+        && is_merged_or_ours(entry.stage)
+        && is_named(entry.path.as_bytes(), name, case)
+        && counts_for(entry, source)
+}
+
+/// Whether this is the stage of a merged entry, or of ours.
+fn is_merged_or_ours(stage: u8) -> bool
+    ensures { result ≡ ((stage == 0) || (stage == 2)) }
+{
+    stage == 0 || stage == 2
+}
+
+/// Whether the last component of a path is this name, as letters compare.
+fn is_named(path: &[u8], name: &[u8], case: Case) -> bool
+    ensures { result ≡ is_named case name.now path.now }
+{
+    match case {
+        Case::Sensitive => basename(path) == name,
+        Case::Fold => eq_ignore_case(basename(path), name),
+    }
+}
+
+/// Whether rules are read from the blob of an entry.
+fn counts_for(entry: &IndexEntry, source: Source) -> bool
+    ensures { result ≡ counts_for source entry.now }
+{
+    match source {
+        Source::IdMapping => true,
+        Source::WorktreeThenIdMappingIfNotSkipped => entry.flags.contains(Flags::SKIP_WORKTREE),
+    }
+}

@@ -1,0 +1,17 @@
+//! What stacks of directories answer, in cases that were worked out by hand or asked of git.
+#![tactic(auto)]
+
+#[cfg(test)]
+mod answers;
+#[cfg(test)]
+mod cases;
+#[cfg(test)]
+mod failing;
+#[cfg(test)]
+mod mapped;
+#[cfg(test)]
+mod nested;
+#[cfg(test)]
+mod steps;
+#[cfg(test)]
+mod texts;
