@@ -1,13 +1,26 @@
 -- The ignore rules that a class may ask.
-use Rattle.std.specs.Prelude.{Option, Some, None, option_map}
+use Rattle.std.specs.Prelude.{◌≡◌, Bool, true, Option, Some, None, option_map, is_some}
+use Rattle.gitbase_core.specs.Objects.{Objects}
 use Rattle.worktree_fs.specs.Tree.{Names}
-use Rattle.worktree_stack.specs.Stacked.{Stacked, Made, made_of, IsInStep}
+use Rattle.worktree_stack.specs.Setup.{Made, has_excludes}
+use Rattle.worktree_stack.specs.Reading.{Sources}
+use Rattle.worktree_stack.specs.Stacked.{Stacked, made_of, IsInStep}
 
 -- what they were made with, where they are given
 abbrev pub made_with : Option Stacked → Option Made
 made_with excludes = option_map made_of excludes
 
--- they are in step with a tree, where they are given
-abbrev pub InStepIf : Names → Option Stacked → Type 0
-InStepIf t None = Unit {0}
-InStepIf t (Some stack) = IsInStep t stack
+-- they tell which paths are excluded, where they are given
+abbrev pub tells_excludes : Option Made → Bool
+tells_excludes None = true
+tells_excludes (Some made) = has_excludes made
+
+-- they are in step with a tree and a store of objects, where they are given
+abbrev pub InStepIf : Sources → Option Stacked → Type 0
+InStepIf s None = Unit {0}
+InStepIf s (Some stack) = IsInStep s stack
+
+-- a worktree tells this tree, and where rules are given a store tells these objects
+pub record TellsIf (told : Option Names) (holds : Option Objects) (made : Option Made) (s : Sources) : Type 0 where
+  pub tree_is : told ≡ Some s.tree
+  pub objects_are : is_some made ≡ true → holds ≡ Some s.objects

@@ -1,8 +1,10 @@
 pub mod Asked
 pub mod Class
+pub mod Classes
 pub mod Enters
 pub mod Entries
 pub mod Excludes
+pub mod Kept
 pub mod Kinds
 pub mod Meanings
 pub mod Paths

@@ -1,16 +1,17 @@
 //! The class of a path.
-ghost use Rattle.std.specs.Prelude.{◌≡◌, ◌≤◌, ◌⊎◌, Option, true, false, Some, None, [], IfOk, IfErr, OnOk};
-ghost use Rattle.worktree_fs.specs.Paths.{is_normal};
+ghost use Rattle.std.specs.Prelude.{◌≡◌, ◌⊎◌, Option, true, false, Some, None, [], IfOk, IfErr};
 ghost use Rattle.worktree_fs.specs.Tree.{Names};
-ghost use Rattle.worktree_fs.specs.Causes.{Quiet, Rose};
-ghost use Rattle.worktree_stack.specs.Stacked.{Made};
+ghost use Rattle.worktree_fs.specs.Causes.{NotIncreased, Increased};
+ghost use Rattle.worktree_fs.specs.Kept.{Asks};
+ghost use Rattle.worktree_stack.specs.Setup.{Made};
+ghost use Rattle.worktree_stack.specs.Reading.{Sources};
 ghost use Rattle.dir_classify.specs.Kinds.{first_of_kinds};
 ghost use Rattle.dir_classify.specs.Paths.{full_path};
-ghost use Rattle.dir_classify.specs.Class.{class, asks, asks_unread, is_dot_git, class_dot_git, is_indexed, class_of_kind, status_of_rules};
+ghost use Rattle.dir_classify.specs.Class.{class, is_dot_git, class_dot_git, is_indexed, class_of_kind, status_of_rules};
 ghost use Rattle.dir_classify.specs.Meanings.{meanings};
-ghost use Rattle.dir_classify.specs.Excludes.{made_with, InStepIf};
-ghost use Rattle.dir_classify.specs.Refused.{IsAbout, Refuses, OnAccess, OnFault};
-ghost use Rattle.dir_classify.specs.Asked.{asked, IsSwallowed, root_class};
+ghost use Rattle.dir_classify.specs.Excludes.{made_with, tells_excludes};
+ghost use Rattle.dir_classify.specs.Classes.{Classes};
+ghost use Rattle.dir_classify.specs.Asked.{asked, root_class};
 
 use crate::entry::{Entry, Kind, PathspecMatch, Property, Status};
 use crate::error::Error;
@@ -62,11 +63,16 @@ impl From<&Entry> for Outcome {
 ///
 /// `excludes` are asked, where they are given, for a path that the index does not have, or has in another shape (a
 /// directory in a file's place, or the other way round): it is excluded by the rules of the directories above it, which
-/// are read as they are needed, and kept for the next path. `objects` are not asked, as long as no rules file is mapped
-/// to a blob.
+/// are read as they are needed, and kept for the next path. They are to tell which paths are excluded. `objects` are asked
+/// for the blobs that rules files are mapped to.
 ///
-/// Refused is a path with a directory above it whose rules file is a link without an end or neither file nor
-/// directory, or could not be read (`ExcludesAccess`). `rela_path` is normal: no component is `.` or `..`.
+/// `rela_path` is normal: no component is `.` or `..`.
+///
+/// # Errors
+///
+/// - `ExcludesAccess`: the rules file of a directory above the path is a link without an end or neither file nor
+///   directory, or could not be read, or is mapped to a blob that could not be had.
+/// - `OutOfMemory`: memory was refused.
 pub fn path<W: Worktree, F: Find>(
     alloc: Global,
     worktree_root: &[u8],
@@ -78,40 +84,10 @@ pub fn path<W: Worktree, F: Find>(
     worktree: &mut W,
     objects: &mut F,
 ) -> Result<Outcome, Error>
-    // Over a told tree with which the rules are in step, and without a fault, it is exactly the class, and every rules
-    // file that it needs was read. A fault of the question for the kind reads as no kind.
-    ensures class { (t : Names) → W.told worktree.old ≡ Some t → InStepIf t excludes.old
-        → Quiet (W.faults worktree.old) (W.faults worktree.new)
-        → IfOk result (λ c. c ≡ class (meanings index.now (made_with excludes.old) t) rela_path.now disk_kind
-        (asked t (full_path worktree_root.now rela_path.now) ask_disk)) }
-    ensures read { (t : Names) → W.told worktree.old ≡ Some t → InStepIf t excludes.old
-        → Quiet (W.faults worktree.old) (W.faults worktree.new)
-        → OnOk result (asks_unread (meanings index.now (made_with excludes.old) t) rela_path.now disk_kind
-        (asked t (full_path worktree_root.now rela_path.now) ask_disk) ≡ false) }
-    ensures swallowed { (t : Names) → W.told worktree.old ≡ Some t → InStepIf t excludes.old
-        → IfOk result (IsSwallowed (meanings index.now (made_with excludes.old) t) rela_path.now disk_kind
-        (asked t (full_path worktree_root.now rela_path.now) ask_disk)) }
-
-    // Each refusal has its cause.
-    ensures about { is_normal rela_path.now ≡ true → IfErr result (IsAbout (made_with excludes.old) rela_path.now) }
-    ensures refused { (t : Names) → W.told worktree.old ≡ Some t
-        → IfErr result (Refuses t (made_with excludes.old) rela_path.now) }
-    ensures asks { (t : Names) → W.told worktree.old ≡ Some t → Quiet (W.faults worktree.old) (W.faults worktree.new)
-        → IfErr result (OnAccess (asks (meanings index.now (made_with excludes.old) t) rela_path.now disk_kind
-        (asked t (full_path worktree_root.now rela_path.now) ask_disk) ≡ true)) }
-    ensures cause { IfErr result (OnFault (Rose (W.faults worktree.old) (W.faults worktree.new))) }
-
-    // What stays.
-    ensures made { made_with excludes.new ≡ made_with excludes.old }
-    ensures in_step { (t : Names) → W.told worktree.old ≡ Some t → InStepIf t excludes.old → InStepIf t excludes.new }
-    ensures tree { W.told worktree.new ≡ W.told worktree.old }
-    ensures faults { W.faults worktree.old ≤ W.faults worktree.new }
-    ensures list_faults { W.list_faults worktree.new ≡ W.list_faults worktree.old }
-    ensures reads { made_with excludes.old ≡ None → W.reads worktree.new ≡ W.reads worktree.old }
-    ensures lists { W.lists worktree.new ≡ W.lists worktree.old }
-    ensures precomposes { W.precomposes worktree.new ≡ W.precomposes worktree.old }
-    ensures objects { F.holds objects.new ≡ F.holds objects.old }
-    ensures object_faults { F.faults objects.new ≡ F.faults objects.old }
+    requires { tells_excludes (made_with excludes.old) ≡ true }
+    ensures { Classes W.Worktree F.Find worktree.old worktree.new objects.old objects.new
+        excludes.old excludes.new index.now (full_path worktree_root.now rela_path.now)
+        rela_path.now disk_kind ask_disk result }
 {
     let full = full_path(alloc, worktree_root, rela_path)?;
     at(
@@ -140,40 +116,9 @@ pub fn at<W: Worktree, F: Find>(
     worktree: &mut W,
     objects: &mut F,
 ) -> Result<Outcome, Error>
-    // Over a told tree with which the rules are in step, and without a fault, it is exactly the class, and every rules
-    // file that it needs was read. A fault of the question for the kind reads as no kind.
-    ensures class { (t : Names) → W.told worktree.old ≡ Some t → InStepIf t excludes.old
-        → Quiet (W.faults worktree.old) (W.faults worktree.new)
-        → IfOk result (λ c. c ≡ class (meanings index.now (made_with excludes.old) t) rela_path.now disk_kind
-        (asked t full_path.now ask_disk)) }
-    ensures read { (t : Names) → W.told worktree.old ≡ Some t → InStepIf t excludes.old
-        → Quiet (W.faults worktree.old) (W.faults worktree.new)
-        → OnOk result (asks_unread (meanings index.now (made_with excludes.old) t) rela_path.now disk_kind
-        (asked t full_path.now ask_disk) ≡ false) }
-    ensures swallowed { (t : Names) → W.told worktree.old ≡ Some t → InStepIf t excludes.old
-        → IfOk result (IsSwallowed (meanings index.now (made_with excludes.old) t) rela_path.now disk_kind
-        (asked t full_path.now ask_disk)) }
-
-    // Each refusal has its cause.
-    ensures about { is_normal rela_path.now ≡ true → IfErr result (IsAbout (made_with excludes.old) rela_path.now) }
-    ensures refused { (t : Names) → W.told worktree.old ≡ Some t
-        → IfErr result (Refuses t (made_with excludes.old) rela_path.now) }
-    ensures asks { (t : Names) → W.told worktree.old ≡ Some t → Quiet (W.faults worktree.old) (W.faults worktree.new)
-        → IfErr result (OnAccess (asks (meanings index.now (made_with excludes.old) t) rela_path.now disk_kind
-        (asked t full_path.now ask_disk) ≡ true)) }
-    ensures cause { IfErr result (OnFault (Rose (W.faults worktree.old) (W.faults worktree.new))) }
-
-    // What stays.
-    ensures made { made_with excludes.new ≡ made_with excludes.old }
-    ensures in_step { (t : Names) → W.told worktree.old ≡ Some t → InStepIf t excludes.old → InStepIf t excludes.new }
-    ensures tree { W.told worktree.new ≡ W.told worktree.old }
-    ensures faults { W.faults worktree.old ≤ W.faults worktree.new }
-    ensures list_faults { W.list_faults worktree.new ≡ W.list_faults worktree.old }
-    ensures reads { made_with excludes.old ≡ None → W.reads worktree.new ≡ W.reads worktree.old }
-    ensures lists { W.lists worktree.new ≡ W.lists worktree.old }
-    ensures precomposes { W.precomposes worktree.new ≡ W.precomposes worktree.old }
-    ensures objects { F.holds objects.new ≡ F.holds objects.old }
-    ensures object_faults { F.faults objects.new ≡ F.faults objects.old }
+    requires { tells_excludes (made_with excludes.old) ≡ true }
+    ensures { Classes W.Worktree F.Find worktree.old worktree.new objects.old objects.new
+        excludes.old excludes.new index.now full_path.now rela_path.now disk_kind ask_disk result }
 {
     if is_dot_git(rela_path) {
         return Ok(class_dot_git(disk_kind));
@@ -206,18 +151,15 @@ pub fn root<W: Worktree>(
     index: &State,
     worktree: &mut W,
 ) -> Result<Outcome, Error>
-    ensures class { (t : Names) → W.told worktree.old ≡ Some t → Quiet (W.faults worktree.old) (W.faults worktree.new)
-        → (made : Option Made) → IfOk result (λ c. c ≡ root_class (meanings index.now made t) t worktree_root.now) }
-    ensures swallowed { (t : Names) → W.told worktree.old ≡ Some t → (made : Option Made)
-        → IfOk result (λ c. (c ≡ root_class (meanings index.now made t) t worktree_root.now)
-        ⊎ (c ≡ class (meanings index.now made t) [] None None)) }
+    ensures class { (s : Sources) → W.told worktree.old ≡ Some s.tree
+        → NotIncreased (W.faults worktree.old) (W.faults worktree.new) → (made : Option Made)
+        → IfOk result (λ c. c ≡ root_class (meanings index.now made s) s.tree worktree_root.now) }
+    ensures swallowed { (s : Sources) → W.told worktree.old ≡ Some s.tree → (made : Option Made)
+        → IfOk result (λ c. (c ≡ root_class (meanings index.now made s) s.tree worktree_root.now)
+        ⊎ (c ≡ class (meanings index.now made s) [] None None)) }
     ensures refused { IfErr result (λ e. e ≡ Error.OutOfMemory) }
-    ensures tree { W.told worktree.new ≡ W.told worktree.old }
-    ensures faults { W.faults worktree.old ≤ W.faults worktree.new }
-    ensures list_faults { W.list_faults worktree.new ≡ W.list_faults worktree.old }
+    ensures keeps { Asks W.Worktree worktree.old worktree.new }
     ensures reads { W.reads worktree.new ≡ W.reads worktree.old }
-    ensures lists { W.lists worktree.new ≡ W.lists worktree.old }
-    ensures precomposes { W.precomposes worktree.new ≡ W.precomposes worktree.old }
 {
     let disk_kind = kind_on_disk(alloc, worktree, worktree_root)?;
     let entry = in_index(index, &[]);
@@ -235,16 +177,13 @@ fn settled_kind<W: Worktree>(
     ask_disk: bool,
     worktree: &mut W,
 ) -> Result<Option<Kind>, OutOfMemory>
-    ensures kind { (t : Names) → W.told worktree.old ≡ Some t → IfOk result (λ kind.
-        (kind ≡ first_of_kinds up_to_date (first_of_kinds disk_kind (asked t full_path.now ask_disk)))
+    ensures kind { (t : Names) → W.told worktree.old ≡ Some t
+        → IfOk result (λ kind. (kind ≡ first_of_kinds up_to_date
+        (first_of_kinds disk_kind (asked t full_path.now ask_disk)))
         ⊎ ((kind ≡ first_of_kinds up_to_date (first_of_kinds disk_kind None))
-        × Rose (W.faults worktree.old) (W.faults worktree.new))) }
-    ensures tree { W.told worktree.new ≡ W.told worktree.old }
-    ensures faults { W.faults worktree.old ≤ W.faults worktree.new }
-    ensures list_faults { W.list_faults worktree.new ≡ W.list_faults worktree.old }
+        × Increased (W.faults worktree.old) (W.faults worktree.new))) }
+    ensures keeps { Asks W.Worktree worktree.old worktree.new }
     ensures reads { W.reads worktree.new ≡ W.reads worktree.old }
-    ensures lists { W.lists worktree.new ≡ W.lists worktree.old }
-    ensures precomposes { W.precomposes worktree.new ≡ W.precomposes worktree.old }
 {
     let known = first_of_kinds(up_to_date, disk_kind);
     if known.is_some() || !ask_disk {
@@ -261,13 +200,9 @@ fn kind_on_disk<W: Worktree>(
 ) -> Result<Option<Kind>, OutOfMemory>
     ensures kind { (t : Names) → W.told worktree.old ≡ Some t
         → IfOk result (λ kind. (kind ≡ asked t full_path.now true)
-        ⊎ ((kind ≡ None) × Rose (W.faults worktree.old) (W.faults worktree.new))) }
-    ensures tree { W.told worktree.new ≡ W.told worktree.old }
-    ensures faults { W.faults worktree.old ≤ W.faults worktree.new }
-    ensures list_faults { W.list_faults worktree.new ≡ W.list_faults worktree.old }
+        ⊎ ((kind ≡ None) × Increased (W.faults worktree.old) (W.faults worktree.new))) }
+    ensures keeps { Asks W.Worktree worktree.old worktree.new }
     ensures reads { W.reads worktree.new ≡ W.reads worktree.old }
-    ensures lists { W.lists worktree.new ≡ W.lists worktree.old }
-    ensures precomposes { W.precomposes worktree.new ≡ W.precomposes worktree.old }
 {
     match worktree.kind(alloc, full_path) {
         Ok(None) | Err(ReadError::Fault) => Ok(None),

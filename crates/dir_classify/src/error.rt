@@ -34,10 +34,10 @@ pub enum Error {
     DirEntry { parent_directory: PathText },
     /// The directory at `path` was to be entered, and has more components below the worktree root than the
     /// depth limit.
-    #[error("TooDeep")]
+    #[error("The directory at '{}' lies deeper than the limit", shown(.path))]
     TooDeep { path: PathText },
     /// Want of memory.
-    #[error("OutOfMemory")]
+    #[error("Memory for the walk could not be had")]
     OutOfMemory,
 }
 

@@ -36,7 +36,7 @@ pub(crate) fn in_index(index: &State, path: &[u8]) -> InIndex
 fn in_words(kinds: IndexKinds) -> InIndex
     ensures { result ≡ in_words kinds }
 {
-    let sparse = if kinds.is_excluded {
+    let sparse = if kinds.is_left_out {
         Some(Property::TrackedExcluded)
     } else {
         None

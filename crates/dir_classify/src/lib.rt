@@ -11,7 +11,5 @@ pub mod options;
 
 pub use entry::{Entry, EntryRef, Kind, PathspecMatch, Property, Status};
 pub use error::{Error, ReadWhy};
+pub use excludes::tells_excludes;
 pub use options::{EmissionMode, Options};
-
-#[cfg(test)]
-mod tests;

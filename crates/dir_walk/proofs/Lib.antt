@@ -1,9 +1,9 @@
 pub mod Apart
 pub mod Classes
 pub mod Counts
-pub mod Follow
 pub mod DistinctPaths
 pub mod Emitting
+pub mod Keeping
 pub mod Listed
 pub mod Named
 pub mod Once
@@ -15,6 +15,6 @@ pub mod Roots
 pub mod Same
 pub mod Sorting
 pub mod Steps
-pub mod Whole
 pub mod Strict
 pub mod Unread
+pub mod Whole

@@ -3,9 +3,8 @@ use Rattle.std.proofs.Common.{◌≡◌, ℕ, suc, ◌+◌, ◌-◌, List, [], �
 use Rattle.std.proofs.lemmas.List.{append-nil}
 use Rattle.std.specs.Prelude.{◌==◌, if◌then◌else◌}
 use Rattle.std.specs.List.{list_any}
-use Rattle.gitbase_core.specs.Path.{is_slash, is_empty, ends_in_slash, components, joined}
+use Rattle.gitbase_core.specs.Path.{is_slash, is_empty, is_absolute, ends_in_slash, components, joined}
 use Rattle.worktree_fs.specs.Tree.{Names, child, look, found, directory}
-use Rattle.worktree_fs.specs.Tree as tree
 use Rattle.worktree_fs.specs.Naming.{IsName}
 use Rattle.worktree_fs.specs.Paths.{is_dots, is_normal}
 use Rattle.std.proofs.lemmas.Bool.{and_parts}
@@ -16,7 +15,7 @@ use Rattle.worktree_fs.proofs.Texts.{pieces-join}
 use Rattle.dir_classify.specs.Paths.{full_path}
 use Rattle.dir_walk.specs.Report.{depth_of}
 use Rattle.dir_walk.specs.Refused.{IsPlaced}
-use Rattle.dir_walk.proofs.Follow.{look-follow}
+use Rattle.worktree_fs.proofs.Follow.{look-follow}
 
 -- ---- where a path ends in a slash
 
@@ -147,22 +146,22 @@ components-child [] name is = pieces-name name is
 components-child (a ∷ d) name is = go (ends_in_slash (a ∷ d)) refl
   where
     behind_slash : (front : List ℕ) → components (front ++ 47 ∷ name) ≡ components front ++ name ∷ []
-    behind_slash front = pieces-join front name ∙ ap (λ (l : List (List ℕ)). tree.pieces front ++ l) (pieces-name name is)
+    behind_slash front = pieces-join front name ∙ ap (λ (l : List (List ℕ)). components front ++ l) (pieces-name name is)
 
     go : (slash : Bool) → ends_in_slash (a ∷ d) ≡ slash → components (joined (a ∷ d) name) ≡ components (a ∷ d) ++ name ∷ []
     go false e = ap components (joined-plain a d name e) ∙ behind_slash (a ∷ d)
     go true e =
         let front = without_slash (a ∷ d) e in
-        let at_slash : components (a ∷ d) ≡ components front.0 = ap components front.1 ∙ pieces-join front.0 [] ∙ append-nil (tree.pieces front.0) in
+        let at_slash : components (a ∷ d) ≡ components front.0 = ap components front.1 ∙ pieces-join front.0 [] ∙ append-nil (components front.0) in
         ap components (joined-slash (a ∷ d) name e ∙ ap (λ (p : List ℕ). p ++ name) front.1 ∙ append_assoc front.0 (47 ∷ []) name) ∙ behind_slash front.0
         ∙ ap (λ (l : List (List ℕ)). l ++ name ∷ []) (sym at_slash)
 
-is_absolute-child : (d name : List ℕ) → IsName name → tree.is_absolute d ≡ false → tree.is_absolute (joined d name) ≡ false
+is_absolute-child : (d name : List ℕ) → IsName name → is_absolute d ≡ false → is_absolute (joined d name) ≡ false
 is_absolute-child [] [] is e = refl
 is_absolute-child [] (b ∷ bytes) is e = (or-false (b == 47) (list_any (λ x. x == 47) bytes) (name_parts (b ∷ bytes) is).no_slash).0
 is_absolute-child (a ∷ d) name is e = go (ends_in_slash (a ∷ d))
   where
-    go : (slash : Bool) → tree.is_absolute (if slash then (a ∷ d) ++ name else (a ∷ d) ++ 47 ∷ name) ≡ false
+    go : (slash : Bool) → is_absolute (if slash then (a ∷ d) ++ name else (a ∷ d) ++ 47 ∷ name) ≡ false
     go true = e
     go false = e
 
@@ -179,11 +178,11 @@ not-true true e = absurd (cc e)
 -- the path of a name in a directory is normal where the directory's is
 normal-child : (d name : List ℕ) → IsName name → is_normal d ≡ true → is_normal (joined d name) ≡ true
 normal-child d name is normal =
-    let parts = and_parts (not (tree.is_absolute d)) (not (list_any is_dots (components d))) normal in
+    let parts = and_parts (not (is_absolute d)) (not (list_any is_dots (components d))) normal in
     let name_is = name_parts name is in
     let dots : is_dots name ≡ false = rw (name_is.no_dot, name_is.no_dot_dot) refl in
     let none : list_any is_dots (components (joined d name)) ≡ false = ap (list_any is_dots) (components-child d name is) ∙ any-last (components d) name (not-true (list_any is_dots (components d)) parts.1) dots in
-    rw (is_absolute-child d name is (not-true (tree.is_absolute d) parts.0), none) refl
+    rw (is_absolute-child d name is (not-true (is_absolute d) parts.0), none) refl
 
 -- ---- both forms together
 
@@ -207,10 +206,6 @@ IsPlaced-child root full (a ∷ rela) name is at =
 
 -- ---- how deep it lies
 
--- the components of a path are its pieces
-same_pieces : (path : List ℕ) → components path ≡ tree.pieces path
-same_pieces path = refl
-
 -- a name in a directory lies one deeper
 pub depth_of-joined : (d name : List ℕ) → IsName name → depth_of (joined d name) ≡ depth_of d + 1
 depth_of-joined [] name is = ap (λ (l : List (List ℕ)). length l) (pieces-name name is)
@@ -218,7 +213,7 @@ depth_of-joined (a ∷ d) name is = go (ends_in_slash (a ∷ d)) refl
   where
     behind_slash : (front : List ℕ) → depth_of (front ++ 47 ∷ name) ≡ length (components front) + 1
     behind_slash front =
-        ap (λ (l : List (List ℕ)). length l) (pieces-join front name ∙ ap (λ (l : List (List ℕ)). tree.pieces front ++ l) (pieces-name name is))
+        ap (λ (l : List (List ℕ)). length l) (pieces-join front name ∙ ap (λ (l : List (List ℕ)). components front ++ l) (pieces-name name is))
         ∙ length-append (components front) (name ∷ [])
 
     go : (slash : Bool) → ends_in_slash (a ∷ d) ≡ slash → depth_of (joined (a ∷ d) name) ≡ depth_of (a ∷ d) + 1
@@ -226,7 +221,7 @@ depth_of-joined (a ∷ d) name is = go (ends_in_slash (a ∷ d)) refl
     go true e =
         let front = without_slash (a ∷ d) e in
         let at_slash : depth_of (a ∷ d) ≡ length (components front.0) =
-        ap depth_of front.1 ∙ ap (λ (l : List (List ℕ)). length l) (pieces-join front.0 []) ∙ ap (λ (l : List (List ℕ)). length l) (append-nil (tree.pieces front.0)) in
+        ap depth_of front.1 ∙ ap (λ (l : List (List ℕ)). length l) (pieces-join front.0 []) ∙ ap (λ (l : List (List ℕ)). length l) (append-nil (components front.0)) in
         ap depth_of (joined-slash (a ∷ d) name e ∙ ap (λ (p : List ℕ). p ++ name) front.1 ∙ append_assoc front.0 (47 ∷ []) name) ∙ behind_slash front.0
         ∙ ap (λ (n : ℕ). n + 1) (sym at_slash)
 

@@ -3,6 +3,7 @@ use Rattle.std.proofs.Common.{◌≡◌, ◌⊎◌, inl, inr, ℕ, ◌<◌, List
 use Rattle.std.specs.Prelude.{IsSomeAnd}
 use Rattle.std.specs.Str.{bytes_eq}
 use Rattle.std.proofs.lemmas.Cmp.{nat_list_eq_equiv}
+use Rattle.gitbase_core.specs.Objects.{Objects}
 use Rattle.gitbase_core.specs.Path.{joined, is_empty}
 use Rattle.worktree_fs.specs.Tree.{Node, Names, none, named, child, look, found, file, link, directory, other}
 use Rattle.worktree_fs.specs.Answers.{list_of}
@@ -10,7 +11,8 @@ use Rattle.worktree_fs.specs.Paths.{is_normal}
 use Rattle.worktree_fs.specs.declared.answers.ListError.{ListError}
 use Rattle.worktree_fs.specs.declared.answers.ListError.TheVariants as lists
 use Rattle.worktree_stack.specs.declared.error.AtPathError.{AtPathError}
-use Rattle.worktree_stack.specs.Stacked.{Made}
+use Rattle.worktree_stack.specs.Setup.{Made}
+use Rattle.worktree_stack.specs.Reading.{Sources}
 use Rattle.dir_classify.specs.declared.classify.Outcome.{Outcome}
 use Rattle.dir_classify.specs.declared.error.Error.{Error}
 use Rattle.dir_classify.specs.declared.error.Error.TheVariants as errors
@@ -55,20 +57,20 @@ asked_within : (v w : Walked) (P Q : Type 0) (path : List ℕ) → Within v w �
 asked_within v w P Q path within f (inl e) = inl (within.asked path e)
 asked_within v w P Q path within f (inr p) = inr (f p)
 
-access_within : (t : Names) (made : Option Made) (v w : Walked) (P Q : Type 0) (e : AtPathError) → Within v w → (P → Q) → IsSomeAnd made (λ rules. IsNoAccess t rules v P e) → IsSomeAnd made (λ rules. IsNoAccess t rules w Q e)
-access_within t None v w P Q e within f h = absurd h
-access_within t (Some rules) v w P Q e within f h = record { path = h.path; normal = h.normal; asked = asked_within v w P Q h.path within f h.asked; access = h.access; refused = h.refused }
+access_within : (s : Sources) (made : Option Made) (v w : Walked) (P Q : Type 0) (e : AtPathError) → Within v w → (P → Q) → IsSomeAnd made (λ rules. IsNoAccess s rules v P e) → IsSomeAnd made (λ rules. IsNoAccess s rules w Q e)
+access_within s None v w P Q e within f h = absurd h
+access_within s (Some rules) v w P Q e within f h = record { path = h.path; normal = h.normal; asked = asked_within v w P Q h.path within f h.asked; access = h.access; refused = h.refused }
 
 -- to a result with more paths, and to a longer time in which the worktree may have failed
-pub Refuses-within : (t : Names) (made : Option Made) (m : Meanings) (root : List ℕ) (limit : ℕ) (P Q : Type 0) (v w : Walked) (e : Error) → Within v w → (P → Q) → Refuses t made m root limit P v e → Refuses t made m root limit Q w e
-Refuses-within t made m root limit P Q v w (errors.WorktreeRootIsFile path) within f h = h
-Refuses-within t made m root limit P Q v w (errors.ExcludesAccess e) within f h = access_within t made v w P Q e within f h
-Refuses-within t made m root limit P Q v w (errors.TooDeep path) within f h = record { below = h.below; path_is = h.path_is; to_enter = enter_within v w h.below within h.to_enter; deep = h.deep }
-Refuses-within t made m root limit P Q v w (errors.ReadDir path reads.Absent) within f h = broken_within t m root v w lists.Absent path within h
-Refuses-within t made m root limit P Q v w (errors.ReadDir path reads.NotADirectory) within f h = broken_within t m root v w lists.NotADirectory path within h
-Refuses-within t made m root limit P Q v w (errors.ReadDir path reads.Fault) within f h = tt
-Refuses-within t made m root limit P Q v w (errors.DirEntry path) within f h = tt
-Refuses-within t made m root limit P Q v w errors.OutOfMemory within f h = tt
+pub Refuses-within : (s : Sources) (made : Option Made) (m : Meanings) (root : List ℕ) (limit : ℕ) (P Q : Type 0) (v w : Walked) (e : Error) → Within v w → (P → Q) → Refuses s made m root limit P v e → Refuses s made m root limit Q w e
+Refuses-within s made m root limit P Q v w (errors.WorktreeRootIsFile path) within f h = h
+Refuses-within s made m root limit P Q v w (errors.ExcludesAccess e) within f h = access_within s made v w P Q e within f h
+Refuses-within s made m root limit P Q v w (errors.TooDeep path) within f h = record { below = h.below; path_is = h.path_is; to_enter = enter_within v w h.below within h.to_enter; deep = h.deep }
+Refuses-within s made m root limit P Q v w (errors.ReadDir path reads.Absent) within f h = broken_within s.tree m root v w lists.Absent path within h
+Refuses-within s made m root limit P Q v w (errors.ReadDir path reads.NotADirectory) within f h = broken_within s.tree m root v w lists.NotADirectory path within h
+Refuses-within s made m root limit P Q v w (errors.ReadDir path reads.Fault) within f h = tt
+Refuses-within s made m root limit P Q v w (errors.DirEntry path) within f h = tt
+Refuses-within s made m root limit P Q v w errors.OutOfMemory within f h = tt
 
 asking_within : (b : Bool) (path : List ℕ) (w : Walked) → Within w (asking b path w)
 asking_within true path w = record { entered = λ p h. h; broken = λ p h. h; asked = λ p h. or-right (bytes_eq p path) (is_among p w.asked) h }
@@ -91,10 +93,10 @@ item_within m d c names name node there =
       asked = λ path h. up.asked path (any_item m d (λ w. is_among path w.asked) (asked-or path) names name node there h);
     }
 
-pub DirectoryRefuses-name : (t : Names) (made : Option Made) (m : Meanings) (root : List ℕ) (limit : ℕ) (P Q : Type 0) (full d : List ℕ) (c : Outcome) (names : Names) (name : List ℕ) (node : Node) (e : Error)
-    → look t full (is_empty d) ≡ found (directory names) → child names name ≡ Some node → (P → Q) → Refuses t made m root limit P (item m (joined d name) node) e → DirectoryRefuses t made m root limit Q full d c e
-DirectoryRefuses-name t made m root limit P Q full d c names name node e there stands f h =
-    inr (subst (λ (w : Walked). Refuses t made m root limit Q w e) (sym (ap (entered_at m d c) there)) (Refuses-within t made m root limit P Q (item m (joined d name) node) (report_of m d c names) e (item_within m d c names name node stands) f h))
+pub DirectoryRefuses-name : (s : Sources) (made : Option Made) (m : Meanings) (root : List ℕ) (limit : ℕ) (P Q : Type 0) (full d : List ℕ) (c : Outcome) (names : Names) (name : List ℕ) (node : Node) (e : Error)
+    → look s.tree full (is_empty d) ≡ found (directory names) → child names name ≡ Some node → (P → Q) → Refuses s made m root limit P (item m (joined d name) node) e → DirectoryRefuses s made m root limit Q full d c e
+DirectoryRefuses-name s made m root limit P Q full d c names name node e there stands f h =
+    inr (subst (λ (w : Walked). Refuses s made m root limit Q w e) (sym (ap (entered_at m d c) there)) (Refuses-within s made m root limit P Q (item m (joined d name) node) (report_of m d c names) e (item_within m d c names name node stands) f h))
 
 -- ---- a path that is entered
 
@@ -129,46 +131,46 @@ asked-name m path node e = go (enters (child_class m path node) false) refl
         ap (λ (w : Walked). is_among path w.asked) (item-leaf m path node out) ∙ among-asking (child_asks m path node) path (leaf (entry_at path (child_class m path node))) e
 
 -- a refusal of a class is one of the name
-pub Refuses-class : (t : Names) (made : Option Made) (m : Meanings) (root : List ℕ) (limit : ℕ) (Failed : Type 0) (path : List ℕ) (node : Node) (e : Error) → is_normal path ≡ true → classes.IsAbout made path e → classes.Refuses t made path e
-    → classes.OnAccess (child_asks m path node ≡ true) e ⊎ Failed → Refuses t made m root limit Failed (item m path node) e
-Refuses-class t made m root limit Failed path node (errors.WorktreeRootIsFile p) normal about refused asks = about
-Refuses-class t made m root limit Failed path node (errors.ExcludesAccess e) normal about refused asks = go made about refused
+pub Refuses-class : (s : Sources) (made : Option Made) (m : Meanings) (root : List ℕ) (limit : ℕ) (Failed : Type 0) (path : List ℕ) (node : Node) (e : Error) → is_normal path ≡ true → classes.IsAbout made path e → classes.Refuses s made path e
+    → classes.OnAccess (child_asks m path node ≡ true) e ⊎ Failed → Refuses s made m root limit Failed (item m path node) e
+Refuses-class s made m root limit Failed path node (errors.WorktreeRootIsFile p) normal about refused asks = about
+Refuses-class s made m root limit Failed path node (errors.ExcludesAccess e) normal about refused asks = go made about refused
   where
     among : (child_asks m path node ≡ true) ⊎ Failed → (is_among path (item m path node).asked ≡ true) ⊎ Failed
     among (inl h) = inl (asked-name m path node h)
     among (inr f) = inr f
 
-    go : (k : Option Made) → classes.IsAbout k path (errors.ExcludesAccess e) → classes.Refuses t k path (errors.ExcludesAccess e) → IsSomeAnd k (λ rules. IsNoAccess t rules (item m path node) Failed e)
+    go : (k : Option Made) → classes.IsAbout k path (errors.ExcludesAccess e) → classes.Refuses s k path (errors.ExcludesAccess e) → IsSomeAnd k (λ rules. IsNoAccess s rules (item m path node) Failed e)
     go None a r = absurd a
     go (Some rules) a r = record { path = path; normal = normal; asked = among asks; access = a; refused = r }
-Refuses-class t made m root limit Failed path node (errors.TooDeep p) normal about refused asks = absurd about
-Refuses-class t made m root limit Failed path node (errors.ReadDir p why) normal about refused asks = absurd about
-Refuses-class t made m root limit Failed path node (errors.DirEntry p) normal about refused asks = tt
-Refuses-class t made m root limit Failed path node errors.OutOfMemory normal about refused asks = tt
+Refuses-class s made m root limit Failed path node (errors.TooDeep p) normal about refused asks = absurd about
+Refuses-class s made m root limit Failed path node (errors.ReadDir p why) normal about refused asks = absurd about
+Refuses-class s made m root limit Failed path node (errors.DirEntry p) normal about refused asks = tt
+Refuses-class s made m root limit Failed path node errors.OutOfMemory normal about refused asks = tt
 
 -- it says of the tree what the lookup said
-pub IsInTree-class : (t : Names) (made : Option Made) (path : List ℕ) (e : Error) → is_normal path ≡ true → classes.IsAbout made path e → classes.Refuses t made path e → IsInTree t made e
-IsInTree-class t made path (errors.WorktreeRootIsFile p) normal about refused = tt
-IsInTree-class t made path (errors.ExcludesAccess e) normal about refused = go made about refused
+pub IsInTree-class : (holds : Option Objects) (s : Sources) (made : Option Made) (path : List ℕ) (e : Error) → is_normal path ≡ true → classes.IsAbout made path e → (holds ≡ Some s.objects → classes.Refuses s made path e) → IsInTree holds s made e
+IsInTree-class holds s made path (errors.WorktreeRootIsFile p) normal about refused = tt
+IsInTree-class holds s made path (errors.ExcludesAccess e) normal about refused = go made about refused
   where
-    go : (k : Option Made) → classes.IsAbout k path (errors.ExcludesAccess e) → classes.Refuses t k path (errors.ExcludesAccess e) → IsSomeAnd k (λ rules. IsRefusedLookup t rules e)
+    go : (k : Option Made) → classes.IsAbout k path (errors.ExcludesAccess e) → (holds ≡ Some s.objects → classes.Refuses s k path (errors.ExcludesAccess e)) → IsSomeAnd k (λ rules. holds ≡ Some s.objects → IsRefusedLookup s rules e)
     go None a r = absurd a
-    go (Some rules) a r = record { path = path; normal = normal; access = a; refused = r }
-IsInTree-class t made path (errors.TooDeep p) normal about refused = tt
-IsInTree-class t made path (errors.ReadDir p why) normal about refused = absurd about
-IsInTree-class t made path (errors.DirEntry p) normal about refused = tt
-IsInTree-class t made path errors.OutOfMemory normal about refused = tt
+    go (Some rules) a r = λ known. record { path = path; normal = normal; access = a; refused = r known }
+IsInTree-class holds s made path (errors.TooDeep p) normal about refused = tt
+IsInTree-class holds s made path (errors.ReadDir p why) normal about refused = absurd about
+IsInTree-class holds s made path (errors.DirEntry p) normal about refused = tt
+IsInTree-class holds s made path errors.OutOfMemory normal about refused = tt
 
 -- and so does a listing
-pub IsInTree-open : (t : Names) (made : Option Made) (full : List ℕ) (follow : Bool) (e : Error) → OpenRefuses full (look t full follow) e → IsInTree t made e
-IsInTree-open t made full follow (errors.WorktreeRootIsFile p) h = tt
-IsInTree-open t made full follow (errors.ExcludesAccess e) h = absurd h
-IsInTree-open t made full follow (errors.TooDeep p) h = tt
-IsInTree-open t made full follow (errors.ReadDir p reads.Absent) h = record { follow = follow; node = ap (λ (q : List ℕ). list_of (look t q follow)) h.0 ∙ h.1 }
-IsInTree-open t made full follow (errors.ReadDir p reads.NotADirectory) h = record { follow = follow; node = ap (λ (q : List ℕ). list_of (look t q follow)) h.0 ∙ h.1 }
-IsInTree-open t made full follow (errors.ReadDir p reads.Fault) h = tt
-IsInTree-open t made full follow (errors.DirEntry p) h = tt
-IsInTree-open t made full follow errors.OutOfMemory h = tt
+pub IsInTree-open : (holds : Option Objects) (s : Sources) (made : Option Made) (full : List ℕ) (follow : Bool) (e : Error) → OpenRefuses full (look s.tree full follow) e → IsInTree holds s made e
+IsInTree-open holds s made full follow (errors.WorktreeRootIsFile p) h = tt
+IsInTree-open holds s made full follow (errors.ExcludesAccess e) h = absurd h
+IsInTree-open holds s made full follow (errors.TooDeep p) h = tt
+IsInTree-open holds s made full follow (errors.ReadDir p reads.Absent) h = record { follow = follow; node = ap (λ (q : List ℕ). list_of (look s.tree q follow)) h.0 ∙ h.1 }
+IsInTree-open holds s made full follow (errors.ReadDir p reads.NotADirectory) h = record { follow = follow; node = ap (λ (q : List ℕ). list_of (look s.tree q follow)) h.0 ∙ h.1 }
+IsInTree-open holds s made full follow (errors.ReadDir p reads.Fault) h = tt
+IsInTree-open holds s made full follow (errors.DirEntry p) h = tt
+IsInTree-open holds s made full follow errors.OutOfMemory h = tt
 
 pub IsAbout-class : (made : Option Made) (root : List ℕ) (limit : ℕ) (path : List ℕ) (e : Error) → is_normal path ≡ true → classes.IsAbout made path e → IsAbout made root limit e
 IsAbout-class made root limit path (errors.WorktreeRootIsFile p) normal about = absurd about
@@ -190,17 +192,17 @@ broken-among m path c other why e = ap (λ b. b || false) (nat_list_eq_equiv.ref
 broken-among m path c (directory names) why e = absurd (cc e)
 
 -- a refusal of a directory that is entered under a name is one of the name
-pub Refuses-directory : (t : Names) (made : Option Made) (m : Meanings) (root : List ℕ) (limit : ℕ) (P Q : Type 0) (full path : List ℕ) (c : Outcome) (node : Node) (e : Error) → IsPlaced root full path → is_empty path ≡ false
-    → look t full false ≡ found node → c ≡ child_class m path node → enters c false ≡ true → (P → Q) → DirectoryRefuses t made m root limit P full path c e → Refuses t made m root limit Q (item m path node) e
-Refuses-directory t made m root limit P Q full path c node e at some there is into longer refused =
-    let R : Walked → Type 0 = λ w. Refuses t made m root limit Q w e in
-    let looked : look t full (is_empty path) ≡ found node = ap (look t full) some ∙ there in
+pub Refuses-directory : (s : Sources) (made : Option Made) (m : Meanings) (root : List ℕ) (limit : ℕ) (P Q : Type 0) (full path : List ℕ) (c : Outcome) (node : Node) (e : Error) → IsPlaced root full path → is_empty path ≡ false
+    → look s.tree full false ≡ found node → c ≡ child_class m path node → enters c false ≡ true → (P → Q) → DirectoryRefuses s made m root limit P full path c e → Refuses s made m root limit Q (item m path node) e
+Refuses-directory s made m root limit P Q full path c node e at some there is into longer refused =
+    let R : Walked → Type 0 = λ w. Refuses s made m root limit Q w e in
+    let looked : look s.tree full (is_empty path) ≡ found node = ap (look s.tree full) some ∙ there in
     let w : Walked = entered_at m path c (found node) in
     let same : asking (child_asks m path node) path w ≡ item m path node =
     ap (λ (k : Outcome). asking (child_asks m path node) path (entered_at m path k (found node))) is ∙ sym (item-entered m path node (ap (λ (k : Outcome). enters k false) (sym is) ∙ into)) in
-    subst R same (Refuses-within t made m root limit P Q w (asking (child_asks m path node) path w) e (asking_within (child_asks m path node) path w) longer (go e refused looked))
+    subst R same (Refuses-within s made m root limit P Q w (asking (child_asks m path node) path w) e (asking_within (child_asks m path node) path w) longer (go e refused looked))
   where
-    broken : (why : ListError) (p : List ℕ) → p ≡ full → list_of (look t full (is_empty path)) ≡ Err why → look t full (is_empty path) ≡ found node → IsBroken t m root (entered_at m path c (found node)) why p
+    broken : (why : ListError) (p : List ℕ) → p ≡ full → list_of (look s.tree full (is_empty path)) ≡ Err why → look s.tree full (is_empty path) ≡ found node → IsBroken s.tree m root (entered_at m path c (found node)) why p
     broken why p p_is refuses looked =
         let no_names : list_of (found node) ≡ Err why = ap list_of (sym looked) ∙ refuses in
         record {
@@ -208,13 +210,13 @@ Refuses-directory t made m root limit P Q full path c node e at some there is in
           path_is = p_is ∙ at.full_is;
           broken = broken-among m path c node why no_names;
           indexed = up_to_date-broken m path node why (ap (λ (k : Outcome). enters k false) (sym is) ∙ into) no_names;
-          node = ap (λ (q : List ℕ). list_of (look t q false)) p_is ∙ ap list_of there ∙ no_names;
+          node = ap (λ (q : List ℕ). list_of (look s.tree q false)) p_is ∙ ap list_of there ∙ no_names;
         }
 
-    within : (f : Error) → look t full (is_empty path) ≡ found node → Refuses t made m root limit P (entered_at m path c (look t full (is_empty path))) f → Refuses t made m root limit P (entered_at m path c (found node)) f
-    within f looked h = subst (λ (w : Walked). Refuses t made m root limit P w f) (ap (entered_at m path c) looked) h
+    within : (f : Error) → look s.tree full (is_empty path) ≡ found node → Refuses s made m root limit P (entered_at m path c (look s.tree full (is_empty path))) f → Refuses s made m root limit P (entered_at m path c (found node)) f
+    within f looked h = subst (λ (w : Walked). Refuses s made m root limit P w f) (ap (entered_at m path c) looked) h
 
-    go : (f : Error) → DirectoryRefuses t made m root limit P full path c f → look t full (is_empty path) ≡ found node → Refuses t made m root limit P (entered_at m path c (found node)) f
+    go : (f : Error) → DirectoryRefuses s made m root limit P full path c f → look s.tree full (is_empty path) ≡ found node → Refuses s made m root limit P (entered_at m path c (found node)) f
     go f (inr h) looked = within f looked h
     go (errors.WorktreeRootIsFile p) (inl h) looked = h
     go (errors.ExcludesAccess p) (inl h) looked = absurd h

@@ -3,12 +3,13 @@ use Rattle.std.proofs.Common.{◌≡◌, ◌⊎◌, inl, inr, ℕ, ◌+◌, ◌-
 use Rattle.std.specs.Prelude.{option_map, if◌then◌else◌, nat_lt}
 use Rattle.std.specs.Result.{result_ok}
 use borrow.Author.Tests.{ltb-true, ltb-false}
-use Rattle.worktree_fs.specs.Causes.{Quiet, Rose}
+use Rattle.worktree_fs.specs.Causes.{NotIncreased, Increased}
 use Rattle.gitbase_core.specs.declared.entry.IndexEntry.{IndexEntry}
 use Rattle.worktree_fs.specs.Tree.{Names, Look, look, found, absent, too_many_links, file, link, directory, other}
 use Rattle.worktree_fs.specs.Answers.{kind_of, list_of}
 use Rattle.worktree_fs.specs.declared.answers.NodeKind.TheVariants as nodes
-use Rattle.worktree_stack.specs.Stacked.{Made}
+use Rattle.worktree_stack.specs.Setup.{Made}
+use Rattle.worktree_stack.specs.Reading.{Sources}
 use Rattle.dir_classify.specs.declared.entry.Kind.{Kind}
 use Rattle.dir_classify.specs.declared.entry.Kind.TheVariants.{Directory}
 use Rattle.dir_classify.specs.declared.classify.Outcome.{Outcome}
@@ -21,20 +22,20 @@ use Rattle.dir_classify.specs.Asked.{asked, root_class}
 use Rattle.dir_walk.specs.Walked.{report_of}
 use Rattle.dir_walk.specs.Report.{is_root_entered, walked}
 use Rattle.dir_walk.specs.Refused.{IsNoRoot}
-use Rattle.dir_walk.proofs.Follow.{look-follow}
+use Rattle.worktree_fs.proofs.Follow.{look-follow}
 
 -- either the count rose, or it did not
-pub quiet-or-rose : (before now : ℕ) → Quiet before now ⊎ Rose before now
+pub quiet-or-rose : (before now : ℕ) → NotIncreased before now ⊎ Increased before now
 quiet-or-rose before now = go (nat_lt now (min (before + 1) (2 ^ 64 - 1))) refl
   where
-    go : (b : Bool) → nat_lt now (min (before + 1) (2 ^ 64 - 1)) ≡ b → Quiet before now ⊎ Rose before now
+    go : (b : Bool) → nat_lt now (min (before + 1) (2 ^ 64 - 1)) ≡ b → NotIncreased before now ⊎ Increased before now
     go true e = inl (ltb-true now (min (before + 1) (2 ^ 64 - 1)) e)
     go false e = inr (ltb-false now (min (before + 1) (2 ^ 64 - 1)) e)
 
-pub unless-rose : (before now : ℕ) (P : Type 0) → (Quiet before now → P) → P ⊎ Rose before now
+pub unless-rose : (before now : ℕ) (P : Type 0) → (NotIncreased before now → P) → P ⊎ Increased before now
 unless-rose before now P f = go (quiet-or-rose before now)
   where
-    go : Quiet before now ⊎ Rose before now → P ⊎ Rose before now
+    go : NotIncreased before now ⊎ Increased before now → P ⊎ Increased before now
     go (inl quiet) = inl (f quiet)
     go (inr rose) = inr rose
 
@@ -117,20 +118,20 @@ no-root m t root c unindexed is out =
     }
 
 -- the index has nothing at the empty path
-pub unindexed-root : (index : List IndexEntry) (made : Option Made) (t : Names) → (meanings index made t).in_index [] ≡ not_indexed
+pub unindexed-root : (index : List IndexEntry) (made : Option Made) (s : Sources) → (meanings index made s).in_index [] ≡ not_indexed
 unfolding in_index
-unindexed-root index made t = refl
+unindexed-root index made s = refl
 
 pub entered-true : (b e : Bool) (Failed : Type 0) → (b ≡ e) ⊎ ((b ≡ false) × Failed) → b ≡ true → e ≡ true
 entered-true b e Failed (inl same) is = sym same ∙ is
 entered-true b e Failed (inr failed) is = absurd (let f : true ≡ false = sym is ∙ failed.0 in cc f)
 
 -- a worktree root that was not entered is none, or a question for it failed
-pub root-refused : (m : Meanings) (t : Names) (root : List ℕ) (c : Outcome) (b : Bool) (before mid now : ℕ) → m.in_index [] ≡ not_indexed → before ≤ mid → mid ≤ now → (Quiet before mid → c ≡ root_class m t root)
-    → (b ≡ is_root_entered t root c) ⊎ ((b ≡ false) × Rose mid now) → b ≡ false → IsNoRoot t m root ⊎ Rose before now
+pub root-refused : (m : Meanings) (t : Names) (root : List ℕ) (c : Outcome) (b : Bool) (before mid now : ℕ) → m.in_index [] ≡ not_indexed → before ≤ mid → mid ≤ now → (NotIncreased before mid → c ≡ root_class m t root)
+    → (b ≡ is_root_entered t root c) ⊎ ((b ≡ false) × Increased mid now) → b ≡ false → IsNoRoot t m root ⊎ Increased before now
 root-refused m t root c b before mid now unindexed first later class entered out = go (quiet-or-rose before mid) entered
   where
-    go : Quiet before mid ⊎ Rose before mid → (b ≡ is_root_entered t root c) ⊎ ((b ≡ false) × Rose mid now) → IsNoRoot t m root ⊎ Rose before now
+    go : NotIncreased before mid ⊎ Increased before mid → (b ≡ is_root_entered t root c) ⊎ ((b ≡ false) × Increased mid now) → IsNoRoot t m root ⊎ Increased before now
     go (inr rose) e = inr (omega (arith, rose, later))
-    go (inl quiet) (inr failed) = inr (let rose : Rose mid now = failed.1 in omega (arith, rose, first))
+    go (inl quiet) (inr failed) = inr (let rose : Increased mid now = failed.1 in omega (arith, rose, first))
     go (inl quiet) (inl same) = inl (no-root m t root c unindexed (class quiet) (sym same ∙ out))

@@ -1,15 +1,18 @@
 -- The steps of a walk.
 use Rattle.std.proofs.Common.{◌≡◌, ℕ, ◌+◌, ◌<◌, List, [], ◌∷◌, Bool, true, false, ◌&&◌, ◌||◌, Option, Some, None, get_or, length, refl, sym, ap, subst, ◌∙◌, arith}
-use Rattle.std.specs.Prelude.{option_map, nat_lt}
+use Rattle.std.specs.Prelude.{option_map, is_some, nat_lt}
 use Rattle.std.specs.List.{list_any}
+use Rattle.gitbase_core.specs.Objects.{Objects}
 use Rattle.gitbase_core.specs.Path.{joined, is_empty}
 use Rattle.worktree_fs.specs.Tree.{Node, Names, Look, look, found}
 use Rattle.worktree_fs.specs.Naming.{IsName, AreNames}
 use Rattle.worktree_fs.specs.Answers.{kind_of}
 use Rattle.worktree_fs.specs.declared.answers.ListError.{ListError}
 use Rattle.worktree_fs.specs.declared.answers.ListError.TheVariants as lists
-use Rattle.worktree_stack.specs.Stacked.{Stacked, Made}
-use Rattle.dir_classify.specs.Excludes.{made_with, InStepIf}
+use Rattle.worktree_stack.specs.Setup.{Made}
+use Rattle.worktree_stack.specs.Reading.{Sources}
+use Rattle.worktree_stack.specs.Stacked.{Stacked}
+use Rattle.dir_classify.specs.Excludes.{made_with, TellsIf, InStepIf}
 use Rattle.dir_classify.specs.declared.options.Options.{Options}
 use Rattle.dir_classify.specs.declared.entry.Entry.{Entry}
 use Rattle.dir_classify.specs.declared.classify.Outcome.{Outcome as Class}
@@ -39,10 +42,19 @@ IsAbout-read_error made root full rela limit lists.OpenFault at = record { below
 IsAbout-read_error made root full rela limit lists.EntryFault at = record { below = rela; path_is = at.full_is; normal = at.normal }
 IsAbout-read_error made root full rela limit lists.OutOfMemory at = tt
 
+-- where a walk stands its worktree and its store tell
+pub telling : {told : Option Names} {holds : Option Objects} {x : Option Stacked} {s : Sources} {made : Option Made} → Stands told holds x s made → TellsIf told holds (made_with x) s
+telling at = record { tree_is = at.tree; objects_are = λ some. at.objects (sym (ap is_some at.made_is) ∙ some) }
+
+-- they tell it a call later
+pub tells-later : {told0 told1 : Option Names} {holds0 holds1 : Option Objects} {made0 made1 : Option Made} {s : Sources} → told1 ≡ told0 → holds1 ≡ holds0 → made1 ≡ made0 → TellsIf told0 holds0 made0 s → TellsIf told1 holds1 made1 s
+tells-later tree objects same tells = record { tree_is = tree ∙ tells.tree_is; objects_are = λ some. objects ∙ tells.objects_are (sym (ap is_some same) ∙ some) }
+
 -- where a walk stands a call later
-pub stands-later : (told0 told1 : Option Names) (x0 x1 : Option Stacked) (t : Names) (made : Option Made) → told1 ≡ told0 → made_with x1 ≡ made_with x0 → ((u : Names) → told0 ≡ Some u → InStepIf u x0 → InStepIf u x1)
-    → Stands told0 x0 t made → Stands told1 x1 t made
-stands-later told0 told1 x0 x1 t made tree same step at = record { tree = tree ∙ at.tree; made_is = same ∙ at.made_is; in_step = step t at.tree at.in_step }
+pub stands-later : (told0 told1 : Option Names) (holds0 holds1 : Option Objects) (x0 x1 : Option Stacked) (s : Sources) (made : Option Made) → told1 ≡ told0 → holds1 ≡ holds0 → made_with x1 ≡ made_with x0
+    → ((u : Sources) → TellsIf told0 holds0 (made_with x0) u → InStepIf u x0 → InStepIf u x1) → Stands told0 holds0 x0 s made → Stands told1 holds1 x1 s made
+stands-later told0 told1 holds0 holds1 x0 x1 s made tree objects same step at =
+    record { tree = tree ∙ at.tree; objects = λ some. objects ∙ at.objects some; made_is = same ∙ at.made_is; in_step = step s (telling at) at.in_step }
 
 -- ---- a child
 

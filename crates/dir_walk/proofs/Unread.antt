@@ -1,13 +1,12 @@
--- A rules file that is refused, of a directory above a path.
+-- Rules that are refused, of a directory above a path.
 use Rattle.std.proofs.Common.{◌≡◌, ℕ, List, [], ◌∷◌, ◌++◌, Bool, true, false, not, ◌&&◌, map, Some, refl, ap, ◌∙◌}
 use Rattle.std.specs.List.{list_all}
 use Rattle.gitbase_core.specs.Path.{components}
-use Rattle.worktree_fs.specs.Tree.{Names}
 use Rattle.worktree_fs.specs.Paths.{spelled, fronts, without_last}
-use Rattle.worktree_stack.specs.declared.error.RulesWhy.{RulesWhy}
-use Rattle.worktree_stack.specs.Reading.{reading, is_read}
-use Rattle.worktree_stack.specs.Stacked.{Made}
-use Rattle.worktree_stack.specs.Refused.{IsRefusedAncestor}
+use Rattle.std.specs.Prelude.{Err}
+use Rattle.worktree_stack.specs.Setup.{Made}
+use Rattle.worktree_stack.specs.Reading.{Sources, Refusal, reading, is_read}
+use Rattle.worktree_stack.specs.Refused.{OfAncestor}
 use Rattle.dir_classify.specs.Meanings.{is_unread_in}
 
 all-map : {X Y : Type 0} (p : Y → Bool) (f : X → Y) (xs : List X) → list_all p (map f xs) ≡ list_all (λ x. p (f x)) xs
@@ -33,8 +32,9 @@ all-front p (name ∷ names) (x ∷ front) rest e fails =
     and-right (p []) (list_all p (map (λ f. name ∷ f) (fronts names)))
     (all-map p (λ f. name ∷ f) (fronts names) ∙ all-front (λ f. p (name ∷ f)) names front rest (tail_is e) (ap (λ (n : List ℕ). p (n ∷ front)) (head_is e) ∙ fails))
 
-pub unread-ancestor : (t : Names) (rules : Made) (path file : List ℕ) (why : RulesWhy) → IsRefusedAncestor t rules.root rules.setup (components path) file why → is_unread_in (Some rules) t path ≡ true
+pub unread-ancestor : (s : Sources) (rules : Made) (path : List ℕ) (Holds : List ℕ → Type 0) (refusal : Refusal) → OfAncestor (components path) Holds
+    → ((d : List ℕ) → Holds d → reading rules s d ≡ Err refusal) → is_unread_in (Some rules) s path ≡ true
 unfolding is_unread_in
-unread-ancestor t rules path file why h =
+unread-ancestor s rules path Holds refusal h is =
     ap not
-    (all-front (λ directory. is_read (reading rules.setup t rules.root (spelled directory))) (without_last (components path)) h.ancestor h.rest h.above (ap is_read h.refused))
+    (all-front (λ directory. is_read (reading rules s (spelled directory))) (without_last (components path)) h.ancestor h.rest h.above (ap is_read (is (spelled h.ancestor) h.holds)))

@@ -14,8 +14,11 @@ use Rattle.worktree_stack.specs.declared.error.AtPathError.TheVariants as inner
 use Rattle.worktree_stack.specs.declared.error.RulesWhy.{RulesWhy}
 use Rattle.worktree_stack.specs.declared.error.RulesWhy.TheVariants as whys
 use Rattle.worktree_stack.specs.Refused as lookups
-use Rattle.worktree_stack.specs.Stacked.{Made}
-use Rattle.worktree_fs.specs.Causes.{Quiet, Rose}
+use Rattle.worktree_stack.specs.declared.error.BlobWhy.{BlobWhy}
+use Rattle.worktree_stack.specs.declared.error.BlobWhy.TheVariants as blob_whys
+use Rattle.worktree_stack.specs.Setup.{Made}
+use Rattle.worktree_stack.specs.Reading.{Sources, Tells, Refusal, of_file, of_blob, reading}
+use Rattle.worktree_fs.specs.Causes.{NotIncreased, Increased}
 use Rattle.worktree_fs.specs.Answers.{list_of}
 use Rattle.worktree_fs.specs.declared.answers.ListError.{ListError}
 use Rattle.worktree_fs.specs.declared.answers.ListError.TheVariants as lists
@@ -42,58 +45,60 @@ use Rattle.dir_walk.proofs.Unread.{unread-ancestor}
 -- ---- refusals
 
 -- a refusal below the worktree root is one of the walk
-pub WalkRefuses-directory : (t : Names) (made : Option Made) (m : Meanings) (root : List ℕ) (limit : ℕ) (P Q : Type 0) (c : Class) (e : Error) → RootEntered m t root c → (P → Q) → DirectoryRefuses t made m root limit P root [] c e
-    → WalkRefuses t made m root limit Q e
-WalkRefuses-directory t made m root limit P Q c e at longer refused = go e refused
+pub WalkRefuses-directory : (s : Sources) (made : Option Made) (m : Meanings) (root : List ℕ) (limit : ℕ) (P Q : Type 0) (c : Class) (e : Error) → RootEntered m s.tree root c → (P → Q) → DirectoryRefuses s made m root limit P root [] c e
+    → WalkRefuses s made m root limit Q e
+WalkRefuses-directory s made m root limit P Q c e at longer refused = go e refused
   where
     w : Walked
     w = report_of m [] c at.names
 
-    within : (R : Walked → Type 0) → R w → IsSomeAnd (walked m t root) R
+    within : (R : Walked → Type 0) → R w → IsSomeAnd (walked m s.tree root) R
     within R h = subst (λ (o : Option Walked). IsSomeAnd o R) (sym at.walked_is) h
 
     -- the root was listed
-    listed : {X : Type 0} (why : ListError) → list_of (look t root true) ≡ Err why → X
+    listed : {X : Type 0} (why : ListError) → list_of (look s.tree root true) ≡ Err why → X
     listed why e = absurd (let f : list_of (found (directory at.names)) ≡ Err why = ap list_of (sym at.there) ∙ e in cc f)
 
-    seen : (f : Error) → Refuses t made m root limit P (entered_at m [] c (look t root true)) f → Refuses t made m root limit Q w f
-    seen f h = Refuses-within t made m root limit P Q w w f (record { entered = λ p h. h; broken = λ p h. h; asked = λ p h. h }) longer (subst (λ (v : Walked). Refuses t made m root limit P v f) (ap (entered_at m [] c) at.there) h)
+    seen : (f : Error) → Refuses s made m root limit P (entered_at m [] c (look s.tree root true)) f → Refuses s made m root limit Q w f
+    seen f h = Refuses-within s made m root limit P Q w w f (record { entered = λ p h. h; broken = λ p h. h; asked = λ p h. h }) longer (subst (λ (v : Walked). Refuses s made m root limit P v f) (ap (entered_at m [] c) at.there) h)
 
-    go : (f : Error) → DirectoryRefuses t made m root limit P root [] c f → WalkRefuses t made m root limit Q f
+    go : (f : Error) → DirectoryRefuses s made m root limit P root [] c f → WalkRefuses s made m root limit Q f
     go (errors.WorktreeRootIsFile path) (inl h) = absurd h
     go (errors.WorktreeRootIsFile path) (inr h) = absurd h
     go (errors.ExcludesAccess inner) (inl h) = absurd h
-    go (errors.ExcludesAccess inner) (inr h) = within (λ v. IsSomeAnd made (λ rules. IsNoAccess t rules v Q inner)) (seen (errors.ExcludesAccess inner) h)
+    go (errors.ExcludesAccess inner) (inr h) = within (λ v. IsSomeAnd made (λ rules. IsNoAccess s rules v Q inner)) (seen (errors.ExcludesAccess inner) h)
     go (errors.TooDeep path) (inl h) = absurd h
     go (errors.TooDeep path) (inr h) = within (λ v. IsTooDeep root limit v path) (seen (errors.TooDeep path) h)
     go (errors.ReadDir path reads.Absent) (inl h) = listed lists.Absent h.1
     go (errors.ReadDir path reads.NotADirectory) (inl h) = listed lists.NotADirectory h.1
-    go (errors.ReadDir path reads.Fault) (inl h) = within (λ v. IsUnread t m root v path reads.Fault) tt
-    go (errors.ReadDir path why) (inr h) = within (λ v. IsUnread t m root v path why) (seen (errors.ReadDir path why) h)
+    go (errors.ReadDir path reads.Fault) (inl h) = within (λ v. IsUnread s.tree m root v path reads.Fault) tt
+    go (errors.ReadDir path why) (inr h) = within (λ v. IsUnread s.tree m root v path why) (seen (errors.ReadDir path why) h)
     go (errors.DirEntry path) h = tt
     go errors.OutOfMemory h = tt
 
-lookup-weaker : (P Q : Type 0) (e : AtPathError) → (P → Q) → lookups.OnFault P e → lookups.OnFault Q e
-lookup-weaker P Q inner.NotNormal f h = tt
-lookup-weaker P Q (inner.Component why) f h = tt
-lookup-weaker P Q (inner.Collision path) f h = tt
-lookup-weaker P Q (inner.Directory path why) f h = tt
-lookup-weaker P Q (inner.RulesFile path whys.Link) f h = tt
-lookup-weaker P Q (inner.RulesFile path whys.LinkLimit) f h = tt
-lookup-weaker P Q (inner.RulesFile path whys.Special) f h = tt
-lookup-weaker P Q (inner.RulesFile path whys.Fault) f h = f h
-lookup-weaker P Q (inner.Blob id why) f h = tt
-lookup-weaker P Q inner.OutOfMemory f h = tt
+lookup-weaker : (P Q P' Q' : Type 0) (e : AtPathError) → (P → P') → (Q → Q') → lookups.OnFault P Q e → lookups.OnFault P' Q' e
+lookup-weaker P Q P' Q' inner.NotNormal f g h = tt
+lookup-weaker P Q P' Q' (inner.Component why) f g h = tt
+lookup-weaker P Q P' Q' (inner.Collision path) f g h = tt
+lookup-weaker P Q P' Q' (inner.Directory path why) f g h = tt
+lookup-weaker P Q P' Q' (inner.RulesFile path whys.Link) f g h = tt
+lookup-weaker P Q P' Q' (inner.RulesFile path whys.LinkLimit) f g h = tt
+lookup-weaker P Q P' Q' (inner.RulesFile path whys.Special) f g h = tt
+lookup-weaker P Q P' Q' (inner.RulesFile path whys.Fault) f g h = f h
+lookup-weaker P Q P' Q' (inner.Blob id blob_whys.Missing) f g h = tt
+lookup-weaker P Q P' Q' (inner.Blob id blob_whys.NotABlob) f g h = tt
+lookup-weaker P Q P' Q' (inner.Blob id blob_whys.Fault) f g h = g h
+lookup-weaker P Q P' Q' inner.OutOfMemory f g h = tt
 
-pub OnFault-weaker : (P Q : Type 0) (e : Error) → (P → Q) → OnFault P e → OnFault Q e
-OnFault-weaker P Q (errors.WorktreeRootIsFile path) f h = tt
-OnFault-weaker P Q (errors.ExcludesAccess e) f h = lookup-weaker P Q e f h
-OnFault-weaker P Q (errors.TooDeep path) f h = tt
-OnFault-weaker P Q (errors.ReadDir path reads.Absent) f h = tt
-OnFault-weaker P Q (errors.ReadDir path reads.NotADirectory) f h = tt
-OnFault-weaker P Q (errors.ReadDir path reads.Fault) f h = f h
-OnFault-weaker P Q (errors.DirEntry path) f h = f h
-OnFault-weaker P Q errors.OutOfMemory f h = tt
+pub OnFault-weaker : (P Q P' Q' : Type 0) (e : Error) → (P → P') → (Q → Q') → OnFault P Q e → OnFault P' Q' e
+OnFault-weaker P Q P' Q' (errors.WorktreeRootIsFile path) f g h = tt
+OnFault-weaker P Q P' Q' (errors.ExcludesAccess e) f g h = lookup-weaker P Q P' Q' e f g h
+OnFault-weaker P Q P' Q' (errors.TooDeep path) f g h = tt
+OnFault-weaker P Q P' Q' (errors.ReadDir path reads.Absent) f g h = tt
+OnFault-weaker P Q P' Q' (errors.ReadDir path reads.NotADirectory) f g h = tt
+OnFault-weaker P Q P' Q' (errors.ReadDir path reads.Fault) f g h = f h
+OnFault-weaker P Q P' Q' (errors.DirEntry path) f g h = f h
+OnFault-weaker P Q P' Q' errors.OutOfMemory f g h = tt
 
 -- ---- completeness
 
@@ -142,56 +147,62 @@ unfolding deep_or_broken
 asked-refused limit m w path e unread =
     or-right (deep_or_broken limit w) (list_any m.is_unread w.asked) (any-implies (bytes_eq path) m.is_unread w.asked (λ d same. ap m.is_unread (sym (same_text path d (sym same))) ∙ unread) e)
 
-module _ (t : Names) (rules : Made) (entries : List IndexEntry) (limit before now : ℕ) (w : Walked) (quiet : Quiet before now) where
+module _ (s : Sources) (rules : Made) (entries : List IndexEntry) (limit before now store_before store_now : ℕ) (w : Walked) (quiet : NotIncreased before now) (store_quiet : NotIncreased store_before store_now) where
   m : Meanings
-  m = meanings entries (Some rules) t
+  m = meanings entries (Some rules) s
 
-  of_file : (path file : List ℕ) (why : RulesWhy) → (is_among path w.asked ≡ true) ⊎ Rose before now → lookups.IsRefusedAncestor t rules.root rules.setup (components path) file why → is_refused limit m w ≡ true
+  unread : (path : List ℕ) (Holds : List ℕ → Type 0) (refusal : Refusal) → (is_among path w.asked ≡ true) ⊎ Increased before now → lookups.OfAncestor (components path) Holds
+      → ((d : List ℕ) → Holds d → reading rules s d ≡ Err refusal) → is_refused limit m w ≡ true
   unfolding m
-  of_file path file why (inl asked) h = asked-refused limit m w path asked (unread-ancestor t rules path file why h)
-  of_file path file why (inr rose) h = absurd (omega (arith, rose, quiet))
+  unread path Holds refusal (inl asked) h is = asked-refused limit m w path asked (unread-ancestor s rules path Holds refusal h is)
+  unread path Holds refusal (inr rose) h is = absurd (omega (arith, rose, quiet))
 
-  access-refused : (e : AtPathError) → lookups.OnFault (Rose before now) e → IsNoAccess t rules w (Rose before now) e → is_refused limit (meanings entries (Some rules) t) w ≡ true
+  told_so : Tells (Some s.tree) (Some s.objects) s
+  told_so = record { tree_is = refl; objects_are = refl }
+
+  access-refused : (e : AtPathError) → lookups.OnFault (Increased before now) (Increased store_before store_now) e → IsNoAccess s rules w (Increased before now) e → is_refused limit (meanings entries (Some rules) s) w ≡ true
   unfolding m
   access-refused inner.NotNormal cause h = absurd h.access.on_way
   access-refused (inner.Component why) cause h = absurd h.access.on_way
   access-refused (inner.Collision path) cause h = absurd h.access.on_way
   access-refused (inner.Directory path why) cause h = absurd h.access.on_way
-  access-refused (inner.RulesFile path whys.Link) cause h = absurd h.access.on_way
-  access-refused (inner.RulesFile path whys.LinkLimit) cause h = of_file h.path path whys.LinkLimit h.asked h.refused
-  access-refused (inner.RulesFile path whys.Special) cause h = of_file h.path path whys.Special h.asked h.refused
+  access-refused (inner.RulesFile path whys.Link) cause h = unread h.path _ (of_file path whys.Link) h.asked h.refused (λ d r. r.why_is.1 s told_so)
+  access-refused (inner.RulesFile path whys.LinkLimit) cause h = unread h.path _ (of_file path whys.LinkLimit) h.asked h.refused (λ d r. r.why_is s told_so)
+  access-refused (inner.RulesFile path whys.Special) cause h = unread h.path _ (of_file path whys.Special) h.asked h.refused (λ d r. r.why_is s told_so)
   access-refused (inner.RulesFile path whys.Fault) cause h = absurd (omega (arith, cause, quiet))
-  access-refused (inner.Blob id why) cause h = absurd h.access.on_way
+  access-refused (inner.Blob id blob_whys.Missing) cause h = unread h.path _ (of_blob id blob_whys.Missing) h.asked h.refused (λ d r. r.why_is s told_so)
+  access-refused (inner.Blob id blob_whys.NotABlob) cause h = unread h.path _ (of_blob id blob_whys.NotABlob) h.asked h.refused (λ d r. r.why_is s told_so)
+  access-refused (inner.Blob id blob_whys.Fault) cause h = absurd (omega (arith, cause, store_quiet))
   access-refused inner.OutOfMemory cause h = absurd (h.access.some_memory refl)
 
-no-access : (t : Names) (made : Option Made) (entries : List IndexEntry) (limit before now : ℕ) (w : Walked) (e : AtPathError) → Quiet before now → lookups.OnFault (Rose before now) e
-    → IsSomeAnd made (λ rules. IsNoAccess t rules w (Rose before now) e) → is_refused limit (meanings entries made t) w ≡ true
-no-access t None entries limit before now w e quiet cause h = absurd h
-no-access t (Some rules) entries limit before now w e quiet cause h = access-refused t rules entries limit before now w quiet e cause h
+no-access : (s : Sources) (made : Option Made) (entries : List IndexEntry) (limit before now store_before store_now : ℕ) (w : Walked) (e : AtPathError) → NotIncreased before now → NotIncreased store_before store_now
+    → lookups.OnFault (Increased before now) (Increased store_before store_now) e → IsSomeAnd made (λ rules. IsNoAccess s rules w (Increased before now) e) → is_refused limit (meanings entries made s) w ≡ true
+no-access s None entries limit before now store_before store_now w e quiet store_quiet cause h = absurd h
+no-access s (Some rules) entries limit before now store_before store_now w e quiet store_quiet cause h = access-refused s rules entries limit before now store_before store_now w quiet store_quiet e cause h
 
 not-both : {X : Type 0} (o : Option Walked) (P : Walked → Type 0) (limit : ℕ) (m : Meanings) → IsSomeAnd o P → IsSomeAnd o (λ w. is_refused limit m w ≡ false) → ((w : Walked) → P w → is_refused limit m w ≡ true) → X
 not-both None P limit m h k f = absurd h
 not-both (Some w) P limit m h k f = absurd (true≢false (sym (f w h) ∙ k))
 
 -- where nothing failed and the tree can be walked, want of memory alone is left
-module _ (t : Names) (made : Option Made) (entries : List IndexEntry) (root : List ℕ) (limit before now : ℕ) where
+module _ (s : Sources) (made : Option Made) (entries : List IndexEntry) (root : List ℕ) (limit before now store_before store_now : ℕ) where
   all : Meanings
-  all = meanings entries made t
+  all = meanings entries made s
 
-  pub only-memory : (e : Error) → OnFault (Rose before now) e → WalkRefuses t made (meanings entries made t) root limit (Rose before now) e → Quiet before now → IsWalkable limit (meanings entries made t) t root → e ≡ errors.OutOfMemory
+  pub only-memory : (e : Error) → OnFault (Increased before now) (Increased store_before store_now) e → WalkRefuses s made (meanings entries made s) root limit (Increased before now) e → NotIncreased before now → NotIncreased store_before store_now → IsWalkable limit (meanings entries made s) s.tree root → e ≡ errors.OutOfMemory
   unfolding all
-  only-memory (errors.WorktreeRootIsFile path) cause (inl h) quiet walkable = absurd (subst (λ (o : Option Walked). IsSomeAnd o (λ w. is_refused limit all w ≡ false)) h.not_entered walkable)
-  only-memory (errors.WorktreeRootIsFile path) cause (inr h) quiet walkable = absurd (omega (arith, h, quiet))
-  only-memory (errors.ExcludesAccess e) cause h quiet walkable =
-      not-both (walked all t root) (λ w. IsSomeAnd made (λ rules. IsNoAccess t rules w (Rose before now) e)) limit all h walkable (λ w k. no-access t made entries limit before now w e quiet cause k)
-  only-memory (errors.TooDeep path) cause h quiet walkable = not-both (walked all t root) (λ w. IsTooDeep root limit w path) limit all h walkable (λ w k. deep-refused limit all w k.below k.deep k.to_enter)
-  only-memory (errors.ReadDir path reads.Absent) cause h quiet walkable =
-      not-both (walked all t root) (λ w. IsBroken t all root w lists.Absent path) limit all h walkable (λ w k. unread-refused t all root limit w lists.Absent path k)
-  only-memory (errors.ReadDir path reads.NotADirectory) cause h quiet walkable =
-      not-both (walked all t root) (λ w. IsBroken t all root w lists.NotADirectory path) limit all h walkable (λ w k. unread-refused t all root limit w lists.NotADirectory path k)
-  only-memory (errors.ReadDir path reads.Fault) cause h quiet walkable = absurd (omega (arith, cause, quiet))
-  only-memory (errors.DirEntry path) cause h quiet walkable = absurd (omega (arith, cause, quiet))
-  only-memory errors.OutOfMemory cause h quiet walkable = refl
+  only-memory (errors.WorktreeRootIsFile path) cause (inl h) quiet store_quiet walkable = absurd (subst (λ (o : Option Walked). IsSomeAnd o (λ w. is_refused limit all w ≡ false)) h.not_entered walkable)
+  only-memory (errors.WorktreeRootIsFile path) cause (inr h) quiet store_quiet walkable = absurd (omega (arith, h, quiet))
+  only-memory (errors.ExcludesAccess e) cause h quiet store_quiet walkable =
+      not-both (walked all s.tree root) (λ w. IsSomeAnd made (λ rules. IsNoAccess s rules w (Increased before now) e)) limit all h walkable (λ w k. no-access s made entries limit before now store_before store_now w e quiet store_quiet cause k)
+  only-memory (errors.TooDeep path) cause h quiet store_quiet walkable = not-both (walked all s.tree root) (λ w. IsTooDeep root limit w path) limit all h walkable (λ w k. deep-refused limit all w k.below k.deep k.to_enter)
+  only-memory (errors.ReadDir path reads.Absent) cause h quiet store_quiet walkable =
+      not-both (walked all s.tree root) (λ w. IsBroken s.tree all root w lists.Absent path) limit all h walkable (λ w k. unread-refused s.tree all root limit w lists.Absent path k)
+  only-memory (errors.ReadDir path reads.NotADirectory) cause h quiet store_quiet walkable =
+      not-both (walked all s.tree root) (λ w. IsBroken s.tree all root w lists.NotADirectory path) limit all h walkable (λ w k. unread-refused s.tree all root limit w lists.NotADirectory path k)
+  only-memory (errors.ReadDir path reads.Fault) cause h quiet store_quiet walkable = absurd (omega (arith, cause, quiet))
+  only-memory (errors.DirEntry path) cause h quiet store_quiet walkable = absurd (omega (arith, cause, quiet))
+  only-memory errors.OutOfMemory cause h quiet store_quiet walkable = refl
 
 -- ---- what it gives
 

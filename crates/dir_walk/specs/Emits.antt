@@ -1,8 +1,10 @@
 -- What a walk has emitted and counted when it is done with a path, in whatever order.
-use Rattle.std.specs.Prelude.{◌≡◌, ℕ, ◌<◌, ◌≤◌, ◌+◌, ◌-◌, ◌^◌, min, Bool, true, false, ◌&&◌, List, ◌++◌, Option, Some, None, count_by}
+use Rattle.std.specs.Prelude.{◌≡◌, ℕ, ◌<◌, ◌≤◌, ◌+◌, ◌-◌, ◌^◌, min, Bool, true, false, ◌&&◌, List, ◌++◌, Option, Some, is_some, count_by}
 use Rattle.gitbase_core.specs.Objects.{Objects}
 use Rattle.worktree_fs.specs.Tree.{Names}
-use Rattle.worktree_stack.specs.Stacked.{Stacked, Made}
+use Rattle.worktree_stack.specs.Setup.{Made}
+use Rattle.worktree_stack.specs.Reading.{Sources}
+use Rattle.worktree_stack.specs.Stacked.{Stacked}
 use Rattle.dir_classify.specs.declared.options.Options.{Options}
 use Rattle.dir_classify.specs.Class.{Meanings}
 use Rattle.dir_classify.specs.Excludes.{made_with, InStepIf}
@@ -41,33 +43,13 @@ pub record Gives (o : Options) (limit : ℕ) (m : Meanings) (w : Walked) (before
   pub emits : Emits before after start stop (λ p. shown_by o p w.out) (size w.out) (size w.entered)
   pub whole : is_refused limit m w ≡ false
 
--- what a question or a listing leaves of a worktree: the tree that it tells, its faults so far, its reads, and how it spells names
-pub record Keeps (told0 told1 : Option Names) (faults0 faults1 list_faults0 list_faults1 reads0 reads1 : ℕ) (precomposes0 precomposes1 : Bool) : Type 0 where
-  pub tree : told1 ≡ told0
-  pub faults : faults0 ≤ faults1
-  pub list_faults : list_faults0 ≤ list_faults1
-  pub reads : reads1 ≡ reads0
-  pub precomposes : precomposes1 ≡ precomposes0
-
--- what a walk leaves of a worktree, of the rules and of the objects: the worktree is read only where rules are given,
--- which stay those that they were, and stay in step with the tree
-pub record KeepsAll (told0 told1 : Option Names) (faults0 faults1 list_faults0 list_faults1 reads0 reads1 : ℕ) (precomposes0 precomposes1 : Bool) (excludes0 excludes1 : Option Stacked)
-    (holds0 holds1 : Option Objects) (object_faults0 object_faults1 : ℕ) : Type 0 where
-  pub tree : told1 ≡ told0
-  pub faults : faults0 ≤ faults1
-  pub list_faults : list_faults0 ≤ list_faults1
-  pub reads : made_with excludes0 ≡ None → reads1 ≡ reads0
-  pub precomposes : precomposes1 ≡ precomposes0
-  pub made : made_with excludes1 ≡ made_with excludes0
-  pub in_step : (t : Names) → told0 ≡ Some t → InStepIf t excludes0 → InStepIf t excludes1
-  pub objects : holds1 ≡ holds0
-  pub object_faults : object_faults1 ≡ object_faults0
-
--- where a walk stands: the worktree tells a tree, and the rules were made so and are in step with it
-pub record Stands (told : Option Names) (excludes : Option Stacked) (t : Names) (made : Option Made) : Type 0 where
-  pub tree : told ≡ Some t
+-- where a walk stands: the worktree tells a tree, the store, where there are rules, objects, and the rules were made so and
+-- are in step with them
+pub record Stands (told : Option Names) (holds : Option Objects) (excludes : Option Stacked) (s : Sources) (made : Option Made) : Type 0 where
+  pub tree : told ≡ Some s.tree
+  pub objects : is_some made ≡ true → holds ≡ Some s.objects
   pub made_is : made_with excludes ≡ made
-  pub in_step : InStepIf t excludes
+  pub in_step : InStepIf s excludes
 
 -- a whole walk: the report is defined, what was emitted are its entries in whatever order, and the counts are its
 -- counts

@@ -2,6 +2,8 @@ pub mod Distinct
 pub mod Emissions
 pub mod Emits
 pub mod Guarded
+pub mod Kept
 pub mod Refused
 pub mod Report
 pub mod Walked
+pub mod WalksWorktree

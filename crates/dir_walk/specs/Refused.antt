@@ -3,12 +3,14 @@ use Rattle.std.specs.Prelude.{◌≡◌, ◌≢◌, ◌⊎◌, ◌<◌, ℕ, Boo
 use Rattle.std.specs.List.{list_any}
 use Rattle.std.specs.Str.{bytes_eq}
 use Rattle.gitbase_core.specs.Path.{components, is_empty, ends_in_slash}
+use Rattle.gitbase_core.specs.Objects.{Objects}
 use Rattle.worktree_fs.specs.Tree.{Names, Look, look}
 use Rattle.worktree_fs.specs.Answers.{kind_of, list_of}
 use Rattle.worktree_fs.specs.declared.answers.NodeKind.TheVariants as nodes
 use Rattle.worktree_fs.specs.Paths.{is_normal}
 use Rattle.worktree_stack.specs.declared.error.AtPathError.{AtPathError}
-use Rattle.worktree_stack.specs.Stacked.{Made}
+use Rattle.worktree_stack.specs.Setup.{Made}
+use Rattle.worktree_stack.specs.Reading.{Sources}
 use Rattle.worktree_stack.specs.Refused as lookups
 use Rattle.worktree_fs.specs.declared.answers.ListError.{ListError}
 use Rattle.worktree_fs.specs.declared.answers.ListError.TheVariants as lists
@@ -85,47 +87,47 @@ IsUnread t m root w path reads.Absent = IsBroken t m root w lists.Absent path
 IsUnread t m root w path reads.NotADirectory = IsBroken t m root w lists.NotADirectory path
 IsUnread t m root w path reads.Fault = Unit {0}
 
--- a lookup of some normal path in the rules was refused, by a rules file that the tree refuses
-pub record IsRefusedLookup (t : Names) (made : Made) (e : AtPathError) : Type 0 where
+-- a lookup of some normal path in the rules was refused, by a rules file or a blob that the tree or the store refuses
+pub record IsRefusedLookup (s : Sources) (made : Made) (e : AtPathError) : Type 0 where
   pub path : List ℕ
   pub normal : is_normal path ≡ true
   pub access : IsAccess made path e
-  pub refused : lookups.Refuses t made.root made.setup (components path) e
+  pub refused : lookups.RefusesIn s made (components path) e
 
 -- what the path leads to in the tree, a last link followed or not, cannot be listed
 pub record IsNotListed (t : Names) (why : ListError) (path : List ℕ) : Type 0 where
   pub follow : Bool
   pub node : list_of (look t path follow) ≡ Err why
 
--- what a refusal says of the tree, whether or not the rules are in step with it
-abbrev pub IsInTree : Names → Option Made → Error → Type 0
-IsInTree t made (errors.WorktreeRootIsFile path) = Unit {0}
-IsInTree t made (errors.ExcludesAccess e) = IsSomeAnd made (λ rules. IsRefusedLookup t rules e)
-IsInTree t made (errors.TooDeep path) = Unit {0}
-IsInTree t made (errors.ReadDir path reads.Absent) = IsNotListed t lists.Absent path
-IsInTree t made (errors.ReadDir path reads.NotADirectory) = IsNotListed t lists.NotADirectory path
-IsInTree t made (errors.ReadDir path reads.Fault) = Unit {0}
-IsInTree t made (errors.DirEntry path) = Unit {0}
-IsInTree t made errors.OutOfMemory = Unit {0}
+-- what a refusal says of the tree, and, where the store holds these objects, of the rules, whether or not they are in step
+abbrev pub IsInTree : Option Objects → Sources → Option Made → Error → Type 0
+IsInTree holds s made (errors.WorktreeRootIsFile path) = Unit {0}
+IsInTree holds s made (errors.ExcludesAccess e) = IsSomeAnd made (λ rules. holds ≡ Some s.objects → IsRefusedLookup s rules e)
+IsInTree holds s made (errors.TooDeep path) = Unit {0}
+IsInTree holds s made (errors.ReadDir path reads.Absent) = IsNotListed s.tree lists.Absent path
+IsInTree holds s made (errors.ReadDir path reads.NotADirectory) = IsNotListed s.tree lists.NotADirectory path
+IsInTree holds s made (errors.ReadDir path reads.Fault) = Unit {0}
+IsInTree holds s made (errors.DirEntry path) = Unit {0}
+IsInTree holds s made errors.OutOfMemory = Unit {0}
 
--- the lookup of a normal path in the rules was refused, by a rules file that the tree refuses; its class asks the
+-- the lookup of a normal path in the rules was refused, by a rules file or a blob that is refused; its class asks the
 -- rules, unless the worktree failed, which may have hidden what the index has there
-pub record IsNoAccess (t : Names) (made : Made) (w : Walked) (Failed : Type 0) (e : AtPathError) : Type 0 where
+pub record IsNoAccess (s : Sources) (made : Made) (w : Walked) (Failed : Type 0) (e : AtPathError) : Type 0 where
   pub path : List ℕ
   pub normal : is_normal path ≡ true
   pub asked : (is_among path w.asked ≡ true) ⊎ Failed
   pub access : IsAccess made path e
-  pub refused : lookups.Refuses t made.root made.setup (components path) e
+  pub refused : lookups.RefusesIn s made (components path) e
 
 -- A refusal within what is walked below the worktree root. `made` is what the rules were made with, and `Failed` says
 -- that the worktree failed.
-abbrev pub Refuses : Names → Option Made → Meanings → List ℕ → ℕ → Type 0 → Walked → Error → Type 0
-Refuses t made m root limit Failed w (errors.WorktreeRootIsFile path) = ⊥
-Refuses t made m root limit Failed w (errors.ExcludesAccess e) = IsSomeAnd made (λ rules. IsNoAccess t rules w Failed e)
-Refuses t made m root limit Failed w (errors.TooDeep path) = IsTooDeep root limit w path
-Refuses t made m root limit Failed w (errors.ReadDir path why) = IsUnread t m root w path why
-Refuses t made m root limit Failed w (errors.DirEntry path) = Unit {0}
-Refuses t made m root limit Failed w errors.OutOfMemory = Unit {0}
+abbrev pub Refuses : Sources → Option Made → Meanings → List ℕ → ℕ → Type 0 → Walked → Error → Type 0
+Refuses s made m root limit Failed w (errors.WorktreeRootIsFile path) = ⊥
+Refuses s made m root limit Failed w (errors.ExcludesAccess e) = IsSomeAnd made (λ rules. IsNoAccess s rules w Failed e)
+Refuses s made m root limit Failed w (errors.TooDeep path) = IsTooDeep root limit w path
+Refuses s made m root limit Failed w (errors.ReadDir path why) = IsUnread s.tree m root w path why
+Refuses s made m root limit Failed w (errors.DirEntry path) = Unit {0}
+Refuses s made m root limit Failed w errors.OutOfMemory = Unit {0}
 
 -- the worktree root is not entered, and its node, a link not followed, is no directory
 pub record IsNoRoot (t : Names) (m : Meanings) (root : List ℕ) : Type 0 where
@@ -133,13 +135,13 @@ pub record IsNoRoot (t : Names) (m : Meanings) (root : List ℕ) : Type 0 where
   pub node : kind_of (look t root false) ≢ Some nodes.Directory
 
 -- a refusal of a walk
-abbrev pub WalkRefuses : Names → Option Made → Meanings → List ℕ → ℕ → Type 0 → Error → Type 0
-WalkRefuses t made m root limit Failed (errors.WorktreeRootIsFile path) = IsNoRoot t m root ⊎ Failed
-WalkRefuses t made m root limit Failed (errors.ExcludesAccess e) = IsSomeAnd (walked m t root) (λ w. IsSomeAnd made (λ rules. IsNoAccess t rules w Failed e))
-WalkRefuses t made m root limit Failed (errors.TooDeep path) = IsSomeAnd (walked m t root) (λ w. IsTooDeep root limit w path)
-WalkRefuses t made m root limit Failed (errors.ReadDir path why) = IsSomeAnd (walked m t root) (λ w. IsUnread t m root w path why)
-WalkRefuses t made m root limit Failed (errors.DirEntry path) = Unit {0}
-WalkRefuses t made m root limit Failed errors.OutOfMemory = Unit {0}
+abbrev pub WalkRefuses : Sources → Option Made → Meanings → List ℕ → ℕ → Type 0 → Error → Type 0
+WalkRefuses s made m root limit Failed (errors.WorktreeRootIsFile path) = IsNoRoot s.tree m root ⊎ Failed
+WalkRefuses s made m root limit Failed (errors.ExcludesAccess e) = IsSomeAnd (walked m s.tree root) (λ w. IsSomeAnd made (λ rules. IsNoAccess s rules w Failed e))
+WalkRefuses s made m root limit Failed (errors.TooDeep path) = IsSomeAnd (walked m s.tree root) (λ w. IsTooDeep root limit w path)
+WalkRefuses s made m root limit Failed (errors.ReadDir path why) = IsSomeAnd (walked m s.tree root) (λ w. IsUnread s.tree m root w path why)
+WalkRefuses s made m root limit Failed (errors.DirEntry path) = Unit {0}
+WalkRefuses s made m root limit Failed errors.OutOfMemory = Unit {0}
 
 -- ---- where a walk stands
 
@@ -171,6 +173,6 @@ OpenRefuses full at (errors.DirEntry path) = Unit {0}
 OpenRefuses full at errors.OutOfMemory = Unit {0}
 
 -- a refusal of a directory that is entered: its own listing, or within it
-abbrev pub DirectoryRefuses : Names → Option Made → Meanings → List ℕ → ℕ → Type 0 → List ℕ → List ℕ → Outcome → Error → Type 0
-DirectoryRefuses t made m root limit Failed full d c e =
-    OpenRefuses full (look t full (is_empty d)) e ⊎ Refuses t made m root limit Failed (entered_at m d c (look t full (is_empty d))) e
+abbrev pub DirectoryRefuses : Sources → Option Made → Meanings → List ℕ → ℕ → Type 0 → List ℕ → List ℕ → Outcome → Error → Type 0
+DirectoryRefuses s made m root limit Failed full d c e =
+    OpenRefuses full (look s.tree full (is_empty d)) e ⊎ Refuses s made m root limit Failed (entered_at m d c (look s.tree full (is_empty d))) e

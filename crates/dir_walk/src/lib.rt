@@ -11,6 +11,3 @@ pub mod walk;
 pub use collect::{Collect, EmittedEntries};
 pub use outcome::Outcome;
 pub use report::{Report, walk_by_path};
-
-#[cfg(test)]
-mod tests;

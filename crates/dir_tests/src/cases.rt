@@ -1,0 +1,174 @@
+//! Cases: scripts of steps that make a worktree, its index and its rules, and that say what must be answered of them.
+//!
+//! A case begins with its name and its global rules (`-`: no rules at all); its steps are parted by bars, and the words of
+//! a step by backquotes.
+use crate::classes::{is_class, is_root};
+use crate::walks::is_walk;
+use bstr::ByteSlice;
+use gitbase_core::{Bytes, Flags, IndexEntry, Mode, ObjectId, OutOfMemory, PathText, State};
+use glob_rules::Case;
+use glob_rules::ignore::{List, ParseIgnore, Search};
+use std::alloc::Global;
+use worktree_fs::{CallKind, MemoryWorktree, NewNode};
+use worktree_stack::ignore_source::Source;
+use worktree_stack::{Ignore, Stack};
+
+/// What a case is about.
+#[derive(Drop)]
+pub struct World {
+    pub tree: MemoryWorktree,
+    pub index: State,
+    pub excludes: Option<Stack>,
+}
+
+/// The first word of a row, and the words behind it.
+pub fn parted(row: &[u8]) -> (&[u8], &[u8]) {
+    row.split_once_str(b"`").unwrap_or((row, b""))
+}
+
+/// The number of one digit.
+pub fn digit(word: &[u8]) -> usize {
+    match word.first() {
+        Some(byte) => usize::from(byte.saturating_sub(b'0')),
+        None => 0,
+    }
+}
+
+const PRECIOUS: ParseIgnore = ParseIgnore {
+    support_precious: true,
+};
+
+/// A search over one list of rules that is for all paths.
+fn search_of(alloc: Global, rules: &[u8]) -> Result<Search, OutOfMemory> {
+    let list = List::from_bytes(alloc, rules, None, PathText::new(alloc), PRECIOUS)?;
+    let mut search = Search::new(alloc);
+    search.push_list(alloc, list)?;
+    Ok(search)
+}
+
+/// The rules below `/w` of these globals and of the `.gitignore` in each directory.
+fn stack_of(alloc: Global, globals: &[u8]) -> Result<Stack, OutOfMemory> {
+    let globals = search_of(alloc, globals)?;
+    let source = Source::default();
+    let ignore = Ignore::new(alloc, Search::new(alloc), globals, None, source, PRECIOUS)?;
+    Ok(Stack::new(
+        alloc,
+        PathText::from_bytes(alloc, b"/w")?,
+        worktree_stack::State::IgnoreStack(ignore),
+        Case::Sensitive,
+        Bytes::new(alloc),
+        Vec::new(alloc),
+    ))
+}
+
+/// Whether the call with this number was planned to fail.
+fn is_planned(alloc: Global, tree: &mut MemoryWorktree, call: &[u8], nth: u64) -> bool {
+    let call = match call {
+        b"kind" => CallKind::Kind,
+        b"read" => CallKind::Read,
+        b"list open" => CallKind::ListOpen,
+        b"list entry" => CallKind::ListEntry,
+        _ => return false,
+    };
+    tree.fail(alloc, call, nth).is_ok()
+}
+
+/// Whether a node was put at a path.
+fn is_put(alloc: Global, tree: &mut MemoryWorktree, kind: &[u8], path: &[u8], text: &[u8]) -> bool {
+    let node = match kind {
+        b"file" => NewNode::File(text),
+        b"link" => NewNode::Link(text),
+        b"directory" => NewNode::Directory,
+        b"other" => NewNode::Other,
+        _ => return false,
+    };
+    tree.add(alloc, path, node).is_ok()
+}
+
+/// The entry of a path at stage 0.
+fn entry(alloc: Global, path: &[u8], mode: Mode, flags: Flags) -> Result<IndexEntry, OutOfMemory> {
+    Ok(IndexEntry {
+        path: PathText::from_bytes(alloc, path)?,
+        stage: 0,
+        mode,
+        flags,
+        id: ObjectId::null(),
+    })
+}
+
+fn mode_of(word: &[u8]) -> Mode {
+    match word {
+        b"link" => Mode::SYMLINK,
+        b"commit" => Mode::COMMIT,
+        b"tree" => Mode::DIR,
+        _ => Mode::FILE,
+    }
+}
+
+fn flags_of(word: &[u8]) -> Flags {
+    match word {
+        b"valid" => Flags::ASSUME_VALID,
+        b"skipped" => Flags::SKIP_WORKTREE,
+        b"up to date" => Flags::UPTODATE,
+        _ => Flags::empty(),
+    }
+}
+
+/// Whether an entry was put behind those of the index.
+fn is_indexed(alloc: Global, index: &mut State, path: &[u8], mode: &[u8], flags: &[u8]) -> bool {
+    match entry(alloc, path, mode_of(mode), flags_of(flags)) {
+        Ok(entry) => index.error_of(&entry).is_none() && index.push(alloc, entry).is_ok(),
+        Err(_) => false,
+    }
+}
+
+/// Whether a step holds.
+fn holds(alloc: Global, world: &mut World, step: &[u8]) -> bool {
+    let (what, rest) = parted(step);
+    let (one, two) = parted(rest);
+    match what {
+        b"class" => is_class(alloc, world, one, two),
+        b"root" => is_root(alloc, world, one, two),
+        b"walk" => is_walk(alloc, world, one, two),
+        b"index" => {
+            let (mode, flags) = parted(two);
+            is_indexed(alloc, &mut world.index, one, mode, flags)
+        }
+        b"fail" => is_planned(alloc, &mut world.tree, one, digit(two) as u64),
+        b"faults" => world.tree.fault_count() == digit(one) as u64,
+        b"reversed" => {
+            world.tree.set_reversed(true);
+            true
+        }
+        _ => is_put(alloc, &mut world.tree, what, one, two),
+    }
+}
+
+/// The first step that does not hold.
+fn first_lie<'a>(alloc: Global, world: &mut World, steps: &'a [u8]) -> Option<&'a [u8]> {
+    for step in steps.split(|byte| *byte == b'|') {
+        if !holds(alloc, world, step) {
+            return Some(step);
+        }
+    }
+    None
+}
+
+/// The first step of a case that does not hold; the case itself where its rules could not be made.
+pub fn lie_of(alloc: Global, case: &[u8]) -> Option<&[u8]> {
+    let (head, steps) = case.split_once_str(b"|").unwrap_or((case, b""));
+    let (_, globals) = parted(head);
+    let stack = match globals {
+        b"-" => None,
+        _ => match stack_of(alloc, globals) {
+            Ok(stack) => Some(stack),
+            Err(_) => return Some(case),
+        },
+    };
+    let mut world = World {
+        tree: MemoryWorktree::new(alloc, false),
+        index: State::new(alloc),
+        excludes: stack,
+    };
+    first_lie(alloc, &mut world, steps)
+}

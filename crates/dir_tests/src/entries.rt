@@ -1,0 +1,70 @@
+//! Entries: what their conversions keep, and in what order they stand.
+use dir_classify::classify::Outcome;
+use dir_classify::{EmissionMode, EntryRef, Kind, Options, PathspecMatch, Property, Status};
+use glob_rules::ignore;
+use std::alloc::Global;
+
+/// An entry of a file.
+fn entry(rela_path: &[u8], status: Status) -> EntryRef<'_> {
+    EntryRef {
+        rela_path,
+        status,
+        property: Some(Property::EmptyDirectory),
+        disk_kind: Some(Kind::File),
+        index_kind: Some(Kind::Symlink),
+        pathspec_match: Some(PathspecMatch::Prefix),
+    }
+}
+
+/// Whether a class has every field of an entry.
+fn is_class_of(class: &Outcome, entry: &EntryRef<'_>) -> bool {
+    class.status == entry.status
+        && class.property == entry.property
+        && class.disk_kind == entry.disk_kind
+        && class.index_kind == entry.index_kind
+        && class.pathspec_match == entry.pathspec_match
+}
+
+/// Whether an entry that is owned, lent and owned again is the same.
+fn changes_hands(alloc: Global, lent: EntryRef<'_>) -> bool {
+    let Ok(own) = lent.to_owned(alloc) else {
+        return false;
+    };
+    match own.to_ref().into_owned(alloc) {
+        Ok(again) => again.to_ref() == lent && is_class_of(&Outcome::from(&again), &lent),
+        Err(_) => false,
+    }
+}
+
+/// Whether two entries stand in this order, lent and owned.
+fn ascends(alloc: Global, before: EntryRef<'_>, after: EntryRef<'_>) -> bool {
+    before < after
+        && before != after
+        && match (before.to_owned(alloc), after.to_owned(alloc)) {
+            (Ok(before), Ok(after)) => before < after && before != after,
+            _ => false,
+        }
+}
+
+#[test]
+fn entries_change_hands_and_stand_by_path_and_then_by_status(rt: HostRuntime) {
+    let alloc = rt.alloc();
+    assert!(rt; changes_hands(alloc, entry(b"d/f", Status::Tracked)));
+    let (dot, slash) = (
+        entry(b"d.x", Status::Untracked),
+        entry(b"d/x", Status::Pruned),
+    );
+    assert!(rt; ascends(alloc, dot, slash));
+    assert!(rt; ascends(alloc, slash, entry(b"d/x", Status::Tracked)));
+}
+
+/// The tests of kinds and statuses, and what options are where nothing is said.
+#[test]
+fn kinds_statuses_and_defaults(rt: HostRuntime) {
+    assert!(rt; Kind::Repository.is_dir() && !Kind::Symlink.is_dir());
+    assert!(rt; Status::Pruned.is_pruned());
+    assert!(rt; Status::Ignored(ignore::Kind::Precious).is_ignored());
+    assert!(rt; Status::Tracked.can_recurse(Some(Kind::Repository), true));
+    assert!(rt; EmissionMode::default() == EmissionMode::Matching);
+    assert!(rt; Options::default().emit_ignored.is_none() && !Options::default().emit_tracked);
+}

@@ -1,0 +1,14 @@
+//! What the calls of dir_classify and dir_walk answer: cases worked out by hand, each call that takes memory with enough
+//! of it, and the texts of errors.
+#![tactic(auto)]
+
+#[cfg(test)]
+mod cases;
+#[cfg(test)]
+mod classes;
+#[cfg(test)]
+mod entries;
+#[cfg(test)]
+mod texts;
+#[cfg(test)]
+mod walks;

@@ -1,0 +1,50 @@
+//! The texts of errors.
+use dir_classify::{Error, ReadWhy};
+use gitbase_core::PathText;
+use std::alloc::Global;
+use worktree_stack::AtPathError;
+
+/// The error of this number about a path.
+fn error(number: usize, path: PathText) -> Error {
+    match number {
+        0 => Error::WorktreeRootIsFile { root: path },
+        1 => Error::ExcludesAccess(AtPathError::NotNormal),
+        2 => Error::ReadDir {
+            path,
+            why: ReadWhy::Absent,
+        },
+        3 => Error::DirEntry {
+            parent_directory: path,
+        },
+        4 => Error::TooDeep { path },
+        _ => Error::OutOfMemory,
+    }
+}
+
+/// The texts, in the order of the numbers.
+const TEXTS: [&str; 6] = [
+    "Worktree root at '/w/\u{fffd}' is not a directory",
+    "Failed to update the excludes stack to see if a path is excluded",
+    "Failed to read the directory at '/w/\u{fffd}'",
+    "Could not obtain directory entry in root of '/w/\u{fffd}'",
+    "The directory at '/w/\u{fffd}' lies deeper than the limit",
+    "Memory for the walk could not be had",
+];
+
+/// Whether the error of a number has this text.
+fn is_text(alloc: Global, number: usize, want: &str) -> bool {
+    match PathText::from_bytes(alloc, b"/w/\xff") {
+        Ok(path) => match format!(in alloc; "{}", error(number, path)) {
+            Ok(text) => text.as_str() == want,
+            Err(_) => false,
+        },
+        Err(_) => false,
+    }
+}
+
+#[test]
+fn errors_print(rt: HostRuntime) {
+    for (number, want) in TEXTS.iter().enumerate() {
+        assert!(rt; is_text(rt.alloc(), number, want), "{number}");
+    }
+}
