@@ -1,9 +1,7 @@
 //! Reports over a worktree in memory, whole: words in, a status and two texts out.
-use gitbase_core::Bytes;
+use gitbase_core::{Bytes, OutOfMemory};
 use std::alloc::Global;
-use std::process::Abort;
-use std::test::Fail;
-use worktree_fs::{CallKind, MemorySink, MemoryWorktree, NewNode, PlannedInterrupt};
+use worktree_fs::{AddError, CallKind, MemorySink, MemoryWorktree, NewNode, PlannedInterrupt};
 use worktree_report::run;
 
 /// The line that each setup needs today.
@@ -14,9 +12,12 @@ const WITHOUT_RULES: &[u8] = b"option recurse_repositories yes\noption excludes 
 
 const REPORT: &[&[u8]] = &[b"report", b"/w", b"/s"];
 
+/// More room than any report here needs.
+const ROOM: usize = 65_536;
+
 const USAGE: &[u8] = b"usage: report ROOT SETUP or generate N\n";
 
-/// What a run answers.
+/// What a run answers: its status, and what the sinks have.
 #[derive(Drop)]
 struct Answer {
     status: u8,
@@ -24,7 +25,14 @@ struct Answer {
     err: MemorySink,
 }
 
-fn words(alloc: Global, texts: &[&[u8]]) -> Result<Vec<Bytes>, Fail> {
+impl Answer {
+    /// Whether this is the status and what was written.
+    fn is(&self, status: u8, out: &[u8], err: &[u8]) -> bool {
+        self.status == status && self.out.written() == out && self.err.written() == err
+    }
+}
+
+fn words(alloc: Global, texts: &[&[u8]]) -> Result<Vec<Bytes>, OutOfMemory> {
     let mut words = Vec::new(alloc);
     for text in texts {
         words.push(Bytes::from_slice(alloc, text)?)?;
@@ -32,21 +40,47 @@ fn words(alloc: Global, texts: &[&[u8]]) -> Result<Vec<Bytes>, Fail> {
     Ok(words)
 }
 
-fn tree(alloc: Global, nodes: &[(&[u8], NewNode<'_>)]) -> Result<MemoryWorktree, Fail> {
+fn tree(
+    alloc: Global,
+    nodes: &[(&[u8], NewNode<'_>)],
+    setup: &[u8],
+) -> Result<MemoryWorktree, AddError> {
     let mut tree = MemoryWorktree::new(alloc, false);
     for (path, node) in nodes {
         tree.add(alloc, path, *node)?;
     }
+    tree.add(alloc, b"/s", NewNode::File(setup))?;
     Ok(tree)
 }
 
-fn run_over(alloc: Global, texts: &[&[u8]], tree: &mut MemoryWorktree) -> Result<Answer, Fail> {
+/// The answer to these words where `out` has this much room and refuses from this write on.
+fn answer_of(
+    alloc: Global,
+    texts: &[&[u8]],
+    tree: &mut MemoryWorktree,
+    room: usize,
+    nth: u64,
+) -> Result<Answer, OutOfMemory> {
     let words = words(alloc, texts)?;
+    let mut out = MemorySink::new(alloc, room)?;
+    out.fail_from(nth);
+    let mut err = MemorySink::new(alloc, ROOM)?;
     let mut interrupt = PlannedInterrupt::never();
-    let mut out = MemorySink::new(alloc, 65_536)?;
-    let mut err = MemorySink::new(alloc, 65_536)?;
     let status = run(alloc, &words, tree, &mut interrupt, &mut out, &mut err);
     Ok(Answer { status, out, err })
+}
+
+/// Whether these words are answered so.
+fn answers(
+    alloc: Global,
+    texts: &[&[u8]],
+    tree: &mut MemoryWorktree,
+    want: (u8, &[u8], &[u8]),
+) -> bool {
+    match answer_of(alloc, texts, tree, ROOM, u64::MAX) {
+        Ok(answer) => answer.is(want.0, want.1, want.2),
+        Err(_) => false,
+    }
 }
 
 /// A worktree, a setup and what the report of `/w` must answer.
@@ -300,69 +334,66 @@ static REFUSALS: [Row; 11] = [
     },
 ];
 
-fn check_row(rt: &impl Abort, alloc: Global, row: &Row, reversed: bool) -> Result<(), Fail> {
-    let mut tree = tree(alloc, row.nodes)?;
-    tree.add(alloc, b"/s", NewNode::File(row.setup))?;
-    tree.set_reversed(reversed);
-    let answer = run_over(alloc, REPORT, &mut tree)?;
-    assert_eq!(rt; answer.status, row.status, "{}", row.name);
-    assert_eq!(rt; answer.out.written(), row.out, "{}", row.name);
-    assert_eq!(rt; answer.err.written(), row.err, "{}", row.name);
-    Ok(())
+/// Whether a row's worktree, listed in this order, is answered as the row says.
+fn holds(alloc: Global, row: &Row, reversed: bool) -> bool {
+    match tree(alloc, row.nodes, row.setup) {
+        Ok(mut tree) => {
+            tree.set_reversed(reversed);
+            answers(alloc, REPORT, &mut tree, (row.status, row.out, row.err))
+        }
+        Err(_) => false,
+    }
+}
+
+/// The name of the first row that is answered otherwise, in one order of listing or the other.
+fn first_lie(alloc: Global, rows: &[Row]) -> Option<&'static str> {
+    for row in rows {
+        if !holds(alloc, row, false) || !holds(alloc, row, true) {
+            return Some(row.name);
+        }
+    }
+    None
 }
 
 #[test]
-fn reports_each_path(rt: HostRuntime) -> Result<(), Fail> {
-    let alloc = rt.alloc();
-    for row in &REPORTS {
-        check_row(&rt, alloc, row, false)?;
-        check_row(&rt, alloc, row, true)?;
-    }
-    Ok(())
+fn reports_each_path(rt: HostRuntime) {
+    assert_eq!(rt; first_lie(rt.alloc(), &REPORTS), None);
 }
 
 #[test]
-fn asks_ignore_rules(rt: HostRuntime) -> Result<(), Fail> {
-    let alloc = rt.alloc();
-    for row in &IGNORED {
-        check_row(&rt, alloc, row, false)?;
-        check_row(&rt, alloc, row, true)?;
-    }
-    Ok(())
+fn asks_ignore_rules(rt: HostRuntime) {
+    assert_eq!(rt; first_lie(rt.alloc(), &IGNORED), None);
 }
 
 #[test]
-fn refuses_what_it_must(rt: HostRuntime) -> Result<(), Fail> {
-    let alloc = rt.alloc();
-    for row in &REFUSALS {
-        check_row(&rt, alloc, row, false)?;
-    }
-    Ok(())
+fn refuses_what_it_must(rt: HostRuntime) {
+    assert_eq!(rt; first_lie(rt.alloc(), &REFUSALS), None);
 }
+
+/// Words that are no command.
+static NO_COMMANDS: [&[&[u8]]; 5] = [
+    &[],
+    &[b"report", b"/w"],
+    &[b"report", b"w", b"/s"],
+    &[b"report", b"/w/..", b"/s"],
+    &[b"status", b"/w", b"/s"],
+];
 
 #[test]
-fn answers_words_and_setups(rt: HostRuntime) -> Result<(), Fail> {
+fn says_how_it_is_used(rt: HostRuntime) {
     let alloc = rt.alloc();
-    let mut tree = tree(alloc, &[(b"/w/a", A_FILE)])?;
-    for texts in [
-        [].as_slice(),
-        [b"report".as_slice(), b"/w"].as_slice(),
-        [b"report".as_slice(), b"w", b"/s"].as_slice(),
-        [b"report".as_slice(), b"/w/..", b"/s"].as_slice(),
-        [b"status".as_slice(), b"/w", b"/s"].as_slice(),
-    ] {
-        let answer = run_over(alloc, texts, &mut tree)?;
-        assert_eq!(rt; answer.status, 2);
-        assert_eq!(rt; answer.err.written(), USAGE);
+    let mut tree = MemoryWorktree::new(alloc, false);
+    for words in NO_COMMANDS {
+        assert!(rt;
+            answers(alloc, words, &mut tree, (2, b"", USAGE)),
+            "{words:?}"
+        );
     }
-    let absent = run_over(alloc, REPORT, &mut tree)?;
-    assert_eq!(rt; absent.status, 3);
-    assert_eq!(rt; absent.err.written(), b"setup: line 0\n".as_slice());
-    Ok(())
+    assert!(rt; answers(alloc, REPORT, &mut tree, (3, b"", b"setup: line 0\n")));
 }
 
-/// `/w/d/d/..`, so many directories one in another.
-fn chain(alloc: Global, depth: usize) -> Result<Vec<u8>, Fail> {
+/// `/w/d/d/..`, so many directories one in another below `/w`.
+fn chain(alloc: Global, depth: usize) -> Result<Vec<u8>, OutOfMemory> {
     let mut path = b"/w".to_vec(alloc)?;
     for _ in 0..depth {
         path.extend_from_slice(b"/d")?;
@@ -370,74 +401,87 @@ fn chain(alloc: Global, depth: usize) -> Result<Vec<u8>, Fail> {
     Ok(path)
 }
 
-#[test]
-fn enters_directories_to_the_limit(rt: HostRuntime) -> Result<(), Fail> {
-    let alloc = rt.alloc();
-    for (depth, setup, status) in [
-        (256, REQUIRED, 0),
-        (257, REQUIRED, 4),
-        (256, WITHOUT_RULES, 0),
-        (257, WITHOUT_RULES, 4),
-    ] {
-        let path = chain(alloc, depth)?;
-        let mut tree = tree(
-            alloc,
-            &[(b"/s", NewNode::File(setup)), (&path, NewNode::Directory)],
-        )?;
-        let answer = run_over(alloc, REPORT, &mut tree)?;
-        assert_eq!(rt; answer.status, status);
-        if status == 4 {
-            assert_eq!(rt;
-                answer.err.written().strip_prefix(b"walk: too-deep "),
-                Some([path.as_slice(), b"\n"].concat(alloc)?.as_slice())
-            );
-        }
+/// Whether the directory at this path is said to be too deep.
+fn is_too_deep(said: &[u8], path: &[u8]) -> bool {
+    match said.strip_prefix(b"walk: too-deep ") {
+        Some(rest) => rest.strip_suffix(b"\n") == Some(path),
+        None => false,
     }
-    Ok(())
+}
+
+/// Whether a chain of this depth is walked to its end, or else its last directory is said to be too deep.
+fn is_walked(alloc: Global, depth: usize, setup: &[u8]) -> Option<bool> {
+    let path = chain(alloc, depth).ok()?;
+    let mut tree = tree(alloc, &[(&path, NewNode::Directory)], setup).ok()?;
+    let answer = answer_of(alloc, REPORT, &mut tree, ROOM, u64::MAX).ok()?;
+    match answer.status {
+        0 => Some(answer.is(0, b"", b"")),
+        4 if is_too_deep(answer.err.written(), &path) => Some(false),
+        _ => None,
+    }
 }
 
 #[test]
-fn counts_faults(rt: HostRuntime) -> Result<(), Fail> {
+fn enters_directories_to_the_limit(rt: HostRuntime) {
     let alloc = rt.alloc();
-    let said = b"worktree fault\n".as_slice();
-    for (setup, call, nth, status, err) in [
-        (REQUIRED, CallKind::Read, 1, 6, said),
-        (REQUIRED, CallKind::Read, 2, 6, said),
-        (REQUIRED, CallKind::ListOpen, 1, 6, said),
-        (REQUIRED, CallKind::ListEntry, 1, 6, said),
-        (REQUIRED, CallKind::Kind, 2, 0, b"".as_slice()),
-        (WITHOUT_RULES, CallKind::Read, 1, 6, said),
-        (WITHOUT_RULES, CallKind::ListOpen, 1, 6, said),
-    ] {
-        let mut tree = tree(alloc, &[(b"/s", NewNode::File(setup)), (b"/w/a", A_FILE)])?;
-        tree.fail(alloc, call, nth)?;
-        let answer = run_over(alloc, REPORT, &mut tree)?;
-        assert_eq!(rt; answer.status, status);
-        assert_eq!(rt; answer.out.written(), b"".as_slice());
-        assert_eq!(rt; answer.err.written(), err);
-        assert_eq!(rt; tree.fault_count(), 1);
+    for setup in [REQUIRED, WITHOUT_RULES] {
+        assert_eq!(rt; is_walked(alloc, 256, setup), Some(true));
+        assert_eq!(rt; is_walked(alloc, 257, setup), Some(false));
     }
-    Ok(())
+}
+
+/// A call that fails, and whether the program says so: a fault of a kind reads as no kind.
+static FAULTS: [(&[u8], CallKind, u64, bool); 7] = [
+    (REQUIRED, CallKind::Read, 1, true),
+    (REQUIRED, CallKind::Read, 2, true),
+    (REQUIRED, CallKind::ListOpen, 1, true),
+    (REQUIRED, CallKind::ListEntry, 1, true),
+    (REQUIRED, CallKind::Kind, 2, false),
+    (WITHOUT_RULES, CallKind::Read, 1, true),
+    (WITHOUT_RULES, CallKind::ListOpen, 1, true),
+];
+
+/// Whether a call that fails is counted once, and said where it must be.
+fn is_counted(alloc: Global, setup: &[u8], call: CallKind, nth: u64, is_said: bool) -> bool {
+    let Ok(mut tree) = tree(alloc, &[(b"/w/a", A_FILE)], setup) else {
+        return false;
+    };
+    let want: (u8, &[u8], &[u8]) = if is_said {
+        (6, b"", b"worktree fault\n")
+    } else {
+        (0, b"", b"")
+    };
+    tree.fail(alloc, call, nth).is_ok()
+        && answers(alloc, REPORT, &mut tree, want)
+        && tree.fault_count() == 1
 }
 
 #[test]
-fn says_that_output_was_refused(rt: HostRuntime) -> Result<(), Fail> {
-    let alloc = rt.alloc();
-    let words = words(alloc, REPORT)?;
-    let mut interrupt = PlannedInterrupt::never();
-    for (setup, room, nth, written) in [
-        (REQUIRED, 65_536, 1, b"".as_slice()),
-        (REQUIRED, 9, 9, b"untracked".as_slice()),
-        (WITHOUT_RULES, 65_536, 1, b"".as_slice()),
-    ] {
-        let mut tree = tree(alloc, &[(b"/s", NewNode::File(setup)), (b"/w/a", A_FILE)])?;
-        let mut out = MemorySink::new(alloc, room)?;
-        out.fail_from(nth);
-        let mut err = MemorySink::new(alloc, 65_536)?;
-        let status = run(alloc, &words, &mut tree, &mut interrupt, &mut out, &mut err);
-        assert_eq!(rt; status, 7);
-        assert_eq!(rt; out.written(), written);
-        assert_eq!(rt; err.written(), b"output fault\n".as_slice());
+fn counts_faults(rt: HostRuntime) {
+    for (setup, call, nth, is_said) in FAULTS {
+        assert!(rt;
+            is_counted(rt.alloc(), setup, call, nth, is_said),
+            "{call:?} {nth}"
+        );
     }
-    Ok(())
+}
+
+/// Whether a report of one file, over a sink with this room that refuses from this write on, leaves these bytes there and
+/// says that its output was refused.
+fn is_cut(alloc: Global, setup: &[u8], room: usize, nth: u64, written: &[u8]) -> bool {
+    let Ok(mut tree) = tree(alloc, &[(b"/w/a", A_FILE)], setup) else {
+        return false;
+    };
+    match answer_of(alloc, REPORT, &mut tree, room, nth) {
+        Ok(answer) => answer.is(7, written, b"output fault\n"),
+        Err(_) => false,
+    }
+}
+
+#[test]
+fn says_that_output_was_refused(rt: HostRuntime) {
+    let alloc = rt.alloc();
+    assert!(rt; is_cut(alloc, REQUIRED, ROOM, 1, b""));
+    assert!(rt; is_cut(alloc, REQUIRED, 9, 9, b"untracked"));
+    assert!(rt; is_cut(alloc, WITHOUT_RULES, ROOM, 1, b""));
 }

@@ -1,10 +1,9 @@
 -- The ignore rules that a setup asks for.
-use Rattle.std.specs.Prelude.{ℕ, List, [], ◌∷◌, Bool, Option, Some, None, codes, if◌then◌else◌}
+use Rattle.std.specs.Prelude.{ℕ, List, [], ◌∷◌, Bool, false, Option, Some, None, codes, if◌then◌else◌}
 use Rattle.glob_rules.specs.Ignore.{Rules, entries}
 use Rattle.glob_rules.specs.declared.Case.TheVariants.{Sensitive}
 use Rattle.worktree_stack.specs.declared.ignore_source.Source.TheVariants.{WorktreeThenIdMappingIfNotSkipped}
-use Rattle.worktree_stack.specs.Setup.{Setup as Rulings}
-use Rattle.worktree_stack.specs.Stacked.{Made}
+use Rattle.worktree_stack.specs.Setup.{Setup as Rulings, Made}
 use Rattle.worktree_report.specs.declared.setup.Setup.{Setup}
 
 -- the rules in a text that was read from no file; they are for every path
@@ -21,11 +20,12 @@ rules_given setup =
       file_name = codes ".gitignore";
       source = WorktreeThenIdMappingIfNotSkipped;
       precious = setup.options.precious;
+      strict = false;
     }
 
--- what the rules of the work tree at `root` are made with; letters compare as they stand
+-- what the rules of the work tree at `root` are made with; letters compare as they stand, and no rules file is mapped to a blob
 abbrev pub rules_of : List ℕ → Setup → Made
-rules_of root setup = record { root = root; case = Sensitive; setup = rules_given setup }
+rules_of root setup = record { root = root; case = Sensitive; mappings = []; ignore = Some (rules_given setup) }
 
 -- they are asked where the options say so
 abbrev pub excludes_of : List ℕ → Setup → Option Made

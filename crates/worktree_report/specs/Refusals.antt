@@ -1,6 +1,6 @@
 -- Why there is no report: the status and the line of each refusal.
 use Rattle.std.specs.Prelude.{◌≡◌, ◌⊎◌, ℕ, List, [], ◌∷◌, ◌++◌, Bool, true, false, codes, decimal, Option, Some, None}
-use Rattle.worktree_fs.specs.Causes.{Quiet}
+use Rattle.worktree_fs.specs.Causes.{NotIncreased}
 use Rattle.worktree_report.specs.declared.refusal.WalkWord.{WalkWord}
 use Rattle.worktree_report.specs.declared.refusal.WalkWord.TheVariants as words
 use Rattle.worktree_report.specs.declared.refusal.Refusal.{Refusal}
@@ -36,7 +36,7 @@ line_of refusals.OutOfMemory = codes "out of memory\n"
 
 -- the line stands behind what was written before, where that is told and nothing was refused
 abbrev pub Says : Option (List ℕ) → Option (List ℕ) → ℕ → ℕ → List ℕ → Type 0
-Says before after refusals_before refusals_after line = Quiet refusals_before refusals_after → Appends before after line
+Says before after refusals_before refusals_after line = NotIncreased refusals_before refusals_after → Appends before after line
 
 -- whether the line of a refusal has to be made, which takes memory
 abbrev pub is_made : Refusal → Bool

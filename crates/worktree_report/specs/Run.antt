@@ -1,7 +1,9 @@
 -- What the top call writes, and why it is refused.
 use Rattle.std.specs.Prelude.{◌≡◌, ℕ, List, Option, Some, Ok, Err, option_map, IsSomeAnd, true, false}
 use Rattle.std.specs.Result.{result_ok}
+use Rattle.std.specs.FinMap.{empty}
 use Rattle.worktree_fs.specs.Tree.{Names, look}
+use Rattle.worktree_stack.specs.Reading.{Sources}
 use Rattle.dir_classify.specs.declared.options.Options.{Options}
 use Rattle.dir_classify.specs.declared.error.Error.{Error}
 use Rattle.dir_classify.specs.Class.{Meanings}
@@ -29,9 +31,13 @@ depth_limit = 256
 abbrev pub walk_options : SetupOptions → Options
 walk_options options = record { emit_tracked = options.emit_tracked; emit_ignored = options.emit_ignored }
 
+-- where rules are read: in a tree; no object is there
+abbrev pub read_in : Names → Sources
+read_in t = record { tree = t; objects = empty }
+
 -- what the layers below say of the paths of the work tree at `root`: the index, and the ignore rules
 abbrev pub meant_in : Names → List ℕ → Setup → Meanings
-meant_in t root setup = meanings setup.index (excludes_of root setup) t
+meant_in t root setup = meanings setup.index (excludes_of root setup) (read_in t)
 
 -- the lines of the report of the work tree at `root`; none where there is no such report
 abbrev pub text_of : Names → List ℕ → Setup → Option (List ℕ)
@@ -71,7 +77,7 @@ pub record RefusesSetup (t : Names) (words : List (List ℕ)) (line : ℕ) : Typ
 pub record RefusesWalkAt (t : Names) (root : List ℕ) (setup : Setup) (Failed : Type 0) (word : WalkWord) (path : List ℕ) : Type 0 where
   pub error : Error
   pub is : of_walk error ≡ refusals.Walk word path
-  pub cause : WalkRefuses t (excludes_of root setup) (meant_in t root setup) root depth_limit Failed error
+  pub cause : WalkRefuses (read_in t) (excludes_of root setup) (meant_in t root setup) root depth_limit Failed error
 
 -- the walk that the words ask for is refused with a word and a path
 pub record RefusesWalk (t : Names) (words : List (List ℕ)) (Failed : Type 0) (word : WalkWord) (path : List ℕ) : Type 0 where

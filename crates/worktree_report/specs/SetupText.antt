@@ -4,7 +4,7 @@ use Rattle.std.specs.Str.{bytes_eq}
 use Rattle.std.specs.List.{slice_split}
 use Rattle.dir_classify.specs.declared.options.EmissionMode.{EmissionMode}
 use Rattle.dir_classify.specs.declared.options.EmissionMode.TheVariants.{Matching}
-use Rattle.gitbase_core.specs.Index.{entry_fault}
+use Rattle.gitbase_core.specs.Index.{entry_error}
 use Rattle.worktree_report.specs.declared.setup.option.SetupOption.{SetupOption}
 use Rattle.worktree_report.specs.declared.setup.line.SetupLine.{SetupLine}
 use Rattle.worktree_report.specs.declared.setup.line.SetupLine.TheVariants.{Skipped, Sets, Indexes, OverrideRule, GlobalRule}
@@ -59,7 +59,7 @@ abbrev pub is_refused : Said → Option SetupLine → Bool
 is_refused earlier None = true
 is_refused earlier (Some Skipped) = false
 is_refused earlier (Some (Sets o)) = is_set o.name earlier.options
-is_refused earlier (Some (Indexes e)) = is_some (entry_fault earlier.index e)
+is_refused earlier (Some (Indexes e)) = is_some (entry_error earlier.index e)
 is_refused earlier (Some (OverrideRule rule)) = false
 is_refused earlier (Some (GlobalRule rule)) = false
 

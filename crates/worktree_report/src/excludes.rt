@@ -1,6 +1,6 @@
 //! The ignore rules that a setup asks for.
 ghost use Rattle.std.specs.Prelude.{◌≡◌, ◌∷◌, [], IfOk};
-ghost use Rattle.worktree_fs.specs.Tree.{Names};
+ghost use Rattle.worktree_stack.specs.Reading.{Sources};
 ghost use Rattle.worktree_stack.specs.Stacked.{IsInStep, made_of};
 ghost use Rattle.dir_classify.specs.Excludes.{made_with, InStepIf};
 ghost use Rattle.worktree_report.specs.Excluding.{rules_in, rules_given, rules_of, excludes_of};
@@ -41,7 +41,7 @@ fn ignore_of(alloc: Global, setup: &Setup) -> Result<Ignore, OutOfMemory>
 /// The rules of a setup below a worktree root, with no directory pushed.
 fn stack_of(alloc: Global, root: &[u8], setup: &Setup) -> Result<Stack, OutOfMemory>
     ensures made { IfOk result (λ stack. made_of stack ≡ rules_of root.now setup.now) }
-    ensures in_step { (t : Names) → IfOk result (IsInStep t) }
+    ensures in_step { (s : Sources) → IfOk result (IsInStep s) }
 {
     let ignore = ignore_of(alloc, setup)?;
     Ok(Stack::new(
@@ -55,12 +55,12 @@ fn stack_of(alloc: Global, root: &[u8], setup: &Setup) -> Result<Stack, OutOfMem
 }
 
 /// The ignore rules of the work tree at `root`, where the options ask for them. They are made from the setup alone, and read
-/// no rules file yet: so they are in step with any tree.
+/// no rules file yet: so they are in step with any tree and store.
 ///
 /// Fails only where memory is refused.
 pub fn excludes_of(alloc: Global, root: &[u8], setup: &Setup) -> Result<Option<Stack>, OutOfMemory>
     ensures made { IfOk result (λ excludes. made_with excludes ≡ excludes_of root.now setup.now) }
-    ensures in_step { (t : Names) → IfOk result (InStepIf t) }
+    ensures in_step { (s : Sources) → IfOk result (InStepIf s) }
 {
     if !setup.options.excludes {
         return Ok(None);

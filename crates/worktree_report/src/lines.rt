@@ -79,7 +79,8 @@ fn add_spaced(text: &mut Vec<u8>, word: &[u8]) -> Result<(), OutOfMemory>
 /// Adds the line of an entry, with the status of the directory that it was folded into.
 #[tactic(auto, unfolding(crate::specs::Lines::line_of))]
 fn add_line(text: &mut Vec<u8>, entry: &Entry, collapsed: Option<Status>) -> Result<(), OutOfMemory>
-    ensures { OnOk result (text.new.items ≡ text.old.items ++ line_of (emission_of entry.now collapsed)) }
+    ensures { OnOk result (text.new.items
+        ≡ text.old.items ++ line_of (emission_of entry.now collapsed)) }
 {
     add_spaced(text, status_word(entry.status))?;
     add_spaced(text, kind_word(entry.disk_kind))?;

@@ -1,7 +1,7 @@
 //! The top call.
 ghost use Rattle.std.specs.Prelude.{◌≡◌, ◌≢◌, ◌⊎◌, ◌↔◌, ◌≤◌, ℕ, List, Some, None, IfOk, IfErr, OnOk, IsErrOf};
 ghost use Rattle.worktree_fs.specs.Tree.{Names};
-ghost use Rattle.worktree_fs.specs.Causes.{Quiet, Rose};
+ghost use Rattle.worktree_fs.specs.Causes.{NotIncreased, Increased};
 ghost use Rattle.worktree_report.specs.Words.{command_of};
 ghost use Rattle.worktree_report.specs.Written.{Appends, AppendsPart};
 ghost use Rattle.worktree_report.specs.Refusals.{Says, line_of, IsStatus};
@@ -22,9 +22,11 @@ fn deliver<S: Sink, E: Sink>(alloc: Global, text: &[u8], out: &mut S, err: &mut 
     ensures statuses { (result ≡ 0) ⊎ (result ≡ 7) }
     ensures whole { result ≡ 0 → Appends (S.written out.old) (S.written out.new) text.now }
     ensures part { result ≡ 7 → AppendsPart (S.written out.old) (S.written out.new) text.now }
-    ensures cause { result ≡ 7 → Rose (S.refusals out.old) (S.refusals out.new) }
+    ensures cause { result ≡ 7 → Increased (S.refusals out.old) (S.refusals out.new) }
     ensures later { S.refusals out.old ≤ S.refusals out.new }
-    ensures said { result ≡ 7 → Says (E.written err.old) (E.written err.new) (E.refusals err.old) (E.refusals err.new) (line_of Refusal.Output) }
+    ensures said { result ≡ 7
+        → Says (E.written err.old) (E.written err.new) (E.refusals err.old) (E.refusals err.new)
+        (line_of Refusal.Output) }
     ensures silent { result ≡ 0 → E.written err.new ≡ E.written err.old }
     ensures err_later { E.refusals err.old ≤ E.refusals err.new }
 {
@@ -40,19 +42,32 @@ fn report_text<W: Worktree>(
     words: &[Bytes],
     worktree: &mut W,
 ) -> Result<Bytes, Refusal>
-    ensures gives { (t : Names) → W.told worktree.old ≡ Some t → Quiet (W.faults worktree.old) (W.faults worktree.new) → IfOk result (λ text. output_of t words.now ≡ Some text) }
-    ensures safe { (t : Names) → W.told worktree.old ≡ Some t → Quiet (W.faults worktree.old) (W.faults worktree.new) → OnOk result (IsSafe t words.now) }
+    ensures gives { (t : Names) → W.told worktree.old ≡ Some t
+        → NotIncreased (W.faults worktree.old) (W.faults worktree.new)
+        → IfOk result (λ text. output_of t words.now ≡ Some text) }
+    ensures safe { (t : Names) → W.told worktree.old ≡ Some t
+        → NotIncreased (W.faults worktree.old) (W.faults worktree.new)
+        → OnOk result (IsSafe t words.now) }
     ensures usage { IsErrOf result Refusal.Usage ↔ (command_of words.now ≡ None) }
-    ensures setup { (t : Names) → W.told worktree.old ≡ Some t → (line : ℕ) → IsErrOf result (Refusal.Setup line) → RefusesSetup t words.now line }
-    ensures walk { (t : Names) → W.told worktree.old ≡ Some t → (word : WalkWord) (path : List ℕ) → IsErrOf result (Refusal.Walk word path) → RefusesWalk t words.now (Rose (W.faults worktree.old) (W.faults worktree.new)) word path }
-    ensures about { (word : WalkWord) (path : List ℕ) → IsErrOf result (Refusal.Walk word path) → IsAboutWalk words.now word path }
-    ensures cause { IsErrOf result Refusal.Fault → Rose (W.faults worktree.old) (W.faults worktree.new) }
+    ensures setup { (t : Names) → W.told worktree.old ≡ Some t → (line : ℕ)
+        → IsErrOf result (Refusal.Setup line) → RefusesSetup t words.now line }
+    ensures walk { (t : Names) → W.told worktree.old ≡ Some t → (word : WalkWord) (path : List ℕ)
+        → IsErrOf result (Refusal.Walk word path)
+        → RefusesWalk t words.now (Increased (W.faults worktree.old)
+        (W.faults worktree.new)) word path }
+    ensures about { (word : WalkWord) (path : List ℕ) → IsErrOf result (Refusal.Walk word path)
+        → IsAboutWalk words.now word path }
+    ensures cause { IsErrOf result Refusal.Fault
+        → Increased (W.faults worktree.old) (W.faults worktree.new) }
     ensures no_output { ¬ IsErrOf result Refusal.Output }
-    ensures complete { (t : Names) → W.told worktree.old ≡ Some t → Quiet (W.faults worktree.old) (W.faults worktree.new) → IsValid t words.now → IfErr result (λ refusal. refusal ≡ Refusal.OutOfMemory) }
+    ensures complete { (t : Names) → W.told worktree.old ≡ Some t
+        → NotIncreased (W.faults worktree.old) (W.faults worktree.new) → IsValid t words.now
+        → IfErr result (λ refusal. refusal ≡ Refusal.OutOfMemory) }
     ensures tree { W.told worktree.new ≡ W.told worktree.old }
     ensures faults { W.faults worktree.old ≤ W.faults worktree.new }
     ensures list_faults { W.list_faults worktree.old ≤ W.list_faults worktree.new }
-    ensures list_faults_kept { OnOk result (W.list_faults worktree.new ≡ W.list_faults worktree.old) }
+    ensures list_faults_kept { OnOk result (W.list_faults worktree.new
+        ≡ W.list_faults worktree.old) }
     ensures precomposes { W.precomposes worktree.new ≡ W.precomposes worktree.old }
 {
     let Some(command) = command_of(words) else {
@@ -88,35 +103,56 @@ pub fn run<W: Worktree, I: Interrupt, S: Sink, E: Sink>(
     err: &mut E,
 ) -> u8
     // Status 0, over a told tree and with no fault counted: what `out` has is what it had, and the lines of the report.
-    ensures report { (t : Names) → W.told worktree.old ≡ Some t → Quiet (W.faults worktree.old) (W.faults worktree.new) → result ≡ 0
-        → (text : List ℕ) × (output_of t words.now ≡ Some text) × Appends (S.written out.old) (S.written out.new) text }
-    ensures safe { (t : Names) → W.told worktree.old ≡ Some t → Quiet (W.faults worktree.old) (W.faults worktree.new) → result ≡ 0 → IsSafe t words.now }
+    ensures report { (t : Names) → W.told worktree.old ≡ Some t
+        → NotIncreased (W.faults worktree.old) (W.faults worktree.new) → result ≡ 0
+        → (text : List ℕ) × (output_of t words.now ≡ Some text)
+        × Appends (S.written out.old) (S.written out.new) text }
+    ensures safe { (t : Names) → W.told worktree.old ≡ Some t
+        → NotIncreased (W.faults worktree.old) (W.faults worktree.new) → result ≡ 0
+        → IsSafe t words.now }
     ensures silent { result ≡ 0 → E.written err.new ≡ E.written err.old }
     ensures list_faults { result ≡ 0 → W.list_faults worktree.new ≡ W.list_faults worktree.old }
 
     // Any other status: nothing on `out`, but with 7 a front of the report that is not all of it.
     ensures untouched { result ≢ 0 → result ≢ 7 → S.written out.new ≡ S.written out.old }
-    ensures part { (t : Names) → W.told worktree.old ≡ Some t → Quiet (W.faults worktree.old) (W.faults worktree.new) → result ≡ 7
-        → (text : List ℕ) × (output_of t words.now ≡ Some text) × AppendsPart (S.written out.old) (S.written out.new) text }
+    ensures part { (t : Names) → W.told worktree.old ≡ Some t
+        → NotIncreased (W.faults worktree.old) (W.faults worktree.new) → result ≡ 7
+        → (text : List ℕ) × (output_of t words.now ≡ Some text)
+        × AppendsPart (S.written out.old) (S.written out.new) text }
 
     // Where each status comes, and what it says.
     ensures statuses { IsStatus result }
     ensures usage { (result ≡ 2) ↔ (command_of words.now ≡ None) }
-    ensures usage_said { result ≡ 2 → Says (E.written err.old) (E.written err.new) (E.refusals err.old) (E.refusals err.new) (line_of Refusal.Usage) }
-    ensures setup { result ≡ 3 → (line : ℕ) × ((t : Names) → W.told worktree.old ≡ Some t → RefusesSetup t words.now line)
-        × Says (E.written err.old) (E.written err.new) (E.refusals err.old) (E.refusals err.new) (line_of (Refusal.Setup line)) }
-    ensures walk { result ≡ 4 → (word : WalkWord) × (path : List ℕ) × IsAboutWalk words.now word path
-        × ((t : Names) → W.told worktree.old ≡ Some t → RefusesWalk t words.now (Rose (W.faults worktree.old) (W.faults worktree.new)) word path)
-        × Says (E.written err.old) (E.written err.new) (E.refusals err.old) (E.refusals err.new) (line_of (Refusal.Walk word path)) }
-    ensures fault { result ≡ 6 → Rose (W.faults worktree.old) (W.faults worktree.new) }
-    ensures fault_said { result ≡ 6 → Says (E.written err.old) (E.written err.new) (E.refusals err.old) (E.refusals err.new) (line_of Refusal.Fault) }
-    ensures output { result ≡ 7 → Rose (S.refusals out.old) (S.refusals out.new) }
-    ensures output_said { result ≡ 7 → Says (E.written err.old) (E.written err.new) (E.refusals err.old) (E.refusals err.new) (line_of Refusal.Output) }
-    ensures memory_said { result ≡ 8 → Says (E.written err.old) (E.written err.new) (E.refusals err.old) (E.refusals err.new) (line_of Refusal.OutOfMemory) }
+    ensures usage_said { result ≡ 2
+        → Says (E.written err.old) (E.written err.new) (E.refusals err.old) (E.refusals err.new)
+        (line_of Refusal.Usage) }
+    ensures setup { result ≡ 3 → (line : ℕ) × ((t : Names) → W.told worktree.old ≡ Some t
+        → RefusesSetup t words.now line)
+        × Says (E.written err.old) (E.written err.new) (E.refusals err.old) (E.refusals err.new)
+        (line_of (Refusal.Setup line)) }
+    ensures walk { result ≡ 4 → (word : WalkWord) × (path : List ℕ)
+        × IsAboutWalk words.now word path
+        × ((t : Names) → W.told worktree.old ≡ Some t
+        → RefusesWalk t words.now (Increased (W.faults worktree.old)
+        (W.faults worktree.new)) word path)
+        × Says (E.written err.old) (E.written err.new) (E.refusals err.old) (E.refusals err.new)
+        (line_of (Refusal.Walk word path)) }
+    ensures fault { result ≡ 6 → Increased (W.faults worktree.old) (W.faults worktree.new) }
+    ensures fault_said { result ≡ 6
+        → Says (E.written err.old) (E.written err.new) (E.refusals err.old) (E.refusals err.new)
+        (line_of Refusal.Fault) }
+    ensures output { result ≡ 7 → Increased (S.refusals out.old) (S.refusals out.new) }
+    ensures output_said { result ≡ 7
+        → Says (E.written err.old) (E.written err.new) (E.refusals err.old) (E.refusals err.new)
+        (line_of Refusal.Output) }
+    ensures memory_said { result ≡ 8
+        → Says (E.written err.old) (E.written err.new) (E.refusals err.old) (E.refusals err.new)
+        (line_of Refusal.OutOfMemory) }
 
     // Valid input, over a told tree and with nothing counted.
-    ensures complete { (t : Names) → W.told worktree.old ≡ Some t → IsValid t words.now → Quiet (W.faults worktree.old) (W.faults worktree.new)
-        → Quiet (S.refusals out.old) (S.refusals out.new) → (result ≡ 0) ⊎ (result ≡ 8) }
+    ensures complete { (t : Names) → W.told worktree.old ≡ Some t → IsValid t words.now
+        → NotIncreased (W.faults worktree.old) (W.faults worktree.new)
+        → NotIncreased (S.refusals out.old) (S.refusals out.new) → (result ≡ 0) ⊎ (result ≡ 8) }
 
     // What stays.
     ensures tree { W.told worktree.new ≡ W.told worktree.old }

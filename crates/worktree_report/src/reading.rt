@@ -1,7 +1,7 @@
 //! Reading the setup from the worktree.
 ghost use Rattle.std.specs.Prelude.{◌≡◌, ◌≤◌, ℕ, true, Some, Ok, Err, IfOk, IfErr, IsErrOf};
 ghost use Rattle.worktree_fs.specs.Tree.{Names, look};
-ghost use Rattle.worktree_fs.specs.Causes.{Rose, Counts};
+ghost use Rattle.worktree_fs.specs.Causes.{Increased, Incremented};
 ghost use Rattle.worktree_report.specs.SetupAt.{setup_at};
 ghost use Rattle.worktree_report.specs.Converted.{IsOfReading};
 
@@ -48,14 +48,17 @@ pub fn read_setup<W: Worktree>(
     worktree: &mut W,
     path: &[u8],
 ) -> Result<Setup, Refusal>
-    ensures gives { (t : Names) → W.told worktree.old ≡ Some t → IfOk result (λ setup. setup_at (look t path.now true) ≡ Ok setup) }
-    ensures outside { (t : Names) → W.told worktree.old ≡ Some t → (line : ℕ) → IsErrOf result (Refusal.Setup line) → setup_at (look t path.now true) ≡ Err line }
-    ensures cause { IsErrOf result Refusal.Fault → Rose (W.faults worktree.old) (W.faults worktree.new) }
+    ensures gives { (t : Names) → W.told worktree.old ≡ Some t
+        → IfOk result (λ setup. setup_at (look t path.now true) ≡ Ok setup) }
+    ensures outside { (t : Names) → W.told worktree.old ≡ Some t → (line : ℕ)
+        → IsErrOf result (Refusal.Setup line) → setup_at (look t path.now true) ≡ Err line }
+    ensures cause { IsErrOf result Refusal.Fault
+        → Increased (W.faults worktree.old) (W.faults worktree.new) }
     ensures answers { IfErr result IsOfReading }
     ensures tree { W.told worktree.new ≡ W.told worktree.old }
     ensures faults { W.faults worktree.old ≤ W.faults worktree.new }
     ensures list_faults { W.list_faults worktree.new ≡ W.list_faults worktree.old }
-    ensures reads { Counts (W.reads worktree.old) (W.reads worktree.new) }
+    ensures reads { Incremented (W.reads worktree.old) (W.reads worktree.new) }
     ensures lists { W.lists worktree.new ≡ W.lists worktree.old }
     ensures precomposes { W.precomposes worktree.new ≡ W.precomposes worktree.old }
 {

@@ -101,7 +101,8 @@ fn walk_line(alloc: Global, word: WalkWord, path: &[u8]) -> Result<Bytes, OutOfM
 
 /// Writes a line, and lets a refusal be.
 pub fn say<E: Sink>(err: &mut E, line: &[u8])
-    ensures said { Says (E.written err.old) (E.written err.new) (E.refusals err.old) (E.refusals err.new) line.now }
+    ensures said { Says (E.written err.old) (E.written err.new) (E.refusals err.old)
+        (E.refusals err.new) line.now }
     ensures later { E.refusals err.old ≤ E.refusals err.new }
 {
     let _ = write_whole(err, line);
@@ -140,8 +141,12 @@ fn made_line(alloc: Global, refusal: &Refusal) -> Result<Option<Bytes>, OutOfMem
 pub fn refuse<E: Sink>(alloc: Global, refusal: &Refusal, err: &mut E) -> u8
     ensures status { (result ≡ status_of refusal.now) ⊎ (result ≡ 8) }
     ensures exact { is_made refusal.now ≡ false → result ≡ status_of refusal.now }
-    ensures line { result ≡ status_of refusal.now → Says (E.written err.old) (E.written err.new) (E.refusals err.old) (E.refusals err.new) (line_of refusal.now) }
-    ensures memory { result ≡ 8 → Says (E.written err.old) (E.written err.new) (E.refusals err.old) (E.refusals err.new) (line_of Refusal.OutOfMemory) }
+    ensures line { result ≡ status_of refusal.now
+        → Says (E.written err.old) (E.written err.new) (E.refusals err.old) (E.refusals err.new)
+        (line_of refusal.now) }
+    ensures memory { result ≡ 8
+        → Says (E.written err.old) (E.written err.new) (E.refusals err.old) (E.refusals err.new)
+        (line_of Refusal.OutOfMemory) }
     ensures later { E.refusals err.old ≤ E.refusals err.new }
 {
     match made_line(alloc, refusal) {

@@ -1,7 +1,7 @@
 //! The text of the report of a work tree.
 ghost use Rattle.std.specs.Prelude.{◌≡◌, ◌≤◌, ℕ, List, Some, IfOk, IfErr, OnOk, IsErrOf};
 ghost use Rattle.worktree_fs.specs.Tree.{Names};
-ghost use Rattle.worktree_fs.specs.Causes.{Quiet, Rose};
+ghost use Rattle.worktree_fs.specs.Causes.{NotIncreased, Increased};
 ghost use Rattle.dir_classify.specs.Excludes.{made_with, InStepIf};
 ghost use Rattle.dir_walk.specs.Report.{IsWalkable};
 ghost use Rattle.worktree_report.specs.Run.{depth_limit, meant_in, text_of, IsSafeAt, RefusesWalkAt, IsAboutWalkAt};
@@ -96,17 +96,30 @@ pub fn walked_text<W: Worktree>(
     root: &[u8],
     setup: &Setup,
 ) -> Result<Bytes, Refusal>
-    ensures gives { (t : Names) → W.told worktree.old ≡ Some t → Quiet (W.faults worktree.old) (W.faults worktree.new) → IfOk result (λ text. text_of t root.now setup.now ≡ Some text) }
-    ensures safe { (t : Names) → W.told worktree.old ≡ Some t → Quiet (W.faults worktree.old) (W.faults worktree.new) → OnOk result (IsSafeAt t root.now setup.now) }
-    ensures refused { (t : Names) → W.told worktree.old ≡ Some t → (word : WalkWord) (path : List ℕ) → IsErrOf result (Refusal.Walk word path) → RefusesWalkAt t root.now setup.now (Rose (W.faults worktree.old) (W.faults worktree.new)) word path }
-    ensures about { (word : WalkWord) (path : List ℕ) → IsErrOf result (Refusal.Walk word path) → IsAboutWalkAt root.now setup.now word path }
-    ensures cause { IsErrOf result Refusal.Fault → Rose (W.faults worktree.old) (W.faults worktree.new) }
+    ensures gives { (t : Names) → W.told worktree.old ≡ Some t
+        → NotIncreased (W.faults worktree.old) (W.faults worktree.new)
+        → IfOk result (λ text. text_of t root.now setup.now ≡ Some text) }
+    ensures safe { (t : Names) → W.told worktree.old ≡ Some t
+        → NotIncreased (W.faults worktree.old) (W.faults worktree.new)
+        → OnOk result (IsSafeAt t root.now setup.now) }
+    ensures refused { (t : Names) → W.told worktree.old ≡ Some t
+        → (word : WalkWord) (path : List ℕ) → IsErrOf result (Refusal.Walk word path)
+        → RefusesWalkAt t root.now setup.now (Increased (W.faults worktree.old)
+        (W.faults worktree.new)) word path }
+    ensures about { (word : WalkWord) (path : List ℕ) → IsErrOf result (Refusal.Walk word path)
+        → IsAboutWalkAt root.now setup.now word path }
+    ensures cause { IsErrOf result Refusal.Fault
+        → Increased (W.faults worktree.old) (W.faults worktree.new) }
     ensures answers { IfErr result IsOfWalking }
-    ensures complete { (t : Names) → W.told worktree.old ≡ Some t → Quiet (W.faults worktree.old) (W.faults worktree.new) → IsWalkable depth_limit (meant_in t root.now setup.now) t root.now → IfErr result (λ refusal. refusal ≡ Refusal.OutOfMemory) }
+    ensures complete { (t : Names) → W.told worktree.old ≡ Some t
+        → NotIncreased (W.faults worktree.old) (W.faults worktree.new)
+        → IsWalkable depth_limit (meant_in t root.now setup.now) t root.now
+        → IfErr result (λ refusal. refusal ≡ Refusal.OutOfMemory) }
     ensures tree { W.told worktree.new ≡ W.told worktree.old }
     ensures faults { W.faults worktree.old ≤ W.faults worktree.new }
     ensures list_faults { W.list_faults worktree.old ≤ W.list_faults worktree.new }
-    ensures list_faults_kept { OnOk result (W.list_faults worktree.new ≡ W.list_faults worktree.old) }
+    ensures list_faults_kept { OnOk result (W.list_faults worktree.new
+        ≡ W.list_faults worktree.old) }
     ensures precomposes { W.precomposes worktree.new ≡ W.precomposes worktree.old }
 {
     let options = Options {

@@ -30,7 +30,8 @@ fn is_dots(piece: &[u8]) -> bool
 }
 
 fn has_no_dots(path: &[u8]) -> bool
-    ensures { result ≡ list_all (λ piece. not (is_dots piece)) (slice_split (λ b. b == 47) path.now) }
+    ensures { result ≡ list_all (λ piece. not (is_dots piece)) (slice_split
+        (λ b. b == 47) path.now) }
 {
     path.split(|b| *b == b'/').all(|piece| !is_dots(piece))
 }

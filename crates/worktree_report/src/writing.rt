@@ -1,6 +1,6 @@
 //! Writing to a sink that takes as much at a time as it likes.
 ghost use Rattle.std.specs.Prelude.{◌≡◌, ℕ, ◌≤◌, ◌++◌, List, OnOk, OnErr};
-ghost use Rattle.worktree_fs.specs.Causes.{Rose};
+ghost use Rattle.worktree_fs.specs.Causes.{Increased};
 ghost use Rattle.worktree_report.specs.Written.{Appends, AppendsPart};
 
 use worktree_fs::{Fault, Sink};
@@ -11,7 +11,7 @@ use worktree_fs::{Fault, Sink};
 pub fn write_whole<S: Sink>(sink: &mut S, bytes: &[u8]) -> Result<(), Fault>
     ensures whole { OnOk result (Appends (S.written sink.old) (S.written sink.new) bytes.now) }
     ensures part { OnErr result (AppendsPart (S.written sink.old) (S.written sink.new) bytes.now) }
-    ensures cause { OnErr result (Rose (S.refusals sink.old) (S.refusals sink.new)) }
+    ensures cause { OnErr result (Increased (S.refusals sink.old) (S.refusals sink.new)) }
     ensures later { S.refusals sink.old ≤ S.refusals sink.new }
 {
     let mut rest = bytes;

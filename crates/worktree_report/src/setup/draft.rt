@@ -53,7 +53,7 @@ fn taken(alloc: Global, mut draft: Draft, line: &[u8]) -> Result<Option<Draft>, 
             Ok(Some(draft))
         }
         Some(SetupLine::Indexes(entry)) => {
-            if draft.index.fault_of(&entry).is_some() {
+            if draft.index.error_of(&entry).is_some() {
                 return Ok(None);
             }
             draft.index.push(alloc, entry)?;
