@@ -1,1 +1,7 @@
+mod ByParts
+mod Judging
+mod Listed
 mod Looked
+mod OnWay
+mod Onward
+mod Upgrades

@@ -1,89 +1,238 @@
 -- The class of a path: what a walk says of it.
-use Rattle.std.specs.Prelude.{ℕ, Bool, not, ◌&&◌, ◌||◌, if◌then◌else◌, List, [], ◌∷◌, Option, Some, None, is_some, nat_eq}
-use Rattle.std.specs.List.{ends_with}
+use Rattle.std.specs.Prelude.{ℕ, Bool, true, false, not, ◌&&◌, ◌||◌, if◌then◌else◌, List, [], ◌∷◌, Option, Some, None, option_map, is_some, is_none}
+use Rattle.std.specs.List.{list_any}
 use Rattle.std.specs.Str.{bytes_eq}
-use Rattle.gitbase_core.specs.Path.{is_empty}
+use Rattle.gitbase_core.specs.Path.{is_empty, basename, components, lies_beneath}
+use Rattle.gitbase_core.specs.Text.{eq_ignore_case}
 use Rattle.glob_rules.specs.declared.ignore.Kind.{Kind as IgnoredAs}
+use Rattle.glob_rules.specs.declared.ignore.Origin.{Origin}
 use Rattle.dir_classify.specs.declared.entry.Kind.{Kind}
+use Rattle.dir_classify.specs.declared.entry.Kind.TheVariants.{Repository}
 use Rattle.dir_classify.specs.declared.entry.Property.TheVariants.{DotGit}
 use Rattle.dir_classify.specs.declared.entry.Status.{Status}
 use Rattle.dir_classify.specs.declared.entry.Status.TheVariants.{Pruned, Tracked, Ignored, Untracked}
-use Rattle.dir_classify.specs.declared.entry.PathspecMatch.TheVariants.{Always}
+use Rattle.dir_classify.specs.declared.entry.PathspecMatch.{PathspecMatch}
+use Rattle.dir_classify.specs.declared.entry.PathspecMatch.TheVariants.{Prefix}
 use Rattle.dir_classify.specs.declared.classify.Outcome.{Outcome}
 use Rattle.dir_classify.specs.declared.index.InIndex.{InIndex}
-use Rattle.dir_classify.specs.Kinds.{is_dir, answers_alike, first_of_kinds}
-use Rattle.dir_classify.specs.Enters.{can_recurse}
+use Rattle.dir_classify.specs.Chosen.{Chosen, finds_repositories, finds_bare_repositories, may_hide_repositories}
+use Rattle.dir_classify.specs.declared.excludes.Ruling.{Ruling}
+use Rattle.dir_classify.specs.Evidence.{Evidence, no_ruling, GitAt, is_foreign}
+use Rattle.dir_classify.specs.Kinds.{is_dir, holds_names, answers_alike, first_of_kinds, is_directory, is_repository, is_symlink, from_match}
+use Rattle.dir_classify.specs.Enters.{is_ignored_status, can_recurse}
 
--- What the layers below say of a path.
-pub record Meanings : Type 0 where
-  -- what the index says of it
-  pub in_index : List ℕ → InIndex
-  -- what may become of it where the ignore rules exclude it, given whether it is a directory; none where they do not
-  pub excluded : List ℕ → Option Bool → Option IgnoredAs
-  -- some rules file that the rules of it come from is refused
-  pub is_unread : List ℕ → Bool
+-- ---- what is asked of a path
 
 -- `.git`
 abbrev pub dot_git : List ℕ
 dot_git = 46 ∷ 103 ∷ 105 ∷ 116 ∷ []
 
--- the last component of the path is `.git`
-abbrev pub is_dot_git : List ℕ → Bool
-is_dot_git path = bytes_eq path dot_git || ends_with nat_eq path (47 ∷ dot_git)
+-- the last component of the path is `.git`, in whatever case of letters where case makes no difference
+abbrev pub is_dot_git : Bool → List ℕ → Bool
+is_dot_git ignore_case path = if ignore_case then eq_ignore_case (basename path) dot_git else bytes_eq (basename path) dot_git
 
--- a path named `.git` is pruned, whatever the index has there
-abbrev pub class_dot_git : Option Kind → Outcome
-class_dot_git known = record { status = Pruned; property = Some DotGit; disk_kind = known; index_kind = None; pathspec_match = Some Always }
+-- the path has two components or more
+abbrev pub has_more_than_one : List (List ℕ) → Bool
+has_more_than_one [] = false
+has_more_than_one (name ∷ []) = false
+has_more_than_one (name ∷ other ∷ names) = true
 
--- the index has the path in the shape that it has on disk: tracked, or pruned outside a sparse checkout
-abbrev pub class_indexed : InIndex → Option Kind → Outcome
-class_indexed entry kind =
-    record { status = if is_some entry.sparse then Pruned else Tracked; property = entry.sparse; disk_kind = kind; index_kind = entry.kind; pathspec_match = Some Always }
+abbrev pub is_nested : List ℕ → Bool
+is_nested path = has_more_than_one (components path)
 
--- anything else is ignored where the rules exclude it, and untracked where they do not
-abbrev pub status_of_rules : Option IgnoredAs → Status
-status_of_rules (Some kind) = Ignored kind
-status_of_rules None = Untracked
+-- the path is one of the worktree set
+abbrev pub is_worktree : Chosen → List ℕ → Bool
+is_worktree o path = list_any (bytes_eq path) o.worktrees
 
-abbrev pub class_unindexed : InIndex → Option Kind → Option IgnoredAs → Outcome
-class_unindexed entry kind excluded =
-    record { status = status_of_rules excluded; property = None; disk_kind = kind; index_kind = entry.kind; pathspec_match = Some Always }
+-- one of the worktree set lies beneath the path
+abbrev pub has_worktree_beneath : Chosen → List ℕ → Bool
+has_worktree_beneath o path = list_any (lies_beneath path) o.worktrees
+
+-- how the path specs match it, an excluding spec as such
+abbrev pub match_of : Evidence → List ℕ → Option Kind → Option PathspecMatch
+match_of ev path kind = option_map from_match (ev.matched path (is_dir kind))
+
+-- A kind, or that of a repository of its own: where repositories are not to be walked into, a path is one if `.git` in it
+-- leads to one, and where it is looked at hard, if it leads to one itself.
+abbrev pub upgraded : Bool → Bool → Option Kind → GitAt → GitAt → Option Kind
+upgraded recurses hard kind at below = if not recurses && ((hard && is_foreign at) || is_foreign below) then Some Repository else kind
+
+abbrev pub upgrade : Chosen → Evidence → Option Kind → List ℕ → Bool → Option Kind
+upgrade o ev kind path hard = upgraded o.recurse_repositories hard kind (ev.repository_at path) (ev.repository_in path)
+
+-- The kind of a path: that of an up-to-date entry, else the one that the caller knows, else that of the node there
+-- where the disk may be asked.
+abbrev pub settled_kind : Evidence → List ℕ → Option Kind → Option Kind → Option Kind
+settled_kind ev path known on_disk = first_of_kinds (ev.in_index path).up_to_date (first_of_kinds known on_disk)
 
 -- outside a sparse checkout, or where index and disk agree on whether the path holds names; nothing in both is
 -- agreement too
 abbrev pub is_indexed : InIndex → Option Kind → Bool
 is_indexed entry kind = is_some entry.sparse || answers_alike (is_dir entry.kind) (is_dir kind)
 
--- the class of a path with its kind settled, and with what the rules say of it
-abbrev pub class_of_kind : InIndex → Option Kind → Option IgnoredAs → Outcome
-class_of_kind entry kind excluded = if is_indexed entry kind then class_indexed entry kind else class_unindexed entry kind excluded
+-- as what the rules are asked about a path: a link may count as what it leads to
+abbrev pub ruled_by : Chosen → Option Kind → Option Kind → Option Bool
+ruled_by o kind followed = if o.symlinks_to_directories_are_ignored_like_directories && is_symlink kind then is_dir followed else is_dir kind
 
--- The kind of a path: that of an up-to-date entry, else the one that the caller knows, else that of the node there
--- where the disk may be asked.
-abbrev pub settled_kind : Meanings → List ℕ → Option Kind → Option Kind → Option Kind
-settled_kind m path known on_disk = first_of_kinds (m.in_index path).up_to_date (first_of_kinds known on_disk)
+abbrev pub ruled_as : Chosen → Evidence → List ℕ → Option Kind → Option Bool
+ruled_as o ev path kind = ruled_by o kind (ev.followed path)
 
--- what the rules say of a path below the worktree root; the root itself is never excluded
-abbrev pub excluded_below : Meanings → List ℕ → Option Kind → Option IgnoredAs
-excluded_below m [] kind = None
-excluded_below m (b ∷ path) kind = m.excluded (b ∷ path) (is_dir kind)
+-- what the rules say of a path; none are asked for the worktree root
+abbrev pub ruling_of : Chosen → Evidence → List ℕ → Option Kind → Ruling
+ruling_of o ev path kind = if ev.is_ruled && not (is_empty path) then ev.ruling path (ruled_as o ev path kind) else no_ruling
+
+-- ---- the cases
+
+-- nothing is said of a path but its status
+abbrev pub plain_class : Status → Outcome
+plain_class status = record { status = status; property = None; disk_kind = None; index_kind = None; pathspec_match = None; origin = None }
+
+-- with what the rules said, where they are what decided
+abbrev pub origin_if : Option IgnoredAs → Option Origin → Option Origin
+origin_if None origin = None
+origin_if (Some kind) origin = origin
+
+-- excluded, or another status
+abbrev pub status_or : Status → Option IgnoredAs → Status
+status_or status None = status
+status_or status (Some kind) = Ignored kind
+
+-- A path named `.git` is pruned, whatever the index has there. In deletion, below a directory, it is ignored where the rules
+-- say so.
+abbrev pub dot_git_kind : Chosen → List ℕ → Ruling → Option IgnoredAs
+dot_git_kind o path ruling = if is_some o.for_deletion && is_nested path then ruling.kind else None
+
+abbrev pub class_dot_git : Chosen → Evidence → List ℕ → Option Kind → Ruling → Outcome
+class_dot_git o ev path known ruling =
+    record (plain_class (status_or Pruned (dot_git_kind o path ruling))) {
+      property = Some DotGit;
+      disk_kind = known;
+      pathspec_match = match_of ev path known;
+      origin = origin_if (dot_git_kind o path ruling) ruling.origin;
+    }
+
+-- no path spec can match: pruned
+abbrev pub class_unmatched : Option Kind → Outcome
+class_unmatched known = record (plain_class Pruned) { disk_kind = known }
+
+-- one of the worktree set: tracked, as a repository
+abbrev pub class_worktree : Evidence → List ℕ → Option Kind → Outcome
+class_worktree ev path kind = record (plain_class Tracked) { disk_kind = Some Repository; pathspec_match = match_of ev path kind }
+
+-- the index has the path in the shape that it has on disk: tracked, or pruned outside a sparse checkout
+abbrev pub class_in_index : InIndex → Option Kind → Option PathspecMatch → Outcome
+class_in_index entry kind found =
+    record (plain_class (if is_some entry.sparse then Pruned else Tracked)) {
+      property = entry.sparse;
+      disk_kind = kind;
+      index_kind = entry.kind;
+      pathspec_match = found;
+    }
+
+-- a directory that is a submodule in the index is looked at
+abbrev pub indexed_kind : Chosen → InIndex → Option Kind → GitAt → GitAt → Option Kind
+indexed_kind o entry kind at below =
+    if is_directory kind && is_repository entry.kind then upgraded o.recurse_repositories false kind at below else kind
+
+abbrev pub class_indexed : Chosen → Evidence → List ℕ → Option Kind → Outcome
+class_indexed o ev path kind =
+    class_in_index (ev.in_index path) (indexed_kind o (ev.in_index path) kind (ev.repository_at path) (ev.repository_in path)) (match_of ev path kind)
+
+-- the rules exclude the path
+abbrev pub class_excluded : IgnoredAs → InIndex → Option Kind → Option PathspecMatch → Outcome
+class_excluded excluded entry kind found = record (plain_class (Ignored excluded)) { disk_kind = kind; index_kind = entry.kind; pathspec_match = found }
+
+-- where ignored paths are shown, deletion that looks for repositories looks at it
+abbrev pub is_looked_at : Chosen → Bool
+is_looked_at o = is_some o.emit_ignored && finds_repositories o.for_deletion
+
+abbrev pub ignored_kind : Chosen → Option Kind → GitAt → GitAt → Option Kind
+ignored_kind o kind at below = if is_looked_at o then upgraded o.recurse_repositories (finds_bare_repositories o.for_deletion) kind at below else kind
+
+-- its match: a directory that no spec names is matched as one above what is looked for, and in deletion one above a
+-- path of the worktree set
+abbrev pub is_above_wanted : Chosen → List ℕ → Option PathspecMatch → Bool
+is_above_wanted o path found = is_none found || (is_some o.for_deletion && has_worktree_beneath o path)
+
+abbrev pub ignored_match : Chosen → List ℕ → Option Kind → Option PathspecMatch → Option PathspecMatch
+ignored_match o path kind found = if is_some o.emit_ignored && is_directory kind && is_above_wanted o path found then Some Prefix else found
+
+-- the class with the kind that it is seen to have
+abbrev pub class_seen : Chosen → List ℕ → IgnoredAs → InIndex → Option PathspecMatch → Option Kind → Outcome
+class_seen o path excluded entry found seen = class_excluded excluded entry seen (ignored_match o path seen found)
+
+abbrev pub class_ignored : Chosen → Evidence → List ℕ → Option Kind → IgnoredAs → Outcome
+class_ignored o ev path kind excluded =
+    class_seen o path excluded (ev.in_index path) (match_of ev path kind) (ignored_kind o kind (ev.repository_at path) (ev.repository_in path))
+
+-- a directory is untracked
+abbrev pub class_free : Status → InIndex → Option Kind → Option PathspecMatch → Outcome
+class_free status entry kind found = record (plain_class status) { disk_kind = kind; index_kind = entry.kind; pathspec_match = found }
+
+-- and looked at
+abbrev pub class_directory : Chosen → Evidence → List ℕ → Option Kind → Outcome
+class_directory o ev path kind = class_free Untracked (ev.in_index path) (upgrade o ev kind path o.classify_untracked_bare_repositories) (match_of ev path kind)
+
+-- anything else is untracked where a spec matches it, and pruned where none does
+abbrev pub class_other : Evidence → List ℕ → Option Kind → Outcome
+class_other ev path kind = class_free (if is_none (match_of ev path kind) then Pruned else Untracked) (ev.in_index path) kind (match_of ev path kind)
+
+-- the index does not have the path: by what the rules say
+abbrev pub class_by_rules : Chosen → Evidence → List ℕ → Option Kind → Option IgnoredAs → Outcome
+class_by_rules o ev path kind None = if holds_names kind then class_directory o ev path kind else class_other ev path kind
+class_by_rules o ev path kind (Some excluded) = class_ignored o ev path kind excluded
+
+abbrev pub class_unindexed : Chosen → Evidence → List ℕ → Option Kind → Ruling → Outcome
+class_unindexed o ev path kind ruling = record (class_by_rules o ev path kind ruling.kind) { origin = ruling.origin }
+
+-- the class of a path with its kind settled
+abbrev pub class_of_kind : Chosen → Evidence → List ℕ → Option Kind → Outcome
+class_of_kind o ev path kind =
+    if is_worktree o path then class_worktree ev path kind
+    else if is_indexed (ev.in_index path) kind then class_indexed o ev path kind
+    else class_unindexed o ev path kind (ruling_of o ev path kind)
+
+-- what the rules say of a path named `.git`, which are asked in deletion alone
+abbrev pub dot_git_ruling : Chosen → Evidence → List ℕ → Option Kind → Ruling
+dot_git_ruling o ev path known = if is_some o.for_deletion && ev.is_ruled then ev.ruling path (is_dir known) else no_ruling
 
 -- The class of a path, by the first case that fits. `known` is the kind that the caller knows, and `on_disk` that of
 -- the node there where the disk may be asked.
-unfoldable pub class : Meanings → List ℕ → Option Kind → Option Kind → Outcome
-class m path known on_disk =
-    if is_dot_git path then class_dot_git known
-    else class_of_kind (m.in_index path) (settled_kind m path known on_disk) (excluded_below m path (settled_kind m path known on_disk))
+unfoldable pub class : Chosen → Evidence → List ℕ → Option Kind → Option Kind → Outcome
+class o ev path known on_disk =
+    if is_dot_git o.ignore_case path then class_dot_git o ev path known (dot_git_ruling o ev path known)
+    else if not (ev.can_match path (is_dir known)) then class_unmatched known
+    else class_of_kind o ev path (settled_kind ev path known on_disk)
 
--- The class of a path asks the ignore rules: it is not named `.git`, the index does not have it, and it is not the
--- worktree root.
-unfoldable pub asks : Meanings → List ℕ → Option Kind → Option Kind → Bool
-asks m path known on_disk = not (is_dot_git path) && not (is_indexed (m.in_index path) (settled_kind m path known on_disk)) && not (is_empty path)
+-- ---- what it asks
+
+-- with its kind settled: it is not of the worktree set, the index does not have it, and it is not the worktree root
+abbrev pub asks_of_kind : Chosen → Evidence → List ℕ → Option Kind → Bool
+asks_of_kind o ev path kind = not (is_worktree o path) && not (is_indexed (ev.in_index path) kind) && ev.is_ruled && not (is_empty path)
+
+-- The class of a path asks the ignore rules.
+unfoldable pub asks : Chosen → Evidence → List ℕ → Option Kind → Option Kind → Bool
+asks o ev path known on_disk =
+    if is_dot_git o.ignore_case path then is_some o.for_deletion && ev.is_ruled
+    else ev.can_match path (is_dir known) && asks_of_kind o ev path (settled_kind ev path known on_disk)
 
 -- it asks them, and they cannot be read
-abbrev pub asks_unread : Meanings → List ℕ → Option Kind → Option Kind → Bool
-asks_unread m path known on_disk = asks m path known on_disk && m.is_unread path
+abbrev pub asks_unread : Chosen → Evidence → List ℕ → Option Kind → Option Kind → Bool
+asks_unread o ev path known on_disk = asks o ev path known on_disk && ev.is_unread path
 
--- whether a walk looks into a path of this class
-abbrev pub enters : Outcome → Bool → Bool
-enters c in_repository = can_recurse c.status c.disk_kind in_repository
+-- ---- what becomes of it
+
+-- whether a walk looks into a path of this class, by default
+abbrev pub enters : Chosen → Outcome → Bool → Bool
+enters o c in_repository = can_recurse c.status c.disk_kind c.pathspec_match o.for_deletion in_repository
+
+-- the class of a path that is not entered: in deletion that may hide repositories, an ignored directory is looked at hard, even
+-- where repositories are walked into
+abbrev pub hidden_kind : Evidence → Option Kind → List ℕ → Option Kind
+hidden_kind ev kind path = upgraded false true kind (ev.repository_at path) (ev.repository_in path)
+
+abbrev pub is_hiding : Chosen → Outcome → Bool
+is_hiding o c = is_ignored_status c.status && is_directory c.disk_kind && may_hide_repositories o.for_deletion
+
+unfoldable pub leaf_class : Chosen → Evidence → List ℕ → Outcome → Outcome
+leaf_class o ev path c = if is_hiding o c then record c { disk_kind = hidden_kind ev c.disk_kind path } else c

@@ -1,44 +1,51 @@
 -- What a call does that gives the class of a path.
-use Rattle.std.specs.Prelude.{◌≡◌, ℕ, Bool, true, false, List, Option, Some, Result, IfOk, IfErr, OnOk}
-use Rattle.gitbase_core.specs.declared.entry.IndexEntry.{IndexEntry}
+use Rattle.std.specs.Prelude.{◌≡◌, ℕ, Bool, true, false, ◌&&◌, List, Option, Some, Result, IfOk, IfErr, OnOk}
 use Rattle.gitbase_core.specs.declared.find.Find.{Ghosts as FindOf}
 use Rattle.worktree_fs.specs.declared.worktree.Worktree.{Ghosts as WorktreeOf}
 use Rattle.worktree_fs.specs.Causes.{NotIncreased, Increased}
 use Rattle.worktree_fs.specs.Kept.{AsksStore}
-use Rattle.worktree_fs.specs.Paths.{is_normal}
 use Rattle.worktree_stack.specs.Reading.{Sources}
 use Rattle.worktree_stack.specs.Stacked.{Stacked}
 use Rattle.dir_classify.specs.declared.classify.Outcome.{Outcome}
 use Rattle.dir_classify.specs.declared.entry.Kind.{Kind}
 use Rattle.dir_classify.specs.declared.error.Error.{Error}
-use Rattle.dir_classify.specs.Asked.{asked, IsSwallowed}
-use Rattle.dir_classify.specs.Class.{class as class_of, asks as asks_rules, asks_unread}
+use Rattle.dir_classify.specs.Class.{class as class_of, asks as asks_rules}
+use Rattle.dir_classify.specs.Evidence.{Evidence}
 use Rattle.dir_classify.specs.Excludes.{made_with, TellsIf, InStepIf}
-use Rattle.dir_classify.specs.Kept.{AsksRules, KeepsRules}
-use Rattle.dir_classify.specs.Meanings.{meanings}
+use Rattle.dir_classify.specs.Faults.{IsJudged}
+use Rattle.dir_classify.specs.Kept.{AsksRules, KeepsRules, AsksAtMost}
+use Rattle.dir_classify.specs.Layers.{Setting, evidence, on_disk}
 use Rattle.dir_classify.specs.Refused.{IsAbout, Refuses, OnAccess, OnFault}
 
--- What a question for the class of `path`, which is `full` from the root of the file system on, answers and leaves, where a
--- worktree was `w0` and is `w1`, a store was `o0` and is `o1`, and the rules were `old` and are `new`. `known` is the kind
--- that the caller knows, and `ask` says whether the disk may be asked for it.
-pub record Classes {W F : Type 0} (w : WorktreeOf W) (f : FindOf F) (w0 w1 : W) (o0 o1 : F) (old new : Option Stacked)
-    (index : List IndexEntry) (full path : List ℕ) (known : Option Kind) (ask : Bool) (result : Result Outcome Error) : Type 0 where
+-- What a question about `path` answers and leaves that is judged by the kind on disk, where that may be asked, and by the
+-- evidence; a worktree was `w0` and is `w1`, a store was `o0` and is `o1`, and the rules were `old` and are `new`. `asks` says
+-- whether the rules are asked.
+pub record Judges {W F : Type 0} (w : WorktreeOf W) (f : FindOf F) (w0 w1 : W) (o0 o1 : F) (old new : Option Stacked)
+    (given : Setting) (path : List ℕ) (judge : Option Kind → Evidence → Outcome) (asks : Option Kind → Evidence → Bool) (ask_disk : Bool)
+    (result : Result Outcome Error) : Type 0 where
   -- Over a told tree and a told store with which the rules are in step, and without a fault, it is exactly the class,
-  -- and all rules that it needs were read. A fault of the question for the kind reads as no kind.
+  -- and all rules that it needs were read.
   pub class : (s : Sources) → TellsIf (w.told w0) (f.holds o0) (made_with old) s → InStepIf s old → NotIncreased (w.faults w0) (w.faults w1)
-      → IfOk result (λ c. c ≡ class_of (meanings index (made_with old) s) path known (asked s.tree full ask))
+      → IfOk result (λ c. c ≡ judge (on_disk given s.tree path ask_disk) (evidence given (made_with old) s))
   pub read : (s : Sources) → TellsIf (w.told w0) (f.holds o0) (made_with old) s → InStepIf s old → NotIncreased (w.faults w0) (w.faults w1)
-      → OnOk result (asks_unread (meanings index (made_with old) s) path known (asked s.tree full ask) ≡ false)
+      → OnOk result ((asks (on_disk given s.tree path ask_disk) (evidence given (made_with old) s) && (evidence given (made_with old) s).is_unread path) ≡ false)
+  -- With a fault it is the class by what was read.
   pub swallowed : (s : Sources) → TellsIf (w.told w0) (f.holds o0) (made_with old) s → InStepIf s old
-      → IfOk result (IsSwallowed (meanings index (made_with old) s) path known (asked s.tree full ask))
+      → IfOk result (IsJudged judge (evidence given (made_with old) s) path (on_disk given s.tree path ask_disk))
   -- Each refusal has its cause.
-  pub about : is_normal path ≡ true → IfErr result (IsAbout (made_with old) path)
-  pub refused : is_normal path ≡ true → (s : Sources) → TellsIf (w.told w0) (f.holds o0) (made_with old) s
-      → IfErr result (Refuses s (made_with old) path)
-  pub asks : (s : Sources) → w.told w0 ≡ Some s.tree → NotIncreased (w.faults w0) (w.faults w1)
-      → IfErr result (OnAccess (asks_rules (meanings index (made_with old) s) path known (asked s.tree full ask) ≡ true))
+  pub about : IfErr result (IsAbout (made_with old) path)
+  pub refused : (s : Sources) → TellsIf (w.told w0) (f.holds o0) (made_with old) s → IfErr result (Refuses s (made_with old) path)
+  pub asked : (s : Sources) → w.told w0 ≡ Some s.tree → NotIncreased (w.faults w0) (w.faults w1)
+      → IfErr result (OnAccess (asks (on_disk given s.tree path ask_disk) (evidence given (made_with old) s) ≡ true))
   pub cause : IfErr result (OnFault (Increased (w.faults w0) (w.faults w1)) (Increased (f.faults o0) (f.faults o1)))
   -- What stays.
   pub keeps : AsksRules w w0 w1
   pub store : AsksStore f o0 o1
   pub rules : KeepsRules w f w0 w1 o0 old new
+  pub reads : given.options.recurse_repositories ≡ true → AsksAtMost path (w.reads w0) (w.reads w1) old new result
+
+-- The class of a path, which is the known kind or else, where the disk may be asked, that of its node.
+abbrev pub Classes : {W F : Type 0} → WorktreeOf W → FindOf F → W → W → F → F → Option Stacked → Option Stacked
+    → Setting → List ℕ → Option Kind → Bool → Result Outcome Error → Type 0
+Classes w f w0 w1 o0 o1 old new given path known ask_disk result =
+    Judges w f w0 w1 o0 o1 old new given path (λ kind ev. class_of given.options ev path known kind) (λ kind ev. asks_rules given.options ev path known kind) ask_disk result

@@ -7,13 +7,13 @@ use Rattle.dir_classify.specs.declared.classify.Outcome.{Outcome}
 -- the same entry with a path of its own
 abbrev pub entry_of : EntryRef → Entry
 entry_of e =
-    record { rela_path = e.rela_path.now; status = e.status; property = e.property; disk_kind = e.disk_kind; index_kind = e.index_kind; pathspec_match = e.pathspec_match }
+    record { rela_path = e.rela_path.now; status = e.status; property = e.property; disk_kind = e.disk_kind; index_kind = e.index_kind; pathspec_match = e.pathspec_match; origin = e.origin }
 
 -- the entry of a path with its class
 abbrev pub entry_at : List ℕ → Outcome → Entry
 entry_at path c =
-    record { rela_path = path; status = c.status; property = c.property; disk_kind = c.disk_kind; index_kind = c.index_kind; pathspec_match = c.pathspec_match }
+    record { rela_path = path; status = c.status; property = c.property; disk_kind = c.disk_kind; index_kind = c.index_kind; pathspec_match = c.pathspec_match; origin = c.origin }
 
 -- the class in an entry
 abbrev pub class_in : Entry → Outcome
-class_in e = record { status = e.status; property = e.property; disk_kind = e.disk_kind; index_kind = e.index_kind; pathspec_match = e.pathspec_match }
+class_in e = record { status = e.status; property = e.property; disk_kind = e.disk_kind; index_kind = e.index_kind; pathspec_match = e.pathspec_match; origin = e.origin }

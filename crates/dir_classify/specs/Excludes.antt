@@ -1,5 +1,5 @@
 -- The ignore rules that a class may ask.
-use Rattle.std.specs.Prelude.{◌≡◌, Bool, true, Option, Some, None, option_map, is_some}
+use Rattle.std.specs.Prelude.{◌≡◌, ℕ, Bool, true, List, Option, Some, None, option_map, option_and_then, is_some}
 use Rattle.gitbase_core.specs.Objects.{Objects}
 use Rattle.worktree_fs.specs.Tree.{Names}
 use Rattle.worktree_stack.specs.Setup.{Made, has_excludes}
@@ -14,6 +14,10 @@ made_with excludes = option_map made_of excludes
 abbrev pub tells_excludes : Option Made → Bool
 tells_excludes None = true
 tells_excludes (Some made) = has_excludes made
+
+-- the directories that are pushed, where rules are given
+abbrev pub pushed_in : Option Stacked → Option (List (List ℕ))
+pushed_in excludes = option_and_then (λ (s : Stacked). s.at) excludes
 
 -- they are in step with a tree and a store of objects, where they are given
 abbrev pub InStepIf : Sources → Option Stacked → Type 0

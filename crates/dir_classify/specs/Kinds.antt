@@ -1,10 +1,15 @@
 -- Kinds of nodes.
-use Rattle.std.specs.Prelude.{Bool, true, false, not, Option, Some, None}
+use Rattle.std.specs.Prelude.{Bool, true, false, not, if◌then◌else◌, Option, Some, None}
 use Rattle.worktree_fs.specs.declared.answers.NodeKind.{NodeKind}
 use Rattle.worktree_fs.specs.declared.answers.NodeKind.TheVariants as nodes
 use Rattle.gitbase_core.specs.declared.kinds.EntryKind.{EntryKind}
 use Rattle.gitbase_core.specs.declared.kinds.EntryKind.TheVariants as entries
+use Rattle.glob_rules.specs.declared.pathspec.Match.{Match}
+use Rattle.glob_rules.specs.declared.pathspec.MatchKind.{MatchKind}
+use Rattle.glob_rules.specs.declared.pathspec.MatchKind.TheVariants as specs
 use Rattle.dir_classify.specs.declared.entry.Kind.{Kind}
+use Rattle.dir_classify.specs.declared.entry.PathspecMatch.{PathspecMatch}
+use Rattle.dir_classify.specs.declared.entry.PathspecMatch.TheVariants.{Always, Excluded, Prefix, WildcardMatch, Verbatim}
 use Rattle.dir_classify.specs.declared.entry.Kind.TheVariants.{Untrackable, File, Symlink, Directory, Repository}
 
 -- whether a node of this kind holds names
@@ -19,6 +24,11 @@ is_directory_kind Symlink = false
 abbrev pub is_dir : Option Kind → Option Bool
 is_dir None = None
 is_dir (Some kind) = Some (is_directory_kind kind)
+
+-- whether a node that may be there holds names
+abbrev pub holds_names : Option Kind → Bool
+holds_names None = false
+holds_names (Some kind) = is_directory_kind kind
 
 -- whether two such answers are the same, no answer being one too
 abbrev pub answers_alike : Option Bool → Option Bool → Bool
@@ -72,3 +82,15 @@ is_symlink (Some Repository) = false
 is_symlink (Some Untrackable) = false
 is_symlink (Some File) = false
 is_symlink None = false
+
+-- ---- how a path spec matches
+
+abbrev pub from_match_kind : MatchKind → PathspecMatch
+from_match_kind specs.Always = Always
+from_match_kind specs.Prefix = Prefix
+from_match_kind specs.WildcardMatch = WildcardMatch
+from_match_kind specs.Verbatim = Verbatim
+
+-- an excluding spec matches as such
+abbrev pub from_match : Match → PathspecMatch
+from_match found = if found.excluded then Excluded else from_match_kind found.kind

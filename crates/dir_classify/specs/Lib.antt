@@ -1,11 +1,15 @@
-pub mod Asked
+pub mod Chosen
 pub mod Class
 pub mod Classes
 pub mod Enters
 pub mod Entries
+pub mod Evidence
 pub mod Excludes
+pub mod Faults
 pub mod Kept
 pub mod Kinds
-pub mod Meanings
+pub mod Layers
 pub mod Paths
 pub mod Refused
+pub mod Rooted
+pub mod Way

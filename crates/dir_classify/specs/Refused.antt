@@ -8,6 +8,7 @@ use Rattle.worktree_stack.specs.Reading.{Sources}
 use Rattle.worktree_stack.specs.Refused as lookups
 use Rattle.dir_classify.specs.declared.error.Error.{Error}
 use Rattle.dir_classify.specs.declared.error.Error.TheVariants as errors
+use Rattle.dir_classify.specs.declared.error.MetadataWhy.TheVariants as metadata
 use Rattle.dir_classify.specs.declared.error.ReadWhy.TheVariants as reads
 
 -- a refused lookup as the refusal of a class
@@ -27,7 +28,11 @@ pub record IsAccess (made : Made) (path : List ℕ) (e : AtPathError) : Type 0 w
 
 -- what a refusal says of the path whose class was asked
 abbrev pub IsAbout : Option Made → List ℕ → Error → Type 0
+IsAbout made path errors.Interrupted = ⊥
 IsAbout made path (errors.WorktreeRootIsFile root) = ⊥
+IsAbout made path (errors.NormalizeRoot root) = ⊥
+IsAbout made path (errors.SymlinkInRoot root worktree_root index) = ⊥
+IsAbout made path (errors.SymlinkMetadata missing why) = ⊥
 IsAbout made path (errors.ExcludesAccess e) = IsSomeAnd made (λ rules. IsAccess rules path e)
 IsAbout made path (errors.ReadDir directory why) = ⊥
 IsAbout made path (errors.DirEntry directory) = ⊥
@@ -36,7 +41,11 @@ IsAbout made path errors.OutOfMemory = Unit {0}
 
 -- over a told tree and a told store: that file or blob is refused for what it is
 abbrev pub Refuses : Sources → Option Made → List ℕ → Error → Type 0
+Refuses s made path errors.Interrupted = ⊥
 Refuses s made path (errors.WorktreeRootIsFile root) = ⊥
+Refuses s made path (errors.NormalizeRoot root) = ⊥
+Refuses s made path (errors.SymlinkInRoot root worktree_root index) = ⊥
+Refuses s made path (errors.SymlinkMetadata missing why) = ⊥
 Refuses s made path (errors.ExcludesAccess e) = IsSomeAnd made (λ rules. lookups.RefusesIn s rules (components path) e)
 Refuses s made path (errors.ReadDir directory why) = ⊥
 Refuses s made path (errors.DirEntry directory) = ⊥
@@ -46,7 +55,11 @@ Refuses s made path errors.OutOfMemory = Unit {0}
 -- what holds where a class asked the rules
 abbrev pub OnAccess : Type 0 → Error → Type 0
 OnAccess Holds (errors.ExcludesAccess e) = Holds
+OnAccess Holds errors.Interrupted = Unit {0}
 OnAccess Holds (errors.WorktreeRootIsFile root) = Unit {0}
+OnAccess Holds (errors.NormalizeRoot root) = Unit {0}
+OnAccess Holds (errors.SymlinkInRoot root worktree_root index) = Unit {0}
+OnAccess Holds (errors.SymlinkMetadata missing why) = Unit {0}
 OnAccess Holds (errors.ReadDir directory why) = Unit {0}
 OnAccess Holds (errors.DirEntry directory) = Unit {0}
 OnAccess Holds (errors.TooDeep directory) = Unit {0}
@@ -54,7 +67,12 @@ OnAccess Holds errors.OutOfMemory = Unit {0}
 
 -- what holds where the worktree failed, and what where the store did
 abbrev pub OnFault : Type 0 → Type 0 → Error → Type 0
+OnFault TreeFailed StoreFailed errors.Interrupted = Unit {0}
 OnFault TreeFailed StoreFailed (errors.WorktreeRootIsFile path) = Unit {0}
+OnFault TreeFailed StoreFailed (errors.NormalizeRoot root) = Unit {0}
+OnFault TreeFailed StoreFailed (errors.SymlinkInRoot root worktree_root index) = Unit {0}
+OnFault TreeFailed StoreFailed (errors.SymlinkMetadata path metadata.Absent) = Unit {0}
+OnFault TreeFailed StoreFailed (errors.SymlinkMetadata path metadata.Fault) = TreeFailed
 OnFault TreeFailed StoreFailed (errors.ExcludesAccess e) = lookups.OnFault TreeFailed StoreFailed e
 OnFault TreeFailed StoreFailed (errors.ReadDir path reads.Absent) = Unit {0}
 OnFault TreeFailed StoreFailed (errors.ReadDir path reads.NotADirectory) = Unit {0}

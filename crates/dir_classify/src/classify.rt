@@ -1,26 +1,24 @@
-//! The class of a path.
-ghost use Rattle.std.specs.Prelude.{◌≡◌, ◌⊎◌, Option, true, false, Some, None, [], IfOk, IfErr};
-ghost use Rattle.worktree_fs.specs.Tree.{Names};
-ghost use Rattle.worktree_fs.specs.Causes.{NotIncreased, Increased};
-ghost use Rattle.worktree_fs.specs.Kept.{Asks};
-ghost use Rattle.worktree_stack.specs.Setup.{Made};
-ghost use Rattle.worktree_stack.specs.Reading.{Sources};
-ghost use Rattle.dir_classify.specs.Kinds.{first_of_kinds};
-ghost use Rattle.dir_classify.specs.Paths.{full_path};
-ghost use Rattle.dir_classify.specs.Class.{class, is_dot_git, class_dot_git, is_indexed, class_of_kind, status_of_rules};
-ghost use Rattle.dir_classify.specs.Meanings.{meanings};
+//! The class of a path, and the classes on the way to a traversal root.
+ghost use Rattle.std.specs.Prelude.{◌≡◌, true, false, None, IfOk};
+ghost use Rattle.worktree_fs.specs.Paths.{full_path, is_normal};
+ghost use Rattle.dir_classify.specs.Chosen.{chosen};
+ghost use Rattle.dir_classify.specs.Class.{class, asks, enters};
+ghost use Rattle.dir_classify.specs.Classes.{Classes, Judges};
 ghost use Rattle.dir_classify.specs.Excludes.{made_with, tells_excludes};
-ghost use Rattle.dir_classify.specs.Classes.{Classes};
-ghost use Rattle.dir_classify.specs.Asked.{asked, root_class};
+ghost use Rattle.dir_classify.specs.Layers.{setting_in, setting_of, IsLookupIf};
+ghost use Rattle.dir_classify.specs.Rooted.{Reaches, reached_by};
+ghost use Rattle.dir_classify.specs.Way.{goes_on, reached_so};
 
-use crate::entry::{Entry, Kind, PathspecMatch, Property, Status};
+use crate::class;
+use crate::context::{Context, Shared};
+use crate::entry::{Entry, Kind, PathspecMatch, Property, Status, is_repository};
 use crate::error::Error;
-use crate::excludes::excluded;
-use crate::index::{InIndex, in_index};
-use gitbase_core::{Find, OutOfMemory, PathText, State};
-use glob_rules::ignore;
+use crate::options::Options;
+use gitbase_core::{Find, OutOfMemory, PathText};
+use glob_rules::ignore::Origin;
+use glob_rules::pathspec::Matcher;
 use std::alloc::Global;
-use worktree_fs::{ReadError, Worktree};
+use worktree_fs::{Interrupt, Worktree, next_component};
 use worktree_stack::Stack;
 
 /// The class of a path: all that an entry says of it.
@@ -36,6 +34,8 @@ pub struct Outcome {
     pub index_kind: Option<Kind>,
     /// How the path specs match; none where none does.
     pub pathspec_match: Option<PathspecMatch>,
+    /// The ignore rule that decided about the path; none where none was asked or none did.
+    pub origin: Option<Origin>,
 }
 
 impl From<&Entry> for Outcome {
@@ -51,236 +51,246 @@ impl From<&Entry> for Outcome {
             disk_kind: entry.disk_kind,
             index_kind: entry.index_kind,
             pathspec_match: entry.pathspec_match,
+            origin: entry.origin,
         }
     }
 }
 
-/// The class of `rela_path`, which is relative to `worktree_root`.
+/// Where the way to a traversal root ends.
+#[derive(Debug, Drop)]
+pub struct RootOutcome {
+    /// The class of `path`.
+    pub outcome: Outcome,
+    /// The path that was classed last, relative to the worktree root.
+    pub path: PathText,
+    /// Whether the worktree root is seen as a repository.
+    pub worktree_root_is_repository: bool,
+    /// Whether `path` is the whole traversal root.
+    pub whole: bool,
+}
+
+/// The class of `rela_path`, which is relative to `worktree_root`, as gitoxide's `classify::path`.
 ///
 /// `disk_kind` is the kind of its node where the caller knows it. Where neither that nor an up-to-date entry of the
 /// index tells the kind, the worktree is asked, if `ask_disk` allows it; a fault of that question reads as no kind,
-/// and is counted by the worktree.
+/// and is counted by the worktree. So are faults of the other questions about the node: whether it leads to a repository,
+/// and what a link leads to.
 ///
-/// `excludes` are asked, where they are given, for a path that the index does not have, or has in another shape (a
-/// directory in a file's place, or the other way round): it is excluded by the rules of the directories above it, which
-/// are read as they are needed, and kept for the next path. They are to tell which paths are excluded. `objects` are asked
-/// for the blobs that rules files are mapped to.
+/// The ignore rules are asked for a path that the index does not have, or has in another shape (a directory in a file's place,
+/// or the other way round), and in deletion for one named `.git`: they are read as they are needed, and kept for the next path.
+/// They are to tell which paths are excluded. The store is asked for the blobs that rules files are mapped to.
 ///
-/// `rela_path` is normal: no component is `.` or `..`.
+/// `worktree_root` is absolute, without `.` and `..`. `rela_path` is normal: no component is `.` or `..`.
 ///
 /// # Errors
 ///
 /// - `ExcludesAccess`: the rules file of a directory above the path is a link without an end or neither file nor
 ///   directory, or could not be read, or is mapped to a blob that could not be had.
 /// - `OutOfMemory`: memory was refused.
-pub fn path<W: Worktree, F: Find>(
+pub fn path<W: Worktree, F: Find, I: Interrupt, M: Matcher>(
     alloc: Global,
     worktree_root: &[u8],
     rela_path: &[u8],
     disk_kind: Option<Kind>,
     ask_disk: bool,
-    index: &State,
-    excludes: &mut Option<Stack>,
-    worktree: &mut W,
-    objects: &mut F,
+    options: Options<'_>,
+    ctx: &mut Context<'_, W, F, I, M>,
 ) -> Result<Outcome, Error>
-    requires { tells_excludes (made_with excludes.old) ≡ true }
-    ensures { Classes W.Worktree F.Find worktree.old worktree.new objects.old objects.new
-        excludes.old excludes.new index.now (full_path worktree_root.now rela_path.now)
-        rela_path.now disk_kind ask_disk result }
+    requires normal { is_normal rela_path.now ≡ true }
+    requires lookup { IsLookupIf ctx.old.index.now ctx.old.ignore_case_index_lookup.now }
+    requires excludes { tells_excludes (made_with ctx.old.excludes.now) ≡ true }
+    ensures classes { Classes W.Worktree F.Find ctx.old.worktree.now ctx.new.worktree.now
+        ctx.old.objects.now ctx.new.objects.now ctx.old.excludes.now ctx.new.excludes.now
+        (setting_in M.Matcher worktree_root.now options.entry ctx.old) rela_path.now disk_kind
+        ask_disk result }
+    ensures interrupt { ctx.new.interrupt.now ≡ ctx.old.interrupt.now }
+    ensures same_worktree { ctx.new.worktree.ghost_name ≡ ctx.old.worktree.ghost_name }
+    ensures same_objects { ctx.new.objects.ghost_name ≡ ctx.old.objects.ghost_name }
+    ensures same_interrupt { ctx.new.interrupt.ghost_name ≡ ctx.old.interrupt.ghost_name }
+    ensures same_excludes { ctx.new.excludes.ghost_name ≡ ctx.old.excludes.ghost_name }
+    ensures same_pathspec { ctx.new.pathspec ≡ ctx.old.pathspec }
+    ensures same_index { ctx.new.index ≡ ctx.old.index }
+    ensures same_lookup { ctx.new.ignore_case_index_lookup ≡ ctx.old.ignore_case_index_lookup }
+    ensures same_git_dir { ctx.new.git_dir_realpath ≡ ctx.old.git_dir_realpath }
+    ensures same_current_dir { ctx.new.current_dir ≡ ctx.old.current_dir }
+    ensures same_traversal_root { ctx.new.explicit_traversal_root ≡ ctx.old.explicit_traversal_root }
+    ensures same_limit { ctx.new.depth_limit ≡ ctx.old.depth_limit }
 {
+    let shared = Shared {
+        worktree_root,
+        pathspec: ctx.pathspec,
+        index: ctx.index,
+        ignore_case_index_lookup: ctx.ignore_case_index_lookup,
+        git_dir_realpath: ctx.git_dir_realpath,
+        current_dir: ctx.current_dir,
+        options,
+    };
     let full = full_path(alloc, worktree_root, rela_path)?;
-    at(
+    class::at(
         alloc,
         full.as_bytes(),
         rela_path,
         disk_kind,
         ask_disk,
-        index,
-        excludes,
-        worktree,
-        objects,
+        &shared,
+        ctx.excludes,
+        ctx.worktree,
+        ctx.objects,
     )
 }
 
-/// The class of `rela_path` as [`path`] says it, for a caller that has the whole path already.
-#[tactic(auto, unfolding(crate::specs::Class::class, crate::specs::Class::asks))]
-pub fn at<W: Worktree, F: Find>(
+/// The classes from the worktree root to `worktree_relative_root`, one component after another, as gitoxide's
+/// `classify::root`: on as long as the class of a component is one that a walk looks into by default. That is not asked of the
+/// worktree root itself.
+///
+/// The kind of each path is asked first, its last link not followed; a fault of that question reads as no kind.
+/// `worktree_relative_root` is normal: no component is `.` or `..`.
+///
+/// # Errors
+///
+/// As of [`path`], for a path on the way.
+pub fn root<W: Worktree, F: Find, I: Interrupt, M: Matcher>(
     alloc: Global,
-    full_path: &[u8],
+    worktree_root: &[u8],
+    worktree_relative_root: &[u8],
+    options: Options<'_>,
+    ctx: &mut Context<'_, W, F, I, M>,
+) -> Result<RootOutcome, Error>
+    requires normal { is_normal worktree_relative_root.now ≡ true }
+    requires lookup { IsLookupIf ctx.old.index.now ctx.old.ignore_case_index_lookup.now }
+    requires excludes { tells_excludes (made_with ctx.old.excludes.now) ≡ true }
+    ensures reaches { Reaches W.Worktree F.Find ctx.old.worktree.now ctx.new.worktree.now
+        ctx.old.objects.now ctx.new.objects.now ctx.old.excludes.now ctx.new.excludes.now
+        (setting_in M.Matcher worktree_root.now options.entry ctx.old) worktree_relative_root.now
+        result }
+    ensures interrupt { ctx.new.interrupt.now ≡ ctx.old.interrupt.now }
+    ensures same_worktree { ctx.new.worktree.ghost_name ≡ ctx.old.worktree.ghost_name }
+    ensures same_objects { ctx.new.objects.ghost_name ≡ ctx.old.objects.ghost_name }
+    ensures same_interrupt { ctx.new.interrupt.ghost_name ≡ ctx.old.interrupt.ghost_name }
+    ensures same_excludes { ctx.new.excludes.ghost_name ≡ ctx.old.excludes.ghost_name }
+    ensures same_pathspec { ctx.new.pathspec ≡ ctx.old.pathspec }
+    ensures same_index { ctx.new.index ≡ ctx.old.index }
+    ensures same_lookup { ctx.new.ignore_case_index_lookup ≡ ctx.old.ignore_case_index_lookup }
+    ensures same_git_dir { ctx.new.git_dir_realpath ≡ ctx.old.git_dir_realpath }
+    ensures same_current_dir { ctx.new.current_dir ≡ ctx.old.current_dir }
+    ensures same_traversal_root { ctx.new.explicit_traversal_root ≡ ctx.old.explicit_traversal_root }
+    ensures same_limit { ctx.new.depth_limit ≡ ctx.old.depth_limit }
+{
+    let shared = Shared {
+        worktree_root,
+        pathspec: ctx.pathspec,
+        index: ctx.index,
+        ignore_case_index_lookup: ctx.ignore_case_index_lookup,
+        git_dir_realpath: ctx.git_dir_realpath,
+        current_dir: ctx.current_dir,
+        options,
+    };
+    root_at(
+        alloc,
+        worktree_relative_root,
+        &shared,
+        ctx.excludes,
+        ctx.worktree,
+        ctx.objects,
+    )
+}
+
+/// The classes on the way to a traversal root as [`root`] says them, for a caller that has the parts of a context.
+pub fn root_at<W: Worktree, F: Find, M: Matcher>(
+    alloc: Global,
+    worktree_relative_root: &[u8],
+    shared: &Shared<'_, M>,
+    excludes: &mut Option<Stack>,
+    worktree: &mut W,
+    objects: &mut F,
+) -> Result<RootOutcome, Error>
+    requires normal { is_normal worktree_relative_root.now ≡ true }
+    requires lookup { IsLookupIf shared.now.index.now shared.now.ignore_case_index_lookup.now }
+    requires excludes { tells_excludes (made_with excludes.old) ≡ true }
+    ensures { Reaches W.Worktree F.Find worktree.old worktree.new objects.old objects.new
+        excludes.old excludes.new (setting_of M.Matcher shared.now) worktree_relative_root.now
+        result }
+{
+    let mut path = PathText::from_bytes(alloc, b"")?;
+    let mut class = class_on_way(alloc, b"", shared, excludes, worktree, objects)?;
+    let in_repository = is_repository(class.disk_kind);
+    let mut rest = worktree_relative_root;
+    while let Some(next) = next_component(rest) {
+        if !goes_on(shared, path.as_bytes(), &class, in_repository) {
+            return Ok(reached(path, class, in_repository, false));
+        }
+        path.push_component(alloc, next.name)?;
+        class = class_on_way(alloc, path.as_bytes(), shared, excludes, worktree, objects)?;
+        rest = next.rest;
+    }
+    Ok(reached(path, class, in_repository, true))
+}
+
+fn reached(path: PathText, outcome: Outcome, in_repository: bool, whole: bool) -> RootOutcome
+    ensures { reached_by result false ≡ reached_so path outcome in_repository whole }
+{
+    RootOutcome {
+        outcome,
+        path,
+        worktree_root_is_repository: in_repository,
+        whole,
+    }
+}
+
+/// Whether the way goes on beneath a path; of the worktree root that is not asked.
+fn goes_on<M>(shared: &Shared<'_, M>, path: &[u8], class: &Outcome, in_repository: bool) -> bool
+    ensures { result ≡ goes_on (chosen shared.now.options) path.now class.now in_repository }
+{
+    if path.is_empty() {
+        return true;
+    }
+    is_entered(&shared.options, class, in_repository)
+}
+
+/// Whether a walk looks into a path of this class by default.
+#[tactic(auto, unfolding(crate::specs::Chosen::chosen))]
+fn is_entered(options: &Options<'_>, class: &Outcome, in_repository: bool) -> bool
+    ensures { result ≡ enters (chosen options.now) class.now in_repository }
+{
+    class.status.can_recurse(
+        class.disk_kind,
+        class.pathspec_match,
+        options.for_deletion,
+        in_repository,
+    )
+}
+
+/// The class of a path on the way: its kind is asked first.
+fn class_on_way<W: Worktree, F: Find, M: Matcher>(
+    alloc: Global,
     rela_path: &[u8],
-    disk_kind: Option<Kind>,
-    ask_disk: bool,
-    index: &State,
+    shared: &Shared<'_, M>,
     excludes: &mut Option<Stack>,
     worktree: &mut W,
     objects: &mut F,
 ) -> Result<Outcome, Error>
-    requires { tells_excludes (made_with excludes.old) ≡ true }
-    ensures { Classes W.Worktree F.Find worktree.old worktree.new objects.old objects.new
-        excludes.old excludes.new index.now full_path.now rela_path.now disk_kind ask_disk result }
+    requires normal { is_normal rela_path.now ≡ true }
+    requires lookup { IsLookupIf shared.now.index.now shared.now.ignore_case_index_lookup.now }
+    requires excludes { tells_excludes (made_with excludes.old) ≡ true }
+    ensures { Judges W.Worktree F.Find worktree.old worktree.new objects.old objects.new excludes.old
+        excludes.new (setting_of M.Matcher shared.now) rela_path.now
+        (λ kind ev. class (chosen shared.now.options) ev rela_path.now kind None)
+        (λ kind ev. asks (chosen shared.now.options) ev rela_path.now kind None) true result }
 {
-    if is_dot_git(rela_path) {
-        return Ok(class_dot_git(disk_kind));
-    }
-    let entry = in_index(index, rela_path);
-    let kind = settled_kind(
+    let full = full_path(alloc, shared.worktree_root, rela_path)?;
+    let kind = class::kind_on_disk(alloc, worktree, full.as_bytes())?;
+    let class = class::at(
         alloc,
-        full_path,
-        entry.up_to_date,
-        disk_kind,
-        ask_disk,
+        full.as_bytes(),
+        rela_path,
+        kind,
+        false,
+        shared,
+        excludes,
         worktree,
+        objects,
     )?;
-    if is_indexed(entry, kind) {
-        return Ok(class_of_kind(entry, kind, None));
-    }
-    if rela_path.is_empty() {
-        return Ok(class_of_kind(entry, kind, None));
-    }
-    let excluded = excluded(alloc, rela_path, kind, excludes, worktree, objects)?;
-    Ok(class_of_kind(entry, kind, excluded))
-}
-
-/// The class of the worktree root, whose kind is asked first; a fault of that question reads as no kind, and is
-/// counted by the worktree. No rules are asked for it. The only error is want of memory.
-#[tactic(auto, unfolding(crate::specs::Class::class))]
-pub fn root<W: Worktree>(
-    alloc: Global,
-    worktree_root: &[u8],
-    index: &State,
-    worktree: &mut W,
-) -> Result<Outcome, Error>
-    ensures class { (s : Sources) → W.told worktree.old ≡ Some s.tree
-        → NotIncreased (W.faults worktree.old) (W.faults worktree.new) → (made : Option Made)
-        → IfOk result (λ c. c ≡ root_class (meanings index.now made s) s.tree worktree_root.now) }
-    ensures swallowed { (s : Sources) → W.told worktree.old ≡ Some s.tree → (made : Option Made)
-        → IfOk result (λ c. (c ≡ root_class (meanings index.now made s) s.tree worktree_root.now)
-        ⊎ (c ≡ class (meanings index.now made s) [] None None)) }
-    ensures refused { IfErr result (λ e. e ≡ Error.OutOfMemory) }
-    ensures keeps { Asks W.Worktree worktree.old worktree.new }
-    ensures reads { W.reads worktree.new ≡ W.reads worktree.old }
-{
-    let disk_kind = kind_on_disk(alloc, worktree, worktree_root)?;
-    let entry = in_index(index, &[]);
-    let kind = first_of_kinds(entry.up_to_date, disk_kind);
-    Ok(class_of_kind(entry, kind, None))
-}
-
-/// The kind of a path: of an up-to-date entry, else the one that is known, else that of the node at the whole path
-/// where the disk may be asked. A fault reads as no kind.
-fn settled_kind<W: Worktree>(
-    alloc: Global,
-    full_path: &[u8],
-    up_to_date: Option<Kind>,
-    disk_kind: Option<Kind>,
-    ask_disk: bool,
-    worktree: &mut W,
-) -> Result<Option<Kind>, OutOfMemory>
-    ensures kind { (t : Names) → W.told worktree.old ≡ Some t
-        → IfOk result (λ kind. (kind ≡ first_of_kinds up_to_date
-        (first_of_kinds disk_kind (asked t full_path.now ask_disk)))
-        ⊎ ((kind ≡ first_of_kinds up_to_date (first_of_kinds disk_kind None))
-        × Increased (W.faults worktree.old) (W.faults worktree.new))) }
-    ensures keeps { Asks W.Worktree worktree.old worktree.new }
-    ensures reads { W.reads worktree.new ≡ W.reads worktree.old }
-{
-    let known = first_of_kinds(up_to_date, disk_kind);
-    if known.is_some() || !ask_disk {
-        return Ok(known);
-    }
-    kind_on_disk(alloc, worktree, full_path)
-}
-
-/// The kind of the node at a whole path. A fault reads as no kind.
-fn kind_on_disk<W: Worktree>(
-    alloc: Global,
-    worktree: &mut W,
-    full_path: &[u8],
-) -> Result<Option<Kind>, OutOfMemory>
-    ensures kind { (t : Names) → W.told worktree.old ≡ Some t
-        → IfOk result (λ kind. (kind ≡ asked t full_path.now true)
-        ⊎ ((kind ≡ None) × Increased (W.faults worktree.old) (W.faults worktree.new))) }
-    ensures keeps { Asks W.Worktree worktree.old worktree.new }
-    ensures reads { W.reads worktree.new ≡ W.reads worktree.old }
-{
-    match worktree.kind(alloc, full_path) {
-        Ok(None) | Err(ReadError::Fault) => Ok(None),
-        Ok(Some(kind)) => Ok(Some(Kind::from(kind))),
-        Err(ReadError::OutOfMemory) => Err(OutOfMemory),
-    }
-}
-
-fn first_of_kinds(first: Option<Kind>, second: Option<Kind>) -> Option<Kind>
-    ensures { result ≡ first_of_kinds first second }
-{
-    match first {
-        Some(kind) => Some(kind),
-        None => second,
-    }
-}
-
-/// Whether the last component is `.git`.
-fn is_dot_git(path: &[u8]) -> bool
-    ensures { result ≡ is_dot_git path.now }
-{
-    path == b".git".as_slice() || path.ends_with(b"/.git")
-}
-
-fn class_dot_git(known: Option<Kind>) -> Outcome
-    ensures { result ≡ class_dot_git known }
-{
-    Outcome {
-        status: Status::Pruned,
-        property: Some(Property::DotGit),
-        disk_kind: known,
-        index_kind: None,
-        pathspec_match: Some(PathspecMatch::Always),
-    }
-}
-
-/// The class of a path whose kind is settled; `excluded` is what the rules say of it, if they are asked.
-fn class_of_kind(entry: InIndex, kind: Option<Kind>, excluded: Option<ignore::Kind>) -> Outcome
-    ensures { result ≡ class_of_kind entry kind excluded }
-{
-    let status = if entry.sparse.is_some() {
-        Status::Pruned
-    } else if is_indexed(entry, kind) {
-        Status::Tracked
-    } else {
-        status_of_rules(excluded)
-    };
-    Outcome {
-        status,
-        property: entry.sparse,
-        disk_kind: kind,
-        index_kind: entry.kind,
-        pathspec_match: Some(PathspecMatch::Always),
-    }
-}
-
-/// The status of a path that the index does not have.
-fn status_of_rules(excluded: Option<ignore::Kind>) -> Status
-    ensures { result ≡ status_of_rules excluded }
-{
-    match excluded {
-        Some(kind) => Status::Ignored(kind),
-        None => Status::Untracked,
-    }
-}
-
-/// Whether the index has a path: it lies outside a sparse checkout, or index and disk agree on whether it holds names.
-fn is_indexed(entry: InIndex, kind: Option<Kind>) -> bool
-    ensures { result ≡ is_indexed entry kind }
-{
-    if entry.sparse.is_some() {
-        return true;
-    }
-    match (entry.kind, kind) {
-        (None, None) => true,
-        (Some(indexed), Some(on_disk)) => indexed.is_dir() == on_disk.is_dir(),
-        _ => false,
-    }
+    Ok(class)
 }
 
 /// The whole path of one that is relative to the worktree root.

@@ -1,11 +1,14 @@
 //! Entries: a path with all that is known of it.
 ghost use Rattle.std.specs.Prelude.{◌≡◌, Bool, true, false, Option, IfOk};
-ghost use Rattle.dir_classify.specs.Kinds.{is_directory_kind};
-ghost use Rattle.dir_classify.specs.Enters.{is_pruned_status, is_ignored_status, can_recurse};
-ghost use Rattle.dir_classify.specs.Entries.{entry_of};
+ghost use Rattle.dir_classify.specs.Kinds.{is_directory_kind, is_dir, is_repository, holds_names, from_match_kind};
+ghost use Rattle.dir_classify.specs.Enters.{is_pruned_status, is_ignored_status, is_open, is_named, is_looked_into, can_recurse};
+ghost use Rattle.dir_classify.specs.Entries.{entry_of, entry_at};
 
+use crate::classify::Outcome;
+use crate::options::{ForDeletionMode, finds_repositories};
 use gitbase_core::{EntryKind, OutOfMemory, PathText};
 use glob_rules::ignore;
+use glob_rules::pathspec::{Match, MatchKind};
 use std::alloc::Global;
 use worktree_fs::NodeKind;
 
@@ -106,18 +109,87 @@ impl Status {
         matches!(self, Status::Ignored(_))
     }
 
-    /// Whether a walk looks into a path of this status whose kind on disk is `file_type`: into directories that
-    /// are neither pruned nor ignored, and into repositories only where the worktree root itself is seen as one. The
-    /// default recursion of gitoxide's `Status::can_recurse`, for a walk without path specs.
-    pub fn can_recurse(&self, file_type: Option<Kind>, worktree_root_is_repository: bool) -> bool
-        ensures { result ≡ can_recurse self.now file_type worktree_root_is_repository }
+    /// Whether a walk looks into a path of this status by default, as gitoxide's `Status::can_recurse`: into directories, and
+    /// into repositories only where the worktree root itself is seen as one; not where the path is pruned, and where it is
+    /// ignored only if deletion looks for repositories there or a path spec names it.
+    ///
+    /// `file_type` is the kind of the path on disk, and `pathspec_match` how the path specs match it.
+    pub fn can_recurse(
+        &self,
+        file_type: Option<Kind>,
+        pathspec_match: Option<PathspecMatch>,
+        for_deletion: Option<ForDeletionMode>,
+        worktree_root_is_repository: bool,
+    ) -> bool
+        ensures { result ≡ can_recurse self.now file_type pathspec_match for_deletion
+            worktree_root_is_repository }
     {
-        let is_open = match file_type {
-            Some(Kind::Directory) => true,
-            Some(Kind::Repository) => worktree_root_is_repository,
-            _ => false,
-        };
-        is_open && !(self.is_pruned() || self.is_ignored())
+        if !is_open(file_type, worktree_root_is_repository) {
+            return false;
+        }
+        self.is_looked_into(pathspec_match, for_deletion)
+    }
+
+    /// Whether an open directory of this status is looked into.
+    fn is_looked_into(
+        &self,
+        pathspec_match: Option<PathspecMatch>,
+        for_deletion: Option<ForDeletionMode>,
+    ) -> bool
+        ensures { result ≡ is_looked_into self.now pathspec_match for_deletion }
+    {
+        match self {
+            Status::Pruned => false,
+            Status::Tracked | Status::Untracked => true,
+            Status::Ignored(_) => {
+                if finds_repositories(for_deletion) {
+                    return true;
+                }
+                is_named(pathspec_match)
+            }
+        }
+    }
+}
+
+/// Whether a kind is that of a directory that may be walked.
+fn is_open(kind: Option<Kind>, in_repository: bool) -> bool
+    ensures { result ≡ is_open kind in_repository }
+{
+    match kind {
+        Some(Kind::Directory) => true,
+        Some(Kind::Repository) => in_repository,
+        None | Some(Kind::Untrackable) | Some(Kind::File) | Some(Kind::Symlink) => false,
+    }
+}
+
+/// Whether a path spec names a path, or what lies beneath it.
+fn is_named(found: Option<PathspecMatch>) -> bool
+    ensures { result ≡ is_named found }
+{
+    match found {
+        None | Some(PathspecMatch::Always) | Some(PathspecMatch::Excluded) => false,
+        Some(PathspecMatch::Prefix) => true,
+        Some(PathspecMatch::WildcardMatch) | Some(PathspecMatch::Verbatim) => true,
+    }
+}
+
+/// Whether a kind, if there is one, is that of a node that holds names; nothing is known without one.
+pub(crate) fn is_dir(kind: Option<Kind>) -> Option<bool>
+    ensures { result ≡ is_dir kind }
+{
+    match kind {
+        None => None,
+        Some(kind) => Some(kind.is_dir()),
+    }
+}
+
+/// Whether a node that may be there holds names.
+pub fn holds_names(kind: Option<Kind>) -> bool
+    ensures { result ≡ holds_names kind }
+{
+    match kind {
+        None => false,
+        Some(kind) => kind.is_dir(),
     }
 }
 
@@ -134,6 +206,37 @@ pub enum PathspecMatch {
     WildcardMatch,
     /// A spec names the path in full.
     Verbatim,
+}
+
+impl From<MatchKind> for PathspecMatch {
+    ghost use Rattle.std.specs.Prelude.{◌≡◌};
+    ghost use Rattle.dir_classify.specs.Kinds.{from_match_kind};
+
+    ghost from_gives = { λ kind found. found ≡ from_match_kind kind };
+
+    fn from(kind: MatchKind) -> PathspecMatch {
+        match kind {
+            MatchKind::Always => PathspecMatch::Always,
+            MatchKind::Prefix => PathspecMatch::Prefix,
+            MatchKind::WildcardMatch => PathspecMatch::WildcardMatch,
+            MatchKind::Verbatim => PathspecMatch::Verbatim,
+        }
+    }
+}
+
+/// A spec that excludes matches as such.
+impl From<Match> for PathspecMatch {
+    ghost use Rattle.std.specs.Prelude.{◌≡◌};
+    ghost use Rattle.dir_classify.specs.Kinds.{from_match};
+
+    ghost from_gives = { λ found how. how ≡ from_match found };
+
+    fn from(found: Match) -> PathspecMatch {
+        if found.is_excluded() {
+            return PathspecMatch::Excluded;
+        }
+        PathspecMatch::from(found.kind)
+    }
 }
 
 /// A path with its class.
@@ -153,6 +256,8 @@ pub struct Entry {
     pub index_kind: Option<Kind>,
     /// How the path specs match; none where none does.
     pub pathspec_match: Option<PathspecMatch>,
+    /// The ignore rule that decided about the path; none where none was asked or none did.
+    pub origin: Option<ignore::Origin>,
 }
 
 /// An entry over a borrowed path, in the order of entries.
@@ -170,6 +275,8 @@ pub struct EntryRef<'a> {
     pub index_kind: Option<Kind>,
     /// How the path specs match; none where none does.
     pub pathspec_match: Option<PathspecMatch>,
+    /// The ignore rule that decided about the path; none where none was asked or none did.
+    pub origin: Option<ignore::Origin>,
 }
 
 impl EntryRef<'_> {
@@ -184,6 +291,7 @@ impl EntryRef<'_> {
             disk_kind: self.disk_kind,
             index_kind: self.index_kind,
             pathspec_match: self.pathspec_match,
+            origin: self.origin,
         })
     }
 
@@ -207,6 +315,29 @@ impl Entry {
             disk_kind: self.disk_kind,
             index_kind: self.index_kind,
             pathspec_match: self.pathspec_match,
+            origin: self.origin,
         }
+    }
+}
+
+/// Whether a kind is that of a repository.
+pub fn is_repository(kind: Option<Kind>) -> bool
+    ensures { result ≡ is_repository kind }
+{
+    matches!(kind, Some(Kind::Repository))
+}
+
+/// The entry of a path with its class, over the path.
+pub fn entry_over<'a>(path: &'a [u8], class: &Outcome) -> EntryRef<'a>
+    ensures { entry_of result ≡ entry_at path.now class.now }
+{
+    EntryRef {
+        rela_path: path,
+        status: class.status,
+        property: class.property,
+        disk_kind: class.disk_kind,
+        index_kind: class.index_kind,
+        pathspec_match: class.pathspec_match,
+        origin: class.origin,
     }
 }

@@ -15,27 +15,66 @@ pub enum ReadWhy {
     Fault,
 }
 
+/// Why the kind of a node could not be had.
+#[derive(Clone, Copy, Debug, PartialEq, Eq)]
+pub enum MetadataWhy {
+    /// Nothing is at its path.
+    Absent,
+    /// The worktree failed.
+    Fault,
+}
+
 /// Why a walk or the class of a path was refused, as gitoxide's `gix_dir::walk::Error`. Paths are whole: the
 /// worktree root and what lies below it.
 #[derive(Debug, Drop, Error)]
 pub enum Error {
+    /// The interrupt was raised.
+    #[error("Interrupted")]
+    Interrupted,
     /// The worktree root is absent or no directory, or its kind could not be learnt.
     #[error("Worktree root at '{}' is not a directory", shown(.root))]
-    WorktreeRootIsFile { root: PathText },
+    WorktreeRootIsFile {
+        root: PathText,
+    },
+    /// The traversal root is absolute, or leads out of the worktree; `root` is as it was handed in.
+    #[error("Traversal root '{}' contains relative path components and could not be normalized", shown(.root))]
+    NormalizeRoot {
+        root: PathText,
+    },
+    /// The component of the traversal root with this number, from 0, is a link, and no earlier one is.
+    #[error("A symlink was found at component {component_index} of traversal root '{}' as seen from worktree root '{}'", shown(.root), shown(.worktree_root))]
+    SymlinkInRoot {
+        root: PathText,
+        worktree_root: PathText,
+        component_index: usize,
+    },
     /// A rules file that says whether a path is excluded was not read.
     #[error("Failed to update the excludes stack to see if a path is excluded")]
     ExcludesAccess(AtPathError),
     /// The directory at `path` was to be entered, and its names could not be listed. Without a fault that is so
     /// where the index calls an up-to-date path a directory that is none on disk.
     #[error("Failed to read the directory at '{}'", shown(.path))]
-    ReadDir { path: PathText, why: ReadWhy },
+    ReadDir {
+        path: PathText,
+        why: ReadWhy,
+    },
     /// The worktree failed while the names in the directory were read.
     #[error("Could not obtain directory entry in root of '{}'", shown(.parent_directory))]
-    DirEntry { parent_directory: PathText },
+    DirEntry {
+        parent_directory: PathText,
+    },
+    /// The kind of a component of the traversal root could not be had.
+    #[error("Could not obtain symlink metadata on '{}'", shown(.path))]
+    SymlinkMetadata {
+        path: PathText,
+        why: MetadataWhy,
+    },
     /// The directory at `path` was to be entered, and has more components below the worktree root than the
     /// depth limit.
     #[error("The directory at '{}' lies deeper than the limit", shown(.path))]
-    TooDeep { path: PathText },
+    TooDeep {
+        path: PathText,
+    },
     /// Want of memory.
     #[error("Memory for the walk could not be had")]
     OutOfMemory,

@@ -1,25 +1,41 @@
 //! What the ignore rules say of a path.
-ghost use Rattle.std.specs.Prelude.{◌≡◌, true, false, Some, None, IfOk, IfErr, OnOk};
+ghost use Rattle.std.specs.Prelude.{◌≡◌, ◌&&◌, true, false, Bool, Some, None, IfOk, IfErr, OnOk, is_some};
+ghost use Rattle.worktree_fs.specs.Kept.{AsksStore};
 ghost use Rattle.worktree_fs.specs.Paths.{is_normal};
 ghost use Rattle.worktree_fs.specs.Causes.{Increased};
-ghost use Rattle.worktree_fs.specs.Kept.{AsksStore};
 ghost use Rattle.worktree_stack.specs.Lookups.{is_dir_of};
 ghost use Rattle.worktree_stack.specs.Reading.{Sources};
 ghost use Rattle.worktree_stack.specs.Setup.{has_excludes};
-ghost use Rattle.worktree_stack.specs.Stacked.{IsInStep, made_of};
-ghost use Rattle.dir_classify.specs.Kinds.{is_dir};
+ghost use Rattle.worktree_stack.specs.Stacked.{made_of};
+ghost use Rattle.dir_classify.specs.Evidence.{no_ruling};
 ghost use Rattle.dir_classify.specs.Excludes.{made_with, tells_excludes, TellsIf, InStepIf};
-ghost use Rattle.dir_classify.specs.Kept.{AsksRules, KeepsRules};
-ghost use Rattle.dir_classify.specs.Meanings.{excluded_in, is_unread_in};
+ghost use Rattle.dir_classify.specs.Kept.{AsksRules, KeepsRules, AsksAtMost};
+ghost use Rattle.dir_classify.specs.Layers.{ruling_in, is_unread_in};
 ghost use Rattle.dir_classify.specs.Refused.{IsAbout, Refuses, OnFault};
 
-use crate::entry::Kind;
 use crate::error::Error;
 use gitbase_core::{Find, Mode};
-use glob_rules::ignore;
+use glob_rules::ignore::{Kind, Origin};
 use std::alloc::Global;
 use worktree_fs::Worktree;
 use worktree_stack::Stack;
+
+/// What the ignore rules say of a path.
+#[derive(Clone, Copy, Debug, PartialEq, Eq)]
+pub struct Ruling {
+    /// What may become of it where they exclude it.
+    pub kind: Option<Kind>,
+    /// The rule that decided, which may also be a negative one.
+    pub origin: Option<Origin>,
+}
+
+impl Ruling {
+    /// No rule decides.
+    pub const NONE: Ruling = Ruling {
+        kind: None,
+        origin: None,
+    };
+}
 
 /// Whether ignore rules, where they are given, tell which paths are excluded. Only such may be handed to a class or a walk.
 pub fn tells_excludes(excludes: &Option<Stack>) -> bool
@@ -31,28 +47,26 @@ pub fn tells_excludes(excludes: &Option<Stack>) -> bool
     }
 }
 
-/// What may become of a path where the rules exclude it, with the kind of its node settled; none where they do not, or
-/// where no rules are given.
-#[tactic(auto, unfolding(crate::specs::Meanings::excluded_in, crate::specs::Meanings::is_unread_in))]
-pub(crate) fn excluded<W: Worktree, F: Find>(
+/// What the rules say of a path that is a directory, or is not; nothing where no rules are given.
+#[tactic(auto, unfolding(crate::specs::Layers::ruling_in, crate::specs::Layers::is_unread_in))]
+pub(crate) fn ruling_of<W: Worktree, F: Find>(
     alloc: Global,
     rela_path: &[u8],
-    kind: Option<Kind>,
+    is_dir: Option<bool>,
     excludes: &mut Option<Stack>,
     worktree: &mut W,
     objects: &mut F,
-) -> Result<Option<ignore::Kind>, Error>
-    requires { tells_excludes (made_with excludes.old) ≡ true }
-    ensures excluded { (s : Sources) → TellsIf (W.told worktree.old) (F.holds objects.old)
+) -> Result<Ruling, Error>
+    requires excludes { tells_excludes (made_with excludes.old) ≡ true }
+    requires normal { is_normal rela_path.now ≡ true }
+    ensures ruling { (s : Sources) → TellsIf (W.told worktree.old) (F.holds objects.old)
         (made_with excludes.old) s → InStepIf s excludes.old
-        → IfOk result (λ k. k ≡ excluded_in (made_with excludes.old) s rela_path.now
-        (is_dir kind)) }
+        → IfOk result (λ r. r ≡ ruling_in (made_with excludes.old) s rela_path.now is_dir) }
     ensures read { (s : Sources) → TellsIf (W.told worktree.old) (F.holds objects.old)
         (made_with excludes.old) s → InStepIf s excludes.old
         → OnOk result (is_unread_in (made_with excludes.old) s rela_path.now ≡ false) }
-    ensures about { is_normal rela_path.now ≡ true
-        → IfErr result (IsAbout (made_with excludes.old) rela_path.now) }
-    ensures refused { is_normal rela_path.now ≡ true → (s : Sources)
+    ensures about { IfErr result (IsAbout (made_with excludes.old) rela_path.now) }
+    ensures refused { (s : Sources)
         → TellsIf (W.told worktree.old) (F.holds objects.old) (made_with excludes.old) s
         → IfErr result (Refuses s (made_with excludes.old) rela_path.now) }
     ensures cause { IfErr result
@@ -62,54 +76,60 @@ pub(crate) fn excluded<W: Worktree, F: Find>(
     ensures store { AsksStore F.Find objects.old objects.new }
     ensures rules { KeepsRules W.Worktree F.Find worktree.old worktree.new objects.old excludes.old
         excludes.new }
+    ensures reads { AsksAtMost rela_path.now (W.reads worktree.old) (W.reads worktree.new)
+        excludes.old excludes.new result }
 {
     match excludes {
-        Some(stack) => excluded_by(alloc, rela_path, kind, stack, worktree, objects),
-        None => Ok(None),
+        Some(stack) => ruling_by(alloc, rela_path, is_dir, stack, worktree, objects),
+        None => Ok(Ruling::NONE),
     }
 }
 
 /// The same by rules that are given.
-fn excluded_by<W: Worktree, F: Find>(
+fn ruling_by<W: Worktree, F: Find>(
     alloc: Global,
     rela_path: &[u8],
-    kind: Option<Kind>,
+    is_dir: Option<bool>,
     stack: &mut Stack,
     worktree: &mut W,
     objects: &mut F,
-) -> Result<Option<ignore::Kind>, Error>
-    requires { has_excludes (made_of stack.old) ≡ true }
-    ensures excluded { (s : Sources) → TellsIf (W.told worktree.old) (F.holds objects.old)
-        (Some (made_of stack.old)) s → IsInStep s stack.old
-        → IfOk result (λ k. k ≡ excluded_in (Some (made_of stack.old)) s rela_path.now
-        (is_dir kind)) }
+) -> Result<Ruling, Error>
+    requires excludes { has_excludes (made_of stack.old) ≡ true }
+    requires normal { is_normal rela_path.now ≡ true }
+    ensures ruling { (s : Sources) → TellsIf (W.told worktree.old) (F.holds objects.old)
+        (Some (made_of stack.old)) s → InStepIf s (Some stack.old)
+        → IfOk result (λ r. r ≡ ruling_in (Some (made_of stack.old)) s rela_path.now is_dir) }
     ensures read { (s : Sources) → TellsIf (W.told worktree.old) (F.holds objects.old)
-        (Some (made_of stack.old)) s → IsInStep s stack.old
+        (Some (made_of stack.old)) s → InStepIf s (Some stack.old)
         → OnOk result (is_unread_in (Some (made_of stack.old)) s rela_path.now ≡ false) }
-    ensures about { is_normal rela_path.now ≡ true
-        → IfErr result (IsAbout (Some (made_of stack.old)) rela_path.now) }
-    ensures refused { is_normal rela_path.now ≡ true → (s : Sources)
+    ensures about { IfErr result (IsAbout (Some (made_of stack.old)) rela_path.now) }
+    ensures refused { (s : Sources)
         → TellsIf (W.told worktree.old) (F.holds objects.old) (Some (made_of stack.old)) s
         → IfErr result (Refuses s (Some (made_of stack.old)) rela_path.now) }
     ensures cause { IfErr result
         (OnFault (Increased (W.faults worktree.old) (W.faults worktree.new))
         (Increased (F.faults objects.old) (F.faults objects.new))) }
-    ensures made { made_of stack.new ≡ made_of stack.old }
-    ensures in_step { (s : Sources) → TellsIf (W.told worktree.old) (F.holds objects.old)
-        (Some (made_of stack.old)) s → IsInStep s stack.old → IsInStep s stack.new }
     ensures keeps { AsksRules W.Worktree worktree.old worktree.new }
     ensures store { AsksStore F.Find objects.old objects.new }
+    ensures rules { KeepsRules W.Worktree F.Find worktree.old worktree.new objects.old
+        (Some stack.old) (Some stack.new) }
+    ensures reads { AsksAtMost rela_path.now (W.reads worktree.old) (W.reads worktree.new)
+        (Some stack.old) (Some stack.new) result }
 {
-    stack.at_path(alloc, rela_path, mode_of(kind), worktree, objects)?;
-    Ok(stack.platform().excluded_kind())
+    stack.at_path(alloc, rela_path, mode_of(is_dir), worktree, objects)?;
+    let platform = stack.platform();
+    Ok(Ruling {
+        kind: platform.excluded_kind(),
+        origin: platform.matching_origin(),
+    })
 }
 
-/// A mode that says of a path whether it is a directory, as its kind does.
-fn mode_of(kind: Option<Kind>) -> Option<Mode>
-    ensures { is_dir_of result ≡ is_dir kind }
+/// A mode that says of a path whether it is a directory.
+fn mode_of(is_dir: Option<bool>) -> Option<Mode>
+    ensures { is_dir_of result ≡ is_dir }
 {
-    match kind {
-        Some(kind) => Some(if kind.is_dir() { Mode::DIR } else { Mode::FILE }),
+    match is_dir {
+        Some(is_dir) => Some(if is_dir { Mode::DIR } else { Mode::FILE }),
         None => None,
     }
 }

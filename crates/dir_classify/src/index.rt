@@ -1,9 +1,9 @@
 //! What the index says of a path, in the words of classes.
-ghost use Rattle.std.specs.Prelude.{◌≡◌};
-ghost use Rattle.dir_classify.specs.Meanings.{in_index, in_words, not_indexed};
+ghost use Rattle.std.specs.Prelude.{◌≡◌, ◌&&◌, is_some};
+ghost use Rattle.dir_classify.specs.Layers.{in_index, in_words, not_indexed, IsLookupIf};
 
 use crate::entry::{Kind, Property};
-use gitbase_core::{IndexKinds, State};
+use gitbase_core::{AccelerateLookup, IndexKinds, State};
 
 /// What the index says of a path.
 #[derive(Clone, Copy, Debug, PartialEq, Eq)]
@@ -22,15 +22,30 @@ const NOT_INDEXED: InIndex = InIndex {
     sparse: None,
 };
 
-/// What an index says of a path below the worktree root; it says nothing of the root itself.
-#[tactic(auto, unfolding(crate::specs::Meanings::in_index))]
-pub(crate) fn in_index(index: &State, path: &[u8]) -> InIndex
-    ensures { result ≡ in_index index.now path.now }
+/// What an index says of a path below the worktree root, without regard to the case of letters where a look-up for that is
+/// given and asked for; it says nothing of the root itself.
+#[tactic(auto, unfolding(crate::specs::Layers::in_index))]
+pub(crate) fn in_index(
+    index: &State,
+    lookup: &Option<AccelerateLookup>,
+    ignore_case: bool,
+    path: &[u8],
+) -> InIndex
+    requires { IsLookupIf index.now lookup.now }
+    ensures { result ≡ in_index (ignore_case && is_some lookup.now) index.now path.now }
 {
     if path.is_empty() {
         return NOT_INDEXED;
     }
-    in_words(index.kinds(path))
+    match lookup {
+        Some(lookup) => {
+            if ignore_case {
+                return in_words(index.kinds_icase(path, lookup));
+            }
+            in_words(index.kinds(path))
+        }
+        None => in_words(index.kinds(path)),
+    }
 }
 
 fn in_words(kinds: IndexKinds) -> InIndex

@@ -2,14 +2,20 @@
 //! index, and whether a walk looks into it.
 #![tactic(auto)]
 
+mod cases;
+pub mod class;
 pub mod classify;
+pub mod context;
 pub mod entry;
 pub mod error;
-mod excludes;
+pub mod excludes;
 pub mod index;
 pub mod options;
+pub mod repository;
 
+pub use context::{Context, Shared};
 pub use entry::{Entry, EntryRef, Kind, PathspecMatch, Property, Status};
-pub use error::{Error, ReadWhy};
+pub use error::{Error, MetadataWhy, ReadWhy};
 pub use excludes::tells_excludes;
-pub use options::{EmissionMode, Options};
+pub use options::{CollapsedEntriesEmissionMode, EmissionMode, ForDeletionMode, Options};
+pub use repository::maybe_upgrade_to_repository;

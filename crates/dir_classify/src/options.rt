@@ -1,4 +1,13 @@
-//! What a walk is asked to emit.
+//! What a walk is asked to emit, and how it looks at paths; after gitoxide's `gix_dir::walk::Options`.
+ghost use Rattle.std.specs.Prelude.{◌≡◌, is_some};
+ghost use Rattle.std.specs.List.{list_any};
+ghost use Rattle.std.specs.Str.{bytes_eq};
+ghost use Rattle.gitbase_core.specs.Path.{lies_beneath};
+ghost use Rattle.dir_classify.specs.Chosen.{chosen, finds_repositories, finds_bare_repositories, may_hide_repositories};
+ghost use Rattle.dir_classify.specs.Class.{is_worktree, has_worktree_beneath};
+
+use gitbase_core::{PathText, lies_beneath};
+use std::collections::BTreeSet;
 
 /// How entries of a kind are emitted, as gitoxide's `gix_dir::walk::EmissionMode`.
 #[derive(Clone, Copy, Debug, PartialEq, Eq, PartialOrd, Ord, Hash, Default)]
@@ -6,15 +15,144 @@ pub enum EmissionMode {
     /// Each path by itself.
     #[default]
     Matching,
-    /// Directories in place of what lies in them. A walk does not fold directories yet, and emits each path by itself.
+    /// Directories in place of what lies in them, where all of that is of one kind.
     CollapseDirectory,
 }
 
-/// The options of a walk. Each is off by default.
+/// Which entries are emitted besides the directory that was folded over them, as gitoxide's
+/// `gix_dir::walk::CollapsedEntriesEmissionMode`.
+#[derive(Clone, Copy, Debug, PartialEq, Eq, PartialOrd, Ord, Hash, Default)]
+pub enum CollapsedEntriesEmissionMode {
+    /// Those whose status is another than that of the directory.
+    #[default]
+    OnStatusMismatch,
+    /// All of them.
+    All,
+}
+
+/// That the entries are to be deleted, and how far ignored directories are looked into for repositories, which must stay;
+/// as gitoxide's `gix_dir::walk::ForDeletionMode`.
+#[derive(Clone, Copy, Debug, PartialEq, Eq, PartialOrd, Ord, Hash, Default)]
+pub enum ForDeletionMode {
+    /// Not at all, so that a repository in one may be missed.
+    #[default]
+    IgnoredDirectoriesCanHideNestedRepositories,
+    /// They are walked, and repositories with a `.git` are found.
+    FindNonBareRepositoriesInIgnoredDirectories,
+    /// They are walked, and bare repositories are found too. This costs a look at each directory.
+    FindRepositoriesInIgnoredDirectories,
+}
+
+/// The options of a walk. Each is off by default, and directories are not folded.
 #[derive(Clone, Copy, Debug, PartialEq, Eq, Default)]
-pub struct Options {
-    /// Whether ignored paths are emitted too, and how; only whether makes a difference yet.
+pub struct Options<'a> {
+    /// Whether names are composed, as `core.precomposeUnicode` says; as the worktree composes them, or not.
+    pub precompose_unicode: bool,
+    /// Whether ASCII letters compare without regard to their case, as `core.ignoreCase` says.
+    pub ignore_case: bool,
+    /// Whether repositories in the worktree are walked like other directories.
+    pub recurse_repositories: bool,
+    /// Whether pruned paths are emitted too, and those that no path spec matches.
+    pub emit_pruned: bool,
+    /// Whether ignored paths are emitted too, and how.
     pub emit_ignored: Option<EmissionMode>,
+    /// Whether the entries are to be deleted.
+    pub for_deletion: Option<ForDeletionMode>,
+    /// Whether untracked directories are tested for being bare repositories. This costs a look at each of them.
+    pub classify_untracked_bare_repositories: bool,
     /// Whether tracked paths are emitted too.
     pub emit_tracked: bool,
+    /// How untracked paths are emitted.
+    pub emit_untracked: EmissionMode,
+    /// Whether directories without names are emitted too.
+    pub emit_empty_directories: bool,
+    /// Whether entries are emitted besides a directory that was folded over them, and which.
+    pub emit_collapsed: Option<CollapsedEntriesEmissionMode>,
+    /// Whether the ignore rules see a link as what it leads to.
+    pub symlinks_to_directories_are_ignored_like_directories: bool,
+    /// The directories that are worktrees of their own, relative to the worktree root: they are tracked as repositories.
+    pub worktree_relative_worktree_dirs: Option<&'a BTreeSet<PathText>>,
+}
+
+/// Whether a path is one of the worktree set.
+#[tactic(auto, unfolding(crate::specs::Chosen::chosen))]
+pub(crate) fn is_worktree(options: &Options<'_>, path: &[u8]) -> bool
+    ensures { result ≡ is_worktree (chosen options.now) path.now }
+{
+    match options.worktree_relative_worktree_dirs {
+        None => false,
+        Some(dirs) => has_path(dirs, path),
+    }
+}
+
+/// Whether one of the worktree set lies beneath a path.
+#[tactic(auto, unfolding(crate::specs::Chosen::chosen))]
+pub(crate) fn has_worktree_beneath(options: &Options<'_>, path: &[u8]) -> bool
+    ensures { result ≡ has_worktree_beneath (chosen options.now) path.now }
+{
+    match options.worktree_relative_worktree_dirs {
+        None => false,
+        Some(dirs) => has_beneath(dirs, path),
+    }
+}
+
+fn has_path(dirs: &BTreeSet<PathText>, path: &[u8]) -> bool
+    ensures { result ≡ list_any (bytes_eq path.now) dirs.now.keys }
+{
+    let mut some = false;
+    for dir in dirs.iter() {
+        some = some | (path == dir.as_bytes());
+    }
+    some
+}
+
+fn has_beneath(dirs: &BTreeSet<PathText>, path: &[u8]) -> bool
+    ensures { result ≡ list_any (lies_beneath path.now) dirs.now.keys }
+{
+    let mut some = false;
+    for dir in dirs.iter() {
+        some = some | lies_beneath(path, dir.as_bytes());
+    }
+    some
+}
+
+/// Whether the entries are to be deleted.
+#[tactic(auto, unfolding(crate::specs::Chosen::chosen))]
+pub(crate) fn is_deleting(options: &Options<'_>) -> bool
+    ensures { result ≡ is_some (chosen options.now).for_deletion }
+{
+    options.for_deletion.is_some()
+}
+
+/// Whether deletion looks for repositories in ignored directories.
+pub(crate) fn finds_repositories(mode: Option<ForDeletionMode>) -> bool
+    ensures { result ≡ finds_repositories mode }
+{
+    match mode {
+        None | Some(ForDeletionMode::IgnoredDirectoriesCanHideNestedRepositories) => false,
+        Some(ForDeletionMode::FindNonBareRepositoriesInIgnoredDirectories) => true,
+        Some(ForDeletionMode::FindRepositoriesInIgnoredDirectories) => true,
+    }
+}
+
+/// Whether it looks for bare ones too.
+pub(crate) fn finds_bare_repositories(mode: Option<ForDeletionMode>) -> bool
+    ensures { result ≡ finds_bare_repositories mode }
+{
+    match mode {
+        None | Some(ForDeletionMode::IgnoredDirectoriesCanHideNestedRepositories) => false,
+        Some(ForDeletionMode::FindNonBareRepositoriesInIgnoredDirectories) => false,
+        Some(ForDeletionMode::FindRepositoriesInIgnoredDirectories) => true,
+    }
+}
+
+/// Whether deletion does not look into ignored directories.
+pub fn may_hide_repositories(mode: Option<ForDeletionMode>) -> bool
+    ensures { result ≡ may_hide_repositories mode }
+{
+    match mode {
+        Some(ForDeletionMode::IgnoredDirectoriesCanHideNestedRepositories) => true,
+        None | Some(ForDeletionMode::FindNonBareRepositoriesInIgnoredDirectories) => false,
+        Some(ForDeletionMode::FindRepositoriesInIgnoredDirectories) => false,
+    }
 }

@@ -2,7 +2,8 @@
 //!
 //! A case begins with its name and its global rules (`-`: no rules at all); its steps are parted by bars, and the words of
 //! a step by backquotes.
-use crate::classes::{is_class, is_root};
+use crate::asked::{Asked, is_asked};
+use crate::classes::{is_class, is_root, is_upgraded};
 use crate::walks::is_walk;
 use bstr::ByteSlice;
 use gitbase_core::{Bytes, Flags, IndexEntry, Mode, ObjectId, OutOfMemory, PathText, State};
@@ -19,6 +20,7 @@ pub struct World {
     pub tree: MemoryWorktree,
     pub index: State,
     pub excludes: Option<Stack>,
+    pub asked: Asked,
 }
 
 /// The first word of a row, and the words behind it.
@@ -68,6 +70,7 @@ fn is_planned(alloc: Global, tree: &mut MemoryWorktree, call: &[u8], nth: u64) -
         b"read" => CallKind::Read,
         b"list open" => CallKind::ListOpen,
         b"list entry" => CallKind::ListEntry,
+        b"real path" => CallKind::RealPath,
         _ => return false,
     };
     tree.fail(alloc, call, nth).is_ok()
@@ -83,6 +86,38 @@ fn is_put(alloc: Global, tree: &mut MemoryWorktree, kind: &[u8], path: &[u8], te
         _ => return false,
     };
     tree.add(alloc, path, node).is_ok()
+}
+
+/// Whether a node was put into a directory.
+fn is_put_in(
+    alloc: Global,
+    tree: &mut MemoryWorktree,
+    directory: &[u8],
+    name: &[u8],
+    node: NewNode<'_>,
+) -> bool {
+    match joined(alloc, directory, name) {
+        Ok(path) => tree.add(alloc, path.as_bytes(), node).is_ok(),
+        Err(_) => false,
+    }
+}
+
+fn joined(alloc: Global, directory: &[u8], name: &[u8]) -> Result<PathText, OutOfMemory> {
+    let mut path = PathText::from_bytes(alloc, directory)?;
+    path.push_component(alloc, name)?;
+    Ok(path)
+}
+
+/// Whether a git directory was put at a path.
+fn is_git_put(alloc: Global, tree: &mut MemoryWorktree, path: &[u8]) -> bool {
+    is_put_in(
+        alloc,
+        tree,
+        path,
+        b"HEAD",
+        NewNode::File(b"ref: refs/heads/main\n"),
+    ) && is_put_in(alloc, tree, path, b"objects", NewNode::Directory)
+        && is_put_in(alloc, tree, path, b"refs", NewNode::Directory)
 }
 
 /// The entry of a path at stage 0.
@@ -130,6 +165,9 @@ fn holds(alloc: Global, world: &mut World, step: &[u8]) -> bool {
         b"class" => is_class(alloc, world, one, two),
         b"root" => is_root(alloc, world, one, two),
         b"walk" => is_walk(alloc, world, one, two),
+        b"ask" => is_asked(alloc, &mut world.asked, one, two),
+        b"upgrade" => is_upgraded(alloc, &mut world.tree, one, two),
+        b"git" => is_git_put(alloc, &mut world.tree, one),
         b"index" => {
             let (mode, flags) = parted(two);
             is_indexed(alloc, &mut world.index, one, mode, flags)
@@ -169,6 +207,7 @@ pub fn lie_of(alloc: Global, case: &[u8]) -> Option<&[u8]> {
         tree: MemoryWorktree::new(alloc, false),
         index: State::new(alloc),
         excludes: stack,
+        asked: Asked::plainly(alloc),
     };
     first_lie(alloc, &mut world, steps)
 }

@@ -1,7 +1,8 @@
 //! Entries: what their conversions keep, and in what order they stand.
 use dir_classify::classify::Outcome;
 use dir_classify::{EmissionMode, EntryRef, Kind, Options, PathspecMatch, Property, Status};
-use glob_rules::ignore;
+use glob_rules::ignore::{self, Origin, RuleGroup};
+use glob_rules::pathspec::{Match, MatchKind};
 use std::alloc::Global;
 
 /// An entry of a file.
@@ -13,6 +14,11 @@ fn entry(rela_path: &[u8], status: Status) -> EntryRef<'_> {
         disk_kind: Some(Kind::File),
         index_kind: Some(Kind::Symlink),
         pathspec_match: Some(PathspecMatch::Prefix),
+        origin: Some(Origin {
+            group: RuleGroup::Globals,
+            line: 7,
+            negative: false,
+        }),
     }
 }
 
@@ -23,6 +29,7 @@ fn is_class_of(class: &Outcome, entry: &EntryRef<'_>) -> bool {
         && class.disk_kind == entry.disk_kind
         && class.index_kind == entry.index_kind
         && class.pathspec_match == entry.pathspec_match
+        && class.origin == entry.origin
 }
 
 /// Whether an entry that is owned, lent and owned again is the same.
@@ -58,13 +65,44 @@ fn entries_change_hands_and_stand_by_path_and_then_by_status(rt: HostRuntime) {
     assert!(rt; ascends(alloc, slash, entry(b"d/x", Status::Tracked)));
 }
 
+/// Whether an ignored directory that specs match so is looked into.
+fn is_looked_into(found: PathspecMatch) -> bool {
+    Status::Ignored(ignore::Kind::Expendable).can_recurse(
+        Some(Kind::Directory),
+        Some(found),
+        None,
+        false,
+    )
+}
+
+/// Which directories are looked into: ignored ones that a spec names, and repositories where the root is one.
+fn are_looked_into() -> bool {
+    !is_looked_into(PathspecMatch::Always)
+        && is_looked_into(PathspecMatch::Prefix)
+        && !Status::Tracked.can_recurse(Some(Kind::Repository), None, None, false)
+        && Status::Tracked.can_recurse(Some(Kind::Repository), None, None, true)
+}
+
+/// Whether a match of this kind is this one where its spec does not exclude, and is excluded where it does.
+fn becomes(kind: MatchKind, want: PathspecMatch) -> bool {
+    let found = |excluded| Match {
+        kind,
+        excluded,
+        sequence_number: 1,
+    };
+    PathspecMatch::from(kind) == want
+        && PathspecMatch::from(found(false)) == want
+        && PathspecMatch::from(found(true)) == PathspecMatch::Excluded
+}
+
 /// The tests of kinds and statuses, and what options are where nothing is said.
 #[test]
 fn kinds_statuses_and_defaults(rt: HostRuntime) {
     assert!(rt; Kind::Repository.is_dir() && !Kind::Symlink.is_dir());
     assert!(rt; Status::Pruned.is_pruned());
     assert!(rt; Status::Ignored(ignore::Kind::Precious).is_ignored());
-    assert!(rt; Status::Tracked.can_recurse(Some(Kind::Repository), true));
+    assert!(rt; are_looked_into());
+    assert!(rt; becomes(MatchKind::WildcardMatch, PathspecMatch::WildcardMatch));
     assert!(rt; EmissionMode::default() == EmissionMode::Matching);
     assert!(rt; Options::default().emit_ignored.is_none() && !Options::default().emit_tracked);
 }

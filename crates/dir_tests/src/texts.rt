@@ -1,5 +1,5 @@
 //! The texts of errors.
-use dir_classify::{Error, ReadWhy};
+use dir_classify::{Error, MetadataWhy, ReadWhy};
 use gitbase_core::PathText;
 use std::alloc::Global;
 use worktree_stack::AtPathError;
@@ -17,17 +17,26 @@ fn error(number: usize, path: PathText) -> Error {
             parent_directory: path,
         },
         4 => Error::TooDeep { path },
+        5 => Error::Interrupted,
+        6 => Error::NormalizeRoot { root: path },
+        7 => Error::SymlinkMetadata {
+            path,
+            why: MetadataWhy::Absent,
+        },
         _ => Error::OutOfMemory,
     }
 }
 
 /// The texts, in the order of the numbers.
-const TEXTS: [&str; 6] = [
+const TEXTS: [&str; 9] = [
     "Worktree root at '/w/\u{fffd}' is not a directory",
     "Failed to update the excludes stack to see if a path is excluded",
     "Failed to read the directory at '/w/\u{fffd}'",
     "Could not obtain directory entry in root of '/w/\u{fffd}'",
     "The directory at '/w/\u{fffd}' lies deeper than the limit",
+    "Interrupted",
+    "Traversal root '/w/\u{fffd}' contains relative path components and could not be normalized",
+    "Could not obtain symlink metadata on '/w/\u{fffd}'",
     "Memory for the walk could not be had",
 ];
 

@@ -1,13 +1,17 @@
 //! Walks, case by case.
+ghost use Rattle.std.specs.Prelude.{◌≡◌, false, None};
+ghost use Rattle.dir_classify.specs.Chosen.{chosen, is_folding};
+
 use crate::cases::{World, digit, lie_of, parted};
 use crate::classes::status_word;
 use bstr::ByteSlice;
-use dir_classify::{EmissionMode, Entry, Error, Options, ReadWhy, Status, tells_excludes};
+use dir_classify::{Context, EmissionMode, Entry, Error, Options, ReadWhy, Status, tells_excludes};
 use dir_walk::walk::walk;
 use dir_walk::{Collect, Report, walk_by_path};
 use gitbase_core::MemoryStore;
+use glob_rules::pathspec::Search;
 use std::alloc::Global;
-use worktree_fs::MemoryWorktree;
+use worktree_fs::{MemoryWorktree, PlannedInterrupt};
 use worktree_stack::{AtPathError, RulesWhy};
 
 /// Cases, parted by `@`. A step `walk` names a root, whether all paths are to be shown or the untracked ones alone with the
@@ -116,15 +120,24 @@ fn is_error(error: &Error, words: &[u8]) -> bool {
     }
 }
 
-/// What is shown: all paths, or the untracked ones alone.
-fn options(shows_all: bool) -> Options {
+/// What is shown: all paths, or the untracked ones alone. Repositories are walked like other directories.
+#[tactic(auto, unfolding(dir_classify::specs::Chosen::chosen))]
+fn options(shows_all: bool) -> Options<'static>
+    ensures no_folding { is_folding (chosen result) ≡ false }
+    ensures no_deletion { (chosen result).for_deletion ≡ None }
+{
+    let emit_ignored = if shows_all {
+        Some(EmissionMode::Matching)
+    } else {
+        None
+    };
     Options {
-        emit_ignored: if shows_all {
-            Some(EmissionMode::Matching)
-        } else {
-            None
-        },
+        recurse_repositories: true,
+        emit_ignored,
+        for_deletion: None,
         emit_tracked: shows_all,
+        emit_untracked: EmissionMode::Matching,
+        ..Options::default()
     }
 }
 
@@ -134,29 +147,33 @@ fn report(
     world: &mut World,
     root: &[u8],
     limit: usize,
-    options: Options,
+    shows_all: bool,
 ) -> Result<Report, Error> {
     if !tells_excludes(&world.excludes) {
         return Err(Error::OutOfMemory);
     }
-    walk_by_path(
-        alloc,
-        root,
-        &mut world.tree,
-        &mut MemoryStore::new(alloc),
-        &world.index,
-        &mut world.excludes,
-        limit,
-        options,
-    )
+    let ctx = Context {
+        worktree: &mut world.tree,
+        objects: &mut MemoryStore::new(alloc),
+        interrupt: &mut PlannedInterrupt::never(),
+        pathspec: &Search::from_specs(Vec::new(alloc)),
+        excludes: &mut world.excludes,
+        index: &world.index,
+        ignore_case_index_lookup: &None,
+        git_dir_realpath: b"/w/.git",
+        current_dir: b"/w",
+        explicit_traversal_root: &None,
+        depth_limit: limit,
+    };
+    walk_by_path(alloc, root, ctx, options(shows_all))
 }
 
 /// Whether a walk is answered as the step says.
 pub fn is_walk(alloc: Global, world: &mut World, root: &[u8], rest: &[u8]) -> bool {
     let (asked, want) = parted(rest);
     let (shown, limit) = asked.split_once_str(b" ").unwrap_or((asked, b""));
-    let options = options(shown == b"all".as_slice());
-    match report(alloc, world, root, digit(limit), options) {
+    let shows_all = shown == b"all".as_slice();
+    match report(alloc, world, root, digit(limit), shows_all) {
         Ok(report) => is_report(&report, root, want),
         Err(error) => is_error(&error, want),
     }
@@ -176,19 +193,20 @@ fn is_collected(
     root: &[u8],
     delegate: &mut Collect,
 ) -> bool {
-    let index = gitbase_core::State::new(alloc);
-    let mut objects = MemoryStore::new(alloc);
-    match walk(
-        alloc,
-        root,
-        tree,
-        &mut objects,
-        &index,
-        &mut None,
-        2,
-        options(true),
-        delegate,
-    ) {
+    let ctx = Context {
+        worktree: tree,
+        objects: &mut MemoryStore::new(alloc),
+        interrupt: &mut PlannedInterrupt::never(),
+        pathspec: &Search::from_specs(Vec::new(alloc)),
+        excludes: &mut None,
+        index: &gitbase_core::State::new(alloc),
+        ignore_case_index_lookup: &None,
+        git_dir_realpath: b"/w/.git",
+        current_dir: b"/w",
+        explicit_traversal_root: &None,
+        depth_limit: 2,
+    };
+    match walk(alloc, root, ctx, options(true), delegate) {
         Ok((_, answer)) => answer.as_bytes() == root,
         Err(_) => false,
     }

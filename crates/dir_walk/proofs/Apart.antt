@@ -9,8 +9,9 @@ use Rattle.worktree_fs.specs.Tree.{Node, Names, file, link, directory, other, no
 use Rattle.worktree_fs.specs.Naming.{IsName, IsTree, AreTrees}
 use Rattle.dir_classify.specs.declared.entry.Entry.{Entry}
 use Rattle.dir_classify.specs.declared.classify.Outcome.{Outcome as Class}
-use Rattle.dir_classify.specs.Class.{Meanings, enters}
-use Rattle.dir_classify.specs.declared.options.Options.{Options}
+use Rattle.dir_classify.specs.Class.{enters}
+use Rattle.dir_classify.specs.Evidence.{Evidence}
+use Rattle.dir_classify.specs.Chosen.{Chosen}
 use Rattle.dir_classify.specs.Entries.{entry_at, class_in}
 use Rattle.dir_walk.specs.Emissions.{Emission, path_of, plain, is_shown, by_path}
 use Rattle.dir_walk.specs.Guarded.{is_beneath, is_guarded, hides_guarded}
@@ -81,7 +82,7 @@ apart-both xs ys a b c d = all_append (BeneathNone (xs ++ ys)) xs ys (apart-righ
 abbrev Elsewhere : List ℕ → List ℕ → List Emission → Type 0
 Elsewhere d name out = AllByRecursion (λ y. first_name (strip d (path_of y)) ≢ name) out
 
-module _ (m : Meanings) (d : List ℕ) (plain : ends_in_slash d ≡ false) where
+module _ (o : Chosen) (ev : Evidence) (d : List ℕ) (plain : ends_in_slash d ≡ false) where
   apart-names : (name : List ℕ) (xs ys : List Emission) → IsName name → AllWithin (joined d name) xs → Elsewhere d name ys → Apart xs ys
   apart-names name xs ys is within others =
       all_map (λ x. IsWithin (joined d name) (path_of x)) (BeneathNone ys) xs
@@ -93,25 +94,25 @@ module _ (m : Meanings) (d : List ℕ) (plain : ends_in_slash d ≡ false) where
           absurd (elsewhere (next_is d name (path_of y) is plain (within-beneath (path_of y) (path_of x) (joined d name) (within-some (joined d name) (path_of x) (joined-some d name is) inside) inside e)))
 
   -- what lies under one name lies not under another
-  elsewhere-name : (name q : List ℕ) (node : Node) → IsName q → IsTree node → bytes_eq name q ≡ false → Elsewhere d name (item m (joined d q) node).out
+  elsewhere-name : (name q : List ℕ) (node : Node) → IsName q → IsTree node → bytes_eq name q ≡ false → Elsewhere d name (item o ev (joined d q) node).out
   elsewhere-name name q node is tree differ =
-      all_map (λ y. IsWithin (joined d q) (path_of y)) (λ y. first_name (strip d (path_of y)) ≢ name) (item m (joined d q) node).out
-      (λ y inside same. other_text name q (sym differ) (sym same ∙ next_is d q (path_of y) is plain inside)) (within_some m (joined d q) node (joined-some d q is) (joined-ends d q is) tree)
+      all_map (λ y. IsWithin (joined d q) (path_of y)) (λ y. first_name (strip d (path_of y)) ≢ name) (item o ev (joined d q) node).out
+      (λ y inside same. other_text name q (sym differ) (sym same ∙ next_is d q (path_of y) is plain inside)) (within_some o ev (joined d q) node (joined-some d q is) (joined-ends d q is) tree)
 
-  elsewhere-rest : (name : List ℕ) (rest : Names) → AllByRecursion IsName (names_of rest) → AreTrees rest → AllByRecursion (λ q. bytes_eq name q ≡ false) (names_of rest) → Elsewhere d name (items m d rest).out
+  elsewhere-rest : (name : List ℕ) (rest : Names) → AllByRecursion IsName (names_of rest) → AreTrees rest → AllByRecursion (λ q. bytes_eq name q ≡ false) (names_of rest) → Elsewhere d name (items o ev d rest).out
   unfolding item
   elsewhere-rest name none are trees apart = tt
   elsewhere-rest name (named q node rest) are trees apart =
-      all_append (λ y. first_name (strip d (path_of y)) ≢ name) (item m (joined d q) node).out (items m d rest).out (elsewhere-name name q node are.0 trees.0 apart.0) (elsewhere-rest name rest are.1 trees.1 apart.1)
+      all_append (λ y. first_name (strip d (path_of y)) ≢ name) (item o ev (joined d q) node).out (items o ev d rest).out (elsewhere-name name q node are.0 trees.0 apart.0) (elsewhere-rest name rest are.1 trees.1 apart.1)
 
   -- nothing under the first name lies beneath what lies under the others
   apart-rest : (name : List ℕ) (node : Node) (rest : Names) → IsName name → IsTree node → AllByRecursion IsName (names_of rest) → AreTrees rest → AllByRecursion (λ q. bytes_eq name q ≡ false) (names_of rest)
-      → Apart (items m d rest).out (item m (joined d name) node).out
+      → Apart (items o ev d rest).out (item o ev (joined d name) node).out
   unfolding item
   apart-rest name node none is tree are trees apart = tt
   apart-rest name node (named q other_node rest) is tree are trees apart =
-      all_append (BeneathNone (item m (joined d name) node).out) (item m (joined d q) other_node).out (items m d rest).out
-      (apart-names q (item m (joined d q) other_node).out (item m (joined d name) node).out are.0 (within_some m (joined d q) other_node (joined-some d q are.0) (joined-ends d q are.0) trees.0)
+      all_append (BeneathNone (item o ev (joined d name) node).out) (item o ev (joined d q) other_node).out (items o ev d rest).out
+      (apart-names q (item o ev (joined d q) other_node).out (item o ev (joined d name) node).out are.0 (within_some o ev (joined d q) other_node (joined-some d q are.0) (joined-ends d q are.0) trees.0)
       (elsewhere-name q name node is tree (bytes_eq-swap name q apart.0)))
       (apart-rest name node rest is tree are.1 trees.1 apart.1)
 
@@ -119,30 +120,30 @@ other_apart : (d : List ℕ) (c : Class) (b : Bool) → Apart (if b then broken_
 other_apart d c true = tt
 other_apart d c false = ((not_beneath-self d, tt), tt)
 
-directory_apart : (d : List ℕ) (c k : Class) (names : Names) (w : Walked) → Apart w.out w.out → (b : Bool)
-    → Apart (if b then directory_of d k names w else leaf (entry_at d c)).out (if b then directory_of d k names w else leaf (entry_at d c)).out
-directory_apart d c k none w h true = ((not_beneath-self d, tt), tt)
-directory_apart d c k (named name node rest) w h true = h
-directory_apart d c k names w h false = ((not_beneath-self d, tt), tt)
+directory_apart : (ev : Evidence) (d : List ℕ) (c k : Class) (names : Names) (w : Walked) → Apart w.out w.out → (b : Bool)
+    → Apart (if b then directory_of ev d k names w else leaf (entry_at d c)).out (if b then directory_of ev d k names w else leaf (entry_at d c)).out
+directory_apart ev d c k none w h true = ((not_beneath-self d, tt), tt)
+directory_apart ev d c k (named name node rest) w h true = h
+directory_apart ev d c k names w h false = ((not_beneath-self d, tt), tt)
 
 mutual
   unfolding item IsDistinct
 
-  apart_of : (m : Meanings) (d : List ℕ) (node : Node) → ends_in_slash d ≡ false → IsTree node → Apart (item m d node).out (item m d node).out
-  apart_of m d (file bytes) plain tree = other_apart d (child_class m d (file bytes)) (enters (child_class m d (file bytes)) false)
-  apart_of m d (link target) plain tree = other_apart d (child_class m d (link target)) (enters (child_class m d (link target)) false)
-  apart_of m d other plain tree = other_apart d (child_class m d other) (enters (child_class m d other) false)
-  apart_of m d (directory names) plain tree =
-      directory_apart d (child_class m d (directory names)) (child_class m d (directory names)) names (items m d names) (apart_in m d names plain tree.0.each tree.0.distinct tree.1) (enters (child_class m d (directory names)) false)
+  apart_of : (o : Chosen) (ev : Evidence) (d : List ℕ) (node : Node) → ends_in_slash d ≡ false → IsTree node → Apart (item o ev d node).out (item o ev d node).out
+  apart_of o ev d (file bytes) plain tree = other_apart d (child_class o ev d (file bytes)) (enters o (child_class o ev d (file bytes)) false)
+  apart_of o ev d (link target) plain tree = other_apart d (child_class o ev d (link target)) (enters o (child_class o ev d (link target)) false)
+  apart_of o ev d other plain tree = other_apart d (child_class o ev d other) (enters o (child_class o ev d other) false)
+  apart_of o ev d (directory names) plain tree =
+      directory_apart ev d (child_class o ev d (directory names)) (child_class o ev d (directory names)) names (items o ev d names) (apart_in o ev d names plain tree.0.each tree.0.distinct tree.1) (enters o (child_class o ev d (directory names)) false)
 
-  apart_in : (m : Meanings) (d : List ℕ) (names : Names) → ends_in_slash d ≡ false → AllByRecursion IsName (names_of names) → IsDistinct bytes_eq (names_of names) → AreTrees names → Apart (items m d names).out (items m d names).out
-  apart_in m d none plain are distinct trees = tt
-  apart_in m d (named name node rest) plain are distinct trees =
-      apart-both (item m (joined d name) node).out (items m d rest).out (apart_of m (joined d name) node (joined-ends d name are.0) trees.0)
-      (apart-names m d plain name (item m (joined d name) node).out (items m d rest).out are.0 (within_some m (joined d name) node (joined-some d name are.0) (joined-ends d name are.0) trees.0)
-      (elsewhere-rest m d plain name rest are.1 trees.1 distinct.0))
-      (apart-rest m d plain name node rest are.0 trees.0 are.1 trees.1 distinct.0)
-      (apart_in m d rest plain are.1 distinct.1 trees.1)
+  apart_in : (o : Chosen) (ev : Evidence) (d : List ℕ) (names : Names) → ends_in_slash d ≡ false → AllByRecursion IsName (names_of names) → IsDistinct bytes_eq (names_of names) → AreTrees names → Apart (items o ev d names).out (items o ev d names).out
+  apart_in o ev d none plain are distinct trees = tt
+  apart_in o ev d (named name node rest) plain are distinct trees =
+      apart-both (item o ev (joined d name) node).out (items o ev d rest).out (apart_of o ev (joined d name) node (joined-ends d name are.0) trees.0)
+      (apart-names o ev d plain name (item o ev (joined d name) node).out (items o ev d rest).out are.0 (within_some o ev (joined d name) node (joined-some d name are.0) (joined-ends d name are.0) trees.0)
+      (elsewhere-rest o ev d plain name rest are.1 trees.1 distinct.0))
+      (apart-rest o ev d plain name node rest are.0 trees.0 are.1 trees.1 distinct.0)
+      (apart_in o ev d rest plain are.1 distinct.1 trees.1)
 
 -- ---- leaves
 
@@ -161,26 +162,26 @@ meets_other : (d : List ℕ) (c : Class) (b : Bool) → MeetsAll (if b then brok
 meets_other d c true = refl
 meets_other d c false = refl
 
-meets_directory : (d : List ℕ) (c k : Class) (names : Names) (w : Walked) → MeetsAll w → (b : Bool) → MeetsAll (if b then directory_of d k names w else leaf (entry_at d c))
-meets_directory d c k none w h true = refl
-meets_directory d c k (named name node rest) w h true = h
-meets_directory d c k names w h false = refl
+meets_directory : (ev : Evidence) (d : List ℕ) (c k : Class) (names : Names) (w : Walked) → MeetsAll w → (b : Bool) → MeetsAll (if b then directory_of ev d k names w else leaf (entry_at d c))
+meets_directory ev d c k none w h true = refl
+meets_directory ev d c k (named name node rest) w h true = h
+meets_directory ev d c k names w h false = refl
 
 mutual
   unfolding item
 
-  meets_of : (m : Meanings) (d : List ℕ) (node : Node) → MeetsAll (item m d node)
-  meets_of m d (file bytes) = meets_other d (child_class m d (file bytes)) (enters (child_class m d (file bytes)) false)
-  meets_of m d (link target) = meets_other d (child_class m d (link target)) (enters (child_class m d (link target)) false)
-  meets_of m d other = meets_other d (child_class m d other) (enters (child_class m d other) false)
-  meets_of m d (directory names) =
-      meets_directory d (child_class m d (directory names)) (child_class m d (directory names)) names (items m d names) (meets_in m d names) (enters (child_class m d (directory names)) false)
+  meets_of : (o : Chosen) (ev : Evidence) (d : List ℕ) (node : Node) → MeetsAll (item o ev d node)
+  meets_of o ev d (file bytes) = meets_other d (child_class o ev d (file bytes)) (enters o (child_class o ev d (file bytes)) false)
+  meets_of o ev d (link target) = meets_other d (child_class o ev d (link target)) (enters o (child_class o ev d (link target)) false)
+  meets_of o ev d other = meets_other d (child_class o ev d other) (enters o (child_class o ev d other) false)
+  meets_of o ev d (directory names) =
+      meets_directory ev d (child_class o ev d (directory names)) (child_class o ev d (directory names)) names (items o ev d names) (meets_in o ev d names) (enters o (child_class o ev d (directory names)) false)
 
-  meets_in : (m : Meanings) (d : List ℕ) (names : Names) → MeetsAll (items m d names)
-  meets_in m d none = refl
-  meets_in m d (named name node rest) =
-      ap (λ (es : List Entry). es ++ (items m d rest).met) (meets_of m (joined d name) node) ∙ ap (λ (es : List Entry). leaves (item m (joined d name) node).out ++ es) (meets_in m d rest)
-      ∙ sym (leaves-append (item m (joined d name) node).out (items m d rest).out)
+  meets_in : (o : Chosen) (ev : Evidence) (d : List ℕ) (names : Names) → MeetsAll (items o ev d names)
+  meets_in o ev d none = refl
+  meets_in o ev d (named name node rest) =
+      ap (λ (es : List Entry). es ++ (items o ev d rest).met) (meets_of o ev (joined d name) node) ∙ ap (λ (es : List Entry). leaves (item o ev (joined d name) node).out ++ es) (meets_in o ev d rest)
+      ∙ sym (leaves-append (item o ev (joined d name) node).out (items o ev d rest).out)
 
 -- ---- a report
 
@@ -208,12 +209,22 @@ over-apart : (out others : List Emission) → Apart others out → AllByRecursio
 over-apart out [] h = tt
 over-apart out (x ∷ others) h = (over-leaves out x h.0, over-apart out others h.1)
 
--- no entry of a report stands over a guarded leaf that was met
-pub report-hides_none : (o : Options) (m : Meanings) (c : Class) (names : Names) → IsTree (directory names) → let w = report_of m [] c names in hides_guarded (by_path (shown o w.out)) w.met ≡ false
+-- no entry of a report stands over a guarded leaf that was met, where none of what is emitted lies beneath another
+hides_none : (o : Chosen) (w : Walked) → Apart w.out w.out → MeetsAll w → hides_guarded (by_path (shown o w.out)) w.met ≡ false
 unfolding over
-report-hides_none o m c names tree =
-    let w : Walked = report_of m [] c names in
-    let apart : Apart w.out w.out = directory_apart [] c c names (items m [] names) (apart_in m [] names refl tree.0.each tree.0.distinct tree.1) true in
+hides_none o w apart meets =
     let each : AllByRecursion (λ x. over (leaves w.out) x ≡ false) (by_path (shown o w.out)) =
     all-by_path (λ x. over (leaves w.out) x ≡ false) (shown o w.out) (all-filter (λ x. over (leaves w.out) x ≡ false) (λ x. is_shown o (class_in x.0)) w.out (over-apart w.out w.out apart)) in
-    ap (hides_guarded (by_path (shown o w.out))) (meets_directory [] c c names (items m [] names) (meets_in m [] names) true) ∙ any-none (over (leaves w.out)) (by_path (shown o w.out)) each
+    ap (hides_guarded (by_path (shown o w.out))) meets ∙ any-none (over (leaves w.out)) (by_path (shown o w.out)) each
+
+pub report-hides_none : (o : Chosen) (ev : Evidence) (c : Class) (names : Names) → IsTree (directory names) → let w = report_of o ev [] c names in hides_guarded (by_path (shown o w.out)) w.met ≡ false
+report-hides_none o ev c names tree =
+    hides_none o (report_of o ev [] c names) (directory_apart ev [] c c names (items o ev [] names) (apart_in o ev [] names refl tree.0.each tree.0.distinct tree.1) true)
+    (meets_directory ev [] c c names (items o ev [] names) (meets_in o ev [] names) true)
+
+-- nor does a single entry, or none
+pub leaf-hides_none : (o : Chosen) (e : Entry) → hides_guarded (by_path (shown o (leaf e).out)) (leaf e).met ≡ false
+leaf-hides_none o e = hides_none o (leaf e) ((not_beneath-self e.rela_path, tt), tt) refl
+
+pub broken-hides_none : (o : Chosen) (d : List ℕ) → hides_guarded (by_path (shown o (broken_at d).out)) (broken_at d).met ≡ false
+broken-hides_none o d = hides_none o (broken_at d) tt refl

@@ -9,9 +9,10 @@ use Rattle.gitbase_core.specs.Path.{joined, ends_in_slash, is_empty}
 use Rattle.worktree_fs.specs.Tree.{Node, Names, file, link, directory, other, none, named, names_of}
 use Rattle.worktree_fs.specs.Naming.{IsName, IsTree, AreTrees}
 use Rattle.worktree_fs.proofs.NameParts.{name_parts}
-use Rattle.dir_classify.specs.declared.options.Options.{Options}
+use Rattle.dir_classify.specs.Chosen.{Chosen}
 use Rattle.dir_classify.specs.declared.classify.Outcome.{Outcome as Class}
-use Rattle.dir_classify.specs.Class.{Meanings, enters}
+use Rattle.dir_classify.specs.Class.{enters}
+use Rattle.dir_classify.specs.Evidence.{Evidence}
 use Rattle.dir_classify.specs.Entries.{entry_at, class_in}
 use Rattle.dir_walk.specs.Emissions.{Emission, path_of, plain, is_shown}
 use Rattle.dir_walk.specs.Walked.{Walked, item, items, child_class, leaf, broken_at, directory_of, report_of, empty_class}
@@ -87,35 +88,35 @@ other_within : (path : List ℕ) (c : Class) (b : Bool) → AllWithin path (if b
 other_within path c true = tt
 other_within path c false = (inl refl, tt)
 
-directory_within : (path : List ℕ) (c k : Class) (names : Names) (w : Walked) → AllWithin path w.out → (b : Bool) → AllWithin path (if b then directory_of path k names w else leaf (entry_at path c)).out
-directory_within path c k none w h true = (inl refl, tt)
-directory_within path c k (named name node rest) w h true = h
-directory_within path c k names w h false = (inl refl, tt)
+directory_within : (ev : Evidence) (path : List ℕ) (c k : Class) (names : Names) (w : Walked) → AllWithin path w.out → (b : Bool) → AllWithin path (if b then directory_of ev path k names w else leaf (entry_at path c)).out
+directory_within ev path c k none w h true = (inl refl, tt)
+directory_within ev path c k (named name node rest) w h true = h
+directory_within ev path c k names w h false = (inl refl, tt)
 
 -- what is emitted for a path lies at or beneath it
 mutual
   unfolding item
 
-  within_of : (m : Meanings) (b : ℕ) (path : List ℕ) (node : Node) → ends_in_slash (b ∷ path) ≡ false → IsTree node → AllWithin (b ∷ path) (item m (b ∷ path) node).out
-  within_of m b path (file bytes) plain tree = other_within (b ∷ path) (child_class m (b ∷ path) (file bytes)) (enters (child_class m (b ∷ path) (file bytes)) false)
-  within_of m b path (link target) plain tree = other_within (b ∷ path) (child_class m (b ∷ path) (link target)) (enters (child_class m (b ∷ path) (link target)) false)
-  within_of m b path other plain tree = other_within (b ∷ path) (child_class m (b ∷ path) other) (enters (child_class m (b ∷ path) other) false)
-  within_of m b path (directory names) plain tree =
-      directory_within (b ∷ path) (child_class m (b ∷ path) (directory names)) (child_class m (b ∷ path) (directory names)) names (items m (b ∷ path) names) (within_in m b path names plain tree.0.each tree.1)
-      (enters (child_class m (b ∷ path) (directory names)) false)
+  within_of : (o : Chosen) (ev : Evidence) (b : ℕ) (path : List ℕ) (node : Node) → ends_in_slash (b ∷ path) ≡ false → IsTree node → AllWithin (b ∷ path) (item o ev (b ∷ path) node).out
+  within_of o ev b path (file bytes) plain tree = other_within (b ∷ path) (child_class o ev (b ∷ path) (file bytes)) (enters o (child_class o ev (b ∷ path) (file bytes)) false)
+  within_of o ev b path (link target) plain tree = other_within (b ∷ path) (child_class o ev (b ∷ path) (link target)) (enters o (child_class o ev (b ∷ path) (link target)) false)
+  within_of o ev b path other plain tree = other_within (b ∷ path) (child_class o ev (b ∷ path) other) (enters o (child_class o ev (b ∷ path) other) false)
+  within_of o ev b path (directory names) plain tree =
+      directory_within ev (b ∷ path) (child_class o ev (b ∷ path) (directory names)) (child_class o ev (b ∷ path) (directory names)) names (items o ev (b ∷ path) names) (within_in o ev b path names plain tree.0.each tree.1)
+      (enters o (child_class o ev (b ∷ path) (directory names)) false)
 
-  within_in : (m : Meanings) (b : ℕ) (path : List ℕ) (names : Names) → ends_in_slash (b ∷ path) ≡ false → AllByRecursion IsName (names_of names) → AreTrees names → AllWithin (b ∷ path) (items m (b ∷ path) names).out
-  within_in m b path none plain are trees = tt
-  within_in m b path (named name node rest) plain are trees =
-      all_append (λ x. IsWithin (b ∷ path) (path_of x)) (item m (joined (b ∷ path) name) node).out (items m (b ∷ path) rest).out
-      (all_map (λ x. IsWithin (joined (b ∷ path) name) (path_of x)) (λ x. IsWithin (b ∷ path) (path_of x)) (item m (joined (b ∷ path) name) node).out (λ x. within_name b path name (path_of x) plain)
-      (subst (λ (p : List ℕ). AllWithin p (item m p node).out) (sym (joined-plain b path name plain))
-      (within_of m b (path ++ 47 ∷ name) node (ap ends_in_slash (sym (joined-plain b path name plain)) ∙ joined-ends (b ∷ path) name are.0) trees.0)))
-      (within_in m b path rest plain are.1 trees.1)
+  within_in : (o : Chosen) (ev : Evidence) (b : ℕ) (path : List ℕ) (names : Names) → ends_in_slash (b ∷ path) ≡ false → AllByRecursion IsName (names_of names) → AreTrees names → AllWithin (b ∷ path) (items o ev (b ∷ path) names).out
+  within_in o ev b path none plain are trees = tt
+  within_in o ev b path (named name node rest) plain are trees =
+      all_append (λ x. IsWithin (b ∷ path) (path_of x)) (item o ev (joined (b ∷ path) name) node).out (items o ev (b ∷ path) rest).out
+      (all_map (λ x. IsWithin (joined (b ∷ path) name) (path_of x)) (λ x. IsWithin (b ∷ path) (path_of x)) (item o ev (joined (b ∷ path) name) node).out (λ x. within_name b path name (path_of x) plain)
+      (subst (λ (p : List ℕ). AllWithin p (item o ev p node).out) (sym (joined-plain b path name plain))
+      (within_of o ev b (path ++ 47 ∷ name) node (ap ends_in_slash (sym (joined-plain b path name plain)) ∙ joined-ends (b ∷ path) name are.0) trees.0)))
+      (within_in o ev b path rest plain are.1 trees.1)
 
-pub within_some : (m : Meanings) (path : List ℕ) (node : Node) → is_empty path ≡ false → ends_in_slash path ≡ false → IsTree node → AllWithin path (item m path node).out
-within_some m [] node some plain tree = absurd (cc some)
-within_some m (b ∷ path) node some plain tree = within_of m b path node plain tree
+pub within_some : (o : Chosen) (ev : Evidence) (path : List ℕ) (node : Node) → is_empty path ≡ false → ends_in_slash path ≡ false → IsTree node → AllWithin path (item o ev path node).out
+within_some o ev [] node some plain tree = absurd (cc some)
+within_some o ev (b ∷ path) node some plain tree = within_of o ev b path node plain tree
 
 -- ---- how often a path stands
 
@@ -134,38 +135,38 @@ differs path q h = go (bytes_eq path q) refl
     go false e = refl
 
 -- a path whose next name is another stands not under a name
-elsewhere : (m : Meanings) (d name path : List ℕ) (node : Node) → ends_in_slash d ≡ false → IsName name → IsTree node → first_name (strip d path) ≢ name → times path (item m (joined d name) node).out ≡ 0
-elsewhere m d name path node plain is tree other_name =
-    none_pass (λ x. bytes_eq path (path_of x)) (item m (joined d name) node).out
-    (all_map (λ x. IsWithin (joined d name) (path_of x)) (λ x. bytes_eq path (path_of x) ≡ false) (item m (joined d name) node).out
+elsewhere : (o : Chosen) (ev : Evidence) (d name path : List ℕ) (node : Node) → ends_in_slash d ≡ false → IsName name → IsTree node → first_name (strip d path) ≢ name → times path (item o ev (joined d name) node).out ≡ 0
+elsewhere o ev d name path node plain is tree other_name =
+    none_pass (λ x. bytes_eq path (path_of x)) (item o ev (joined d name) node).out
+    (all_map (λ x. IsWithin (joined d name) (path_of x)) (λ x. bytes_eq path (path_of x) ≡ false) (item o ev (joined d name) node).out
     (λ x within. differs path (path_of x) (λ same. other_name (ap (λ (p : List ℕ). first_name (strip d p)) same ∙ next_is d name (path_of x) is plain within)))
-    (within_some m (joined d name) node (joined-some d name is) (joined-ends d name is) tree))
+    (within_some o ev (joined d name) node (joined-some d name is) (joined-ends d name is) tree))
 
-elsewhere_in : (m : Meanings) (d path : List ℕ) (names : Names) → ends_in_slash d ≡ false → AllByRecursion IsName (names_of names) → AreTrees names → AllByRecursion (λ n. first_name (strip d path) ≢ n) (names_of names)
-    → times path (items m d names).out ≡ 0
+elsewhere_in : (o : Chosen) (ev : Evidence) (d path : List ℕ) (names : Names) → ends_in_slash d ≡ false → AllByRecursion IsName (names_of names) → AreTrees names → AllByRecursion (λ n. first_name (strip d path) ≢ n) (names_of names)
+    → times path (items o ev d names).out ≡ 0
 unfolding item
-elsewhere_in m d path none plain are trees others = refl
-elsewhere_in m d path (named name node rest) plain are trees others =
+elsewhere_in o ev d path none plain are trees others = refl
+elsewhere_in o ev d path (named name node rest) plain are trees others =
     omega (
       arith,
-      count_by-append (λ x. bytes_eq path (path_of x)) (item m (joined d name) node).out (items m d rest).out,
-      elsewhere m d name path node plain are.0 trees.0 others.0,
-      elsewhere_in m d path rest plain are.1 trees.1 others.1,
+      count_by-append (λ x. bytes_eq path (path_of x)) (item o ev (joined d name) node).out (items o ev d rest).out,
+      elsewhere o ev d name path node plain are.0 trees.0 others.0,
+      elsewhere_in o ev d path rest plain are.1 trees.1 others.1,
     )
 
 -- the path lies under the first name, or under none of it
-either : (m : Meanings) (d path name : List ℕ) (node : Node) (rest : Names) → ends_in_slash d ≡ false → IsName name → IsTree node → AllByRecursion IsName (names_of rest) → AreTrees rest
+either : (o : Chosen) (ev : Evidence) (d path name : List ℕ) (node : Node) (rest : Names) → ends_in_slash d ≡ false → IsName name → IsTree node → AllByRecursion IsName (names_of rest) → AreTrees rest
     → AllByRecursion (λ n. bytes_eq name n ≡ false) (names_of rest)
-    → times path (item m (joined d name) node).out ≤ 1 → times path (items m d rest).out ≤ 1 → times path (item m (joined d name) node).out + times path (items m d rest).out ≤ 1
-either m d path name node rest plain is tree are trees apart here there = go (bytes_eq (first_name (strip d path)) name) refl
+    → times path (item o ev (joined d name) node).out ≤ 1 → times path (items o ev d rest).out ≤ 1 → times path (item o ev (joined d name) node).out + times path (items o ev d rest).out ≤ 1
+either o ev d path name node rest plain is tree are trees apart here there = go (bytes_eq (first_name (strip d path)) name) refl
   where
-    go : (b : Bool) → bytes_eq (first_name (strip d path)) name ≡ b → times path (item m (joined d name) node).out + times path (items m d rest).out ≤ 1
+    go : (b : Bool) → bytes_eq (first_name (strip d path)) name ≡ b → times path (item o ev (joined d name) node).out + times path (items o ev d rest).out ≤ 1
     go true e =
         let same : first_name (strip d path) ≡ name = same_text (first_name (strip d path)) name (sym e) in
-        let nowhere = elsewhere_in m d path rest plain are trees
+        let nowhere = elsewhere_in o ev d path rest plain are trees
         (all_map (λ n. bytes_eq name n ≡ false) (λ n. first_name (strip d path) ≢ n) (names_of rest) (λ n differ equal. other_text name n (sym differ) (sym same ∙ equal)) apart) in
         omega (arith, nowhere, here)
-    go false e = omega (arith, there, elsewhere m d name path node plain is tree (other_text (first_name (strip d path)) name (sym e)))
+    go false e = omega (arith, there, elsewhere o ev d name path node plain is tree (other_text (first_name (strip d path)) name (sym e)))
 
 one_more : (path : List ℕ) (x : Emission) → times path (x ∷ []) ≤ 1
 one_more path x = go (bytes_eq path (path_of x)) (count_by-cons (λ y. bytes_eq path (path_of y)) x [])
@@ -178,32 +179,32 @@ other_once : (d path : List ℕ) (c : Class) (b : Bool) → times path (if b the
 other_once d path c true = omega arith
 other_once d path c false = one_more path (plain (entry_at d c))
 
-directory_once : (d path : List ℕ) (c k : Class) (names : Names) (w : Walked) → times path w.out ≤ 1 → (b : Bool) → times path (if b then directory_of d k names w else leaf (entry_at d c)).out ≤ 1
-directory_once d path c k none w h true = one_more path (plain (entry_at d (empty_class k)))
-directory_once d path c k (named name node rest) w h true = h
-directory_once d path c k names w h false = one_more path (plain (entry_at d c))
+directory_once : (ev : Evidence) (d path : List ℕ) (c k : Class) (names : Names) (w : Walked) → times path w.out ≤ 1 → (b : Bool) → times path (if b then directory_of ev d k names w else leaf (entry_at d c)).out ≤ 1
+directory_once ev d path c k none w h true = one_more path (plain (entry_at d (empty_class ev d k)))
+directory_once ev d path c k (named name node rest) w h true = h
+directory_once ev d path c k names w h false = one_more path (plain (entry_at d c))
 
 mutual
   unfolding item IsDistinct
 
-  once_of : (m : Meanings) (d path : List ℕ) (node : Node) → ends_in_slash d ≡ false → IsTree node → times path (item m d node).out ≤ 1
-  once_of m d path (file bytes) plain tree = other_once d path (child_class m d (file bytes)) (enters (child_class m d (file bytes)) false)
-  once_of m d path (link target) plain tree = other_once d path (child_class m d (link target)) (enters (child_class m d (link target)) false)
-  once_of m d path other plain tree = other_once d path (child_class m d other) (enters (child_class m d other) false)
-  once_of m d path (directory names) plain tree =
-      directory_once d path (child_class m d (directory names)) (child_class m d (directory names)) names (items m d names) (once_in m d path names plain tree.0.each tree.0.distinct tree.1) (enters (child_class m d (directory names)) false)
+  once_of : (o : Chosen) (ev : Evidence) (d path : List ℕ) (node : Node) → ends_in_slash d ≡ false → IsTree node → times path (item o ev d node).out ≤ 1
+  once_of o ev d path (file bytes) plain tree = other_once d path (child_class o ev d (file bytes)) (enters o (child_class o ev d (file bytes)) false)
+  once_of o ev d path (link target) plain tree = other_once d path (child_class o ev d (link target)) (enters o (child_class o ev d (link target)) false)
+  once_of o ev d path other plain tree = other_once d path (child_class o ev d other) (enters o (child_class o ev d other) false)
+  once_of o ev d path (directory names) plain tree =
+      directory_once ev d path (child_class o ev d (directory names)) (child_class o ev d (directory names)) names (items o ev d names) (once_in o ev d path names plain tree.0.each tree.0.distinct tree.1) (enters o (child_class o ev d (directory names)) false)
 
-  once_in : (m : Meanings) (d path : List ℕ) (names : Names) → ends_in_slash d ≡ false → AllByRecursion IsName (names_of names) → IsDistinct bytes_eq (names_of names) → AreTrees names → times path (items m d names).out ≤ 1
-  once_in m d path none plain are distinct trees = omega arith
-  once_in m d path (named name node rest) plain are distinct trees =
-      let whole = count_by-append (λ x. bytes_eq path (path_of x)) (item m (joined d name) node).out (items m d rest).out in
-      let apart = either m d path name node rest plain are.0 trees.0 are.1 trees.1 distinct.0 (once_of m (joined d name) path node (joined-ends d name are.0) trees.0) (once_in m d path rest plain are.1 distinct.1 trees.1) in
+  once_in : (o : Chosen) (ev : Evidence) (d path : List ℕ) (names : Names) → ends_in_slash d ≡ false → AllByRecursion IsName (names_of names) → IsDistinct bytes_eq (names_of names) → AreTrees names → times path (items o ev d names).out ≤ 1
+  once_in o ev d path none plain are distinct trees = omega arith
+  once_in o ev d path (named name node rest) plain are distinct trees =
+      let whole = count_by-append (λ x. bytes_eq path (path_of x)) (item o ev (joined d name) node).out (items o ev d rest).out in
+      let apart = either o ev d path name node rest plain are.0 trees.0 are.1 trees.1 distinct.0 (once_of o ev (joined d name) path node (joined-ends d name are.0) trees.0) (once_in o ev d path rest plain are.1 distinct.1 trees.1) in
       omega (arith, whole, apart)
 
 -- ---- a report
 
-report_once : (m : Meanings) (d path : List ℕ) (c : Class) (names : Names) → ends_in_slash d ≡ false → IsTree (directory names) → times path (report_of m d c names).out ≤ 1
-report_once m d path c names plain tree = directory_once d path c c names (items m d names) (once_in m d path names plain tree.0.each tree.0.distinct tree.1) true
+report_once : (o : Chosen) (ev : Evidence) (d path : List ℕ) (c : Class) (names : Names) → ends_in_slash d ≡ false → IsTree (directory names) → times path (report_of o ev d c names).out ≤ 1
+report_once o ev d path c names plain tree = directory_once ev d path c c names (items o ev d names) (once_in o ev d path names plain tree.0.each tree.0.distinct tree.1) true
 
 count_by-and : {X : Type 0} (p q : X → Bool) (xs : List X) → count_by (λ x. q x && p x) xs ≤ count_by p xs
 count_by-and p q [] = omega arith
@@ -216,12 +217,22 @@ count_by-and p q (x ∷ xs) =
     go false true = omega arith
     go false false = omega arith
 
-pub HasDistinctPaths-report : (o : Options) (m : Meanings) (c : Class) (names : Names) → IsTree (directory names) → HasDistinctPaths (shown o (report_of m [] c names).out)
-HasDistinctPaths-report o m c names tree =
-    let out : List Emission = (report_of m [] c names).out in
+pub HasDistinctPaths-report : (o : Chosen) (ev : Evidence) (c : Class) (names : Names) → IsTree (directory names) → HasDistinctPaths (shown o (report_of o ev [] c names).out)
+HasDistinctPaths-report o ev c names tree =
+    let out : List Emission = (report_of o ev [] c names).out in
     record {
       once = λ path.
           let p : Emission → Bool = λ x. bytes_eq path (path_of x) in
           let q : Emission → Bool = λ x. is_shown o (class_in x.0) in
-          omega (arith, report_once m [] path c names refl tree, count_by-filter p q out, count_by-and p q out);
+          omega (arith, report_once o ev [] path c names refl tree, count_by-filter p q out, count_by-and p q out);
+    }
+
+-- nor does one in what is a single entry
+pub HasDistinctPaths-one : (o : Chosen) (x : Emission) → HasDistinctPaths (shown o (x ∷ []))
+HasDistinctPaths-one o x =
+    record {
+      once = λ path.
+          let p : Emission → Bool = λ y. bytes_eq path (path_of y) in
+          let q : Emission → Bool = λ y. is_shown o (class_in y.0) in
+          omega (arith, one_more path x, count_by-filter p q (x ∷ []), count_by-and p q (x ∷ []));
     }

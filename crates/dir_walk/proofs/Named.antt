@@ -12,8 +12,8 @@ use Rattle.worktree_fs.specs.Tree.{Node, Names, none, named, names_of, child, Lo
 use Rattle.worktree_fs.specs.Naming.{IsName, AreNames}
 use Rattle.worktree_fs.specs.Answers.{ListsNames}
 use Rattle.worktree_fs.specs.Join.{at_child}
-use Rattle.dir_classify.specs.declared.options.Options.{Options}
-use Rattle.dir_classify.specs.Class.{Meanings}
+use Rattle.dir_classify.specs.Chosen.{Chosen}
+use Rattle.dir_classify.specs.Evidence.{Evidence}
 use Rattle.dir_walk.specs.declared.outcome.Outcome.{Outcome}
 use Rattle.dir_walk.specs.Emissions.{Emission}
 use Rattle.dir_walk.specs.Walked.{Walked, nothing, item}
@@ -24,37 +24,37 @@ use Rattle.dir_walk.proofs.Once.{all_map, child-first}
 use Rattle.dir_walk.proofs.Placed.{look-joined, look-directory}
 
 -- what stands at a path by what it leads to
-abbrev pub item_looked : Meanings → List ℕ → Look → Walked
-item_looked m path (found node) = item m path node
-item_looked m path absent = nothing
-item_looked m path too_many_links = nothing
+abbrev pub item_looked : Chosen → Evidence → List ℕ → Look → Walked
+item_looked o ev path (found node) = item o ev path node
+item_looked o ev path absent = nothing
+item_looked o ev path too_many_links = nothing
 
 -- what stands under a name of the directory in the told tree
-abbrev pub item_told : Meanings → Names → List ℕ → List ℕ → List ℕ → Walked
-item_told m t full d name = item_looked m (joined d name) (look t (joined full name) false)
+abbrev pub item_told : Chosen → Evidence → Names → List ℕ → List ℕ → List ℕ → Walked
+item_told o ev t full d name = item_looked o ev (joined d name) (look t (joined full name) false)
 
 -- what was walked under these names
-pub record SoFar (o : Options) (limit : ℕ) (m : Meanings) (t : Names) (full d : List ℕ) (taken : List (List ℕ)) (before after : List Emission) (start stop : Outcome) : Type 0 where
-  pub emits : Emits before after start stop (λ p. sum_by (λ q. shown_by o p (item_told m t full d q).out) taken) (sum_by (λ q. size (item_told m t full d q).out) taken)
-      (1 + sum_by (λ q. size (item_told m t full d q).entered) taken)
-  pub whole : list_any (λ q. is_refused limit m (item_told m t full d q)) taken ≡ false
+pub record SoFar (o : Chosen) (limit : ℕ) (ev : Evidence) (t : Names) (full d : List ℕ) (taken : List (List ℕ)) (before after : List Emission) (start stop : Outcome) : Type 0 where
+  pub emits : Emits before after start stop (λ p. sum_by (λ q. shown_by o p (item_told o ev t full d q).out) taken) (sum_by (λ q. size (item_told o ev t full d q).out) taken)
+      (1 + sum_by (λ q. size (item_told o ev t full d q).entered) taken)
+  pub whole : list_any (λ q. is_refused limit ev (item_told o ev t full d q)) taken ≡ false
 
-pub SoFar-none : (o : Options) (limit : ℕ) (m : Meanings) (t : Names) (full d : List ℕ) (before after : List Emission) (start stop : Outcome) → Emits before after start stop (λ p. 0) 0 1
-    → SoFar o limit m t full d [] before after start stop
-SoFar-none o limit m t full d before after start stop e = record { emits = e; whole = refl }
+pub SoFar-none : (o : Chosen) (limit : ℕ) (ev : Evidence) (t : Names) (full d : List ℕ) (before after : List Emission) (start stop : Outcome) → Emits before after start stop (λ p. 0) 0 1
+    → SoFar o limit ev t full d [] before after start stop
+SoFar-none o limit ev t full d before after start stop e = record { emits = e; whole = refl }
 
-pub SoFar-more : (o : Options) (limit : ℕ) (m : Meanings) (t : Names) (full d : List ℕ) (names : List (List ℕ)) (i : ℕ) (q : List ℕ) (before mid after : List Emission) (start now stop : Outcome) (node : Node)
+pub SoFar-more : (o : Chosen) (limit : ℕ) (ev : Evidence) (t : Names) (full d : List ℕ) (names : List (List ℕ)) (i : ℕ) (q : List ℕ) (before mid after : List Emission) (start now stop : Outcome) (node : Node)
     → i < length names → q ≡ get_or names i q → look t (joined full q) false ≡ found node
-    → SoFar o limit m t full d (take i names) before mid start now → Gives o limit m (item m (joined d q) node) mid after now stop → SoFar o limit m t full d (take (i + 1) names) before after start stop
-SoFar-more o limit m t full d names i q before mid after start now stop node inside is there so_far given =
-    let w : List ℕ → Walked = item_told m t full d in
-    let here : w q ≡ item m (joined d q) node = ap (item_looked m (joined d q)) there in
-    let gives : Gives o limit m (w q) mid after now stop = subst (λ (v : Walked). Gives o limit m v mid after now stop) (sym here) given in
+    → SoFar o limit ev t full d (take i names) before mid start now → Gives o limit ev (item o ev (joined d q) node) mid after now stop → SoFar o limit ev t full d (take (i + 1) names) before after start stop
+SoFar-more o limit ev t full d names i q before mid after start now stop node inside is there so_far given =
+    let w : List ℕ → Walked = item_told o ev t full d in
+    let here : w q ≡ item o ev (joined d q) node = ap (item_looked o ev (joined d q)) there in
+    let gives : Gives o limit ev (w q) mid after now stop = subst (λ (v : Walked). Gives o limit ev v mid after now stop) (sym here) given in
     let one = λ (f : List ℕ → ℕ). sum_by_more f names i q inside ∙ ap (λ (n : List ℕ). sum_by f (take i names) + f n) (sym is) in
     record {
       emits = Emits-then before mid after start now stop _ _ _ _ _ _ _ _ _ so_far.emits gives.emits
           (λ p. sym (one (λ r. shown_by o p (w r).out))) (sym (one (λ r. size (w r).out))) (omega (arith, one (λ r. size (w r).entered)));
-      whole = rw (list_any_more (λ r. is_refused limit m (w r)) names i q inside, ← is, gives.whole, so_far.whole) refl;
+      whole = rw (list_any_more (λ r. is_refused limit ev (w r)) names i q inside, ← is, gives.whole, so_far.whole) refl;
     }
 
 -- ---- the node of a name that was listed

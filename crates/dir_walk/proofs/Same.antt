@@ -1,11 +1,14 @@
 -- A test for the same entry: entries are told apart by a text that they are spelled as.
-use Rattle.std.proofs.Common.{◌≡◌, ℕ, zero, suc, List, ◌∷◌, Bool, true, Option, Some, None, refl, sym, ap, ◌∙◌}
+use Rattle.std.proofs.Common.{◌≡◌, ℕ, zero, suc, List, ◌∷◌, Bool, true, false, Option, Some, None, refl, sym, ap, ◌∙◌}
 use Rattle.std.specs.Str.{bytes_eq}
 use Rattle.std.specs.Cmp.Lexicographic.{same_text}
 use Rattle.std.proofs.lemmas.Cmp.{nat_list_eq_equiv}
 use Rattle.dir_classify.specs.declared.entry.Status.{Status}
 use Rattle.dir_classify.specs.declared.entry.Status.TheVariants.{Pruned, Tracked, Ignored, Untracked}
 use Rattle.glob_rules.specs.declared.ignore.Kind.TheVariants.{Expendable, Precious}
+use Rattle.glob_rules.specs.declared.ignore.Origin.{Origin}
+use Rattle.glob_rules.specs.declared.ignore.RuleGroup.{RuleGroup}
+use Rattle.glob_rules.specs.declared.ignore.RuleGroup.TheVariants as groups
 use Rattle.dir_classify.specs.declared.entry.Property.{Property}
 use Rattle.dir_classify.specs.declared.entry.Property.TheVariants.{DotGit, EmptyDirectory, EmptyDirectoryAndCWD, TrackedExcluded}
 use Rattle.dir_classify.specs.declared.entry.Kind.{Kind}
@@ -109,30 +112,94 @@ option_back : {X : Type 0} (f : X → ℕ) (g : ℕ → X) → ((x : X) → g (f
 option_back {X = X} f g back None = refl
 option_back {X = X} f g back (Some x) = ap (λ (y : X). Some y) (back x)
 
+-- ---- the rule that decided, as three numbers, and back
+
+abbrev of_group : RuleGroup → ℕ
+of_group groups.Overrides = 0
+of_group groups.Globals = 1
+of_group (groups.Directory depth) = suc (suc depth)
+
+abbrev to_group : ℕ → RuleGroup
+to_group zero = groups.Overrides
+to_group (suc zero) = groups.Globals
+to_group (suc (suc n)) = groups.Directory n
+
+group_back : (x : RuleGroup) → to_group (of_group x) ≡ x
+group_back groups.Overrides = refl
+group_back groups.Globals = refl
+group_back (groups.Directory depth) = refl
+
+abbrev of_sign : Bool → ℕ
+of_sign true = 1
+of_sign false = 0
+
+abbrev to_sign : ℕ → Bool
+to_sign zero = false
+to_sign (suc n) = true
+
+sign_back : (x : Bool) → to_sign (of_sign x) ≡ x
+sign_back true = refl
+sign_back false = refl
+
+abbrev group_in : Option Origin → ℕ
+group_in None = 0
+group_in (Some x) = suc (of_group x.group)
+
+abbrev line_in : Option Origin → ℕ
+line_in None = 0
+line_in (Some x) = x.line
+
+abbrev sign_in : Option Origin → ℕ
+sign_in None = 0
+sign_in (Some x) = of_sign x.negative
+
+abbrev origin_with : RuleGroup → ℕ → Bool → Option Origin
+origin_with group line negative = Some (record { group = group; line = line; negative = negative })
+
+abbrev to_origin : ℕ → ℕ → ℕ → Option Origin
+to_origin zero line sign = None
+to_origin (suc group) line sign = origin_with (to_group group) line (to_sign sign)
+
+origin_back : (x : Option Origin) → to_origin (group_in x) (line_in x) (sign_in x) ≡ x
+origin_back None = refl
+origin_back (Some x) =
+    ap (λ (g : RuleGroup). origin_with g x.line (to_sign (of_sign x.negative))) (group_back x.group) ∙ ap (λ (b : Bool). origin_with x.group x.line b) (sign_back x.negative)
+
 -- ---- an entry as a text, and back
 
 abbrev spelled : Emission → List ℕ
 spelled x =
     of_status x.0.status ∷ of_option of_property x.0.property ∷ of_option of_kind x.0.disk_kind ∷ of_option of_kind x.0.index_kind
-    ∷ of_option of_match x.0.pathspec_match ∷ of_option of_status x.1 ∷ x.0.rela_path
+    ∷ of_option of_match x.0.pathspec_match ∷ of_option of_status x.1 ∷ group_in x.0.origin ∷ line_in x.0.origin ∷ sign_in x.0.origin ∷ x.0.rela_path
 
-abbrev made : ℕ → ℕ → ℕ → ℕ → ℕ → ℕ → List ℕ → Emission
-made a b c d e f path =
-    (record { rela_path = path; status = to_status a; property = to_option to_property b; disk_kind = to_option to_kind c; index_kind = to_option to_kind d; pathspec_match = to_option to_match e }, to_option to_status f)
+abbrev made : ℕ → ℕ → ℕ → ℕ → ℕ → ℕ → ℕ → ℕ → ℕ → List ℕ → Emission
+made a b c d e f g h i path = (
+  record {
+    rela_path = path;
+    status = to_status a;
+    property = to_option to_property b;
+    disk_kind = to_option to_kind c;
+    index_kind = to_option to_kind d;
+    pathspec_match = to_option to_match e;
+    origin = to_origin g h i;
+  },
+  to_option to_status f,
+)
 
 -- any other text is no spelling, and is read as some entry
 abbrev read : Emission → List ℕ → Emission
-read some (a ∷ b ∷ c ∷ d ∷ e ∷ f ∷ path) = made a b c d e f path
+read some (a ∷ b ∷ c ∷ d ∷ e ∷ f ∷ g ∷ h ∷ i ∷ path) = made a b c d e f g h i path
 read some text = some
 
-entry_of : (path : List ℕ) (s t : Status) (p q : Option Property) (k l i j : Option Kind) (m n : Option PathspecMatch) (u v : Option Status) → s ≡ t → p ≡ q → k ≡ l → i ≡ j → m ≡ n → u ≡ v
-    → emission_of (record { rela_path = path; status = s; property = p; disk_kind = k; index_kind = i; pathspec_match = m }) u ≡ emission_of (record { rela_path = path; status = t; property = q; disk_kind = l; index_kind = j; pathspec_match = n }) v
-entry_of path s t p q k l i j m n u v e f g h o r = cc
+entry_of : (path : List ℕ) (s t : Status) (p q : Option Property) (k l i j : Option Kind) (m n : Option PathspecMatch) (x y : Option Origin) (u v : Option Status) → s ≡ t → p ≡ q → k ≡ l → i ≡ j → m ≡ n → x ≡ y → u ≡ v
+    → emission_of (record { rela_path = path; status = s; property = p; disk_kind = k; index_kind = i; pathspec_match = m; origin = x }) u
+    ≡ emission_of (record { rela_path = path; status = t; property = q; disk_kind = l; index_kind = j; pathspec_match = n; origin = y }) v
+entry_of path s t p q k l i j m n x y u v e f g h o r w = cc
 
 read-spelled : (some x : Emission) → read some (spelled x) ≡ x
 read-spelled some x =
-    entry_of x.0.rela_path _ _ _ _ _ _ _ _ _ _ _ _ (status_back x.0.status) (option_back of_property to_property property_back x.0.property) (option_back of_kind to_kind kind_back x.0.disk_kind)
-    (option_back of_kind to_kind kind_back x.0.index_kind) (option_back of_match to_match match_back x.0.pathspec_match) (option_back of_status to_status status_back x.1)
+    entry_of x.0.rela_path _ _ _ _ _ _ _ _ _ _ _ _ _ _ (status_back x.0.status) (option_back of_property to_property property_back x.0.property) (option_back of_kind to_kind kind_back x.0.disk_kind)
+    (option_back of_kind to_kind kind_back x.0.index_kind) (option_back of_match to_match match_back x.0.pathspec_match) (origin_back x.0.origin) (option_back of_status to_status status_back x.1)
 
 -- ---- the test
 

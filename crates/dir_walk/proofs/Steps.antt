@@ -1,5 +1,5 @@
 -- The steps of a walk.
-use Rattle.std.proofs.Common.{◌≡◌, ℕ, ◌+◌, ◌<◌, List, [], ◌∷◌, Bool, true, false, ◌&&◌, ◌||◌, Option, Some, None, get_or, length, refl, sym, ap, subst, ◌∙◌, arith}
+use Rattle.std.proofs.Common.{◌≡◌, ℕ, ◌+◌, ◌<◌, List, [], ◌∷◌, Bool, true, false, ◌&&◌, ◌||◌, Option, None, get_or, length, refl, sym, ap, subst, ◌∙◌, arith}
 use Rattle.std.specs.Prelude.{option_map, is_some, nat_lt}
 use Rattle.std.specs.List.{list_any}
 use Rattle.gitbase_core.specs.Objects.{Objects}
@@ -13,22 +13,24 @@ use Rattle.worktree_stack.specs.Setup.{Made}
 use Rattle.worktree_stack.specs.Reading.{Sources}
 use Rattle.worktree_stack.specs.Stacked.{Stacked}
 use Rattle.dir_classify.specs.Excludes.{made_with, TellsIf, InStepIf}
-use Rattle.dir_classify.specs.declared.options.Options.{Options}
+use Rattle.dir_classify.specs.Chosen.{Chosen}
 use Rattle.dir_classify.specs.declared.entry.Entry.{Entry}
+use Rattle.dir_classify.specs.declared.entry.Kind.{Kind}
 use Rattle.dir_classify.specs.declared.classify.Outcome.{Outcome as Class}
 use Rattle.dir_classify.specs.Kinds.{from_node}
 use Rattle.dir_classify.specs.Entries.{entry_at}
 use Rattle.dir_classify.specs.declared.error.Error.{Error}
 use Rattle.dir_classify.specs.Refused.{OnAccess}
-use Rattle.dir_classify.specs.Class.{Meanings, class, asks, asks_unread, enters}
-use Rattle.dir_classify.specs.Asked.{asked, IsSwallowed}
+use Rattle.dir_classify.specs.Class.{class, asks, enters}
+use Rattle.dir_classify.specs.Evidence.{Evidence}
+use Rattle.dir_classify.specs.Layers.{kind_at}
+use Rattle.dir_classify.specs.Paths.{full_path}
 use Rattle.dir_walk.specs.declared.outcome.Outcome.{Outcome}
 use Rattle.dir_walk.specs.Emissions.{Emission, plain}
 use Rattle.dir_walk.specs.Walked.{Walked, item, leaf, entered_at, child_class, child_asks, asking}
 use Rattle.dir_walk.specs.Report.{depth_of, is_refused}
-use Rattle.dir_walk.specs.Refused.{IsAbout, IsPlaced, read_error}
+use Rattle.dir_walk.specs.Refused.{IsAbout, IsPlaced, read_error, OnInterrupted}
 use Rattle.dir_walk.specs.Emits.{Emits, Gives, Stands, shown_by}
-use Rattle.dir_walk.proofs.Classes.{class-entered}
 use Rattle.dir_walk.proofs.Counts.{count_by-cons}
 use Rattle.dir_walk.proofs.Named.{listed_name}
 use Rattle.dir_walk.proofs.Placed.{IsPlaced-child, depth_of-joined, joined-some}
@@ -41,6 +43,14 @@ IsAbout-read_error made root full rela limit lists.NotADirectory at = record { b
 IsAbout-read_error made root full rela limit lists.OpenFault at = record { below = rela; path_is = at.full_is; normal = at.normal }
 IsAbout-read_error made root full rela limit lists.EntryFault at = record { below = rela; path_is = at.full_is; normal = at.normal }
 IsAbout-read_error made root full rela limit lists.OutOfMemory at = tt
+
+-- and the interrupt has nothing to do with it
+pub OnInterrupted-read_error : (Raised : Type 0) (full : List ℕ) (e : ListError) → OnInterrupted Raised (read_error full e)
+OnInterrupted-read_error Raised full lists.Absent = tt
+OnInterrupted-read_error Raised full lists.NotADirectory = tt
+OnInterrupted-read_error Raised full lists.OpenFault = tt
+OnInterrupted-read_error Raised full lists.EntryFault = tt
+OnInterrupted-read_error Raised full lists.OutOfMemory = tt
 
 -- where a walk stands its worktree and its store tell
 pub telling : {told : Option Names} {holds : Option Objects} {x : Option Stacked} {s : Sources} {made : Option Made} → Stands told holds x s made → TellsIf told holds (made_with x) s
@@ -78,20 +88,27 @@ child-placed root full rela child_full child_rela name child at =
     subst (λ (p : List ℕ). IsPlaced root p child_rela) (sym child.full_is)
     (subst (λ (p : List ℕ). IsPlaced root (joined full name) p) (sym child.rela_is) (IsPlaced-child root full rela name child.is_name at))
 
+-- ---- the class of a child
+
+-- what was asked of the node at its path
+module _ (o : Chosen) (ev : Evidence) (t : Names) (root full path : List ℕ) (node : Node) (full_is : full ≡ full_path root path) (there : look t full false ≡ found node) where
+  at-node : {X : Type 0} (f : Option Kind → X) → f (kind_at t (full_path root path) false) ≡ f (option_map from_node (kind_of (found node)))
+  at-node f = ap (λ (p : List ℕ). f (kind_at t p false)) (sym full_is) ∙ ap (λ (l : Look). f (option_map from_node (kind_of l))) there
+
+  pub class-node : (c : Class) → c ≡ class o ev path None (kind_at t (full_path root path) false) → c ≡ child_class o ev path node
+  class-node c is = is ∙ at-node (λ (k : Option Kind). class o ev path None k)
+
+  pub read-node : (asks o ev path None (kind_at t (full_path root path) false) && ev.is_unread path) ≡ false → (child_asks o ev path node && ev.is_unread path) ≡ false
+  read-node read = sym (at-node (λ (k : Option Kind). asks o ev path None k && ev.is_unread path)) ∙ read
+
+  -- a refusal of its class comes where that asks the rules
+  pub access-node : (e : Error) → OnAccess (asks o ev path None (kind_at t (full_path root path) false) ≡ true) e → OnAccess (child_asks o ev path node ≡ true) e
+  access-node e h = subst (λ (b : Bool). OnAccess (b ≡ true) e) (at-node (λ (k : Option Kind). asks o ev path None k)) h
+
 -- ---- a path that is not entered
 
-asked-node : (m : Meanings) (t : Names) (full path : List ℕ) (node : Node) → look t full false ≡ found node → class m path None (asked t full true) ≡ child_class m path node
-asked-node m t full path node there = ap (λ (l : Look). class m path None (option_map from_node (kind_of l))) there
-
-pub asks-node : (m : Meanings) (t : Names) (full path : List ℕ) (node : Node) → look t full false ≡ found node → asks m path None (asked t full true) ≡ child_asks m path node
-asks-node m t full path node there = ap (λ (l : Look). asks m path None (option_map from_node (kind_of l))) there
-
--- a refusal of its class comes where that asks the rules
-pub access-told : (m : Meanings) (t : Names) (full path : List ℕ) (node : Node) (e : Error) → look t full false ≡ found node → OnAccess (asks m path None (asked t full true) ≡ true) e → OnAccess (child_asks m path node ≡ true) e
-access-told m t full path node e there h = subst (λ (b : Bool). OnAccess (b ≡ true) e) (asks-node m t full path node there) h
-
-Gives-leaf : (o : Options) (limit : ℕ) (m : Meanings) (e : Entry) (before after : List Emission) (start stop : Outcome) → Emits before after start stop (λ p. shown_by o p (plain e ∷ [])) 1 0 → Gives o limit m (leaf e) before after start stop
-Gives-leaf o limit m e before after start stop h =
+pub Gives-leaf : (o : Chosen) (limit : ℕ) (ev : Evidence) (e : Entry) (before after : List Emission) (start stop : Outcome) → Emits before after start stop (λ p. shown_by o p (plain e ∷ [])) 1 0 → Gives o limit ev (leaf e) before after start stop
+Gives-leaf o limit ev e before after start stop h =
     record {
       emits = record {
         entries = h.entries;
@@ -103,48 +120,39 @@ Gives-leaf o limit m e before after start stop h =
     }
 
 -- the rules that a path asks were read
-whole-asking : (limit : ℕ) (m : Meanings) (b : Bool) (path : List ℕ) (w : Walked) → (b && m.is_unread path) ≡ false → is_refused limit m w ≡ false → is_refused limit m (asking b path w) ≡ false
-whole-asking limit m true path w read h =
-    ap (λ c. (list_any (λ d. nat_lt limit (depth_of d)) w.entered || list_any (λ d. true) w.broken) || (c || list_any m.is_unread w.asked)) read ∙ h
-whole-asking limit m false path w read h = h
+whole-asking : (limit : ℕ) (ev : Evidence) (b : Bool) (path : List ℕ) (w : Walked) → (b && ev.is_unread path) ≡ false → is_refused limit ev w ≡ false → is_refused limit ev (asking b path w) ≡ false
+whole-asking limit ev true path w read h =
+    ap (λ c. (list_any (λ d. nat_lt limit (depth_of d)) w.entered || list_any (λ d. true) w.broken) || (c || list_any ev.is_unread w.asked)) read ∙ h
+whole-asking limit ev false path w read h = h
 
-Gives-asking : (o : Options) (limit : ℕ) (m : Meanings) (b : Bool) (path : List ℕ) (w : Walked) (before after : List Emission) (start stop : Outcome) → (b && m.is_unread path) ≡ false → Gives o limit m w before after start stop
-    → Gives o limit m (asking b path w) before after start stop
-Gives-asking o limit m b path w before after start stop read h = record { emits = h.emits; whole = whole-asking limit m b path w read h.whole }
+Gives-asking : (o : Chosen) (limit : ℕ) (ev : Evidence) (b : Bool) (path : List ℕ) (w : Walked) (before after : List Emission) (start stop : Outcome) → (b && ev.is_unread path) ≡ false → Gives o limit ev w before after start stop
+    → Gives o limit ev (asking b path w) before after start stop
+Gives-asking o limit ev b path w before after start stop read h = record { emits = h.emits; whole = whole-asking limit ev b path w read h.whole }
 
-read-node : (m : Meanings) (t : Names) (full path : List ℕ) (node : Node) → look t full false ≡ found node → asks_unread m path None (asked t full true) ≡ false → (child_asks m path node && m.is_unread path) ≡ false
-read-node m t full path node there read = ap (λ b. b && m.is_unread path) (sym (asks-node m t full path node there)) ∙ read
-
-pub Gives-unentered : (o : Options) (limit : ℕ) (m : Meanings) (t : Names) (full path : List ℕ) (node : Node) (c : Class) (before after : List Emission) (start stop : Outcome) → look t full false ≡ found node
-    → c ≡ class m path None (asked t full true) → asks_unread m path None (asked t full true) ≡ false → enters c false ≡ false
-    → Emits before after start stop (λ p. shown_by o p (plain (entry_at path c) ∷ [])) 1 0 → Gives o limit m (item m path node) before after start stop
-Gives-unentered o limit m t full path node c before after start stop there is read out emitted =
-    let class_is : c ≡ child_class m path node = is ∙ asked-node m t full path node there in
-    let P : Walked → Type 0 = λ w. Gives o limit m w before after start stop in
-    let same : item m path node ≡ asking (child_asks m path node) path (leaf (entry_at path c)) =
-    item-leaf m path node (ap (λ (k : Class). enters k false) (sym class_is) ∙ out) ∙ ap (λ (k : Class). asking (child_asks m path node) path (leaf (entry_at path k))) (sym class_is) in
-    subst P (sym same)
-    (Gives-asking o limit m (child_asks m path node) path (leaf (entry_at path c)) before after start stop (read-node m t full path node there read) (Gives-leaf o limit m (entry_at path c) before after start stop emitted))
+pub Gives-unentered : (o : Chosen) (limit : ℕ) (ev : Evidence) (path : List ℕ) (node : Node) (c : Class) (before after : List Emission) (start stop : Outcome) → c ≡ child_class o ev path node
+    → (child_asks o ev path node && ev.is_unread path) ≡ false → enters o c false ≡ false
+    → Emits before after start stop (λ p. shown_by o p (plain (entry_at path c) ∷ [])) 1 0 → Gives o limit ev (item o ev path node) before after start stop
+Gives-unentered o limit ev path node c before after start stop is read out emitted =
+    let P : Walked → Type 0 = λ w. Gives o limit ev w before after start stop in
+    let same : item o ev path node ≡ asking (child_asks o ev path node) path (leaf (entry_at path c)) =
+    item-leaf o ev path node (ap (λ (k : Class). enters o k false) (sym is) ∙ out) ∙ ap (λ (k : Class). asking (child_asks o ev path node) path (leaf (entry_at path k))) (sym is) in
+    subst P (sym same) (Gives-asking o limit ev (child_asks o ev path node) path (leaf (entry_at path c)) before after start stop read (Gives-leaf o limit ev (entry_at path c) before after start stop emitted))
 
 -- ---- a path that is entered
 
--- its class is that of the told tree, also where the question for its kind failed
-pub class-told : (m : Meanings) (t : Names) (full path : List ℕ) (node : Node) (c : Class) → look t full false ≡ found node → IsSwallowed m path None (asked t full true) c → enters c false ≡ true → c ≡ child_class m path node
-class-told m t full path node c there swallowed into = class-entered m path (asked t full true) c swallowed into ∙ asked-node m t full path node there
+pub entered-item : (o : Chosen) (ev : Evidence) (t : Names) (full path : List ℕ) (node : Node) (c : Class) → look t full false ≡ found node → is_empty path ≡ false → c ≡ child_class o ev path node → enters o c false ≡ true
+    → asking (child_asks o ev path node) path (entered_at o ev path c (look t full (is_empty path))) ≡ item o ev path node
+entered-item o ev t full path node c there some class_is into =
+    let from : Walked → Walked = asking (child_asks o ev path node) path in
+    ap (λ (k : Class). from (entered_at o ev path k (look t full (is_empty path)))) class_is
+    ∙ ap (λ (b : Bool). from (entered_at o ev path (child_class o ev path node) (look t full b))) some
+    ∙ ap (λ (l : Look). from (entered_at o ev path (child_class o ev path node) l)) there
+    ∙ sym (item-entered o ev path node (ap (λ (k : Class). enters o k false) (sym class_is) ∙ into))
 
-pub entered-item : (m : Meanings) (t : Names) (full path : List ℕ) (node : Node) (c : Class) → look t full false ≡ found node → is_empty path ≡ false → c ≡ child_class m path node → enters c false ≡ true
-    → asking (child_asks m path node) path (entered_at m path c (look t full (is_empty path))) ≡ item m path node
-entered-item m t full path node c there some class_is into =
-    let from : Walked → Walked = asking (child_asks m path node) path in
-    ap (λ (k : Class). from (entered_at m path k (look t full (is_empty path)))) class_is
-    ∙ ap (λ (b : Bool). from (entered_at m path (child_class m path node) (look t full b))) some
-    ∙ ap (λ (l : Look). from (entered_at m path (child_class m path node) l)) there
-    ∙ sym (item-entered m path node (ap (λ (k : Class). enters k false) (sym class_is) ∙ into))
-
-pub Gives-entered : (o : Options) (limit : ℕ) (m : Meanings) (t : Names) (full path : List ℕ) (node : Node) (c : Class) (before after : List Emission) (start stop : Outcome) → look t full false ≡ found node → is_empty path ≡ false
-    → c ≡ child_class m path node → asks_unread m path None (asked t full true) ≡ false → enters c false ≡ true → Gives o limit m (entered_at m path c (look t full (is_empty path))) before after start stop
-    → Gives o limit m (item m path node) before after start stop
-Gives-entered o limit m t full path node c before after start stop there some class_is read into given =
-    let w : Walked = entered_at m path c (look t full (is_empty path)) in
-    subst (λ (v : Walked). Gives o limit m v before after start stop) (entered-item m t full path node c there some class_is into)
-    (Gives-asking o limit m (child_asks m path node) path w before after start stop (read-node m t full path node there read) given)
+pub Gives-entered : (o : Chosen) (limit : ℕ) (ev : Evidence) (t : Names) (full path : List ℕ) (node : Node) (c : Class) (before after : List Emission) (start stop : Outcome) → look t full false ≡ found node → is_empty path ≡ false
+    → c ≡ child_class o ev path node → (child_asks o ev path node && ev.is_unread path) ≡ false → enters o c false ≡ true → Gives o limit ev (entered_at o ev path c (look t full (is_empty path))) before after start stop
+    → Gives o limit ev (item o ev path node) before after start stop
+Gives-entered o limit ev t full path node c before after start stop there some class_is read into given =
+    let w : Walked = entered_at o ev path c (look t full (is_empty path)) in
+    subst (λ (v : Walked). Gives o limit ev v before after start stop) (entered-item o ev t full path node c there some class_is into)
+    (Gives-asking o limit ev (child_asks o ev path node) path w before after start stop read given)

@@ -7,7 +7,7 @@ use Rattle.std.specs.Prelude.{Err}
 use Rattle.worktree_stack.specs.Setup.{Made}
 use Rattle.worktree_stack.specs.Reading.{Sources, Refusal, reading, is_read}
 use Rattle.worktree_stack.specs.Refused.{OfAncestor}
-use Rattle.dir_classify.specs.Meanings.{is_unread_in}
+use Rattle.dir_classify.specs.Layers.{is_unread_in}
 
 all-map : {X Y : Type 0} (p : Y → Bool) (f : X → Y) (xs : List X) → list_all p (map f xs) ≡ list_all (λ x. p (f x)) xs
 all-map p f [] = refl

@@ -1,5 +1,5 @@
 -- Entries as a walk emits them.
-use Rattle.std.specs.Prelude.{ℕ, Bool, true, false, not, ◌&&◌, if◌then◌else◌, List, [], ◌∷◌, Option, Some, None, is_some}
+use Rattle.std.specs.Prelude.{ℕ, Bool, true, false, not, ◌&&◌, ◌||◌, if◌then◌else◌, List, [], ◌∷◌, Option, Some, None, is_some}
 use Rattle.std.specs.Ordering.{nat_cmp, is_lt}
 use Rattle.std.specs.Cmp.Lexicographic.{slice_cmp}
 use Rattle.dir_classify.specs.declared.entry.Entry.{Entry}
@@ -9,7 +9,7 @@ use Rattle.dir_classify.specs.declared.entry.Property.{Property}
 use Rattle.dir_classify.specs.declared.entry.Property.TheVariants.{DotGit, EmptyDirectory, EmptyDirectoryAndCWD, TrackedExcluded}
 use Rattle.dir_classify.specs.declared.entry.PathspecMatch.{PathspecMatch}
 use Rattle.dir_classify.specs.declared.entry.PathspecMatch.TheVariants.{Always, Excluded, Prefix, WildcardMatch, Verbatim}
-use Rattle.dir_classify.specs.declared.options.Options.{Options}
+use Rattle.dir_classify.specs.Chosen.{Chosen}
 use Rattle.dir_classify.specs.declared.classify.Outcome.{Outcome}
 
 -- an entry, with the status of the directory that was folded over it, if one was
@@ -50,16 +50,18 @@ is_unmatched (Some Prefix) = false
 is_unmatched (Some WildcardMatch) = false
 is_unmatched (Some Verbatim) = false
 
--- tracked and ignored paths are shown where they are asked for, and no pruned ones
-abbrev pub is_wanted : Options → Status → Bool
-is_wanted o Pruned = false
+-- pruned, tracked and ignored paths are shown where they are asked for
+abbrev pub is_wanted : Chosen → Status → Bool
+is_wanted o Pruned = o.emit_pruned
 is_wanted o Tracked = o.emit_tracked
 is_wanted o (Ignored kind) = is_some o.emit_ignored
 is_wanted o Untracked = true
 
--- an empty directory is hidden, what is not wanted by its status, and what no spec matches
-abbrev pub is_shown : Options → Outcome → Bool
-is_shown o c = not (is_empty_directory c.property) && is_wanted o c.status && not (is_unmatched c.pathspec_match)
+-- What is not wanted by its status is hidden, an empty directory where those are not asked for, and what no spec matches where
+-- pruned paths are not.
+abbrev pub is_shown : Chosen → Outcome → Bool
+is_shown o c =
+    (o.emit_empty_directories || not (is_empty_directory c.property)) && is_wanted o c.status && (o.emit_pruned || not (is_unmatched c.pathspec_match))
 
 -- ---- by path
 

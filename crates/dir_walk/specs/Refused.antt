@@ -20,7 +20,9 @@ use Rattle.dir_classify.specs.declared.error.Error.{Error}
 use Rattle.dir_classify.specs.declared.error.Error.TheVariants as errors
 use Rattle.dir_classify.specs.declared.error.ReadWhy.{ReadWhy}
 use Rattle.dir_classify.specs.declared.error.ReadWhy.TheVariants as reads
-use Rattle.dir_classify.specs.Class.{Meanings}
+use Rattle.dir_classify.specs.Chosen.{Chosen}
+use Rattle.dir_classify.specs.Class.{is_worktree}
+use Rattle.dir_classify.specs.Evidence.{Evidence}
 use Rattle.dir_classify.specs.Paths.{full_path}
 use Rattle.dir_classify.specs.Refused.{IsAccess}
 use Rattle.dir_walk.specs.Walked.{Walked, entered_at}
@@ -56,6 +58,10 @@ pub record IsSomeAccess (made : Made) (e : AtPathError) : Type 0 where
 
 -- what a refusal says of the rules, the paths and the limit that were handed in
 abbrev pub IsAbout : Option Made → List ℕ → ℕ → Error → Type 0
+IsAbout made root limit errors.Interrupted = Unit {0}
+IsAbout made root limit (errors.NormalizeRoot path) = ⊥
+IsAbout made root limit (errors.SymlinkInRoot path worktree_root index) = ⊥
+IsAbout made root limit (errors.SymlinkMetadata path why) = ⊥
 IsAbout made root limit (errors.WorktreeRootIsFile path) = path ≡ root
 IsAbout made root limit (errors.ExcludesAccess e) = IsSomeAnd made (λ rules. IsSomeAccess rules e)
 IsAbout made root limit (errors.TooDeep path) = IsBelowLimit root limit path
@@ -73,19 +79,20 @@ pub record IsTooDeep (root : List ℕ) (limit : ℕ) (w : Walked) (path : List �
   pub to_enter : is_to_enter below w ≡ true
   pub deep : limit < depth_of below
 
--- the whole path of a node that is to be entered, reached so, as the index has an up-to-date directory there; it is
--- none on disk, which is why it could not be listed
-pub record IsBroken (t : Names) (m : Meanings) (root : List ℕ) (w : Walked) (why : ListError) (path : List ℕ) : Type 0 where
+-- The whole path of a node that is to be entered, reached so, as the index has an up-to-date directory there, or as it is one
+-- of the worktree set; it is no directory on disk, which is why it could not be listed. A last link is followed for the worktree
+-- root alone.
+pub record IsBroken (t : Names) (o : Chosen) (ev : Evidence) (root : List ℕ) (w : Walked) (why : ListError) (path : List ℕ) : Type 0 where
   pub below : List ℕ
   pub path_is : path ≡ full_path root below
   pub broken : is_among below w.broken ≡ true
-  pub indexed : (m.in_index below).up_to_date ≡ Some Directory
-  pub node : list_of (look t path false) ≡ Err why
+  pub as_directory : ((ev.in_index below).up_to_date ≡ Some Directory) ⊎ (is_worktree o below ≡ true)
+  pub node : list_of (look t path (is_empty below)) ≡ Err why
 
-abbrev pub IsUnread : Names → Meanings → List ℕ → Walked → List ℕ → ReadWhy → Type 0
-IsUnread t m root w path reads.Absent = IsBroken t m root w lists.Absent path
-IsUnread t m root w path reads.NotADirectory = IsBroken t m root w lists.NotADirectory path
-IsUnread t m root w path reads.Fault = Unit {0}
+abbrev pub IsUnread : Names → Chosen → Evidence → List ℕ → Walked → List ℕ → ReadWhy → Type 0
+IsUnread t o ev root w path reads.Absent = IsBroken t o ev root w lists.Absent path
+IsUnread t o ev root w path reads.NotADirectory = IsBroken t o ev root w lists.NotADirectory path
+IsUnread t o ev root w path reads.Fault = Unit {0}
 
 -- a lookup of some normal path in the rules was refused, by a rules file or a blob that the tree or the store refuses
 pub record IsRefusedLookup (s : Sources) (made : Made) (e : AtPathError) : Type 0 where
@@ -101,6 +108,10 @@ pub record IsNotListed (t : Names) (why : ListError) (path : List ℕ) : Type 0 
 
 -- what a refusal says of the tree, and, where the store holds these objects, of the rules, whether or not they are in step
 abbrev pub IsInTree : Option Objects → Sources → Option Made → Error → Type 0
+IsInTree holds s made errors.Interrupted = Unit {0}
+IsInTree holds s made (errors.NormalizeRoot path) = ⊥
+IsInTree holds s made (errors.SymlinkInRoot path worktree_root index) = ⊥
+IsInTree holds s made (errors.SymlinkMetadata path why) = ⊥
 IsInTree holds s made (errors.WorktreeRootIsFile path) = Unit {0}
 IsInTree holds s made (errors.ExcludesAccess e) = IsSomeAnd made (λ rules. holds ≡ Some s.objects → IsRefusedLookup s rules e)
 IsInTree holds s made (errors.TooDeep path) = Unit {0}
@@ -110,38 +121,59 @@ IsInTree holds s made (errors.ReadDir path reads.Fault) = Unit {0}
 IsInTree holds s made (errors.DirEntry path) = Unit {0}
 IsInTree holds s made errors.OutOfMemory = Unit {0}
 
--- the lookup of a normal path in the rules was refused, by a rules file or a blob that is refused; its class asks the
--- rules, unless the worktree failed, which may have hidden what the index has there
-pub record IsNoAccess (s : Sources) (made : Made) (w : Walked) (Failed : Type 0) (e : AtPathError) : Type 0 where
+-- the lookup of a normal path whose class asks the rules was refused, by a rules file or a blob that is refused
+pub record IsNoAccess (s : Sources) (made : Made) (w : Walked) (e : AtPathError) : Type 0 where
   pub path : List ℕ
   pub normal : is_normal path ≡ true
-  pub asked : (is_among path w.asked ≡ true) ⊎ Failed
+  pub asked : is_among path w.asked ≡ true
   pub access : IsAccess made path e
   pub refused : lookups.RefusesIn s made (components path) e
 
--- A refusal within what is walked below the worktree root. `made` is what the rules were made with, and `Failed` says
--- that the worktree failed.
-abbrev pub Refuses : Sources → Option Made → Meanings → List ℕ → ℕ → Type 0 → Walked → Error → Type 0
-Refuses s made m root limit Failed w (errors.WorktreeRootIsFile path) = ⊥
-Refuses s made m root limit Failed w (errors.ExcludesAccess e) = IsSomeAnd made (λ rules. IsNoAccess s rules w Failed e)
-Refuses s made m root limit Failed w (errors.TooDeep path) = IsTooDeep root limit w path
-Refuses s made m root limit Failed w (errors.ReadDir path why) = IsUnread s.tree m root w path why
-Refuses s made m root limit Failed w (errors.DirEntry path) = Unit {0}
-Refuses s made m root limit Failed w errors.OutOfMemory = Unit {0}
+-- A refusal within what is walked below the worktree root, where the worktree did not fail. `made` is what the rules were made
+-- with.
+abbrev pub Refuses : Sources → Option Made → Chosen → Evidence → List ℕ → ℕ → Walked → Error → Type 0
+Refuses s made o ev root limit w errors.Interrupted = Unit {0}
+Refuses s made o ev root limit w (errors.WorktreeRootIsFile path) = ⊥
+Refuses s made o ev root limit w (errors.NormalizeRoot path) = ⊥
+Refuses s made o ev root limit w (errors.SymlinkInRoot path worktree_root index) = ⊥
+Refuses s made o ev root limit w (errors.SymlinkMetadata path why) = ⊥
+Refuses s made o ev root limit w (errors.ExcludesAccess e) = IsSomeAnd made (λ rules. IsNoAccess s rules w e)
+Refuses s made o ev root limit w (errors.TooDeep path) = IsTooDeep root limit w path
+Refuses s made o ev root limit w (errors.ReadDir path why) = IsUnread s.tree o ev root w path why
+Refuses s made o ev root limit w (errors.DirEntry path) = Unit {0}
+Refuses s made o ev root limit w errors.OutOfMemory = Unit {0}
 
--- the worktree root is not entered, and its node, a link not followed, is no directory
-pub record IsNoRoot (t : Names) (m : Meanings) (root : List ℕ) : Type 0 where
-  pub not_entered : walked m t root ≡ None
+-- the walk gives nothing, and the node of the worktree root, a link not followed, is no directory
+pub record IsNoRoot (t : Names) (o : Chosen) (ev : Evidence) (root : List ℕ) : Type 0 where
+  pub not_walked : walked o ev t root ≡ None
   pub node : kind_of (look t root false) ≢ Some nodes.Directory
 
 -- a refusal of a walk
-abbrev pub WalkRefuses : Sources → Option Made → Meanings → List ℕ → ℕ → Type 0 → Error → Type 0
-WalkRefuses s made m root limit Failed (errors.WorktreeRootIsFile path) = IsNoRoot s.tree m root ⊎ Failed
-WalkRefuses s made m root limit Failed (errors.ExcludesAccess e) = IsSomeAnd (walked m s.tree root) (λ w. IsSomeAnd made (λ rules. IsNoAccess s rules w Failed e))
-WalkRefuses s made m root limit Failed (errors.TooDeep path) = IsSomeAnd (walked m s.tree root) (λ w. IsTooDeep root limit w path)
-WalkRefuses s made m root limit Failed (errors.ReadDir path why) = IsSomeAnd (walked m s.tree root) (λ w. IsUnread s.tree m root w path why)
-WalkRefuses s made m root limit Failed (errors.DirEntry path) = Unit {0}
-WalkRefuses s made m root limit Failed errors.OutOfMemory = Unit {0}
+abbrev pub WalkRefuses : Sources → Option Made → Chosen → Evidence → List ℕ → ℕ → Error → Type 0
+WalkRefuses s made o ev root limit errors.Interrupted = Unit {0}
+WalkRefuses s made o ev root limit (errors.WorktreeRootIsFile path) = IsNoRoot s.tree o ev root
+WalkRefuses s made o ev root limit (errors.NormalizeRoot path) = ⊥
+WalkRefuses s made o ev root limit (errors.SymlinkInRoot path worktree_root index) = ⊥
+WalkRefuses s made o ev root limit (errors.SymlinkMetadata path why) = ⊥
+WalkRefuses s made o ev root limit (errors.ExcludesAccess e) =
+    IsSomeAnd (walked o ev s.tree root) (λ w. IsSomeAnd made (λ rules. IsNoAccess s rules w e))
+WalkRefuses s made o ev root limit (errors.TooDeep path) = IsSomeAnd (walked o ev s.tree root) (λ w. IsTooDeep root limit w path)
+WalkRefuses s made o ev root limit (errors.ReadDir path why) = IsSomeAnd (walked o ev s.tree root) (λ w. IsUnread s.tree o ev root w path why)
+WalkRefuses s made o ev root limit (errors.DirEntry path) = Unit {0}
+WalkRefuses s made o ev root limit errors.OutOfMemory = Unit {0}
+
+-- what holds where the interrupt stopped the walk
+abbrev pub OnInterrupted : Type 0 → Error → Type 0
+OnInterrupted Raised errors.Interrupted = Raised
+OnInterrupted Raised (errors.WorktreeRootIsFile path) = Unit {0}
+OnInterrupted Raised (errors.NormalizeRoot path) = Unit {0}
+OnInterrupted Raised (errors.SymlinkInRoot path worktree_root index) = Unit {0}
+OnInterrupted Raised (errors.SymlinkMetadata path why) = Unit {0}
+OnInterrupted Raised (errors.ExcludesAccess e) = Unit {0}
+OnInterrupted Raised (errors.TooDeep path) = Unit {0}
+OnInterrupted Raised (errors.ReadDir path why) = Unit {0}
+OnInterrupted Raised (errors.DirEntry path) = Unit {0}
+OnInterrupted Raised errors.OutOfMemory = Unit {0}
 
 -- ---- where a walk stands
 
@@ -163,7 +195,11 @@ read_error path lists.OutOfMemory = errors.OutOfMemory
 
 -- why the directory at a whole path was not listed, by what that leads to
 abbrev pub OpenRefuses : List ℕ → Look → Error → Type 0
+OpenRefuses full at errors.Interrupted = ⊥
 OpenRefuses full at (errors.WorktreeRootIsFile path) = ⊥
+OpenRefuses full at (errors.NormalizeRoot path) = ⊥
+OpenRefuses full at (errors.SymlinkInRoot path worktree_root index) = ⊥
+OpenRefuses full at (errors.SymlinkMetadata path why) = ⊥
 OpenRefuses full at (errors.ExcludesAccess e) = ⊥
 OpenRefuses full at (errors.TooDeep path) = ⊥
 OpenRefuses full at (errors.ReadDir path reads.Absent) = (path ≡ full) × (list_of at ≡ Err lists.Absent)
@@ -173,6 +209,6 @@ OpenRefuses full at (errors.DirEntry path) = Unit {0}
 OpenRefuses full at errors.OutOfMemory = Unit {0}
 
 -- a refusal of a directory that is entered: its own listing, or within it
-abbrev pub DirectoryRefuses : Sources → Option Made → Meanings → List ℕ → ℕ → Type 0 → List ℕ → List ℕ → Outcome → Error → Type 0
-DirectoryRefuses s made m root limit Failed full d c e =
-    OpenRefuses full (look s.tree full (is_empty d)) e ⊎ Refuses s made m root limit Failed (entered_at m d c (look s.tree full (is_empty d))) e
+abbrev pub DirectoryRefuses : Sources → Option Made → Chosen → Evidence → List ℕ → ℕ → List ℕ → List ℕ → Outcome → Error → Type 0
+DirectoryRefuses s made o ev root limit full d c e =
+    OpenRefuses full (look s.tree full (is_empty d)) e ⊎ Refuses s made o ev root limit (entered_at o ev d c (look s.tree full (is_empty d))) e

@@ -65,7 +65,8 @@ impl EmittedEntries {
         entry: Entry,
         collapsed_directory_status: Option<Status>,
     ) -> Result<(), OutOfMemory>
-        ensures added { OnOk result (self.new ≡ self.old ++ emission_of entry collapsed_directory_status ∷ []) }
+        ensures added { OnOk result (self.new
+            ≡ self.old ++ emission_of entry collapsed_directory_status ∷ []) }
         ensures refused { OnErr result (self.new ≡ self.old) }
     {
         self.items.push((entry, collapsed_directory_status))?;
@@ -98,7 +99,8 @@ impl Collect {
         collapsed_directory_status: Option<Status>,
     ) -> Result<(), OutOfMemory>
         ensures added { OnOk result (self.new.unorded_entries
-            ≡ self.old.unorded_entries ++ emission_of (entry_of entry.now) collapsed_directory_status ∷ []) }
+            ≡ self.old.unorded_entries
+            ++ emission_of (entry_of entry.now) collapsed_directory_status ∷ []) }
         ensures refused { OnErr result (self.new.unorded_entries ≡ self.old.unorded_entries) }
     {
         let entry = entry.to_owned(alloc)?;

@@ -2,6 +2,7 @@
 #![tactic(auto)]
 
 pub mod collect;
+mod directory;
 mod emit;
 pub mod outcome;
 mod place;

@@ -1,14 +1,11 @@
 //! Reports over a worktree in memory, whole: words in, a status and two texts out.
+mod rows;
+
 use gitbase_core::{Bytes, OutOfMemory};
+use rows::{A_FILE, IGNORED, OPTIONS, REFUSALS, REPORTS, REQUIRED, Row, WITHOUT_RULES};
 use std::alloc::Global;
 use worktree_fs::{AddError, CallKind, MemorySink, MemoryWorktree, NewNode, PlannedInterrupt};
 use worktree_report::run;
-
-/// The line that each setup needs today.
-const REQUIRED: &[u8] = b"option recurse_repositories yes\n";
-
-/// The same, and no ignore rules.
-const WITHOUT_RULES: &[u8] = b"option recurse_repositories yes\noption excludes no\n";
 
 const REPORT: &[&[u8]] = &[b"report", b"/w", b"/s"];
 
@@ -61,12 +58,24 @@ fn answer_of(
     room: usize,
     nth: u64,
 ) -> Result<Answer, OutOfMemory> {
+    let mut never = PlannedInterrupt::never();
+    interrupted_answer_of(alloc, texts, tree, &mut never, room, nth)
+}
+
+/// The same with an interrupt.
+fn interrupted_answer_of(
+    alloc: Global,
+    texts: &[&[u8]],
+    tree: &mut MemoryWorktree,
+    interrupt: &mut PlannedInterrupt,
+    room: usize,
+    nth: u64,
+) -> Result<Answer, OutOfMemory> {
     let words = words(alloc, texts)?;
     let mut out = MemorySink::new(alloc, room)?;
     out.fail_from(nth);
     let mut err = MemorySink::new(alloc, ROOM)?;
-    let mut interrupt = PlannedInterrupt::never();
-    let status = run(alloc, &words, tree, &mut interrupt, &mut out, &mut err);
+    let status = run(alloc, &words, tree, interrupt, &mut out, &mut err);
     Ok(Answer { status, out, err })
 }
 
@@ -82,257 +91,6 @@ fn answers(
         Err(_) => false,
     }
 }
-
-/// A worktree, a setup and what the report of `/w` must answer.
-struct Row {
-    name: &'static str,
-    nodes: &'static [(&'static [u8], NewNode<'static>)],
-    setup: &'static [u8],
-    status: u8,
-    out: &'static [u8],
-    err: &'static [u8],
-}
-
-const A_FILE: NewNode<'static> = NewNode::File(b"");
-
-static REPORTS: [Row; 8] = [
-    Row {
-        name: "one file",
-        nodes: &[(b"/w/a", A_FILE)],
-        setup: REQUIRED,
-        status: 0,
-        out: b"untracked file - always - -\ta\n",
-        err: b"",
-    },
-    Row {
-        name: "one file, without rules",
-        nodes: &[(b"/w/a", A_FILE)],
-        setup: WITHOUT_RULES,
-        status: 0,
-        out: b"untracked file - always - -\ta\n",
-        err: b"",
-    },
-    Row {
-        name: "a tracked file beside an untracked one",
-        nodes: &[(b"/w/d/t", A_FILE), (b"/w/d/u", A_FILE)],
-        setup: b"index 100644 0 - - d/t\noption recurse_repositories yes\noption excludes no\noption emit_tracked yes",
-        status: 0,
-        out: b"tracked file file always - -\td/t\nuntracked file - always - -\td/u\n",
-        err: b"",
-    },
-    Row {
-        name: "an empty root",
-        nodes: &[(b"/w", NewNode::Directory)],
-        setup: REQUIRED,
-        status: 0,
-        out: b"",
-        err: b"",
-    },
-    Row {
-        name: "an empty root, without rules",
-        nodes: &[(b"/w", NewNode::Directory)],
-        setup: WITHOUT_RULES,
-        status: 0,
-        out: b"",
-        err: b"",
-    },
-    Row {
-        name: "a root that is a link to a directory",
-        nodes: &[(b"/w", NewNode::Link(b"/x")), (b"/x/a", A_FILE)],
-        setup: REQUIRED,
-        status: 0,
-        out: b"untracked file - always - -\ta\n",
-        err: b"",
-    },
-    Row {
-        name: "a root that is a link to a directory, without rules",
-        nodes: &[(b"/w", NewNode::Link(b"/x")), (b"/x/a", A_FILE)],
-        setup: WITHOUT_RULES,
-        status: 0,
-        out: b"untracked file - always - -\ta\n",
-        err: b"",
-    },
-    Row {
-        name: "names out of order, a link, a pipe, an empty directory, odd bytes, and a repository's own directory",
-        nodes: &[
-            (b"/w/b", NewNode::Link(b"nowhere")),
-            (b"/w/a.c", A_FILE),
-            (b"/w/a/z", A_FILE),
-            (b"/w/a-b", NewNode::Other),
-            (b"/w/empty", NewNode::Directory),
-            (b"/w/.git/HEAD", A_FILE),
-            (b"/w/\tc\\\x7f", A_FILE),
-        ],
-        setup: REQUIRED,
-        status: 0,
-        out: b"untracked file - always - -\t\\09c\\5c\\7f\nuntracked untrackable - always - -\ta-b\nuntracked file - always - -\ta.c\nuntracked file - always - -\ta/z\nuntracked symlink - always - -\tb\n",
-        err: b"",
-    },
-];
-
-static IGNORED: [Row; 6] = [
-    Row {
-        name: "a rule and one that takes a path out of it",
-        nodes: &[
-            (b"/w/.gitignore", NewNode::File(b"*.o\n!k.o\n")),
-            (b"/w/a.o", A_FILE),
-            (b"/w/k.o", A_FILE),
-        ],
-        setup: b"option recurse_repositories yes\noption emit_ignored matching\n",
-        status: 0,
-        out: b"untracked file - always - -\t.gitignore\nignored file - always - -\ta.o\nuntracked file - always - -\tk.o\n",
-        err: b"",
-    },
-    Row {
-        name: "the same without ignored paths",
-        nodes: &[
-            (b"/w/.gitignore", NewNode::File(b"*.o\n!k.o\n")),
-            (b"/w/a.o", A_FILE),
-            (b"/w/k.o", A_FILE),
-        ],
-        setup: REQUIRED,
-        status: 0,
-        out: b"untracked file - always - -\t.gitignore\nuntracked file - always - -\tk.o\n",
-        err: b"",
-    },
-    Row {
-        name: "the same without rules",
-        nodes: &[
-            (b"/w/.gitignore", NewNode::File(b"*.o\n!k.o\n")),
-            (b"/w/a.o", A_FILE),
-        ],
-        setup: b"option recurse_repositories yes\noption excludes no\noption emit_ignored matching\n",
-        status: 0,
-        out: b"untracked file - always - -\t.gitignore\nuntracked file - always - -\ta.o\n",
-        err: b"",
-    },
-    Row {
-        name: "a precious file",
-        nodes: &[(b"/w/d/key", A_FILE), (b"/w/d/x", A_FILE)],
-        setup: b"option recurse_repositories yes\nglobal $key\noption precious yes\noption emit_ignored matching\n",
-        status: 0,
-        out: b"precious file - always - -\td/key\nuntracked file - always - -\td/x\n",
-        err: b"",
-    },
-    Row {
-        name: "the same where no rule is precious",
-        nodes: &[(b"/w/d/key", A_FILE), (b"/w/d/x", A_FILE)],
-        setup: b"option recurse_repositories yes\nglobal $key\noption precious no\noption emit_ignored matching\n",
-        status: 0,
-        out: b"untracked file - always - -\td/key\nuntracked file - always - -\td/x\n",
-        err: b"",
-    },
-    Row {
-        name: "overrides above a nested rules file above globals, an excluded directory, and a tracked path in one",
-        nodes: &[
-            (b"/w/build/x", A_FILE),
-            (b"/w/d/.gitignore", NewNode::File(b"!a\nb\nc\n")),
-            (b"/w/d/a", A_FILE),
-            (b"/w/d/b", A_FILE),
-            (b"/w/d/c", A_FILE),
-            (b"/w/v/new", A_FILE),
-            (b"/w/v/t", A_FILE),
-        ],
-        setup: b"option recurse_repositories yes\noption emit_ignored matching\noption emit_tracked yes\nindex 100644 0 - - v/t\nglobal a\nglobal build/\nglobal v/\noverride !b\n",
-        status: 0,
-        out: b"ignored directory - always - -\tbuild\nuntracked file - always - -\td/.gitignore\nuntracked file - always - -\td/a\nuntracked file - always - -\td/b\nignored file - always - -\td/c\nignored file - always - -\tv/new\ntracked file file always - -\tv/t\n",
-        err: b"",
-    },
-];
-
-static REFUSALS: [Row; 11] = [
-    Row {
-        name: "a root that is a file",
-        nodes: &[(b"/w", A_FILE)],
-        setup: REQUIRED,
-        status: 4,
-        out: b"",
-        err: b"walk: root-is-file /w\n",
-    },
-    Row {
-        name: "a root that is a file, without rules",
-        nodes: &[(b"/w", A_FILE)],
-        setup: WITHOUT_RULES,
-        status: 4,
-        out: b"",
-        err: b"walk: root-is-file /w\n",
-    },
-    Row {
-        name: "no root",
-        nodes: &[],
-        setup: REQUIRED,
-        status: 4,
-        out: b"",
-        err: b"walk: root-is-file /w\n",
-    },
-    Row {
-        name: "no root, without rules",
-        nodes: &[],
-        setup: WITHOUT_RULES,
-        status: 4,
-        out: b"",
-        err: b"walk: root-is-file /w\n",
-    },
-    Row {
-        name: "a required line is missing",
-        nodes: &[(b"/w/a", A_FILE)],
-        setup: b"option excludes no\n",
-        status: 3,
-        out: b"",
-        err: b"setup: line 2\n",
-    },
-    Row {
-        name: "an option that is not there",
-        nodes: &[(b"/w/a", A_FILE)],
-        setup: b"option recurse_repositories yes\noption excludes no\noption emit_pruned maybe\n",
-        status: 3,
-        out: b"",
-        err: b"setup: line 3\n",
-    },
-    Row {
-        name: "a way of emitting that is not there",
-        nodes: &[(b"/w/a", A_FILE)],
-        setup: b"global\x20\noption emit_ignored collapse\noption recurse_repositories yes\n",
-        status: 3,
-        out: b"",
-        err: b"setup: line 2\n",
-    },
-    Row {
-        name: "a rule without a space before it",
-        nodes: &[(b"/w/a", A_FILE)],
-        setup: b"global\noption recurse_repositories yes\n",
-        status: 3,
-        out: b"",
-        err: b"setup: line 1\n",
-    },
-    Row {
-        name: "a rules file that is a link to itself",
-        nodes: &[
-            (b"/w/a", A_FILE),
-            (b"/w/.gitignore", NewNode::Link(b".gitignore")),
-        ],
-        setup: REQUIRED,
-        status: 4,
-        out: b"",
-        err: b"walk: rules-file /w/.gitignore\n",
-    },
-    Row {
-        name: "a rules file that is neither file nor directory",
-        nodes: &[(b"/w/a", A_FILE), (b"/w/.gitignore", NewNode::Other)],
-        setup: REQUIRED,
-        status: 4,
-        out: b"",
-        err: b"walk: rules-file /w/.gitignore\n",
-    },
-    Row {
-        name: "index lines that do not ascend, behind a comment and an empty line",
-        nodes: &[(b"/w/a", A_FILE)],
-        setup: b"# two\n\nindex 100644 0 - - b\nindex 100644 0 - - a\n",
-        status: 3,
-        out: b"",
-        err: b"setup: line 4\n",
-    },
-];
 
 /// Whether a row's worktree, listed in this order, is answered as the row says.
 fn holds(alloc: Global, row: &Row, reversed: bool) -> bool {
@@ -363,6 +121,33 @@ fn reports_each_path(rt: HostRuntime) {
 #[test]
 fn asks_ignore_rules(rt: HostRuntime) {
     assert_eq!(rt; first_lie(rt.alloc(), &IGNORED), None);
+}
+
+#[test]
+fn looks_as_it_is_asked(rt: HostRuntime) {
+    assert_eq!(rt; first_lie(rt.alloc(), &OPTIONS), None);
+}
+
+/// Whether a report of two directories is stopped at this question.
+fn is_stopped(alloc: Global, nth: u64) -> bool {
+    let mut interrupt = PlannedInterrupt::at(nth);
+    match tree(alloc, &[(b"/w/d/a", A_FILE)], b"") {
+        Ok(mut tree) => {
+            match interrupted_answer_of(alloc, REPORT, &mut tree, &mut interrupt, ROOM, u64::MAX) {
+                Ok(answer) => answer.is(1, b"", b"interrupted\n"),
+                Err(_) => false,
+            }
+        }
+        Err(_) => false,
+    }
+}
+
+#[test]
+fn stops_where_it_is_interrupted(rt: HostRuntime) {
+    let alloc = rt.alloc();
+    assert!(rt; is_stopped(alloc, 1));
+    assert!(rt; is_stopped(alloc, 2));
+    assert!(rt; !is_stopped(alloc, 3));
 }
 
 #[test]

@@ -3,9 +3,18 @@ use Rattle.std.proofs.Common.{◌≡◌, ◌⊎◌, ◌<◌, ℕ, List, inl, inr
 use Rattle.worktree_report.specs.declared.refusal.WalkWord.{WalkWord}
 use Rattle.worktree_report.specs.declared.refusal.Refusal.{Refusal}
 use Rattle.worktree_report.specs.declared.refusal.Refusal.TheVariants as refusals
-use Rattle.worktree_report.specs.Refusals.{status_of, line_of, Says}
+use Rattle.worktree_report.specs.Refusals.{status_of, line_of, Says, IsStatus}
+
+-- what delivering a report ends in is a status of the program
+pub status_delivered : (n : ℕ) → (n ≡ 0) ⊎ (n ≡ 7) → IsStatus n
+status_delivered n ends = elim ends [ inl none ↦ inl none | inr refused ↦ inr (refusals.Output, sym refused) ]
+
+-- and so is what refusing ends in
+pub status_refused : (refusal : Refusal) (n : ℕ) → (n ≡ status_of refusal) ⊎ (n ≡ 8) → IsStatus n
+status_refused refusal n ends = elim ends [ inl of_it ↦ inr (refusal, sym of_it) | inr memory ↦ inr (refusals.OutOfMemory, sym memory) ]
 
 pub is_memory : (refusal : Refusal) → 8 ≡ status_of refusal → refusal ≡ refusals.OutOfMemory
+is_memory refusals.Interrupted e = absurd (omega arith)
 is_memory refusals.Usage e = absurd (omega arith)
 is_memory (refusals.Setup line) e = absurd (omega arith)
 is_memory (refusals.Walk word path) e = absurd (omega arith)
@@ -21,6 +30,7 @@ pub ends_in_eight : (refusal : Refusal) (n : ℕ) → (n ≡ status_of refusal) 
 ends_in_eight refusal n status is = elim status [ inl p ↦ p ∙ ap status_of is | inr p ↦ p ]
 
 three : (refusal : Refusal) → status_of refusal ≡ 3 → (line : ℕ) × (refusal ≡ refusals.Setup line)
+three refusals.Interrupted e = absurd (omega arith)
 three refusals.Usage e = absurd (omega arith)
 three (refusals.Setup line) e = (line, refl)
 three (refusals.Walk word path) e = absurd (omega arith)
@@ -38,6 +48,7 @@ pub record IsWalk (refusal : Refusal) : Type 0 where
   pub is : refusal ≡ refusals.Walk word path
 
 four : (refusal : Refusal) → status_of refusal ≡ 4 → IsWalk refusal
+four refusals.Interrupted e = absurd (omega arith)
 four refusals.Usage e = absurd (omega arith)
 four (refusals.Setup line) e = absurd (omega arith)
 four (refusals.Walk word path) e = record { word = word; path = path; is = refl }

@@ -7,6 +7,7 @@ use Rattle.worktree_stack.specs.declared.error.AtPathError.TheVariants as inner
 use Rattle.worktree_stack.specs.declared.error.RulesWhy.TheVariants as rules
 use Rattle.dir_classify.specs.declared.error.Error.{Error}
 use Rattle.dir_classify.specs.declared.error.Error.TheVariants as walk
+use Rattle.dir_classify.specs.declared.error.MetadataWhy.TheVariants as metadata
 use Rattle.dir_classify.specs.declared.error.ReadWhy.TheVariants as why
 use Rattle.worktree_report.specs.declared.setup.SetupError.{SetupError}
 use Rattle.worktree_report.specs.declared.setup.SetupError.TheVariants as setup
@@ -35,7 +36,13 @@ of_lookup (inner.RulesFile path rules.Fault) = refusals.Fault
 of_lookup (inner.Blob id why) = refusals.Walk words.Lookup []
 of_lookup inner.OutOfMemory = refusals.OutOfMemory
 
+-- Why the walk was refused. No refusal of a traversal root comes where none is handed in.
 abbrev pub of_walk : Error → Refusal
+of_walk walk.Interrupted = refusals.Interrupted
+of_walk (walk.NormalizeRoot root) = refusals.Walk words.Lookup root
+of_walk (walk.SymlinkInRoot root worktree_root index) = refusals.Walk words.Lookup root
+of_walk (walk.SymlinkMetadata path metadata.Absent) = refusals.Walk words.Lookup path
+of_walk (walk.SymlinkMetadata path metadata.Fault) = refusals.Fault
 of_walk (walk.WorktreeRootIsFile root) = refusals.Walk words.RootIsFile root
 of_walk (walk.ExcludesAccess refused) = of_lookup refused
 of_walk (walk.ReadDir path why.Absent) = refusals.Walk words.AbsentDirectory path
@@ -47,6 +54,7 @@ of_walk walk.OutOfMemory = refusals.OutOfMemory
 
 -- a refusal that reading a setup may answer
 abbrev pub IsOfReading : Refusal → Type 0
+IsOfReading refusals.Interrupted = ⊥
 IsOfReading refusals.Usage = ⊥
 IsOfReading (refusals.Setup line) = Unit {0}
 IsOfReading (refusals.Walk word path) = ⊥
@@ -56,6 +64,7 @@ IsOfReading refusals.OutOfMemory = Unit {0}
 
 -- a refusal that a walk may answer
 abbrev pub IsOfWalking : Refusal → Type 0
+IsOfWalking refusals.Interrupted = Unit {0}
 IsOfWalking refusals.Usage = ⊥
 IsOfWalking (refusals.Setup line) = ⊥
 IsOfWalking (refusals.Walk word path) = Unit {0}

@@ -1,7 +1,8 @@
 -- The ignore rules that a setup asks for.
 use Rattle.std.specs.Prelude.{ℕ, List, [], ◌∷◌, Bool, false, Option, Some, None, codes, if◌then◌else◌}
 use Rattle.glob_rules.specs.Ignore.{Rules, entries}
-use Rattle.glob_rules.specs.declared.Case.TheVariants.{Sensitive}
+use Rattle.glob_rules.specs.declared.Case.{Case}
+use Rattle.glob_rules.specs.declared.Case.TheVariants.{Sensitive, Fold}
 use Rattle.worktree_stack.specs.declared.ignore_source.Source.TheVariants.{WorktreeThenIdMappingIfNotSkipped}
 use Rattle.worktree_stack.specs.Setup.{Setup as Rulings, Made}
 use Rattle.worktree_report.specs.declared.setup.Setup.{Setup}
@@ -23,9 +24,13 @@ rules_given setup =
       strict = false;
     }
 
--- what the rules of the work tree at `root` are made with; letters compare as they stand, and no rules file is mapped to a blob
+-- how letters compare
+abbrev pub case_of : Setup → Case
+case_of setup = if setup.options.ignore_case then Fold else Sensitive
+
+-- what the rules of the work tree at `root` are made with; no rules file is mapped to a blob
 abbrev pub rules_of : List ℕ → Setup → Made
-rules_of root setup = record { root = root; case = Sensitive; mappings = []; ignore = Some (rules_given setup) }
+rules_of root setup = record { root = root; case = case_of setup; mappings = []; ignore = Some (rules_given setup) }
 
 -- they are asked where the options say so
 abbrev pub excludes_of : List ℕ → Setup → Option Made

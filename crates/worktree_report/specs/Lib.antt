@@ -6,6 +6,7 @@ pub mod Lines
 pub mod Written
 pub mod SetupFields
 pub mod SetupSeen
+pub mod SetupDepth
 pub mod SetupOptions
 pub mod SetupSaid
 pub mod SetupText

@@ -1,5 +1,5 @@
 -- The lines of a report.
-use Rattle.std.specs.Prelude.{ℕ, List, [], ◌∷◌, ◌++◌, codes, Option, Some, None}
+use Rattle.std.specs.Prelude.{ℕ, List, [], ◌∷◌, ◌++◌, Bool, codes, decimal, Option, Some, None, if◌then◌else◌}
 use Rattle.std.specs.List.{flat_map}
 use Rattle.glob_rules.specs.declared.ignore.Kind.TheVariants.{Expendable, Precious}
 use Rattle.dir_classify.specs.declared.entry.Status.{Status}
@@ -10,6 +10,8 @@ use Rattle.dir_classify.specs.declared.entry.PathspecMatch.{PathspecMatch}
 use Rattle.dir_classify.specs.declared.entry.PathspecMatch.TheVariants.{Always, Excluded, Prefix, WildcardMatch, Verbatim}
 use Rattle.dir_classify.specs.declared.entry.Property.{Property}
 use Rattle.dir_classify.specs.declared.entry.Property.TheVariants.{DotGit, EmptyDirectory, EmptyDirectoryAndCWD, TrackedExcluded}
+use Rattle.dir_walk.specs.declared.outcome.Outcome.{Outcome}
+use Rattle.dir_walk.specs.declared.report.Report.{Report}
 use Rattle.dir_walk.specs.Emissions.{Emission}
 use Rattle.worktree_report.specs.Escapes.{escaped}
 
@@ -65,3 +67,12 @@ line_of emission =
 
 abbrev pub lines_of : List Emission → List ℕ
 lines_of emissions = flat_map line_of emissions
+
+-- the last line, which says how many directories were read, how many entries are reported, and how many were met
+abbrev pub outcome_line : Outcome → List ℕ
+outcome_line o =
+    codes "# read_dir " ++ decimal o.read_dir_calls ++ codes " returned " ++ decimal o.returned_entries ++ codes " seen " ++ decimal o.seen_entries ++ 10 ∷ []
+
+-- the text of a report, with the last line or without
+abbrev pub text_with : Bool → Report → List ℕ
+text_with prints r = lines_of r.entries ++ (if prints then outcome_line r.outcome else [])

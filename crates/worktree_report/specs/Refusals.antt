@@ -10,6 +10,7 @@ use Rattle.worktree_report.specs.Written.{Appends}
 
 -- the status that the program ends with
 abbrev pub status_of : Refusal → ℕ
+status_of refusals.Interrupted = 1
 status_of refusals.Usage = 2
 status_of (refusals.Setup line) = 3
 status_of (refusals.Walk word path) = 4
@@ -27,6 +28,7 @@ word_of words.TooDeep = codes "too-deep"
 
 -- the line on standard error, its line feed included
 abbrev pub line_of : Refusal → List ℕ
+line_of refusals.Interrupted = codes "interrupted\n"
 line_of refusals.Usage = codes "usage: report ROOT SETUP or generate N\n"
 line_of (refusals.Setup line) = codes "setup: line " ++ decimal line ++ 10 ∷ []
 line_of (refusals.Walk word path) = codes "walk: " ++ word_of word ++ 32 ∷ [] ++ escaped path ++ 10 ∷ []
@@ -42,6 +44,7 @@ Says before after refusals_before refusals_after line = NotIncreased refusals_be
 abbrev pub is_made : Refusal → Bool
 is_made (refusals.Setup line) = true
 is_made (refusals.Walk word path) = true
+is_made refusals.Interrupted = false
 is_made refusals.Usage = false
 is_made refusals.Fault = false
 is_made refusals.Output = false

@@ -1,21 +1,35 @@
 -- The options of a setup.
-use Rattle.std.specs.Prelude.{ℕ, List, Bool, ◌&&◌, ◌||◌, if◌then◌else◌, codes, Option, Some, None, option_and_then}
+use Rattle.std.specs.Prelude.{ℕ, List, Bool, false, ◌&&◌, ◌||◌, if◌then◌else◌, codes, Option, Some, None, option_and_then, find}
 use Rattle.std.specs.Str.{bytes_eq}
 use Rattle.std.specs.List.{list_any}
 use Rattle.worktree_report.specs.declared.setup.option.SetupOption.{SetupOption}
 use Rattle.worktree_report.specs.SetupFields.{Parted, parted}
 
--- an option that is no or yes
-abbrev pub is_switch : List ℕ → Bool
-is_switch name = bytes_eq name (codes "excludes") || (bytes_eq name (codes "emit_tracked") || bytes_eq name (codes "precious"))
+-- an option that is no or yes, and says how paths are looked at
+abbrev pub is_looking : List ℕ → Bool
+is_looking name =
+    bytes_eq name (codes "excludes")
+    || bytes_eq name (codes "precious")
+    || bytes_eq name (codes "ignore_case")
+    || bytes_eq name (codes "recurse_repositories")
+    || bytes_eq name (codes "classify_untracked_bare_repositories")
+    || bytes_eq name (codes "symlinks_to_directories_are_ignored_like_directories")
 
--- Whether an option may have a value. The first has but one, and the second lacks one, since what that would ask for is
--- not there yet.
+-- an option that is no or yes, and says what is reported
+abbrev pub is_reporting : List ℕ → Bool
+is_reporting name =
+    bytes_eq name (codes "emit_pruned")
+    || bytes_eq name (codes "emit_tracked")
+    || bytes_eq name (codes "emit_empty_directories")
+    || bytes_eq name (codes "print_outcome")
+
+-- Whether an option may have a value. The first two lack one, since what that would ask for is not there yet.
 abbrev pub may_be : List ℕ → List ℕ → Bool
 may_be name value =
-    if bytes_eq name (codes "recurse_repositories") then bytes_eq value (codes "yes")
+    if bytes_eq name (codes "emit_untracked") then bytes_eq value (codes "matching")
     else if bytes_eq name (codes "emit_ignored") then bytes_eq value (codes "no") || bytes_eq value (codes "matching")
-    else is_switch name && (bytes_eq value (codes "no") || bytes_eq value (codes "yes"))
+    else if is_looking name || is_reporting name then bytes_eq value (codes "no") || bytes_eq value (codes "yes")
+    else false
 
 abbrev pub option_if_known : Parted → Option SetupOption
 option_if_known fields = if may_be fields.word fields.rest then Some (record { name = fields.word; value = fields.rest }) else None
@@ -31,3 +45,7 @@ is_set name options = list_any (λ (o : SetupOption). bytes_eq o.name name) opti
 -- whether an option is set to a value
 abbrev pub is_set_to : List ℕ → List ℕ → List SetupOption → Bool
 is_set_to name value options = list_any (λ (o : SetupOption). bytes_eq o.name name && bytes_eq o.value value) options
+
+-- the first option of a name
+abbrev pub option_named : List ℕ → List SetupOption → Option SetupOption
+option_named name options = find (λ (o : SetupOption). bytes_eq o.name name) options

@@ -5,10 +5,13 @@ use Rattle.worktree_fs.specs.Tree.{is_absolute}
 use Rattle.worktree_fs.specs.Paths.{is_dots}
 use Rattle.std.specs.List.{slice_split, list_all, list_any}
 
--- an absolute path without `.` and `..` among the pieces between its slashes, and without NUL
+-- an absolute path without `.` and `..` among the pieces between its slashes
+abbrev pub is_whole_path : List ℕ → Bool
+is_whole_path path = is_absolute path && list_all (λ piece. not (is_dots piece)) (slice_split (λ b. b == 47) path)
+
+-- and without NUL
 abbrev pub is_plain_path : List ℕ → Bool
-is_plain_path path =
-    is_absolute path && (list_all (λ piece. not (is_dots piece)) (slice_split (λ b. b == 47) path) && not (list_any (λ b. b == 0) path))
+is_plain_path path = is_whole_path path && not (list_any (λ b. b == 0) path)
 
 -- what a report is asked for: a worktree root and a setup
 pub record Command : Type 0 where

@@ -3,7 +3,7 @@ ghost use Rattle.std.specs.Prelude.{◌≡◌, ◌∷◌, [], IfOk};
 ghost use Rattle.worktree_stack.specs.Reading.{Sources};
 ghost use Rattle.worktree_stack.specs.Stacked.{IsInStep, made_of};
 ghost use Rattle.dir_classify.specs.Excludes.{made_with, InStepIf};
-ghost use Rattle.worktree_report.specs.Excluding.{rules_in, rules_given, rules_of, excludes_of};
+ghost use Rattle.worktree_report.specs.Excluding.{rules_in, rules_given, case_of, rules_of, excludes_of};
 
 use crate::setup::Setup;
 use gitbase_core::{Bytes, OutOfMemory, PathText};
@@ -38,6 +38,17 @@ fn ignore_of(alloc: Global, setup: &Setup) -> Result<Ignore, OutOfMemory>
     Ignore::new(alloc, overrides, globals, None, source, parse)
 }
 
+/// How letters compare in the rules of a setup.
+fn case_of(setup: &Setup) -> Case
+    ensures { result ≡ case_of setup.now }
+{
+    if setup.options.ignore_case {
+        Case::Fold
+    } else {
+        Case::Sensitive
+    }
+}
+
 /// The rules of a setup below a worktree root, with no directory pushed.
 fn stack_of(alloc: Global, root: &[u8], setup: &Setup) -> Result<Stack, OutOfMemory>
     ensures made { IfOk result (λ stack. made_of stack ≡ rules_of root.now setup.now) }
@@ -48,7 +59,7 @@ fn stack_of(alloc: Global, root: &[u8], setup: &Setup) -> Result<Stack, OutOfMem
         alloc,
         PathText::from_bytes(alloc, root)?,
         State::IgnoreStack(ignore),
-        Case::Sensitive,
+        case_of(setup),
         Bytes::new(alloc),
         Vec::new(alloc),
     ))

@@ -1,10 +1,11 @@
 //! The lines of a report.
-ghost use Rattle.std.specs.Prelude.{◌≡◌, ◌++◌, IfOk, OnOk};
-ghost use Rattle.worktree_report.specs.Lines.{status_word, kind_word, match_word, property_word, collapsed_word, spaced, line_of, lines_of};
+ghost use Rattle.std.specs.Prelude.{◌≡◌, ◌++◌, decimal, IfOk, OnOk};
+ghost use Rattle.worktree_report.specs.Lines.{status_word, kind_word, match_word, property_word, collapsed_word, spaced, line_of, lines_of, outcome_line, text_with};
 ghost use Rattle.dir_walk.specs.Emissions.{emission_of};
 
 use crate::escape::add_escaped;
 use dir_classify::{Entry, Kind, PathspecMatch, Property, Status};
+use dir_walk::{Outcome, Report};
 use gitbase_core::{Bytes, OutOfMemory};
 use glob_rules::ignore;
 use std::alloc::Global;
@@ -94,13 +95,47 @@ fn add_line(text: &mut Vec<u8>, entry: &Entry, collapsed: Option<Status>) -> Res
     Ok(())
 }
 
-/// The lines of the entries, in their order.
-pub fn lines_of(alloc: Global, entries: &[(Entry, Option<Status>)]) -> Result<Bytes, OutOfMemory>
-    ensures { IfOk result (λ text. text ≡ lines_of entries.now) }
+/// Adds the lines of the entries, in their order.
+fn add_lines(text: &mut Vec<u8>, entries: &[(Entry, Option<Status>)]) -> Result<(), OutOfMemory>
+    ensures { OnOk result (text.new.items ≡ text.old.items ++ lines_of entries.now) }
+{
+    for emission in entries {
+        add_line(text, &emission.0, emission.1)?;
+    }
+    Ok(())
+}
+
+/// Adds a decimal number.
+fn add_number(alloc: Global, text: &mut Vec<u8>, number: u64) -> Result<(), OutOfMemory>
+    ensures { OnOk result (text.new.items ≡ text.old.items ++ decimal number) }
+{
+    let digits = format!(in alloc; "{number}")?;
+    text.extend_from_slice(digits.as_bytes())?;
+    Ok(())
+}
+
+/// Adds the line that says how much was walked.
+fn add_outcome(alloc: Global, text: &mut Vec<u8>, outcome: &Outcome) -> Result<(), OutOfMemory>
+    ensures { OnOk result (text.new.items ≡ text.old.items ++ outcome_line outcome.now) }
+{
+    text.extend_from_slice(b"# read_dir ")?;
+    add_number(alloc, text, outcome.read_dir_calls as u64)?;
+    text.extend_from_slice(b" returned ")?;
+    add_number(alloc, text, outcome.returned_entries as u64)?;
+    text.extend_from_slice(b" seen ")?;
+    add_number(alloc, text, outcome.seen_entries as u64)?;
+    text.push(b'\n')?;
+    Ok(())
+}
+
+/// The text of a report, with a last line that says how much was walked where that is asked for.
+pub fn text_of(alloc: Global, report: &Report, print_outcome: bool) -> Result<Bytes, OutOfMemory>
+    ensures { IfOk result (λ text. text ≡ text_with print_outcome report.now) }
 {
     let mut text = Vec::new(alloc);
-    for emission in entries {
-        add_line(&mut text, &emission.0, emission.1)?;
+    add_lines(&mut text, report.entries.as_slice())?;
+    if print_outcome {
+        add_outcome(alloc, &mut text, &report.outcome)?;
     }
     Ok(Bytes::from_vec(text))
 }

@@ -37,10 +37,11 @@ fn deliver<S: Sink, E: Sink>(alloc: Global, text: &[u8], out: &mut S, err: &mut 
 }
 
 /// The text of the report that the words ask for, or why there is none.
-fn report_text<W: Worktree>(
+fn report_text<W: Worktree, I: Interrupt>(
     alloc: Global,
     words: &[Bytes],
     worktree: &mut W,
+    interrupt: &mut I,
 ) -> Result<Bytes, Refusal>
     ensures gives { (t : Names) → W.told worktree.old ≡ Some t
         → NotIncreased (W.faults worktree.old) (W.faults worktree.new)
@@ -51,17 +52,20 @@ fn report_text<W: Worktree>(
     ensures usage { IsErrOf result Refusal.Usage ↔ (command_of words.now ≡ None) }
     ensures setup { (t : Names) → W.told worktree.old ≡ Some t → (line : ℕ)
         → IsErrOf result (Refusal.Setup line) → RefusesSetup t words.now line }
-    ensures walk { (t : Names) → W.told worktree.old ≡ Some t → (word : WalkWord) (path : List ℕ)
-        → IsErrOf result (Refusal.Walk word path)
-        → RefusesWalk t words.now (Increased (W.faults worktree.old)
-        (W.faults worktree.new)) word path }
+    ensures walk { (t : Names) → W.told worktree.old ≡ Some t
+        → NotIncreased (W.faults worktree.old) (W.faults worktree.new)
+        → (word : WalkWord) (path : List ℕ) → IsErrOf result (Refusal.Walk word path)
+        → RefusesWalk t words.now word path }
     ensures about { (word : WalkWord) (path : List ℕ) → IsErrOf result (Refusal.Walk word path)
         → IsAboutWalk words.now word path }
     ensures cause { IsErrOf result Refusal.Fault
         → Increased (W.faults worktree.old) (W.faults worktree.new) }
+    ensures interrupted { IsErrOf result Refusal.Interrupted
+        → Increased (I.raised interrupt.old) (I.raised interrupt.new) }
     ensures no_output { ¬ IsErrOf result Refusal.Output }
     ensures complete { (t : Names) → W.told worktree.old ≡ Some t
-        → NotIncreased (W.faults worktree.old) (W.faults worktree.new) → IsValid t words.now
+        → NotIncreased (W.faults worktree.old) (W.faults worktree.new)
+        → NotIncreased (I.raised interrupt.old) (I.raised interrupt.new) → IsValid t words.now
         → IfErr result (λ refusal. refusal ≡ Refusal.OutOfMemory) }
     ensures tree { W.told worktree.new ≡ W.told worktree.old }
     ensures faults { W.faults worktree.old ≤ W.faults worktree.new }
@@ -69,12 +73,13 @@ fn report_text<W: Worktree>(
     ensures list_faults_kept { OnOk result (W.list_faults worktree.new
         ≡ W.list_faults worktree.old) }
     ensures precomposes { W.precomposes worktree.new ≡ W.precomposes worktree.old }
+    ensures raised { I.raised interrupt.old ≤ I.raised interrupt.new }
 {
     let Some(command) = command_of(words) else {
         return Err(Refusal::Usage);
     };
     let setup = read_setup(alloc, worktree, command.setup)?;
-    walked_text(alloc, worktree, command.root, &setup)
+    walked_text(alloc, worktree, interrupt, command.root, &setup)
 }
 
 /// Answers the words of a command line: writes the report that they ask for to `out`, or says to `err` in one line why
@@ -83,6 +88,7 @@ fn report_text<W: Worktree>(
 /// | status | where |
 /// |---|---|
 /// | 0 | the report was written whole |
+/// | 1 | the interrupt was raised, and counted it |
 /// | 2 | the words are not `report ROOT SETUP` with two absolute paths without `.`, `..` and NUL |
 /// | 3 | the setup is not read as a file, or has a line outside its grammar |
 /// | 4 | the walk was refused |
@@ -90,15 +96,13 @@ fn report_text<W: Worktree>(
 /// | 7 | `out` refused bytes, and counted it |
 /// | 8 | want of memory |
 ///
-/// A walk enters directories with at most 256 components below its root; one that lies deeper refuses it.
-///
 /// With a status other than 0 and 7 nothing goes to `out`. With each status other than 0 one line goes to `err`, with 0
-/// none; a refusal of `err` changes nothing. The interrupt is not asked yet.
+/// none; a refusal of `err` changes nothing. The interrupt is asked before each directory is read.
 pub fn run<W: Worktree, I: Interrupt, S: Sink, E: Sink>(
     alloc: Global,
     words: &[Bytes],
     worktree: &mut W,
-    _interrupt: &mut I,
+    interrupt: &mut I,
     out: &mut S,
     err: &mut E,
 ) -> u8
@@ -122,6 +126,11 @@ pub fn run<W: Worktree, I: Interrupt, S: Sink, E: Sink>(
 
     // Where each status comes, and what it says.
     ensures statuses { IsStatus result }
+    ensures interrupted { result ≡ 1
+        → Increased (I.raised interrupt.old) (I.raised interrupt.new) }
+    ensures interrupted_said { result ≡ 1
+        → Says (E.written err.old) (E.written err.new) (E.refusals err.old) (E.refusals err.new)
+        (line_of Refusal.Interrupted) }
     ensures usage { (result ≡ 2) ↔ (command_of words.now ≡ None) }
     ensures usage_said { result ≡ 2
         → Says (E.written err.old) (E.written err.new) (E.refusals err.old) (E.refusals err.new)
@@ -133,8 +142,8 @@ pub fn run<W: Worktree, I: Interrupt, S: Sink, E: Sink>(
     ensures walk { result ≡ 4 → (word : WalkWord) × (path : List ℕ)
         × IsAboutWalk words.now word path
         × ((t : Names) → W.told worktree.old ≡ Some t
-        → RefusesWalk t words.now (Increased (W.faults worktree.old)
-        (W.faults worktree.new)) word path)
+        → NotIncreased (W.faults worktree.old) (W.faults worktree.new)
+        → RefusesWalk t words.now word path)
         × Says (E.written err.old) (E.written err.new) (E.refusals err.old) (E.refusals err.new)
         (line_of (Refusal.Walk word path)) }
     ensures fault { result ≡ 6 → Increased (W.faults worktree.old) (W.faults worktree.new) }
@@ -152,6 +161,7 @@ pub fn run<W: Worktree, I: Interrupt, S: Sink, E: Sink>(
     // Valid input, over a told tree and with nothing counted.
     ensures complete { (t : Names) → W.told worktree.old ≡ Some t → IsValid t words.now
         → NotIncreased (W.faults worktree.old) (W.faults worktree.new)
+        → NotIncreased (I.raised interrupt.old) (I.raised interrupt.new)
         → NotIncreased (S.refusals out.old) (S.refusals out.new) → (result ≡ 0) ⊎ (result ≡ 8) }
 
     // What stays.
@@ -161,10 +171,9 @@ pub fn run<W: Worktree, I: Interrupt, S: Sink, E: Sink>(
     ensures precomposes { W.precomposes worktree.new ≡ W.precomposes worktree.old }
     ensures out_later { S.refusals out.old ≤ S.refusals out.new }
     ensures err_later { E.refusals err.old ≤ E.refusals err.new }
-    ensures questions { I.questions _interrupt.new ≡ I.questions _interrupt.old }
-    ensures raised { I.raised _interrupt.new ≡ I.raised _interrupt.old }
+    ensures raised { I.raised interrupt.old ≤ I.raised interrupt.new }
 {
-    match report_text(alloc, words, worktree) {
+    match report_text(alloc, words, worktree, interrupt) {
         Ok(text) => deliver(alloc, text.as_bytes(), out, err),
         Err(refusal) => refuse(alloc, &refusal, err),
     }

@@ -28,6 +28,8 @@ pub enum WalkWord {
 /// Why there is no report.
 #[derive(Debug, Drop)]
 pub enum Refusal {
+    /// The interrupt was raised.
+    Interrupted,
     /// The words ask for nothing.
     Usage,
     /// The first line of the setup outside its grammar; 0 where the setup is not read as a file.
@@ -58,6 +60,7 @@ pub fn status_of(refusal: &Refusal) -> u8
     ensures { result ≡ status_of refusal.now }
 {
     match refusal {
+        Refusal::Interrupted => 1,
         Refusal::Usage => 2,
         Refusal::Setup { line: _ } => 3,
         Refusal::Walk { word: _, path: _ } => 4,
@@ -113,6 +116,7 @@ fn fixed_line(refusal: &Refusal) -> &'static [u8]
     ensures { is_made refusal.now ≡ false → result.now ≡ line_of refusal.now }
 {
     match refusal {
+        Refusal::Interrupted => b"interrupted\n",
         Refusal::Usage => b"usage: report ROOT SETUP or generate N\n",
         Refusal::Fault => b"worktree fault\n",
         Refusal::Output => b"output fault\n",
@@ -130,6 +134,7 @@ fn made_line(alloc: Global, refusal: &Refusal) -> Result<Option<Bytes>, OutOfMem
     match refusal {
         Refusal::Setup { line } => Ok(Some(setup_line(alloc, *line)?)),
         Refusal::Walk { word, path } => Ok(Some(walk_line(alloc, *word, path.as_bytes())?)),
+        Refusal::Interrupted => Ok(None),
         Refusal::Usage => Ok(None),
         Refusal::Fault => Ok(None),
         Refusal::Output => Ok(None),

@@ -3,7 +3,7 @@ ghost use Rattle.std.specs.Prelude.{◌≡◌, ◌==◌, not, option_map, None};
 ghost use Rattle.std.specs.List.{slice_split, list_all, list_any};
 ghost use Rattle.worktree_fs.specs.Tree.{is_absolute};
 ghost use Rattle.worktree_fs.specs.Paths.{is_dots};
-ghost use Rattle.worktree_report.specs.Words.{is_plain_path, command_of};
+ghost use Rattle.worktree_report.specs.Words.{is_whole_path, is_plain_path, command_of};
 ghost use Rattle.worktree_report.specs.Named.{paths_of};
 
 use gitbase_core::Bytes;
@@ -42,11 +42,18 @@ fn has_nul(path: &[u8]) -> bool
     path.iter().any(|b| *b == 0)
 }
 
-/// Whether a path is absolute, has no `.` and `..` between its slashes, and no NUL.
+/// Whether a path is absolute, and has no `.` and `..` between its slashes.
+pub fn is_whole_path(path: &[u8]) -> bool
+    ensures { result ≡ is_whole_path path.now }
+{
+    is_absolute(path) && has_no_dots(path)
+}
+
+/// The same of one without NUL.
 pub fn is_plain_path(path: &[u8]) -> bool
     ensures { result ≡ is_plain_path path.now }
 {
-    is_absolute(path) && has_no_dots(path) && !has_nul(path)
+    is_whole_path(path) && !has_nul(path)
 }
 
 /// What the words ask for: `report ROOT SETUP`, with two plain paths. None for any other words.

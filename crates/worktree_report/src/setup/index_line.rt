@@ -1,6 +1,6 @@
 //! The lines of a setup that give the index.
 ghost use Rattle.std.specs.Prelude.{◌≡◌, option_map, IfOk};
-ghost use Rattle.worktree_report.specs.SetupIndex.{mode_of, stage_of, flags_of, id_of, index_words, entry_in, index_entry};
+ghost use Rattle.worktree_report.specs.SetupIndex.{mode_of, stage_of, flags_of, several_flags_of, id_of, index_words, entry_in, index_entry};
 ghost use Rattle.worktree_report.specs.SetupSeen.{words_seen};
 
 use crate::escape::unescaped;
@@ -27,6 +27,10 @@ fn mode_of(word: &[u8]) -> Option<Mode>
         Some(Mode::FILE_EXECUTABLE)
     } else if word == b"120000".as_slice() {
         Some(Mode::SYMLINK)
+    } else if word == b"160000".as_slice() {
+        Some(Mode::COMMIT)
+    } else if word == b"040000".as_slice() {
+        Some(Mode::DIR)
     } else {
         None
     }
@@ -46,6 +50,29 @@ fn flags_of(word: &[u8]) -> Option<Flags>
 {
     if word == b"-".as_slice() {
         Some(Flags::empty())
+    } else if word == b"u".as_slice() {
+        Some(Flags::UPTODATE)
+    } else if word == b"a".as_slice() {
+        Some(Flags::ASSUME_VALID)
+    } else if word == b"s".as_slice() {
+        Some(Flags::SKIP_WORKTREE)
+    } else {
+        several_flags_of(word)
+    }
+}
+
+/// The flags of a word of several letters.
+fn several_flags_of(word: &[u8]) -> Option<Flags>
+    ensures { result ≡ several_flags_of word.now }
+{
+    if word == b"ua".as_slice() {
+        Some(Flags::UPTODATE.union(Flags::ASSUME_VALID))
+    } else if word == b"us".as_slice() {
+        Some(Flags::UPTODATE.union(Flags::SKIP_WORKTREE))
+    } else if word == b"as".as_slice() {
+        Some(Flags::ASSUME_VALID.union(Flags::SKIP_WORKTREE))
+    } else if word == b"uas".as_slice() {
+        Some(Flags::UPTODATE.union(Flags::ASSUME_VALID.union(Flags::SKIP_WORKTREE)))
     } else {
         None
     }

@@ -1,11 +1,13 @@
 //! What a line of a setup says by itself.
-ghost use Rattle.std.specs.Prelude.{◌≡◌, IfOk};
-ghost use Rattle.worktree_report.specs.SetupText.{is_skipped, rule_line, keyword_line, line_of};
+ghost use Rattle.std.specs.Prelude.{◌≡◌, ◌&&◌, not, is_some, IfOk};
+ghost use Rattle.worktree_report.specs.SetupText.{is_skipped, is_once, once_line, rule_line, keyword_line, line_of};
 ghost use Rattle.worktree_report.specs.SetupSeen.{seen};
 
+use crate::setup::depth::depth_of;
 use crate::setup::field::{Field, parted};
 use crate::setup::index_line::index_entry;
 use crate::setup::option::{SetupOption, option_of};
+use crate::words::is_whole_path;
 use gitbase_core::{Bytes, IndexEntry, OutOfMemory};
 use std::alloc::Global;
 
@@ -14,7 +16,7 @@ use std::alloc::Global;
 pub enum SetupLine {
     /// Nothing: it is empty, or a comment.
     Skipped,
-    /// An option has a value.
+    /// An option has a value, or what may stand once has.
     Sets(SetupOption),
     /// The index has an entry.
     Indexes(IndexEntry),
@@ -42,6 +44,32 @@ fn keyword_line(alloc: Global, fields: Field<'_>) -> Result<Option<SetupLine>, O
     rule_line(alloc, fields)
 }
 
+/// Whether a line is one of those that stand once, and has a value that it may have.
+fn is_once(fields: &Field<'_>) -> bool
+    ensures { result ≡ is_once (seen fields.now) }
+{
+    if fields.word == b"depth".as_slice() {
+        return depth_of(fields.rest).is_some();
+    }
+    if fields.word == b"git_dir".as_slice() || fields.word == b"current_dir".as_slice() {
+        return is_whole_path(fields.rest);
+    }
+    false
+}
+
+/// A line that gives the depth limit or the place of a directory. What it gives is kept as an option under its keyword.
+fn once_line(alloc: Global, fields: Field<'_>) -> Result<Option<SetupLine>, OutOfMemory>
+    ensures { IfOk result (λ line. line ≡ once_line (seen fields.entry)) }
+{
+    if !is_once(&fields) {
+        return Ok(None);
+    }
+    Ok(Some(SetupLine::Sets(SetupOption {
+        name: Bytes::from_slice(alloc, fields.word)?,
+        value: Bytes::from_slice(alloc, fields.rest)?,
+    })))
+}
+
 /// A line that gives an ignore rule.
 fn rule_line(alloc: Global, fields: Field<'_>) -> Result<Option<SetupLine>, OutOfMemory>
     ensures { IfOk result (λ line. line ≡ rule_line (seen fields.entry)) }
@@ -54,7 +82,7 @@ fn rule_line(alloc: Global, fields: Field<'_>) -> Result<Option<SetupLine>, OutO
         let rule = Bytes::from_slice(alloc, fields.rest)?;
         return Ok(Some(SetupLine::GlobalRule(rule)));
     }
-    Ok(None)
+    once_line(alloc, fields)
 }
 
 /// What a line says by itself. None where it says nothing.

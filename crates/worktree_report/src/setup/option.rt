@@ -1,7 +1,7 @@
 //! The options of a setup.
-ghost use Rattle.std.specs.Prelude.{◌≡◌, ◌&&◌, IfOk};
+ghost use Rattle.std.specs.Prelude.{◌≡◌, ◌&&◌, false, option_copied, IfOk};
 ghost use Rattle.std.specs.Str.{bytes_eq};
-ghost use Rattle.worktree_report.specs.SetupOptions.{is_switch, may_be, option_of, is_set, is_set_to};
+ghost use Rattle.worktree_report.specs.SetupOptions.{is_looking, is_reporting, may_be, option_of, is_set, is_set_to, option_named};
 
 use crate::setup::field::parted;
 use gitbase_core::{Bytes, OutOfMemory};
@@ -14,25 +14,40 @@ pub struct SetupOption {
     pub value: Bytes,
 }
 
-/// Whether an option is no or yes.
-fn is_switch(name: &[u8]) -> bool
-    ensures { result ≡ is_switch name.now }
+/// Whether an option is no or yes, and says how paths are looked at.
+fn is_looking(name: &[u8]) -> bool
+    ensures { result ≡ is_looking name.now }
 {
     name == b"excludes".as_slice()
-        || name == b"emit_tracked".as_slice()
         || name == b"precious".as_slice()
+        || name == b"ignore_case".as_slice()
+        || name == b"recurse_repositories".as_slice()
+        || name == b"classify_untracked_bare_repositories".as_slice()
+        || name == b"symlinks_to_directories_are_ignored_like_directories".as_slice()
+}
+
+/// Whether an option is no or yes, and says what is reported.
+fn is_reporting(name: &[u8]) -> bool
+    ensures { result ≡ is_reporting name.now }
+{
+    name == b"emit_pruned".as_slice()
+        || name == b"emit_tracked".as_slice()
+        || name == b"emit_empty_directories".as_slice()
+        || name == b"print_outcome".as_slice()
 }
 
 /// Whether an option may have a value.
 fn may_be(name: &[u8], value: &[u8]) -> bool
     ensures { result ≡ may_be name.now value.now }
 {
-    if name == b"recurse_repositories".as_slice() {
-        value == b"yes".as_slice()
+    if name == b"emit_untracked".as_slice() {
+        value == b"matching".as_slice()
     } else if name == b"emit_ignored".as_slice() {
         value == b"no".as_slice() || value == b"matching".as_slice()
+    } else if is_looking(name) || is_reporting(name) {
+        value == b"no".as_slice() || value == b"yes".as_slice()
     } else {
-        is_switch(name) && (value == b"no".as_slice() || value == b"yes".as_slice())
+        false
     }
 }
 
@@ -70,4 +85,11 @@ pub fn is_set_to(name: &[u8], value: &[u8], options: &[SetupOption]) -> bool
     ensures { result ≡ is_set_to name.now value.now options.now }
 {
     options.iter().any(|option| sets(option, name, value))
+}
+
+/// The first option of this name, or the first line of such a keyword.
+pub fn option_named<'a>(name: &[u8], options: &'a [SetupOption]) -> Option<&'a SetupOption>
+    ensures { option_copied result ≡ option_named name.now options.now }
+{
+    options.iter().find(|option| option.name.as_bytes() == name)
 }

@@ -1,6 +1,6 @@
 use Rattle.std.proofs.Common.{sym, ◌∙◌}
 use Rattle.worktree_report.specs.Named.{paths_of}
-use Rattle.worktree_report.proofs.Runs.{output_of-walked, IsSafe-walked, Rose-before, Quiet-later, RefusesWalkAt-wider}
+use Rattle.worktree_report.proofs.Runs.{output_of-walked, IsSafe-walked, Quiet-later}
 use Rattle.worktree_report.proofs.program.report_text.Goals as goal
 
 pub returns-clause-gives : goal.returns-clause-gives
@@ -10,13 +10,13 @@ returns-clause-gives g c = λ t told quiet.
     (c.walked_text.ensures.gives t (c.in_ok-setup.ensures.tree ∙ told) (Quiet-later _ _ _ c.in_ok-setup.ensures.faults quiet))
 
 pub returns-clause-walk : goal.returns-clause-walk
-returns-clause-walk g c = λ t told word path is.
+returns-clause-walk g c = λ t told quiet word path is.
     record {
       command = paths_of c.in-Some.command;
       setup = c.in_ok-setup.setup;
       named = sym c.in-Some.ensures;
       read = c.in_ok-setup.ensures.gives t told;
-      refused = RefusesWalkAt-wider t _ _ _ _ word path (Rose-before _ _ _ c.in_ok-setup.ensures.faults) (c.walked_text.ensures.refused t (c.in_ok-setup.ensures.tree ∙ told) word path is);
+      refused = c.walked_text.ensures.refused t (c.in_ok-setup.ensures.tree ∙ told) (Quiet-later _ _ _ c.in_ok-setup.ensures.faults quiet) word path is;
     }
 
 pub returns-clause-safe : goal.returns-clause-safe

@@ -1,6 +1,12 @@
 use Rattle.std.proofs.Common.{inr, ap, Err}
-use Rattle.worktree_report.proofs.Statuses.{is_setup, is_walk, ends_in_eight, said_as}
+use Rattle.worktree_report.proofs.Statuses.{status_delivered, status_refused, is_setup, is_walk, ends_in_eight, said_as}
 use Rattle.worktree_report.proofs.program.run.Goals as goal
+
+pub returns-in-Ok-clause-statuses : goal.returns-in-Ok-clause-statuses
+returns-in-Ok-clause-statuses g c = status_delivered c.deliver.result c.deliver.ensures.statuses
+
+pub returns-in-Err-clause-statuses : goal.returns-in-Err-clause-statuses
+returns-in-Err-clause-statuses g c = status_refused c.in-Err.refusal c.refuse.result c.refuse.ensures.status
 
 pub returns-in-Err-clause-setup : goal.returns-in-Err-clause-setup
 returns-in-Err-clause-setup g c = λ three.
@@ -13,10 +19,10 @@ returns-in-Err-clause-walk g c = λ four.
       found.word,
       found.path,
       c.in-Err.ensures.about found.word found.path (ap Err found.is),
-      λ t told. c.in-Err.ensures.walk t told found.word found.path (ap Err found.is),
+      λ t told quiet. c.in-Err.ensures.walk t told quiet found.word found.path (ap Err found.is),
       said_as _ _ _ _ c.in-Err.refusal _ c.refuse.result found.is four c.refuse.ensures.line,
     )
 
 pub returns-in-Err-clause-complete : goal.returns-in-Err-clause-complete
-returns-in-Err-clause-complete g c = λ t told valid quiet _.
-    inr (ends_in_eight c.in-Err.refusal c.refuse.result c.refuse.ensures.status (c.in-Err.ensures.complete t told quiet valid))
+returns-in-Err-clause-complete g c = λ t told valid quiet calm _.
+    inr (ends_in_eight c.in-Err.refusal c.refuse.result c.refuse.ensures.status (c.in-Err.ensures.complete t told quiet calm valid))

@@ -1,0 +1,116 @@
+-- The cases of a class, by the parts that they are made of.
+use Rattle.std.proofs.Common.{◌≡◌, ◌∙◌, ap, sym, subst, ℕ, List, Bool, true, false, Option, None, refl}
+use Rattle.std.specs.Prelude.{if◌then◌else◌, is_none}
+use Rattle.gitbase_core.specs.Path.{joined}
+use Rattle.glob_rules.specs.declared.ignore.Kind.{Kind as IgnoredAs}
+use Rattle.worktree_fs.specs.Paths.{full_path}
+use Rattle.worktree_stack.specs.Reading.{Sources}
+use Rattle.worktree_stack.specs.Setup.{Made}
+use Rattle.dir_classify.specs.declared.classify.Outcome.{Outcome}
+use Rattle.dir_classify.specs.declared.entry.Kind.{Kind}
+use Rattle.dir_classify.specs.declared.entry.PathspecMatch.{PathspecMatch}
+use Rattle.dir_classify.specs.declared.entry.Status.TheVariants.{Pruned, Untracked}
+use Rattle.dir_classify.specs.declared.index.InIndex.{InIndex}
+use Rattle.dir_classify.specs.Chosen.{Chosen}
+use Rattle.dir_classify.specs.Class.{dot_git, match_of, class_in_index, class_indexed, indexed_kind, class_seen, class_ignored, ignored_kind, class_free, class_directory, class_other, class_by_rules, upgraded}
+use Rattle.dir_classify.specs.Evidence.{Evidence, GitAt}
+use Rattle.dir_classify.specs.Faults.{IsJudged, IsSeenAs, read_as}
+use Rattle.dir_classify.specs.Kinds.{holds_names}
+use Rattle.dir_classify.specs.Layers.{Setting, evidence, git_at, indexed_as}
+use Rattle.dir_classify.proofs.Upgrades.{judged-by, judged-unread}
+
+module _ (given : Setting) (made : Option Made) (s : Sources) (path full : List ℕ) (full_is : full ≡ full_path given.root path) (entry : InIndex)
+    (entry_is : entry ≡ indexed_as given path) (kind : Option Kind) (found : Option PathspecMatch) (found_is : found ≡ match_of (evidence given made s) path kind) where
+  abbrev at : GitAt
+  at = git_at s.tree given.current_dir given.git_dir full
+
+  abbrev below : GitAt
+  below = git_at s.tree given.current_dir given.git_dir (joined full dot_git)
+
+  -- what the evidence says of where the path leads
+  at_is : at ≡ (evidence given made s).repository_at path
+  unfolding evidence
+  at_is = ap (git_at s.tree given.current_dir given.git_dir) full_is
+
+  below_is : below ≡ (evidence given made s).repository_in path
+  unfolding evidence
+  below_is = ap (λ (f : List ℕ). git_at s.tree given.current_dir given.git_dir (joined f dot_git)) full_is
+
+  in_index_is : entry ≡ (evidence given made s).in_index path
+  unfolding evidence
+  in_index_is = entry_is
+
+  seen : (see : GitAt → GitAt → Option Kind) (k : Option Kind) → IsSeenAs see at below k → IsSeenAs see ((evidence given made s).repository_at path) ((evidence given made s).repository_in path) k
+  seen see k is = subst (λ (b : GitAt). IsSeenAs see ((evidence given made s).repository_at path) b k) below_is (subst (λ (a : GitAt). IsSeenAs see a below k) at_is is)
+
+  -- a kind that was seen without a fault
+  pub exactly : (see : GitAt → GitAt → Option Kind) (k : Option Kind) → k ≡ see at below → k ≡ see ((evidence given made s).repository_at path) ((evidence given made s).repository_in path)
+  exactly see k is = is ∙ ap (λ (a : GitAt). see a below) at_is ∙ ap (λ (b : GitAt). see ((evidence given made s).repository_at path) b) below_is
+
+  -- from the parts that were found to those of the evidence
+  parts : (make : InIndex → Option PathspecMatch → Outcome) → make entry found ≡ make ((evidence given made s).in_index path) (match_of (evidence given made s) path kind)
+  parts make = ap (λ (e : InIndex). make e found) in_index_is ∙ ap (λ (f : Option PathspecMatch). make ((evidence given made s).in_index path) f) found_is
+
+  pub indexed-class : (k : Option Kind) → k ≡ indexed_kind given.options entry kind at below → class_in_index entry k found ≡ class_indexed given.options (evidence given made s) path kind
+  indexed-class k k_is =
+      ap (λ (x : Option Kind). class_in_index entry x found) (exactly (indexed_kind given.options entry kind) k k_is)
+      ∙ parts (λ e f. class_in_index e (indexed_kind given.options e kind ((evidence given made s).repository_at path) ((evidence given made s).repository_in path)) f)
+
+  pub indexed-judged : (on_disk k : Option Kind) → IsSeenAs (indexed_kind given.options entry kind) at below k
+      → IsJudged (λ _ ev. class_indexed given.options ev path kind) (evidence given made s) path on_disk (class_in_index entry k found)
+  indexed-judged on_disk k is =
+      judged-by (indexed_kind given.options entry kind) (λ x. class_in_index entry x found) (λ _ ev. class_indexed given.options ev path kind) (evidence given made s) path on_disk
+      (λ a b. parts (λ e f. class_in_index e (indexed_kind given.options e kind a b) f)) k (seen (indexed_kind given.options entry kind) k is)
+
+  pub ignored-class : (excluded : IgnoredAs) (k : Option Kind) → k ≡ ignored_kind given.options kind at below
+      → class_seen given.options path excluded entry found k ≡ class_ignored given.options (evidence given made s) path kind excluded
+  ignored-class excluded k k_is =
+      ap (λ (x : Option Kind). class_seen given.options path excluded entry found x) (exactly (ignored_kind given.options kind) k k_is)
+      ∙ parts (λ e f. class_seen given.options path excluded e f (ignored_kind given.options kind ((evidence given made s).repository_at path) ((evidence given made s).repository_in path)))
+
+  pub ignored-judged : (excluded : IgnoredAs) (on_disk k : Option Kind) → IsSeenAs (ignored_kind given.options kind) at below k
+      → IsJudged (λ _ ev. class_ignored given.options ev path kind excluded) (evidence given made s) path on_disk (class_seen given.options path excluded entry found k)
+  ignored-judged excluded on_disk k is =
+      judged-by (ignored_kind given.options kind) (λ x. class_seen given.options path excluded entry found x) (λ _ ev. class_ignored given.options ev path kind excluded) (evidence given made s) path on_disk
+      (λ a b. parts (λ e f. class_seen given.options path excluded e f (ignored_kind given.options kind a b))) k (seen (ignored_kind given.options kind) k is)
+
+  abbrev looked : GitAt → GitAt → Option Kind
+  looked = upgraded given.options.recurse_repositories given.options.classify_untracked_bare_repositories kind
+
+  pub directory-class : (k : Option Kind) → k ≡ looked at below → class_free Untracked entry k found ≡ class_directory given.options (evidence given made s) path kind
+  directory-class k k_is =
+      ap (λ (x : Option Kind). class_free Untracked entry x found) (exactly looked k k_is)
+      ∙ parts (λ e f. class_free Untracked e (looked ((evidence given made s).repository_at path) ((evidence given made s).repository_in path)) f)
+
+  pub directory-judged : (on_disk k : Option Kind) → IsSeenAs looked at below k
+      → IsJudged (λ _ ev. class_directory given.options ev path kind) (evidence given made s) path on_disk (class_free Untracked entry k found)
+  directory-judged on_disk k is =
+      judged-by looked (λ x. class_free Untracked entry x found) (λ _ ev. class_directory given.options ev path kind) (evidence given made s) path on_disk
+      (λ a b. parts (λ e f. class_free Untracked e (looked a b) f)) k (seen looked k is)
+
+  -- anything but a directory, with evidence that says the same of the index and of the path specs
+  other-by : (ev : Evidence) → holds_names kind ≡ false
+      → class_free (if is_none (match_of ev path kind) then Pruned else Untracked) (ev.in_index path) kind (match_of ev path kind) ≡ class_by_rules given.options ev path kind None
+  other-by ev none = sym (shut (holds_names kind) none)
+    where
+      shut : (b : Bool) → b ≡ false → (if b then class_directory given.options ev path kind else class_other ev path kind) ≡ class_other ev path kind
+      shut true e = absurd (cc e)
+      shut false e = refl
+
+  pub other-class : holds_names kind ≡ false → class_free (if is_none found then Pruned else Untracked) entry kind found ≡ class_by_rules given.options (evidence given made s) path kind None
+  other-class none = parts (λ e f. class_free (if is_none f then Pruned else Untracked) e kind f) ∙ other-by (evidence given made s) none
+
+  pub other-judged : holds_names kind ≡ false → (on_disk : Option Kind)
+      → IsJudged (λ _ ev. class_by_rules given.options ev path kind None) (evidence given made s) path on_disk (class_free (if is_none found then Pruned else Untracked) entry kind found)
+  other-judged none on_disk =
+      judged-unread (λ _ ev. class_by_rules given.options ev path kind None) (evidence given made s) path on_disk (class_free (if is_none found then Pruned else Untracked) entry kind found)
+      (parts (λ e f. class_free (if is_none f then Pruned else Untracked) e kind f)
+      ∙ other-by (read_as (evidence given made s) ((evidence given made s).followed path) ((evidence given made s).repository_at path) ((evidence given made s).repository_in path)) none)
+
+-- a directory that no rule excludes
+pub directory-by-rules : (o : Chosen) (ev : Evidence) (path : List ℕ) (kind : Option Kind) → holds_names kind ≡ true → class_directory o ev path kind ≡ class_by_rules o ev path kind None
+directory-by-rules o ev path kind some = sym (open-case (holds_names kind) some)
+  where
+    open-case : (b : Bool) → b ≡ true → (if b then class_directory o ev path kind else class_other ev path kind) ≡ class_directory o ev path kind
+    open-case true e = refl
+    open-case false e = absurd (cc e)

@@ -1,0 +1,29 @@
+use Rattle.std.proofs.Common.{◌≡◌, ◌∙◌, sym, subst}
+use Rattle.gitbase_core.specs.Path.{components}
+use Rattle.worktree_stack.specs.Setup.{excluded_kind}
+use Rattle.worktree_stack.specs.Excludes.{exclude, rule_of, origin_of}
+use Rattle.worktree_stack.specs.Reading.{rulebook}
+use Rattle.worktree_stack.specs.Lookups.{IsLookedUp}
+use Rattle.worktree_stack.specs.Stacked.{Stacked, made_of, IsInStep}
+use Rattle.dir_classify.proofs.Looked.{tells-given, ruling-looked, read-looked}
+use Rattle.dir_classify.proofs.excludes.ruling_by.Goals as goal
+
+pub returns-clause-ruling : goal.returns-clause-ruling
+returns-clause-ruling g c = λ s told step.
+    let looks = c.in_ok-at_path.ensures.looks_up in
+    let tells = tells-given (g.W.Worktree.told c.args.worktree.now) (g.F.Find.holds c.args.objects.now) (made_of c.args.stack.now) s told in
+    let now : Stacked = c.at_path.new.self in
+    let path = c.args.rela_path.now in
+    let in_step = subst (IsInStep s) (sym c.platform-platform.ensures) (looks.in_step s tells step) in
+    let looked_up = subst (λ (p : Stacked). IsLookedUp p (components path)) (sym c.platform-platform.ensures) looks.looked_up in
+    ruling-looked s (made_of c.args.stack.now) now path c.args.is_dir c.excluded_kind.result c.matching_origin.result looks.made (looks.is_dir ∙ c.mode_of.ensures)
+    (subst (λ (p : Stacked). c.excluded_kind.result ≡ excluded_kind (rule_of (exclude (rulebook (made_of p) s) (components path) p.is_dir))) c.platform-platform.ensures
+    (c.excluded_kind.ensures.exclude s in_step path looked_up))
+    (subst (λ (p : Stacked). c.matching_origin.result ≡ origin_of (exclude (rulebook (made_of p) s) (components path) p.is_dir)) c.platform-platform.ensures
+    (c.matching_origin.ensures.exclude s in_step path looked_up))
+
+pub returns-clause-read : goal.returns-clause-read
+returns-clause-read g c = λ s told step.
+    let looks = c.in_ok-at_path.ensures.looks_up in
+    let tells = tells-given (g.W.Worktree.told c.args.worktree.now) (g.F.Find.holds c.args.objects.now) (made_of c.args.stack.now) s told in
+    read-looked s (made_of c.args.stack.now) c.at_path.new.self c.args.rela_path.now c.requires.excludes looks.made (looks.in_step s tells step) looks.looked_up

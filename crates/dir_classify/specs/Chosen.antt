@@ -1,0 +1,83 @@
+-- The options of a walk as definitions see them: with the borrowed set as the list of its paths.
+use Rattle.std.specs.Prelude.{ℕ, Bool, true, false, ◌||◌, List, [], Option, Some, None, option_map}
+use Rattle.dir_classify.specs.declared.options.Options.{Options}
+use Rattle.dir_classify.specs.declared.options.EmissionMode.{EmissionMode}
+use Rattle.dir_classify.specs.declared.options.EmissionMode.TheVariants.{Matching, CollapseDirectory}
+use Rattle.dir_classify.specs.declared.options.CollapsedEntriesEmissionMode.{CollapsedEntriesEmissionMode}
+use Rattle.dir_classify.specs.declared.options.ForDeletionMode.{ForDeletionMode}
+use Rattle.dir_classify.specs.declared.options.ForDeletionMode.TheVariants.{IgnoredDirectoriesCanHideNestedRepositories, FindNonBareRepositoriesInIgnoredDirectories, FindRepositoriesInIgnoredDirectories}
+
+pub record Chosen : Type 0 where
+  pub precompose_unicode : Bool
+  pub ignore_case : Bool
+  pub recurse_repositories : Bool
+  pub emit_pruned : Bool
+  pub emit_ignored : Option EmissionMode
+  pub for_deletion : Option ForDeletionMode
+  pub classify_untracked_bare_repositories : Bool
+  pub emit_tracked : Bool
+  pub emit_untracked : EmissionMode
+  pub emit_empty_directories : Bool
+  pub emit_collapsed : Option CollapsedEntriesEmissionMode
+  pub symlinks_to_directories_are_ignored_like_directories : Bool
+  -- the paths of the worktree set; none where no set is given
+  pub worktrees : List (List ℕ)
+
+-- the paths of a set that may not be given
+abbrev pub paths_in : Option (List (List ℕ)) → List (List ℕ)
+paths_in None = []
+paths_in (Some paths) = paths
+
+unfoldable pub chosen : Options → Chosen
+chosen o =
+    record {
+      precompose_unicode = o.precompose_unicode;
+      ignore_case = o.ignore_case;
+      recurse_repositories = o.recurse_repositories;
+      emit_pruned = o.emit_pruned;
+      emit_ignored = o.emit_ignored;
+      for_deletion = o.for_deletion;
+      classify_untracked_bare_repositories = o.classify_untracked_bare_repositories;
+      emit_tracked = o.emit_tracked;
+      emit_untracked = o.emit_untracked;
+      emit_empty_directories = o.emit_empty_directories;
+      emit_collapsed = o.emit_collapsed;
+      symlinks_to_directories_are_ignored_like_directories = o.symlinks_to_directories_are_ignored_like_directories;
+      worktrees = paths_in (option_map (λ set. set.now.keys) o.worktree_relative_worktree_dirs);
+    }
+
+-- ---- modes
+
+-- a directory may be emitted in place of what lies in it
+abbrev pub collapses : EmissionMode → Bool
+collapses Matching = false
+collapses CollapseDirectory = true
+
+abbrev pub collapses_if : Option EmissionMode → Bool
+collapses_if None = false
+collapses_if (Some mode) = collapses mode
+
+-- directories are folded, if they can be: untracked ones, or ignored ones
+abbrev pub is_folding : Chosen → Bool
+is_folding o = collapses o.emit_untracked || collapses_if o.emit_ignored
+
+-- deletion looks for repositories in ignored directories
+abbrev pub finds_repositories : Option ForDeletionMode → Bool
+finds_repositories None = false
+finds_repositories (Some IgnoredDirectoriesCanHideNestedRepositories) = false
+finds_repositories (Some FindNonBareRepositoriesInIgnoredDirectories) = true
+finds_repositories (Some FindRepositoriesInIgnoredDirectories) = true
+
+-- and for bare ones too
+abbrev pub finds_bare_repositories : Option ForDeletionMode → Bool
+finds_bare_repositories None = false
+finds_bare_repositories (Some IgnoredDirectoriesCanHideNestedRepositories) = false
+finds_bare_repositories (Some FindNonBareRepositoriesInIgnoredDirectories) = false
+finds_bare_repositories (Some FindRepositoriesInIgnoredDirectories) = true
+
+-- deletion does not look into ignored directories, which may hide repositories
+abbrev pub may_hide_repositories : Option ForDeletionMode → Bool
+may_hide_repositories None = false
+may_hide_repositories (Some IgnoredDirectoriesCanHideNestedRepositories) = true
+may_hide_repositories (Some FindNonBareRepositoriesInIgnoredDirectories) = false
+may_hide_repositories (Some FindRepositoriesInIgnoredDirectories) = false

@@ -1,0 +1,54 @@
+-- What a call does that classes the paths on the way to a traversal root.
+use Rattle.std.specs.Prelude.{◌≡◌, ℕ, Bool, true, false, List, ◌++◌, Option, Result, IfOk, IfErr}
+use Rattle.gitbase_core.specs.Path.{components}
+use Rattle.gitbase_core.specs.declared.find.Find.{Ghosts as FindOf}
+use Rattle.worktree_fs.specs.declared.worktree.Worktree.{Ghosts as WorktreeOf}
+use Rattle.worktree_fs.specs.Causes.{NotIncreased, Increased}
+use Rattle.worktree_fs.specs.Kept.{AsksStore}
+use Rattle.worktree_stack.specs.Reading.{Sources}
+use Rattle.worktree_stack.specs.Setup.{Made}
+use Rattle.worktree_stack.specs.Stacked.{Stacked}
+use Rattle.dir_classify.specs.declared.classify.RootOutcome.{RootOutcome}
+use Rattle.dir_classify.specs.declared.error.Error.{Error}
+use Rattle.dir_classify.specs.Excludes.{made_with, TellsIf, InStepIf}
+use Rattle.dir_classify.specs.Kept.{AsksRules, KeepsRules}
+use Rattle.dir_classify.specs.Layers.{Setting, evidence, on_disk}
+use Rattle.dir_classify.specs.Refused.{IsAbout, Refuses, OnFault}
+use Rattle.dir_classify.specs.Way.{Reached, reached}
+
+-- an answer is where the way ended
+abbrev pub reached_by : RootOutcome → Bool → Reached
+reached_by root unread = record { path = root.path; class = root.outcome; in_repository = root.worktree_root_is_repository; whole = root.whole; is_unread = unread }
+
+-- where the way through the components of a traversal root ends, over a tree and a store
+abbrev pub way_to : Setting → Option Made → Sources → List ℕ → Reached
+way_to given made s root = reached given.options (evidence given made s) (λ path. on_disk given s.tree path true) (components root)
+
+-- a path on the way: its components are the first ones of the traversal root
+pub record LeadsTo (root path : List ℕ) : Type 0 where
+  pub rest : List (List ℕ)
+  pub components_are : components root ≡ components path ++ rest
+
+-- it is said of a path on the way
+abbrev pub OnWayTo : List ℕ → (List ℕ → Type 0) → Type 0
+OnWayTo root Said = (path : List ℕ) × LeadsTo root path × Said path
+
+-- What it answers and leaves; a worktree was `w0` and is `w1`, a store was `o0` and is `o1`, and the rules were `old` and are
+-- `new`.
+pub record Reaches {W F : Type 0} (w : WorktreeOf W) (f : FindOf F) (w0 w1 : W) (o0 o1 : F) (old new : Option Stacked)
+    (given : Setting) (root : List ℕ) (result : Result RootOutcome Error) : Type 0 where
+  -- Over a told tree and a told store with which the rules are in step, and without a fault, it is exactly where the way ends,
+  -- and all rules that it needs were read.
+  pub reached : (s : Sources) → TellsIf (w.told w0) (f.holds o0) (made_with old) s → InStepIf s old → NotIncreased (w.faults w0) (w.faults w1)
+      → IfOk result (λ r. reached_by r false ≡ way_to given (made_with old) s root)
+  -- Told or not, the path is one on the way.
+  pub prefix : IfOk result (λ r. LeadsTo root r.path)
+  pub whole : IfOk result (λ r. r.whole ≡ true → components r.path ≡ components root)
+  -- Each refusal has its cause.
+  pub about : IfErr result (λ e. OnWayTo root (λ path. IsAbout (made_with old) path e))
+  pub refused : (s : Sources) → TellsIf (w.told w0) (f.holds o0) (made_with old) s → IfErr result (λ e. OnWayTo root (λ path. Refuses s (made_with old) path e))
+  pub cause : IfErr result (OnFault (Increased (w.faults w0) (w.faults w1)) (Increased (f.faults o0) (f.faults o1)))
+  -- What stays.
+  pub keeps : AsksRules w w0 w1
+  pub store : AsksStore f o0 o1
+  pub rules : KeepsRules w f w0 w1 o0 old new

@@ -1,0 +1,55 @@
+-- The classes on the way from the worktree root to a traversal root.
+use Rattle.std.specs.Prelude.{ℕ, Bool, true, false, ◌||◌, if◌then◌else◌, List, [], ◌∷◌, Option, None}
+use Rattle.gitbase_core.specs.Path.{is_empty, joined}
+use Rattle.dir_classify.specs.declared.entry.Kind.{Kind}
+use Rattle.dir_classify.specs.declared.classify.Outcome.{Outcome}
+use Rattle.dir_classify.specs.Chosen.{Chosen}
+use Rattle.dir_classify.specs.Evidence.{Evidence}
+use Rattle.dir_classify.specs.Kinds.{is_repository}
+use Rattle.dir_classify.specs.Class.{class, asks_unread, enters}
+
+-- The path that was classed last, its class, whether the worktree root is seen as a repository, and whether the path is the
+-- whole traversal root; and whether the rules of some path on the way were asked and cannot be read.
+pub record Reached : Type 0 where
+  pub path : List ℕ
+  pub class : Outcome
+  pub in_repository : Bool
+  pub whole : Bool
+  pub is_unread : Bool
+
+-- the class of a path on the way, by the kind of each path on disk: that is known, and the disk is not asked
+abbrev pub way_class : Chosen → Evidence → (List ℕ → Option Kind) → List ℕ → Outcome
+way_class o ev kind_at path = class o ev path (kind_at path) None
+
+abbrev pub way_unread : Chosen → Evidence → (List ℕ → Option Kind) → List ℕ → Bool
+way_unread o ev kind_at path = asks_unread o ev path (kind_at path) None
+
+-- one path further
+abbrev pub reached_at : Chosen → Evidence → (List ℕ → Option Kind) → Bool → Bool → List ℕ → Reached
+reached_at o ev kind_at in_repository unread path =
+    record { path = path; class = way_class o ev kind_at path; in_repository = in_repository; whole = true; is_unread = unread || way_unread o ev kind_at path }
+
+-- where the way stands, with the rules of all paths on it read
+abbrev pub reached_so : List ℕ → Outcome → Bool → Bool → Reached
+reached_so path c in_repository whole = record { path = path; class = c; in_repository = in_repository; whole = whole; is_unread = false }
+
+-- the way goes on beneath a path
+abbrev pub goes_on : Chosen → List ℕ → Outcome → Bool → Bool
+goes_on o path c in_repository = is_empty path || enters o c in_repository
+
+-- On from a path through the components left, as long as the path reached is one that is entered. Of the worktree root that is not
+-- asked.
+abbrev pub onward : Chosen → Evidence → (List ℕ → Option Kind) → Reached → List (List ℕ) → Reached
+onward o ev kind_at r [] = r
+onward o ev kind_at r (name ∷ names) =
+    if goes_on o r.path r.class r.in_repository
+    then onward o ev kind_at (reached_at o ev kind_at r.in_repository r.is_unread (joined r.path name)) names
+    else record r { whole = false }
+
+-- the worktree root
+abbrev pub reached_root : Chosen → Evidence → (List ℕ → Option Kind) → Reached
+reached_root o ev kind_at = reached_at o ev kind_at (is_repository (way_class o ev kind_at []).disk_kind) false []
+
+-- Where the way from the worktree root through some components ends.
+unfoldable pub reached : Chosen → Evidence → (List ℕ → Option Kind) → List (List ℕ) → Reached
+reached o ev kind_at names = onward o ev kind_at (reached_root o ev kind_at) names

@@ -1,0 +1,118 @@
+//! Whether a path leads to a repository of its own.
+ghost use Rattle.std.specs.Prelude.{◌≡◌, ◌&&◌, true, false, Some, None, IfOk};
+ghost use Rattle.gitbase_core.specs.Path.{joined};
+ghost use Rattle.worktree_fs.specs.Tree.{Names};
+ghost use Rattle.worktree_fs.specs.Causes.{NotIncreased};
+ghost use Rattle.worktree_fs.specs.Kept.{Asks};
+ghost use Rattle.dir_classify.specs.Class.{upgraded, dot_git};
+ghost use Rattle.dir_classify.specs.Evidence.{is_foreign};
+ghost use Rattle.dir_classify.specs.Faults.{IsSeenAs};
+ghost use Rattle.dir_classify.specs.Layers.{git_at};
+
+use crate::entry::Kind;
+use gitbase_core::{OutOfMemory, PathText};
+use std::alloc::Global;
+use worktree_fs::{Worktree, is_git, real_path_is};
+
+/// The kind of a path, or that of a repository where one is found there: where `.git` in it leads to a repository other than
+/// that of the worktree, and with `find_harder` also where the path itself does, as a bare one. Nothing is looked at where
+/// repositories are walked into. As gitoxide's `maybe_upgrade_to_repository`.
+///
+/// `path` is whole; `current_dir` and `git_dir_realpath` are the real paths of the current directory and of the git directory
+/// of the worktree. A fault of a question reads as no repository, or as one that is not the worktree's own, and is counted.
+pub fn maybe_upgrade_to_repository<W: Worktree>(
+    alloc: Global,
+    current_kind: Option<Kind>,
+    find_harder: bool,
+    recurse_repositories: bool,
+    path: &[u8],
+    worktree: &mut W,
+    current_dir: &[u8],
+    git_dir_realpath: &[u8],
+) -> Result<Option<Kind>, OutOfMemory>
+    ensures kind { (t : Names) → W.told worktree.old ≡ Some t
+        → NotIncreased (W.faults worktree.old) (W.faults worktree.new)
+        → IfOk result (λ kind. kind ≡ upgraded recurse_repositories find_harder current_kind
+        (git_at t current_dir.now git_dir_realpath.now path.now)
+        (git_at t current_dir.now git_dir_realpath.now (joined path.now dot_git))) }
+    ensures swallowed { (t : Names) → W.told worktree.old ≡ Some t
+        → IfOk result (IsSeenAs (upgraded recurse_repositories find_harder current_kind)
+        (git_at t current_dir.now git_dir_realpath.now path.now)
+        (git_at t current_dir.now git_dir_realpath.now (joined path.now dot_git))) }
+    ensures keeps { Asks W.Worktree worktree.old worktree.new }
+    ensures reads { recurse_repositories ≡ true → W.reads worktree.new ≡ W.reads worktree.old }
+{
+    if recurse_repositories {
+        return Ok(current_kind);
+    }
+    if is_foreign_if(
+        alloc,
+        find_harder,
+        worktree,
+        path,
+        current_dir,
+        git_dir_realpath,
+    )? {
+        return Ok(Some(Kind::Repository));
+    }
+    let mut git = PathText::from_bytes(alloc, path)?;
+    git.push_component(alloc, b".git")?;
+    if is_foreign(
+        alloc,
+        worktree,
+        git.as_bytes(),
+        current_dir,
+        git_dir_realpath,
+    )? {
+        return Ok(Some(Kind::Repository));
+    }
+    Ok(current_kind)
+}
+
+/// Whether a path leads to a repository other than that of the worktree, if that is asked; false if it is not.
+fn is_foreign_if<W: Worktree>(
+    alloc: Global,
+    asked: bool,
+    worktree: &mut W,
+    path: &[u8],
+    current_dir: &[u8],
+    git_dir_realpath: &[u8],
+) -> Result<bool, OutOfMemory>
+    ensures foreign { (t : Names) → W.told worktree.old ≡ Some t
+        → NotIncreased (W.faults worktree.old) (W.faults worktree.new)
+        → IfOk result (λ is. is ≡ (asked && is_foreign
+        (git_at t current_dir.now git_dir_realpath.now path.now))) }
+    ensures true_only { (t : Names) → W.told worktree.old ≡ Some t → IfOk result (λ is. is ≡ true
+        → (git_at t current_dir.now git_dir_realpath.now path.now).is_git ≡ true) }
+    ensures asked { IfOk result (λ is. is ≡ true → asked ≡ true) }
+    ensures keeps { Asks W.Worktree worktree.old worktree.new }
+{
+    if !asked {
+        return Ok(false);
+    }
+    let is_foreign = is_foreign(alloc, worktree, path, current_dir, git_dir_realpath)?;
+    Ok(is_foreign)
+}
+
+/// Whether a path leads to a repository other than that of the worktree.
+fn is_foreign<W: Worktree>(
+    alloc: Global,
+    worktree: &mut W,
+    path: &[u8],
+    current_dir: &[u8],
+    git_dir_realpath: &[u8],
+) -> Result<bool, OutOfMemory>
+    ensures foreign { (t : Names) → W.told worktree.old ≡ Some t
+        → NotIncreased (W.faults worktree.old) (W.faults worktree.new)
+        → IfOk result (λ is. is ≡ is_foreign
+        (git_at t current_dir.now git_dir_realpath.now path.now)) }
+    ensures true_only { (t : Names) → W.told worktree.old ≡ Some t → IfOk result (λ is. is ≡ true
+        → (git_at t current_dir.now git_dir_realpath.now path.now).is_git ≡ true) }
+    ensures keeps { Asks W.Worktree worktree.old worktree.new }
+{
+    if !is_git(alloc, worktree, path)? {
+        return Ok(false);
+    }
+    let is_own = real_path_is(alloc, worktree, path, current_dir, git_dir_realpath)?;
+    Ok(!is_own)
+}

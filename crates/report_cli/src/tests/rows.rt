@@ -1,0 +1,385 @@
+//! Worktrees with their setups, and what the report of `/w` must answer.
+use worktree_fs::NewNode;
+
+/// Repositories are looked into like other directories.
+pub const REQUIRED: &[u8] = b"option recurse_repositories yes\n";
+
+/// The same, and no ignore rules.
+pub const WITHOUT_RULES: &[u8] = b"option recurse_repositories yes\noption excludes no\n";
+
+/// A worktree, a setup and what the report of `/w` must answer.
+pub struct Row {
+    pub name: &'static str,
+    pub nodes: &'static [(&'static [u8], NewNode<'static>)],
+    pub setup: &'static [u8],
+    pub status: u8,
+    pub out: &'static [u8],
+    pub err: &'static [u8],
+}
+
+pub const A_FILE: NewNode<'static> = NewNode::File(b"");
+
+pub static REPORTS: [Row; 8] = [
+    Row {
+        name: "one file",
+        nodes: &[(b"/w/a", A_FILE)],
+        setup: REQUIRED,
+        status: 0,
+        out: b"untracked file - always - -\ta\n",
+        err: b"",
+    },
+    Row {
+        name: "one file, without rules",
+        nodes: &[(b"/w/a", A_FILE)],
+        setup: WITHOUT_RULES,
+        status: 0,
+        out: b"untracked file - always - -\ta\n",
+        err: b"",
+    },
+    Row {
+        name: "a tracked file beside an untracked one",
+        nodes: &[(b"/w/d/t", A_FILE), (b"/w/d/u", A_FILE)],
+        setup: b"index 100644 0 - - d/t\noption recurse_repositories yes\noption excludes no\noption emit_tracked yes",
+        status: 0,
+        out: b"tracked file file always - -\td/t\nuntracked file - always - -\td/u\n",
+        err: b"",
+    },
+    Row {
+        name: "an empty root",
+        nodes: &[(b"/w", NewNode::Directory)],
+        setup: REQUIRED,
+        status: 0,
+        out: b"",
+        err: b"",
+    },
+    Row {
+        name: "an empty root, without rules",
+        nodes: &[(b"/w", NewNode::Directory)],
+        setup: WITHOUT_RULES,
+        status: 0,
+        out: b"",
+        err: b"",
+    },
+    Row {
+        name: "a root that is a link to a directory",
+        nodes: &[(b"/w", NewNode::Link(b"/x")), (b"/x/a", A_FILE)],
+        setup: REQUIRED,
+        status: 0,
+        out: b"untracked file - always - -\ta\n",
+        err: b"",
+    },
+    Row {
+        name: "a root that is a link to a directory, without rules",
+        nodes: &[(b"/w", NewNode::Link(b"/x")), (b"/x/a", A_FILE)],
+        setup: WITHOUT_RULES,
+        status: 0,
+        out: b"untracked file - always - -\ta\n",
+        err: b"",
+    },
+    Row {
+        name: "names out of order, a link, a pipe, an empty directory, odd bytes, and a repository's own directory",
+        nodes: &[
+            (b"/w/b", NewNode::Link(b"nowhere")),
+            (b"/w/a.c", A_FILE),
+            (b"/w/a/z", A_FILE),
+            (b"/w/a-b", NewNode::Other),
+            (b"/w/empty", NewNode::Directory),
+            (b"/w/.git/HEAD", A_FILE),
+            (b"/w/\tc\\\x7f", A_FILE),
+        ],
+        setup: REQUIRED,
+        status: 0,
+        out: b"untracked file - always - -\t\\09c\\5c\\7f\nuntracked untrackable - always - -\ta-b\nuntracked file - always - -\ta.c\nuntracked file - always - -\ta/z\nuntracked symlink - always - -\tb\n",
+        err: b"",
+    },
+];
+
+pub static IGNORED: [Row; 6] = [
+    Row {
+        name: "a rule and one that takes a path out of it",
+        nodes: &[
+            (b"/w/.gitignore", NewNode::File(b"*.o\n!k.o\n")),
+            (b"/w/a.o", A_FILE),
+            (b"/w/k.o", A_FILE),
+        ],
+        setup: b"option recurse_repositories yes\noption emit_ignored matching\n",
+        status: 0,
+        out: b"untracked file - always - -\t.gitignore\nignored file - always - -\ta.o\nuntracked file - always - -\tk.o\n",
+        err: b"",
+    },
+    Row {
+        name: "the same without ignored paths",
+        nodes: &[
+            (b"/w/.gitignore", NewNode::File(b"*.o\n!k.o\n")),
+            (b"/w/a.o", A_FILE),
+            (b"/w/k.o", A_FILE),
+        ],
+        setup: REQUIRED,
+        status: 0,
+        out: b"untracked file - always - -\t.gitignore\nuntracked file - always - -\tk.o\n",
+        err: b"",
+    },
+    Row {
+        name: "the same without rules",
+        nodes: &[
+            (b"/w/.gitignore", NewNode::File(b"*.o\n!k.o\n")),
+            (b"/w/a.o", A_FILE),
+        ],
+        setup: b"option recurse_repositories yes\noption excludes no\noption emit_ignored matching\n",
+        status: 0,
+        out: b"untracked file - always - -\t.gitignore\nuntracked file - always - -\ta.o\n",
+        err: b"",
+    },
+    Row {
+        name: "a precious file",
+        nodes: &[(b"/w/d/key", A_FILE), (b"/w/d/x", A_FILE)],
+        setup: b"option recurse_repositories yes\nglobal $key\noption precious yes\noption emit_ignored matching\n",
+        status: 0,
+        out: b"precious file - always - -\td/key\nuntracked file - always - -\td/x\n",
+        err: b"",
+    },
+    Row {
+        name: "the same where no rule is precious",
+        nodes: &[(b"/w/d/key", A_FILE), (b"/w/d/x", A_FILE)],
+        setup: b"option recurse_repositories yes\nglobal $key\noption precious no\noption emit_ignored matching\n",
+        status: 0,
+        out: b"untracked file - always - -\td/key\nuntracked file - always - -\td/x\n",
+        err: b"",
+    },
+    Row {
+        name: "overrides above a nested rules file above globals, an excluded directory, and a tracked path in one",
+        nodes: &[
+            (b"/w/build/x", A_FILE),
+            (b"/w/d/.gitignore", NewNode::File(b"!a\nb\nc\n")),
+            (b"/w/d/a", A_FILE),
+            (b"/w/d/b", A_FILE),
+            (b"/w/d/c", A_FILE),
+            (b"/w/v/new", A_FILE),
+            (b"/w/v/t", A_FILE),
+        ],
+        setup: b"option recurse_repositories yes\noption emit_ignored matching\noption emit_tracked yes\nindex 100644 0 - - v/t\nglobal a\nglobal build/\nglobal v/\noverride !b\n",
+        status: 0,
+        out: b"ignored directory - always - -\tbuild\nuntracked file - always - -\td/.gitignore\nuntracked file - always - -\td/a\nuntracked file - always - -\td/b\nignored file - always - -\td/c\nignored file - always - -\tv/new\ntracked file file always - -\tv/t\n",
+        err: b"",
+    },
+];
+
+/// A git directory's files, in a directory `r` of `/w/d`.
+const NESTED: &[(&[u8], NewNode<'static>)] = &[
+    (b"/w/d/a", A_FILE),
+    (
+        b"/w/d/r/.git/HEAD",
+        NewNode::File(b"ref: refs/heads/main\n"),
+    ),
+    (b"/w/d/r/.git/objects", NewNode::Directory),
+    (b"/w/d/r/.git/refs", NewNode::Directory),
+];
+
+pub static OPTIONS: [Row; 12] = [
+    Row {
+        name: "how much was walked",
+        nodes: &[(b"/w/d/a", A_FILE), (b"/w/d/b", A_FILE)],
+        setup: b"option print_outcome yes\n",
+        status: 0,
+        out: b"untracked file - always - -\td/a\nuntracked file - always - -\td/b\n# read_dir 2 returned 2 seen 2\n",
+        err: b"",
+    },
+    Row {
+        name: "a nested repository",
+        nodes: NESTED,
+        setup: b"",
+        status: 0,
+        out: b"untracked file - always - -\td/a\nuntracked repository - always - -\td/r\n",
+        err: b"",
+    },
+    Row {
+        name: "a nested repository that is looked into",
+        nodes: NESTED,
+        setup: REQUIRED,
+        status: 0,
+        out: b"untracked file - always - -\td/a\n",
+        err: b"",
+    },
+    Row {
+        name: "the worktree's own git directory, by another name",
+        nodes: NESTED,
+        setup: b"git_dir /w/d/r/.git\n",
+        status: 0,
+        out: b"untracked file - always - -\td/a\n",
+        err: b"",
+    },
+    Row {
+        name: "an empty directory that is met",
+        nodes: &[(b"/w/e", NewNode::Directory)],
+        setup: b"option print_outcome yes\n",
+        status: 0,
+        out: b"# read_dir 2 returned 0 seen 1\n",
+        err: b"",
+    },
+    Row {
+        name: "an empty directory that is reported",
+        nodes: &[(b"/w/e", NewNode::Directory)],
+        setup: b"option print_outcome yes\noption emit_empty_directories yes\n",
+        status: 0,
+        out: b"untracked directory - always empty -\te\n# read_dir 2 returned 1 seen 1\n",
+        err: b"",
+    },
+    Row {
+        name: "an up-to-date directory that is a link",
+        nodes: &[(b"/x/f", A_FILE), (b"/w/d", NewNode::Link(b"/x"))],
+        setup: b"index 100644 0 u - d/t\n",
+        status: 4,
+        out: b"",
+        err: b"walk: not-a-directory /w/d\n",
+    },
+    Row {
+        name: "a limit that is given",
+        nodes: &[(b"/w/a/b/f", A_FILE)],
+        setup: b"depth 1\n",
+        status: 4,
+        out: b"",
+        err: b"walk: too-deep /w/a/b\n",
+    },
+    Row {
+        name: "a limit of three digits, and the places of directories",
+        nodes: &[(b"/w/a/b/f", A_FILE)],
+        setup: b"depth 100\ngit_dir /g\ncurrent_dir /w\n",
+        status: 0,
+        out: b"untracked file - always - -\ta/b/f\n",
+        err: b"",
+    },
+    Row {
+        name: "a sparse directory",
+        nodes: &[(b"/w/d/f", A_FILE)],
+        setup: b"index 040000 0 - - d/\noption emit_pruned yes\n",
+        status: 0,
+        out: b"pruned directory directory always excluded -\td\n",
+        err: b"",
+    },
+    Row {
+        name: "without regard to the case of letters",
+        nodes: &[(b"/w/d/t", A_FILE)],
+        setup: b"index 100644 0 - - D/t\noption ignore_case yes\noption emit_tracked yes\n",
+        status: 0,
+        out: b"tracked file file always - -\td/t\n",
+        err: b"",
+    },
+    Row {
+        name: "with regard to it",
+        nodes: &[(b"/w/d/t", A_FILE)],
+        setup: b"index 100644 0 - - D/t\noption emit_tracked yes\n",
+        status: 0,
+        out: b"untracked file - always - -\td/t\n",
+        err: b"",
+    },
+];
+
+pub static REFUSALS: [Row; 13] = [
+    Row {
+        name: "a root that is a file",
+        nodes: &[(b"/w", A_FILE)],
+        setup: REQUIRED,
+        status: 4,
+        out: b"",
+        err: b"walk: root-is-file /w\n",
+    },
+    Row {
+        name: "a root that is a file, without rules",
+        nodes: &[(b"/w", A_FILE)],
+        setup: WITHOUT_RULES,
+        status: 4,
+        out: b"",
+        err: b"walk: root-is-file /w\n",
+    },
+    Row {
+        name: "no root",
+        nodes: &[],
+        setup: REQUIRED,
+        status: 4,
+        out: b"",
+        err: b"walk: root-is-file /w\n",
+    },
+    Row {
+        name: "no root, without rules",
+        nodes: &[],
+        setup: WITHOUT_RULES,
+        status: 4,
+        out: b"",
+        err: b"walk: root-is-file /w\n",
+    },
+    Row {
+        name: "a limit above a thousand",
+        nodes: &[(b"/w/a", A_FILE)],
+        setup: b"option excludes no\ndepth 1001\n",
+        status: 3,
+        out: b"",
+        err: b"setup: line 2\n",
+    },
+    Row {
+        name: "a limit that is said again",
+        nodes: &[(b"/w/a", A_FILE)],
+        setup: b"depth 3\ndepth 3\n",
+        status: 3,
+        out: b"",
+        err: b"setup: line 2\n",
+    },
+    Row {
+        name: "a git directory that is not absolute",
+        nodes: &[(b"/w/a", A_FILE)],
+        setup: b"git_dir g\n",
+        status: 3,
+        out: b"",
+        err: b"setup: line 1\n",
+    },
+    Row {
+        name: "an option that is not there",
+        nodes: &[(b"/w/a", A_FILE)],
+        setup: b"option recurse_repositories yes\noption excludes no\noption emit_pruned maybe\n",
+        status: 3,
+        out: b"",
+        err: b"setup: line 3\n",
+    },
+    Row {
+        name: "a way of emitting that is not there",
+        nodes: &[(b"/w/a", A_FILE)],
+        setup: b"global\x20\noption emit_ignored collapse\noption recurse_repositories yes\n",
+        status: 3,
+        out: b"",
+        err: b"setup: line 2\n",
+    },
+    Row {
+        name: "a rule without a space before it",
+        nodes: &[(b"/w/a", A_FILE)],
+        setup: b"global\noption recurse_repositories yes\n",
+        status: 3,
+        out: b"",
+        err: b"setup: line 1\n",
+    },
+    Row {
+        name: "a rules file that is a link to itself",
+        nodes: &[
+            (b"/w/a", A_FILE),
+            (b"/w/.gitignore", NewNode::Link(b".gitignore")),
+        ],
+        setup: REQUIRED,
+        status: 4,
+        out: b"",
+        err: b"walk: rules-file /w/.gitignore\n",
+    },
+    Row {
+        name: "a rules file that is neither file nor directory",
+        nodes: &[(b"/w/a", A_FILE), (b"/w/.gitignore", NewNode::Other)],
+        setup: REQUIRED,
+        status: 4,
+        out: b"",
+        err: b"walk: rules-file /w/.gitignore\n",
+    },
+    Row {
+        name: "index lines that do not ascend, behind a comment and an empty line",
+        nodes: &[(b"/w/a", A_FILE)],
+        setup: b"# two\n\nindex 100644 0 - - b\nindex 100644 0 - - a\n",
+        status: 3,
+        out: b"",
+        err: b"setup: line 4\n",
+    },
+];
