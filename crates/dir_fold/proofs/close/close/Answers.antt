@@ -1,0 +1,29 @@
+use Rattle.std.proofs.Common.{◌≡◌, Some, None, length, ap, sym, subst, ◌∙◌}
+use Rattle.std.specs.Prelude.{option_map}
+use Rattle.dir_classify.specs.declared.entry.Entry.{Entry}
+use Rattle.dir_classify.specs.Chosen.{chosen}
+use Rattle.dir_classify.specs.Entries.{entry_at}
+use Rattle.dir_fold.specs.Emits.{Emits, folded_of, put_within}
+use Rattle.dir_fold.specs.Walked.{holding}
+use Rattle.dir_fold.proofs.Closes.{closes-none, closes-some}
+use Rattle.dir_fold.proofs.close.close.Goals as goal
+
+pub returns-in-None-clause-gives : goal.returns-in-None-clause-gives
+returns-in-None-clause-gives g c = λ ev is.
+    let a = c.args in
+    let o = chosen a.shared.now.options in
+    let none : folded_of o ev a.path.now a.class.now (holding a.held.entries.items a.held.blocked) ≡ None = sym (c.folded.ensures ev is) ∙ ap (option_map (entry_at a.path.now)) c.in-None.is in
+    closes-none o ev a.path.now a.class.now a.held.entries.items a.held.blocked _ _ _ _ none (rw c.deref.ensures.value at c.in_ok-emit_all-in-None.ensures.gives)
+
+pub returns-clause-gives : goal.returns-clause-gives
+returns-clause-gives g c = λ ev is.
+    let a = c.args in
+    let o = chosen a.shared.now.options in
+    let given = g.D.Delegate.given in
+    let items = a.held.entries.items in
+    let f : Entry = c.in_ok-entry-in-Some.entry in
+    let f-is : f ≡ entry_at a.path.now c.in-Some.class = c.in_ok-entry-in-Some.ensures ∙ c.entry_over.ensures in
+    let some : folded_of o ev a.path.now a.class.now (holding items a.held.blocked) ≡ Some f =
+    sym (c.folded.ensures ev is) ∙ ap (option_map (entry_at a.path.now)) c.in-Some.is ∙ ap (λ (e : Entry). Some e) (sym f-is) in
+    let P : Entry → Type 0 = λ e. Emits (given a.delegate.now) (given c.emit_collapsed.new.delegate) a.outcome.now c.emit_collapsed.new.outcome (put_within o e.status items) (length items) 0 in
+    closes-some o ev a.path.now a.class.now items a.held.blocked _ _ _ _ f some (subst P (sym f-is) (rw c.deref-in-Some.ensures.value at c.in_ok-emit_collapsed-in-Some.ensures.gives))

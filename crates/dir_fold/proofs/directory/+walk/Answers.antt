@@ -1,0 +1,486 @@
+use Rattle.std.proofs.Common.{◌≡◌, ◌⊎◌, inl, inr, Bool, ◌<◌, ◌+◌, ◌-◌, ◌&&◌, ℕ, List, None, ap, sym, refl, ◌∙◌, length, arith, eqb-true, true, false, subst}
+use Rattle.std.proofs.lemmas.Result.{IfOk-weaker, IfErr-weaker, on_err_weaker, err_from_is_err_and}
+use Rattle.gitbase_core.specs.Path.{is_empty, joined}
+use Rattle.worktree_fs.specs.Answers.{ListsNames}
+use Rattle.worktree_fs.specs.Causes.{Increased, NotIncreased}
+use Rattle.worktree_fs.specs.Paths.{full_path}
+use Rattle.worktree_fs.specs.Tree.{look}
+use Rattle.dir_classify.specs.declared.error.Error.{Error}
+use Rattle.dir_classify.specs.Chosen.{chosen}
+use Rattle.dir_classify.specs.Class.{class, asks, enters, leaf_class}
+use Rattle.dir_classify.specs.Entries.{entry_at}
+use Rattle.dir_classify.specs.Excludes.{made_with}
+use Rattle.dir_classify.specs.Faults.{IsJudged}
+use Rattle.dir_classify.specs.Layers.{setting_of, evidence, on_disk}
+use Rattle.dir_fold.specs.Given.{OnRefused}
+use Rattle.dir_fold.specs.Placed.{Standing}
+use Rattle.dir_fold.specs.Refused.{Refuses, DirectoryRefuses}
+use Rattle.dir_fold.specs.Report.{depth_of}
+use Rattle.dir_fold.specs.Emits.{Closes, Gives}
+use Rattle.dir_fold.specs.Told.{look_name, look_directory, item_told, directory_told}
+use Rattle.dir_fold.specs.Walked.{closed, holding, empty_directory, leaf}
+use Rattle.dir_fold.proofs.Emitting.{Within-all}
+use Rattle.dir_fold.proofs.Keeping.{KeepsDelegate-same, KeepsDelegate-then, KeepsRules-same, KeepsRules-then, AsksStore-same, AsksStore-then, KeepsTree-then, AsksInterrupt-then}
+use Rattle.dir_fold.proofs.Listed.{HasNames-listed, HasPaths-name, Gives-empty, Gives-listed, part-empty, part-name, part-close}
+use Rattle.dir_fold.proofs.Named.{SoFar-none, SoFar-more}
+use Rattle.dir_fold.proofs.JoinedPaths.{joined-some}
+use Rattle.dir_fold.proofs.Placed.{depth_of-joined}
+use Rattle.dir_fold.proofs.Steps.{IsEvidence-told, telling, Stands-later, Gives-leaf, Gives-directory, Gives-put, HasPaths-told, enter-told, among-asked, part-leaf, part-directory, part-put}
+use Rattle.dir_fold.proofs.Judged.{indexed-unlisted}
+use Rattle.dir_fold.proofs.Refusals.{HasPaths, IsAbout-class, IsAbout-deep, IsInTree-class, IsInTree-open, Refuses-class, Refuses-deep, Refuses-directory, DirectoryRefuses-name, memory-only, refused-any, rose-or, either}
+use Rattle.dir_fold.proofs.directory.+walk.Goals as goal
+
+pub walk_directory-returns-in_err-names-clause-delegate : goal.walk_directory-returns-in_err-names-clause-delegate
+walk_directory-returns-in_err-names-clause-delegate g t c = KeepsDelegate-same
+
+pub walk_directory-returns-in_err-names-clause-caused : goal.walk_directory-returns-in_err-names-clause-caused
+walk_directory-returns-in_err-names-clause-caused g t c =
+    let p = err_from_is_err_and c.from_residual.result c.from_residual.ensures.1 in
+    let stored = g.F.Find.faults c.args.objects.now in
+    rw (p.1, p.2) (record { fault = c.in_err-names.ensures.fault stored stored; interrupt = c.in_err-names.ensures.raised; listed = tt; calm = tt })
+
+pub walk_directory-returns-then-is_empty-clause-gives : goal.walk_directory-returns-then-is_empty-clause-gives
+walk_directory-returns-then-is_empty-clause-gives g t c = λ made s stands quiet default limit level.
+    let a = c.args in
+    let told = g.D.Delegate.given in
+    let o = chosen a.shared.now.options in
+    let given = setting_of g.M.Matcher a.shared.now in
+    let d = a.place.now.path in
+    let ev = evidence given made s in
+    let names = c.in_ok-names.names in
+    let bare : length names ≡ 0 = ap length (sym c.as_slice.ensures) ∙ eqb-true (length c.as_slice.result.now) 0 (sym c.is_empty.ensures ∙ c.if-is_empty.true) in
+    let lists : ListsNames (look_directory given s.tree d) names = rw c.requires.root at (c.in_ok-names.ensures.lists s.tree stands.tree) in
+    let opened = c.in_ok-names.ensures.counted (told a.delegate.now) in
+    let is = IsEvidence-told given made s a.blocked.now stands.blocked_is in
+    let stop = c.close_empty.new.outcome in
+    let after = told c.close_empty.new.delegate in
+    IfOk-weaker c.close_empty.result (λ h. Closes o (empty_directory o ev d a.class.now) (told a.delegate.now) after c.open.new.outcome stop h)
+    (λ h. Gives o limit ev (directory_told given made s d a.class.now) (told a.delegate.now) after a.outcome.now stop h)
+    (λ h closes. Gives-empty given made s d a.class.now names lists bare limit _ _ _ a.outcome.now c.open.new.outcome stop h (omega (arith, level)) opened closes)
+    (rw c.path-path.ensures.path at (c.close_empty.ensures.gives ev is))
+
+pub walk_directory-returns-then-is_empty-clause-part : goal.walk_directory-returns-then-is_empty-clause-part
+walk_directory-returns-then-is_empty-clause-part g t c = λ made s stands quiet default.
+    let a = c.args in
+    let given = setting_of g.M.Matcher a.shared.now in
+    let d = a.place.now.path in
+    let ev = evidence given made s in
+    let names = c.in_ok-names.names in
+    let bare : length names ≡ 0 = ap length (sym c.as_slice.ensures) ∙ eqb-true (length c.as_slice.result.now) 0 (sym c.is_empty.ensures ∙ c.if-is_empty.true) in
+    let lists : ListsNames (look_directory given s.tree d) names = rw c.requires.root at (c.in_ok-names.ensures.lists s.tree stands.tree) in
+    let opened = c.in_ok-names.ensures.counted (g.D.Delegate.given a.delegate.now) in
+    let is = IsEvidence-told given made s a.blocked.now stands.blocked_is in
+    on_err_weaker c.close_empty.result (λ part. part-empty given made s d a.class.now names lists bare _ _ _ a.outcome.now c.open.new.outcome opened part) (rw c.path-path.ensures.path at (c.close_empty.ensures.part ev is))
+
+pub walk_directory-loop-name-init : goal.walk_directory-loop-name-init
+walk_directory-loop-name-init g t c =
+    let a = c.args in
+    let told = g.D.Delegate.given in
+    let given = setting_of g.M.Matcher a.shared.now in
+    record {
+      worktree = let opened = c.open.ensures.worktree in record { tree = opened.tree; faults = opened.faults; list_faults = opened.list_faults; lists = opened.lists; precomposes = opened.precomposes };
+      store = AsksStore-same;
+      rules = KeepsRules-same;
+      interrupt = c.open.ensures.interrupt;
+      asked = c.open.ensures.asked;
+      delegate = KeepsDelegate-same;
+      listed = c.in_ok-names.ensures.listed;
+      calm = c.in_ok-names.ensures.calm;
+      kept_on = refl;
+      so_far = λ made s stands quiet default limit level.
+          rw (c.new-held.ensures.entries, c.new-held.ensures.blocked) (SoFar-none given made s limit a.place.now.path (told a.delegate.now) (told a.delegate.now) a.outcome.now c.open.new.outcome (c.in_ok-names.ensures.counted (told a.delegate.now)));
+    }
+
+pub walk_directory-returns-in_err-handed-clause-part : goal.walk_directory-returns-in_err-handed-clause-part
+walk_directory-returns-in_err-handed-clause-part g t c = λ made s stands quiet default.
+    let a = c.args in
+    let w = g.W.Worktree in
+    let given = setting_of g.M.Matcher a.shared.now in
+    let d = a.place.now.path in
+    let has = HasNames-listed given s.tree d c.as_slice.ensures c.is_empty.ensures c.if-is_empty.false c.as_slice-name-items.ensures c.in_ok-names.ensures.names (rw c.requires.root at (c.in_ok-names.ensures.lists s.tree stands.tree)) in
+    let kept = c.loop-name.invariant in
+    let now = Stands-later given c.loop-name.excludes kept.worktree.tree kept.store.holds kept.rules.made kept.rules.in_step stands in
+    let before : NotIncreased (w.faults a.worktree.now) (w.faults c.loop-name.worktree) = omega (arith, quiet, c.walk_name.ensures.worktree.faults) in
+    let here : NotIncreased (w.faults c.loop-name.worktree) (w.faults c.walk_name.new.worktree) = omega (arith, quiet, kept.worktree.faults) in
+    let so_far = kept.so_far made s stands before default (a.levels + depth_of d) refl in
+    let p = err_from_is_err_and c.from_residual-in_err-handed.result c.from_residual-in_err-handed.ensures.1 in
+    rw p.1 (part-name given made s d a.class.now c.as_slice-name-items.result.now has.lists has.are c.path-path.ensures.plain has.some (a.levels + depth_of d) c.loop-name.name-index c.name-item.result _ _ _ _ _ _ _ c.loop-name-test.true c.name-item.is so_far
+    (rw c.as_bytes.ensures at (c.in_err-handed.ensures.part made s now here (kept.delegate.default ∙ default))))
+
+pub walk_directory-returns-in_err-handed-clause-rules : goal.walk_directory-returns-in_err-handed-clause-rules
+walk_directory-returns-in_err-handed-clause-rules g t c =
+    let kept = c.loop-name.invariant in KeepsRules-then kept.worktree.tree kept.store.holds kept.rules c.walk_name.ensures.rules
+
+pub walk_directory-returns-in_err-handed-clause-delegate : goal.walk_directory-returns-in_err-handed-clause-delegate
+walk_directory-returns-in_err-handed-clause-delegate g t c = KeepsDelegate-then c.loop-name.invariant.delegate c.walk_name.ensures.delegate
+
+pub walk_directory-returns-in_err-take-clause-part : goal.walk_directory-returns-in_err-take-clause-part
+walk_directory-returns-in_err-take-clause-part g t c = λ made s stands quiet default.
+    let a = c.args in
+    let w = g.W.Worktree in
+    let told = g.D.Delegate.given in
+    let o = chosen a.shared.now.options in
+    let given = setting_of g.M.Matcher a.shared.now in
+    let d = a.place.now.path in
+    let ev = evidence given made s in
+    let has = HasNames-listed given s.tree d c.as_slice.ensures c.is_empty.ensures c.if-is_empty.false c.as_slice-name-items.ensures c.in_ok-names.ensures.names (rw c.requires.root at (c.in_ok-names.ensures.lists s.tree stands.tree)) in
+    let kept = c.loop-name.invariant in
+    let now = Stands-later given c.loop-name.excludes kept.worktree.tree kept.store.holds kept.rules.made kept.rules.in_step stands in
+    let before : NotIncreased (w.faults a.worktree.now) (w.faults c.loop-name.worktree) = omega (arith, quiet, c.walk_name.ensures.worktree.faults) in
+    let here : NotIncreased (w.faults c.loop-name.worktree) (w.faults c.walk_name.new.worktree) = omega (arith, quiet, kept.worktree.faults) in
+    let name = c.name-item.result in
+    let gives : Gives o (a.levels + depth_of d) ev (item_told given made s (joined d name)) (told c.loop-name.delegate) (told c.walk_name.new.delegate) c.loop-name.outcome c.walk_name.new.outcome c.in_ok-handed.handed =
+    rw c.as_bytes.ensures at (c.in_ok-handed.ensures.gives made s now here (kept.delegate.default ∙ default) (a.levels + depth_of d) refl) in
+    let so_far = kept.so_far made s stands before default (a.levels + depth_of d) refl in
+    let p = err_from_is_err_and c.from_residual-in_err-take.result c.from_residual-in_err-take.ensures.1 in
+    rw p.1 (part-name given made s d a.class.now c.as_slice-name-items.result.now has.lists has.are c.path-path.ensures.plain has.some (a.levels + depth_of d) c.loop-name.name-index name _ _ _ _ _ _ _ c.loop-name-test.true c.name-item.is so_far (Within-all _ _ _ _ _ _ _ _ gives.emits (λ q. omega arith)))
+
+pub walk_directory-returns-in_err-take-clause-rules : goal.walk_directory-returns-in_err-take-clause-rules
+walk_directory-returns-in_err-take-clause-rules g t c =
+    let kept = c.loop-name.invariant in KeepsRules-then kept.worktree.tree kept.store.holds kept.rules c.walk_name.ensures.rules
+
+pub walk_directory-returns-in_err-take-clause-delegate : goal.walk_directory-returns-in_err-take-clause-delegate
+walk_directory-returns-in_err-take-clause-delegate g t c = KeepsDelegate-then c.loop-name.invariant.delegate c.walk_name.ensures.delegate
+
+pub walk_directory-loop-name-preserved : goal.walk_directory-loop-name-preserved
+walk_directory-loop-name-preserved g t c =
+    let kept = c.loop-name.invariant in
+    record {
+      worktree = KeepsTree-then kept.worktree c.walk_name.ensures.worktree;
+      store = AsksStore-then kept.store c.walk_name.ensures.store;
+      rules = KeepsRules-then kept.worktree.tree kept.store.holds kept.rules c.walk_name.ensures.rules;
+      interrupt = AsksInterrupt-then kept.interrupt c.walk_name.ensures.interrupt;
+      asked = omega (arith, kept.asked, c.walk_name.ensures.asked);
+      delegate = KeepsDelegate-then kept.delegate c.walk_name.ensures.delegate;
+      listed = c.in_ok-handed.ensures.caused.listed ∙ kept.listed;
+      calm = c.in_ok-handed.ensures.caused.calm ∙ kept.calm;
+      kept_on = c.in_ok-handed.ensures.heeds.kept_on ∙ kept.kept_on;
+      so_far = λ made s stands quiet default limit level.
+          let a = c.args in
+          let w = g.W.Worktree in
+          let told = g.D.Delegate.given in
+          let o = chosen a.shared.now.options in
+          let given = setting_of g.M.Matcher a.shared.now in
+          let d = a.place.now.path in
+          let ev = evidence given made s in
+          let now = Stands-later given c.loop-name.excludes kept.worktree.tree kept.store.holds kept.rules.made kept.rules.in_step stands in
+          let before : NotIncreased (w.faults a.worktree.now) (w.faults c.loop-name.worktree) = omega (arith, quiet, c.walk_name.ensures.worktree.faults) in
+          let here : NotIncreased (w.faults c.loop-name.worktree) (w.faults c.walk_name.new.worktree) = omega (arith, quiet, kept.worktree.faults) in
+          let name = c.name-item.result in
+          let gives : Gives o limit ev (item_told given made s (joined d name)) (told c.loop-name.delegate) (told c.walk_name.new.delegate) c.loop-name.outcome c.walk_name.new.outcome c.in_ok-handed.handed =
+          rw c.as_bytes.ensures at (c.in_ok-handed.ensures.gives made s now here (kept.delegate.default ∙ default) limit level) in
+          SoFar-more given made s limit d c.as_slice-name-items.result.now c.loop-name.name-index name _ _ _ _ _ _ _ _ _ _ c.in_ok-handed.handed c.loop-name-test.true c.name-item.is (kept.so_far made s stands before default limit level) gives c.in_ok-take.ensures.entries c.in_ok-take.ensures.blocked;
+    }
+
+pub walk_directory-returns-clause-gives : goal.walk_directory-returns-clause-gives
+walk_directory-returns-clause-gives g t c = λ made s stands quiet default limit level.
+    let a = c.args in
+    let told = g.D.Delegate.given in
+    let o = chosen a.shared.now.options in
+    let given = setting_of g.M.Matcher a.shared.now in
+    let d = a.place.now.path in
+    let ev = evidence given made s in
+    let has = HasNames-listed given s.tree d c.as_slice.ensures c.is_empty.ensures c.if-is_empty.false c.as_slice-name-items.ensures c.in_ok-names.ensures.names (rw c.requires.root at (c.in_ok-names.ensures.lists s.tree stands.tree)) in
+    let held = c.loop-name.held in
+    let is = IsEvidence-told given made s a.blocked.now stands.blocked_is in
+    let after = told c.close.new.delegate in
+    let stop = c.close.new.outcome in
+    IfOk-weaker c.close.result (λ h. Closes o (closed o ev d a.class.now (holding held.entries.items held.blocked)) (told c.loop-name.delegate) after c.loop-name.outcome stop h)
+    (λ h. Gives o limit ev (directory_told given made s d a.class.now) (told a.delegate.now) after a.outcome.now stop h)
+    (λ h closes. Gives-listed given made s d a.class.now c.as_slice-name-items.result.now has.lists has.are c.path-path.ensures.plain has.some limit c.loop-name.name-index (told a.delegate.now) (told c.loop-name.delegate) after a.outcome.now c.loop-name.outcome held.entries.items held.blocked c.loop-name-test.false (c.loop-name.invariant.so_far made s stands quiet default limit level) stop h (omega (arith, level)) closes)
+    (rw c.path-path.ensures.path at (c.close.ensures.gives ev is))
+
+pub walk_directory-returns-clause-part : goal.walk_directory-returns-clause-part
+walk_directory-returns-clause-part g t c = λ made s stands quiet default.
+    let a = c.args in
+    let told = g.D.Delegate.given in
+    let given = setting_of g.M.Matcher a.shared.now in
+    let d = a.place.now.path in
+    let ev = evidence given made s in
+    let has = HasNames-listed given s.tree d c.as_slice.ensures c.is_empty.ensures c.if-is_empty.false c.as_slice-name-items.ensures c.in_ok-names.ensures.names (rw c.requires.root at (c.in_ok-names.ensures.lists s.tree stands.tree)) in
+    let held = c.loop-name.held in
+    let is = IsEvidence-told given made s a.blocked.now stands.blocked_is in
+    let so_far = c.loop-name.invariant.so_far made s stands quiet default (a.levels + depth_of d) refl in
+    on_err_weaker c.close.result (λ part. part-close given made s d a.class.now c.as_slice-name-items.result.now has.lists has.are c.path-path.ensures.plain has.some (a.levels + depth_of d) c.loop-name.name-index (told a.delegate.now) (told c.loop-name.delegate) (told c.close.new.delegate) a.outcome.now c.loop-name.outcome held.entries.items held.blocked c.loop-name-test.false so_far part)
+    (rw c.path-path.ensures.path at (c.close.ensures.part ev is))
+
+pub walk_directory-returns-clause-delegate : goal.walk_directory-returns-clause-delegate
+walk_directory-returns-clause-delegate g t c = KeepsDelegate-then c.loop-name.invariant.delegate c.close.ensures.delegate
+
+pub walk_name-returns-then-is_entered-clause-gives : goal.walk_name-returns-then-is_entered-clause-gives
+walk_name-returns-then-is_entered-clause-gives g t c = λ made s stands quiet default limit level.
+    let a = c.args in
+    let w = g.W.Worktree in
+    let told = g.D.Delegate.given in
+    let o = chosen a.shared.now.options in
+    let given = setting_of g.M.Matcher a.shared.now in
+    let ev = evidence given made s in
+    let d = a.directory.now.path in
+    let q = joined d a.name.now in
+    let p = c.set_child.new.self.path in
+    let at = ap (λ (x : Standing). x.path) c.in_ok-set_child.ensures in
+    let k = c.in_ok-class.class in
+    let asked : NotIncreased (w.faults a.worktree.now) (w.faults c.at.new.worktree) = omega (arith, quiet, c.walk_directory.ensures.worktree.faults) in
+    let here : NotIncreased (w.faults c.at.new.worktree) (w.faults c.walk_directory.new.worktree) = omega (arith, quiet, c.at.ensures.keeps.faults) in
+    let is : k ≡ class o ev p None (on_disk given s.tree p true) = rw (c.path-path.ensures.path, stands.made_is) at (c.in_ok-class.ensures.class s (telling stands) stands.in_step asked) in
+    let read : (asks o ev p None (on_disk given s.tree p true) && ev.is_unread p) ≡ false = rw (c.path-path.ensures.path, stands.made_is) at (c.in_ok-class.ensures.read s (telling stands) stands.in_step asked) in
+    let now = Stands-later given c.at.new.excludes c.at.ensures.keeps.tree c.at.ensures.store.holds c.at.ensures.rules.made c.at.ensures.rules.in_step stands in
+    let some : is_empty p ≡ false = ap is_empty at ∙ joined-some d a.name.now c.requires.name in
+    let into : enters o k false ≡ true = sym (c.is_entered.ensures.entered default) ∙ c.if-is_entered.true in
+    let before = told a.delegate.now in
+    let after = told c.walk_directory.new.delegate in
+    let stop = c.walk_directory.new.outcome in
+    let deeper : (a.levels - 1) + depth_of p ≡ limit = omega (arith, level, c.if-levels-eq0.false, ap depth_of at, depth_of-joined d a.name.now c.requires.name) in
+    IfOk-weaker c.walk_directory.result (λ h. Gives o limit ev (directory_told given made s p k) before after a.outcome.now stop h)
+    (λ h. Gives o limit ev (item_told given made s q) before after a.outcome.now stop h)
+    (λ h gives. Gives-directory given made s p k is q at before after limit a.outcome.now stop h read some into gives)
+    (rw c.is_entered.ensures.given at (c.walk_directory.ensures.gives made s now here (c.is_entered.ensures.default ∙ default) limit deeper))
+
+pub walk_name-returns-then-is_entered-clause-part : goal.walk_name-returns-then-is_entered-clause-part
+walk_name-returns-then-is_entered-clause-part g t c = λ made s stands quiet default.
+    let a = c.args in
+    let w = g.W.Worktree in
+    let o = chosen a.shared.now.options in
+    let given = setting_of g.M.Matcher a.shared.now in
+    let ev = evidence given made s in
+    let d = a.directory.now.path in
+    let q = joined d a.name.now in
+    let p = c.set_child.new.self.path in
+    let at = ap (λ (x : Standing). x.path) c.in_ok-set_child.ensures in
+    let k = c.in_ok-class.class in
+    let asked : NotIncreased (w.faults a.worktree.now) (w.faults c.at.new.worktree) = omega (arith, quiet, c.walk_directory.ensures.worktree.faults) in
+    let here : NotIncreased (w.faults c.at.new.worktree) (w.faults c.walk_directory.new.worktree) = omega (arith, quiet, c.at.ensures.keeps.faults) in
+    let is : k ≡ class o ev p None (on_disk given s.tree p true) = rw (c.path-path.ensures.path, stands.made_is) at (c.in_ok-class.ensures.class s (telling stands) stands.in_step asked) in
+    let now = Stands-later given c.at.new.excludes c.at.ensures.keeps.tree c.at.ensures.store.holds c.at.ensures.rules.made c.at.ensures.rules.in_step stands in
+    let some : is_empty p ≡ false = ap is_empty at ∙ joined-some d a.name.now c.requires.name in
+    let into : enters o k false ≡ true = sym (c.is_entered.ensures.entered default) ∙ c.if-is_entered.true in
+    on_err_weaker c.walk_directory.result (λ part. part-directory given made s p k is q at _ _ some into part)
+    (rw c.is_entered.ensures.given at (c.walk_directory.ensures.part made s now here (c.is_entered.ensures.default ∙ default)))
+
+pub walk_name-returns-clause-gives : goal.walk_name-returns-clause-gives
+walk_name-returns-clause-gives g t c = λ made s stands quiet default limit level.
+    let a = c.args in
+    let w = g.W.Worktree in
+    let told = g.D.Delegate.given in
+    let o = chosen a.shared.now.options in
+    let given = setting_of g.M.Matcher a.shared.now in
+    let ev = evidence given made s in
+    let q = joined a.directory.now.path a.name.now in
+    let p = c.set_child.new.self.path in
+    let at = ap (λ (x : Standing). x.path) c.in_ok-set_child.ensures in
+    let k = c.in_ok-class.class in
+    let asked : NotIncreased (w.faults a.worktree.now) (w.faults c.at.new.worktree) = omega (arith, quiet, c.leaf_class.ensures.worktree.faults) in
+    let here : NotIncreased (w.faults c.at.new.worktree) (w.faults c.leaf_class.new.worktree) = omega (arith, quiet, c.at.ensures.keeps.faults) in
+    let is : k ≡ class o ev p None (on_disk given s.tree p true) = rw (c.path-path.ensures.path, stands.made_is) at (c.in_ok-class.ensures.class s (telling stands) stands.in_step asked) in
+    let read : (asks o ev p None (on_disk given s.tree p true) && ev.is_unread p) ≡ false = rw (c.path-path.ensures.path, stands.made_is) at (c.in_ok-class.ensures.read s (telling stands) stands.in_step asked) in
+    let leaving : enters o k false ≡ false = sym (c.is_entered.ensures.entered default) ∙ c.if-is_entered.false in
+    let z = c.in_ok-class-2.class in
+    let hides : z ≡ leaf_class o ev p k = c.in_ok-class-2.ensures.class made s (c.at.ensures.keeps.tree ∙ stands.tree) here in
+    let before = told a.delegate.now in
+    let after = told c.put_leaf.new.delegate in
+    let stop = c.put_leaf.new.outcome in
+    IfOk-weaker c.put_leaf.result (λ h. Closes o (leaf o (entry_at p z)) before after a.outcome.now stop h)
+    (λ h. Gives o limit ev (item_told given made s q) before after a.outcome.now stop h)
+    (λ h closes. Gives-leaf given made s p k is q at before after limit a.outcome.now stop h read leaving (Gives-put o limit ev p k z before after a.outcome.now stop h hides closes))
+    (rw (c.path-path.ensures.path, c.is_entered.ensures.given) at c.put_leaf.ensures.gives)
+
+pub walk_name-returns-clause-part : goal.walk_name-returns-clause-part
+walk_name-returns-clause-part g t c = λ made s stands quiet default.
+    let a = c.args in
+    let w = g.W.Worktree in
+    let o = chosen a.shared.now.options in
+    let given = setting_of g.M.Matcher a.shared.now in
+    let ev = evidence given made s in
+    let q = joined a.directory.now.path a.name.now in
+    let p = c.set_child.new.self.path in
+    let at = ap (λ (x : Standing). x.path) c.in_ok-set_child.ensures in
+    let k = c.in_ok-class.class in
+    let asked : NotIncreased (w.faults a.worktree.now) (w.faults c.at.new.worktree) = omega (arith, quiet, c.leaf_class.ensures.worktree.faults) in
+    let here : NotIncreased (w.faults c.at.new.worktree) (w.faults c.leaf_class.new.worktree) = omega (arith, quiet, c.at.ensures.keeps.faults) in
+    let is : k ≡ class o ev p None (on_disk given s.tree p true) = rw (c.path-path.ensures.path, stands.made_is) at (c.in_ok-class.ensures.class s (telling stands) stands.in_step asked) in
+    let leaving : enters o k false ≡ false = sym (c.is_entered.ensures.entered default) ∙ c.if-is_entered.false in
+    let z = c.in_ok-class-2.class in
+    let hides : z ≡ leaf_class o ev p k = c.in_ok-class-2.ensures.class made s (c.at.ensures.keeps.tree ∙ stands.tree) here in
+    on_err_weaker c.put_leaf.result (λ part. part-leaf given made s p k is q at _ _ leaving (part-put o ev p k z _ _ hides part))
+    (rw (c.path-path.ensures.path, c.is_entered.ensures.given) at c.put_leaf.ensures.part)
+
+pub walk_directory-returns-in_err-names-clause-about : goal.walk_directory-returns-in_err-names-clause-about
+walk_directory-returns-in_err-names-clause-about g t c = λ limit level.
+    let p = err_from_is_err_and c.from_residual.result c.from_residual.ensures.1 in
+    rw (p.1, p.2) (rw c.requires.root at (c.in_err-names.ensures.about (made_with c.args.excludes.now) limit))
+
+pub walk_directory-returns-in_err-names-clause-found : goal.walk_directory-returns-in_err-names-clause-found
+walk_directory-returns-in_err-names-clause-found g t c = λ s told.
+    let a = c.args in
+    let p = err_from_is_err_and c.from_residual.result c.from_residual.ensures.1 in
+    rw (p.1, p.2) (IsInTree-open (g.F.Find.holds a.objects.now) s (made_with a.excludes.now) _ _ _ (c.in_err-names.ensures.refused s.tree told))
+
+pub walk_directory-returns-in_err-names-clause-refused : goal.walk_directory-returns-in_err-names-clause-refused
+walk_directory-returns-in_err-names-clause-refused g t c = λ made s stands default limit level.
+    let p = err_from_is_err_and c.from_residual.result c.from_residual.ensures.1 in
+    rw (p.1, p.2) (inl (rw c.requires.root at (c.in_err-names.ensures.refused s.tree stands.tree)))
+
+pub walk_directory-returns-then-is_empty-clause-about : goal.walk_directory-returns-then-is_empty-clause-about
+walk_directory-returns-then-is_empty-clause-about g t c = λ limit level.
+    memory-only c.close_empty.result _ tt c.close_empty.ensures.memory
+
+pub walk_directory-returns-then-is_empty-clause-found : goal.walk_directory-returns-then-is_empty-clause-found
+walk_directory-returns-then-is_empty-clause-found g t c = λ s told.
+    memory-only c.close_empty.result _ tt c.close_empty.ensures.memory
+
+pub walk_directory-returns-then-is_empty-clause-refused : goal.walk_directory-returns-then-is_empty-clause-refused
+walk_directory-returns-then-is_empty-clause-refused g t c = λ made s stands default limit level.
+    memory-only c.close_empty.result _ (inl tt) c.close_empty.ensures.memory
+
+pub walk_directory-returns-clause-about : goal.walk_directory-returns-clause-about
+walk_directory-returns-clause-about g t c = λ limit level.
+    memory-only c.close.result _ tt c.close.ensures.memory
+
+pub walk_directory-returns-clause-found : goal.walk_directory-returns-clause-found
+walk_directory-returns-clause-found g t c = λ s told.
+    memory-only c.close.result _ tt c.close.ensures.memory
+
+pub walk_directory-returns-clause-refused : goal.walk_directory-returns-clause-refused
+walk_directory-returns-clause-refused g t c = λ made s stands default limit level.
+    memory-only c.close.result _ (inl tt) c.close.ensures.memory
+
+pub walk_directory-returns-in_err-handed-clause-about : goal.walk_directory-returns-in_err-handed-clause-about
+walk_directory-returns-in_err-handed-clause-about g t c = λ limit level.
+    let p = err_from_is_err_and c.from_residual-in_err-handed.result c.from_residual-in_err-handed.ensures.1 in
+    rw (p.1, p.2) (rw c.loop-name.invariant.rules.made at (c.in_err-handed.ensures.about limit level))
+
+pub walk_directory-returns-in_err-handed-clause-found : goal.walk_directory-returns-in_err-handed-clause-found
+walk_directory-returns-in_err-handed-clause-found g t c = λ s told.
+    let kept = c.loop-name.invariant in
+    let p = err_from_is_err_and c.from_residual-in_err-handed.result c.from_residual-in_err-handed.ensures.1 in
+    rw (p.1, p.2) (rw (kept.store.holds, kept.rules.made) at (c.in_err-handed.ensures.found s (kept.worktree.tree ∙ told)))
+
+pub walk_directory-returns-in_err-handed-clause-refused : goal.walk_directory-returns-in_err-handed-clause-refused
+walk_directory-returns-in_err-handed-clause-refused g t c = λ made s stands default limit level.
+    let a = c.args in
+    let w = g.W.Worktree in
+    let given = setting_of g.M.Matcher a.shared.now in
+    let d = a.place.now.path in
+    let kept = c.loop-name.invariant in
+    let has = HasNames-listed given s.tree d c.as_slice.ensures c.is_empty.ensures c.if-is_empty.false c.as_slice-name-items.ensures c.in_ok-names.ensures.names (rw c.requires.root at (c.in_ok-names.ensures.lists s.tree stands.tree)) in
+    let now = Stands-later given c.loop-name.excludes kept.worktree.tree kept.store.holds kept.rules.made kept.rules.in_step stands in
+    let name = c.name-item.result in
+    let v = item_told given made s (joined d name) in
+    let within = HasPaths-name given made s d a.class.now c.as_slice-name-items.result.now has.lists has.are c.path-path.ensures.plain has.some c.loop-name.name-index name c.loop-name-test.true c.name-item.is in
+    let here : Type 0 = Increased (w.faults c.loop-name.worktree) (w.faults c.walk_name.new.worktree) in
+    let whole : Type 0 = Increased (w.faults a.worktree.now) (w.faults c.walk_name.new.worktree) in
+    let p = err_from_is_err_and c.from_residual-in_err-handed.result c.from_residual-in_err-handed.ensures.1 in
+    rw (p.1, p.2) (DirectoryRefuses-name given made s limit here whole v d a.class.now within (λ rose. omega (arith, rose, kept.worktree.faults)) _ (rw c.as_bytes.ensures at (c.in_err-handed.ensures.refused made s now (kept.delegate.default ∙ default) limit level)))
+
+pub walk_name-returns-in_err-class-clause-about : goal.walk_name-returns-in_err-class-clause-about
+walk_name-returns-in_err-class-clause-about g t c = λ limit level.
+    let a = c.args in
+    let r = err_from_is_err_and c.from_residual-in_err-class.result c.from_residual-in_err-class.ensures.1 in
+    rw (r.1, r.2) (IsAbout-class (made_with a.excludes.now) a.shared.now.worktree_root.now limit c.set_child.new.self.path _ c.path-path.ensures.normal (rw c.path-path.ensures.path at c.in_err-class.ensures.about))
+
+pub walk_name-returns-in_err-class-clause-found : goal.walk_name-returns-in_err-class-clause-found
+walk_name-returns-in_err-class-clause-found g t c = λ s told.
+    let a = c.args in
+    let r = err_from_is_err_and c.from_residual-in_err-class.result c.from_residual-in_err-class.ensures.1 in
+    let made = made_with a.excludes.now in
+    rw (r.1, r.2) (IsInTree-class (g.F.Find.holds a.objects.now) s made c.set_child.new.self.path _ c.path-path.ensures.normal (rw c.path-path.ensures.path at c.in_err-class.ensures.about)
+    (λ known. rw c.path-path.ensures.path at (c.in_err-class.ensures.refused s (record { tree_is = told; objects_are = λ some. known }))))
+
+pub walk_name-returns-in_err-class-clause-refused : goal.walk_name-returns-in_err-class-clause-refused
+walk_name-returns-in_err-class-clause-refused g t c = λ made s stands default limit level.
+    let a = c.args in
+    let w = g.W.Worktree in
+    let given = setting_of g.M.Matcher a.shared.now in
+    let p = c.set_child.new.self.path in
+    let at = ap (λ (x : Standing). x.path) c.in_ok-set_child.ensures in
+    let ev = evidence given made s in
+    let some : is_empty p ≡ false = ap is_empty at ∙ joined-some a.directory.now.path a.name.now c.requires.name in
+    let Asks : Type 0 = asks (chosen a.shared.now.options) ev p None (on_disk given s.tree p true) ≡ true in
+    let failed : Type 0 = Increased (w.faults a.worktree.now) (w.faults c.at.new.worktree) in
+    let r = err_from_is_err_and c.from_residual-in_err-class.result c.from_residual-in_err-class.ensures.1 in
+    let P : List ℕ → Type 0 = λ x. Refuses given made s limit failed (item_told given made s x) c.in_err-class.field-0.0 in
+    rw (r.1, r.2) (subst P at (Refuses-class given made s limit failed Asks (item_told given made s p) p c.in_err-class.field-0.0 c.path-path.ensures.normal (rw (c.path-path.ensures.path, stands.made_is) at c.in_err-class.ensures.about)
+    (rw (c.path-path.ensures.path, stands.made_is) at (c.in_err-class.ensures.refused s (telling stands)))
+    (either (λ quiet. inl (rw (c.path-path.ensures.path, stands.made_is) at (c.in_err-class.ensures.asked s stands.tree quiet))) (λ rose. inr rose) (rose-or (w.faults a.worktree.now) (w.faults c.at.new.worktree)))
+    (among-asked given made s p some)))
+
+pub walk_name-returns-then-levels-eq0-clause-about : goal.walk_name-returns-then-levels-eq0-clause-about
+walk_name-returns-then-levels-eq0-clause-about g t c = λ limit level.
+    let a = c.args in
+    let root = a.shared.now.worktree_root.now in
+    let p = c.set_child.new.self.path in
+    let at = ap (λ (x : Standing). x.path) c.in_ok-set_child.ensures in
+    let base : c.set_child.new.self.root ≡ root = ap (λ (x : Standing). x.root) c.in_ok-set_child.ensures ∙ c.requires.root in
+    let deep : limit < depth_of p = omega (arith, level, c.if-levels-eq0.true, ap depth_of at, depth_of-joined a.directory.now.path a.name.now c.requires.name) in
+    IsAbout-deep (made_with a.excludes.now) root p limit _ _ c.path-path.ensures.normal deep (rw base at c.too_deep.ensures.deep)
+
+pub walk_name-returns-then-levels-eq0-clause-refused : goal.walk_name-returns-then-levels-eq0-clause-refused
+walk_name-returns-then-levels-eq0-clause-refused g t c = λ made s stands default limit level.
+    let a = c.args in
+    let w = g.W.Worktree in
+    let given = setting_of g.M.Matcher a.shared.now in
+    let d = a.directory.now.path in
+    let p = c.set_child.new.self.path in
+    let at = ap (λ (x : Standing). x.path) c.in_ok-set_child.ensures in
+    let base : c.set_child.new.self.root ≡ a.shared.now.worktree_root.now = ap (λ (x : Standing). x.root) c.in_ok-set_child.ensures ∙ c.requires.root in
+    let deep : limit < depth_of p = omega (arith, level, c.if-levels-eq0.true, ap depth_of at, depth_of-joined d a.name.now c.requires.name) in
+    let k = c.in_ok-class.class in
+    let some : is_empty p ≡ false = ap is_empty at ∙ joined-some d a.name.now c.requires.name in
+    let into : enters (chosen a.shared.now.options) k false ≡ true = sym (c.is_entered.ensures.entered default) ∙ c.if-is_entered.true in
+    let exact = λ (quiet : NotIncreased (w.faults a.worktree.now) (w.faults c.at.new.worktree)). (rw (c.path-path.ensures.path, stands.made_is) at (c.in_ok-class.ensures.class s (telling stands) stands.in_step quiet)) in
+    let failed : Type 0 = Increased (w.faults a.worktree.now) (w.faults c.at.new.worktree) in
+    let P : List ℕ → Type 0 = λ x. Refuses given made s limit failed (item_told given made s x) c.too_deep.result in
+    subst P at (Refuses-deep given made s limit failed _ (item_told given made s p) p c.too_deep.result deep
+    (either (λ quiet. inl (enter-told given made s p k (exact quiet) some into)) (λ rose. inr rose) (rose-or (w.faults a.worktree.now) (w.faults c.at.new.worktree))) (rw base at c.too_deep.ensures.deep))
+
+pub walk_name-returns-then-is_entered-clause-about : goal.walk_name-returns-then-is_entered-clause-about
+walk_name-returns-then-is_entered-clause-about g t c = λ limit level.
+    let a = c.args in
+    let at = ap (λ (x : Standing). x.path) c.in_ok-set_child.ensures in
+    let deeper : (a.levels - 1) + depth_of c.set_child.new.self.path ≡ limit = omega (arith, level, c.if-levels-eq0.false, ap depth_of at, depth_of-joined a.directory.now.path a.name.now c.requires.name) in
+    rw c.at.ensures.rules.made at (c.walk_directory.ensures.about limit deeper)
+
+pub walk_name-returns-then-is_entered-clause-found : goal.walk_name-returns-then-is_entered-clause-found
+walk_name-returns-then-is_entered-clause-found g t c = λ s told.
+    rw (c.at.ensures.store.holds, c.at.ensures.rules.made) at (c.walk_directory.ensures.found s (c.at.ensures.keeps.tree ∙ told))
+
+pub walk_name-returns-then-is_entered-clause-refused : goal.walk_name-returns-then-is_entered-clause-refused
+walk_name-returns-then-is_entered-clause-refused g t c = λ made s stands default limit level.
+    let a = c.args in
+    let w = g.W.Worktree in
+    let given = setting_of g.M.Matcher a.shared.now in
+    let d = a.directory.now.path in
+    let q = joined d a.name.now in
+    let p = c.set_child.new.self.path in
+    let at = ap (λ (x : Standing). x.path) c.in_ok-set_child.ensures in
+    let ev = evidence given made s in
+    let k = c.in_ok-class.class in
+    let some : is_empty p ≡ false = ap is_empty at ∙ joined-some d a.name.now c.requires.name in
+    let into : enters (chosen a.shared.now.options) k false ≡ true = sym (c.is_entered.ensures.entered default) ∙ c.if-is_entered.true in
+    let exact = λ (quiet : NotIncreased (w.faults a.worktree.now) (w.faults c.at.new.worktree)). (rw (c.path-path.ensures.path, stands.made_is) at (c.in_ok-class.ensures.class s (telling stands) stands.in_step quiet)) in
+    let now = Stands-later given c.at.new.excludes c.at.ensures.keeps.tree c.at.ensures.store.holds c.at.ensures.rules.made c.at.ensures.rules.in_step stands in
+    let deeper : (a.levels - 1) + depth_of p ≡ limit = omega (arith, level, c.if-levels-eq0.false, ap depth_of at, depth_of-joined d a.name.now c.requires.name) in
+    let inside : Type 0 = Increased (w.faults c.at.new.worktree) (w.faults c.walk_directory.new.worktree) in
+    let failed : Type 0 = Increased (w.faults a.worktree.now) (w.faults c.walk_directory.new.worktree) in
+    let same = ap (λ (b : Bool). look s.tree (full_path given.root p) b) some in
+    let within : HasPaths (directory_told given made s p k) (item_told given made s p) ⊎ failed =
+    either (λ quiet. inl (HasPaths-told given made s p k (exact quiet) some into)) (λ rose. inr (omega (arith, rose, c.walk_directory.ensures.worktree.faults))) (rose-or (w.faults a.worktree.now) (w.faults c.at.new.worktree)) in
+    let judged : IsJudged (λ kind read. class (chosen a.shared.now.options) read p None kind) ev p (on_disk given s.tree p true) k = rw (c.path-path.ensures.path, stands.made_is) at (c.in_ok-class.ensures.swallowed s (telling stands) stands.in_step) in
+    let P : List ℕ → Error → Type 0 = λ x. Refuses given made s limit failed (item_told given made s x) in
+    IfErr-weaker c.walk_directory.result (OnRefused (DirectoryRefuses given made s limit inside p k)) (OnRefused (P q))
+    (refused-any (DirectoryRefuses given made s limit inside p k) (P q)
+    (λ e h. subst (λ (x : List ℕ). P x e) at (Refuses-directory given made s limit inside failed (item_told given made s p) p k e same within (λ rose. omega (arith, rose, c.at.ensures.keeps.faults))
+    (λ why unlisted. indexed-unlisted (chosen a.shared.now.options) ev p (look_name given s.tree p) k why judged into unlisted) h)))
+    (c.walk_directory.ensures.refused made s now (c.is_entered.ensures.default ∙ default) limit deeper)
+
+pub walk_name-returns-clause-about : goal.walk_name-returns-clause-about
+walk_name-returns-clause-about g t c = λ limit level.
+    memory-only c.put_leaf.result _ tt c.put_leaf.ensures.memory
+
+pub walk_name-returns-clause-found : goal.walk_name-returns-clause-found
+walk_name-returns-clause-found g t c = λ s told.
+    memory-only c.put_leaf.result _ tt c.put_leaf.ensures.memory
+
+pub walk_name-returns-clause-refused : goal.walk_name-returns-clause-refused
+walk_name-returns-clause-refused g t c = λ made s stands default limit level.
+    memory-only c.put_leaf.result _ tt c.put_leaf.ensures.memory

@@ -1,0 +1,40 @@
+use Rattle.std.proofs.Common.{◌≡◌, ◌+◌, ◌*◌, ℕ, true, Option, take}
+use Rattle.worktree_fs.specs.Causes.{NotIncreased}
+use Rattle.worktree_fs.specs.Kept.{AsksStore}
+use Rattle.worktree_stack.specs.Setup.{Made}
+use Rattle.worktree_stack.specs.Reading.{Sources}
+use Rattle.dir_classify.specs.Kept.{KeepsRules}
+use Rattle.dir_classify.specs.Layers.{setting_of}
+use Rattle.dir_fold.specs.Kept.{KeepsTree, AsksInterrupt, AsksForEach, KeepsDelegate}
+use Rattle.dir_fold.specs.Report.{depth_of}
+use Rattle.dir_fold.specs.Told.{Stands}
+use Rattle.dir_fold.proofs.Named.{SoFar}
+use Rattle.dir_fold.proofs.directory.+walk.Given as goal
+
+abbrev pub decreases-walk_directory : goal.decreases-walk_directory
+decreases-walk_directory g l = 2 * l.levels + 1
+
+abbrev pub decreases-walk_name : goal.decreases-walk_name
+decreases-walk_name g l = 2 * l.levels
+
+abbrev pub invariant-walk_directory-loop-name : goal.invariant-walk_directory-loop-name
+invariant-walk_directory-loop-name g l =
+    let w = g.W.Worktree in
+    let f = g.F.Find in
+    let i = g.I.Interrupt in
+    let d = g.D.Delegate in
+    let given = setting_of g.M.Matcher l.shared in
+    record {
+      worktree : KeepsTree w l.fn.worktree l.worktree;
+      store : AsksStore f l.fn.objects l.objects;
+      rules : KeepsRules w f l.fn.worktree l.worktree l.fn.objects l.fn.excludes l.excludes;
+      interrupt : AsksInterrupt i l.fn.interrupt l.interrupt;
+      asked : AsksForEach (w.lists l.fn.worktree) (w.lists l.worktree) (i.questions l.fn.interrupt) (i.questions l.interrupt);
+      delegate : KeepsDelegate d l.fn.delegate l.delegate;
+      listed : w.list_faults l.worktree ≡ w.list_faults l.fn.worktree;
+      calm : i.raised l.interrupt ≡ i.raised l.fn.interrupt;
+      kept_on : d.breaks l.delegate ≡ d.breaks l.fn.delegate;
+      so_far : (made : Option Made) (s : Sources) → Stands given (w.told l.fn.worktree) (f.holds l.fn.objects) l.fn.excludes l.blocked made s → NotIncreased (w.faults l.fn.worktree) (w.faults l.worktree)
+          → d.is_default l.fn.delegate ≡ true → (limit : ℕ) → l.levels + depth_of l.place.path ≡ limit
+          → SoFar given made s limit l.place.path (take l.name-index l.name-items) (d.given l.fn.delegate) (d.given l.delegate) l.fn.outcome l.outcome l.held.entries.items l.held.blocked;
+    }

@@ -1,0 +1,14 @@
+use Rattle.std.proofs.Common.{take, ◌≡◌}
+use Rattle.dir_classify.specs.Chosen.{chosen}
+use Rattle.dir_fold.specs.Emits.{Emits, put_within}
+use Rattle.dir_fold.specs.Kept.{KeepsDelegate}
+use Rattle.dir_fold.proofs.emit.emit_collapsed.Given as goal
+
+abbrev pub invariant-loop-entry : goal.invariant-loop-entry
+invariant-loop-entry g l =
+    let d = g.D.Delegate in
+    record {
+      delegate : KeepsDelegate d l.fn.delegate l.delegate;
+      kept_on : d.breaks l.delegate ≡ d.breaks l.fn.delegate;
+      so_far : Emits (d.given l.fn.delegate) (d.given l.delegate) l.fn.outcome l.outcome (put_within (chosen l.options) l.status (take l.entry-index l.held)) l.entry-index 0;
+    }

@@ -1,0 +1,67 @@
+-- What a walk leaves of the interrupt and of the delegate, and how it ends.
+use Rattle.std.specs.Prelude.{◌≡◌, ◌≤◌, ◌-◌, ℕ, true, Result, IfErr, OnOk}
+use Rattle.gitbase_core.specs.declared.find.Find.{Ghosts as FindOf}
+use Rattle.worktree_fs.specs.declared.interrupt.Interrupt.{Ghosts as InterruptOf}
+use Rattle.worktree_fs.specs.declared.worktree.Worktree.{Ghosts as WorktreeOf}
+use Rattle.worktree_fs.specs.Causes.{Increased, with_more}
+use Rattle.dir_classify.specs.declared.error.Error.{Error}
+use Rattle.dir_classify.specs.declared.error.Error.TheVariants as errors
+use Rattle.dir_classify.specs.Refused.{OnFault}
+use Rattle.dir_fold.specs.declared.delegate.Delegate.{Ghosts as DelegateOf}
+use Rattle.dir_fold.specs.declared.handed.Stop.{Stop}
+use Rattle.dir_fold.specs.Given.{Extends, OnRefused, OnBroken}
+
+-- a worktree that was walked
+pub record KeepsTree {W : Type 0} (w : WorktreeOf W) (before now : W) : Type 0 where
+  pub tree : w.told now ≡ w.told before
+  pub faults : w.faults before ≤ w.faults now
+  pub list_faults : w.list_faults before ≤ w.list_faults now
+  pub lists : w.lists before ≤ w.lists now
+  pub precomposes : w.precomposes now ≡ w.precomposes before
+
+-- an interrupt that was asked, or not
+pub record AsksInterrupt {I : Type 0} (i : InterruptOf I) (before now : I) : Type 0 where
+  pub questions : with_more (i.questions before) 0 ≤ i.questions now
+  pub raised : i.raised before ≤ i.raised now
+
+-- the interrupt was asked at least as often as the worktree was listed
+abbrev pub AsksForEach : ℕ → ℕ → ℕ → ℕ → Type 0
+AsksForEach lists0 lists1 questions0 questions1 = with_more questions0 (lists1 - lists0) ≤ questions1
+
+-- a delegate that was given entries
+pub record KeepsDelegate {D : Type 0} (d : DelegateOf D) (before now : D) : Type 0 where
+  pub default : d.is_default now ≡ d.is_default before
+  pub given : Extends (d.given before) (d.given now)
+  pub breaks : d.breaks before ≤ d.breaks now
+
+-- A walk ends where the delegate answers Break, which that then counted and gave last, and only there is it broken off.
+pub record Heeds {D T : Type 0} (d : DelegateOf D) (before now : D) (result : Result T Stop) : Type 0 where
+  pub broken : IfErr result (OnBroken (Increased (d.breaks before) (d.breaks now)))
+  pub stopped : IfErr result (OnBroken (d.is_stopped now ≡ true))
+  pub unbroken : IfErr result (OnRefused (λ _. d.breaks now ≡ d.breaks before))
+  pub kept_on : OnOk result (d.breaks now ≡ d.breaks before)
+
+-- what holds where the interrupt was raised
+abbrev pub OnInterrupt : Type 0 → Error → Type 0
+OnInterrupt Raised errors.Interrupted = Raised
+OnInterrupt Raised (errors.WorktreeRootIsFile root) = Unit {0}
+OnInterrupt Raised (errors.NormalizeRoot root) = Unit {0}
+OnInterrupt Raised (errors.SymlinkInRoot root worktree_root index) = Unit {0}
+OnInterrupt Raised (errors.ExcludesAccess e) = Unit {0}
+OnInterrupt Raised (errors.ReadDir path why) = Unit {0}
+OnInterrupt Raised (errors.DirEntry path) = Unit {0}
+OnInterrupt Raised (errors.SymlinkMetadata path why) = Unit {0}
+OnInterrupt Raised (errors.TooDeep path) = Unit {0}
+OnInterrupt Raised errors.OutOfMemory = Unit {0}
+
+-- Each refusal that a fault or the interrupt caused was counted by them; where there is none, neither a listing failed nor was the
+-- interrupt raised.
+pub record Caused {W F I T : Type 0} (w : WorktreeOf W) (f : FindOf F) (i : InterruptOf I) (w0 w1 : W) (o0 o1 : F) (i0 i1 : I) (result : Result T Stop) : Type 0 where
+  pub fault : IfErr result (OnRefused (OnFault (Increased (w.faults w0) (w.faults w1)) (Increased (f.faults o0) (f.faults o1))))
+  pub interrupt : IfErr result (OnRefused (OnInterrupt (Increased (i.raised i0) (i.raised i1))))
+  pub listed : OnOk result (w.list_faults w1 ≡ w.list_faults w0)
+  pub calm : OnOk result (i.raised i1 ≡ i.raised i0)
+
+-- the one refusal that may come at any time
+abbrev pub WantsMemory : {T : Type 0} → Result T Stop → Type 0
+WantsMemory result = IfErr result (OnRefused (λ e. e ≡ errors.OutOfMemory))
