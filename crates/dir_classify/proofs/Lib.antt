@@ -1,7 +1,12 @@
 mod ByParts
+mod Fitting
 mod Judging
-mod Listed
+mod Keeping
 mod Looked
 mod OnWay
-mod Onward
+pub mod NormalPaths
+pub mod Onward
+pub mod Refusals
+mod Ruled
 mod Upgrades
+mod WayAsked

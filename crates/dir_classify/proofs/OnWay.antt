@@ -1,5 +1,5 @@
 -- The class of a path on the way to a traversal root, whose kind is asked first.
-use Rattle.std.proofs.Common.{◌≡◌, ◌∙◌, ap, sym, ℕ, List, true, false, Option, Some, None, Ok, Err, inl, inr}
+use Rattle.std.proofs.Common.{◌≡◌, ◌≤◌, ◌∙◌, ap, sym, ℕ, List, Bool, true, false, Option, Some, None, Ok, Err, inl, inr}
 use Rattle.std.specs.Prelude.{◌⊎◌, ◌&&◌}
 use Rattle.gitbase_core.specs.declared.find.Find.{Ghosts as FindOf}
 use Rattle.worktree_fs.specs.Causes.{Increased, NotIncreased}
@@ -18,7 +18,8 @@ use Rattle.dir_classify.specs.Evidence.{Evidence}
 use Rattle.dir_classify.specs.Excludes.{made_with, TellsIf}
 use Rattle.dir_classify.specs.Faults.{IsJudged, IsReadKind, read_as}
 use Rattle.dir_classify.specs.Layers.{Setting, evidence, kind_at, on_disk}
-use Rattle.dir_classify.proofs.Judging.{asks-rules, asks-then, at-most-later, at-most-refused, increased-later, quiet-first, quiet-second, tells-then, OnAccess-weaker, OnFault-weaker}
+use Rattle.dir_classify.proofs.Keeping.{asks-rules, asks-then, at-most-later, increased-later, quiet-first, quiet-second, tells-then}
+use Rattle.dir_classify.proofs.Refusals.{OnAccess-weaker, OnFault-weaker}
 
 none-read : (k : Option Kind) → IsReadKind None k → k ≡ None
 none-read k (inl e) = e
@@ -27,7 +28,7 @@ none-read k (inr e) = e
 module _ {W F : Type 0} (w : WorktreeOf W) (f : FindOf F) (w0 w1 w2 : W) (o0 o1 : F) (old new : Option Stacked) (given : Setting) (path full : List ℕ) (kind : Option Kind)
     (full_is : full ≡ full_path given.root path) (first : Asks w w0 w1) (unread : w.reads w1 ≡ w.reads w0)
     (exact : (t : Names) → w.told w0 ≡ Some t → NotIncreased (w.faults w0) (w.faults w1) → kind ≡ kind_at t full false)
-    (swallowed : (t : Names) → w.told w0 ≡ Some t → (kind ≡ kind_at t full false) ⊎ (kind ≡ None)) where
+    (swallowed : (t : Names) → w.told w0 ≡ Some t → (kind ≡ kind_at t full false) ⊎ (kind ≡ None)) (nothing : Evidence → Bool) where
   abbrev known : Option Kind → Evidence → Outcome
   known d ev = class given.options ev path kind d
 
@@ -61,20 +62,25 @@ module _ {W F : Type 0} (w : WorktreeOf W) (f : FindOf F) (w0 w1 w2 : W) (o0 o1 
             ∙ ap (λ (d : Option Kind). class given.options (read_as (evidence given (made_with old) s) judged.followed judged.at judged.below) path kind d) (none-read judged.kind judged.kind_is);
       }
 
-  exactly : (s : Sources) (n2 : ℕ) → w.told w0 ≡ Some s.tree → NotIncreased (w.faults w0) (w.faults w1) → kind ≡ on_disk given s.tree path true
-  exactly s n2 told quiet = exact s.tree told quiet ∙ disk_is s.tree
+  exactly : (s : Sources) → w.told w0 ≡ Some s.tree → NotIncreased (w.faults w0) (w.faults w1) → kind ≡ on_disk given s.tree path true
+  exactly s told quiet = exact s.tree told quiet ∙ disk_is s.tree
 
-  pub on-way : (c : Outcome) → Judges w f w1 w2 o0 o1 old new given path (λ d ev. class given.options ev path kind d) (λ d ev. asks given.options ev path kind d) false (Ok c)
-      → Judges w f w0 w2 o0 o1 old new given path (λ k ev. class given.options ev path k None) (λ k ev. asks given.options ev path k None) true (Ok c)
+  asked : (s : Sources) → w.told w0 ≡ Some s.tree → w.faults w1 ≤ w.faults w2 → NotIncreased (w.faults w0) (w.faults w2)
+      → asks given.options (evidence given (made_with old) s) path kind None ≡ asks given.options (evidence given (made_with old) s) path (on_disk given s.tree path true) None
+  asked s told more quiet =
+      ap (λ (k : Option Kind). asks given.options (evidence given (made_with old) s) path k None) (exactly s told (quiet-first _ _ _ first.faults more quiet))
+
+  pub on-way : (c : Outcome) → Judges w f w1 w2 o0 o1 old new given path (λ d ev. class given.options ev path kind d) (λ d ev. asks given.options ev path kind d) nothing false (Ok c)
+      → Judges w f w0 w2 o0 o1 old new given path (λ k ev. class given.options ev path k None) (λ k ev. asks given.options ev path k None) (λ _. false) true (Ok c)
   on-way c later =
       record {
         class = λ s tells step quiet.
             later.class s (tells-now s tells) step (quiet-second _ _ _ first.faults later.keeps.faults quiet)
             ∙ ap (λ (k : Option Kind). class given.options (evidence given (made_with old) s) path k None)
-            (exactly s (w.faults w2) tells.tree_is (quiet-first _ _ _ first.faults later.keeps.faults quiet));
+            (exactly s tells.tree_is (quiet-first _ _ _ first.faults later.keeps.faults quiet));
         read = λ s tells step quiet.
             ap (λ (k : Option Kind). asks given.options (evidence given (made_with old) s) path k None && (evidence given (made_with old) s).is_unread path)
-            (sym (exactly s (w.faults w2) tells.tree_is (quiet-first _ _ _ first.faults later.keeps.faults quiet)))
+            (sym (exactly s tells.tree_is (quiet-first _ _ _ first.faults later.keeps.faults quiet)))
             ∙ later.read s (tells-now s tells) step (quiet-second _ _ _ first.faults later.keeps.faults quiet);
         swallowed = λ s tells step. judged-way s c tells.tree_is (later.swallowed s (tells-now s tells) step);
         about = tt;
@@ -84,11 +90,13 @@ module _ {W F : Type 0} (w : WorktreeOf W) (f : FindOf F) (w0 w1 w2 : W) (o0 o1 
         keeps = asks-then w w0 w1 w2 (asks-rules w w0 w1 first) later.keeps;
         store = later.store;
         rules = record { made = later.rules.made; in_step = λ s tells step. later.rules.in_step s (tells-now s tells) step };
-        reads = λ on. at-most-later path (w.reads w0) (w.reads w1) (w.reads w2) old new c unread (later.reads on);
+        reads = at-most-later given.options.recurse_repositories path (w.reads w0) (w.reads w1) (w.reads w2) old new (Ok c) unread later.reads;
+        unasked = λ s told quiet no. later.unasked s (first.tree ∙ told) (quiet-second _ _ _ first.faults later.keeps.faults quiet) (asked s told later.keeps.faults quiet ∙ no);
+        untouched = λ s no. absurd (cc no);
       }
 
-  pub on-way-refused : (e : Error) → Judges w f w1 w2 o0 o1 old new given path (λ d ev. class given.options ev path kind d) (λ d ev. asks given.options ev path kind d) false (Err e)
-      → Judges w f w0 w2 o0 o1 old new given path (λ k ev. class given.options ev path k None) (λ k ev. asks given.options ev path k None) true (Err e)
+  pub on-way-refused : (e : Error) → Judges w f w1 w2 o0 o1 old new given path (λ d ev. class given.options ev path kind d) (λ d ev. asks given.options ev path kind d) nothing false (Err e)
+      → Judges w f w0 w2 o0 o1 old new given path (λ k ev. class given.options ev path k None) (λ k ev. asks given.options ev path k None) (λ _. false) true (Err e)
   on-way-refused e later =
       record {
         class = λ s tells step quiet. tt;
@@ -98,8 +106,7 @@ module _ {W F : Type 0} (w : WorktreeOf W) (f : FindOf F) (w0 w1 w2 : W) (o0 o1 
         refused = λ s tells. later.refused s (tells-now s tells);
         asked = λ s told quiet.
             OnAccess-weaker (asks given.options (evidence given (made_with old) s) path kind None ≡ true) (asks given.options (evidence given (made_with old) s) path (on_disk given s.tree path true) None ≡ true) e
-            (λ yes. ap (λ (k : Option Kind). asks given.options (evidence given (made_with old) s) path k None)
-            (sym (exactly s (w.faults w2) told (quiet-first _ _ _ first.faults later.keeps.faults quiet))) ∙ yes)
+            (λ yes. sym (asked s told later.keeps.faults quiet) ∙ yes)
             (later.asked s (first.tree ∙ told) (quiet-second _ _ _ first.faults later.keeps.faults quiet));
         cause =
             OnFault-weaker (Increased (w.faults w1) (w.faults w2)) (Increased (f.faults o0) (f.faults o1)) (Increased (w.faults w0) (w.faults w2)) (Increased (f.faults o0) (f.faults o1)) e
@@ -107,5 +114,7 @@ module _ {W F : Type 0} (w : WorktreeOf W) (f : FindOf F) (w0 w1 w2 : W) (o0 o1 
         keeps = asks-then w w0 w1 w2 (asks-rules w w0 w1 first) later.keeps;
         store = later.store;
         rules = record { made = later.rules.made; in_step = λ s tells step. later.rules.in_step s (tells-now s tells) step };
-        reads = λ on. at-most-refused path (w.reads w0) (w.reads w1) (w.reads w2) old new e unread (later.reads on);
+        reads = at-most-later given.options.recurse_repositories path (w.reads w0) (w.reads w1) (w.reads w2) old new (Err e) unread later.reads;
+        unasked = λ s told quiet no. later.unasked s (first.tree ∙ told) (quiet-second _ _ _ first.faults later.keeps.faults quiet) (asked s told later.keeps.faults quiet ∙ no);
+        untouched = λ s no. absurd (cc no);
       }

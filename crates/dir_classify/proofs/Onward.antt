@@ -1,33 +1,37 @@
 -- The way to a traversal root, one component after another.
-use Rattle.std.proofs.Common.{◌≡◌, ◌∙◌, ap, sym, ℕ, List, [], ◌∷◌, ◌++◌, Bool, true, false, not, ◌&&◌, ◌||◌, Option, None, Ok, Err, refl, reverse, subst, append_assoc, arith}
-use Rattle.std.specs.List.{list_any}
-use Rattle.std.specs.Prelude.{if◌then◌else◌, is_some}
-use Rattle.gitbase_core.specs.Path.{components, ends_in_slash, is_absolute, joined, path_of}
-use Rattle.gitbase_core.proofs.Names.{IsName, AreNames, AreNames-components}
+use Rattle.std.proofs.Common.{◌≡◌, ◌∙◌, ap, sym, ℕ, List, [], ◌∷◌, ◌++◌, Bool, true, false, ◌&&◌, ◌||◌, Option, None, Ok, Err, refl, inl, inr, subst, append_assoc, arith}
+use Rattle.std.proofs.lemmas.List.{append-nil}
+use Rattle.std.specs.Prelude.{◌⊎◌, if◌then◌else◌, is_some}
+use Rattle.gitbase_core.specs.Path.{components, joined}
 use Rattle.gitbase_core.specs.declared.find.Find.{Ghosts as FindOf}
 use Rattle.worktree_fs.specs.Causes.{Increased, NotIncreased}
 use Rattle.worktree_fs.specs.Kept.{AsksStore}
-use Rattle.worktree_fs.specs.Paths.{IsComponent, is_dots, is_normal, spelled}
+use Rattle.worktree_fs.specs.Paths.{IsComponent, is_normal, spelled}
 use Rattle.worktree_fs.specs.declared.worktree.Worktree.{Ghosts as WorktreeOf}
-use Rattle.worktree_fs.proofs.Spelled.{AreNames-reverse, grown-is, grown-components}
+use Rattle.worktree_fs.proofs.Spelled.{grown-is, grown-components}
 use Rattle.worktree_stack.specs.Reading.{Sources}
 use Rattle.worktree_stack.specs.Setup.{Made}
 use Rattle.worktree_stack.specs.Stacked.{Stacked}
 use Rattle.dir_classify.specs.declared.classify.Outcome.{Outcome}
-use Rattle.dir_classify.specs.Excludes.{made_with, TellsIf, InStepIf}
-use Rattle.dir_classify.specs.Kept.{AsksRules, KeepsRules}
-use Rattle.dir_classify.specs.Layers.{Setting, evidence, on_disk}
+use Rattle.dir_classify.specs.declared.classify.RootOutcome.{RootOutcome}
+use Rattle.dir_classify.specs.Excludes.{made_with, pushed_in, TellsIf, InStepIf}
+use Rattle.dir_classify.specs.Kept.{AsksRules, KeepsRules, AsksAtMost}
+use Rattle.dir_classify.specs.Layers.{Setting, evidence, is_unread_in, on_disk}
 use Rattle.dir_classify.specs.declared.error.Error.{Error}
+use Rattle.dir_classify.specs.declared.error.Error.TheVariants as errors
 use Rattle.dir_classify.specs.Class.{class as class_of, asks as asks_of}
 use Rattle.dir_classify.specs.Classes.{Judges}
 use Rattle.dir_classify.specs.Refused.{IsAbout, Refuses}
-use Rattle.dir_classify.specs.Rooted.{LeadsTo, Reaches, way_to}
-use Rattle.dir_classify.proofs.Judging.{asks-then, increased-later, quiet-first, quiet-second, OnFault-weaker}
+use Rattle.dir_classify.specs.Rooted.{AsksOnWay, LeadsTo, Reaches, reached_by, way_to}
+use Rattle.dir_classify.proofs.NormalPaths.{normal-front}
+use Rattle.dir_classify.proofs.Keeping.{asks-then, increased-later, quiet-first, quiet-second}
+use Rattle.dir_classify.proofs.Refusals.{OnAccess-both, OnFault-weaker, unread-refused}
+use Rattle.dir_classify.proofs.WayAsked.{on-way-further, way-answered, way-asked, way-refused, way-root, way-stopped}
 use Rattle.dir_classify.specs.declared.entry.Kind.{Kind}
 use Rattle.dir_classify.specs.Chosen.{Chosen}
 use Rattle.dir_classify.specs.Evidence.{Evidence}
 use Rattle.dir_classify.specs.Kinds.{is_repository}
-use Rattle.dir_classify.specs.Way.{Reached, goes_on, onward, reached, reached_at, reached_so, way_class, way_unread}
+use Rattle.dir_classify.specs.Way.{EndsAt, IsClassOnWay, IsReached, Reached, goes_on, onward, reached, reached_at, reached_root, reached_so, way_class, way_unread}
 
 -- The way stands at a path, and from there leads where it leads from the worktree root.
 pub record IsOnward {W F : Type 0} (w : WorktreeOf W) (f : FindOf F) (w0 w1 : W) (o0 o1 : F) (old new : Option Stacked) (given : Setting)
@@ -40,6 +44,10 @@ pub record IsOnward {W F : Type 0} (w : WorktreeOf W) (f : FindOf F) (w0 w1 : W)
   pub leads : (s : Sources) → TellsIf (w.told w0) (f.holds o0) (made_with old) s → InStepIf s old → NotIncreased (w.faults w0) (w.faults w1)
       → onward given.options (evidence given (made_with old) s) (λ p. on_disk given s.tree p true) (reached_so path class in_repository true) (components rest)
       ≡ way_to given (made_with old) s root
+  pub ends : (s : Sources) → TellsIf (w.told w0) (f.holds o0) (made_with old) s → InStepIf s old → (r : Reached)
+      → EndsAt given.options (evidence given (made_with old) s) (λ p. on_disk given s.tree p true) path class in_repository (components rest) r
+      → IsReached given.options (evidence given (made_with old) s) (λ p. on_disk given s.tree p true) (components root) r
+  pub reads : AsksOnWay {T = Unit {0}} {E = Error} given.options.recurse_repositories path (w.reads w0) (w.reads w1) old new (Ok tt)
 
 -- ---- at the worktree root
 
@@ -56,6 +64,19 @@ way-init given made s root c in_repository c_is read in_is =
     ap (λ (b : Bool). go (reached_so [] c b true)) in_is
     ∙ ap (λ (x : Outcome). go (reached_so [] x (is_repository x.disk_kind) true)) c_is
     ∙ ap (λ (b : Bool). go (record (reached_so [] (way_class given.options ev at []) (is_repository (way_class given.options ev at []).disk_kind) true) { is_unread = b })) (sym read)
+
+-- by what was read
+pub ends-init : (o : Chosen) (ev : Evidence) (kinds : List ℕ → Option Kind) (names : List (List ℕ)) (path : List ℕ) (c : Outcome) (in_repository : Bool) (r : Reached)
+    → path ≡ [] → in_repository ≡ is_repository c.disk_kind → IsClassOnWay o ev kinds [] c → EndsAt o ev kinds path c in_repository names r → IsReached o ev kinds names r
+ends-init o ev kinds names path c in_repository r path_is in_is judged end =
+    (c, judged, subst (λ (b : Bool). EndsAt o ev kinds [] c b names r) in_is (subst (λ (p : List ℕ). EndsAt o ev kinds p c in_repository names r) path_is end))
+
+-- what the rules were asked of the worktree root
+pub root-asked : {T : Type 0} (recurses : Bool) (r0 r1 : ℕ) (old new : Option Stacked) (t : T) → AsksAtMost {T = T} {E = Error} recurses [] r0 r1 old new (Ok t)
+    → AsksOnWay {T = Unit {0}} {E = Error} recurses [] r0 r1 old new (Ok tt)
+root-asked recurses r0 r1 old new t (inl asked) = inl asked
+root-asked recurses r0 r1 old new t (inr asked) =
+    inr (record { first = []; leads = record { spelled_is = refl; rest = []; components_are = refl }; on_way = asked.on_way; reads = asked.reads })
 
 -- ---- one component further
 
@@ -74,50 +95,49 @@ way-step o ev kinds path name names c next in_repository goes next_is read =
     open-way true e = refl
     open-way false e = absurd (cc e)
 
--- ---- a path on the way is normal
+-- ---- where the rules of a path on the way cannot be read
 
-absolute-name : (name : List ℕ) → IsName name → is_absolute name ≡ false
-absolute-name [] is = absurd (let some = is.some in omega (arith, some))
-absolute-name (b ∷ bytes) is = is.plain 0 (omega arith)
+yes-no : (b : Bool) → b ≡ true → b ≡ false → ⊥
+yes-no true e f = cc f
+yes-no false e f = cc e
 
-absolute-joined : (path name : List ℕ) → IsName name → is_absolute path ≡ false → is_absolute (joined path name) ≡ false
-absolute-joined [] name is e = absolute-name name is
-absolute-joined (b ∷ path) name is e = go (ends_in_slash (b ∷ path))
+quiet-not : (n0 n1 : ℕ) → NotIncreased n0 n1 → Increased n0 n1 → ⊥
+quiet-not n0 n1 quiet more = omega (arith, quiet, more)
+
+either-unread : (P Q R S : Type 0) → (P → R) → (Q → S) → P ⊎ Q → R ⊎ S
+either-unread P Q R S f g (inl p) = inl (f p)
+either-unread P Q R S f g (inr q) = inr (g q)
+
+unread-is : (given : Setting) (made : Option Made) (s : Sources) (path : List ℕ) → (evidence given made s).is_unread path ≡ is_unread_in made s path
+unfolding evidence
+unread-is given made s path = refl
+
+unread-way : (given : Setting) (now old : Option Made) (s : Sources) (path : List ℕ) → now ≡ old
+    → asks_of given.options (evidence given now s) path (on_disk given s.tree path true) None ≡ true → is_unread_in now s path ≡ true
+    → way_unread given.options (evidence given old s) (λ p. on_disk given s.tree p true) path ≡ true
+unread-way given now old s path same asks unread =
+    ap (λ (m : Option Made). way_unread given.options (evidence given m s) (λ p. on_disk given s.tree p true) path) (sym same)
+    ∙ ap (λ b. b && (evidence given now s).is_unread path) asks ∙ unread-is given now s path ∙ unread
+
+-- once they cannot, that stays so
+unread-onward : (o : Chosen) (ev : Evidence) (kinds : List ℕ → Option Kind) (r : Reached) (names : List (List ℕ)) → r.is_unread ≡ true → (onward o ev kinds r names).is_unread ≡ true
+unread-onward o ev kinds r [] e = e
+unread-onward o ev kinds r (name ∷ names) e =
+    go (unread-onward o ev kinds (reached_at o ev kinds r.in_repository r.is_unread (joined r.path name)) names (ap (λ b. b || way_unread o ev kinds (joined r.path name)) e))
+    (goes_on o r.path r.class r.in_repository)
   where
-    go : (slash : Bool) → is_absolute (if slash then (b ∷ path) ++ name else (b ∷ path) ++ 47 ∷ name) ≡ false
-    go true = e
-    go false = e
+    go : (onward o ev kinds (reached_at o ev kinds r.in_repository r.is_unread (joined r.path name)) names).is_unread ≡ true → (b : Bool) → (if b then onward o ev kinds (reached_at o ev kinds r.in_repository r.is_unread (joined r.path name)) names else record r { whole = false }).is_unread ≡ true
+    go ih true = ih
+    go ih false = e
 
-absolute-path_of : (below : List (List ℕ)) → AreNames below → is_absolute (path_of below) ≡ false
-absolute-path_of [] are = refl
-absolute-path_of (name ∷ below) are = absolute-joined (path_of below) name are.0 (absolute-path_of below are.1)
-
-or-false : (a b : Bool) → (a || b) ≡ false → (a ≡ false) × (b ≡ false)
-or-false true b e = absurd (cc e)
-or-false false b e = (refl, e)
-
-any-front : (p : List ℕ → Bool) (front back : List (List ℕ)) → list_any p (front ++ back) ≡ false → list_any p front ≡ false
-any-front p [] back e = refl
-any-front p (x ∷ front) back e =
-    let parts = or-false (p x) (list_any p (front ++ back)) e in
-    rw (parts.0, any-front p front back parts.1) refl
-
-none-absolute : (root : List ℕ) → is_normal root ≡ true → list_any is_dots (components root) ≡ false
-none-absolute root normal = go (list_any is_dots (components root)) refl
+unread-step : (o : Chosen) (ev : Evidence) (kinds : List ℕ → Option Kind) (path name : List ℕ) (names : List (List ℕ)) (c : Outcome) (in_repository : Bool)
+    → goes_on o path c in_repository ≡ true → way_unread o ev kinds (joined path name) ≡ true → (onward o ev kinds (reached_so path c in_repository true) (name ∷ names)).is_unread ≡ true
+unread-step o ev kinds path name names c in_repository goes unread = go (goes_on o path c in_repository) goes
   where
-    go : (b : Bool) → list_any is_dots (components root) ≡ b → b ≡ false
-    go false e = refl
-    go true e = absurd (let f : (not (is_absolute root) && not true) ≡ true = ap (λ c. not (is_absolute root) && not c) (sym e) ∙ normal in closed (not (is_absolute root)) f)
-      where
-        closed : (a : Bool) → (a && false) ≡ true → ⊥
-        closed true f = cc f
-        closed false f = cc f
-
-pub normal-front : (root path : List ℕ) (rest : List (List ℕ)) → is_normal root ≡ true → components root ≡ components path ++ rest → path ≡ spelled (components path) → is_normal path ≡ true
-normal-front root path rest normal split spelled_is =
-    let plain : is_absolute path ≡ false = ap is_absolute spelled_is ∙ absolute-path_of (reverse (components path)) (AreNames-reverse (components path) (AreNames-components path)) in
-    let dots : list_any is_dots (components path) ≡ false = any-front is_dots (components path) rest (ap (list_any is_dots) (sym split) ∙ none-absolute root normal) in
-    rw (plain, dots) refl
+    go : (b : Bool) → b ≡ true
+        → (if b then onward o ev kinds (reached_at o ev kinds in_repository false (joined path name)) names else record (reached_so path c in_repository true) { whole = false }).is_unread ≡ true
+    go true e = unread-onward o ev kinds (reached_at o ev kinds in_repository false (joined path name)) names unread
+    go false e = absurd (cc e)
 
 -- ---- what stays, and what is told, after a step
 
@@ -151,7 +171,7 @@ module _ {W F : Type 0} (w : WorktreeOf W) (f : FindOf F) (w0 w1 w2 : W) (o0 o1 
 
   module _ (next : Outcome) (goes : goes_on given.options path c in_repository ≡ true)
       (step : Judges w f w1 w2 o1 o2 now new given (joined path name) (λ kind ev. class_of given.options ev (joined path name) kind None)
-      (λ kind ev. asks_of given.options ev (joined path name) kind None) true (Ok next)) where
+      (λ kind ev. asks_of given.options ev (joined path name) kind None) (λ _. false) true (Ok next)) where
     pub onward-grown : IsOnward w f w0 w2 o0 o2 old new given root (joined path name) next in_repository left
     onward-grown =
         record {
@@ -174,20 +194,53 @@ module _ {W F : Type 0} (w : WorktreeOf W) (f : FindOf F) (w0 w1 w2 : W) (o0 o1 
               ∙ step.read s (tells-here s tells) (at.rules.in_step s tells stepped) quiet_now)
               ∙ ap (λ (l : List (List ℕ)). onward given.options ev kinds (reached_so path c in_repository true) l) (sym rest_is)
               ∙ at.leads s tells stepped (quiet-first (w.faults w0) (w.faults w1) (w.faults w2) at.keeps.faults step.keeps.faults quiet);
+          ends = λ s tells stepped r end.
+              let kinds = λ (p : List ℕ). on_disk given s.tree p true in
+              let judged = subst (λ (m : Option Made). IsClassOnWay given.options (evidence given m s) kinds (joined path name) next) at.rules.made
+              (step.swallowed s (tells-here s tells) (at.rules.in_step s tells stepped)) in
+              at.ends s tells stepped r
+              (subst (λ (l : List (List ℕ)). EndsAt given.options (evidence given (made_with old) s) kinds path c in_repository l r) (sym rest_is)
+              ((λ yes. (next, judged, end), λ no. absurd (yes-no (goes_on given.options path c in_repository) goes no))));
+          reads =
+              way-answered given.options.recurse_repositories (joined path name) (w.reads w0) (w.reads w2) old new next tt
+              (way-asked given.options.recurse_repositories path name (joined path name) (w.reads w0) (w.reads w1) (w.reads w2) old now new (Ok next)
+              (grown-components path name at.spelled_is component) grown-spelled at.reads step.reads);
         }
 
   pub Reaches-refused : (e : Error)
+      → goes_on given.options path c in_repository ≡ true
       → Judges w f w1 w2 o1 o2 now new given (joined path name) (λ kind ev. class_of given.options ev (joined path name) kind None)
-      (λ kind ev. asks_of given.options ev (joined path name) kind None) true (Err e)
+      (λ kind ev. asks_of given.options ev (joined path name) kind None) (λ _. false) true (Err e)
       → Reaches w f w0 w2 o0 o2 old new given root (Err e)
-  Reaches-refused e step =
-      let leads : LeadsTo root (joined path name) = record { rest = components left; components_are = grown-split } in
+  Reaches-refused e goes step =
+      let leads : LeadsTo root (joined path name) = record { spelled_is = grown-spelled; rest = components left; components_are = grown-split } in
       record {
         reached = λ s tells stepped quiet. tt;
+        swallowed = λ s tells stepped. tt;
         prefix = tt;
         whole = tt;
         about = (joined path name, leads, subst (λ (m : Option Made). IsAbout m (joined path name) e) at.rules.made step.about);
-        refused = λ s tells. (joined path name, leads, subst (λ (m : Option Made). Refuses s m (joined path name) e) at.rules.made (step.refused s (tells-here s tells)));
+        refused = λ s tells.
+            (joined path name, leads, (subst (λ (m : Option Made). IsAbout m (joined path name) e) at.rules.made step.about, subst (λ (m : Option Made). Refuses s m (joined path name) e) at.rules.made (step.refused s (tells-here s tells))));
+        asked = λ s tells stepped quiet.
+            let ev = evidence given (made_with old) s in
+            let kinds = λ (p : List ℕ). on_disk given s.tree p true in
+            let quiet_now = quiet-second (w.faults w0) (w.faults w1) (w.faults w2) at.keeps.faults step.keeps.faults quiet in
+            OnAccess-both (asks_of given.options (evidence given (made_with now) s) (joined path name) (kinds (joined path name)) None ≡ true)
+            ((is_unread_in (made_with now) s (joined path name) ≡ true) ⊎ Increased (f.faults o1) (f.faults o2))
+            (((way_to given (made_with old) s root).is_unread ≡ true) ⊎ Increased (f.faults o0) (f.faults o2)) e
+            (λ asks unread. either-unread (is_unread_in (made_with now) s (joined path name) ≡ true) (Increased (f.faults o1) (f.faults o2)) ((way_to given (made_with old) s root).is_unread ≡ true)
+            (Increased (f.faults o0) (f.faults o2))
+            (λ unread_is.
+            ap (λ (r : Reached). r.is_unread)
+            (sym (ap (λ (l : List (List ℕ)). onward given.options ev kinds (reached_so path c in_repository true) l) (sym rest_is)
+            ∙ at.leads s tells stepped (quiet-first (w.faults w0) (w.faults w1) (w.faults w2) at.keeps.faults step.keeps.faults quiet)))
+            ∙ unread-step given.options ev kinds path name (components left) c in_repository goes
+            (unread-way given (made_with now) (made_with old) s (joined path name) at.rules.made asks unread_is))
+            (increased-later (f.faults o0) (f.faults o1) (f.faults o2) at.store.faults) unread)
+            (step.asked s (at.keeps.tree ∙ tells.tree_is) quiet_now)
+            (unread-refused s (made_with now) (joined path name) (Increased (w.faults w1) (w.faults w2)) (Increased (f.faults o1) (f.faults o2)) e (quiet-not (w.faults w1) (w.faults w2) quiet_now)
+            step.about (step.refused s (tells-here s tells)) step.cause);
         cause =
             OnFault-weaker (Increased (w.faults w1) (w.faults w2)) (Increased (f.faults o1) (f.faults o2)) (Increased (w.faults w0) (w.faults w2)) (Increased (f.faults o0) (f.faults o2)) e
             (increased-later (w.faults w0) (w.faults w1) (w.faults w2) at.keeps.faults) (increased-later (f.faults o0) (f.faults o1) (f.faults o2) at.store.faults) step.cause;
@@ -197,4 +250,126 @@ module _ {W F : Type 0} (w : WorktreeOf W) (f : FindOf F) (w0 w1 w2 : W) (o0 o1 
           made = step.rules.made ∙ at.rules.made;
           in_step = λ s tells stepped. step.rules.in_step s (tells-here s tells) (at.rules.in_step s tells stepped);
         };
+        reads = way-root given.options.recurse_repositories root (joined path name) (components left) (w.reads w0) (w.reads w2) old new (Err e) grown-split
+            (way-refused given.options.recurse_repositories (joined path name) (w.reads w0) (w.reads w2) old new e
+            (way-asked given.options.recurse_repositories path name (joined path name) (w.reads w0) (w.reads w1) (w.reads w2) old now new (Err e)
+            (grown-components path name at.spelled_is component) grown-spelled at.reads step.reads));
       }
+
+-- ---- where the way ends
+
+module _ {W F : Type 0} (w : WorktreeOf W) (f : FindOf F) (w0 w1 : W) (o0 o1 : F) (old new : Option Stacked) (given : Setting)
+    (root path rest : List ℕ) (c : Outcome) (in_repository : Bool) (at : IsOnward w f w0 w1 o0 o1 old new given root path c in_repository rest)
+    (root_is : root ≡ spelled (components root)) (r : RootOutcome) (whole : Bool) (r_is : reached_by r false ≡ reached_so path c in_repository whole)
+    (whole_is : whole ≡ true → components rest ≡ [])
+    (onward_is : (s : Sources) → onward given.options (evidence given (made_with old) s) (λ p. on_disk given s.tree p true) (reached_so path c in_repository true) (components rest)
+    ≡ reached_so path c in_repository whole)
+    (ends_at : (s : Sources) → EndsAt given.options (evidence given (made_with old) s) (λ p. on_disk given s.tree p true) path c in_repository (components rest) (reached_so path c in_repository whole)) where
+  path_is : r.path ≡ path
+  path_is = ap (λ (x : Reached). x.path) r_is
+
+  pub Reaches-ended : Reaches w f w0 w1 o0 o1 old new given root (Ok r)
+  Reaches-ended =
+      record {
+        reached = λ s tells stepped quiet. r_is ∙ sym (onward_is s) ∙ at.leads s tells stepped quiet;
+        swallowed = λ s tells stepped. at.ends s tells stepped (reached_by r false)
+            (subst (λ (x : Reached). EndsAt given.options (evidence given (made_with old) s) (λ p. on_disk given s.tree p true) path c in_repository (components rest) x) (sym r_is) (ends_at s));
+        prefix = subst (LeadsTo root) (sym path_is) (record { spelled_is = at.spelled_is; rest = components rest; components_are = at.split });
+        whole = λ is.
+            let none = whole_is (ap (λ (x : Reached). x.whole) (sym r_is) ∙ is) in
+            let same : components path ≡ components root = sym (append-nil (components path)) ∙ ap (λ (l : List (List ℕ)). components path ++ l) (sym none) ∙ sym at.split in
+            path_is ∙ at.spelled_is ∙ ap spelled same ∙ sym root_is;
+        about = tt;
+        refused = λ s tells. tt;
+        asked = λ s tells stepped quiet. tt;
+        cause = tt;
+        keeps = at.keeps;
+        store = at.store;
+        rules = at.rules;
+        reads = way-root given.options.recurse_repositories root path (components rest) (w.reads w0) (w.reads w1) old new (Ok r) at.split
+            (way-answered given.options.recurse_repositories path (w.reads w0) (w.reads w1) old new tt r at.reads);
+      }
+
+-- the way does not go on
+pub ended-short : (o : Chosen) (ev : Evidence) (kinds : List ℕ → Option Kind) (path name : List ℕ) (c : Outcome) (in_repository : Bool) (names left : List (List ℕ)) → names ≡ name ∷ left
+    → goes_on o path c in_repository ≡ false
+    → (onward o ev kinds (reached_so path c in_repository true) names ≡ reached_so path c in_repository false) × EndsAt o ev kinds path c in_repository names (reached_so path c in_repository false)
+ended-short o ev kinds path name c in_repository [] left e stays = absurd (cc e)
+ended-short o ev kinds path name c in_repository (n ∷ names) left e stays =
+    (shut (goes_on o path c in_repository) stays, (λ goes. absurd (yes-no (goes_on o path c in_repository) goes stays), λ stay. refl))
+  where
+    shut : (b : Bool) → b ≡ false
+        → (if b then onward o ev kinds (reached_at o ev kinds in_repository false (joined path n)) names else record (reached_so path c in_repository true) { whole = false })
+        ≡ reached_so path c in_repository false
+    shut true f = absurd (cc f)
+    shut false f = refl
+
+-- memory was refused
+pub Reaches-stopped : {W F : Type 0} (w : WorktreeOf W) (f : FindOf F) (w0 w1 : W) (o0 o1 : F) (old new : Option Stacked) (given : Setting)
+    (root path rest : List ℕ) (c : Outcome) (in_repository : Bool) → IsOnward w f w0 w1 o0 o1 old new given root path c in_repository rest
+    → Reaches w f w0 w1 o0 o1 old new given root (Err errors.OutOfMemory)
+Reaches-stopped w f w0 w1 o0 o1 old new given root path rest c in_repository at =
+    record {
+      reached = λ s tells stepped quiet. tt;
+      swallowed = λ s tells stepped. tt;
+      prefix = tt;
+      whole = tt;
+      about = (path, record { spelled_is = at.spelled_is; rest = components rest; components_are = at.split }, tt);
+      refused = λ s tells. (path, record { spelled_is = at.spelled_is; rest = components rest; components_are = at.split }, (tt, tt));
+      asked = λ s tells stepped quiet. tt;
+      cause = tt;
+      keeps = at.keeps;
+      store = at.store;
+      rules = at.rules;
+      reads = way-root given.options.recurse_repositories root path (components rest) (w.reads w0) (w.reads w1) old new (Err errors.OutOfMemory) at.split
+          (way-stopped given.options.recurse_repositories path (w.reads w0) (w.reads w1) old new errors.OutOfMemory at.reads);
+    }
+
+-- the class of the worktree root was refused
+unread-root : (given : Setting) (made : Option Made) (s : Sources) (root : List ℕ)
+    → asks_of given.options (evidence given made s) [] (on_disk given s.tree [] true) None ≡ true → is_unread_in made s [] ≡ true
+    → (way_to given made s root).is_unread ≡ true
+unfolding reached
+unread-root given made s root asks unread =
+    let ev = evidence given made s in
+    let kinds = λ (p : List ℕ). on_disk given s.tree p true in
+    unread-onward given.options ev kinds (reached_root given.options ev kinds) (components root) (unread-way given made made s [] refl asks unread)
+
+root-refused : {T U : Type 0} (recurses : Bool) (root : List ℕ) (r0 r1 : ℕ) (old new : Option Stacked) (e : Error)
+    → AsksAtMost {T = T} {E = Error} recurses [] r0 r1 old new (Err e) → AsksOnWay {T = U} {E = Error} recurses root r0 r1 old new (Err e)
+root-refused recurses root r0 r1 old new e (inl asked) = inl asked
+root-refused recurses root r0 r1 old new e (inr asked) =
+    inr (record {
+      first = [];
+      leads = record { spelled_is = refl; rest = components root; components_are = refl };
+      on_way = on-way-further (pushed_in new) [] (components root) asked.on_way;
+      reads = asked.reads;
+    })
+
+pub Reaches-unrooted : {W F : Type 0} (w : WorktreeOf W) (f : FindOf F) (w0 w1 : W) (o0 o1 : F) (old new : Option Stacked) (given : Setting) (root : List ℕ) (e : Error)
+    → Judges w f w0 w1 o0 o1 old new given [] (λ kind ev. class_of given.options ev [] kind None) (λ kind ev. asks_of given.options ev [] kind None) (λ _. false) true (Err e)
+    → Reaches w f w0 w1 o0 o1 old new given root (Err e)
+Reaches-unrooted w f w0 w1 o0 o1 old new given root e step =
+    let leads : LeadsTo root [] = record { spelled_is = refl; rest = components root; components_are = refl } in
+    record {
+      reached = λ s tells stepped quiet. tt;
+      swallowed = λ s tells stepped. tt;
+      prefix = tt;
+      whole = tt;
+      about = ([], leads, step.about);
+      refused = λ s tells. ([], leads, (step.about, step.refused s tells));
+      asked = λ s tells stepped quiet.
+          OnAccess-both (asks_of given.options (evidence given (made_with old) s) [] (on_disk given s.tree [] true) None ≡ true)
+          ((is_unread_in (made_with old) s [] ≡ true) ⊎ Increased (f.faults o0) (f.faults o1))
+          (((way_to given (made_with old) s root).is_unread ≡ true) ⊎ Increased (f.faults o0) (f.faults o1)) e
+          (λ asks unread. either-unread (is_unread_in (made_with old) s [] ≡ true) (Increased (f.faults o0) (f.faults o1)) ((way_to given (made_with old) s root).is_unread ≡ true)
+          (Increased (f.faults o0) (f.faults o1)) (unread-root given (made_with old) s root asks) (λ more. more) unread)
+          (step.asked s tells.tree_is quiet)
+          (unread-refused s (made_with old) [] (Increased (w.faults w0) (w.faults w1)) (Increased (f.faults o0) (f.faults o1)) e (quiet-not (w.faults w0) (w.faults w1) quiet)
+          step.about (step.refused s tells) step.cause);
+      cause = step.cause;
+      keeps = step.keeps;
+      store = step.store;
+      rules = step.rules;
+      reads = root-refused given.options.recurse_repositories root (w.reads w0) (w.reads w1) old new e step.reads;
+    }

@@ -129,10 +129,13 @@ class_in_index entry kind found =
       pathspec_match = found;
     }
 
--- a directory that is a submodule in the index is looked at
+-- a repository is looked for at a directory that is a submodule in the index
+abbrev pub seeks_indexed : InIndex → Option Kind → Bool
+seeks_indexed entry kind = is_directory kind && is_repository entry.kind
+
 abbrev pub indexed_kind : Chosen → InIndex → Option Kind → GitAt → GitAt → Option Kind
 indexed_kind o entry kind at below =
-    if is_directory kind && is_repository entry.kind then upgraded o.recurse_repositories false kind at below else kind
+    if seeks_indexed entry kind then upgraded o.recurse_repositories false kind at below else kind
 
 abbrev pub class_indexed : Chosen → Evidence → List ℕ → Option Kind → Outcome
 class_indexed o ev path kind =
@@ -143,11 +146,11 @@ abbrev pub class_excluded : IgnoredAs → InIndex → Option Kind → Option Pat
 class_excluded excluded entry kind found = record (plain_class (Ignored excluded)) { disk_kind = kind; index_kind = entry.kind; pathspec_match = found }
 
 -- where ignored paths are shown, deletion that looks for repositories looks at it
-abbrev pub is_looked_at : Chosen → Bool
-is_looked_at o = is_some o.emit_ignored && finds_repositories o.for_deletion
+abbrev pub finds_in_ignored : Chosen → Bool
+finds_in_ignored o = is_some o.emit_ignored && finds_repositories o.for_deletion
 
 abbrev pub ignored_kind : Chosen → Option Kind → GitAt → GitAt → Option Kind
-ignored_kind o kind at below = if is_looked_at o then upgraded o.recurse_repositories (finds_bare_repositories o.for_deletion) kind at below else kind
+ignored_kind o kind at below = if finds_in_ignored o then upgraded o.recurse_repositories (finds_bare_repositories o.for_deletion) kind at below else kind
 
 -- its match: a directory that no spec names is matched as one above what is looked for, and in deletion one above a
 -- path of the worktree set
@@ -215,6 +218,34 @@ unfoldable pub asks : Chosen → Evidence → List ℕ → Option Kind → Optio
 asks o ev path known on_disk =
     if is_dot_git o.ignore_case path then is_some o.for_deletion && ev.is_ruled
     else ev.can_match path (is_dir known) && asks_of_kind o ev path (settled_kind ev path known on_disk)
+
+-- With its kind settled, a repository is looked for at a path that the index does not have: at an ignored one where deletion looks
+-- for repositories there, and at any directory that the rules do not exclude.
+abbrev pub seeks_by_rules : Chosen → Option Kind → Option IgnoredAs → Bool
+seeks_by_rules o kind None = holds_names kind
+seeks_by_rules o kind (Some excluded) = finds_in_ignored o
+
+-- where repositories are walked into, none is looked for
+abbrev pub is_idle : Chosen → Bool → Bool
+is_idle o seeks = o.recurse_repositories || not seeks
+
+-- with its kind settled, neither a repository is looked for nor the rules are asked
+abbrev pub is_idle_of_kind : Chosen → Evidence → List ℕ → Option Kind → Bool
+is_idle_of_kind o ev path kind =
+    if is_worktree o path then true
+    else if is_indexed (ev.in_index path) kind then is_idle o (seeks_indexed (ev.in_index path) kind)
+    else not (ev.is_ruled && not (is_empty path)) && is_idle o (seeks_by_rules o kind None)
+
+-- the kind is settled without the disk: the disk may not be asked, an entry is up to date, or the caller knows the kind
+abbrev pub is_kind_known : Bool → Option Kind → Option Kind → Bool
+is_kind_known ask_disk up_to_date known = not ask_disk || is_some (first_of_kinds up_to_date known)
+
+-- The class of a path asks nothing of the worktree: neither the kind of the node there, nor where it leads, nor the rules.
+unfoldable pub asks_nothing : Chosen → Evidence → List ℕ → Option Kind → Bool → Bool
+asks_nothing o ev path known ask_disk =
+    if is_dot_git o.ignore_case path then not (is_some o.for_deletion && ev.is_ruled)
+    else if not (ev.can_match path (is_dir known)) then true
+    else is_kind_known ask_disk (ev.in_index path).up_to_date known && is_idle_of_kind o ev path (first_of_kinds (ev.in_index path).up_to_date known)
 
 -- it asks them, and they cannot be read
 abbrev pub asks_unread : Chosen → Evidence → List ℕ → Option Kind → Option Kind → Bool

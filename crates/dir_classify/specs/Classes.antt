@@ -9,20 +9,20 @@ use Rattle.worktree_stack.specs.Stacked.{Stacked}
 use Rattle.dir_classify.specs.declared.classify.Outcome.{Outcome}
 use Rattle.dir_classify.specs.declared.entry.Kind.{Kind}
 use Rattle.dir_classify.specs.declared.error.Error.{Error}
-use Rattle.dir_classify.specs.Class.{class as class_of, asks as asks_rules}
+use Rattle.dir_classify.specs.Class.{class as class_of, asks as asks_rules, asks_nothing}
 use Rattle.dir_classify.specs.Evidence.{Evidence}
 use Rattle.dir_classify.specs.Excludes.{made_with, TellsIf, InStepIf}
 use Rattle.dir_classify.specs.Faults.{IsJudged}
-use Rattle.dir_classify.specs.Kept.{AsksRules, KeepsRules, AsksAtMost}
+use Rattle.dir_classify.specs.Kept.{AsksRules, KeepsRules, AsksAtMost, AreUntouched}
 use Rattle.dir_classify.specs.Layers.{Setting, evidence, on_disk}
 use Rattle.dir_classify.specs.Refused.{IsAbout, Refuses, OnAccess, OnFault}
 
 -- What a question about `path` answers and leaves that is judged by the kind on disk, where that may be asked, and by the
 -- evidence; a worktree was `w0` and is `w1`, a store was `o0` and is `o1`, and the rules were `old` and are `new`. `asks` says
--- whether the rules are asked.
+-- whether the rules are asked, and `nothing` where nothing is asked of the worktree.
 pub record Judges {W F : Type 0} (w : WorktreeOf W) (f : FindOf F) (w0 w1 : W) (o0 o1 : F) (old new : Option Stacked)
-    (given : Setting) (path : List ℕ) (judge : Option Kind → Evidence → Outcome) (asks : Option Kind → Evidence → Bool) (ask_disk : Bool)
-    (result : Result Outcome Error) : Type 0 where
+    (given : Setting) (path : List ℕ) (judge : Option Kind → Evidence → Outcome) (asks : Option Kind → Evidence → Bool) (nothing : Evidence → Bool)
+    (ask_disk : Bool) (result : Result Outcome Error) : Type 0 where
   -- Over a told tree and a told store with which the rules are in step, and without a fault, it is exactly the class,
   -- and all rules that it needs were read.
   pub class : (s : Sources) → TellsIf (w.told w0) (f.holds o0) (made_with old) s → InStepIf s old → NotIncreased (w.faults w0) (w.faults w1)
@@ -42,10 +42,17 @@ pub record Judges {W F : Type 0} (w : WorktreeOf W) (f : FindOf F) (w0 w1 : W) (
   pub keeps : AsksRules w w0 w1
   pub store : AsksStore f o0 o1
   pub rules : KeepsRules w f w0 w1 o0 old new
-  pub reads : given.options.recurse_repositories ≡ true → AsksAtMost path (w.reads w0) (w.reads w1) old new result
+  -- Told or not, the rules were asked about this path alone.
+  pub reads : AsksAtMost given.options.recurse_repositories path (w.reads w0) (w.reads w1) old new result
+  -- Over a told tree and without a fault, they are not asked in vain.
+  pub unasked : (s : Sources) → w.told w0 ≡ Some s.tree → NotIncreased (w.faults w0) (w.faults w1)
+      → asks (on_disk given s.tree path ask_disk) (evidence given (made_with old) s) ≡ false → (o1 ≡ o0) × (new ≡ old)
+  -- Told or not, where nothing is asked of the worktree it is as it was.
+  pub untouched : (s : Sources) → nothing (evidence given (made_with old) s) ≡ true → AreUntouched w0 w1 o0 o1 old new
 
 -- The class of a path, which is the known kind or else, where the disk may be asked, that of its node.
 abbrev pub Classes : {W F : Type 0} → WorktreeOf W → FindOf F → W → W → F → F → Option Stacked → Option Stacked
     → Setting → List ℕ → Option Kind → Bool → Result Outcome Error → Type 0
 Classes w f w0 w1 o0 o1 old new given path known ask_disk result =
-    Judges w f w0 w1 o0 o1 old new given path (λ kind ev. class_of given.options ev path known kind) (λ kind ev. asks_rules given.options ev path known kind) ask_disk result
+    Judges w f w0 w1 o0 o1 old new given path (λ kind ev. class_of given.options ev path known kind) (λ kind ev. asks_rules given.options ev path known kind)
+    (λ ev. asks_nothing given.options ev path known ask_disk) ask_disk result

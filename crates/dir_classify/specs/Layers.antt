@@ -6,7 +6,7 @@ use Rattle.gitbase_core.specs.declared.entry.IndexEntry.{IndexEntry}
 use Rattle.gitbase_core.specs.declared.kinds.IndexKinds.{IndexKinds}
 use Rattle.gitbase_core.specs.Kinds.{kinds}
 use Rattle.gitbase_core.specs.Lookup.{kinds_icase, IsLookupOf}
-use Rattle.gitbase_core.specs.Path.{components, joined, normalized, relative_to}
+use Rattle.gitbase_core.specs.Path.{components, joined, normalized, past_slashes, relative_to}
 use Rattle.glob_rules.specs.declared.pathspec.Match.{Match}
 use Rattle.glob_rules.specs.declared.pathspec.matcher.Matcher.{Ghosts as MatcherOf}
 use Rattle.worktree_fs.specs.Tree.{Names, look}
@@ -79,9 +79,11 @@ git_at t cwd own full = record { is_git = is_git t full; is_own = is_path (real_
 abbrev pub rest_behind : List ℕ → List ℕ → Option (List ℕ)
 rest_behind directory path = if bytes_eq directory path then Some [] else relative_to directory path
 
--- the current directory as it reads from the worktree root, where it is that or lies beneath
+-- the current directory as it reads from the worktree root, where it is that or lies beneath: what follows the real path of the
+-- root, made normal as a relative path
 abbrev pub current_below : Names → List ℕ → List ℕ → Option (List ℕ)
-current_below t root cwd = option_and_then normalized (option_and_then (λ real. rest_behind real cwd) (real_path t root cwd))
+current_below t root cwd =
+    option_and_then (λ rest. normalized (past_slashes rest)) (option_and_then (λ real. rest_behind real cwd) (real_path t root cwd))
 
 abbrev pub blocked_in : Chosen → Names → List ℕ → List ℕ → Option (List ℕ)
 blocked_in o t root cwd = if is_some o.for_deletion then current_below t root cwd else None

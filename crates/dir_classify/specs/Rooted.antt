@@ -1,20 +1,23 @@
 -- What a call does that classes the paths on the way to a traversal root.
-use Rattle.std.specs.Prelude.{◌≡◌, ℕ, Bool, true, false, List, ◌++◌, Option, Result, IfOk, IfErr}
+use Rattle.std.specs.Prelude.{◌≡◌, ◌≤◌, ◌⊎◌, ℕ, ◌+◌, Bool, true, false, List, ◌++◌, length, Option, Result, IfOk, IfErr}
 use Rattle.gitbase_core.specs.Path.{components}
 use Rattle.gitbase_core.specs.declared.find.Find.{Ghosts as FindOf}
 use Rattle.worktree_fs.specs.declared.worktree.Worktree.{Ghosts as WorktreeOf}
 use Rattle.worktree_fs.specs.Causes.{NotIncreased, Increased}
 use Rattle.worktree_fs.specs.Kept.{AsksStore}
+use Rattle.worktree_fs.specs.Paths.{spelled}
+use Rattle.worktree_fs.specs.PathStack.{IsOnWay}
+use Rattle.worktree_stack.specs.Lookups.{staying, refused_one}
 use Rattle.worktree_stack.specs.Reading.{Sources}
 use Rattle.worktree_stack.specs.Setup.{Made}
-use Rattle.worktree_stack.specs.Stacked.{Stacked}
+use Rattle.worktree_stack.specs.Stacked.{Stacked, pushed}
 use Rattle.dir_classify.specs.declared.classify.RootOutcome.{RootOutcome}
 use Rattle.dir_classify.specs.declared.error.Error.{Error}
-use Rattle.dir_classify.specs.Excludes.{made_with, TellsIf, InStepIf}
-use Rattle.dir_classify.specs.Kept.{AsksRules, KeepsRules}
+use Rattle.dir_classify.specs.Excludes.{made_with, pushed_in, TellsIf, InStepIf}
+use Rattle.dir_classify.specs.Kept.{AsksRules, KeepsRules, Unasked}
 use Rattle.dir_classify.specs.Layers.{Setting, evidence, on_disk}
-use Rattle.dir_classify.specs.Refused.{IsAbout, Refuses, OnFault}
-use Rattle.dir_classify.specs.Way.{Reached, reached}
+use Rattle.dir_classify.specs.Refused.{IsAbout, Refuses, OnAccess, OnFault}
+use Rattle.dir_classify.specs.Way.{Reached, reached, IsReached}
 
 -- an answer is where the way ended
 abbrev pub reached_by : RootOutcome → Bool → Reached
@@ -24,14 +27,29 @@ reached_by root unread = record { path = root.path; class = root.outcome; in_rep
 abbrev pub way_to : Setting → Option Made → Sources → List ℕ → Reached
 way_to given made s root = reached given.options (evidence given made s) (λ path. on_disk given s.tree path true) (components root)
 
--- a path on the way: its components are the first ones of the traversal root
+-- a path on the way: its components are the first ones of the traversal root, and one slash parts each two of them
 pub record LeadsTo (root path : List ℕ) : Type 0 where
+  pub spelled_is : path ≡ spelled (components path)
   pub rest : List (List ℕ)
   pub components_are : components root ≡ components path ++ rest
 
 -- it is said of a path on the way
 abbrev pub OnWayTo : List ℕ → (List ℕ → Type 0) → Type 0
 OnWayTo root Said = (path : List ℕ) × LeadsTo root path × Said path
+
+-- The rules were asked about paths on the way to one. What is pushed lies on the way there. Where repositories are walked into, the
+-- worktree was read at most once for each directory that was pushed or refused from the first of these paths on.
+pub record AskedOnWay {T E : Type 0} (recurses : Bool) (root : List ℕ) (reads0 reads1 : ℕ) (old new : Option Stacked) (result : Result T E) : Type 0 where
+  pub first : List ℕ
+  pub leads : LeadsTo root first
+  pub on_way : IsOnWay (pushed_in new) (components root)
+  pub reads : recurses ≡ true
+      → reads1 + length (pushed (staying (pushed_in old) (components first))) ≤ reads0 + length (pushed (pushed_in new)) + refused_one result
+
+-- The rules were asked about paths on the way to one, or they were not asked.
+abbrev pub AsksOnWay : {T E : Type 0} → Bool → List ℕ → ℕ → ℕ → Option Stacked → Option Stacked → Result T E → Type 0
+AsksOnWay recurses root reads0 reads1 old new result =
+    Unasked recurses reads0 reads1 old new ⊎ AskedOnWay recurses root reads0 reads1 old new result
 
 -- What it answers and leaves; a worktree was `w0` and is `w1`, a store was `o0` and is `o1`, and the rules were `old` and are
 -- `new`.
@@ -41,14 +59,21 @@ pub record Reaches {W F : Type 0} (w : WorktreeOf W) (f : FindOf F) (w0 w1 : W) 
   -- and all rules that it needs were read.
   pub reached : (s : Sources) → TellsIf (w.told w0) (f.holds o0) (made_with old) s → InStepIf s old → NotIncreased (w.faults w0) (w.faults w1)
       → IfOk result (λ r. reached_by r false ≡ way_to given (made_with old) s root)
+  -- With faults it is where the way ends by what was read.
+  pub swallowed : (s : Sources) → TellsIf (w.told w0) (f.holds o0) (made_with old) s → InStepIf s old
+      → IfOk result (λ r. IsReached given.options (evidence given (made_with old) s) (λ path. on_disk given s.tree path true) (components root) (reached_by r false))
   -- Told or not, the path is one on the way.
   pub prefix : IfOk result (λ r. LeadsTo root r.path)
-  pub whole : IfOk result (λ r. r.whole ≡ true → components r.path ≡ components root)
+  pub whole : IfOk result (λ r. r.whole ≡ true → r.path ≡ root)
   -- Each refusal has its cause.
   pub about : IfErr result (λ e. OnWayTo root (λ path. IsAbout (made_with old) path e))
-  pub refused : (s : Sources) → TellsIf (w.told w0) (f.holds o0) (made_with old) s → IfErr result (λ e. OnWayTo root (λ path. Refuses s (made_with old) path e))
+  pub refused : (s : Sources) → TellsIf (w.told w0) (f.holds o0) (made_with old) s
+      → IfErr result (λ e. OnWayTo root (λ path. IsAbout (made_with old) path e × Refuses s (made_with old) path e))
+  pub asked : (s : Sources) → TellsIf (w.told w0) (f.holds o0) (made_with old) s → InStepIf s old → NotIncreased (w.faults w0) (w.faults w1)
+      → IfErr result (OnAccess (((way_to given (made_with old) s root).is_unread ≡ true) ⊎ Increased (f.faults o0) (f.faults o1)))
   pub cause : IfErr result (OnFault (Increased (w.faults w0) (w.faults w1)) (Increased (f.faults o0) (f.faults o1)))
   -- What stays.
   pub keeps : AsksRules w w0 w1
   pub store : AsksStore f o0 o1
   pub rules : KeepsRules w f w0 w1 o0 old new
+  pub reads : AsksOnWay given.options.recurse_repositories root (w.reads w0) (w.reads w1) old new result

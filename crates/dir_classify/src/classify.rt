@@ -1,6 +1,7 @@
 //! The class of a path, and the classes on the way to a traversal root.
 ghost use Rattle.std.specs.Prelude.{◌≡◌, true, false, None, IfOk};
-ghost use Rattle.worktree_fs.specs.Paths.{full_path, is_normal};
+ghost use Rattle.gitbase_core.specs.Path.{components};
+ghost use Rattle.worktree_fs.specs.Paths.{is_normal, spelled};
 ghost use Rattle.dir_classify.specs.Chosen.{chosen};
 ghost use Rattle.dir_classify.specs.Class.{class, asks, enters};
 ghost use Rattle.dir_classify.specs.Classes.{Classes, Judges};
@@ -9,12 +10,14 @@ ghost use Rattle.dir_classify.specs.Layers.{setting_in, setting_of, IsLookupIf};
 ghost use Rattle.dir_classify.specs.Rooted.{Reaches, reached_by};
 ghost use Rattle.dir_classify.specs.Way.{goes_on, reached_so};
 
-use crate::class;
 use crate::context::{Context, Shared};
 use crate::entry::{Entry, Kind, PathspecMatch, Property, Status, is_repository};
 use crate::error::Error;
 use crate::options::Options;
-use gitbase_core::{Find, OutOfMemory, PathText};
+use crate::paths::full_path;
+use crate::steps;
+pub use crate::steps::at;
+use gitbase_core::{Find, PathText};
 use glob_rules::ignore::Origin;
 use glob_rules::pathspec::Matcher;
 use std::alloc::Global;
@@ -28,13 +31,17 @@ pub struct Outcome {
     pub status: Status,
     /// What sets the path apart, where something does.
     pub property: Option<Property>,
-    /// The kind of the node on disk; none where nothing is there, or where it could not be learnt.
+    /// The kind of the node on disk, by an up-to-date entry of the index, by the caller, or by the worktree; a repository where
+    /// one was looked for and found. None where nothing is there, where it could not be learnt, and where nobody was asked.
     pub disk_kind: Option<Kind>,
-    /// The kind that the index has at the path; none where it has nothing there.
+    /// The kind that the index has at the path; none where it has nothing there, and for a path named `.git`, for one that no
+    /// path spec can match, and for one of the worktree set.
     pub index_kind: Option<Kind>,
-    /// How the path specs match; none where none does.
+    /// How the path specs match, or `Prefix` for an ignored directory that may lie above what is looked for; none where none
+    /// does.
     pub pathspec_match: Option<PathspecMatch>,
-    /// The ignore rule that decided about the path; none where none was asked or none did.
+    /// The ignore rule that decided about the path, which may be a negative one; none where none was asked or none did, and for a
+    /// path named `.git` that is not ignored.
     pub origin: Option<Origin>,
 }
 
@@ -80,12 +87,14 @@ pub struct RootOutcome {
 /// or the other way round), and in deletion for one named `.git`: they are read as they are needed, and kept for the next path.
 /// They are to tell which paths are excluded. The store is asked for the blobs that rules files are mapped to.
 ///
-/// `worktree_root` is absolute, without `.` and `..`. `rela_path` is normal: no component is `.` or `..`.
+/// `worktree_root` is absolute, without `.` and `..`. `rela_path` is relative and normalised, as `PathText::normalize` leaves a
+/// path: no component is `.` or `..`, one slash stands between each two, and none at the end.
 ///
 /// # Errors
 ///
-/// - `ExcludesAccess`: the rules file of a directory above the path is a link without an end or neither file nor
-///   directory, or could not be read, or is mapped to a blob that could not be had.
+/// - `ExcludesAccess`: the rules of a directory above the path were asked, and the rules file is a link without an end, a link
+///   that is not followed as the file is mapped to a blob, or neither file nor directory, or could not be read; or its blob is
+///   missing, is no blob, or could not be had.
 /// - `OutOfMemory`: memory was refused.
 pub fn path<W: Worktree, F: Find, I: Interrupt, M: Matcher>(
     alloc: Global,
@@ -97,6 +106,7 @@ pub fn path<W: Worktree, F: Find, I: Interrupt, M: Matcher>(
     ctx: &mut Context<'_, W, F, I, M>,
 ) -> Result<Outcome, Error>
     requires normal { is_normal rela_path.now ≡ true }
+    requires spelled { rela_path.now ≡ spelled (components rela_path.now) }
     requires lookup { IsLookupIf ctx.old.index.now ctx.old.ignore_case_index_lookup.now }
     requires excludes { tells_excludes (made_with ctx.old.excludes.now) ≡ true }
     ensures classes { Classes W.Worktree F.Find ctx.old.worktree.now ctx.new.worktree.now
@@ -113,7 +123,8 @@ pub fn path<W: Worktree, F: Find, I: Interrupt, M: Matcher>(
     ensures same_lookup { ctx.new.ignore_case_index_lookup ≡ ctx.old.ignore_case_index_lookup }
     ensures same_git_dir { ctx.new.git_dir_realpath ≡ ctx.old.git_dir_realpath }
     ensures same_current_dir { ctx.new.current_dir ≡ ctx.old.current_dir }
-    ensures same_traversal_root { ctx.new.explicit_traversal_root ≡ ctx.old.explicit_traversal_root }
+    ensures same_traversal_root { ctx.new.explicit_traversal_root
+        ≡ ctx.old.explicit_traversal_root }
     ensures same_limit { ctx.new.depth_limit ≡ ctx.old.depth_limit }
 {
     let shared = Shared {
@@ -126,7 +137,7 @@ pub fn path<W: Worktree, F: Find, I: Interrupt, M: Matcher>(
         options,
     };
     let full = full_path(alloc, worktree_root, rela_path)?;
-    class::at(
+    steps::at(
         alloc,
         full.as_bytes(),
         rela_path,
@@ -144,7 +155,7 @@ pub fn path<W: Worktree, F: Find, I: Interrupt, M: Matcher>(
 /// worktree root itself.
 ///
 /// The kind of each path is asked first, its last link not followed; a fault of that question reads as no kind.
-/// `worktree_relative_root` is normal: no component is `.` or `..`.
+/// `worktree_relative_root` is relative and normalised as `rela_path` of [`path`] is.
 ///
 /// # Errors
 ///
@@ -157,6 +168,8 @@ pub fn root<W: Worktree, F: Find, I: Interrupt, M: Matcher>(
     ctx: &mut Context<'_, W, F, I, M>,
 ) -> Result<RootOutcome, Error>
     requires normal { is_normal worktree_relative_root.now ≡ true }
+    requires spelled { worktree_relative_root.now
+        ≡ spelled (components worktree_relative_root.now) }
     requires lookup { IsLookupIf ctx.old.index.now ctx.old.ignore_case_index_lookup.now }
     requires excludes { tells_excludes (made_with ctx.old.excludes.now) ≡ true }
     ensures reaches { Reaches W.Worktree F.Find ctx.old.worktree.now ctx.new.worktree.now
@@ -173,7 +186,8 @@ pub fn root<W: Worktree, F: Find, I: Interrupt, M: Matcher>(
     ensures same_lookup { ctx.new.ignore_case_index_lookup ≡ ctx.old.ignore_case_index_lookup }
     ensures same_git_dir { ctx.new.git_dir_realpath ≡ ctx.old.git_dir_realpath }
     ensures same_current_dir { ctx.new.current_dir ≡ ctx.old.current_dir }
-    ensures same_traversal_root { ctx.new.explicit_traversal_root ≡ ctx.old.explicit_traversal_root }
+    ensures same_traversal_root { ctx.new.explicit_traversal_root
+        ≡ ctx.old.explicit_traversal_root }
     ensures same_limit { ctx.new.depth_limit ≡ ctx.old.depth_limit }
 {
     let shared = Shared {
@@ -205,6 +219,8 @@ pub fn root_at<W: Worktree, F: Find, M: Matcher>(
     objects: &mut F,
 ) -> Result<RootOutcome, Error>
     requires normal { is_normal worktree_relative_root.now ≡ true }
+    requires spelled { worktree_relative_root.now
+        ≡ spelled (components worktree_relative_root.now) }
     requires lookup { IsLookupIf shared.now.index.now shared.now.ignore_case_index_lookup.now }
     requires excludes { tells_excludes (made_with excludes.old) ≡ true }
     ensures { Reaches W.Worktree F.Find worktree.old worktree.new objects.old objects.new
@@ -270,16 +286,18 @@ fn class_on_way<W: Worktree, F: Find, M: Matcher>(
     objects: &mut F,
 ) -> Result<Outcome, Error>
     requires normal { is_normal rela_path.now ≡ true }
+    requires spelled { rela_path.now ≡ spelled (components rela_path.now) }
     requires lookup { IsLookupIf shared.now.index.now shared.now.ignore_case_index_lookup.now }
     requires excludes { tells_excludes (made_with excludes.old) ≡ true }
-    ensures { Judges W.Worktree F.Find worktree.old worktree.new objects.old objects.new excludes.old
-        excludes.new (setting_of M.Matcher shared.now) rela_path.now
+    ensures { Judges W.Worktree F.Find worktree.old worktree.new objects.old objects.new
+        excludes.old excludes.new (setting_of M.Matcher shared.now) rela_path.now
         (λ kind ev. class (chosen shared.now.options) ev rela_path.now kind None)
-        (λ kind ev. asks (chosen shared.now.options) ev rela_path.now kind None) true result }
+        (λ kind ev. asks (chosen shared.now.options) ev rela_path.now kind None) (λ _. false) true
+        result }
 {
     let full = full_path(alloc, shared.worktree_root, rela_path)?;
-    let kind = class::kind_on_disk(alloc, worktree, full.as_bytes())?;
-    let class = class::at(
+    let kind = steps::kind_on_disk(alloc, worktree, full.as_bytes())?;
+    let class = steps::at(
         alloc,
         full.as_bytes(),
         rela_path,
@@ -291,15 +309,4 @@ fn class_on_way<W: Worktree, F: Find, M: Matcher>(
         objects,
     )?;
     Ok(class)
-}
-
-/// The whole path of one that is relative to the worktree root.
-fn full_path(alloc: Global, worktree_root: &[u8], rela_path: &[u8]) -> Result<PathText, OutOfMemory>
-    ensures { IfOk result (λ full. full ≡ full_path worktree_root.now rela_path.now) }
-{
-    let mut full = PathText::from_bytes(alloc, worktree_root)?;
-    if !rela_path.is_empty() {
-        full.push_component(alloc, rela_path)?;
-    }
-    Ok(full)
 }

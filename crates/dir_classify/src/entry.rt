@@ -34,9 +34,10 @@ pub enum Kind {
     File,
     /// A symbolic link.
     Symlink,
-    /// A directory, as far as it was not looked at as a repository.
+    /// A directory in which no repository was looked for, or none was found; in the index one that has entries, or a sparse one.
     Directory,
-    /// A directory that is a repository of its own, as a submodule is.
+    /// A repository of its own: in the index a submodule, on disk what was found to lead to one, mostly a directory with `.git`
+    /// in it, or what the worktree set names.
     Repository,
 }
 
@@ -84,13 +85,16 @@ impl From<EntryKind> for Kind {
 /// How a path stands to the index and the rules.
 #[derive(Clone, Copy, Debug, PartialEq, Eq, PartialOrd, Ord, Hash)]
 pub enum Status {
-    /// Left out before anything else was asked: it is named `.git`, or lies outside a sparse checkout.
+    /// Left out: it is named `.git`, no path spec can match it or what lies beneath it, the index has it outside a sparse
+    /// checkout, or it is no directory, neither tracked nor ignored, and no path spec matches it.
     Pruned,
-    /// In the index, as a node of the same shape as on disk.
+    /// The index has it, and agrees with the disk on whether it holds names; also what neither of them has. Or it is one of the
+    /// worktree set.
     Tracked,
-    /// On disk alone, and excluded by an ignore rule, which says what may become of it.
+    /// It is not tracked, and an ignore rule excludes it, which says what may become of it. In deletion so is a path named `.git`
+    /// that lies in a directory.
     Ignored(ignore::Kind),
-    /// On disk alone.
+    /// It is neither tracked nor ignored: a directory, or what a path spec matches.
     Untracked,
 }
 
@@ -102,7 +106,7 @@ impl Status {
         matches!(self, Status::Pruned)
     }
 
-    /// Whether the path is on disk alone and excluded.
+    /// Whether the path is excluded by an ignore rule.
     pub fn is_ignored(&self) -> bool
         ensures { result ≡ is_ignored_status self.now }
     {
@@ -196,11 +200,11 @@ pub fn holds_names(kind: Option<Kind>) -> bool
 /// How the path specs match a path; a later variant names it more closely.
 #[derive(Clone, Copy, Debug, PartialEq, Eq, PartialOrd, Ord, Hash)]
 pub enum PathspecMatch {
-    /// No spec was given, so all is matched.
+    /// A spec has the empty path, or no spec is positive and none excludes.
     Always,
     /// A spec takes the path out.
     Excluded,
-    /// A spec names a directory above the path.
+    /// A spec names a directory above the path; or the path is an ignored directory that may lie above what is looked for.
     Prefix,
     /// A spec matches by its wildcards.
     WildcardMatch,
@@ -250,13 +254,17 @@ pub struct Entry {
     pub status: Status,
     /// What sets the path apart, where something does.
     pub property: Option<Property>,
-    /// The kind of the node on disk; none where nothing is there, or where it could not be learnt.
+    /// The kind of the node on disk, by an up-to-date entry of the index, by the caller, or by the worktree; a repository where
+    /// one was looked for and found. None where nothing is there, where it could not be learnt, and where nobody was asked.
     pub disk_kind: Option<Kind>,
-    /// The kind that the index has at the path; none where it has nothing there.
+    /// The kind that the index has at the path; none where it has nothing there, and for a path named `.git`, for one that no
+    /// path spec can match, and for one of the worktree set.
     pub index_kind: Option<Kind>,
-    /// How the path specs match; none where none does.
+    /// How the path specs match, or `Prefix` for an ignored directory that may lie above what is looked for; none where none
+    /// does.
     pub pathspec_match: Option<PathspecMatch>,
-    /// The ignore rule that decided about the path; none where none was asked or none did.
+    /// The ignore rule that decided about the path, which may be a negative one; none where none was asked or none did, and for a
+    /// path named `.git` that is not ignored.
     pub origin: Option<ignore::Origin>,
 }
 
@@ -269,13 +277,17 @@ pub struct EntryRef<'a> {
     pub status: Status,
     /// What sets the path apart, where something does.
     pub property: Option<Property>,
-    /// The kind of the node on disk; none where nothing is there, or where it could not be learnt.
+    /// The kind of the node on disk, by an up-to-date entry of the index, by the caller, or by the worktree; a repository where
+    /// one was looked for and found. None where nothing is there, where it could not be learnt, and where nobody was asked.
     pub disk_kind: Option<Kind>,
-    /// The kind that the index has at the path; none where it has nothing there.
+    /// The kind that the index has at the path; none where it has nothing there, and for a path named `.git`, for one that no
+    /// path spec can match, and for one of the worktree set.
     pub index_kind: Option<Kind>,
-    /// How the path specs match; none where none does.
+    /// How the path specs match, or `Prefix` for an ignored directory that may lie above what is looked for; none where none
+    /// does.
     pub pathspec_match: Option<PathspecMatch>,
-    /// The ignore rule that decided about the path; none where none was asked or none did.
+    /// The ignore rule that decided about the path, which may be a negative one; none where none was asked or none did, and for a
+    /// path named `.git` that is not ignored.
     pub origin: Option<ignore::Origin>,
 }
 

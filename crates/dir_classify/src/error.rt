@@ -36,7 +36,7 @@ pub enum Error {
     WorktreeRootIsFile {
         root: PathText,
     },
-    /// The traversal root is absolute, or leads out of the worktree; `root` is as it was handed in.
+    /// The traversal root is absolute, or leads out of the worktree; `root` is as it was handed in, or as the path specs give it.
     #[error("Traversal root '{}' contains relative path components and could not be normalized", shown(.root))]
     NormalizeRoot {
         root: PathText,
@@ -48,11 +48,14 @@ pub enum Error {
         worktree_root: PathText,
         component_index: usize,
     },
-    /// A rules file that says whether a path is excluded was not read.
+    /// The rules of a directory above a path were asked, and were not read: the rules file is a link without an end, a link
+    /// that is not followed as the file is mapped to a blob, neither file nor directory, or could not be read; or its blob is
+    /// missing, is no blob, or could not be had.
     #[error("Failed to update the excludes stack to see if a path is excluded")]
     ExcludesAccess(AtPathError),
-    /// The directory at `path` was to be entered, and its names could not be listed. Without a fault that is so
-    /// where the index calls an up-to-date path a directory that is none on disk.
+    /// The directory at `path` was to be entered, and its names could not be listed: nothing is there, no directory is, or the
+    /// worktree failed. Where it did not fail, the path was taken for a directory by what the index calls up to date, as one of
+    /// the worktree set, or as an ignored path that leads to a repository.
     #[error("Failed to read the directory at '{}'", shown(.path))]
     ReadDir {
         path: PathText,

@@ -9,7 +9,7 @@ ghost use Rattle.worktree_stack.specs.Setup.{has_excludes};
 ghost use Rattle.worktree_stack.specs.Stacked.{made_of};
 ghost use Rattle.dir_classify.specs.Evidence.{no_ruling};
 ghost use Rattle.dir_classify.specs.Excludes.{made_with, tells_excludes, TellsIf, InStepIf};
-ghost use Rattle.dir_classify.specs.Kept.{AsksRules, KeepsRules, AsksAtMost};
+ghost use Rattle.dir_classify.specs.Kept.{AsksRules, KeepsRules, AsksAtMost, AreUntouched};
 ghost use Rattle.dir_classify.specs.Layers.{ruling_in, is_unread_in};
 ghost use Rattle.dir_classify.specs.Refused.{IsAbout, Refuses, OnFault};
 
@@ -76,8 +76,12 @@ pub(crate) fn ruling_of<W: Worktree, F: Find>(
     ensures store { AsksStore F.Find objects.old objects.new }
     ensures rules { KeepsRules W.Worktree F.Find worktree.old worktree.new objects.old excludes.old
         excludes.new }
-    ensures reads { AsksAtMost rela_path.now (W.reads worktree.old) (W.reads worktree.new)
+    ensures reads { AsksAtMost true rela_path.now (W.reads worktree.old) (W.reads worktree.new)
         excludes.old excludes.new result }
+    ensures no_rules { is_some (made_with excludes.old) ≡ false
+        → IfOk result (λ r. r ≡ no_ruling) }
+    ensures untouched { is_some (made_with excludes.old) ≡ false
+        → AreUntouched worktree.old worktree.new objects.old objects.new excludes.old excludes.new }
 {
     match excludes {
         Some(stack) => ruling_by(alloc, rela_path, is_dir, stack, worktree, objects),
@@ -113,7 +117,7 @@ fn ruling_by<W: Worktree, F: Find>(
     ensures store { AsksStore F.Find objects.old objects.new }
     ensures rules { KeepsRules W.Worktree F.Find worktree.old worktree.new objects.old
         (Some stack.old) (Some stack.new) }
-    ensures reads { AsksAtMost rela_path.now (W.reads worktree.old) (W.reads worktree.new)
+    ensures reads { AsksAtMost true rela_path.now (W.reads worktree.old) (W.reads worktree.new)
         (Some stack.old) (Some stack.new) result }
 {
     stack.at_path(alloc, rela_path, mode_of(is_dir), worktree, objects)?;

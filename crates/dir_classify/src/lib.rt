@@ -3,19 +3,22 @@
 #![tactic(auto)]
 
 mod cases;
-pub mod class;
 pub mod classify;
 pub mod context;
 pub mod entry;
 pub mod error;
-pub mod excludes;
-pub mod index;
+mod excludes;
+mod index;
 pub mod options;
+mod paths;
 pub mod repository;
+mod seeking;
+mod steps;
 
 pub use context::{Context, Shared};
 pub use entry::{Entry, EntryRef, Kind, PathspecMatch, Property, Status};
 pub use error::{Error, MetadataWhy, ReadWhy};
 pub use excludes::tells_excludes;
 pub use options::{CollapsedEntriesEmissionMode, EmissionMode, ForDeletionMode, Options};
+pub use paths::full_path;
 pub use repository::maybe_upgrade_to_repository;

@@ -52,7 +52,7 @@ pub struct Options<'a> {
     pub ignore_case: bool,
     /// Whether repositories in the worktree are walked like other directories.
     pub recurse_repositories: bool,
-    /// Whether pruned paths are emitted too, and those that no path spec matches.
+    /// Whether pruned paths are emitted too, and of the other paths those that no path spec matches or that one takes out.
     pub emit_pruned: bool,
     /// Whether ignored paths are emitted too, and how.
     pub emit_ignored: Option<EmissionMode>,
@@ -96,24 +96,18 @@ pub(crate) fn has_worktree_beneath(options: &Options<'_>, path: &[u8]) -> bool
     }
 }
 
+/// Whether a path is one of a set: the set is passed over up to it.
 fn has_path(dirs: &BTreeSet<PathText>, path: &[u8]) -> bool
     ensures { result ≡ list_any (bytes_eq path.now) dirs.now.keys }
 {
-    let mut some = false;
-    for dir in dirs.iter() {
-        some = some | (path == dir.as_bytes());
-    }
-    some
+    dirs.iter().any(|dir| path == dir.as_bytes())
 }
 
+/// Whether one of a set lies beneath a path: the set is passed over up to the first that does.
 fn has_beneath(dirs: &BTreeSet<PathText>, path: &[u8]) -> bool
     ensures { result ≡ list_any (lies_beneath path.now) dirs.now.keys }
 {
-    let mut some = false;
-    for dir in dirs.iter() {
-        some = some | lies_beneath(path, dir.as_bytes());
-    }
-    some
+    dirs.iter().any(|dir| lies_beneath(path, dir.as_bytes()))
 }
 
 /// Whether the entries are to be deleted.

@@ -40,7 +40,9 @@ pub fn maybe_upgrade_to_repository<W: Worktree>(
         (git_at t current_dir.now git_dir_realpath.now path.now)
         (git_at t current_dir.now git_dir_realpath.now (joined path.now dot_git))) }
     ensures keeps { Asks W.Worktree worktree.old worktree.new }
-    ensures reads { recurse_repositories ≡ true → W.reads worktree.new ≡ W.reads worktree.old }
+    ensures unasked { recurse_repositories ≡ true → worktree.new ≡ worktree.old }
+    ensures same_kind { recurse_repositories ≡ true
+        → IfOk result (λ kind. kind ≡ current_kind) }
 {
     if recurse_repositories {
         return Ok(current_kind);

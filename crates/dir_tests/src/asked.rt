@@ -1,26 +1,37 @@
-//! What classes are asked with: options, path specs and directories that are worktrees of their own.
-use dir_classify::{EmissionMode, ForDeletionMode, Options};
+//! What classes and walks are asked with.
+use crate::cases::number;
+use dir_classify::{CollapsedEntriesEmissionMode, EmissionMode, ForDeletionMode, Options};
 use gitbase_core::{Bytes, PathText};
 use glob_rules::pathspec::{Defaults, Error, Search, Spec};
 use std::alloc::Global;
 use std::collections::BTreeSet;
 
-/// What classes are asked with.
+/// What classes and walks are asked with.
 #[derive(Drop)]
 pub struct Asked {
     /// The words of the options that are on, parted by spaces.
     pub options: Bytes,
     pub specs: Search,
     pub worktrees: BTreeSet<PathText>,
+    /// The traversal root that is handed in.
+    pub root: Option<Bytes>,
+    pub current_dir: Bytes,
+    pub depth_limit: usize,
+    /// The question from which on the interrupt is raised; 0 for never.
+    pub raised: usize,
 }
 
 impl Asked {
-    /// No option is on, and all paths are meant.
+    /// No option is on, all paths are meant, and a walk goes nine directories deep from the worktree root.
     pub fn plainly(alloc: Global) -> Asked {
         Asked {
             options: Bytes::new(alloc),
             specs: Search::from_specs(Vec::new(alloc)),
             worktrees: BTreeSet::new(alloc),
+            root: None,
+            current_dir: Bytes::new(alloc),
+            depth_limit: 9,
+            raised: 0,
         }
     }
 }
@@ -52,10 +63,32 @@ fn deletion_of(words: &[u8]) -> Option<ForDeletionMode> {
 /// How ignored paths are shown, if they are.
 fn shown_of(words: &[u8]) -> Option<EmissionMode> {
     if is_among(words, b"shown") {
-        Some(EmissionMode::Matching)
-    } else {
-        None
+        return Some(EmissionMode::Matching);
     }
+    if is_among(words, b"shown-folded") {
+        return Some(EmissionMode::CollapseDirectory);
+    }
+    None
+}
+
+/// How untracked paths are shown.
+fn untracked_of(words: &[u8]) -> EmissionMode {
+    if is_among(words, b"folding") {
+        EmissionMode::CollapseDirectory
+    } else {
+        EmissionMode::Matching
+    }
+}
+
+/// What is shown beneath a directory that is folded, if anything is.
+fn collapsed_of(words: &[u8]) -> Option<CollapsedEntriesEmissionMode> {
+    if is_among(words, b"within") {
+        return Some(CollapsedEntriesEmissionMode::All);
+    }
+    if is_among(words, b"within-unlike") {
+        return Some(CollapsedEntriesEmissionMode::OnStatusMismatch);
+    }
+    None
 }
 
 /// The options that these words name, with these worktrees.
@@ -63,9 +96,14 @@ pub fn options_of<'a>(words: &[u8], worktrees: &'a BTreeSet<PathText>) -> Option
     Options {
         ignore_case: is_among(words, b"folded"),
         recurse_repositories: is_among(words, b"recursing"),
+        emit_pruned: is_among(words, b"pruned"),
         emit_ignored: shown_of(words),
         for_deletion: deletion_of(words),
         classify_untracked_bare_repositories: is_among(words, b"bare"),
+        emit_tracked: is_among(words, b"tracked"),
+        emit_untracked: untracked_of(words),
+        emit_empty_directories: is_among(words, b"empty"),
+        emit_collapsed: collapsed_of(words),
         symlinks_to_directories_are_ignored_like_directories: is_among(words, b"followed"),
         worktree_relative_worktree_dirs: Some(worktrees),
         ..Options::default()
@@ -101,13 +139,33 @@ fn has_worktree(alloc: Global, asked: &mut Asked, path: &[u8]) -> bool {
     }
 }
 
-/// Whether the classes that follow are asked with what a step says: with these options alone, with these specs alone, or
-/// with one more worktree.
+fn has_root(alloc: Global, asked: &mut Asked, root: &[u8]) -> bool {
+    match Bytes::from_slice(alloc, root) {
+        Ok(root) => {
+            asked.root = Some(root);
+            true
+        }
+        Err(_) => false,
+    }
+}
+
+/// Whether what follows is asked with what a step says: with these options alone, with these specs alone, with one more
+/// worktree, or with this traversal root, current directory, depth limit or interrupt.
 pub fn is_asked(alloc: Global, asked: &mut Asked, what: &[u8], words: &[u8]) -> bool {
     match what {
         b"options" => asked.options.set(alloc, words).is_ok(),
         b"specs" => has_specs(alloc, asked, words),
         b"worktree" => has_worktree(alloc, asked, words),
+        b"root" => has_root(alloc, asked, words),
+        b"current" => asked.current_dir.set(alloc, words).is_ok(),
+        b"depth" => {
+            asked.depth_limit = number(words);
+            true
+        }
+        b"raised" => {
+            asked.raised = number(words);
+            true
+        }
         _ => false,
     }
 }

@@ -1,10 +1,10 @@
 //! Cases: scripts of steps that make a worktree, its index and its rules, and that say what must be answered of them.
 //!
-//! A case begins with its name and its global rules (`-`: no rules at all); its steps are parted by bars, and the words of
-//! a step by backquotes.
+//! A case begins with its name, its global rules (`-`: no rules at all) and, where they are so, `strict` for strict parents; its
+//! steps are parted by bars, and the words of a step by backquotes.
 use crate::asked::{Asked, is_asked};
 use crate::classes::{is_class, is_root, is_upgraded};
-use crate::walks::is_walk;
+use crate::walks::{is_given, is_walk};
 use bstr::ByteSlice;
 use gitbase_core::{Bytes, Flags, IndexEntry, Mode, ObjectId, OutOfMemory, PathText, State};
 use glob_rules::Case;
@@ -28,12 +28,14 @@ pub fn parted(row: &[u8]) -> (&[u8], &[u8]) {
     row.split_once_str(b"`").unwrap_or((row, b""))
 }
 
-/// The number of one digit.
-pub fn digit(word: &[u8]) -> usize {
-    match word.first() {
-        Some(byte) => usize::from(byte.saturating_sub(b'0')),
-        None => 0,
+/// The number of some digits.
+pub fn number(word: &[u8]) -> usize {
+    let mut number = 0usize;
+    for byte in word {
+        let digit = usize::from(byte.saturating_sub(b'0'));
+        number = number.saturating_mul(10).saturating_add(digit);
     }
+    number
 }
 
 const PRECIOUS: ParseIgnore = ParseIgnore {
@@ -49,10 +51,17 @@ fn search_of(alloc: Global, rules: &[u8]) -> Result<Search, OutOfMemory> {
 }
 
 /// The rules below `/w` of these globals and of the `.gitignore` in each directory.
-fn stack_of(alloc: Global, globals: &[u8]) -> Result<Stack, OutOfMemory> {
+fn stack_of(alloc: Global, globals: &[u8], strict: bool) -> Result<Stack, OutOfMemory> {
     let globals = search_of(alloc, globals)?;
     let source = Source::default();
-    let ignore = Ignore::new(alloc, Search::new(alloc), globals, None, source, PRECIOUS)?;
+    let ignore = Ignore::new(
+        alloc,
+        Search::new(alloc),
+        globals,
+        None,
+        source,
+        PRECIOUS,
+    )?.with_strict_parents(strict);
     Ok(Stack::new(
         alloc,
         PathText::from_bytes(alloc, b"/w")?,
@@ -165,6 +174,7 @@ fn holds(alloc: Global, world: &mut World, step: &[u8]) -> bool {
         b"class" => is_class(alloc, world, one, two),
         b"root" => is_root(alloc, world, one, two),
         b"walk" => is_walk(alloc, world, one, two),
+        b"give" => is_given(alloc, world, one, two),
         b"ask" => is_asked(alloc, &mut world.asked, one, two),
         b"upgrade" => is_upgraded(alloc, &mut world.tree, one, two),
         b"git" => is_git_put(alloc, &mut world.tree, one),
@@ -172,8 +182,8 @@ fn holds(alloc: Global, world: &mut World, step: &[u8]) -> bool {
             let (mode, flags) = parted(two);
             is_indexed(alloc, &mut world.index, one, mode, flags)
         }
-        b"fail" => is_planned(alloc, &mut world.tree, one, digit(two) as u64),
-        b"faults" => world.tree.fault_count() == digit(one) as u64,
+        b"fail" => is_planned(alloc, &mut world.tree, one, number(two) as u64),
+        b"faults" => world.tree.fault_count() == number(one) as u64,
         b"reversed" => {
             world.tree.set_reversed(true);
             true
@@ -195,10 +205,11 @@ fn first_lie<'a>(alloc: Global, world: &mut World, steps: &'a [u8]) -> Option<&'
 /// The first step of a case that does not hold; the case itself where its rules could not be made.
 pub fn lie_of(alloc: Global, case: &[u8]) -> Option<&[u8]> {
     let (head, steps) = case.split_once_str(b"|").unwrap_or((case, b""));
-    let (_, globals) = parted(head);
+    let (_, rules) = parted(head);
+    let (globals, strict) = parted(rules);
     let stack = match globals {
         b"-" => None,
-        _ => match stack_of(alloc, globals) {
+        _ => match stack_of(alloc, globals, strict == b"strict".as_slice()) {
             Ok(stack) => Some(stack),
             Err(_) => return Some(case),
         },

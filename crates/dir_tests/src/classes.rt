@@ -1,8 +1,8 @@
 //! The class of a path, case by case.
 ghost use Rattle.std.specs.Prelude.{◌≡◌, true, IfOk};
-ghost use Rattle.worktree_fs.specs.Paths.{is_normal};
 ghost use Rattle.dir_classify.specs.Excludes.{made_with, tells_excludes};
 ghost use Rattle.dir_classify.specs.Layers.{IsLookupIf};
+ghost use Rattle.dir_walk.specs.Rooting.{IsRoot};
 
 use crate::asked::options_of;
 use crate::cases::{World, lie_of, parted};
@@ -12,11 +12,11 @@ use dir_classify::{
     Context, Error, Kind, Options, PathspecMatch, Property, Status, maybe_upgrade_to_repository,
     tells_excludes,
 };
-use gitbase_core::{AccelerateLookup, MemoryStore, OutOfMemory, State};
+use gitbase_core::{AccelerateLookup, MemoryStore, OutOfMemory, PathText, State, is_absolute};
 use glob_rules::ignore;
 use glob_rules::pathspec::Search;
 use std::alloc::Global;
-use worktree_fs::{MemoryWorktree, PlannedInterrupt, is_normal};
+use worktree_fs::{MemoryWorktree, PlannedInterrupt};
 use worktree_stack::{AtPathError, RulesWhy, Stack};
 
 /// Cases, parted by `@`. A step `class` names a path, what is known of its kind (`ask`: nothing, and the worktree may be
@@ -135,7 +135,8 @@ pub fn status_word(status: Status) -> &'static [u8] {
     }
 }
 
-fn kind_word(kind: Option<Kind>) -> &'static [u8] {
+/// The word of a kind in cases.
+pub fn kind_word(kind: Option<Kind>) -> &'static [u8] {
     match kind {
         None => b"-",
         Some(Kind::Untrackable) => b"untrackable",
@@ -146,7 +147,8 @@ fn kind_word(kind: Option<Kind>) -> &'static [u8] {
     }
 }
 
-fn property_word(property: Option<Property>) -> &'static [u8] {
+/// The word of a property in cases.
+pub fn property_word(property: Option<Property>) -> &'static [u8] {
     match property {
         None => b"-",
         Some(Property::DotGit) => b"dot-git",
@@ -167,16 +169,22 @@ fn known_kind(word: &[u8]) -> Option<Kind> {
     }
 }
 
+/// The word of a match in cases.
+pub fn match_word(found: Option<PathspecMatch>) -> &'static [u8] {
+    match found {
+        None => b"-",
+        Some(PathspecMatch::Always) => b"always",
+        Some(PathspecMatch::Excluded) => b"excluded",
+        Some(PathspecMatch::Prefix) => b"prefix",
+        Some(PathspecMatch::WildcardMatch) => b"wildcard",
+        Some(PathspecMatch::Verbatim) => b"verbatim",
+    }
+}
+
 /// Whether a match has this word; without one, all paths are meant.
 fn has_match(found: Option<PathspecMatch>, word: &[u8]) -> bool {
-    match found {
-        None => word == b"-".as_slice(),
-        Some(PathspecMatch::Always) => word.is_empty(),
-        Some(PathspecMatch::Excluded) => word == b"excluded".as_slice(),
-        Some(PathspecMatch::Prefix) => word == b"prefix".as_slice(),
-        Some(PathspecMatch::WildcardMatch) => word == b"wildcard".as_slice(),
-        Some(PathspecMatch::Verbatim) => word == b"verbatim".as_slice(),
-    }
+    let found = match_word(found);
+    found == word || (word.is_empty() && found == b"always".as_slice())
 }
 
 /// Whether a class has these words: status, property, the kind on disk, that in the index and the match.
@@ -218,6 +226,19 @@ fn lookup_of(alloc: Global, index: &State) -> Result<Option<AccelerateLookup>, O
     Ok(Some(AccelerateLookup::new(alloc, index)?))
 }
 
+/// A path below a root as `normalize` leaves it.
+fn normal_of(alloc: Global, path: &[u8]) -> Result<PathText, OutOfMemory>
+    ensures { IfOk result IsRoot }
+{
+    let Some(path) = PathText::from_bytes(alloc, path)?.normalize(alloc)? else {
+        return Err(OutOfMemory);
+    };
+    if is_absolute(path.as_bytes()) {
+        return Err(OutOfMemory);
+    }
+    Ok(path)
+}
+
 /// The class of a path below `/w`, whose own git directory is `/w/.git`.
 fn class_in<'a>(
     alloc: Global,
@@ -233,7 +254,7 @@ fn class_in<'a>(
     index: &'a State,
     lookup: &'a Option<AccelerateLookup>,
 ) -> Result<Outcome, Error>
-    requires normal { is_normal path.now ≡ true }
+    requires root { IsRoot path.now }
     requires lookup { IsLookupIf index.now lookup.now }
     requires excludes { tells_excludes (made_with excludes.old) ≡ true }
 {
@@ -261,13 +282,14 @@ fn class_of(
     known: Option<Kind>,
     ask: bool,
 ) -> Result<Outcome, Error> {
-    if !tells_excludes(&world.excludes) || !is_normal(path) {
+    if !tells_excludes(&world.excludes) {
         return Err(Error::OutOfMemory);
     }
     let lookup = lookup_of(alloc, &world.index)?;
+    let path = normal_of(alloc, path)?;
     class_in(
         alloc,
-        path,
+        path.as_bytes(),
         known,
         ask,
         options_of(world.asked.options.as_bytes(), &world.asked.worktrees),
@@ -302,7 +324,7 @@ fn way_in<'a>(
     index: &'a State,
     lookup: &'a Option<AccelerateLookup>,
 ) -> Result<RootOutcome, Error>
-    requires normal { is_normal path.now ≡ true }
+    requires root { IsRoot path.now }
     requires lookup { IsLookupIf index.now lookup.now }
     requires excludes { tells_excludes (made_with excludes.old) ≡ true }
 {
@@ -329,14 +351,15 @@ fn way_of(
     root: &[u8],
     path: &[u8],
 ) -> Result<RootOutcome, Error> {
-    if !tells_excludes(&world.excludes) || !is_normal(path) {
+    if !tells_excludes(&world.excludes) {
         return Err(Error::OutOfMemory);
     }
     let lookup = lookup_of(alloc, &world.index)?;
+    let path = normal_of(alloc, path)?;
     way_in(
         alloc,
         root,
-        path,
+        path.as_bytes(),
         options_of(world.asked.options.as_bytes(), &world.asked.worktrees),
         &mut world.tree,
         &mut MemoryStore::new(alloc),

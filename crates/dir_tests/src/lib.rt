@@ -11,6 +11,10 @@ mod classes;
 #[cfg(test)]
 mod entries;
 #[cfg(test)]
+mod odd;
+#[cfg(test)]
+mod refusals;
+#[cfg(test)]
 mod texts;
 #[cfg(test)]
 mod walks;

@@ -1,60 +1,192 @@
 //! Walks, case by case.
-ghost use Rattle.std.specs.Prelude.{◌≡◌, false, None};
-ghost use Rattle.dir_classify.specs.Chosen.{chosen, is_folding};
+ghost use Rattle.std.specs.Prelude.{◌≡◌, true};
+ghost use Rattle.dir_classify.specs.Excludes.{made_with, tells_excludes};
 
-use crate::cases::{World, digit, lie_of, parted};
-use crate::classes::status_word;
+use crate::asked::options_of;
+use crate::cases::{World, lie_of, number, parted};
+use crate::classes::{kind_word, match_word, property_word, status_word};
+use crate::odd::{Looks, Odd};
+use crate::refusals::is_error;
 use bstr::ByteSlice;
-use dir_classify::{Context, EmissionMode, Entry, Error, Options, ReadWhy, Status, tells_excludes};
+use dir_classify::{Context, Entry, Error, Options, Status, tells_excludes};
 use dir_walk::walk::walk;
-use dir_walk::{Collect, Report, walk_by_path};
-use gitbase_core::MemoryStore;
+use dir_walk::{Outcome, Report, walk_by_path};
+use gitbase_core::{Bytes, MemoryStore, PathText, State};
+use glob_rules::ignore::{Origin, RuleGroup};
 use glob_rules::pathspec::Search;
 use std::alloc::Global;
 use worktree_fs::{MemoryWorktree, PlannedInterrupt};
-use worktree_stack::{AtPathError, RulesWhy};
+use worktree_stack::Stack;
 
-/// Cases, parted by `@`. A step `walk` names a root, whether all paths are to be shown or the untracked ones alone with the
-/// depth limit, and the answer: how many directories were read and how many entries were met, then each entry; or why there
-/// is none, and where.
-const CASES: &[u8] = b"\
-tracked and untracked`-|file`/w/d/u|file`/w/d/t|directory`/w/e|index`d/t`file|\
-walk`/w`all 1`3`3`tracked d/t`untracked d/u|walk`/w`new 1`3`3`untracked d/u@\
+/// Cases, parted by `@`. A step `walk` names a worktree root and the answer: the path where the walk began, how many directories
+/// were read, how many entries were met, and the entries by path; or why there is none, where, and for a link in the traversal
+/// root at which component. An entry is its status, its kind on disk, that in the index, how path specs match, its property, the
+/// status of what was folded over it, the rule that decided about excludes, and its path. A rule is `globals` or how many
+/// components the directory of its list has, then its line and its sign.
+const WALKS: &[u8] = b"\
+an empty directory`-|directory`/w/e|walk`/w`/w`2`1|ask`options`empty|\
+walk`/w`/w`2`1`untracked directory - always empty - - e@\
 order of paths`-|file`/w/ab|file`/w/a/c|file`/w/a.b|file`/w/a/b|file`/w/B|\
-walk`/w`new 1`2`5`untracked B`untracked a.b`untracked a/b`untracked a/c`untracked ab|\
-walk`//w/`new 1`2`5`untracked B`untracked a.b`untracked a/b`untracked a/c`untracked ab|reversed|\
-walk`/w`new 1`2`5`untracked B`untracked a.b`untracked a/b`untracked a/c`untracked ab|\
-walk`/w/../w`new 1`2`5`untracked B`untracked a.b`untracked a/b`untracked a/c`untracked ab@\
+walk`/w`/w`2`5`untracked file - always - - - B`untracked file - always - - - a.b`untracked file - always - - - a/b`\
+untracked file - always - - - a/c`untracked file - always - - - ab|reversed|\
+walk`/w`/w`2`5`untracked file - always - - - B`untracked file - always - - - a.b`untracked file - always - - - a/b`\
+untracked file - always - - - a/c`untracked file - always - - - ab@\
 roots and depths`-|file`/w/a/b/f|file`/e/g|directory`/e/h|link`/l`w|link`/m`w/a/b/f|link`/n`n|\
-walk`/w`new 2`3`1`untracked a/b/f|walk`/w`new 1`too deep`/w/a/b|walk`/w`new 0`too deep`/w/a|walk`/w/`new 1`too deep`/w/a/b|\
-walk`/`new 0`too deep`/e|walk`/l`new 2`3`1`untracked a/b/f|walk`/l`new 1`too deep`/l/a/b|\
-walk`/e`new 1`2`2`untracked g|walk`/e/h`new 0`1`1|walk`/e/g`new 9`no root`/e/g|walk`/m`new 9`no root`/m|\
-walk`/n`new 9`no root`/n@\
-an up-to-date directory that is a file`-|file`/w/d|index`d/x`file`up to date|walk`/w`new 9`no directory`/w/d@\
-an up-to-date directory that is a link`-|file`/w/e/f|link`/w/d`e|index`d/x`file`up to date|\
-walk`/w`new 9`no directory`/w/d@\
-an up-to-date directory`-|file`/w/e/f|directory`/w/d|index`d/x`file`up to date|walk`/w`new 9`3`2`untracked e/f@\
-a fault at the root's kind`-|file`/w/d/f|fail`kind`1|walk`/w`new 9`no root`/w|faults`1@\
-a fault of a listing`-|file`/w/d/f|fail`list open`1|walk`/w`new 9`fault`/w|faults`1@\
-a fault of a listing below`-|file`/w/d/f|fail`list open`2|walk`/w`new 9`fault`/w/d|faults`1@\
-a fault of a name`-|file`/w/d/f|fail`list entry`2|walk`/w`new 9`no entry`/w/d|faults`1@\
-a fault of a kind`-|file`/w/d/f|fail`kind`2|walk`/w`new 9`1`1|faults`1@\
-ignored paths`|file`/w/a.o|file`/w/d/b.o|file`/w/d/c|file`/w/k.o|file`/w/x/y|file`/w/.gitignore`*.o\n!k.o\n/x/\n|\
-index`d/b.o`file|\
-walk`/w`all 1`2`6`untracked .gitignore`ignored a.o`tracked d/b.o`untracked d/c`untracked k.o`ignored x|\
-walk`/w`new 1`2`6`untracked .gitignore`untracked d/c`untracked k.o@\
-a rules file that is a link to itself`|file`/w/d/f|link`/w/d/.gitignore`.gitignore|\
-walk`/w`new 9`link limit`/w/d/.gitignore@\
-a rules file that is no file`|file`/w/d/f|other`/w/d/.gitignore|walk`/w`new 9`special`/w/d/.gitignore@\
-a rules file that is not read`|file`/w/d/f|file`/w/d/.gitignore`f|fail`read`2|walk`/w`new 9`unread`/w/d/.gitignore@\
-a rules file`|file`/w/d/f|file`/w/d/.gitignore`f|walk`/w`new 9`2`2`untracked d/.gitignore";
+ask`depth`2|walk`/w`/w`3`1`untracked file - always - - - a/b/f|walk`/l`/l`3`1`untracked file - always - - - a/b/f|\
+walk`/e/g`no root`/e/g|walk`/m`no root`/m|walk`/n`no root`/n|walk`/x`no root`/x|ask`depth`1|walk`/w`too deep`/w/a/b|\
+walk`/w/`too deep`/w/a/b|walk`/l`too deep`/l/a/b|walk`//e/`//e/`2`2`untracked file - always - - - g|ask`depth`0|\
+walk`/w`too deep`/w/a|walk`/`too deep`/e|walk`/w/a/b`/w/a/b`1`1`untracked file - always - - - f@\
+a sparse checkout`-|file`/w/d/f|index`d/`tree|ask`options`pruned|\
+walk`/w`/w`1`1`pruned directory directory always sparse - - d@\
+paths that a spec takes out`-|file`/w/x|file`/w/y|ask`specs`:!x|walk`/w`/w`1`2`untracked file - always - - - y|\
+ask`options`pruned|walk`/w`/w`1`2`untracked file - excluded - - - x`untracked file - always - - - y@\
+a worktree of its own that is a file`-|file`/w/x|ask`worktree`x|ask`options`tracked|\
+walk`/w`/w`1`1`tracked repository - always - - - x@\
+an up-to-date directory that is a file`-|file`/w/d|index`d/t`file`up to date|walk`/w`no directory`/w/d@\
+an up-to-date directory that is a link`-|file`/x/f|link`/w/d`/x|index`d/t`file`up to date|walk`/w`no directory`/w/d@\
+an up-to-date directory`-|file`/w/e/f|directory`/w/d|index`d/x`file`up to date|\
+walk`/w`/w`3`2`untracked file - always - - - e/f";
 
-/// Whether an entry stands as `STATUS PATH`.
+/// Cases of folding, of deletion and of what they leave.
+const FOLDS: &[u8] = b"\
+a directory that is folded`-|file`/w/d/a|file`/w/d/b|\
+walk`/w`/w`2`2`untracked file - always - - - d/a`untracked file - always - - - d/b|ask`options`folding|\
+walk`/w`/w`2`3`untracked directory - always - - - d|ask`options`folding within|\
+walk`/w`/w`2`3`untracked directory - always - - - d`untracked file - always - untracked - d/a`\
+untracked file - always - untracked - d/b|reversed|\
+walk`/w`/w`2`3`untracked directory - always - - - d`untracked file - always - untracked - d/a`\
+untracked file - always - untracked - d/b|ask`raised`2|walk`/w`interrupted@\
+a directory with a repository`-|file`/w/d/a|git`/w/d/r/.git|ask`options`folding|\
+walk`/w`/w`2`2`untracked file - always - - - d/a`untracked repository - always - - - d/r@\
+a directory with a tracked file`-|file`/w/d/t|file`/w/d/u|index`d/t`file|ask`options`folding|\
+walk`/w`/w`2`2`untracked file - always - - - d/u|ask`options`folding tracked|\
+walk`/w`/w`2`2`tracked file file always - - - d/t`untracked file - always - - - d/u@\
+what is unlike the directory above it`*.o|file`/w/d/a|file`/w/d/b.o|ask`options`folding shown within-unlike|\
+walk`/w`/w`2`3`untracked directory - always - - - d`ignored file - always - untracked globals:1:+ d/b.o@\
+a spec below a directory`-|file`/w/d/a1|file`/w/d/b|ask`specs`d/a*|ask`options`folding|\
+walk`/w`/w/d`1`3`untracked directory - wildcard - - - d|index`d/b`file|\
+walk`/w`/w/d`1`2`untracked file - wildcard - - - d/a1@\
+a usual checkout``|git`/w/.git|git`/w/.git/modules/lib|file`/w/.gitignore`target/|file`/w/.gitmodules|file`/w/src/main.c|\
+file`/w/lib/.git`gitdir: ../.git/modules/lib|file`/w/target/x.o|file`/w/notes/a|file`/w/notes/b|index`.gitignore`file|\
+index`.gitmodules`file|index`lib`commit|index`src/main.c`file|ask`options`folding shown-folded|\
+walk`/w`/w`3`9`untracked directory - always - - - notes`ignored directory - always - - 0:1:+ target@\
+precious paths in deletion`$key|file`/w/d/key|file`/w/d/x|ask`options`nonbare folding shown-folded|\
+walk`/w`/w`2`2`precious file - always - - globals:1:+ d/key`untracked file - always - - - d/x@\
+the current directory in deletion`-|directory`/w/d|ask`current`/w/d|ask`options`nonbare|\
+walk`/w`/w`2`1`untracked directory - always current - - d@\
+a repository in an ignored directory`build/|git`/w/build/r/.git|ask`options`hide shown-folded|\
+walk`/w`/w`1`1`ignored directory - always - - globals:1:+ build|ask`options`nonbare shown-folded|\
+walk`/w`/w`2`1`ignored repository - always - - globals:1:+ build/r";
+
+/// Cases of traversal roots.
+const ROOTS: &[u8] = b"\
+traversal roots`-|link`/w/l`/x|file`/w/a|file`/w/d/f|link`/w/d/l`/x|ask`root`l/x|walk`/w`link in root`/w/l/x`0|\
+ask`root`d/l/x|walk`/w`link in root`/w/d/l/x`1|ask`root`gone|walk`/w`no component`/w/gone|ask`root`../w|\
+walk`/w`outside`../w|ask`root`/w|walk`/w`outside`/w|ask`root`d|walk`/w`/w/d`1`2`untracked file - always - - - d/f`\
+untracked symlink - always - - - d/l|ask`root`d/f|walk`/w`/w/d/f`0`1`untracked file - always - - - d/f|\
+ask`root`a/..|walk`/w`/w`2`4`untracked file - always - - - a`untracked file - always - - - d/f`\
+untracked symlink - always - - - d/l`untracked symlink - always - - - l";
+
+/// Cases of rules, and of faults. Repositories are not looked for where a fault is planned.
+const RULES: &[u8] = b"\
+the rule that decided``|file`/w/.gitignore`*.o\n!k.o|file`/w/a.o|file`/w/k.o|ask`options`shown|\
+walk`/w`/w`1`3`untracked file - always - - - .gitignore`ignored file - always - - 0:1:+ a.o`\
+untracked file - always - - 0:2:! k.o@\
+a rule for a directory`/a/|file`/w/a/f|ask`options`shown|\
+walk`/w`/w`1`1`ignored directory - always - - globals:1:+ a@\
+what is lifted below an ignored directory``|file`/w/.gitignore`build/|file`/w/build/.gitignore`!sub/|file`/w/build/sub/x|\
+file`/w/build/y|ask`options`nonbare shown|\
+walk`/w`/w`3`4`untracked file - always - - - .gitignore`ignored file - always - - 0:1:+ build/.gitignore`\
+untracked file - always - - 1:1:! build/sub/x`ignored file - always - - 0:1:+ build/y@\
+what strict parents do not lift``strict|file`/w/.gitignore`build/|file`/w/build/.gitignore`!sub/|file`/w/build/sub/x|\
+file`/w/build/y|ask`options`nonbare shown|\
+walk`/w`/w`3`4`untracked file - always - - - .gitignore`ignored file - always - - 0:1:+ build/.gitignore`\
+ignored file - always - - 0:1:+ build/sub/x`ignored file - always - - 0:1:+ build/y@\
+a rules file that is a link to itself``|file`/w/d/f|link`/w/d/.gitignore`.gitignore|walk`/w`link limit`/w/d/.gitignore@\
+a rules file that is no file``|file`/w/d/f|other`/w/d/.gitignore|walk`/w`special`/w/d/.gitignore@\
+a rules file that is not read``|file`/w/d/f|file`/w/d/.gitignore`f|fail`read`2|ask`options`recursing|\
+walk`/w`unread`/w/d/.gitignore|faults`1@\
+a fault at the root's kind`-|file`/w/d/f|fail`kind`1|walk`/w`no root`/w|faults`1@\
+a fault at a component's kind`-|file`/w/d/f|fail`kind`1|ask`root`d|walk`/w`unknown component`/w/d|faults`1@\
+a fault of a listing`-|file`/w/d/f|fail`list open`1|walk`/w`fault`/w|faults`1@\
+a fault of a listing below`-|file`/w/d/f|fail`list open`2|walk`/w`fault`/w/d|faults`1@\
+a fault of a name`-|file`/w/d/f|fail`list entry`2|walk`/w`no entry`/w/d|faults`1@\
+a fault of a kind`-|file`/w/d/f|fail`kind`2|ask`options`recursing|walk`/w`/w`1`1|faults`1";
+
+/// Cases of delegates. A step `give` names a delegate that looks into directories `always`, `never` or `in turn`, that looks into the
+/// worktree root and `only d` below it, or that answers Break at the `first` entry.
+///
+/// Of the delegate that looks `only d`: from the worktree root on, two directories are read, that and `d`; what is met is the file in
+/// `d`, and by themselves `d/d` and `e`, which have other paths. From `e/d` on nothing is read, and that directory is all that is met.
+/// Were it asked about another path than that of the entry, about none or the last name alone, it would look into more.
+const DELEGATES: &[u8] = b"\
+a usual checkout``|git`/w/.git|git`/w/.git/modules/lib|file`/w/.gitignore`target/|file`/w/.gitmodules|file`/w/src/main.c|\
+file`/w/lib/.git`gitdir: ../.git/modules/lib|file`/w/target/x.o|file`/w/notes/a|file`/w/notes/b|index`.gitignore`file|\
+index`.gitmodules`file|index`lib`commit|index`src/main.c`file|ask`options`folding shown-folded|\
+give`always`/w`/w`5`10`untracked directory - always - - - notes`ignored directory - always - - 0:1:+ target|\
+give`never`/w`/w`0`1`untracked directory - always - - - @\
+directories`-|file`/w/d/a|file`/w/d/b|file`/w/e/c|file`/w/f/g|\
+give`in turn`/w`/w`2`3`untracked directory - always - - - d`untracked file - always - - - e/c`\
+untracked directory - always - - - f|give`first`/w`/w`2`1`untracked file - always - - - d/a@\
+a worktree of its own that is a file`-|file`/w/x|ask`worktree`x|give`always`/w`no directory`/w/x@\
+a path among others`-|file`/w/d/a|file`/w/d/d/b|file`/w/e/d/c|\
+give`only d`/w`/w`2`3`untracked file - always - - - d/a`untracked directory - always - - - d/d`\
+untracked directory - always - - - e|ask`root`e/d|give`only d`/w`/w/e/d`0`1`untracked directory - always - - - e/d";
+
+/// Whether these are the words of what decided about excludes.
+fn has_origin(origin: Option<Origin>, words: &[u8]) -> bool {
+    let (group, rest) = words.split_once_str(b":").unwrap_or((words, b""));
+    let (line, sign) = rest.split_once_str(b":").unwrap_or((rest, b""));
+    match origin {
+        None => group == b"-".as_slice(),
+        Some(origin) => {
+            is_group(origin.group, group)
+                && origin.line == number(line)
+                && origin.negative == (sign == b"!".as_slice())
+        }
+    }
+}
+
+/// Whether a group of rules has this word.
+fn is_group(group: RuleGroup, word: &[u8]) -> bool {
+    match group {
+        RuleGroup::Overrides => word == b"overrides".as_slice(),
+        RuleGroup::Directory { depth } => depth == number(word),
+        RuleGroup::Globals => word == b"globals".as_slice(),
+    }
+}
+
+/// The word of the status of what was folded over an entry.
+fn collapsed_word(status: Option<Status>) -> &'static [u8] {
+    match status {
+        Some(status) => status_word(status),
+        None => b"-",
+    }
+}
+
+/// The first word, and those behind the space.
+fn spaced(words: &[u8]) -> (&[u8], &[u8]) {
+    words.split_once_str(b" ").unwrap_or((words, b""))
+}
+
+/// Whether an entry has these words.
 fn is_entry(found: &(Entry, Option<Status>), words: &[u8]) -> bool {
-    let (status, path) = words.split_once_str(b" ").unwrap_or((words, b""));
-    found.0.rela_path.as_bytes() == path
-        && status_word(found.0.status) == status
-        && found.1.is_none()
+    let entry = &found.0;
+    let (status, rest) = spaced(words);
+    let (disk, rest) = spaced(rest);
+    let (indexed, rest) = spaced(rest);
+    let (matched, rest) = spaced(rest);
+    let (property, rest) = spaced(rest);
+    let (collapsed, rest) = spaced(rest);
+    let (origin, path) = spaced(rest);
+    status_word(entry.status) == status
+        && kind_word(entry.disk_kind) == disk
+        && kind_word(entry.index_kind) == indexed
+        && match_word(entry.pathspec_match) == matched
+        && property_word(entry.property) == property
+        && collapsed_word(found.1) == collapsed
+        && has_origin(entry.origin, origin)
+        && entry.rela_path.as_bytes() == path
 }
 
 /// Whether these are the entries, in this order.
@@ -70,172 +202,216 @@ fn are(entries: &[(Entry, Option<Status>)], words: &[u8]) -> bool {
     rest.is_empty()
 }
 
-/// Whether a report has this root, these counts and these entries.
-fn is_report(report: &Report, root: &[u8], words: &[u8]) -> bool {
-    let (read, rest) = parted(words);
+/// Whether a report has these words.
+fn is_report(report: &Report, words: &[u8]) -> bool {
+    let (root, rest) = parted(words);
+    let (read, rest) = parted(rest);
     let (seen, rest) = parted(rest);
     let outcome = &report.outcome;
     report.root.as_bytes() == root
-        && outcome.read_dir_calls as usize == digit(read)
-        && outcome.seen_entries as usize == digit(seen)
+        && outcome.read_dir_calls as usize == number(read)
+        && outcome.seen_entries as usize == number(seen)
         && outcome.returned_entries == report.entries.as_slice().len()
         && are(report.entries.as_slice(), rest)
 }
 
-/// The word of a reason for which a rules file was not read.
-fn rules_word(why: RulesWhy) -> &'static [u8] {
-    match why {
-        RulesWhy::LinkLimit => b"link limit",
-        RulesWhy::Special => b"special",
-        RulesWhy::Fault => b"unread",
-        RulesWhy::Link => b"link",
+/// Whether a walk is answered so.
+fn is_answer(answer: Result<Report, Error>, words: &[u8]) -> bool {
+    match answer {
+        Ok(report) => is_report(&report, words),
+        Err(error) => is_error(&error, words),
     }
 }
 
-/// The word of a reason for which a directory was not read.
-fn read_word(why: ReadWhy) -> &'static [u8] {
-    match why {
-        ReadWhy::Absent => b"absent",
-        ReadWhy::NotADirectory => b"no directory",
-        ReadWhy::Fault => b"fault",
+/// An interrupt that is raised from this question on; never for 0.
+fn interrupt_at(raised: usize) -> PlannedInterrupt {
+    match raised {
+        0 => PlannedInterrupt::never(),
+        nth => PlannedInterrupt::at(nth as u64),
     }
 }
 
-/// Whether a walk was refused for this reason, here.
-fn is_error(error: &Error, words: &[u8]) -> bool {
-    let (reason, place) = parted(words);
-    match error {
-        Error::WorktreeRootIsFile { root } => {
-            reason == b"no root".as_slice() && root.as_bytes() == place
-        }
-        Error::TooDeep { path } => reason == b"too deep".as_slice() && path.as_bytes() == place,
-        Error::ReadDir { path, why } => read_word(*why) == reason && path.as_bytes() == place,
-        Error::DirEntry { parent_directory } => {
-            reason == b"no entry".as_slice() && parent_directory.as_bytes() == place
-        }
-        Error::ExcludesAccess(AtPathError::RulesFile { path, why }) => {
-            rules_word(*why) == reason && path.as_bytes() == place
-        }
-        _ => false,
-    }
-}
-
-/// What is shown: all paths, or the untracked ones alone. Repositories are walked like other directories.
-#[tactic(auto, unfolding(dir_classify::specs::Chosen::chosen))]
-fn options(shows_all: bool) -> Options<'static>
-    ensures no_folding { is_folding (chosen result) ≡ false }
-    ensures no_deletion { (chosen result).for_deletion ≡ None }
+/// The report of a walk; the own git directory is `/w/.git`.
+fn report_in<'a>(
+    alloc: Global,
+    root: &[u8],
+    options: Options<'_>,
+    worktree: &'a mut MemoryWorktree,
+    objects: &'a mut MemoryStore,
+    interrupt: &'a mut PlannedInterrupt,
+    pathspec: &'a Search,
+    excludes: &'a mut Option<Stack>,
+    index: &'a State,
+    current_dir: &'a [u8],
+    explicit_traversal_root: &'a Option<Bytes>,
+    depth_limit: usize,
+) -> Result<Report, Error>
+    requires excludes { tells_excludes (made_with excludes.old) ≡ true }
 {
-    let emit_ignored = if shows_all {
-        Some(EmissionMode::Matching)
-    } else {
-        None
+    let ctx = Context {
+        worktree,
+        objects,
+        interrupt,
+        pathspec,
+        excludes,
+        index,
+        ignore_case_index_lookup: &None,
+        git_dir_realpath: b"/w/.git",
+        current_dir,
+        explicit_traversal_root,
+        depth_limit,
     };
-    Options {
-        recurse_repositories: true,
-        emit_ignored,
-        for_deletion: None,
-        emit_tracked: shows_all,
-        emit_untracked: EmissionMode::Matching,
-        ..Options::default()
-    }
+    walk_by_path(alloc, root, ctx, options)
 }
 
 /// The report of a walk, over a store that holds nothing.
-fn report(
-    alloc: Global,
-    world: &mut World,
-    root: &[u8],
-    limit: usize,
-    shows_all: bool,
-) -> Result<Report, Error> {
+fn report(alloc: Global, world: &mut World, root: &[u8]) -> Result<Report, Error> {
     if !tells_excludes(&world.excludes) {
         return Err(Error::OutOfMemory);
     }
-    let ctx = Context {
-        worktree: &mut world.tree,
-        objects: &mut MemoryStore::new(alloc),
-        interrupt: &mut PlannedInterrupt::never(),
-        pathspec: &Search::from_specs(Vec::new(alloc)),
-        excludes: &mut world.excludes,
-        index: &world.index,
-        ignore_case_index_lookup: &None,
-        git_dir_realpath: b"/w/.git",
-        current_dir: b"/w",
-        explicit_traversal_root: &None,
-        depth_limit: limit,
-    };
-    walk_by_path(alloc, root, ctx, options(shows_all))
+    report_in(
+        alloc,
+        root,
+        options_of(world.asked.options.as_bytes(), &world.asked.worktrees),
+        &mut world.tree,
+        &mut MemoryStore::new(alloc),
+        &mut interrupt_at(world.asked.raised),
+        &world.asked.specs,
+        &mut world.excludes,
+        &world.index,
+        world.asked.current_dir.as_bytes(),
+        &world.asked.root,
+        world.asked.depth_limit,
+    )
 }
 
 /// Whether a walk is answered as the step says.
-pub fn is_walk(alloc: Global, world: &mut World, root: &[u8], rest: &[u8]) -> bool {
-    let (asked, want) = parted(rest);
-    let (shown, limit) = asked.split_once_str(b" ").unwrap_or((asked, b""));
-    let shows_all = shown == b"all".as_slice();
-    match report(alloc, world, root, digit(limit), shows_all) {
-        Ok(report) => is_report(&report, root, want),
-        Err(error) => is_error(&error, want),
+pub fn is_walk(alloc: Global, world: &mut World, root: &[u8], want: &[u8]) -> bool {
+    is_answer(report(alloc, world, root), want)
+}
+
+/// A walk that gives its entries to a delegate.
+fn given_in<'a>(
+    alloc: Global,
+    root: &[u8],
+    options: Options<'_>,
+    worktree: &'a mut MemoryWorktree,
+    objects: &'a mut MemoryStore,
+    interrupt: &'a mut PlannedInterrupt,
+    pathspec: &'a Search,
+    excludes: &'a mut Option<Stack>,
+    index: &'a State,
+    explicit_traversal_root: &'a Option<Bytes>,
+    delegate: &mut Odd,
+) -> Result<(Outcome, PathText), Error>
+    requires excludes { tells_excludes (made_with excludes.old) ≡ true }
+{
+    let ctx = Context {
+        worktree,
+        objects,
+        interrupt,
+        pathspec,
+        excludes,
+        index,
+        ignore_case_index_lookup: &None,
+        git_dir_realpath: b"/w/.git",
+        current_dir: b"/w",
+        explicit_traversal_root,
+        depth_limit: 9,
+    };
+    walk(alloc, root, ctx, options, delegate)
+}
+
+/// What a walk answers that gives its entries to a delegate, over a store that holds nothing.
+fn given(
+    alloc: Global,
+    world: &mut World,
+    root: &[u8],
+    delegate: &mut Odd,
+) -> Result<(Outcome, PathText), Error> {
+    if !tells_excludes(&world.excludes) {
+        return Err(Error::OutOfMemory);
     }
+    given_in(
+        alloc,
+        root,
+        options_of(world.asked.options.as_bytes(), &world.asked.worktrees),
+        &mut world.tree,
+        &mut MemoryStore::new(alloc),
+        &mut PlannedInterrupt::never(),
+        &world.asked.specs,
+        &mut world.excludes,
+        &world.index,
+        &world.asked.root,
+        delegate,
+    )
+}
+
+/// The report of a walk that was given to a delegate.
+fn report_of(
+    alloc: Global,
+    world: &mut World,
+    root: &[u8],
+    delegate: Odd,
+) -> Result<Report, Error> {
+    let mut delegate = delegate;
+    let (outcome, root) = given(alloc, world, root, &mut delegate)?;
+    Ok(Report {
+        outcome,
+        root,
+        entries: delegate.kept.into_entries_by_path(alloc)?,
+    })
+}
+
+/// The delegate of a word.
+fn delegate_of(alloc: Global, word: &[u8]) -> Odd {
+    match word {
+        b"always" => Odd::new(alloc, Some(Looks::Always), 0),
+        b"never" => Odd::new(alloc, Some(Looks::Never), 0),
+        b"in turn" => Odd::new(alloc, Some(Looks::InTurn), 0),
+        b"only d" => Odd::new(alloc, Some(Looks::Only(b"d")), 0),
+        _ => Odd::new(alloc, None, 1),
+    }
+}
+
+/// Whether a walk that is given to a delegate is answered as the step says.
+pub fn is_given(alloc: Global, world: &mut World, delegate: &[u8], rest: &[u8]) -> bool {
+    let (root, want) = parted(rest);
+    let delegate = delegate_of(alloc, delegate);
+    is_answer(report_of(alloc, world, root, delegate), want)
 }
 
 #[test]
 fn walks(rt: HostRuntime) {
-    for case in CASES.split(|byte| *byte == b'@') {
+    for case in WALKS.split(|byte| *byte == b'@') {
         assert_eq!(rt; lie_of(rt.alloc(), case), None, "{case:?}");
     }
 }
 
-/// Whether a walk of this root goes to a collector behind what it has.
-fn is_collected(
-    alloc: Global,
-    tree: &mut MemoryWorktree,
-    root: &[u8],
-    delegate: &mut Collect,
-) -> bool {
-    let ctx = Context {
-        worktree: tree,
-        objects: &mut MemoryStore::new(alloc),
-        interrupt: &mut PlannedInterrupt::never(),
-        pathspec: &Search::from_specs(Vec::new(alloc)),
-        excludes: &mut None,
-        index: &gitbase_core::State::new(alloc),
-        ignore_case_index_lookup: &None,
-        git_dir_realpath: b"/w/.git",
-        current_dir: b"/w",
-        explicit_traversal_root: &None,
-        depth_limit: 2,
-    };
-    match walk(alloc, root, ctx, options(true), delegate) {
-        Ok((_, answer)) => answer.as_bytes() == root,
-        Err(_) => false,
+#[test]
+fn folds(rt: HostRuntime) {
+    for case in FOLDS.split(|byte| *byte == b'@') {
+        assert_eq!(rt; lie_of(rt.alloc(), case), None, "{case:?}");
     }
 }
 
-/// Whether a collector has these entries, and how many by path.
-fn has_collected(alloc: Global, delegate: Collect, words: &[u8], count: usize) -> bool {
-    are(delegate.unorded_entries.as_slice(), words)
-        && match delegate.into_entries_by_path(alloc) {
-            Ok(sorted) => sorted.into_vec().len() == count,
-            Err(_) => false,
-        }
+#[test]
+fn traversal_roots(rt: HostRuntime) {
+    for case in ROOTS.split(|byte| *byte == b'@') {
+        assert_eq!(rt; lie_of(rt.alloc(), case), None, "{case:?}");
+    }
 }
 
-/// A collector goes on behind what it has; an empty directory is seen and not given.
 #[test]
-fn collected(rt: HostRuntime) {
-    let alloc = rt.alloc();
-    let mut tree = MemoryWorktree::new(alloc, false);
-    let mut delegate = Collect::new(alloc);
-    let walked = tree
-        .add(alloc, b"/w/g", worktree_fs::NewNode::File(b""))
-        .is_ok()
-        && tree
-            .add(alloc, b"/w/e", worktree_fs::NewNode::Directory)
-            .is_ok()
-        && is_collected(alloc, &mut tree, b"/w", &mut delegate)
-        && is_collected(alloc, &mut tree, b"/w/e", &mut delegate)
-        && is_collected(alloc, &mut tree, b"/", &mut delegate);
-    assert!(rt; walked);
-    assert!(rt; has_collected(alloc, delegate, b"untracked g`untracked w/g", 2));
+fn rules_and_faults(rt: HostRuntime) {
+    for case in RULES.split(|byte| *byte == b'@') {
+        assert_eq!(rt; lie_of(rt.alloc(), case), None, "{case:?}");
+    }
+}
+
+#[test]
+fn delegates(rt: HostRuntime) {
+    for case in DELEGATES.split(|byte| *byte == b'@') {
+        assert_eq!(rt; lie_of(rt.alloc(), case), None, "{case:?}");
+    }
 }

@@ -1,69 +1,82 @@
--- What two calls of a walk leave, one after the other.
-use Rattle.std.proofs.Common.{Option, refl, ◌∙◌, arith}
+-- What stays over one call and then another.
+use Rattle.std.proofs.Common.{◌≡◌, List, [], ◌++◌, Option, Some, refl, sym, ap, ◌∙◌, append_assoc, arith}
+use Rattle.std.specs.Prelude.{Result, Ok, Err, is_some}
+use Rattle.std.proofs.lemmas.List.{append-nil}
 use Rattle.gitbase_core.specs.declared.find.Find.{Ghosts as FindOf}
+use Rattle.worktree_fs.specs.declared.interrupt.Interrupt.{Ghosts as InterruptOf}
 use Rattle.worktree_fs.specs.declared.worktree.Worktree.{Ghosts as WorktreeOf}
-use Rattle.worktree_fs.specs.Kept.{Asks, AsksStore, Lists}
-use Rattle.worktree_stack.specs.Reading.{Sources}
-use Rattle.worktree_stack.specs.Setup.{Made}
+use Rattle.worktree_fs.specs.Kept.{AsksStore}
 use Rattle.worktree_stack.specs.Stacked.{Stacked}
-use Rattle.dir_classify.specs.Kept.{AsksRules, KeepsRules}
-use Rattle.dir_walk.specs.Kept.{KeepsAll}
-use Rattle.dir_walk.specs.Emits.{Stands}
-use Rattle.dir_walk.proofs.Steps.{tells-later, stands-later}
+use Rattle.dir_classify.specs.Kept.{KeepsRules}
+use Rattle.dir_walk.specs.declared.delegate.Delegate.{Ghosts as DelegateOf}
+use Rattle.dir_walk.specs.declared.handed.Stop.{Stop}
+use Rattle.dir_walk.specs.declared.handed.Stop.TheVariants.{Refused, Broken}
+use Rattle.dir_walk.specs.Emissions.{Emission}
+use Rattle.dir_walk.specs.Given.{Extends}
+use Rattle.dir_walk.specs.Kept.{KeepsTree, AsksInterrupt, KeepsDelegate, Heeds}
 
--- a listing asks no store and no rules
-pub KeepsAll-listed : {W F : Type 0} {w : WorktreeOf W} {f : FindOf F} {a b : W} {k : F} {r : Option Stacked} → Lists w a b → KeepsAll w f a b k k r r
-KeepsAll-listed lists =
-    record {
-      tree = lists.tree;
-      faults = lists.faults;
-      list_faults = lists.list_faults;
-      precomposes = lists.precomposes;
-      store = record { holds = refl; faults = omega arith };
-      rules = record { made = refl; in_step = λ s told step. step };
-    }
+-- ---- the worktree, the store and the rules
 
--- nor does a question for a kind
-pub KeepsAll-asked : {W F : Type 0} {w : WorktreeOf W} {f : FindOf F} {a b : W} {k : F} {r : Option Stacked} → Asks w a b → KeepsAll w f a b k k r r
-KeepsAll-asked asks =
-    record {
-      tree = asks.tree;
-      faults = asks.faults;
-      list_faults = omega (arith, asks.list_faults);
-      precomposes = asks.precomposes;
-      store = record { holds = refl; faults = omega arith };
-      rules = record { made = refl; in_step = λ s told step. step };
-    }
-
-pub KeepsAll-then : {W F : Type 0} {w : WorktreeOf W} {f : FindOf F} {a b c : W} {k l m : F} {r s t : Option Stacked}
-    → KeepsAll w f a b k l r s → KeepsAll w f b c l m s t → KeepsAll w f a c k m r t
-KeepsAll-then first second =
+pub KeepsTree-then : {W : Type 0} {w : WorktreeOf W} {a b c : W} → KeepsTree w a b → KeepsTree w b c → KeepsTree w a c
+KeepsTree-then first second =
     record {
       tree = second.tree ∙ first.tree;
       faults = omega (arith, first.faults, second.faults);
       list_faults = omega (arith, first.list_faults, second.list_faults);
+      lists = omega (arith, first.lists, second.lists);
       precomposes = second.precomposes ∙ first.precomposes;
-      store = record { holds = second.store.holds ∙ first.store.holds; faults = omega (arith, first.store.faults, second.store.faults) };
-      rules =
-          record {
-            made = second.rules.made ∙ first.rules.made;
-            in_step = λ u told step. second.rules.in_step u (tells-later first.tree first.store.holds first.rules.made told) (first.rules.in_step u told step);
-          };
     }
 
--- nor the class of a path, which asks the rules and the store too
-pub KeepsAll-classed : {W F : Type 0} {w : WorktreeOf W} {f : FindOf F} {a b : W} {k l : F} {r s : Option Stacked} → AsksRules w a b → AsksStore f k l → KeepsRules w f a b k r s → KeepsAll w f a b k l r s
-KeepsAll-classed asks store rules =
+pub AsksStore-then : {F : Type 0} {f : FindOf F} {a b c : F} → AsksStore f a b → AsksStore f b c → AsksStore f a c
+AsksStore-then first second = record { holds = second.holds ∙ first.holds; faults = omega (arith, first.faults, second.faults) }
+
+pub KeepsRules-then : {W F : Type 0} {w : WorktreeOf W} {f : FindOf F} {a b c : W} {k l : F} {r s t : Option Stacked}
+    → w.told b ≡ w.told a → f.holds l ≡ f.holds k → KeepsRules w f a b k r s → KeepsRules w f b c l s t → KeepsRules w f a c k r t
+KeepsRules-then tree holds first second =
     record {
-      tree = asks.tree;
-      faults = asks.faults;
-      list_faults = omega (arith, asks.list_faults);
-      precomposes = asks.precomposes;
-      store = store;
-      rules = rules;
+      made = second.made ∙ first.made;
+      in_step = λ u told step. second.in_step u (record { tree_is = tree ∙ told.tree_is; objects_are = λ some. holds ∙ told.objects_are (ap is_some (sym first.made) ∙ some) }) (first.in_step u told step);
     }
 
--- where a walk stands a call later
-pub stands-kept : {W F : Type 0} {w : WorktreeOf W} {f : FindOf F} {a b : W} {k l : F} {x y : Option Stacked} {s : Sources} {made : Option Made} → KeepsAll w f a b k l x y → Stands (w.told a) (f.holds k) x s made → Stands (w.told b) (f.holds l) y s made
-stands-kept {w = w} {f = f} {a = a} {b = b} {k = k} {l = l} {x = x} {y = y} {s = s} {made = made} keeps at =
-    stands-later (w.told a) (w.told b) (f.holds k) (f.holds l) x y s made keeps.tree keeps.store.holds keeps.rules.made keeps.rules.in_step at
+-- ---- the interrupt
+
+pub AsksInterrupt-then : {I : Type 0} {i : InterruptOf I} {a b c : I} → AsksInterrupt i a b → AsksInterrupt i b c → AsksInterrupt i a c
+AsksInterrupt-then first second = record { questions = omega (arith, first.questions, second.questions); raised = omega (arith, first.raised, second.raised) }
+
+-- ---- the delegate
+
+pub Extends-same : (a b : Option (List Emission)) → b ≡ a → Extends a b
+Extends-same a b is = record { same = ap (λ x. is_some x) is; front = λ xs told. ([], is ∙ told ∙ ap (λ (ys : List Emission). Some ys) (sym (append-nil xs))) }
+
+pub Extends-then : (a b c : Option (List Emission)) → Extends a b → Extends b c → Extends a c
+Extends-then a b c one two =
+    record {
+      same = two.same ∙ one.same;
+      front = λ xs is.
+          let m = one.front xs is in
+          let n = two.front (xs ++ m.0) m.1 in
+          (m.0 ++ n.0, n.1 ∙ ap (λ (ys : List Emission). Some ys) (append_assoc xs m.0 n.0));
+    }
+
+pub KeepsDelegate-then : {D : Type 0} {d : DelegateOf D} {a b c : D} → KeepsDelegate d a b → KeepsDelegate d b c → KeepsDelegate d a c
+KeepsDelegate-then {D} {d} {a} {b} {c} first second =
+    record {
+      default = second.default ∙ first.default;
+      given = Extends-then (d.given a) (d.given b) (d.given c) first.given second.given;
+      breaks = omega (arith, first.breaks, second.breaks);
+    }
+
+-- after a call that left the delegate as it was but for its answers
+pub Heeds-after : {D T : Type 0} (d : DelegateOf D) (a b c : D) (result : Result T Stop) → d.breaks b ≡ d.breaks a → Heeds d b c result → Heeds d a c result
+Heeds-after d a b c (Ok done) same heeds = record { broken = tt; stopped = tt; unbroken = tt; kept_on = heeds.kept_on ∙ same }
+Heeds-after d a b c (Err Broken) same heeds = record { broken = rw (sym same) heeds.broken; stopped = heeds.stopped; unbroken = tt; kept_on = tt }
+Heeds-after d a b c (Err (Refused e)) same heeds = record { broken = tt; stopped = tt; unbroken = heeds.unbroken ∙ same; kept_on = tt }
+
+pub KeepsDelegate-same : {D : Type 0} {d : DelegateOf D} {a : D} → KeepsDelegate d a a
+KeepsDelegate-same {D} {d} {a} = record { default = refl; given = Extends-same (d.given a) (d.given a) refl; breaks = omega arith }
+
+pub KeepsRules-same : {W F : Type 0} {w : WorktreeOf W} {f : FindOf F} {a b : W} {k : F} {r : Option Stacked} → KeepsRules w f a b k r r
+KeepsRules-same = record { made = refl; in_step = λ u told step. step }
+
+pub AsksStore-same : {F : Type 0} {f : FindOf F} {a : F} → AsksStore f a a
+AsksStore-same = record { holds = refl; faults = omega arith }

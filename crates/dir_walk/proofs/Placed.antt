@@ -1,34 +1,22 @@
--- Paths of names: what they lead to, how deep they lie, and that both forms of a path go together.
-use Rattle.std.proofs.Common.{◌≡◌, ℕ, suc, ◌+◌, ◌-◌, List, [], ◌∷◌, ◌++◌, Bool, true, false, not, ◌||◌, length, get_or, refl, sym, ap, ◌∙◌, append_assoc, arith, eqb-true, length-append}
-use Rattle.std.proofs.lemmas.List.{append-nil}
+-- Paths of names: what they lead to, how deep they lie, and how they stand behind the worktree root.
+use Rattle.std.proofs.Common.{◌≡◌, ◌≤◌, ℕ, ◌+◌, take, drop, List, [], ◌∷◌, ◌++◌, Bool, true, false, not, ◌||◌, length, refl, sym, ap, ◌∙◌, append_assoc, arith, eqb-true, length-append}
+use Rattle.std.proofs.lemmas.List.{append-nil, drop_all}
 use Rattle.std.specs.Prelude.{◌==◌, if◌then◌else◌}
 use Rattle.std.specs.List.{list_any}
-use Rattle.gitbase_core.specs.Path.{is_slash, is_empty, is_absolute, ends_in_slash, components, joined}
+use Rattle.gitbase_core.specs.Path.{is_empty, is_absolute, ends_in_slash, components, joined, directory_prefix}
 use Rattle.worktree_fs.specs.Tree.{Names, child, look, found, directory}
 use Rattle.worktree_fs.specs.Naming.{IsName}
-use Rattle.worktree_fs.specs.Paths.{is_dots, is_normal}
+use Rattle.worktree_fs.specs.Paths.{is_dots, is_normal, full_path}
 use Rattle.std.proofs.lemmas.Bool.{and_parts}
 use Rattle.worktree_fs.specs.Join.{at_child}
 use Rattle.worktree_fs.proofs.Join.{look-join, look-join_slash, look-join_empty}
 use Rattle.worktree_fs.proofs.NameParts.{name_parts, pieces-name}
 use Rattle.worktree_fs.proofs.Texts.{pieces-join}
-use Rattle.dir_classify.specs.Paths.{full_path}
-use Rattle.dir_walk.specs.Report.{depth_of}
-use Rattle.dir_walk.specs.Refused.{IsPlaced}
 use Rattle.worktree_fs.proofs.Follow.{look-follow}
+use Rattle.dir_walk.specs.Report.{depth_of}
+use Rattle.dir_walk.proofs.JoinedPaths.{ends_in_slash-append, ends_in_slash-cons, joined-plain, joined-some, or-false}
 
 -- ---- where a path ends in a slash
-
-ends_in_slash-cons : (a b : ℕ) (path : List ℕ) → ends_in_slash (a ∷ b ∷ path) ≡ ends_in_slash (b ∷ path)
-ends_in_slash-cons a b path =
-    let longer : length {A = ℕ} (a ∷ b ∷ path) - 1 ≡ suc (length path) = omega arith in
-    let shorter : length {A = ℕ} (b ∷ path) - 1 ≡ length path = omega arith in
-    ap (λ (i : ℕ). is_slash (get_or (a ∷ b ∷ path) i 0)) longer ∙ sym (ap (λ (i : ℕ). is_slash (get_or (b ∷ path) i 0)) shorter)
-
-pub ends_in_slash-append : (front : List ℕ) (b : ℕ) (back : List ℕ) → ends_in_slash (front ++ b ∷ back) ≡ ends_in_slash (b ∷ back)
-ends_in_slash-append [] b back = refl
-ends_in_slash-append (a ∷ []) b back = ends_in_slash-cons a b back
-ends_in_slash-append (a ∷ x ∷ front) b back = ends_in_slash-cons a x (front ++ b ∷ back) ∙ ends_in_slash-append (x ∷ front) b back
 
 -- what stands before a slash at the end
 pub without_slash : (path : List ℕ) → ends_in_slash path ≡ true → (front : List ℕ) × (path ≡ front ++ 47 ∷ [])
@@ -41,56 +29,6 @@ without_slash (a ∷ b ∷ path) e =
 pub joined-slash : (path name : List ℕ) → ends_in_slash path ≡ true → joined path name ≡ path ++ name
 joined-slash [] name e = refl
 joined-slash (a ∷ path) name e = ap (λ b. if b then (a ∷ path) ++ name else (a ∷ path) ++ 47 ∷ name) e
-
-pub joined-plain : (a : ℕ) (path name : List ℕ) → ends_in_slash (a ∷ path) ≡ false → joined (a ∷ path) name ≡ (a ∷ path) ++ 47 ∷ name
-joined-plain a path name e = ap (λ b. if b then (a ∷ path) ++ name else (a ∷ path) ++ 47 ∷ name) e
-
--- ---- names
-
-or-false : (c d : Bool) → (c || d) ≡ false → (c ≡ false) × (d ≡ false)
-or-false true d f = absurd (cc f)
-or-false false d f = (refl, f)
-
-name_plain : (b : ℕ) (bytes : List ℕ) → list_any (λ x. x == 47) (b ∷ bytes) ≡ false → ends_in_slash (b ∷ bytes) ≡ false
-name_plain b [] e = (or-false (b == 47) false e).0
-name_plain b (x ∷ bytes) e = ends_in_slash-cons b x bytes ∙ name_plain x bytes (or-false (b == 47) (list_any (λ y. y == 47) (x ∷ bytes)) e).1
-
--- a name has a first byte, and does not end in a slash
-pub record Spelled (name : List ℕ) : Type 0 where
-  pub first : ℕ
-  pub rest : List ℕ
-  pub spelling : name ≡ first ∷ rest
-  pub plain : ends_in_slash name ≡ false
-
-pub spelled : (name : List ℕ) → IsName name → Spelled name
-spelled [] is = absurd (let e = (name_parts [] is).full in cc e)
-spelled (b ∷ bytes) is = record { first = b; rest = bytes; spelling = refl; plain = name_plain b bytes (name_parts (b ∷ bytes) is).no_slash }
-
--- ---- a name in a directory
-
--- the path of a name in a directory is not empty, and does not end in a slash
-pub joined-some : (d name : List ℕ) → IsName name → is_empty (joined d name) ≡ false
-joined-some [] name is = let s = spelled name is in ap is_empty s.spelling
-joined-some (a ∷ d) name is = go (ends_in_slash (a ∷ d))
-  where
-    go : (b : Bool) → is_empty (if b then (a ∷ d) ++ name else (a ∷ d) ++ 47 ∷ name) ≡ false
-    go true = refl
-    go false = refl
-
-pub joined-ends : (d name : List ℕ) → IsName name → ends_in_slash (joined d name) ≡ false
-joined-ends [] name is = (spelled name is).plain
-joined-ends (a ∷ d) name is = go (ends_in_slash (a ∷ d))
-  where
-    s : Spelled name
-    s = spelled name is
-
-    at_name : ends_in_slash (s.first ∷ s.rest) ≡ false
-    at_name = ap ends_in_slash (sym s.spelling) ∙ s.plain
-
-    go : (b : Bool) → ends_in_slash (if b then (a ∷ d) ++ name else (a ∷ d) ++ 47 ∷ name) ≡ false
-    go true = ap (λ (n : List ℕ). ends_in_slash ((a ∷ d) ++ n)) s.spelling ∙ ends_in_slash-append (a ∷ d) s.first s.rest ∙ at_name
-    go false =
-        ends_in_slash-append (a ∷ d) 47 name ∙ ap (λ (n : List ℕ). ends_in_slash (47 ∷ n)) s.spelling ∙ ends_in_slash-append (47 ∷ []) s.first s.rest ∙ at_name
 
 -- ---- both forms of a path
 
@@ -141,7 +79,7 @@ joined_twice root (a ∷ d) name some plain =
 -- ---- a normal path
 
 -- the components of the path of a name in a directory
-components-child : (d name : List ℕ) → IsName name → components (joined d name) ≡ components d ++ name ∷ []
+pub components-child : (d name : List ℕ) → IsName name → components (joined d name) ≡ components d ++ name ∷ []
 components-child [] name is = pieces-name name is
 components-child (a ∷ d) name is = go (ends_in_slash (a ∷ d)) refl
   where
@@ -176,7 +114,7 @@ not-true false e = refl
 not-true true e = absurd (cc e)
 
 -- the path of a name in a directory is normal where the directory's is
-normal-child : (d name : List ℕ) → IsName name → is_normal d ≡ true → is_normal (joined d name) ≡ true
+pub normal-child : (d name : List ℕ) → IsName name → is_normal d ≡ true → is_normal (joined d name) ≡ true
 normal-child d name is normal =
     let parts = and_parts (not (is_absolute d)) (not (list_any is_dots (components d))) normal in
     let name_is = name_parts name is in
@@ -184,25 +122,46 @@ normal-child d name is normal =
     let none : list_any is_dots (components (joined d name)) ≡ false = ap (list_any is_dots) (components-child d name is) ∙ any-last (components d) name (not-true (list_any is_dots (components d)) parts.1) dots in
     rw (is_absolute-child d name is (not-true (is_absolute d) parts.0), none) refl
 
--- ---- both forms together
+-- the whole path of a name in a directory
+pub full_path-child : (root d name : List ℕ) → IsName name → ends_in_slash d ≡ false → joined (full_path root d) name ≡ full_path root (joined d name)
+full_path-child root [] name is plain = sym (full_path-some root name (joined-some [] name is))
+full_path-child root (a ∷ d) name is plain = joined_twice root (a ∷ d) name refl plain ∙ sym (full_path-some root (joined (a ∷ d) name) (joined-some (a ∷ d) name is))
 
-pub IsPlaced-root : (root : List ℕ) → IsPlaced root root []
-IsPlaced-root root = record { full_is = refl; plain = refl; normal = refl }
+-- ---- a root and what stands behind it
 
--- both forms of the path of a name in a directory go together
-pub IsPlaced-child : (root full rela name : List ℕ) → IsName name → IsPlaced root full rela → IsPlaced root (joined full name) (joined rela name)
-IsPlaced-child root full [] name is at =
-    record {
-      full_is = ap (λ (p : List ℕ). joined p name) at.full_is ∙ sym (full_path-some root name (joined-some [] name is));
-      plain = joined-ends [] name is;
-      normal = normal-child [] name is at.normal;
-    }
-IsPlaced-child root full (a ∷ rela) name is at =
-    record {
-      full_is = ap (λ (p : List ℕ). joined p name) at.full_is ∙ joined_twice root (a ∷ rela) name refl at.plain ∙ sym (full_path-some root (joined (a ∷ rela) name) (joined-some (a ∷ rela) name is));
-      plain = joined-ends (a ∷ rela) name is;
-      normal = normal-child (a ∷ rela) name is at.normal;
-    }
+front : (root path : List ℕ) → take (length root) (root ++ path) ≡ root
+front [] path = refl
+front (b ∷ root) path = ap (λ (l : List ℕ). b ∷ l) (front root path)
+
+back : (root path : List ℕ) → drop (length root) (root ++ path) ≡ path
+back [] path = refl
+back (b ∷ root) path = back root path
+
+none_behind : (root : List ℕ) (n : ℕ) → length root ≤ n → drop n root ≡ []
+none_behind root n h = drop_all n root h
+
+prefix-length : (root : List ℕ) → length root ≤ length (directory_prefix root)
+prefix-length root = go (is_empty root || ends_in_slash root)
+  where
+    go : (b : Bool) → length root ≤ length (if b then root else root ++ 47 ∷ [])
+    go true = omega arith
+    go false = omega (arith, length-append root (47 ∷ []))
+
+joined-prefix : (root path : List ℕ) → joined root path ≡ directory_prefix root ++ path
+joined-prefix root path = go (is_empty root || ends_in_slash root)
+  where
+    go : (b : Bool) → (if b then root ++ path else root ++ 47 ∷ path) ≡ (if b then root else root ++ 47 ∷ []) ++ path
+    go true = refl
+    go false = sym (append_assoc root (47 ∷ []) path)
+
+-- the root is found again in the whole path, and so is the path behind it
+pub root-found : (root path : List ℕ) → take (length root) (full_path root path) ≡ root
+root-found root [] = ap (take (length root)) (sym (append-nil root)) ∙ front root []
+root-found root (b ∷ path) = ap (take (length root)) (joined-between root (b ∷ path)) ∙ front root (between (is_empty root || ends_in_slash root) (b ∷ path))
+
+pub path-found : (root path : List ℕ) → drop (length (directory_prefix root)) (full_path root path) ≡ path
+path-found root [] = none_behind root (length (directory_prefix root)) (prefix-length root)
+path-found root (b ∷ path) = ap (drop (length (directory_prefix root))) (joined-prefix root (b ∷ path)) ∙ back (directory_prefix root) (b ∷ path)
 
 -- ---- how deep it lies
 

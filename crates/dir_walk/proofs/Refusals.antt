@@ -1,207 +1,120 @@
 -- Refusals on the way up: from a name to its directory, and from a directory to its name.
-use Rattle.std.proofs.Common.{◌≡◌, inl, inr, ℕ, ◌<◌, List, Bool, true, false, ◌||◌, Option, Some, None, Err, refl, sym, ap, subst, ◌∙◌}
-use Rattle.std.specs.Prelude.{IsSomeAnd}
+use Rattle.std.proofs.Common.{◌≡◌, ◌⊎◌, inl, inr, ℕ, ◌<◌, List, Bool, true, false, ◌||◌, Option, Some, None, Err, refl, sym, ap, subst, ◌∙◌}
+use borrow.Author.Tests.{ltb-true}
+use Rattle.std.specs.Prelude.{IsSomeAnd, Result, IfErr, nat_lt}
+use Rattle.std.proofs.lemmas.Bool.{ltb-false}
+use Rattle.std.proofs.lemmas.Result.{IfErr-weaker}
 use Rattle.std.specs.Str.{bytes_eq}
 use Rattle.std.proofs.lemmas.Cmp.{nat_list_eq_equiv}
 use Rattle.gitbase_core.specs.Objects.{Objects}
-use Rattle.gitbase_core.specs.Path.{joined, is_empty}
-use Rattle.worktree_fs.specs.Tree.{Node, Names, none, named, child, look, found, file, link, directory, other}
-use Rattle.worktree_fs.specs.Answers.{list_of}
-use Rattle.worktree_fs.specs.Paths.{is_normal}
 use Rattle.worktree_fs.specs.declared.answers.ListError.{ListError}
 use Rattle.worktree_fs.specs.declared.answers.ListError.TheVariants as lists
+use Rattle.worktree_fs.specs.Answers.{list_of}
+use Rattle.worktree_fs.specs.Causes.{Increased, NotIncreased, next}
+use Rattle.worktree_fs.specs.Paths.{is_normal, full_path}
+use Rattle.worktree_fs.specs.Tree.{Look, look, found, absent, too_many_links, file, link, directory, other}
 use Rattle.worktree_stack.specs.declared.error.AtPathError.{AtPathError}
 use Rattle.worktree_stack.specs.Setup.{Made}
 use Rattle.worktree_stack.specs.Reading.{Sources}
-use Rattle.dir_classify.specs.declared.classify.Outcome.{Outcome}
+use Rattle.dir_classify.specs.declared.classify.Outcome.{Outcome as Class}
+use Rattle.dir_classify.specs.declared.entry.Kind.TheVariants.{Directory}
 use Rattle.dir_classify.specs.declared.error.Error.{Error}
 use Rattle.dir_classify.specs.declared.error.Error.TheVariants as errors
 use Rattle.dir_classify.specs.declared.error.ReadWhy.TheVariants as reads
 use Rattle.dir_classify.specs.Chosen.{Chosen}
-use Rattle.dir_classify.specs.Class.{enters}
 use Rattle.dir_classify.specs.Evidence.{Evidence}
-use Rattle.dir_walk.specs.Walked.{Walked, item, items, entered_at, report_of, directory_of, child_class, child_asks, asking, leaf}
-use Rattle.dir_classify.specs.Entries.{entry_at}
-use Rattle.dir_walk.specs.Report.{depth_of}
-use Rattle.dir_walk.specs.Refused.{is_among, is_to_enter, IsTooDeep, IsBroken, IsSomeAccess, IsNoAccess, IsRefusedLookup, IsAbout, IsInTree, OpenRefuses, Refuses, DirectoryRefuses, WalkRefuses, OnInterrupted, IsPlaced}
+use Rattle.dir_classify.specs.Layers.{Setting, evidence}
 use Rattle.dir_classify.specs.Refused as classes
-use Rattle.dir_walk.proofs.Classes.{up_to_date-broken}
-use Rattle.dir_walk.proofs.Counts.{list_any-append, or-right}
-use Rattle.dir_walk.proofs.Once.{IsOr, any_item}
-
-entered-or : (path : List ℕ) → IsOr (λ w. is_among path w.entered)
-entered-or path = record { zero = refl; adds = λ a b. list_any-append (bytes_eq path) a.entered b.entered }
-
-broken-or : (path : List ℕ) → IsOr (λ w. is_among path w.broken)
-broken-or path = record { zero = refl; adds = λ a b. list_any-append (bytes_eq path) a.broken b.broken }
-
-asked-or : (path : List ℕ) → IsOr (λ w. is_among path w.asked)
-asked-or path = record { zero = refl; adds = λ a b. list_any-append (bytes_eq path) a.asked b.asked }
+use Rattle.dir_walk.specs.declared.handed.Stop.{Stop}
+use Rattle.dir_walk.specs.declared.handed.Stop.TheVariants.{Refused, Broken}
+use Rattle.dir_walk.specs.Given.{OnRefused}
+use Rattle.dir_walk.specs.Kept.{WantsMemory}
+use Rattle.dir_walk.specs.Refused.{is_among, is_to_enter, IsBroken, IsSomeAccess, IsNoAccess, IsRefusedLookup, IsAbout, IsInTree, IsDeep, OpenRefuses, Refuses, DirectoryRefuses}
+use Rattle.dir_walk.specs.Report.{depth_of}
+use Rattle.dir_walk.specs.Told.{directory_told, look_directory, look_name}
+use Rattle.dir_walk.specs.Walked.{Walked, entered_at, asking}
+use Rattle.dir_walk.proofs.Counts.{or-right}
 
 -- ---- from one result to another that has its paths
 
-pub record Within (v w : Walked) : Type 0 where
+pub record HasPaths (v w : Walked) : Type 0 where
   pub entered : (path : List ℕ) → is_among path v.entered ≡ true → is_among path w.entered ≡ true
   pub broken : (path : List ℕ) → is_among path v.broken ≡ true → is_among path w.broken ≡ true
   pub asked : (path : List ℕ) → is_among path v.asked ≡ true → is_among path w.asked ≡ true
 
-enter_within : (v w : Walked) (path : List ℕ) → Within v w → is_to_enter path v ≡ true → is_to_enter path w ≡ true
+enter_within : (v w : Walked) (path : List ℕ) → HasPaths v w → is_to_enter path v ≡ true → is_to_enter path w ≡ true
 enter_within v w path within h = go (is_among path v.entered) refl h
   where
     go : (b : Bool) → is_among path v.entered ≡ b → (b || is_among path v.broken) ≡ true → is_to_enter path w ≡ true
     go true e f = ap (λ b. b || is_among path w.broken) (within.entered path e)
     go false e f = or-right (is_among path w.entered) (is_among path w.broken) (within.broken path f)
 
-broken_within : (t : Names) (o : Chosen) (ev : Evidence) (root : List ℕ) (v w : Walked) (why : ListError) (path : List ℕ) → Within v w → IsBroken t o ev root v why path → IsBroken t o ev root w why path
-broken_within t o ev root v w why path within h = record { below = h.below; path_is = h.path_is; broken = within.broken h.below h.broken; as_directory = h.as_directory; node = h.node }
+-- what was shown of one holds of the other, unless the worktree failed
+or_failed : {A B P Q : Type 0} → (A → B) ⊎ Q → (P → Q) → A ⊎ P → B ⊎ Q
+or_failed (inl f) g (inl a) = inl (f a)
+or_failed (inr q) g (inl a) = inr q
+or_failed f g (inr p) = inr (g p)
 
-access_within : (s : Sources) (made : Option Made) (v w : Walked) (e : AtPathError) → Within v w → IsSomeAnd made (λ rules. IsNoAccess s rules v e) → IsSomeAnd made (λ rules. IsNoAccess s rules w e)
-access_within s None v w e within h = absurd h
-access_within s (Some rules) v w e within h = record { path = h.path; normal = h.normal; asked = within.asked h.path h.asked; access = h.access; refused = h.refused }
+module _ (v w : Walked) (P Q : Type 0) (within : HasPaths v w ⊎ Q) (f : P → Q) where
+  enters-or : (path : List ℕ) → (is_to_enter path v ≡ true) ⊎ P → (is_to_enter path w ≡ true) ⊎ Q
+  enters-or path h = go within
+    where
+      go : HasPaths v w ⊎ Q → (is_to_enter path w ≡ true) ⊎ Q
+      go (inl is) = or_failed (inl (enter_within v w path is)) f h
+      go (inr q) = inr q
 
--- to a result with more paths
-pub Refuses-within : (s : Sources) (made : Option Made) (o : Chosen) (ev : Evidence) (root : List ℕ) (limit : ℕ) (v w : Walked) (e : Error) → Within v w → Refuses s made o ev root limit v e → Refuses s made o ev root limit w e
-Refuses-within s made o ev root limit v w errors.Interrupted within h = tt
-Refuses-within s made o ev root limit v w (errors.WorktreeRootIsFile path) within h = h
-Refuses-within s made o ev root limit v w (errors.NormalizeRoot path) within h = h
-Refuses-within s made o ev root limit v w (errors.SymlinkInRoot path top index) within h = h
-Refuses-within s made o ev root limit v w (errors.SymlinkMetadata path why) within h = h
-Refuses-within s made o ev root limit v w (errors.ExcludesAccess e) within h = access_within s made v w e within h
-Refuses-within s made o ev root limit v w (errors.TooDeep path) within h = record { below = h.below; path_is = h.path_is; to_enter = enter_within v w h.below within h.to_enter; deep = h.deep }
-Refuses-within s made o ev root limit v w (errors.ReadDir path reads.Absent) within h = broken_within s.tree o ev root v w lists.Absent path within h
-Refuses-within s made o ev root limit v w (errors.ReadDir path reads.NotADirectory) within h = broken_within s.tree o ev root v w lists.NotADirectory path within h
-Refuses-within s made o ev root limit v w (errors.ReadDir path reads.Fault) within h = tt
-Refuses-within s made o ev root limit v w (errors.DirEntry path) within h = tt
-Refuses-within s made o ev root limit v w errors.OutOfMemory within h = tt
+  broken-or : (path : List ℕ) → (is_among path v.broken ≡ true) ⊎ P → (is_among path w.broken ≡ true) ⊎ Q
+  broken-or path h = go within
+    where
+      go : HasPaths v w ⊎ Q → (is_among path w.broken ≡ true) ⊎ Q
+      go (inl is) = or_failed (inl (is.broken path)) f h
+      go (inr q) = inr q
 
-asking_within : (b : Bool) (path : List ℕ) (w : Walked) → Within w (asking b path w)
-asking_within true path w = record { entered = λ p h. h; broken = λ p h. h; asked = λ p h. or-right (bytes_eq p path) (is_among p w.asked) h }
-asking_within false path w = record { entered = λ p h. h; broken = λ p h. h; asked = λ p h. h }
+  asked-or : (path : List ℕ) → (is_among path v.asked ≡ true) ⊎ P → (is_among path w.asked ≡ true) ⊎ Q
+  asked-or path h = go within
+    where
+      go : HasPaths v w ⊎ Q → (is_among path w.asked ≡ true) ⊎ Q
+      go (inl is) = or_failed (inl (is.asked path)) f h
+      go (inr q) = inr q
 
--- ---- a name in a directory
+  access-within : (s : Sources) (made : Option Made) (e : AtPathError) → IsSomeAnd made (λ rules. IsNoAccess s rules v P e) → IsSomeAnd made (λ rules. IsNoAccess s rules w Q e)
+  access-within s None e h = absurd h
+  access-within s (Some rules) e h = record { path = h.path; normal = h.normal; asked = asked-or h.path h.asked; access = h.access; refused = h.refused }
 
-directory_within : (ev : Evidence) (d : List ℕ) (c : Outcome) (names : Names) (name : List ℕ) (node : Node) (w : Walked) → child names name ≡ Some node → Within w (directory_of ev d c names w)
-directory_within ev d c none name node w there = absurd (cc there)
-directory_within ev d c (named n first rest) name node w there =
-    record { entered = λ path h. or-right (bytes_eq path d) (is_among path w.entered) h; broken = λ path h. h; asked = λ path h. h }
+  module _ (given : Setting) (made : Option Made) (s : Sources) (limit : ℕ) where
+    broken-within : (why : ListError) (path : List ℕ) → IsBroken s.tree (evidence given made s) given.root v P why path → IsBroken s.tree (evidence given made s) given.root w Q why path
+    broken-within why path h = record { below = h.below; path_is = h.path_is; node = h.node; indexed = h.indexed; broken = broken-or h.below h.broken }
 
--- what a name gives is within what its directory gives
-pub item_within : (o : Chosen) (ev : Evidence) (d : List ℕ) (c : Outcome) (names : Names) (name : List ℕ) (node : Node) → child names name ≡ Some node → Within (item o ev (joined d name) node) (report_of o ev d c names)
-item_within o ev d c names name node there =
-    let up : Within (items o ev d names) (report_of o ev d c names) = directory_within ev d c names name node (items o ev d names) there in
-    record {
-      entered = λ path h. up.entered path (any_item o ev d (λ w. is_among path w.entered) (entered-or path) names name node there h);
-      broken = λ path h. up.broken path (any_item o ev d (λ w. is_among path w.broken) (broken-or path) names name node there h);
-      asked = λ path h. up.asked path (any_item o ev d (λ w. is_among path w.asked) (asked-or path) names name node there h);
-    }
+    -- to a result with more paths, and to a longer time in which the worktree may have failed
+    pub Refuses-within : (e : Error) → Refuses given made s limit P v e → Refuses given made s limit Q w e
+    Refuses-within errors.Interrupted h = tt
+    Refuses-within (errors.WorktreeRootIsFile path) h = absurd h
+    Refuses-within (errors.NormalizeRoot path) h = absurd h
+    Refuses-within (errors.SymlinkInRoot path root index) h = absurd h
+    Refuses-within (errors.SymlinkMetadata path why) h = absurd h
+    Refuses-within (errors.ExcludesAccess e) h = access-within s made e h
+    Refuses-within (errors.TooDeep path) h = record { below = h.below; path_is = h.path_is; deep = h.deep; to_enter = enters-or h.below h.to_enter }
+    Refuses-within (errors.ReadDir path reads.Absent) h = broken-within lists.Absent path h
+    Refuses-within (errors.ReadDir path reads.NotADirectory) h = broken-within lists.NotADirectory path h
+    Refuses-within (errors.ReadDir path reads.Fault) h = tt
+    Refuses-within (errors.DirEntry path) h = tt
+    Refuses-within errors.OutOfMemory h = tt
 
-pub DirectoryRefuses-name : (s : Sources) (made : Option Made) (o : Chosen) (ev : Evidence) (root : List ℕ) (limit : ℕ) (full d : List ℕ) (c : Outcome) (names : Names) (name : List ℕ) (node : Node) (e : Error)
-    → look s.tree full (is_empty d) ≡ found (directory names) → child names name ≡ Some node → Refuses s made o ev root limit (item o ev (joined d name) node) e → DirectoryRefuses s made o ev root limit full d c e
-DirectoryRefuses-name s made o ev root limit full d c names name node e there stands h =
-    inr (subst (λ (w : Walked). Refuses s made o ev root limit w e) (sym (ap (entered_at o ev d c) there)) (Refuses-within s made o ev root limit (item o ev (joined d name) node) (report_of o ev d c names) e (item_within o ev d c names name node stands) h))
+pub HasPaths-same : (v w : Walked) → w ≡ v → HasPaths v w
+HasPaths-same v w is = let R : Walked → Type 0 = λ x. HasPaths v x in subst R (sym is) (record { entered = λ p h. h; broken = λ p h. h; asked = λ p h. h })
 
--- ---- a path that is entered
+pub HasPaths-asking : (b : Bool) (path : List ℕ) (w : Walked) → HasPaths w (asking b path w)
+HasPaths-asking true path w = record { entered = λ p h. h; broken = λ p h. h; asked = λ p h. or-right (bytes_eq p path) (is_among p w.asked) h }
+HasPaths-asking false path w = record { entered = λ p h. h; broken = λ p h. h; asked = λ p h. h }
 
--- what it gives is what it gives as a directory that is entered, or that it is broken, and that its class asked
-pub item-entered : (o : Chosen) (ev : Evidence) (path : List ℕ) (node : Node) → enters o (child_class o ev path node) false ≡ true → item o ev path node ≡ asking (child_asks o ev path node) path (entered_at o ev path (child_class o ev path node) (found node))
-unfolding item
-item-entered o ev path (file bytes) into = rw into refl
-item-entered o ev path (link target) into = rw into refl
-item-entered o ev path other into = rw into refl
-item-entered o ev path (directory names) into = rw into refl
-
-pub item-leaf : (o : Chosen) (ev : Evidence) (path : List ℕ) (node : Node) → enters o (child_class o ev path node) false ≡ false → item o ev path node ≡ asking (child_asks o ev path node) path (leaf (entry_at path (child_class o ev path node)))
-unfolding item
-item-leaf o ev path (file bytes) out = rw out refl
-item-leaf o ev path (link target) out = rw out refl
-item-leaf o ev path other out = rw out refl
-item-leaf o ev path (directory names) out = rw out refl
-
--- ---- a path whose class asks the rules
-
-among-asking : (b : Bool) (path : List ℕ) (w : Walked) → b ≡ true → is_among path (asking b path w).asked ≡ true
-among-asking true path w e = ap (λ c. c || is_among path w.asked) (nat_list_eq_equiv.refl path)
-among-asking false path w e = absurd (cc e)
-
-asked-name : (o : Chosen) (ev : Evidence) (path : List ℕ) (node : Node) → child_asks o ev path node ≡ true → is_among path (item o ev path node).asked ≡ true
-asked-name o ev path node e = go (enters o (child_class o ev path node) false) refl
-  where
-    go : (b : Bool) → enters o (child_class o ev path node) false ≡ b → is_among path (item o ev path node).asked ≡ true
-    go true into =
-        ap (λ (w : Walked). is_among path w.asked) (item-entered o ev path node into) ∙ among-asking (child_asks o ev path node) path (entered_at o ev path (child_class o ev path node) (found node)) e
-    go false out =
-        ap (λ (w : Walked). is_among path w.asked) (item-leaf o ev path node out) ∙ among-asking (child_asks o ev path node) path (leaf (entry_at path (child_class o ev path node))) e
-
--- a refusal of a class is one of the name
-pub Refuses-class : (s : Sources) (made : Option Made) (o : Chosen) (ev : Evidence) (root : List ℕ) (limit : ℕ) (path : List ℕ) (node : Node) (e : Error) → is_normal path ≡ true → classes.IsAbout made path e → classes.Refuses s made path e
-    → classes.OnAccess (child_asks o ev path node ≡ true) e → Refuses s made o ev root limit (item o ev path node) e
-Refuses-class s made o ev root limit path node errors.Interrupted normal about refused asks = tt
-Refuses-class s made o ev root limit path node (errors.WorktreeRootIsFile p) normal about refused asks = absurd about
-Refuses-class s made o ev root limit path node (errors.NormalizeRoot p) normal about refused asks = absurd about
-Refuses-class s made o ev root limit path node (errors.SymlinkInRoot p top index) normal about refused asks = absurd about
-Refuses-class s made o ev root limit path node (errors.SymlinkMetadata p why) normal about refused asks = absurd about
-Refuses-class s made o ev root limit path node (errors.ExcludesAccess e) normal about refused asks = go made about refused
-  where
-    go : (k : Option Made) → classes.IsAbout k path (errors.ExcludesAccess e) → classes.Refuses s k path (errors.ExcludesAccess e) → IsSomeAnd k (λ rules. IsNoAccess s rules (item o ev path node) e)
-    go None a r = absurd a
-    go (Some rules) a r = record { path = path; normal = normal; asked = asked-name o ev path node asks; access = a; refused = r }
-Refuses-class s made o ev root limit path node (errors.TooDeep p) normal about refused asks = absurd about
-Refuses-class s made o ev root limit path node (errors.ReadDir p why) normal about refused asks = absurd about
-Refuses-class s made o ev root limit path node (errors.DirEntry p) normal about refused asks = tt
-Refuses-class s made o ev root limit path node errors.OutOfMemory normal about refused asks = tt
-
--- a class that asks no rules is refused for want of memory alone
-pub WalkRefuses-class : (s : Sources) (made : Option Made) (o : Chosen) (ev : Evidence) (root : List ℕ) (limit : ℕ) (path : List ℕ) (asks : Bool) (e : Error) → asks ≡ false → classes.IsAbout made path e → classes.OnAccess (asks ≡ true) e
-    → WalkRefuses s made o ev root limit e
-WalkRefuses-class s made o ev root limit path asks errors.Interrupted unasked about h = tt
-WalkRefuses-class s made o ev root limit path asks (errors.WorktreeRootIsFile p) unasked about h = absurd about
-WalkRefuses-class s made o ev root limit path asks (errors.NormalizeRoot p) unasked about h = absurd about
-WalkRefuses-class s made o ev root limit path asks (errors.SymlinkInRoot p top index) unasked about h = absurd about
-WalkRefuses-class s made o ev root limit path asks (errors.SymlinkMetadata p why) unasked about h = absurd about
-WalkRefuses-class s made o ev root limit path asks (errors.ExcludesAccess e) unasked about h = absurd (let f : false ≡ true = sym unasked ∙ h in cc f)
-WalkRefuses-class s made o ev root limit path asks (errors.TooDeep p) unasked about h = absurd about
-WalkRefuses-class s made o ev root limit path asks (errors.ReadDir p why) unasked about h = absurd about
-WalkRefuses-class s made o ev root limit path asks (errors.DirEntry p) unasked about h = tt
-WalkRefuses-class s made o ev root limit path asks errors.OutOfMemory unasked about h = tt
-
--- it says of the tree what the lookup said
-pub IsInTree-class : (holds : Option Objects) (s : Sources) (made : Option Made) (path : List ℕ) (e : Error) → is_normal path ≡ true → classes.IsAbout made path e → (holds ≡ Some s.objects → classes.Refuses s made path e) → IsInTree holds s made e
-IsInTree-class holds s made path errors.Interrupted normal about refused = tt
-IsInTree-class holds s made path (errors.WorktreeRootIsFile p) normal about refused = tt
-IsInTree-class holds s made path (errors.NormalizeRoot p) normal about refused = about
-IsInTree-class holds s made path (errors.SymlinkInRoot p top index) normal about refused = about
-IsInTree-class holds s made path (errors.SymlinkMetadata p why) normal about refused = about
-IsInTree-class holds s made path (errors.ExcludesAccess e) normal about refused = go made about refused
-  where
-    go : (k : Option Made) → classes.IsAbout k path (errors.ExcludesAccess e) → (holds ≡ Some s.objects → classes.Refuses s k path (errors.ExcludesAccess e)) → IsSomeAnd k (λ rules. holds ≡ Some s.objects → IsRefusedLookup s rules e)
-    go None a r = absurd a
-    go (Some rules) a r = λ known. record { path = path; normal = normal; access = a; refused = r known }
-IsInTree-class holds s made path (errors.TooDeep p) normal about refused = tt
-IsInTree-class holds s made path (errors.ReadDir p why) normal about refused = absurd about
-IsInTree-class holds s made path (errors.DirEntry p) normal about refused = tt
-IsInTree-class holds s made path errors.OutOfMemory normal about refused = tt
-
--- and so does a listing
-pub IsInTree-open : (holds : Option Objects) (s : Sources) (made : Option Made) (full : List ℕ) (follow : Bool) (e : Error) → OpenRefuses full (look s.tree full follow) e → IsInTree holds s made e
-IsInTree-open holds s made full follow errors.Interrupted h = tt
-IsInTree-open holds s made full follow (errors.WorktreeRootIsFile p) h = tt
-IsInTree-open holds s made full follow (errors.NormalizeRoot p) h = h
-IsInTree-open holds s made full follow (errors.SymlinkInRoot p top index) h = h
-IsInTree-open holds s made full follow (errors.SymlinkMetadata p why) h = h
-IsInTree-open holds s made full follow (errors.ExcludesAccess e) h = absurd h
-IsInTree-open holds s made full follow (errors.TooDeep p) h = tt
-IsInTree-open holds s made full follow (errors.ReadDir p reads.Absent) h = record { follow = follow; node = ap (λ (q : List ℕ). list_of (look s.tree q follow)) h.0 ∙ h.1 }
-IsInTree-open holds s made full follow (errors.ReadDir p reads.NotADirectory) h = record { follow = follow; node = ap (λ (q : List ℕ). list_of (look s.tree q follow)) h.0 ∙ h.1 }
-IsInTree-open holds s made full follow (errors.ReadDir p reads.Fault) h = tt
-IsInTree-open holds s made full follow (errors.DirEntry p) h = tt
-IsInTree-open holds s made full follow errors.OutOfMemory h = tt
+-- ---- the refusal of a class
 
 pub IsAbout-class : (made : Option Made) (root : List ℕ) (limit : ℕ) (path : List ℕ) (e : Error) → is_normal path ≡ true → classes.IsAbout made path e → IsAbout made root limit e
 IsAbout-class made root limit path errors.Interrupted normal about = tt
 IsAbout-class made root limit path (errors.WorktreeRootIsFile p) normal about = absurd about
-IsAbout-class made root limit path (errors.NormalizeRoot p) normal about = about
-IsAbout-class made root limit path (errors.SymlinkInRoot p top index) normal about = about
-IsAbout-class made root limit path (errors.SymlinkMetadata p why) normal about = about
+IsAbout-class made root limit path (errors.NormalizeRoot p) normal about = absurd about
+IsAbout-class made root limit path (errors.SymlinkInRoot p r i) normal about = absurd about
+IsAbout-class made root limit path (errors.SymlinkMetadata p why) normal about = absurd about
 IsAbout-class made root limit path (errors.ExcludesAccess e) normal about = go made about
   where
     go : (k : Option Made) → classes.IsAbout k path (errors.ExcludesAccess e) → IsSomeAnd k (λ rules. IsSomeAccess rules e)
@@ -212,84 +125,157 @@ IsAbout-class made root limit path (errors.ReadDir p why) normal about = absurd 
 IsAbout-class made root limit path (errors.DirEntry p) normal about = absurd about
 IsAbout-class made root limit path errors.OutOfMemory normal about = tt
 
--- a class is not refused by the interrupt
-pub OnInterrupted-class : (made : Option Made) (path : List ℕ) (Raised : Type 0) (e : Error) → classes.IsAbout made path e → OnInterrupted Raised e
-OnInterrupted-class made path Raised errors.Interrupted about = absurd about
-OnInterrupted-class made path Raised (errors.WorktreeRootIsFile p) about = tt
-OnInterrupted-class made path Raised (errors.NormalizeRoot p) about = tt
-OnInterrupted-class made path Raised (errors.SymlinkInRoot p top index) about = tt
-OnInterrupted-class made path Raised (errors.SymlinkMetadata p why) about = tt
-OnInterrupted-class made path Raised (errors.ExcludesAccess e) about = tt
-OnInterrupted-class made path Raised (errors.TooDeep p) about = tt
-OnInterrupted-class made path Raised (errors.ReadDir p why) about = tt
-OnInterrupted-class made path Raised (errors.DirEntry p) about = tt
-OnInterrupted-class made path Raised errors.OutOfMemory about = tt
-
--- the path of a node that is entered and is no directory is broken
-broken-among : (o : Chosen) (ev : Evidence) (path : List ℕ) (c : Outcome) (node : Node) (why : ListError) → list_of (found node) ≡ Err why → is_among path (entered_at o ev path c (found node)).broken ≡ true
-broken-among o ev path c (file bytes) why e = ap (λ b. b || false) (nat_list_eq_equiv.refl path)
-broken-among o ev path c (link target) why e = ap (λ b. b || false) (nat_list_eq_equiv.refl path)
-broken-among o ev path c other why e = ap (λ b. b || false) (nat_list_eq_equiv.refl path)
-broken-among o ev path c (directory names) why e = absurd (cc e)
-
--- a refusal of a directory that is entered under a name is one of the name
-pub Refuses-directory : (s : Sources) (made : Option Made) (o : Chosen) (ev : Evidence) (root : List ℕ) (limit : ℕ) (full path : List ℕ) (c : Outcome) (node : Node) (e : Error) → IsPlaced root full path → is_empty path ≡ false
-    → look s.tree full false ≡ found node → c ≡ child_class o ev path node → enters o c false ≡ true → DirectoryRefuses s made o ev root limit full path c e → Refuses s made o ev root limit (item o ev path node) e
-Refuses-directory s made o ev root limit full path c node e at some there is into refused =
-    let R : Walked → Type 0 = λ w. Refuses s made o ev root limit w e in
-    let looked : look s.tree full (is_empty path) ≡ found node = ap (look s.tree full) some ∙ there in
-    let w : Walked = entered_at o ev path c (found node) in
-    let same : asking (child_asks o ev path node) path w ≡ item o ev path node =
-    ap (λ (k : Outcome). asking (child_asks o ev path node) path (entered_at o ev path k (found node))) is ∙ sym (item-entered o ev path node (ap (λ (k : Outcome). enters o k false) (sym is) ∙ into)) in
-    subst R same (Refuses-within s made o ev root limit w (asking (child_asks o ev path node) path w) e (asking_within (child_asks o ev path node) path w) (go e refused looked))
+pub IsInTree-class : (holds : Option Objects) (s : Sources) (made : Option Made) (path : List ℕ) (e : Error) → is_normal path ≡ true → classes.IsAbout made path e → (holds ≡ Some s.objects → classes.Refuses s made path e) → IsInTree holds s made e
+IsInTree-class holds s made path errors.Interrupted normal about refused = tt
+IsInTree-class holds s made path (errors.WorktreeRootIsFile p) normal about refused = tt
+IsInTree-class holds s made path (errors.NormalizeRoot p) normal about refused = tt
+IsInTree-class holds s made path (errors.SymlinkInRoot p r i) normal about refused = tt
+IsInTree-class holds s made path (errors.SymlinkMetadata p why) normal about refused = tt
+IsInTree-class holds s made path (errors.ExcludesAccess e) normal about refused = go made about refused
   where
-    broken : (why : ListError) (p : List ℕ) → p ≡ full → list_of (look s.tree full (is_empty path)) ≡ Err why → look s.tree full (is_empty path) ≡ found node → IsBroken s.tree o ev root (entered_at o ev path c (found node)) why p
-    broken why p p_is refuses looked =
-        let no_names : list_of (found node) ≡ Err why = ap list_of (sym looked) ∙ refuses in
+    go : (k : Option Made) → classes.IsAbout k path (errors.ExcludesAccess e) → (holds ≡ Some s.objects → classes.Refuses s k path (errors.ExcludesAccess e)) → IsSomeAnd k (λ rules. holds ≡ Some s.objects → IsRefusedLookup s rules e)
+    go None a r = absurd a
+    go (Some rules) a r = λ known. record { path = path; normal = normal; access = a; refused = r known }
+IsInTree-class holds s made path (errors.TooDeep p) normal about refused = tt
+IsInTree-class holds s made path (errors.ReadDir p why) normal about refused = absurd about
+IsInTree-class holds s made path (errors.DirEntry p) normal about refused = tt
+IsInTree-class holds s made path errors.OutOfMemory normal about refused = tt
+
+-- a class that asks the rules is one of a path that asks them, unless the worktree failed
+pub Refuses-class : (given : Setting) (made : Option Made) (s : Sources) (limit : ℕ) (Failed Asks : Type 0) (w : Walked) (path : List ℕ) (e : Error) → is_normal path ≡ true → classes.IsAbout made path e → classes.Refuses s made path e
+    → classes.OnAccess Asks e ⊎ Failed → (Asks → is_among path w.asked ≡ true) → Refuses given made s limit Failed w e
+Refuses-class given made s limit Failed Asks w path errors.Interrupted normal about refused asks among = tt
+Refuses-class given made s limit Failed Asks w path (errors.WorktreeRootIsFile p) normal about refused asks among = absurd about
+Refuses-class given made s limit Failed Asks w path (errors.NormalizeRoot p) normal about refused asks among = absurd about
+Refuses-class given made s limit Failed Asks w path (errors.SymlinkInRoot p r i) normal about refused asks among = absurd about
+Refuses-class given made s limit Failed Asks w path (errors.SymlinkMetadata p why) normal about refused asks among = absurd about
+Refuses-class given made s limit Failed Asks w path (errors.ExcludesAccess e) normal about refused asks among = go made about refused
+  where
+    here : Asks ⊎ Failed → (is_among path w.asked ≡ true) ⊎ Failed
+    here (inl a) = inl (among a)
+    here (inr f) = inr f
+
+    go : (k : Option Made) → classes.IsAbout k path (errors.ExcludesAccess e) → classes.Refuses s k path (errors.ExcludesAccess e) → IsSomeAnd k (λ rules. IsNoAccess s rules w Failed e)
+    go None a r = absurd a
+    go (Some rules) a r = record { path = path; normal = normal; asked = here asks; access = a; refused = r }
+Refuses-class given made s limit Failed Asks w path (errors.TooDeep p) normal about refused asks among = absurd about
+Refuses-class given made s limit Failed Asks w path (errors.ReadDir p why) normal about refused asks among = absurd about
+Refuses-class given made s limit Failed Asks w path (errors.DirEntry p) normal about refused asks among = tt
+Refuses-class given made s limit Failed Asks w path errors.OutOfMemory normal about refused asks among = tt
+
+-- ---- the refusal of what lies too deep
+
+pub IsAbout-deep : (made : Option Made) (root path : List ℕ) (limit : ℕ) (Raised : Type 0) (e : Error) → is_normal path ≡ true → limit < depth_of path → IsDeep (full_path root path) Raised e → IsAbout made root limit e
+IsAbout-deep made root path limit Raised errors.Interrupted normal deep h = tt
+IsAbout-deep made root path limit Raised (errors.WorktreeRootIsFile p) normal deep h = absurd h
+IsAbout-deep made root path limit Raised (errors.NormalizeRoot p) normal deep h = absurd h
+IsAbout-deep made root path limit Raised (errors.SymlinkInRoot p r i) normal deep h = absurd h
+IsAbout-deep made root path limit Raised (errors.SymlinkMetadata p why) normal deep h = absurd h
+IsAbout-deep made root path limit Raised (errors.ExcludesAccess e) normal deep h = absurd h
+IsAbout-deep made root path limit Raised (errors.TooDeep p) normal deep h = record { below = path; path_is = h; normal = normal; deep = deep }
+IsAbout-deep made root path limit Raised (errors.ReadDir p why) normal deep h = absurd h
+IsAbout-deep made root path limit Raised (errors.DirEntry p) normal deep h = absurd h
+IsAbout-deep made root path limit Raised errors.OutOfMemory normal deep h = tt
+
+pub Refuses-deep : (given : Setting) (made : Option Made) (s : Sources) (limit : ℕ) (Failed Raised : Type 0) (w : Walked) (path : List ℕ) (e : Error) → limit < depth_of path → (is_to_enter path w ≡ true) ⊎ Failed → IsDeep (full_path given.root path) Raised e
+    → Refuses given made s limit Failed w e
+Refuses-deep given made s limit Failed Raised w path errors.Interrupted deep enter h = tt
+Refuses-deep given made s limit Failed Raised w path (errors.WorktreeRootIsFile p) deep enter h = absurd h
+Refuses-deep given made s limit Failed Raised w path (errors.NormalizeRoot p) deep enter h = absurd h
+Refuses-deep given made s limit Failed Raised w path (errors.SymlinkInRoot p r i) deep enter h = absurd h
+Refuses-deep given made s limit Failed Raised w path (errors.SymlinkMetadata p why) deep enter h = absurd h
+Refuses-deep given made s limit Failed Raised w path (errors.ExcludesAccess e) deep enter h = absurd h
+Refuses-deep given made s limit Failed Raised w path (errors.TooDeep p) deep enter h = record { below = path; path_is = h; deep = deep; to_enter = enter }
+Refuses-deep given made s limit Failed Raised w path (errors.ReadDir p why) deep enter h = absurd h
+Refuses-deep given made s limit Failed Raised w path (errors.DirEntry p) deep enter h = absurd h
+Refuses-deep given made s limit Failed Raised w path errors.OutOfMemory deep enter h = tt
+
+-- ---- a listing that is refused
+
+pub IsInTree-open : (holds : Option Objects) (s : Sources) (made : Option Made) (full : List ℕ) (follow : Bool) (e : Error) → OpenRefuses full (look s.tree full follow) e → IsInTree holds s made e
+IsInTree-open holds s made full follow errors.Interrupted h = tt
+IsInTree-open holds s made full follow (errors.WorktreeRootIsFile p) h = tt
+IsInTree-open holds s made full follow (errors.NormalizeRoot p) h = tt
+IsInTree-open holds s made full follow (errors.SymlinkInRoot p r i) h = tt
+IsInTree-open holds s made full follow (errors.SymlinkMetadata p why) h = tt
+IsInTree-open holds s made full follow (errors.ExcludesAccess e) h = absurd h
+IsInTree-open holds s made full follow (errors.TooDeep p) h = tt
+IsInTree-open holds s made full follow (errors.ReadDir p reads.Absent) h = record { follow = follow; node = ap (λ (q : List ℕ). list_of (look s.tree q follow)) h.0 ∙ h.1 }
+IsInTree-open holds s made full follow (errors.ReadDir p reads.NotADirectory) h = record { follow = follow; node = ap (λ (q : List ℕ). list_of (look s.tree q follow)) h.0 ∙ h.1 }
+IsInTree-open holds s made full follow (errors.ReadDir p reads.Fault) h = tt
+IsInTree-open holds s made full follow (errors.DirEntry p) h = tt
+IsInTree-open holds s made full follow errors.OutOfMemory h = tt
+
+-- what is entered and cannot be listed is broken
+pub broken-among : (o : Chosen) (ev : Evidence) (path : List ℕ) (c : Class) (at : Look) (why : ListError) → list_of at ≡ Err why → is_among path (entered_at o ev path c at).broken ≡ true
+broken-among o ev path c absent why e = ap (λ b. b || false) (nat_list_eq_equiv.refl path)
+broken-among o ev path c too_many_links why e = ap (λ b. b || false) (nat_list_eq_equiv.refl path)
+broken-among o ev path c (found (file bytes)) why e = ap (λ b. b || false) (nat_list_eq_equiv.refl path)
+broken-among o ev path c (found (link target)) why e = ap (λ b. b || false) (nat_list_eq_equiv.refl path)
+broken-among o ev path c (found other) why e = ap (λ b. b || false) (nat_list_eq_equiv.refl path)
+broken-among o ev path c (found (directory names)) why e = absurd (cc e)
+
+-- A refusal of a directory that is entered is one of its name, where its class is known, or the worktree failed. `same` says that its
+-- path is not the worktree root's.
+pub Refuses-directory : (given : Setting) (made : Option Made) (s : Sources) (limit : ℕ) (P Q : Type 0) (w : Walked) (p : List ℕ) (c : Class) (e : Error) → look_directory given s.tree p ≡ look_name given s.tree p → HasPaths (directory_told given made s p c) w ⊎ Q → (P → Q)
+    → ((why : ListError) → list_of (look_name given s.tree p) ≡ Err why → ((evidence given made s).in_index p).up_to_date ≡ Some Directory) → DirectoryRefuses given made s limit P p c e → Refuses given made s limit Q w e
+Refuses-directory given made s limit P Q w p c e same within f indexed (inr h) = Refuses-within (directory_told given made s p c) w P Q within f given made s limit e h
+Refuses-directory given made s limit P Q w p c e same within f indexed (inl h) = go e h
+  where
+    unlisted : (why : ListError) (path : List ℕ) → path ≡ full_path given.root p → list_of (look_directory given s.tree p) ≡ Err why → IsBroken s.tree (evidence given made s) given.root w Q why path
+    unlisted why path is e1 =
+        let named : list_of (look_name given s.tree p) ≡ Err why = ap list_of (sym same) ∙ e1 in
         record {
-          below = path;
-          path_is = p_is ∙ at.full_is;
-          broken = broken-among o ev path c node why no_names;
-          as_directory = inl (up_to_date-broken o ev path node why (ap (λ (k : Outcome). enters o k false) (sym is) ∙ into) no_names);
-          node = ap (λ (q : List ℕ). list_of (look s.tree q (is_empty path))) p_is ∙ refuses;
+          below = p;
+          path_is = is;
+          node = ap (λ (q : List ℕ). list_of (look s.tree q false)) is ∙ named;
+          indexed = indexed why named;
+          broken = broken-or (directory_told given made s p c) w P Q within f p (inl (broken-among given.options (evidence given made s) p c (look_directory given s.tree p) why e1));
         }
 
-    within : (f : Error) → look s.tree full (is_empty path) ≡ found node → Refuses s made o ev root limit (entered_at o ev path c (look s.tree full (is_empty path))) f → Refuses s made o ev root limit (entered_at o ev path c (found node)) f
-    within f looked h = subst (λ (w : Walked). Refuses s made o ev root limit w f) (ap (entered_at o ev path c) looked) h
+    go : (x : Error) → OpenRefuses (full_path given.root p) (look_directory given s.tree p) x → Refuses given made s limit Q w x
+    go errors.Interrupted o = tt
+    go (errors.WorktreeRootIsFile path) o = absurd o
+    go (errors.NormalizeRoot path) o = absurd o
+    go (errors.SymlinkInRoot path root index) o = absurd o
+    go (errors.SymlinkMetadata path why) o = absurd o
+    go (errors.ExcludesAccess x) o = absurd o
+    go (errors.TooDeep path) o = absurd o
+    go (errors.ReadDir path reads.Absent) o = unlisted lists.Absent path o.0 o.1
+    go (errors.ReadDir path reads.NotADirectory) o = unlisted lists.NotADirectory path o.0 o.1
+    go (errors.ReadDir path reads.Fault) o = tt
+    go (errors.DirEntry path) o = tt
+    go errors.OutOfMemory o = tt
 
-    go : (f : Error) → DirectoryRefuses s made o ev root limit full path c f → look s.tree full (is_empty path) ≡ found node → Refuses s made o ev root limit (entered_at o ev path c (found node)) f
-    go f (inr h) looked = within f looked h
-    go errors.Interrupted (inl h) looked = tt
-    go (errors.WorktreeRootIsFile p) (inl h) looked = h
-    go (errors.NormalizeRoot p) (inl h) looked = h
-    go (errors.SymlinkInRoot p top index) (inl h) looked = h
-    go (errors.SymlinkMetadata p why) (inl h) looked = h
-    go (errors.ExcludesAccess p) (inl h) looked = absurd h
-    go (errors.TooDeep p) (inl h) looked = absurd h
-    go (errors.ReadDir p reads.Absent) (inl h) looked = broken lists.Absent p h.0 h.1 looked
-    go (errors.ReadDir p reads.NotADirectory) (inl h) looked = broken lists.NotADirectory p h.0 h.1 looked
-    go (errors.ReadDir p reads.Fault) (inl h) looked = tt
-    go (errors.DirEntry p) (inl h) looked = tt
-    go errors.OutOfMemory (inl h) looked = tt
+-- ---- over how a walk ended
 
--- ---- a path that lies too deep
+-- want of memory may come at any time
+pub memory-any : (P : Error → Type 0) → P errors.OutOfMemory → (stop : Stop) → OnRefused (λ e. e ≡ errors.OutOfMemory) stop → OnRefused P stop
+memory-any P h (Refused e) is = subst P (sym is) h
+memory-any P h Broken is = tt
 
-entered-among : (o : Chosen) (ev : Evidence) (path : List ℕ) (c : Outcome) (node : Node) → is_to_enter path (entered_at o ev path c (found node)) ≡ true
-entered-among o ev path c (file bytes) = ap (λ b. b || false) (nat_list_eq_equiv.refl path)
-entered-among o ev path c (link target) = ap (λ b. b || false) (nat_list_eq_equiv.refl path)
-entered-among o ev path c other = ap (λ b. b || false) (nat_list_eq_equiv.refl path)
-entered-among o ev path c (directory none) = ap (λ b. (b || false) || false) (nat_list_eq_equiv.refl path)
-entered-among o ev path c (directory (named name node rest)) =
-    let w : Walked = items o ev path (named name node rest) in
-    ap (λ b. (b || is_among path w.entered) || is_among path w.broken) (nat_list_eq_equiv.refl path)
+-- what is refused for want of memory alone
+pub memory-only : {T : Type 0} (r : Result T Stop) (P : Error → Type 0) → P errors.OutOfMemory → WantsMemory r → IfErr r (OnRefused P)
+memory-only r P h = IfErr-weaker r (OnRefused (λ e. e ≡ errors.OutOfMemory)) (OnRefused P) (memory-any P h)
 
-pub IsTooDeep-name : (o : Chosen) (ev : Evidence) (root : List ℕ) (limit : ℕ) (full path : List ℕ) (c : Outcome) (node : Node) (p : List ℕ) → IsPlaced root full path → p ≡ full → limit < depth_of path
-    → c ≡ child_class o ev path node → enters o c false ≡ true → IsTooDeep root limit (item o ev path node) p
-IsTooDeep-name o ev root limit full path c node p at p_is deep is into =
-    let same : item o ev path node ≡ asking (child_asks o ev path node) path (entered_at o ev path (child_class o ev path node) (found node)) = item-entered o ev path node (ap (λ (k : Outcome). enters o k false) (sym is) ∙ into) in
-    record {
-      below = path;
-      path_is = p_is ∙ at.full_is;
-      to_enter = ap (is_to_enter path) same ∙ entered-among o ev path (child_class o ev path node) node;
-      deep = deep;
-    }
+pub refused-any : (P Q : Error → Type 0) → ((e : Error) → P e → Q e) → (stop : Stop) → OnRefused P stop → OnRefused Q stop
+refused-any P Q f (Refused e) h = f e h
+refused-any P Q f Broken h = tt
+
+pub either : {A B C : Type 0} → (A → C) → (B → C) → A ⊎ B → C
+either f g (inl a) = f a
+either f g (inr b) = g b
+
+-- a count rose, or it did not
+pub rose-or : (before now : ℕ) → NotIncreased before now ⊎ Increased before now
+rose-or before now = go (nat_lt now (next before)) refl
+  where
+    go : (b : Bool) → nat_lt now (next before) ≡ b → NotIncreased before now ⊎ Increased before now
+    go true e = inl (ltb-true now (next before) e)
+    go false e = inr (ltb-false now (next before) e)
+
+-- what is refused of a name is refused of its directory
+pub DirectoryRefuses-name : (given : Setting) (made : Option Made) (s : Sources) (limit : ℕ) (P Q : Type 0) (v : Walked) (d : List ℕ) (c : Class) → HasPaths v (directory_told given made s d c) → (P → Q) → (stop : Stop) → OnRefused (Refuses given made s limit P v) stop
+    → OnRefused (DirectoryRefuses given made s limit Q d c) stop
+DirectoryRefuses-name given made s limit P Q v d c within f stop h =
+    refused-any (Refuses given made s limit P v) (DirectoryRefuses given made s limit Q d c) (λ e r. inr (Refuses-within v (directory_told given made s d c) P Q (inl within) f given made s limit e r)) stop h

@@ -1,158 +1,196 @@
--- The steps of a walk.
-use Rattle.std.proofs.Common.{◌≡◌, ℕ, ◌+◌, ◌<◌, List, [], ◌∷◌, Bool, true, false, ◌&&◌, ◌||◌, Option, None, get_or, length, refl, sym, ap, subst, ◌∙◌, arith}
-use Rattle.std.specs.Prelude.{option_map, is_some, nat_lt}
+-- From what a path gives that was walked to what its name gives in the directory.
+use Rattle.std.proofs.Common.{◌≡◌, ℕ, List, [], ◌∷◌, Bool, true, false, ◌&&◌, ◌||◌, Option, None, refl, sym, ap, subst, ◌∙◌}
+use Rattle.std.specs.Prelude.{is_some, nat_lt}
 use Rattle.std.specs.List.{list_any}
+use Rattle.std.proofs.lemmas.Cmp.{nat_list_eq_equiv}
 use Rattle.gitbase_core.specs.Objects.{Objects}
-use Rattle.gitbase_core.specs.Path.{joined, is_empty}
-use Rattle.worktree_fs.specs.Tree.{Node, Names, Look, look, found}
-use Rattle.worktree_fs.specs.Naming.{IsName, AreNames}
-use Rattle.worktree_fs.specs.Answers.{kind_of}
-use Rattle.worktree_fs.specs.declared.answers.ListError.{ListError}
-use Rattle.worktree_fs.specs.declared.answers.ListError.TheVariants as lists
-use Rattle.worktree_stack.specs.Setup.{Made}
+use Rattle.gitbase_core.specs.Path.{is_empty}
+use Rattle.worktree_fs.specs.Paths.{full_path}
+use Rattle.worktree_fs.specs.Tree.{Names, none, named, Look, look, found, absent, too_many_links, file, link, directory, other}
 use Rattle.worktree_stack.specs.Reading.{Sources}
+use Rattle.worktree_stack.specs.Setup.{Made}
 use Rattle.worktree_stack.specs.Stacked.{Stacked}
-use Rattle.dir_classify.specs.Excludes.{made_with, TellsIf, InStepIf}
-use Rattle.dir_classify.specs.Chosen.{Chosen}
-use Rattle.dir_classify.specs.declared.entry.Entry.{Entry}
-use Rattle.dir_classify.specs.declared.entry.Kind.{Kind}
 use Rattle.dir_classify.specs.declared.classify.Outcome.{Outcome as Class}
-use Rattle.dir_classify.specs.Kinds.{from_node}
+use Rattle.dir_classify.specs.Chosen.{Chosen}
+use Rattle.dir_classify.specs.Class.{class, asks, enters, leaf_class}
 use Rattle.dir_classify.specs.Entries.{entry_at}
-use Rattle.dir_classify.specs.declared.error.Error.{Error}
-use Rattle.dir_classify.specs.Refused.{OnAccess}
-use Rattle.dir_classify.specs.Class.{class, asks, enters}
 use Rattle.dir_classify.specs.Evidence.{Evidence}
-use Rattle.dir_classify.specs.Layers.{kind_at}
-use Rattle.dir_classify.specs.Paths.{full_path}
+use Rattle.dir_classify.specs.Excludes.{made_with, TellsIf, InStepIf}
+use Rattle.dir_classify.specs.Layers.{Setting, evidence, on_disk}
+use Rattle.dir_walk.specs.declared.handed.Handed.{Handed}
 use Rattle.dir_walk.specs.declared.outcome.Outcome.{Outcome}
-use Rattle.dir_walk.specs.Emissions.{Emission, plain}
-use Rattle.dir_walk.specs.Walked.{Walked, item, leaf, entered_at, child_class, child_asks, asking}
+use Rattle.dir_walk.specs.Emissions.{Emission}
+use Rattle.dir_walk.specs.Emits.{IsPart, Gives, Closes, shown_by, size, seen_by}
+use Rattle.dir_walk.specs.Refused.{is_among, is_to_enter}
 use Rattle.dir_walk.specs.Report.{depth_of, is_refused}
-use Rattle.dir_walk.specs.Refused.{IsAbout, IsPlaced, read_error, OnInterrupted}
-use Rattle.dir_walk.specs.Emits.{Emits, Gives, Stands, shown_by}
-use Rattle.dir_walk.proofs.Counts.{count_by-cons}
-use Rattle.dir_walk.proofs.Named.{listed_name}
-use Rattle.dir_walk.proofs.Placed.{IsPlaced-child, depth_of-joined, joined-some}
-use Rattle.dir_walk.proofs.Refusals.{item-entered, item-leaf}
+use Rattle.dir_walk.specs.Told.{Stands, IsEvidence, item_told, directory_told, look_name, look_directory}
+use Rattle.dir_walk.specs.Walked.{Walked, asking, child_class, child_asks, entered_at, broken_at, closed, empty_directory, item, items, item_at, leaf_at, leaf}
+use Rattle.dir_walk.proofs.Emitting.{Emits-as}
+use Rattle.dir_walk.proofs.Closes.{closed-adds}
+use Rattle.dir_walk.proofs.Refusals.{HasPaths, HasPaths-asking}
+use Rattle.dir_walk.proofs.Listed.{leaf-entered, leaf-whole}
 
--- a listing that is refused names the directory, which is the root or lies below it
-pub IsAbout-read_error : (made : Option Made) (root full rela : List ℕ) (limit : ℕ) (e : ListError) → IsPlaced root full rela → IsAbout made root limit (read_error full e)
-IsAbout-read_error made root full rela limit lists.Absent at = record { below = rela; path_is = at.full_is; normal = at.normal }
-IsAbout-read_error made root full rela limit lists.NotADirectory at = record { below = rela; path_is = at.full_is; normal = at.normal }
-IsAbout-read_error made root full rela limit lists.OpenFault at = record { below = rela; path_is = at.full_is; normal = at.normal }
-IsAbout-read_error made root full rela limit lists.EntryFault at = record { below = rela; path_is = at.full_is; normal = at.normal }
-IsAbout-read_error made root full rela limit lists.OutOfMemory at = tt
+-- ---- where a walk stands
 
--- and the interrupt has nothing to do with it
-pub OnInterrupted-read_error : (Raised : Type 0) (full : List ℕ) (e : ListError) → OnInterrupted Raised (read_error full e)
-OnInterrupted-read_error Raised full lists.Absent = tt
-OnInterrupted-read_error Raised full lists.NotADirectory = tt
-OnInterrupted-read_error Raised full lists.OpenFault = tt
-OnInterrupted-read_error Raised full lists.EntryFault = tt
-OnInterrupted-read_error Raised full lists.OutOfMemory = tt
+-- all that closing a directory asks of evidence is what was given to the walk
+pub IsEvidence-told : (given : Setting) (made : Option Made) (s : Sources) (blocked : Option (List ℕ)) → (evidence given made s).blocked ≡ blocked → IsEvidence given blocked (evidence given made s)
+unfolding evidence
+IsEvidence-told given made s blocked is = record { matched = refl; covers = refl; blocked_is = is }
 
--- where a walk stands its worktree and its store tell
-pub telling : {told : Option Names} {holds : Option Objects} {x : Option Stacked} {s : Sources} {made : Option Made} → Stands told holds x s made → TellsIf told holds (made_with x) s
-telling at = record { tree_is = at.tree; objects_are = λ some. at.objects (sym (ap is_some at.made_is) ∙ some) }
+pub telling : {given : Setting} {told : Option Names} {holds : Option Objects} {excludes : Option Stacked} {blocked : Option (List ℕ)} {made : Option Made} {s : Sources} → Stands given told holds excludes blocked made s → TellsIf told holds (made_with excludes) s
+telling stands = record { tree_is = stands.tree; objects_are = λ some. stands.objects (ap is_some (sym stands.made_is) ∙ some) }
 
--- they tell it a call later
-pub tells-later : {told0 told1 : Option Names} {holds0 holds1 : Option Objects} {made0 made1 : Option Made} {s : Sources} → told1 ≡ told0 → holds1 ≡ holds0 → made1 ≡ made0 → TellsIf told0 holds0 made0 s → TellsIf told1 holds1 made1 s
-tells-later tree objects same tells = record { tree_is = tree ∙ tells.tree_is; objects_are = λ some. objects ∙ tells.objects_are (sym (ap is_some same) ∙ some) }
-
--- where a walk stands a call later
-pub stands-later : (told0 told1 : Option Names) (holds0 holds1 : Option Objects) (x0 x1 : Option Stacked) (s : Sources) (made : Option Made) → told1 ≡ told0 → holds1 ≡ holds0 → made_with x1 ≡ made_with x0
-    → ((u : Sources) → TellsIf told0 holds0 (made_with x0) u → InStepIf u x0 → InStepIf u x1) → Stands told0 holds0 x0 s made → Stands told1 holds1 x1 s made
-stands-later told0 told1 holds0 holds1 x0 x1 s made tree objects same step at =
-    record { tree = tree ∙ at.tree; objects = λ some. objects ∙ at.objects some; made_is = same ∙ at.made_is; in_step = step s (telling at) at.in_step }
-
--- ---- a child
-
--- a child in its two forms
-pub record Child (full rela child_full child_rela name : List ℕ) : Type 0 where
-  pub is_name : IsName name
-  pub full_is : child_full ≡ joined full name
-  pub rela_is : child_rela ≡ joined rela name
-
-pub name-at : (listed : List (List ℕ)) (i : ℕ) (name : List ℕ) → i < length listed → name ≡ get_or listed i name → AreNames listed → IsName name
-name-at listed i name inside is are = subst IsName (sym is) (listed_name listed are i name inside)
-
-pub child-some : (full rela child_full child_rela name : List ℕ) → Child full rela child_full child_rela name → is_empty child_rela ≡ false
-child-some full rela child_full child_rela name child = ap is_empty child.rela_is ∙ joined-some rela name child.is_name
-
-pub child-level : (full rela child_full child_rela name : List ℕ) (levels limit : ℕ) → Child full rela child_full child_rela name → levels + depth_of rela ≡ limit → levels + depth_of child_rela ≡ limit + 1
-child-level full rela child_full child_rela name levels limit child level = omega (arith, level, ap depth_of child.rela_is, depth_of-joined rela name child.is_name)
-
-pub child-placed : (root full rela child_full child_rela name : List ℕ) → Child full rela child_full child_rela name → IsPlaced root full rela → IsPlaced root child_full child_rela
-child-placed root full rela child_full child_rela name child at =
-    subst (λ (p : List ℕ). IsPlaced root p child_rela) (sym child.full_is)
-    (subst (λ (p : List ℕ). IsPlaced root (joined full name) p) (sym child.rela_is) (IsPlaced-child root full rela name child.is_name at))
-
--- ---- the class of a child
-
--- what was asked of the node at its path
-module _ (o : Chosen) (ev : Evidence) (t : Names) (root full path : List ℕ) (node : Node) (full_is : full ≡ full_path root path) (there : look t full false ≡ found node) where
-  at-node : {X : Type 0} (f : Option Kind → X) → f (kind_at t (full_path root path) false) ≡ f (option_map from_node (kind_of (found node)))
-  at-node f = ap (λ (p : List ℕ). f (kind_at t p false)) (sym full_is) ∙ ap (λ (l : Look). f (option_map from_node (kind_of l))) there
-
-  pub class-node : (c : Class) → c ≡ class o ev path None (kind_at t (full_path root path) false) → c ≡ child_class o ev path node
-  class-node c is = is ∙ at-node (λ (k : Option Kind). class o ev path None k)
-
-  pub read-node : (asks o ev path None (kind_at t (full_path root path) false) && ev.is_unread path) ≡ false → (child_asks o ev path node && ev.is_unread path) ≡ false
-  read-node read = sym (at-node (λ (k : Option Kind). asks o ev path None k && ev.is_unread path)) ∙ read
-
-  -- a refusal of its class comes where that asks the rules
-  pub access-node : (e : Error) → OnAccess (asks o ev path None (kind_at t (full_path root path) false) ≡ true) e → OnAccess (child_asks o ev path node ≡ true) e
-  access-node e h = subst (λ (b : Bool). OnAccess (b ≡ true) e) (at-node (λ (k : Option Kind). asks o ev path None k)) h
-
--- ---- a path that is not entered
-
-pub Gives-leaf : (o : Chosen) (limit : ℕ) (ev : Evidence) (e : Entry) (before after : List Emission) (start stop : Outcome) → Emits before after start stop (λ p. shown_by o p (plain e ∷ [])) 1 0 → Gives o limit ev (leaf e) before after start stop
-Gives-leaf o limit ev e before after start stop h =
+pub Stands-later : (given : Setting) {told0 told1 : Option Names} {holds0 holds1 : Option Objects} {old : Option Stacked} (new : Option Stacked) {blocked : Option (List ℕ)} {made : Option Made} {s : Sources} → told1 ≡ told0 → holds1 ≡ holds0 → made_with new ≡ made_with old
+    → ((u : Sources) → TellsIf told0 holds0 (made_with old) u → InStepIf u old → InStepIf u new) → Stands given told0 holds0 old blocked made s → Stands given told1 holds1 new blocked made s
+Stands-later given new {s = s} tree holds same in_step stands =
     record {
-      emits = record {
-        entries = h.entries;
-        returned = h.returned;
-        seen = λ fits. omega (arith, h.seen fits, count_by-cons (λ _. true) (plain e) []);
-        read = λ fits. omega (arith, h.read fits);
-      };
-      whole = refl;
+      tree = tree ∙ stands.tree;
+      objects = λ some. holds ∙ stands.objects some;
+      made_is = same ∙ stands.made_is;
+      in_step = in_step s (telling stands) stands.in_step;
+      blocked_is = stands.blocked_is;
     }
 
--- the rules that a path asks were read
-whole-asking : (limit : ℕ) (ev : Evidence) (b : Bool) (path : List ℕ) (w : Walked) → (b && ev.is_unread path) ≡ false → is_refused limit ev w ≡ false → is_refused limit ev (asking b path w) ≡ false
-whole-asking limit ev true path w read h =
-    ap (λ c. (list_any (λ d. nat_lt limit (depth_of d)) w.entered || list_any (λ d. true) w.broken) || (c || list_any ev.is_unread w.asked)) read ∙ h
-whole-asking limit ev false path w read h = h
+-- ---- what a name gives
 
-Gives-asking : (o : Chosen) (limit : ℕ) (ev : Evidence) (b : Bool) (path : List ℕ) (w : Walked) (before after : List Emission) (start stop : Outcome) → (b && ev.is_unread path) ≡ false → Gives o limit ev w before after start stop
-    → Gives o limit ev (asking b path w) before after start stop
-Gives-asking o limit ev b path w before after start stop read h = record { emits = h.emits; whole = whole-asking limit ev b path w read h.whole }
+item_at-entered : (o : Chosen) (ev : Evidence) (p : List ℕ) (at : Look) → enters o (child_class o ev p at) false ≡ true → item_at o ev p at ≡ asking (child_asks o ev p at) p (entered_at o ev p (child_class o ev p at) at)
+unfolding item
+item_at-entered o ev p absent e = rw e refl
+item_at-entered o ev p too_many_links e = rw e refl
+item_at-entered o ev p (found (file bytes)) e = rw e refl
+item_at-entered o ev p (found (link target)) e = rw e refl
+item_at-entered o ev p (found other) e = rw e refl
+item_at-entered o ev p (found (directory names)) e = rw e refl
 
-pub Gives-unentered : (o : Chosen) (limit : ℕ) (ev : Evidence) (path : List ℕ) (node : Node) (c : Class) (before after : List Emission) (start stop : Outcome) → c ≡ child_class o ev path node
-    → (child_asks o ev path node && ev.is_unread path) ≡ false → enters o c false ≡ false
-    → Emits before after start stop (λ p. shown_by o p (plain (entry_at path c) ∷ [])) 1 0 → Gives o limit ev (item o ev path node) before after start stop
-Gives-unentered o limit ev path node c before after start stop is read out emitted =
-    let P : Walked → Type 0 = λ w. Gives o limit ev w before after start stop in
-    let same : item o ev path node ≡ asking (child_asks o ev path node) path (leaf (entry_at path c)) =
-    item-leaf o ev path node (ap (λ (k : Class). enters o k false) (sym is) ∙ out) ∙ ap (λ (k : Class). asking (child_asks o ev path node) path (leaf (entry_at path k))) (sym is) in
-    subst P (sym same) (Gives-asking o limit ev (child_asks o ev path node) path (leaf (entry_at path c)) before after start stop read (Gives-leaf o limit ev (entry_at path c) before after start stop emitted))
+item_at-leaf : (o : Chosen) (ev : Evidence) (p : List ℕ) (at : Look) → enters o (child_class o ev p at) false ≡ false → item_at o ev p at ≡ asking (child_asks o ev p at) p (leaf_at o ev p (child_class o ev p at))
+unfolding item
+item_at-leaf o ev p absent e = rw e refl
+item_at-leaf o ev p too_many_links e = rw e refl
+item_at-leaf o ev p (found (file bytes)) e = rw e refl
+item_at-leaf o ev p (found (link target)) e = rw e refl
+item_at-leaf o ev p (found other) e = rw e refl
+item_at-leaf o ev p (found (directory names)) e = rw e refl
 
--- ---- a path that is entered
+asking-whole : (limit : ℕ) (ev : Evidence) (b : Bool) (p : List ℕ) (w : Walked) → (b && ev.is_unread p) ≡ false → is_refused limit ev w ≡ false → is_refused limit ev (asking b p w) ≡ false
+asking-whole limit ev false p w read whole = whole
+asking-whole limit ev true p w read whole =
+    let front : Bool = list_any (λ path. nat_lt limit (depth_of path)) w.entered || list_any (λ path. true) w.broken in
+    ap (λ b. front || (b || list_any ev.is_unread w.asked)) read ∙ whole
 
-pub entered-item : (o : Chosen) (ev : Evidence) (t : Names) (full path : List ℕ) (node : Node) (c : Class) → look t full false ≡ found node → is_empty path ≡ false → c ≡ child_class o ev path node → enters o c false ≡ true
-    → asking (child_asks o ev path node) path (entered_at o ev path c (look t full (is_empty path))) ≡ item o ev path node
-entered-item o ev t full path node c there some class_is into =
-    let from : Walked → Walked = asking (child_asks o ev path node) path in
-    ap (λ (k : Class). from (entered_at o ev path k (look t full (is_empty path)))) class_is
-    ∙ ap (λ (b : Bool). from (entered_at o ev path (child_class o ev path node) (look t full b))) some
-    ∙ ap (λ (l : Look). from (entered_at o ev path (child_class o ev path node) l)) there
-    ∙ sym (item-entered o ev path node (ap (λ (k : Class). enters o k false) (sym class_is) ∙ into))
+module _ (given : Setting) (made : Option Made) (s : Sources) (p : List ℕ) (c : Class) (is : c ≡ class given.options (evidence given made s) p None (on_disk given s.tree p true)) where
+  abbrev asked : Bool
+  asked = child_asks given.options (evidence given made s) p (look_name given s.tree p)
 
-pub Gives-entered : (o : Chosen) (limit : ℕ) (ev : Evidence) (t : Names) (full path : List ℕ) (node : Node) (c : Class) (before after : List Emission) (start stop : Outcome) → look t full false ≡ found node → is_empty path ≡ false
-    → c ≡ child_class o ev path node → (child_asks o ev path node && ev.is_unread path) ≡ false → enters o c false ≡ true → Gives o limit ev (entered_at o ev path c (look t full (is_empty path))) before after start stop
-    → Gives o limit ev (item o ev path node) before after start stop
-Gives-entered o limit ev t full path node c before after start stop there some class_is read into given =
-    let w : Walked = entered_at o ev path c (look t full (is_empty path)) in
-    subst (λ (v : Walked). Gives o limit ev v before after start stop) (entered-item o ev t full path node c there some class_is into)
-    (Gives-asking o limit ev (child_asks o ev path node) path w before after start stop read given)
+  told-leaf : enters given.options c false ≡ false → item_told given made s p ≡ asking asked p (leaf_at given.options (evidence given made s) p c)
+  told-leaf out =
+      let ev : Evidence = evidence given made s in
+      let at : Look = look_name given s.tree p in
+      item_at-leaf given.options ev p at (ap (λ (k : Class). enters given.options k false) (sym is) ∙ out)
+      ∙ ap (λ (k : Class). asking (child_asks given.options ev p at) p (leaf_at given.options ev p k)) (sym is)
+
+  told-entered : is_empty p ≡ false → enters given.options c false ≡ true → item_told given made s p ≡ asking asked p (directory_told given made s p c)
+  told-entered some into =
+      let ev : Evidence = evidence given made s in
+      let at : Look = look_name given s.tree p in
+      item_at-entered given.options ev p at (ap (λ (k : Class). enters given.options k false) (sym is) ∙ into)
+      ∙ ap (λ (k : Class). asking (child_asks given.options ev p at) p (entered_at given.options ev p k at)) (sym is)
+      ∙ ap (λ (b : Bool). asking (child_asks given.options ev p at) p (entered_at given.options ev p c (look s.tree (full_path given.root p) b))) (sym some)
+
+  module _ (q : List ℕ) (at : p ≡ q) (before after : Option (List Emission)) where
+    pub part-leaf : enters given.options c false ≡ false → IsPart given.options (leaf_at given.options (evidence given made s) p c).out before after → IsPart given.options (item_told given made s q).out before after
+    part-leaf out part =
+        let R : Walked → Type 0 = λ w. IsPart given.options w.out before after in
+        let P : List ℕ → Type 0 = λ r. IsPart given.options (item_told given made s r).out before after in
+        subst P at (subst R (sym (told-leaf out)) part)
+
+    pub part-directory : is_empty p ≡ false → enters given.options c false ≡ true → IsPart given.options (directory_told given made s p c).out before after → IsPart given.options (item_told given made s q).out before after
+    part-directory some into part =
+        let R : Walked → Type 0 = λ w. IsPart given.options w.out before after in
+        let P : List ℕ → Type 0 = λ r. IsPart given.options (item_told given made s r).out before after in
+        subst P at (subst R (sym (told-entered some into)) part)
+
+    module _ (limit : ℕ) (start stop : Outcome) (handed : Handed) (read : (asks given.options (evidence given made s) p None (on_disk given s.tree p true) && (evidence given made s).is_unread p) ≡ false) where
+      gives-asking : (w : Walked) → Gives given.options limit (evidence given made s) w before after start stop handed → Gives given.options limit (evidence given made s) (asking asked p w) before after start stop handed
+      gives-asking w gives =
+          record {
+            emits = gives.emits;
+            up = gives.up;
+            blocks = gives.blocks;
+            whole = asking-whole limit (evidence given made s) (child_asks given.options (evidence given made s) p (look_name given s.tree p)) p w read gives.whole;
+          }
+
+      pub Gives-leaf : enters given.options c false ≡ false → Gives given.options limit (evidence given made s) (leaf_at given.options (evidence given made s) p c) before after start stop handed
+          → Gives given.options limit (evidence given made s) (item_told given made s q) before after start stop handed
+      Gives-leaf out gives =
+          let R : Walked → Type 0 = λ w. Gives given.options limit (evidence given made s) w before after start stop handed in
+          let P : List ℕ → Type 0 = λ r. Gives given.options limit (evidence given made s) (item_told given made s r) before after start stop handed in
+          subst P at (subst R (sym (told-leaf out)) (gives-asking (leaf_at given.options (evidence given made s) p c) gives))
+
+      pub Gives-directory : is_empty p ≡ false → enters given.options c false ≡ true → Gives given.options limit (evidence given made s) (directory_told given made s p c) before after start stop handed
+          → Gives given.options limit (evidence given made s) (item_told given made s q) before after start stop handed
+      Gives-directory some into gives =
+          let R : Walked → Type 0 = λ w. Gives given.options limit (evidence given made s) w before after start stop handed in
+          let P : List ℕ → Type 0 = λ r. Gives given.options limit (evidence given made s) (item_told given made s r) before after start stop handed in
+          subst P at (subst R (sym (told-entered some into)) (gives-asking (directory_told given made s p c) gives))
+
+-- a leaf that was handed up or put out
+pub Gives-put : (o : Chosen) (limit : ℕ) (ev : Evidence) (p : List ℕ) (c k : Class) (before after : Option (List Emission)) (start stop : Outcome) (handed : Handed) → k ≡ leaf_class o ev p c → Closes o (leaf o (entry_at p k)) before after start stop handed
+    → Gives o limit ev (leaf_at o ev p c) before after start stop handed
+Gives-put o limit ev p c k before after start stop handed is closes =
+    let w : Walked = leaf o (entry_at p k) in
+    let R : Class → Type 0 = λ x. Gives o limit ev (leaf o (entry_at p x)) before after start stop handed in
+    subst R is (record {
+      emits = Emits-as before after start stop (λ q. shown_by o q w.out) (λ q. shown_by o q w.out) (seen_by w) (seen_by w) 0 (size w.entered) closes.emits (λ q. refl) refl (ap {B = ℕ} (λ (xs : List (List ℕ)). size xs) (sym (leaf-entered o (entry_at p k))));
+      up = closes.up;
+      blocks = closes.blocks;
+      whole = leaf-whole o (entry_at p k) limit ev;
+    })
+
+pub part-put : (o : Chosen) (ev : Evidence) (p : List ℕ) (c k : Class) (before after : Option (List Emission)) → k ≡ leaf_class o ev p c → IsPart o (leaf o (entry_at p k)).out before after → IsPart o (leaf_at o ev p c).out before after
+part-put o ev p c k before after is part = let R : Class → Type 0 = λ x. IsPart o (leaf o (entry_at p x)).out before after in subst R is part
+
+-- ---- the paths of a name
+
+self : (p : List ℕ) → is_to_enter p (broken_at p) ≡ true
+self p = ap (λ b. b || false) (nat_list_eq_equiv.refl p)
+
+empty-entered : (o : Chosen) (ev : Evidence) (p : List ℕ) (c : Class) → (empty_directory o ev p c).entered ≡ p ∷ []
+unfolding empty_directory
+empty-entered o ev p c = refl
+
+pub entered-among : (o : Chosen) (ev : Evidence) (p : List ℕ) (c : Class) (at : Look) → is_to_enter p (entered_at o ev p c at) ≡ true
+entered-among o ev p c absent = self p
+entered-among o ev p c too_many_links = self p
+entered-among o ev p c (found (file bytes)) = self p
+entered-among o ev p c (found (link target)) = self p
+entered-among o ev p c (found other) = self p
+entered-among o ev p c (found (directory none)) = ap (λ (xs : List (List ℕ)). is_among p xs || is_among p (empty_directory o ev p c).broken) (empty-entered o ev p c) ∙ ap (λ (b : Bool). (b || false) || is_among p (empty_directory o ev p c).broken) (nat_list_eq_equiv.refl p)
+entered-among o ev p c (found (directory (named name node rest))) =
+    let w : Walked = items o ev p (named name node rest) in
+    let x : Walked = closed o ev p c w in
+    ap (λ (xs : List (List ℕ)). is_among p xs || is_among p x.broken) (closed-adds o ev p c w).entered ∙ ap (λ (b : Bool). (b || is_among p w.entered) || is_among p x.broken) (nat_list_eq_equiv.refl p)
+
+module _ (given : Setting) (made : Option Made) (s : Sources) (p : List ℕ) (c : Class) (is : c ≡ class given.options (evidence given made s) p None (on_disk given s.tree p true)) (some : is_empty p ≡ false) (into : enters given.options c false ≡ true) where
+  pub HasPaths-told : HasPaths (directory_told given made s p c) (item_told given made s p)
+  HasPaths-told =
+      let R : Walked → Type 0 = λ w. HasPaths (directory_told given made s p c) w in
+      subst R (sym (told-entered given made s p c is some into)) (HasPaths-asking (asked given made s p c is) p (directory_told given made s p c))
+
+  pub enter-told : is_to_enter p (item_told given made s p) ≡ true
+  enter-told = ap (is_to_enter p) (told-entered given made s p c is some into) ∙ entered-among given.options (evidence given made s) p c (look_directory given s.tree p)
+
+-- the path of a name whose class asks the rules
+pub among-asked : (given : Setting) (made : Option Made) (s : Sources) (p : List ℕ) → is_empty p ≡ false → asks given.options (evidence given made s) p None (on_disk given s.tree p true) ≡ true → is_among p (item_told given made s p).asked ≡ true
+among-asked given made s p some e = go (enters given.options (class given.options (evidence given made s) p None (on_disk given s.tree p true)) false) refl
+  where
+    among : (b : Bool) (w : Walked) → b ≡ true → is_among p (asking b p w).asked ≡ true
+    among true w f = ap (λ b. b || is_among p w.asked) (nat_list_eq_equiv.refl p)
+    among false w f = absurd (cc f)
+
+    go : (b : Bool) → enters given.options (class given.options (evidence given made s) p None (on_disk given s.tree p true)) false ≡ b → is_among p (item_told given made s p).asked ≡ true
+    go true into =
+        let k : Class = class given.options (evidence given made s) p None (on_disk given s.tree p true) in
+        ap (λ (w : Walked). is_among p w.asked) (told-entered given made s p k refl some into) ∙ among (asked given made s p k refl) (directory_told given made s p k) e
+    go false out =
+        let k : Class = class given.options (evidence given made s) p None (on_disk given s.tree p true) in
+        ap (λ (w : Walked). is_among p w.asked) (told-leaf given made s p k refl out) ∙ among (asked given made s p k refl) (leaf_at given.options (evidence given made s) p k) e

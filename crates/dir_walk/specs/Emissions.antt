@@ -2,15 +2,16 @@
 use Rattle.std.specs.Prelude.{ℕ, Bool, true, false, not, ◌&&◌, ◌||◌, if◌then◌else◌, List, [], ◌∷◌, Option, Some, None, is_some}
 use Rattle.std.specs.Ordering.{nat_cmp, is_lt}
 use Rattle.std.specs.Cmp.Lexicographic.{slice_cmp}
+use Rattle.dir_classify.specs.declared.classify.Outcome.{Outcome}
 use Rattle.dir_classify.specs.declared.entry.Entry.{Entry}
-use Rattle.dir_classify.specs.declared.entry.Status.{Status}
-use Rattle.dir_classify.specs.declared.entry.Status.TheVariants.{Pruned, Tracked, Ignored, Untracked}
-use Rattle.dir_classify.specs.declared.entry.Property.{Property}
-use Rattle.dir_classify.specs.declared.entry.Property.TheVariants.{DotGit, EmptyDirectory, EmptyDirectoryAndCWD, TrackedExcluded}
 use Rattle.dir_classify.specs.declared.entry.PathspecMatch.{PathspecMatch}
 use Rattle.dir_classify.specs.declared.entry.PathspecMatch.TheVariants.{Always, Excluded, Prefix, WildcardMatch, Verbatim}
+use Rattle.dir_classify.specs.declared.entry.Property.{Property}
+use Rattle.dir_classify.specs.declared.entry.Property.TheVariants.{DotGit, EmptyDirectory, EmptyDirectoryAndCWD, TrackedExcluded}
+use Rattle.dir_classify.specs.declared.entry.Status.{Status}
+use Rattle.dir_classify.specs.declared.entry.Status.TheVariants.{Pruned, Tracked, Ignored, Untracked}
 use Rattle.dir_classify.specs.Chosen.{Chosen}
-use Rattle.dir_classify.specs.declared.classify.Outcome.{Outcome}
+use Rattle.dir_classify.specs.Entries.{class_in}
 
 -- an entry, with the status of the directory that was folded over it, if one was
 abbrev pub Emission : Type 0
@@ -22,6 +23,10 @@ emission_of entry status = (entry, status)
 -- an entry by itself
 abbrev pub plain : Entry → Emission
 plain entry = emission_of entry None
+
+-- an entry beneath a directory that was folded with a status
+abbrev pub within : Status → Entry → Emission
+within status entry = emission_of entry (Some status)
 
 abbrev pub path_of : Emission → List ℕ
 path_of emission = emission.0.rela_path
@@ -50,18 +55,24 @@ is_unmatched (Some Prefix) = false
 is_unmatched (Some WildcardMatch) = false
 is_unmatched (Some Verbatim) = false
 
--- pruned, tracked and ignored paths are shown where they are asked for
+-- pruned, tracked and ignored paths are shown where they are asked for, untracked ones always
 abbrev pub is_wanted : Chosen → Status → Bool
 is_wanted o Pruned = o.emit_pruned
 is_wanted o Tracked = o.emit_tracked
 is_wanted o (Ignored kind) = is_some o.emit_ignored
 is_wanted o Untracked = true
 
--- What is not wanted by its status is hidden, an empty directory where those are not asked for, and what no spec matches where
--- pruned paths are not.
+-- Entries of a class are shown: empty directories where they are asked for, what is wanted by its status, and what no spec
+-- matches where pruned paths are asked for.
 abbrev pub is_shown : Chosen → Outcome → Bool
 is_shown o c =
-    (o.emit_empty_directories || not (is_empty_directory c.property)) && is_wanted o c.status && (o.emit_pruned || not (is_unmatched c.pathspec_match))
+    (o.emit_empty_directories || not (is_empty_directory c.property))
+    && is_wanted o c.status
+    && (o.emit_pruned || not (is_unmatched c.pathspec_match))
+
+-- an entry is shown
+abbrev pub shows : Chosen → Entry → Bool
+shows o e = is_shown o (class_in e)
 
 -- ---- by path
 

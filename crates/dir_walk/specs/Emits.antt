@@ -1,67 +1,73 @@
--- What a walk has emitted and counted when it is done with a path, in whatever order.
-use Rattle.std.specs.Prelude.{◌≡◌, ℕ, ◌<◌, ◌≤◌, ◌+◌, ◌-◌, ◌^◌, min, Bool, true, false, ◌&&◌, List, ◌++◌, Option, Some, is_some, count_by}
-use Rattle.gitbase_core.specs.Objects.{Objects}
-use Rattle.worktree_fs.specs.Tree.{Names}
-use Rattle.worktree_stack.specs.Setup.{Made}
-use Rattle.worktree_stack.specs.Reading.{Sources}
-use Rattle.worktree_stack.specs.Stacked.{Stacked}
+-- What a walk has emitted, counted and handed up when it is done with a path, in whatever order.
+use Rattle.std.specs.Prelude.{◌≡◌, ℕ, ◌<◌, ◌≤◌, ◌+◌, ◌-◌, ◌^◌, min, Bool, true, false, ◌&&◌, List, map, filter, Option, None, is_some, count_by, option_to_list, if◌then◌else◌}
+use Rattle.dir_classify.specs.declared.classify.Outcome.{Outcome as Class}
+use Rattle.dir_classify.specs.declared.entry.Entry.{Entry}
+use Rattle.dir_classify.specs.declared.entry.Status.{Status}
 use Rattle.dir_classify.specs.Chosen.{Chosen}
 use Rattle.dir_classify.specs.Evidence.{Evidence}
-use Rattle.dir_classify.specs.Excludes.{made_with, InStepIf}
-use Rattle.dir_classify.specs.Entries.{class_in}
+use Rattle.dir_walk.specs.declared.handed.Handed.{Handed}
 use Rattle.dir_walk.specs.declared.outcome.Outcome.{Outcome}
-use Rattle.dir_walk.specs.Emissions.{Emission, is_shown}
+use Rattle.dir_walk.specs.Emissions.{Emission, plain, within, shows}
+use Rattle.dir_walk.specs.Fold.{fold, shows_collapsed, tally}
+use Rattle.dir_walk.specs.Given.{listed}
+use Rattle.dir_walk.specs.Report.{is_refused, out_of}
 use Rattle.dir_walk.specs.Walked.{Walked}
-use Rattle.dir_walk.specs.Report.{is_refused, walked, shown, counts}
 
 -- of what is emitted, how many entries that are shown pass a test
 abbrev pub shown_by : Chosen → (Emission → Bool) → List Emission → ℕ
-shown_by o p out = count_by (λ x. is_shown o (class_in x.0) && p x) out
+shown_by o p out = count_by (λ x. shows o x.0 && p x) out
 
 abbrev pub size : {X : Type 0} → List X → ℕ
 size xs = count_by (λ _. true) xs
 
--- `after` has what `before` has, and besides as many entries that pass each test; and the counts rose by the entries
--- seen and the directories read, or stand at their type's end
-pub record Emits (before after : List Emission) (start stop : Outcome) (more : (Emission → Bool) → ℕ) (more_seen more_read : ℕ) : Type 0 where
-  pub entries : (p : Emission → Bool) → count_by p after ≡ count_by p before + more p
+-- how many entries are met in what a path gives, but for those that it hands up
+abbrev pub seen_by : Walked → ℕ
+seen_by w = size w.out + w.merged
+
+-- `after` has what `before` has, and besides as many entries that pass each test, where that is told; and the counts rose by the
+-- entries seen and the directories read, or stand at their type's end
+pub record Emits (before after : Option (List Emission)) (start stop : Outcome) (more : (Emission → Bool) → ℕ) (more_seen more_read : ℕ) : Type 0 where
+  pub same : is_some after ≡ is_some before
+  pub entries : is_some before ≡ true → (p : Emission → Bool) → count_by p (listed after) ≡ count_by p (listed before) + more p
   pub returned : start.returned_entries < 2 ^ 64 → stop.returned_entries ≡ min (start.returned_entries + more (λ _. true)) (2 ^ 64 - 1)
   pub seen : start.seen_entries < 2 ^ 32 → stop.seen_entries ≡ min (start.seen_entries + more_seen) (2 ^ 32 - 1)
   pub read : start.read_dir_calls < 2 ^ 32 → stop.read_dir_calls ≡ min (start.read_dir_calls + more_read) (2 ^ 32 - 1)
 
--- what was emitted before stands in front
-pub record Extends (before after : List Emission) : Type 0 where
-  pub more : List Emission
-  pub after_is : after ≡ before ++ more
+-- besides what was given before, no more entries that pass each test
+pub record Within (before after : Option (List Emission)) (more : (Emission → Bool) → ℕ) : Type 0 where
+  pub same : is_some after ≡ is_some before
+  pub counts : is_some before ≡ true → (p : Emission → Bool) → count_by p (listed after) ≤ count_by p (listed before) + more p
 
--- besides what was emitted before, these are among the entries of `out` that are shown, none more often than there
-pub record IsPart (o : Chosen) (out before after : List Emission) : Type 0 where
-  pub counts : (p : Emission → Bool) → count_by p after ≤ count_by p before + shown_by o p out
+-- besides what was given before, these are among the entries of `out` that are shown, none more often than there
+abbrev pub IsPart : Chosen → List Emission → Option (List Emission) → Option (List Emission) → Type 0
+IsPart o out before after = Within before after (λ p. shown_by o p out)
 
--- what was walked is all of `w`, of which nothing is refused within the limit
-pub record Gives (o : Chosen) (limit : ℕ) (ev : Evidence) (w : Walked) (before after : List Emission) (start stop : Outcome) : Type 0 where
-  pub emits : Emits before after start stop (λ p. shown_by o p w.out) (size w.out) (size w.entered)
+-- what is held, put out by itself, and what is put out of it beneath a directory that is folded with a status
+abbrev pub put_plain : Chosen → List Entry → (Emission → Bool) → ℕ
+put_plain o held p = shown_by o p (map plain held)
+
+abbrev pub put_within : Chosen → Status → List Entry → (Emission → Bool) → ℕ
+put_within o status held p = shown_by o p (map (within status) (filter (shows_collapsed o.emit_collapsed status) held))
+
+-- what a leaf or the end of a directory gives is all of `w`
+pub record Closes (o : Chosen) (w : Walked) (before after : Option (List Emission)) (start stop : Outcome) (handed : Handed) : Type 0 where
+  pub emits : Emits before after start stop (λ p. shown_by o p w.out) (seen_by w) 0
+  pub up : option_to_list handed.entry ≡ w.up
+  pub blocks : handed.blocks ≡ w.blocks
+
+-- what was walked gives all of `w`, of which nothing is refused within the limit
+pub record Gives (o : Chosen) (limit : ℕ) (ev : Evidence) (w : Walked) (before after : Option (List Emission)) (start stop : Outcome) (handed : Handed) : Type 0 where
+  pub emits : Emits before after start stop (λ p. shown_by o p w.out) (seen_by w) (size w.entered)
+  pub up : option_to_list handed.entry ≡ w.up
+  pub blocks : handed.blocks ≡ w.blocks
   pub whole : is_refused limit ev w ≡ false
 
--- where a walk stands: the worktree tells a tree, the store, where there are rules, objects, and the rules were made so and
--- are in step with them
-pub record Stands (told : Option Names) (holds : Option Objects) (excludes : Option Stacked) (s : Sources) (made : Option Made) : Type 0 where
-  pub tree : told ≡ Some s.tree
-  pub objects : is_some made ≡ true → holds ≡ Some s.objects
-  pub made_is : made_with excludes ≡ made
-  pub in_step : InStepIf s excludes
-
--- what was walked from the worktree root is all of the walk, of which nothing is refused within the limit
-pub record GivesAll (o : Chosen) (limit : ℕ) (ev : Evidence) (t : Names) (root : List ℕ) (before after : List Emission) (start stop : Outcome) : Type 0 where
-  pub w : Walked
-  pub walked_is : walked o ev t root ≡ Some w
-  pub gives : Gives o limit ev w before after start stop
-
--- a whole walk: the report is defined, what was emitted are its entries in whatever order, and the counts are its
--- counts
-pub record WalkGives (o : Chosen) (limit : ℕ) (ev : Evidence) (t : Names) (root : List ℕ) (before after : List Emission) (outcome : Outcome) : Type 0 where
-  pub w : Walked
-  pub walked_is : walked o ev t root ≡ Some w
+-- what was walked from a traversal root gives all of `w`, with what that hands up at the end, and nothing of it is refused within
+-- the limit
+pub record GivesAll (o : Chosen) (limit : ℕ) (ev : Evidence) (w : Walked) (before after : Option (List Emission)) (start stop : Outcome) : Type 0 where
+  pub emits : Emits before after start stop (λ p. shown_by o p (out_of w)) (size (out_of w) + w.merged) (size w.entered)
   pub whole : is_refused limit ev w ≡ false
-  pub entries : (p : Emission → Bool) → count_by p after ≡ count_by p before + count_by p (shown o w.out)
-  pub outcome_is : outcome ≡ counts o w
+
+-- the entry that stands for all that a directory holds, if it is folded
+abbrev pub folded_of : Chosen → Evidence → List ℕ → Class → Walked → Option Entry
+folded_of o ev d c w = if w.blocks then None else fold o ev d c (tally w.up)

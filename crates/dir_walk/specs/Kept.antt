@@ -1,23 +1,63 @@
--- What a walk leaves of a worktree, of a store of objects, of the ignore rules and of an interrupt.
-use Rattle.std.specs.Prelude.{◌≡◌, ◌≤◌, ℕ, ◌+◌, ◌-◌, ◌^◌, min, Option}
+-- What a walk leaves of the interrupt and of the delegate, and how it ends.
+use Rattle.std.specs.Prelude.{◌≡◌, ◌≤◌, true, Result, IfErr, OnOk}
 use Rattle.gitbase_core.specs.declared.find.Find.{Ghosts as FindOf}
 use Rattle.worktree_fs.specs.declared.interrupt.Interrupt.{Ghosts as InterruptOf}
 use Rattle.worktree_fs.specs.declared.worktree.Worktree.{Ghosts as WorktreeOf}
-use Rattle.worktree_fs.specs.Kept.{AsksStore}
-use Rattle.worktree_stack.specs.Stacked.{Stacked}
-use Rattle.dir_classify.specs.Kept.{KeepsRules}
+use Rattle.worktree_fs.specs.Causes.{Increased, Incremented, with_more}
+use Rattle.dir_classify.specs.declared.error.Error.{Error}
+use Rattle.dir_classify.specs.declared.error.Error.TheVariants as errors
+use Rattle.dir_classify.specs.Refused.{OnFault}
+use Rattle.dir_walk.specs.declared.delegate.Delegate.{Ghosts as DelegateOf}
+use Rattle.dir_walk.specs.declared.handed.Stop.{Stop}
+use Rattle.dir_walk.specs.Given.{Extends, OnRefused, OnBroken, UnlessRefused}
 
--- The tree and the spelling of names stay, and no fault is forgotten. A worktree was `w0` and is `w1`, a store was `o0` and is
--- `o1`, and the rules were `old` and are `new`.
-pub record KeepsAll {W F : Type 0} (w : WorktreeOf W) (f : FindOf F) (w0 w1 : W) (o0 o1 : F) (old new : Option Stacked) : Type 0 where
-  pub tree : w.told w1 ≡ w.told w0
-  pub faults : w.faults w0 ≤ w.faults w1
-  pub list_faults : w.list_faults w0 ≤ w.list_faults w1
-  pub precomposes : w.precomposes w1 ≡ w.precomposes w0
-  pub store : AsksStore f o0 o1
-  pub rules : KeepsRules w f w0 w1 o0 old new
+-- a worktree that was walked
+pub record KeepsTree {W : Type 0} (w : WorktreeOf W) (before now : W) : Type 0 where
+  pub tree : w.told now ≡ w.told before
+  pub faults : w.faults before ≤ w.faults now
+  pub list_faults : w.list_faults before ≤ w.list_faults now
+  pub lists : w.lists before ≤ w.lists now
+  pub precomposes : w.precomposes now ≡ w.precomposes before
 
--- An interrupt was asked at least as often as directories were read, of which the count was `read0` and is `read1`.
-pub record AsksInterrupt {I : Type 0} (i : InterruptOf I) (i0 i1 : I) (read0 read1 : ℕ) : Type 0 where
-  pub raised : i.raised i0 ≤ i.raised i1
-  pub questions : min (i.questions i0 + (read1 - read0)) (2 ^ 64 - 1) ≤ i.questions i1
+-- an interrupt that was asked, or not
+pub record AsksInterrupt {I : Type 0} (i : InterruptOf I) (before now : I) : Type 0 where
+  pub questions : with_more (i.questions before) 0 ≤ i.questions now
+  pub raised : i.raised before ≤ i.raised now
+
+-- a delegate that was given entries
+pub record KeepsDelegate {D : Type 0} (d : DelegateOf D) (before now : D) : Type 0 where
+  pub default : d.is_default now ≡ d.is_default before
+  pub given : Extends (d.given before) (d.given now)
+  pub breaks : d.breaks before ≤ d.breaks now
+
+-- A walk ends where the delegate answers Break, which it counted once and answered last, and only there is it broken off.
+pub record Heeds {D T : Type 0} (d : DelegateOf D) (before now : D) (result : Result T Stop) : Type 0 where
+  pub broken : IfErr result (OnBroken (Incremented (d.breaks before) (d.breaks now)))
+  pub stopped : IfErr result (OnBroken (d.is_stopped now ≡ true))
+  pub unbroken : IfErr result (OnRefused (λ _. d.breaks now ≡ d.breaks before))
+  pub kept_on : OnOk result (d.breaks now ≡ d.breaks before)
+
+-- what holds where the interrupt was raised
+abbrev pub OnInterrupt : Type 0 → Error → Type 0
+OnInterrupt Raised errors.Interrupted = Raised
+OnInterrupt Raised (errors.WorktreeRootIsFile root) = Unit {0}
+OnInterrupt Raised (errors.NormalizeRoot root) = Unit {0}
+OnInterrupt Raised (errors.SymlinkInRoot root worktree_root index) = Unit {0}
+OnInterrupt Raised (errors.ExcludesAccess e) = Unit {0}
+OnInterrupt Raised (errors.ReadDir path why) = Unit {0}
+OnInterrupt Raised (errors.DirEntry path) = Unit {0}
+OnInterrupt Raised (errors.SymlinkMetadata path why) = Unit {0}
+OnInterrupt Raised (errors.TooDeep path) = Unit {0}
+OnInterrupt Raised errors.OutOfMemory = Unit {0}
+
+-- Each refusal that a fault or the interrupt caused was counted by them; where there is none, neither a listing failed
+-- nor was the interrupt raised.
+pub record Caused {W F I T : Type 0} (w : WorktreeOf W) (f : FindOf F) (i : InterruptOf I) (w0 w1 : W) (o0 o1 : F) (i0 i1 : I) (result : Result T Stop) : Type 0 where
+  pub fault : IfErr result (OnRefused (OnFault (Increased (w.faults w0) (w.faults w1)) (Increased (f.faults o0) (f.faults o1))))
+  pub interrupt : IfErr result (OnRefused (OnInterrupt (Increased (i.raised i0) (i.raised i1))))
+  pub listed : UnlessRefused result (w.list_faults w1 ≡ w.list_faults w0)
+  pub calm : UnlessRefused result (i.raised i1 ≡ i.raised i0)
+
+-- the one refusal that may come at any time
+abbrev pub WantsMemory : {T : Type 0} → Result T Stop → Type 0
+WantsMemory result = IfErr result (OnRefused (λ e. e ≡ errors.OutOfMemory))

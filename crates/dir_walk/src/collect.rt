@@ -1,9 +1,9 @@
 //! The entries that a walk emits, kept in a list.
 ghost use Rattle.std.specs.Prelude.{◌≡◌, ◌++◌, ◌∷◌, [], IsPermutation, IfOk, OnOk, OnErr};
-ghost use Rattle.dir_classify.specs.Entries.{entry_of};
 ghost use Rattle.dir_walk.specs.Emissions.{emission_of, by_path};
 ghost use Rattle.dir_walk.specs.Distinct.{HasDistinctPaths, IsAscending};
 
+use crate::delegate::{Action, Delegate};
 use dir_classify::{Entry, EntryRef, Status};
 use gitbase_core::OutOfMemory;
 use std::alloc::Global;
@@ -91,23 +91,6 @@ impl Collect {
         }
     }
 
-    /// Keeps an entry, behind those that are kept already; where memory is refused these stay as they were.
-    pub fn emit(
-        &mut self,
-        alloc: Global,
-        entry: &EntryRef<'_>,
-        collapsed_directory_status: Option<Status>,
-    ) -> Result<(), OutOfMemory>
-        ensures added { OnOk result (self.new.unorded_entries
-            ≡ self.old.unorded_entries
-            ++ emission_of (entry_of entry.now) collapsed_directory_status ∷ []) }
-        ensures refused { OnErr result (self.new.unorded_entries ≡ self.old.unorded_entries) }
-    {
-        let entry = entry.to_owned(alloc)?;
-        self.unorded_entries
-            .push(alloc, entry, collapsed_directory_status)
-    }
-
     /// The entries in ascending order of their paths, byte by byte, with those of one path beside one another. The room
     /// comes from the allocator that made the list.
     pub fn into_entries_by_path(self, _alloc: Global) -> Result<EmittedEntries, OutOfMemory>
@@ -119,5 +102,30 @@ impl Collect {
         let mut items = self.unorded_entries.into_vec();
         items.sort_by(|a, b| a.0.rela_path.as_bytes().cmp(b.0.rela_path.as_bytes()))?;
         Ok(EmittedEntries::from_vec(items))
+    }
+}
+
+/// Keeps each entry behind those that are kept already, and never answers Break.
+impl Delegate for Collect {
+    ghost use Rattle.std.specs.Prelude.{Some, true, false};
+
+    ghost given = { λ c. Some c.unorded_entries };
+
+    ghost is_default = { λ c. true };
+
+    ghost breaks = { λ c. 0 };
+
+    ghost is_stopped = { λ c. false };
+
+    fn emit(
+        &mut self,
+        alloc: Global,
+        entry: EntryRef<'_>,
+        collapsed_directory_status: Option<Status>,
+    ) -> Result<Action, OutOfMemory> {
+        let entry = entry.to_owned(alloc)?;
+        self.unorded_entries
+            .push(alloc, entry, collapsed_directory_status)?;
+        Ok(Action::Continue)
     }
 }

@@ -1,14 +1,31 @@
-//! The walk of a worktree: every path below its root with its class, directory by directory.
+//! The walk of a worktree: every path below its traversal root with its class, directory by directory. What a name hands up is
+//! held until the directory's names are done; then the directory is folded over it, or it is put out.
+//!
+//! [`walk::walk`] gives what it finds to a [`Delegate`]; [`walk_by_path`] keeps it in the order of paths.
 #![tactic(auto)]
 
+mod close;
 pub mod collect;
-mod directory;
+pub mod delegate;
+pub mod directory;
 mod emit;
+mod enter;
+mod fold;
+pub mod handed;
+mod open;
 pub mod outcome;
-mod place;
+pub mod place;
 pub mod report;
+pub mod root;
+mod start;
+pub mod tally;
 pub mod walk;
 
 pub use collect::{Collect, EmittedEntries};
+pub use delegate::{Action, Delegate};
+pub use directory::walk_directory;
+pub use handed::{Handed, Stop};
 pub use outcome::Outcome;
+pub use place::Place;
 pub use report::{Report, walk_by_path};
+pub use root::traversal_root;

@@ -1,38 +1,82 @@
 //! Where a walk stands.
-ghost use Rattle.std.specs.Prelude.{◌≡◌, not, ◌||◌, [], IfOk, OnOk};
-ghost use Rattle.gitbase_core.specs.Path.{joined, is_empty, ends_in_slash};
+ghost use Rattle.std.specs.Prelude.{◌≡◌, true, false, [], IfOk, OnOk, length};
+ghost use Rattle.gitbase_core.specs.Path.{joined, components, directory_prefix, ends_in_slash};
+ghost use Rattle.worktree_fs.specs.Naming.{IsName};
+ghost use Rattle.worktree_fs.specs.Paths.{full_path, is_normal, spelled};
 
-use gitbase_core::{Bytes, OutOfMemory};
+use dir_classify::full_path;
+use gitbase_core::{OutOfMemory, PathText, needs_slash};
 use std::alloc::Global;
+use std::marker::Model;
 
-/// A path of the worktree in both its forms: whole, as the worktree is asked for it, and relative to the worktree
-/// root, as it stands in entries. The room of both is used again for the next path.
-#[derive(Debug, Drop)]
+/// A path of a worktree, relative to its root, in one text with the root: the relative path is the tail of the whole one.
+/// The room is used again for the next path.
+///
+/// Contracts see the root and the relative path, which is normal: one slash parts each two components, and none stands at
+/// the end.
+#[derive(Drop)]
 pub struct Place {
-    /// The path behind the worktree root.
-    pub full: Bytes,
-    /// The path relative to the worktree root.
-    pub rela: Bytes,
+    whole: PathText,
+    root_length: usize,
+    start: usize,
+}
+
+impl Model for Place {
+    ghost use Rattle.dir_walk.specs.Placed.{Standing, standing, IsPlaced};
+
+    ghost Value = { Standing };
+
+    ghost view = { λ place. standing place.root_length place.start place.whole };
+
+    ghost invariant = { λ place. IsPlaced place.root_length place.start place.whole };
 }
 
 impl Place {
-    /// The worktree root.
-    pub fn root(alloc: Global, worktree_root: &[u8]) -> Result<Place, OutOfMemory>
-        ensures full { IfOk result (λ place. place.full ≡ worktree_root.now) }
-        ensures rela { IfOk result (λ place. place.rela ≡ []) }
+    /// No place yet; takes no memory.
+    pub fn new(alloc: Global) -> Place {
+        Place {
+            whole: PathText::new(alloc),
+            root_length: 0,
+            start: 0,
+        }
+    }
+
+    /// The path `path` of a worktree; it is normal: one slash parts each two components, and none stands at the end.
+    pub fn at(alloc: Global, worktree_root: &[u8], path: &[u8]) -> Result<Place, OutOfMemory>
+        requires normal { is_normal path.now ≡ true }
+        requires plain { ends_in_slash path.now ≡ false }
+        requires spelled { path.now ≡ spelled (components path.now) }
+        ensures { IfOk result
+            (λ place. place ≡ record { root = worktree_root.now; path = path.now }) }
     {
+        let whole = full_path(alloc, worktree_root, path)?;
+        let root_length = worktree_root.len();
         Ok(Place {
-            full: Bytes::from_slice(alloc, worktree_root)?,
-            rela: Bytes::new(alloc),
+            whole,
+            root_length,
+            start: start_behind(worktree_root),
         })
     }
 
-    /// No place yet, for [`Place::set_child`]; takes no memory.
-    pub fn new(alloc: Global) -> Place {
-        Place {
-            full: Bytes::new(alloc),
-            rela: Bytes::new(alloc),
+    /// The whole path.
+    pub fn whole(&self) -> &[u8]
+        ensures { result.now ≡ full_path self.now.root self.now.path }
+    {
+        self.whole.as_bytes()
+    }
+
+    /// The path relative to the worktree root.
+    pub fn path(&self) -> &[u8]
+        ensures path { result.now ≡ self.now.path }
+        ensures normal { is_normal self.now.path ≡ true }
+        ensures plain { ends_in_slash self.now.path ≡ false }
+        ensures spelled { self.now.path ≡ spelled (components self.now.path) }
+    {
+        let whole = self.whole.as_bytes();
+        if whole.len() < self.start {
+            return &[];
         }
+        &whole[self.start..]
     }
 
     /// Goes to a name in a directory.
@@ -42,37 +86,43 @@ impl Place {
         directory: &Place,
         name: &[u8],
     ) -> Result<(), OutOfMemory>
-        ensures full { OnOk result (self.new.full ≡ joined directory.now.full name.now) }
-        ensures rela { OnOk result (self.new.rela ≡ joined directory.now.rela name.now) }
+        requires { IsName name.now }
+        ensures { OnOk result (self.new
+            ≡ record { root = directory.now.root; path = joined directory.now.path name.now }) }
     {
-        set_joined(&mut self.full, alloc, directory.full.as_bytes(), name)?;
-        set_joined(&mut self.rela, alloc, directory.rela.as_bytes(), name)
+        self.set(alloc, directory)?;
+        self.push(alloc, name)
+    }
+
+    /// Goes to another place.
+    fn set(&mut self, alloc: Global, place: &Place) -> Result<(), OutOfMemory>
+        ensures { OnOk result (self.new ≡ place.now) }
+    {
+        self.root_length = 0;
+        self.start = 0;
+        self.whole.truncate(0);
+        self.whole.push_component(alloc, place.whole.as_bytes())?;
+        self.root_length = place.root_length;
+        self.start = place.start;
+        Ok(())
+    }
+
+    /// Goes on to a name in the directory that stands here; stays where memory is refused.
+    pub fn push(&mut self, alloc: Global, name: &[u8]) -> Result<(), OutOfMemory>
+        requires { IsName name.now }
+        ensures { OnOk result (self.new
+            ≡ record self.old { path = joined self.old.path name.now }) }
+    {
+        self.whole.push_component(alloc, name)
     }
 }
 
-/// Puts the path of a name in a directory in the place of what was there.
-fn set_joined(
-    path: &mut Bytes,
-    alloc: Global,
-    directory: &[u8],
-    name: &[u8],
-) -> Result<(), OutOfMemory>
-    ensures { OnOk result (path.new ≡ joined directory.now name.now) }
+/// Where a path begins that stands behind a worktree root.
+fn start_behind(root: &[u8]) -> usize
+    ensures { result ≡ length (directory_prefix root.now) }
 {
-    path.clear();
-    path.extend(alloc, directory)?;
-    if needs_slash(directory) {
-        path.extend(alloc, b"/")?;
+    if needs_slash(root) {
+        return root.len() + 1;
     }
-    path.extend(alloc, name)
-}
-
-/// Whether a slash stands between a directory's path and a name in it.
-fn needs_slash(directory: &[u8]) -> bool
-    ensures { result ≡ not (is_empty directory.now || ends_in_slash directory.now) }
-{
-    match directory.last() {
-        None | Some(b'/') => false,
-        Some(_) => true,
-    }
+    root.len()
 }

@@ -1,9 +1,11 @@
 //! Reports over a worktree in memory, whole: words in, a status and two texts out.
 mod rows;
+mod walks;
 
 use gitbase_core::{Bytes, OutOfMemory};
 use rows::{A_FILE, IGNORED, OPTIONS, REFUSALS, REPORTS, REQUIRED, Row, WITHOUT_RULES};
 use std::alloc::Global;
+use walks::{DELETED, FOLDED, ROOTED, RULED, SPECIFIED};
 use worktree_fs::{AddError, CallKind, MemorySink, MemoryWorktree, NewNode, PlannedInterrupt};
 use worktree_report::run;
 
@@ -126,6 +128,31 @@ fn asks_ignore_rules(rt: HostRuntime) {
 #[test]
 fn looks_as_it_is_asked(rt: HostRuntime) {
     assert_eq!(rt; first_lie(rt.alloc(), &OPTIONS), None);
+}
+
+#[test]
+fn folds_directories(rt: HostRuntime) {
+    assert_eq!(rt; first_lie(rt.alloc(), &FOLDED), None);
+}
+
+#[test]
+fn spares_what_deletion_must_not_take(rt: HostRuntime) {
+    assert_eq!(rt; first_lie(rt.alloc(), &DELETED), None);
+}
+
+#[test]
+fn walks_from_a_traversal_root(rt: HostRuntime) {
+    assert_eq!(rt; first_lie(rt.alloc(), &ROOTED), None);
+}
+
+#[test]
+fn reports_what_path_specs_mean(rt: HostRuntime) {
+    assert_eq!(rt; first_lie(rt.alloc(), &SPECIFIED), None);
+}
+
+#[test]
+fn names_the_rule_that_decides(rt: HostRuntime) {
+    assert_eq!(rt; first_lie(rt.alloc(), &RULED), None);
 }
 
 /// Whether a report of two directories is stopped at this question.

@@ -4,23 +4,26 @@ use Rattle.std.proofs.lemmas.List.{length-map, take_more, drop_all, get_or-map}
 use Rattle.gitbase_core.specs.declared.entry.IndexEntry.{IndexEntry}
 use Rattle.worktree_report.specs.declared.setup.option.SetupOption.{SetupOption}
 use Rattle.worktree_report.specs.SetupSaid.{Said, nothing, both}
-use Rattle.worktree_report.specs.SetupText.{line_of, says, said, is_refused, taken, first_outside}
+use Rattle.worktree_report.specs.SetupKeywords.{line_of}
+use Rattle.worktree_report.specs.SetupText.{says, said, is_refused, taken, first_outside}
 
-abbrev said_of : List SetupOption → List IndexEntry → List ℕ → List ℕ → Said
-said_of options index overrides globals = record { options = options; index = index; overrides = overrides; globals = globals }
+abbrev said_of : List SetupOption → List IndexEntry → List ℕ → List ℕ → List (List ℕ) → List (List ℕ) → Said
+said_of options index overrides globals specs worktrees = record { options = options; index = index; overrides = overrides; globals = globals; specs = specs; worktrees = worktrees }
 
 -- two records with the same fields
-same : {o1 o2 : List SetupOption} {i1 i2 : List IndexEntry} {r1 r2 g1 g2 : List ℕ} → o1 ≡ o2 → i1 ≡ i2 → r1 ≡ r2 → g1 ≡ g2 → said_of o1 i1 r1 g1 ≡ said_of o2 i2 r2 g2
-same o i r g = cc
+same : {o1 o2 : List SetupOption} {i1 i2 : List IndexEntry} {r1 r2 g1 g2 : List ℕ} {s1 s2 w1 w2 : List (List ℕ)}
+    → o1 ≡ o2 → i1 ≡ i2 → r1 ≡ r2 → g1 ≡ g2 → s1 ≡ s2 → w1 ≡ w2 → said_of o1 i1 r1 g1 s1 w1 ≡ said_of o2 i2 r2 g2 s2 w2
+same o i r g s w = cc
 
 -- saying nothing more is saying no more
 both-nothing : (a : Said) → both a nothing ≡ a
 both-nothing a =
-    same (append-nil a.options) (append-nil a.index) (append-nil a.overrides) (append-nil a.globals)
+    same (append-nil a.options) (append-nil a.index) (append-nil a.overrides) (append-nil a.globals) (append-nil a.specs) (append-nil a.worktrees)
 
 both-assoc : (a b c : Said) → both (both a b) c ≡ both a (both b c)
 both-assoc a b c =
     same (append_assoc a.options b.options c.options) (append_assoc a.index b.index c.index) (append_assoc a.overrides b.overrides c.overrides) (append_assoc a.globals b.globals c.globals)
+    (append_assoc a.specs b.specs c.specs) (append_assoc a.worktrees b.worktrees c.worktrees)
 
 said-append : (lines : List (List ℕ)) (line : List ℕ) → said (lines ++ line ∷ []) ≡ both (said lines) (says (line_of line))
 unfolding said

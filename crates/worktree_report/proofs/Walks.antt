@@ -1,104 +1,75 @@
 -- What a walk answers, with what a setup asks for.
-use Rattle.std.proofs.Common.{◌≡◌, ℕ, List, [], Bool, false, Option, Some, Err, IsErrOf, IsSomeAnd, sym, ap, ◌∙◌, subst, option_map}
-use Rattle.std.specs.FinMap.{empty}
-use Rattle.gitbase_core.specs.Objects.{Objects}
-use Rattle.glob_rules.specs.PathSpec.{PathSpec}
-use Rattle.worktree_fs.specs.Tree.{Names}
+use Rattle.std.proofs.Common.{◌≡◌, ℕ, List, Bool, true, Option, None, Result, IfOk, IfErr, refl, sym, ap, ◌∙◌, subst}
+use Rattle.std.specs.Prelude.{is_some}
+use Rattle.gitbase_core.specs.declared.find.Find.{Ghosts as FindOf}
+use Rattle.worktree_fs.specs.declared.interrupt.Interrupt.{Ghosts as InterruptOf}
+use Rattle.worktree_fs.specs.declared.worktree.Worktree.{Ghosts as WorktreeOf}
+use Rattle.worktree_fs.specs.Causes.{NotIncreased}
+use Rattle.worktree_stack.specs.Reading.{Sources}
 use Rattle.worktree_stack.specs.Setup.{Made}
+use Rattle.worktree_stack.specs.Stacked.{Stacked}
 use Rattle.dir_classify.specs.declared.error.Error.{Error}
 use Rattle.dir_classify.specs.Chosen.{Chosen}
-use Rattle.dir_classify.specs.Evidence.{Evidence}
-use Rattle.dir_classify.specs.Excludes.{TellsIf}
-use Rattle.dir_classify.specs.Layers.{Setting, evidence}
+use Rattle.dir_classify.specs.Excludes.{made_with, pushed_in, InStepIf, TellsIf}
+use Rattle.dir_classify.specs.Layers.{Setting}
+use Rattle.dir_walk.specs.declared.outcome.Outcome.{Outcome}
 use Rattle.dir_walk.specs.declared.report.Report.{Report}
-use Rattle.dir_walk.specs.Distinct.{Ascends}
-use Rattle.dir_walk.specs.Guarded.{hides_guarded}
-use Rattle.dir_walk.specs.Report.{report, walked, IsWalkable}
-use Rattle.dir_walk.specs.Refused.{IsAbout, WalkRefuses}
+use Rattle.dir_walk.specs.Reports.{IsReport}
+use Rattle.dir_walk.specs.WalkRefused.{WalkAbout, WalkRefuses}
+use Rattle.dir_walk.specs.Walks.{Tells, WalksWorktree}
+use Rattle.dir_walk.specs.Report.{report}
 use Rattle.worktree_report.specs.declared.setup.Setup.{Setup}
-use Rattle.worktree_report.specs.declared.refusal.WalkWord.{WalkWord}
-use Rattle.worktree_report.specs.declared.refusal.Refusal.{Refusal}
-use Rattle.worktree_report.specs.declared.refusal.Refusal.TheVariants as refusals
+use Rattle.worktree_report.specs.Asked.{asked_of, chosen_of, current_dir_or, git_dir_or, setting_with}
 use Rattle.worktree_report.specs.Excluding.{excludes_of}
-use Rattle.worktree_report.specs.Lines.{text_with}
-use Rattle.worktree_report.specs.Converted.{of_walk}
-use Rattle.worktree_report.specs.Run.{read_in, chosen_of, git_dir_or, current_dir_or, setting_with, walk_setting, meant_in, report_in, text_of, IsSafeAt, RefusesWalkAt, IsAboutWalkAt}
+use Rattle.worktree_report.specs.Reported.{Reports}
 
--- a worktree tells its tree, and an empty store that it holds nothing
-pub tells-empty : (told : Option Names) (objects : Objects) (made : Option Made) (t : Names) → told ≡ Some t → objects ≡ empty → TellsIf told (Some objects) made (read_in t)
-tells-empty told objects made t tree none = record { tree_is = tree; objects_are = λ some. ap Some none }
+-- what a walk is given is what the setup asks for
+pub asked_is : (root : List ℕ) (setup : Setup) (options : Chosen) (has_lookup : Bool) (git_dir current_dir : List ℕ)
+    → options ≡ chosen_of setup → has_lookup ≡ setup.options.ignore_case → git_dir ≡ git_dir_or root setup.git_dir → current_dir ≡ current_dir_or root setup.current_dir
+    → setting_with setup.specs root options setup.index has_lookup git_dir current_dir ≡ asked_of root setup
+asked_is root setup options has_lookup git_dir current_dir options_are lookup_is git_dir_is current_dir_is =
+    ap (λ (x : Chosen). setting_with setup.specs root x setup.index has_lookup git_dir current_dir) options_are
+    ∙ ap (λ (x : Bool). setting_with setup.specs root (chosen_of setup) setup.index x git_dir current_dir) lookup_is
+    ∙ ap (λ (x : List ℕ). setting_with setup.specs root (chosen_of setup) setup.index setup.options.ignore_case x current_dir) git_dir_is
+    ∙ ap (λ (x : List ℕ). setting_with setup.specs root (chosen_of setup) setup.index setup.options.ignore_case (git_dir_or root setup.git_dir) x) current_dir_is
 
--- what a walk is given is what the setup says
-pub record IsGiven (root : List ℕ) (setup : Setup) (specs : List PathSpec) (options : Chosen) (has_lookup : Bool) (git_dir current_dir : List ℕ) (made : Option Made) : Type 0 where
-  pub specs_are : specs ≡ []
-  pub options_are : options ≡ chosen_of setup.options
-  pub lookup_is : has_lookup ≡ setup.options.ignore_case
-  pub git_dir_is : git_dir ≡ git_dir_or root setup.git_dir
-  pub current_dir_is : current_dir ≡ current_dir_or root setup.current_dir
-  pub made_is : made ≡ excludes_of root setup
+-- and so a walk of what it is given is one of what the setup asks for
+pub walks-asked : {W F I T : Type 0} {w : WorktreeOf W} {f : FindOf F} {i : InterruptOf I} {w0 w1 : W} {o0 o1 : F} {i0 i1 : I} {old new : Option Stacked} {explicit : Option (List ℕ)} {limit : ℕ} {default : Bool} {outcome_of : T → Outcome} {result : Result T Error} {x y : Setting}
+    → x ≡ y → WalksWorktree w f i w0 w1 o0 o1 i0 i1 old new x explicit limit default outcome_of result → WalksWorktree w f i w0 w1 o0 o1 i0 i1 old new y explicit limit default outcome_of result
+walks-asked {w = w} {f = f} {i = i} {w0 = w0} {w1 = w1} {o0 = o0} {o1 = o1} {i0 = i0} {i1 = i1} {old = old} {new = new} {explicit = explicit} {limit = limit} {default = default} {outcome_of = outcome_of} {result = result} e h =
+    subst (λ (x : Setting). WalksWorktree w f i w0 w1 o0 o1 i0 i1 old new x explicit limit default outcome_of result) e h
 
-module _ (t : Names) (root : List ℕ) (setup : Setup) (specs : List PathSpec) (options : Chosen) (has_lookup : Bool) (git_dir current_dir : List ℕ) (made : Option Made) (is_given : IsGiven root setup specs options has_lookup git_dir current_dir made) where
-  abbrev given : Setting
-  given = setting_with specs root options setup.index has_lookup git_dir current_dir
+-- what is told is told of the rules of the setup
+tells_of : {W F : Type 0} {w : WorktreeOf W} {f : FindOf F} {w0 : W} {o0 : F} {old : Option Stacked} {m : Option Made} → made_with old ≡ m → ((s : Sources) → InStepIf s old)
+    → (s : Sources) → TellsIf (w.told w0) (f.holds o0) m s → Tells w f w0 o0 old s
+tells_of {w = w} {f = f} {w0 = w0} {o0 = o0} made step s told = record { tells = subst (λ m. TellsIf (w.told w0) (f.holds o0) m s) (sym made) told; in_step = step s }
 
-  given_is : given ≡ walk_setting root setup
-  given_is =
-      ap (λ (x : List PathSpec). setting_with x root options setup.index has_lookup git_dir current_dir) is_given.specs_are
-      ∙ ap (λ (x : Chosen). setting_with [] root x setup.index has_lookup git_dir current_dir) is_given.options_are
-      ∙ ap (λ (x : Bool). setting_with [] root (chosen_of setup.options) setup.index x git_dir current_dir) is_given.lookup_is
-      ∙ ap (λ (x : List ℕ). setting_with [] root (chosen_of setup.options) setup.index setup.options.ignore_case x current_dir) is_given.git_dir_is
-      ∙ ap (λ (x : List ℕ). setting_with [] root (chosen_of setup.options) setup.index setup.options.ignore_case (git_dir_or root setup.git_dir) x) is_given.current_dir_is
-
-  meant_is : evidence given made (read_in t) ≡ meant_in t root setup
-  meant_is = ap (λ (x : Setting). evidence x made (read_in t)) given_is ∙ ap (λ (x : Option Made). evidence (walk_setting root setup) x (read_in t)) is_given.made_is
-
-  -- the report of the walk is that of the setup
-  pub reported : (r : Report) → report options setup.depth (evidence given made (read_in t)) t root ≡ Some r → report_in t root setup ≡ Some r
-  reported r is =
-      sym (ap (λ (x : Chosen). report x setup.depth (evidence given made (read_in t)) t root) is_given.options_are ∙ ap (λ (x : Evidence). report (chosen_of setup.options) setup.depth x t root) meant_is) ∙ is
-
-  -- and so is its text
-  pub text_of-walk : (r : Report) (text : List ℕ) → report options setup.depth (evidence given made (read_in t)) t root ≡ Some r
-      → text ≡ text_with setup.options.print_outcome r → text_of t root setup ≡ Some text
-  text_of-walk r text is lines = ap (option_map (text_with setup.options.print_outcome)) (reported r is) ∙ ap (λ (x : List ℕ). Some x) (sym lines)
-
-  -- which is safe
-  pub IsSafeAt-walk : (r : Report) → report options setup.depth (evidence given made (read_in t)) t root ≡ Some r
-      → Ascends r.entries → IsSomeAnd (walked options (evidence given made (read_in t)) t root) (λ w. hides_guarded r.entries w.met ≡ false) → IsSafeAt t root setup
-  IsSafeAt-walk r is ascending hides_none =
-      record {
-        made = r;
-        is = reported r is;
-        ascending = ascending;
-        hides_none = subst (λ (x : Evidence). IsSomeAnd (walked (chosen_of setup.options) x t root) (λ w. hides_guarded r.entries w.met ≡ false)) meant_is
-            (subst (λ (x : Chosen). IsSomeAnd (walked x (evidence given made (read_in t)) t root) (λ w. hides_guarded r.entries w.met ≡ false)) is_given.options_are hides_none);
-      }
-
-  -- a refusal of the walk is one of the setup
-  pub RefusesWalkAt-walk : (error : Error) (word : WalkWord) (path : List ℕ) → WalkRefuses (read_in t) made options (evidence given made (read_in t)) root setup.depth error
-      → of_walk error ≡ refusals.Walk word path → RefusesWalkAt t root setup word path
-  RefusesWalkAt-walk error word path cause is =
-      record {
-        error = error;
-        is = is;
-        cause = subst (λ (x : Option Made). WalkRefuses (read_in t) x (chosen_of setup.options) (meant_in t root setup) root setup.depth error) is_given.made_is
-            (subst (λ (x : Evidence). WalkRefuses (read_in t) made (chosen_of setup.options) x root setup.depth error) meant_is
-            (subst (λ (x : Chosen). WalkRefuses (read_in t) made x (evidence given made (read_in t)) root setup.depth error) is_given.options_are cause));
-      }
-
-  -- what can be walked with the rules of the setup can be walked
-  pub IsWalkable-walk : IsWalkable setup.depth (chosen_of setup.options) (meant_in t root setup) t root → IsWalkable setup.depth options (evidence given made (read_in t)) t root
-  IsWalkable-walk walkable =
-      subst (λ (x : Chosen). IsWalkable setup.depth x (evidence given made (read_in t)) t root) (sym is_given.options_are)
-      (subst (λ (x : Evidence). IsWalkable setup.depth (chosen_of setup.options) x t root) (sym meant_is) walkable)
-
--- which refusal is answered
-pub answered : {T : Type 0} (refusal from which : Refusal) → refusal ≡ from → IsErrOf {T = T} (Err refusal) which → from ≡ which
-answered refusal from which same is = cc
-
--- what a refusal is about
-pub IsAboutWalkAt-walk : (root : List ℕ) (setup : Setup) (made : Option Made) (error : Error) (word : WalkWord) (path : List ℕ) → made ≡ excludes_of root setup
-    → IsAbout made root setup.depth error → of_walk error ≡ refusals.Walk word path → IsAboutWalkAt root setup word path
-IsAboutWalkAt-walk root setup made error word path made_is about is =
-    let P : Option Made → Type 0 = λ m. IsAbout m root setup.depth error in
-    record { error = error; is = is; about = subst P made_is about }
+-- a walk by the rules of the setup, which are in step with anything as nothing is pushed, makes its report
+pub Reports-walked : {W F I : Type 0} {w : WorktreeOf W} {f : FindOf F} {i : InterruptOf I} {w0 w1 : W} {o0 o1 : F} {i0 i1 : I} {old new : Option Stacked} {root : List ℕ} {setup : Setup} {result : Result Report Error}
+    → made_with old ≡ excludes_of root setup → ((s : Sources) → InStepIf s old) → pushed_in old ≡ None
+    → ((s : Sources) → Tells w f w0 o0 old s → NotIncreased (w.faults w0) (w.faults w1) → IfOk result (IsReport (asked_of root setup) (made_with old) s setup.root setup.depth))
+    → WalksWorktree w f i w0 w1 o0 o1 i0 i1 old new (asked_of root setup) setup.root setup.depth true (λ (r : Report). r.outcome) result
+    → Reports w f i w0 w1 o0 o1 i0 i1 root setup result
+Reports-walked {w = w} {f = f} {root = root} {setup = setup} {result = result} made step unpushed gives walks =
+    record {
+      gives = λ s told quiet. subst (λ m. IfOk result (IsReport (asked_of root setup) m s setup.root setup.depth)) made (gives s (tells_of {w = w} {f = f} made step s told) quiet);
+      about = subst (λ m. IfErr result (WalkAbout (asked_of root setup) m setup.root setup.depth)) made walks.about;
+      cause = walks.cause;
+      interrupted = walks.interrupted;
+      refused = λ s told quiet stored. subst (λ m. IfErr result (WalkRefuses (asked_of root setup) m s setup.root setup.depth)) made (walks.refused s (tells_of {w = w} {f = f} made step s told) refl quiet stored);
+      complete = λ s told quiet stored calm defined.
+          walks.complete s (tells_of {w = w} {f = f} made step s told) refl quiet stored calm (ap (λ m. is_some (report (asked_of root setup) m s setup.root setup.depth)) made ∙ defined);
+      worktree = walks.worktree;
+      store = walks.store;
+      interrupt = walks.interrupt;
+      listed = walks.listed;
+      calm = walks.calm;
+      opens =
+          record {
+            opened = walks.opens.opened;
+            listed = walks.opens.listed;
+            asked = walks.opens.asked;
+            counted = walks.opens.counted;
+            reads = λ rules_alone none. walks.opens.reads rules_alone unpushed;
+          };
+    }

@@ -1,5 +1,6 @@
 -- The refusal of the program that stands for one of a part of it.
-use Rattle.std.specs.Prelude.{[]}
+use Rattle.std.specs.Prelude.{ℕ, List, [], length, drop}
+use Rattle.gitbase_core.specs.Path.{components}
 use Rattle.worktree_fs.specs.declared.answers.ReadError.{ReadError}
 use Rattle.worktree_fs.specs.declared.answers.ReadError.TheVariants as read
 use Rattle.worktree_stack.specs.declared.error.AtPathError.{AtPathError}
@@ -9,6 +10,7 @@ use Rattle.dir_classify.specs.declared.error.Error.{Error}
 use Rattle.dir_classify.specs.declared.error.Error.TheVariants as walk
 use Rattle.dir_classify.specs.declared.error.MetadataWhy.TheVariants as metadata
 use Rattle.dir_classify.specs.declared.error.ReadWhy.TheVariants as why
+use Rattle.worktree_report.specs.Below.{through}
 use Rattle.worktree_report.specs.declared.setup.SetupError.{SetupError}
 use Rattle.worktree_report.specs.declared.setup.SetupError.TheVariants as setup
 use Rattle.worktree_report.specs.declared.refusal.Refusal.{Refusal}
@@ -36,12 +38,16 @@ of_lookup (inner.RulesFile path rules.Fault) = refusals.Fault
 of_lookup (inner.Blob id why) = refusals.Walk words.Lookup []
 of_lookup inner.OutOfMemory = refusals.OutOfMemory
 
--- Why the walk was refused. No refusal of a traversal root comes where none is handed in.
+-- the whole path of the component with a number, from 0, of a traversal root, by the whole path of that and the worktree root
+abbrev pub component_path : List ℕ → List ℕ → ℕ → List ℕ
+component_path whole worktree_root number = through worktree_root number (components (drop (length worktree_root) whole))
+
+-- why the walk was refused
 abbrev pub of_walk : Error → Refusal
 of_walk walk.Interrupted = refusals.Interrupted
-of_walk (walk.NormalizeRoot root) = refusals.Walk words.Lookup root
-of_walk (walk.SymlinkInRoot root worktree_root index) = refusals.Walk words.Lookup root
-of_walk (walk.SymlinkMetadata path metadata.Absent) = refusals.Walk words.Lookup path
+of_walk (walk.NormalizeRoot root) = refusals.Walk words.OutsideRoot root
+of_walk (walk.SymlinkInRoot root worktree_root index) = refusals.Walk words.SymlinkInRoot (component_path root worktree_root index)
+of_walk (walk.SymlinkMetadata path metadata.Absent) = refusals.Walk words.MissingRoot path
 of_walk (walk.SymlinkMetadata path metadata.Fault) = refusals.Fault
 of_walk (walk.WorktreeRootIsFile root) = refusals.Walk words.RootIsFile root
 of_walk (walk.ExcludesAccess refused) = of_lookup refused

@@ -10,12 +10,23 @@ hex_digit n = if nat_lt n 10 then 48 + n else 87 + n
 abbrev pub is_escaped : ℕ → Bool
 is_escaped b = nat_lt b 32 || (b == 127 || b == 92)
 
+-- a byte as a backslash and two digits
+abbrev pub spelled_out : ℕ → List ℕ
+spelled_out b = 92 ∷ hex_digit (b / 16) ∷ hex_digit (b % 16) ∷ []
+
 abbrev pub escaped_byte : ℕ → List ℕ
-escaped_byte b = if is_escaped b then 92 ∷ hex_digit (b / 16) ∷ hex_digit (b % 16) ∷ [] else b ∷ []
+escaped_byte b = if is_escaped b then spelled_out b else b ∷ []
 
 -- a path as the report writes it
 abbrev pub escaped : List ℕ → List ℕ
 escaped bytes = flat_map escaped_byte bytes
+
+-- the same within a word, which spaces end
+abbrev pub escaped_byte_in_word : ℕ → List ℕ
+escaped_byte_in_word b = if is_escaped b || b == 32 then spelled_out b else b ∷ []
+
+abbrev pub escaped_in_word : List ℕ → List ℕ
+escaped_in_word bytes = flat_map escaped_byte_in_word bytes
 
 -- the value of a lower-case hexadecimal digit
 abbrev pub digit_value : ℕ → Option ℕ

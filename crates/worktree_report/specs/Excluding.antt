@@ -1,5 +1,5 @@
 -- The ignore rules that a setup asks for.
-use Rattle.std.specs.Prelude.{ℕ, List, [], ◌∷◌, Bool, false, Option, Some, None, codes, if◌then◌else◌}
+use Rattle.std.specs.Prelude.{ℕ, List, [], ◌∷◌, Bool, Option, Some, None, codes, if◌then◌else◌}
 use Rattle.glob_rules.specs.Ignore.{Rules, entries}
 use Rattle.glob_rules.specs.declared.Case.{Case}
 use Rattle.glob_rules.specs.declared.Case.TheVariants.{Sensitive, Fold}
@@ -12,7 +12,7 @@ abbrev pub rules_in : Bool → List ℕ → Rules
 rules_in precious text = record { entries = entries precious text; source = None; base = [] }
 
 -- the override lines as one list above those of directories, the global lines as one below them; each directory has the
--- rules of its `.gitignore`, read from the worktree
+-- rules of its `.gitignore`, read from the worktree; with strict parents no rule lifts that of a directory above
 abbrev pub rules_given : Setup → Rulings
 rules_given setup =
     record {
@@ -21,7 +21,7 @@ rules_given setup =
       file_name = codes ".gitignore";
       source = WorktreeThenIdMappingIfNotSkipped;
       precious = setup.options.precious;
-      strict = false;
+      strict = setup.options.strict_parents;
     }
 
 -- how letters compare

@@ -1,6 +1,7 @@
 pub mod Words
 pub mod Named
 pub mod Escapes
+pub mod Below
 pub mod Spelled
 pub mod Lines
 pub mod Written
@@ -9,6 +10,9 @@ pub mod SetupSeen
 pub mod SetupDepth
 pub mod SetupOptions
 pub mod SetupSaid
+pub mod SetupSpecs
+pub mod SetupKeywords
+pub mod SetupMeant
 pub mod SetupText
 pub mod SetupParsed
 pub mod Refusals
@@ -17,4 +21,6 @@ pub mod SetupAt
 pub mod Excluding
 pub mod Steps
 pub mod SetupIndex
+pub mod Asked
+pub mod Reported
 pub mod Run

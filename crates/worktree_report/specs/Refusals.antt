@@ -20,6 +20,9 @@ status_of refusals.OutOfMemory = 8
 
 abbrev pub word_of : WalkWord → List ℕ
 word_of words.RootIsFile = codes "root-is-file"
+word_of words.OutsideRoot = codes "outside-root"
+word_of words.SymlinkInRoot = codes "symlink-in-root"
+word_of words.MissingRoot = codes "missing-root"
 word_of words.AbsentDirectory = codes "absent-directory"
 word_of words.NotADirectory = codes "not-a-directory"
 word_of words.RulesFile = codes "rules-file"

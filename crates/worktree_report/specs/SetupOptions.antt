@@ -10,6 +10,7 @@ abbrev pub is_looking : List ℕ → Bool
 is_looking name =
     bytes_eq name (codes "excludes")
     || bytes_eq name (codes "precious")
+    || bytes_eq name (codes "strict_parents")
     || bytes_eq name (codes "ignore_case")
     || bytes_eq name (codes "recurse_repositories")
     || bytes_eq name (codes "classify_untracked_bare_repositories")
@@ -21,14 +22,29 @@ is_reporting name =
     bytes_eq name (codes "emit_pruned")
     || bytes_eq name (codes "emit_tracked")
     || bytes_eq name (codes "emit_empty_directories")
+    || bytes_eq name (codes "origins")
     || bytes_eq name (codes "print_outcome")
 
--- Whether an option may have a value. The first two lack one, since what that would ask for is not there yet.
+-- how paths of a kind are reported: each by itself, or directories in place of what lies in them
+abbrev pub is_emission : List ℕ → Bool
+is_emission value = bytes_eq value (codes "matching") || bytes_eq value (codes "collapse")
+
+-- which paths are reported besides the directory that was folded over them, where any are
+abbrev pub is_collapsed_emission : List ℕ → Bool
+is_collapsed_emission value = bytes_eq value (codes "mismatch") || bytes_eq value (codes "all")
+
+-- how deletion goes about ignored directories
+abbrev pub is_deletion : List ℕ → Bool
+is_deletion value = bytes_eq value (codes "hide") || bytes_eq value (codes "nonbare") || bytes_eq value (codes "all")
+
+-- whether an option may have a value
 abbrev pub may_be : List ℕ → List ℕ → Bool
 may_be name value =
-    if bytes_eq name (codes "emit_untracked") then bytes_eq value (codes "matching")
-    else if bytes_eq name (codes "emit_ignored") then bytes_eq value (codes "no") || bytes_eq value (codes "matching")
-    else if is_looking name || is_reporting name then bytes_eq value (codes "no") || bytes_eq value (codes "yes")
+    if is_looking name || is_reporting name then bytes_eq value (codes "no") || bytes_eq value (codes "yes")
+    else if bytes_eq name (codes "emit_untracked") then is_emission value
+    else if bytes_eq name (codes "emit_ignored") then bytes_eq value (codes "no") || is_emission value
+    else if bytes_eq name (codes "emit_collapsed") then bytes_eq value (codes "no") || is_collapsed_emission value
+    else if bytes_eq name (codes "for_deletion") then bytes_eq value (codes "no") || is_deletion value
     else false
 
 abbrev pub option_if_known : Parted → Option SetupOption

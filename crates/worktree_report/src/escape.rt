@@ -1,6 +1,6 @@
 //! Paths as texts: some bytes stand as a backslash and two hexadecimal digits.
 ghost use Rattle.std.specs.Prelude.{◌≡◌, ◌+◌, ◌*◌, ◌<◌, length, ◌++◌, [], ◌∷◌, drop, option_map, OnOk, IfOk};
-ghost use Rattle.worktree_report.specs.Escapes.{hex_digit, is_escaped, escaped_byte, escaped, digit_value, hex_byte, unescaped};
+ghost use Rattle.worktree_report.specs.Escapes.{hex_digit, is_escaped, spelled_out, escaped_byte, escaped, escaped_byte_in_word, escaped_in_word, digit_value, hex_byte, unescaped};
 ghost use Rattle.worktree_report.specs.Spelled.{Begins};
 
 use gitbase_core::{OutOfMemory, PathText};
@@ -21,17 +21,35 @@ fn is_escaped(byte: u8) -> bool
     byte < 32 || byte == 127 || byte == b'\\'
 }
 
+/// Adds a byte as a backslash and two digits.
+fn add_spelled_out(text: &mut Vec<u8>, byte: u8) -> Result<(), OutOfMemory>
+    ensures { OnOk result (text.new.items ≡ text.old.items ++ spelled_out byte) }
+{
+    text.push(b'\\')?;
+    text.push(hex_digit(byte / 16))?;
+    text.push(hex_digit(byte % 16))?;
+    Ok(())
+}
+
 /// Adds a byte of a path, escaped where it must be.
 fn add_byte(text: &mut Vec<u8>, byte: u8) -> Result<(), OutOfMemory>
     ensures { OnOk result (text.new.items ≡ text.old.items ++ escaped_byte byte) }
 {
     if is_escaped(byte) {
-        text.push(b'\\')?;
-        text.push(hex_digit(byte / 16))?;
-        text.push(hex_digit(byte % 16))?;
-    } else {
-        text.push(byte)?;
+        return add_spelled_out(text, byte);
     }
+    text.push(byte)?;
+    Ok(())
+}
+
+/// The same within a word, which spaces end.
+fn add_byte_in_word(text: &mut Vec<u8>, byte: u8) -> Result<(), OutOfMemory>
+    ensures { OnOk result (text.new.items ≡ text.old.items ++ escaped_byte_in_word byte) }
+{
+    if is_escaped(byte) || byte == b' ' {
+        return add_spelled_out(text, byte);
+    }
+    text.push(byte)?;
     Ok(())
 }
 
@@ -41,6 +59,16 @@ pub fn add_escaped(text: &mut Vec<u8>, path: &[u8]) -> Result<(), OutOfMemory>
 {
     for byte in path {
         add_byte(text, *byte)?;
+    }
+    Ok(())
+}
+
+/// Adds a path as a word of the report has it.
+pub fn add_escaped_in_word(text: &mut Vec<u8>, path: &[u8]) -> Result<(), OutOfMemory>
+    ensures { OnOk result (text.new.items ≡ text.old.items ++ escaped_in_word path.now) }
+{
+    for byte in path {
+        add_byte_in_word(text, *byte)?;
     }
     Ok(())
 }

@@ -1,8 +1,8 @@
 //! The ignore rules that a setup asks for.
-ghost use Rattle.std.specs.Prelude.{◌≡◌, ◌∷◌, [], IfOk};
+ghost use Rattle.std.specs.Prelude.{◌≡◌, ◌∷◌, [], None, IfOk};
 ghost use Rattle.worktree_stack.specs.Reading.{Sources};
 ghost use Rattle.worktree_stack.specs.Stacked.{IsInStep, made_of};
-ghost use Rattle.dir_classify.specs.Excludes.{made_with, InStepIf};
+ghost use Rattle.dir_classify.specs.Excludes.{made_with, pushed_in, InStepIf};
 ghost use Rattle.worktree_report.specs.Excluding.{rules_in, rules_given, case_of, rules_of, excludes_of};
 
 use crate::setup::Setup;
@@ -35,7 +35,8 @@ fn ignore_of(alloc: Global, setup: &Setup) -> Result<Ignore, OutOfMemory>
     let overrides = search_of(alloc, setup.overrides.as_bytes(), parse)?;
     let globals = search_of(alloc, setup.globals.as_bytes(), parse)?;
     let source = Source::WorktreeThenIdMappingIfNotSkipped;
-    Ignore::new(alloc, overrides, globals, None, source, parse)
+    let ignore = Ignore::new(alloc, overrides, globals, None, source, parse)?;
+    Ok(ignore.with_strict_parents(setup.options.strict_parents))
 }
 
 /// How letters compare in the rules of a setup.
@@ -53,6 +54,7 @@ fn case_of(setup: &Setup) -> Case
 fn stack_of(alloc: Global, root: &[u8], setup: &Setup) -> Result<Stack, OutOfMemory>
     ensures made { IfOk result (λ stack. made_of stack ≡ rules_of root.now setup.now) }
     ensures in_step { (s : Sources) → IfOk result (IsInStep s) }
+    ensures unpushed { IfOk result (λ stack. stack.at ≡ None) }
 {
     let ignore = ignore_of(alloc, setup)?;
     Ok(Stack::new(
@@ -72,6 +74,7 @@ fn stack_of(alloc: Global, root: &[u8], setup: &Setup) -> Result<Stack, OutOfMem
 pub fn excludes_of(alloc: Global, root: &[u8], setup: &Setup) -> Result<Option<Stack>, OutOfMemory>
     ensures made { IfOk result (λ excludes. made_with excludes ≡ excludes_of root.now setup.now) }
     ensures in_step { (s : Sources) → IfOk result (InStepIf s) }
+    ensures unpushed { IfOk result (λ excludes. pushed_in excludes ≡ None) }
 {
     if !setup.options.excludes {
         return Ok(None);

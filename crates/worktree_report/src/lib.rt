@@ -1,6 +1,8 @@
 //! The report of a git worktree: each path with its class, one line a path.
 #![tactic(auto)]
 
+mod below;
+mod converted;
 mod escape;
 mod excludes;
 mod lines;

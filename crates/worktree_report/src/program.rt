@@ -5,7 +5,7 @@ ghost use Rattle.worktree_fs.specs.Causes.{NotIncreased, Increased};
 ghost use Rattle.worktree_report.specs.Words.{command_of};
 ghost use Rattle.worktree_report.specs.Written.{Appends, AppendsPart};
 ghost use Rattle.worktree_report.specs.Refusals.{Says, line_of, IsStatus};
-ghost use Rattle.worktree_report.specs.Run.{output_of, IsSafe, RefusesSetup, RefusesWalk, IsAboutWalk, IsValid};
+ghost use Rattle.worktree_report.specs.Run.{output_of, IsSafe, Works, RefusesSetup, RefusesWalk, IsAboutWalk, IsValid};
 ghost use Rattle.worktree_report.specs.declared.refusal.WalkWord.{WalkWord};
 
 use crate::reading::read_setup;
@@ -49,6 +49,10 @@ fn report_text<W: Worktree, I: Interrupt>(
     ensures safe { (t : Names) → W.told worktree.old ≡ Some t
         → NotIncreased (W.faults worktree.old) (W.faults worktree.new)
         → OnOk result (IsSafe t words.now) }
+    ensures works { (t : Names) → W.told worktree.old ≡ Some t
+        → NotIncreased (W.faults worktree.old) (W.faults worktree.new)
+        → OnOk result (Works t words.now (I.questions interrupt.old) (I.questions interrupt.new)
+        (W.reads worktree.old) (W.reads worktree.new)) }
     ensures usage { IsErrOf result Refusal.Usage ↔ (command_of words.now ≡ None) }
     ensures setup { (t : Names) → W.told worktree.old ≡ Some t → (line : ℕ)
         → IsErrOf result (Refusal.Setup line) → RefusesSetup t words.now line }
@@ -57,7 +61,7 @@ fn report_text<W: Worktree, I: Interrupt>(
         → (word : WalkWord) (path : List ℕ) → IsErrOf result (Refusal.Walk word path)
         → RefusesWalk t words.now word path }
     ensures about { (word : WalkWord) (path : List ℕ) → IsErrOf result (Refusal.Walk word path)
-        → IsAboutWalk words.now word path }
+        → IsAboutWalk (W.told worktree.old) words.now word path }
     ensures cause { IsErrOf result Refusal.Fault
         → Increased (W.faults worktree.old) (W.faults worktree.new) }
     ensures interrupted { IsErrOf result Refusal.Interrupted
@@ -74,6 +78,7 @@ fn report_text<W: Worktree, I: Interrupt>(
         ≡ W.list_faults worktree.old) }
     ensures precomposes { W.precomposes worktree.new ≡ W.precomposes worktree.old }
     ensures raised { I.raised interrupt.old ≤ I.raised interrupt.new }
+    ensures calm { OnOk result (I.raised interrupt.new ≡ I.raised interrupt.old) }
 {
     let Some(command) = command_of(words) else {
         return Err(Refusal::Usage);
@@ -114,8 +119,13 @@ pub fn run<W: Worktree, I: Interrupt, S: Sink, E: Sink>(
     ensures safe { (t : Names) → W.told worktree.old ≡ Some t
         → NotIncreased (W.faults worktree.old) (W.faults worktree.new) → result ≡ 0
         → IsSafe t words.now }
+    ensures works { (t : Names) → W.told worktree.old ≡ Some t
+        → NotIncreased (W.faults worktree.old) (W.faults worktree.new) → result ≡ 0
+        → Works t words.now (I.questions interrupt.old) (I.questions interrupt.new)
+        (W.reads worktree.old) (W.reads worktree.new) }
     ensures silent { result ≡ 0 → E.written err.new ≡ E.written err.old }
     ensures list_faults { result ≡ 0 → W.list_faults worktree.new ≡ W.list_faults worktree.old }
+    ensures calm { result ≡ 0 → I.raised interrupt.new ≡ I.raised interrupt.old }
 
     // Any other status: nothing on `out`, but with 7 a front of the report that is not all of it.
     ensures untouched { result ≢ 0 → result ≢ 7 → S.written out.new ≡ S.written out.old }
@@ -140,7 +150,7 @@ pub fn run<W: Worktree, I: Interrupt, S: Sink, E: Sink>(
         × Says (E.written err.old) (E.written err.new) (E.refusals err.old) (E.refusals err.new)
         (line_of (Refusal.Setup line)) }
     ensures walk { result ≡ 4 → (word : WalkWord) × (path : List ℕ)
-        × IsAboutWalk words.now word path
+        × IsAboutWalk (W.told worktree.old) words.now word path
         × ((t : Names) → W.told worktree.old ≡ Some t
         → NotIncreased (W.faults worktree.old) (W.faults worktree.new)
         → RefusesWalk t words.now word path)

@@ -11,8 +11,15 @@ use worktree_fs::Sink;
 /// The word of a walk that was refused.
 #[derive(Clone, Copy, Debug, PartialEq, Eq)]
 pub enum WalkWord {
-    /// The worktree root leads to no directory, or its kind could not be learnt.
+    /// The traversal root is the worktree root, which is not entered and is no directory, a link not followed; or its kind could
+    /// not be learnt.
     RootIsFile,
+    /// The traversal root is absolute, or leads out of the worktree.
+    OutsideRoot,
+    /// A component of the traversal root is a link.
+    SymlinkInRoot,
+    /// A component of the traversal root is not there.
+    MissingRoot,
     /// Nothing is where a directory was to be entered.
     AbsentDirectory,
     /// What was to be entered is no directory.
@@ -75,6 +82,9 @@ fn word_of(word: WalkWord) -> &'static [u8]
 {
     match word {
         WalkWord::RootIsFile => b"root-is-file",
+        WalkWord::OutsideRoot => b"outside-root",
+        WalkWord::SymlinkInRoot => b"symlink-in-root",
+        WalkWord::MissingRoot => b"missing-root",
         WalkWord::AbsentDirectory => b"absent-directory",
         WalkWord::NotADirectory => b"not-a-directory",
         WalkWord::RulesFile => b"rules-file",

@@ -1,117 +1,31 @@
-//! The text of the report of a work tree.
-ghost use Rattle.std.specs.Prelude.{◌≡◌, ◌≤◌, ℕ, List, [], false, Some, IfOk, IfErr, OnOk, IsErrOf, is_some};
-ghost use Rattle.worktree_fs.specs.Tree.{Names};
-ghost use Rattle.worktree_fs.specs.Causes.{NotIncreased, Increased};
-ghost use Rattle.dir_classify.specs.Chosen.{chosen, is_folding};
+//! The report of a work tree, and its text.
+ghost use Rattle.std.specs.Prelude.{◌≡◌, true, IfOk, is_some};
+ghost use Rattle.worktree_fs.specs.Causes.{NotIncreased};
+ghost use Rattle.worktree_stack.specs.Reading.{Sources};
+ghost use Rattle.dir_classify.specs.Chosen.{chosen};
+ghost use Rattle.dir_classify.specs.Excludes.{made_with, tells_excludes};
 ghost use Rattle.dir_classify.specs.Layers.{IsLookupIf};
-ghost use Rattle.dir_walk.specs.Report.{IsWalkable};
-ghost use Rattle.worktree_report.specs.Run.{chosen_of, git_dir_or, current_dir_or, meant_in, text_of, IsSafeAt, RefusesWalkAt, IsAboutWalkAt};
-ghost use Rattle.worktree_report.specs.Converted.{of_lookup, of_walk, IsOfWalking};
-ghost use Rattle.worktree_report.specs.declared.refusal.WalkWord.{WalkWord};
+ghost use Rattle.dir_walk.specs.Reports.{IsReport};
+ghost use Rattle.dir_walk.specs.Walks.{Tells, WalksWorktree};
+ghost use Rattle.worktree_report.specs.Asked.{chosen_of, git_dir_or, current_dir_or, asked_of};
+ghost use Rattle.worktree_report.specs.Reported.{Reports, Texts};
 
+use crate::converted::of_walk;
 use crate::excludes::excludes_of;
 use crate::lines::text_of;
-use crate::refusal::{Refusal, WalkWord};
+use crate::refusal::Refusal;
 use crate::setup::Setup;
-use dir_classify::{Context, EmissionMode, Error, MetadataWhy, Options, ReadWhy};
-use dir_walk::walk_by_path;
-use gitbase_core::{AccelerateLookup, Bytes, MemoryStore, OutOfMemory, PathText};
-use glob_rules::pathspec::Search;
+use dir_classify::{Context, Error, Options};
+use dir_walk::{Report, walk_by_path};
+use gitbase_core::{AccelerateLookup, Bytes, Find, MemoryStore, OutOfMemory, PathText};
 use std::alloc::Global;
 use worktree_fs::{Interrupt, Worktree};
-use worktree_stack::{AtPathError, RulesWhy};
+use worktree_stack::Stack;
 
-/// Why there is no report, where the ignore rules could not be asked.
-fn of_lookup(alloc: Global, refused: AtPathError) -> Refusal
-    ensures { result ≡ of_lookup refused }
-{
-    match refused {
-        AtPathError::RulesFile {
-            path: _,
-            why: RulesWhy::Fault,
-        } => Refusal::Fault,
-        AtPathError::RulesFile { path, why: _ } => Refusal::Walk {
-            word: WalkWord::RulesFile,
-            path,
-        },
-        AtPathError::Collision { path } | AtPathError::Directory { path, why: _ } => Refusal::Walk {
-            word: WalkWord::Lookup,
-            path,
-        },
-        AtPathError::NotNormal | AtPathError::Component(_) | AtPathError::Blob { id: _, why: _ } =>
-            Refusal::Walk {
-                word: WalkWord::Lookup,
-                path: PathText::new(alloc),
-            },
-        AtPathError::OutOfMemory => Refusal::OutOfMemory,
-    }
-}
-
-/// Why there is no report, where a listing was refused.
-fn of_listing(path: PathText, why: ReadWhy) -> Refusal
-    ensures { result ≡ of_walk (Error.ReadDir path why) }
-{
-    match why {
-        ReadWhy::Absent => Refusal::Walk {
-            word: WalkWord::AbsentDirectory,
-            path,
-        },
-        ReadWhy::NotADirectory => Refusal::Walk {
-            word: WalkWord::NotADirectory,
-            path,
-        },
-        ReadWhy::Fault => Refusal::Fault,
-    }
-}
-
-/// Why there is no report, where the walk was refused.
-fn of_walk(alloc: Global, error: Error) -> Refusal
-    ensures { result ≡ of_walk error }
-{
-    match error {
-        Error::Interrupted => Refusal::Interrupted,
-        Error::WorktreeRootIsFile { root } => Refusal::Walk {
-            word: WalkWord::RootIsFile,
-            path: root,
-        },
-        Error::ExcludesAccess(refused) => of_lookup(alloc, refused),
-        Error::ReadDir { path, why } => of_listing(path, why),
-        Error::DirEntry {
-            parent_directory: _,
-        } => Refusal::Fault,
-        Error::TooDeep { path } => Refusal::Walk {
-            word: WalkWord::TooDeep,
-            path,
-        },
-        Error::NormalizeRoot { root } => of_root(root),
-        Error::SymlinkInRoot {
-            root,
-            worktree_root: _,
-            component_index: _,
-        } => of_root(root),
-        Error::SymlinkMetadata { path, why } => match why {
-            MetadataWhy::Absent => of_root(path),
-            MetadataWhy::Fault => Refusal::Fault,
-        },
-        Error::OutOfMemory => Refusal::OutOfMemory,
-    }
-}
-
-/// Why there is no report, where a traversal root was refused, which does not come.
-fn of_root(path: PathText) -> Refusal
-    ensures { result ≡ Refusal.Walk WalkWord.Lookup path }
-{
-    Refusal::Walk {
-        word: WalkWord::Lookup,
-        path,
-    }
-}
-
-/// What a walk is asked to emit. Directories are not folded yet, and nothing is deleted.
+/// What a walk is asked to emit, and how it looks at paths.
 #[tactic(auto, unfolding(dir_classify::specs::Chosen::chosen))]
 fn options_of(setup: &Setup) -> Options<'_>
-    ensures chosen { chosen result ≡ chosen_of setup.now.options }
-    ensures unfolded { is_folding (chosen result) ≡ false }
+    ensures { chosen result ≡ chosen_of setup.now }
 {
     let options = &setup.options;
     Options {
@@ -119,18 +33,15 @@ fn options_of(setup: &Setup) -> Options<'_>
         ignore_case: options.ignore_case,
         recurse_repositories: options.recurse_repositories,
         emit_pruned: options.emit_pruned,
-        emit_ignored: match options.emit_ignored {
-            Some(_) => Some(EmissionMode::Matching),
-            None => None,
-        },
-        for_deletion: None,
+        emit_ignored: options.emit_ignored,
+        for_deletion: options.for_deletion,
         classify_untracked_bare_repositories: options.classify_untracked_bare_repositories,
         emit_tracked: options.emit_tracked,
-        emit_untracked: EmissionMode::Matching,
+        emit_untracked: options.emit_untracked,
         emit_empty_directories: options.emit_empty_directories,
-        emit_collapsed: None,
+        emit_collapsed: options.emit_collapsed,
         symlinks_to_directories_are_ignored_like_directories: options.symlinks_to_directories_are_ignored_like_directories,
-        worktree_relative_worktree_dirs: None,
+        worktree_relative_worktree_dirs: Some(&setup.worktrees),
     }
 }
 
@@ -157,13 +68,6 @@ fn git_dir_of(alloc: Global, root: &[u8], setup: &Setup) -> Result<PathText, Out
     Ok(path)
 }
 
-/// A list of no path specs, by which every path is meant.
-fn no_specs(alloc: Global) -> Search
-    ensures { result ≡ [] }
-{
-    Search::from_specs(Vec::new(alloc))
-}
-
 /// The current directory.
 fn current_dir_of<'a>(root: &'a [u8], setup: &'a Setup) -> &'a [u8]
     ensures { result.now ≡ current_dir_or root.now setup.now.current_dir }
@@ -172,6 +76,80 @@ fn current_dir_of<'a>(root: &'a [u8], setup: &'a Setup) -> &'a [u8]
         Some(path) => path.as_bytes(),
         None => root,
     }
+}
+
+/// Walks the work tree at `root` as the setup asks for it, with ignore rules, a look-up of the index and a git directory that
+/// are made for it.
+fn walk_with<'a, W: Worktree, F: Find, I: Interrupt>(
+    alloc: Global,
+    worktree: &'a mut W,
+    objects: &'a mut F,
+    interrupt: &'a mut I,
+    root: &'a [u8],
+    setup: &'a Setup,
+    excludes: &'a mut Option<Stack>,
+    lookup: &'a Option<AccelerateLookup>,
+    git_dir: &'a [u8],
+) -> Result<Report, Error>
+    requires excludes { tells_excludes (made_with excludes.old) ≡ true }
+    requires lookup { IsLookupIf setup.now.index lookup.now }
+    requires given { is_some lookup.now ≡ setup.now.options.ignore_case }
+    requires git_dir { git_dir.now ≡ git_dir_or root.now setup.now.git_dir }
+    ensures gives { (s : Sources) → Tells W.Worktree F.Find worktree.old objects.old excludes.old s
+        → NotIncreased (W.faults worktree.old) (W.faults worktree.new)
+        → IfOk result (IsReport (asked_of root.now setup.now) (made_with excludes.old) s
+        setup.now.root setup.now.depth) }
+    ensures walks_worktree { WalksWorktree W.Worktree F.Find I.Interrupt worktree.old worktree.new
+        objects.old objects.new interrupt.old interrupt.new excludes.old excludes.new
+        (asked_of root.now setup.now) setup.now.root setup.now.depth true (λ r. r.outcome) result }
+{
+    let ctx = Context {
+        worktree,
+        objects,
+        interrupt,
+        pathspec: &setup.specs,
+        excludes,
+        index: &setup.index,
+        ignore_case_index_lookup: lookup,
+        git_dir_realpath: git_dir,
+        current_dir: current_dir_of(root, setup),
+        explicit_traversal_root: &setup.root,
+        depth_limit: setup.depth,
+    };
+    walk_by_path(alloc, root, ctx, options_of(setup))
+}
+
+/// The report of the work tree at `root`, which is absolute and has no component `.` or `..`, as the setup asks for it. Blobs
+/// that ignore rules are mapped to are looked up in `objects`.
+///
+/// # Errors
+///
+/// Those of [`dir_walk::walk::walk`], each for the same causes.
+pub fn worktree_report<W: Worktree, F: Find, I: Interrupt>(
+    alloc: Global,
+    worktree: &mut W,
+    objects: &mut F,
+    interrupt: &mut I,
+    root: &[u8],
+    setup: &Setup,
+) -> Result<Report, Error>
+    ensures { Reports W.Worktree F.Find I.Interrupt worktree.old worktree.new objects.old
+        objects.new interrupt.old interrupt.new root.now setup.now result }
+{
+    let mut excludes = excludes_of(alloc, root, setup)?;
+    let lookup = lookup_of(alloc, setup)?;
+    let git_dir = git_dir_of(alloc, root, setup)?;
+    walk_with(
+        alloc,
+        worktree,
+        objects,
+        interrupt,
+        root,
+        setup,
+        &mut excludes,
+        &lookup,
+        git_dir.as_bytes(),
+    )
 }
 
 /// The lines of the report of the work tree at `root`.
@@ -185,57 +163,12 @@ pub fn walked_text<W: Worktree, I: Interrupt>(
     root: &[u8],
     setup: &Setup,
 ) -> Result<Bytes, Refusal>
-    ensures gives { (t : Names) → W.told worktree.old ≡ Some t
-        → NotIncreased (W.faults worktree.old) (W.faults worktree.new)
-        → IfOk result (λ text. text_of t root.now setup.now ≡ Some text) }
-    ensures safe { (t : Names) → W.told worktree.old ≡ Some t
-        → NotIncreased (W.faults worktree.old) (W.faults worktree.new)
-        → OnOk result (IsSafeAt t root.now setup.now) }
-    ensures refused { (t : Names) → W.told worktree.old ≡ Some t
-        → NotIncreased (W.faults worktree.old) (W.faults worktree.new)
-        → (word : WalkWord) (path : List ℕ) → IsErrOf result (Refusal.Walk word path)
-        → RefusesWalkAt t root.now setup.now word path }
-    ensures about { (word : WalkWord) (path : List ℕ) → IsErrOf result (Refusal.Walk word path)
-        → IsAboutWalkAt root.now setup.now word path }
-    ensures cause { IsErrOf result Refusal.Fault
-        → Increased (W.faults worktree.old) (W.faults worktree.new) }
-    ensures interrupted { IsErrOf result Refusal.Interrupted
-        → Increased (I.raised interrupt.old) (I.raised interrupt.new) }
-    ensures answers { IfErr result IsOfWalking }
-    ensures complete { (t : Names) → W.told worktree.old ≡ Some t
-        → NotIncreased (W.faults worktree.old) (W.faults worktree.new)
-        → NotIncreased (I.raised interrupt.old) (I.raised interrupt.new)
-        → IsWalkable setup.now.depth (chosen_of setup.now.options) (meant_in t root.now setup.now) t
-        root.now
-        → IfErr result (λ refusal. refusal ≡ Refusal.OutOfMemory) }
-    ensures tree { W.told worktree.new ≡ W.told worktree.old }
-    ensures faults { W.faults worktree.old ≤ W.faults worktree.new }
-    ensures list_faults { W.list_faults worktree.old ≤ W.list_faults worktree.new }
-    ensures list_faults_kept { OnOk result (W.list_faults worktree.new
-        ≡ W.list_faults worktree.old) }
-    ensures precomposes { W.precomposes worktree.new ≡ W.precomposes worktree.old }
-    ensures raised { I.raised interrupt.old ≤ I.raised interrupt.new }
+    ensures { Texts W.Worktree I.Interrupt worktree.old worktree.new interrupt.old interrupt.new
+        root.now setup.now result }
 {
-    let mut excludes = excludes_of(alloc, root, setup)?;
-    let lookup = lookup_of(alloc, setup)?;
-    let git_dir = git_dir_of(alloc, root, setup)?;
-    let specs = no_specs(alloc);
     let mut objects = MemoryStore::new(alloc);
-    let ctx = Context {
-        worktree,
-        objects: &mut objects,
-        interrupt,
-        pathspec: &specs,
-        excludes: &mut excludes,
-        index: &setup.index,
-        ignore_case_index_lookup: &lookup,
-        git_dir_realpath: git_dir.as_bytes(),
-        current_dir: current_dir_of(root, setup),
-        explicit_traversal_root: &None,
-        depth_limit: setup.depth,
-    };
-    match walk_by_path(alloc, root, ctx, options_of(setup)) {
-        Ok(report) => Ok(text_of(alloc, &report, setup.options.print_outcome)?),
-        Err(error) => Err(of_walk(alloc, error)),
+    match worktree_report(alloc, worktree, &mut objects, interrupt, root, setup) {
+        Ok(report) => Ok(text_of(alloc, &report, &setup.options)?),
+        Err(error) => Err(of_walk(alloc, error)?),
     }
 }

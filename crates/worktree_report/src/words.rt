@@ -36,7 +36,8 @@ fn has_no_dots(path: &[u8]) -> bool
     path.split(|b| *b == b'/').all(|piece| !is_dots(piece))
 }
 
-fn has_nul(path: &[u8]) -> bool
+/// Whether a NUL is among bytes.
+pub fn has_nul(path: &[u8]) -> bool
     ensures { result ≡ list_any (λ b. b == 0) path.now }
 {
     path.iter().any(|b| *b == 0)

@@ -342,7 +342,7 @@ pub static REFUSALS: [Row; 13] = [
     Row {
         name: "a way of emitting that is not there",
         nodes: &[(b"/w/a", A_FILE)],
-        setup: b"global\x20\noption emit_ignored collapse\noption recurse_repositories yes\n",
+        setup: b"global\x20\noption emit_collapsed collapse\noption recurse_repositories yes\n",
         status: 3,
         out: b"",
         err: b"setup: line 2\n",

@@ -1,12 +1,13 @@
 //! What the lines of a setup say together, line by line.
 ghost use Rattle.std.specs.Prelude.{◌≡◌, ◌++◌, ◌∷◌, [], map, IfOk, OnOk};
-ghost use Rattle.worktree_report.specs.SetupText.{line_of, taken};
+ghost use Rattle.worktree_report.specs.SetupText.{taken};
+ghost use Rattle.worktree_report.specs.SetupKeywords.{line_of};
 ghost use Rattle.worktree_report.specs.SetupParsed.{ReadGives};
 
 use crate::setup::SetupError;
 use crate::setup::line::{SetupLine, line_of};
 use crate::setup::option::{SetupOption, is_set};
-use gitbase_core::{OutOfMemory, State};
+use gitbase_core::{Bytes, OutOfMemory, PathText, State};
 use std::alloc::Global;
 use std::marker::Model;
 
@@ -19,6 +20,10 @@ pub struct Draft {
     pub overrides: Vec<u8>,
     /// Ignore rules that come after those of all directories, each with its line feed.
     pub globals: Vec<u8>,
+    /// The texts of path specs.
+    pub specs: Vec<Bytes>,
+    /// The paths of directories that are worktrees of their own.
+    pub worktrees: Vec<PathText>,
 }
 
 impl Model for Draft {
@@ -26,7 +31,7 @@ impl Model for Draft {
 
     ghost Value = { Said };
 
-    ghost view = { λ draft. record { options = draft.options.items; index = draft.index; overrides = draft.overrides.items; globals = draft.globals.items } };
+    ghost view = { λ draft. record { options = draft.options.items; index = draft.index; overrides = draft.overrides.items; globals = draft.globals.items; specs = draft.specs.items; worktrees = draft.worktrees.items } };
 }
 
 /// Adds an ignore rule and a line feed.
@@ -67,6 +72,14 @@ fn taken(alloc: Global, mut draft: Draft, line: &[u8]) -> Result<Option<Draft>, 
             add_rule(&mut draft.globals, rule.as_bytes())?;
             Ok(Some(draft))
         }
+        Some(SetupLine::Specifies(text)) => {
+            draft.specs.push(text)?;
+            Ok(Some(draft))
+        }
+        Some(SetupLine::SetsApart(path)) => {
+            draft.worktrees.push(path)?;
+            Ok(Some(draft))
+        }
     }
 }
 
@@ -82,6 +95,8 @@ pub fn read_lines(alloc: Global, lines: &[&[u8]]) -> Result<Draft, SetupError>
         index: State::new(alloc),
         overrides: Vec::new(alloc),
         globals: Vec::new(alloc),
+        specs: Vec::new(alloc),
+        worktrees: Vec::new(alloc),
     };
     for (i, line) in lines.iter().enumerate() {
         match taken(alloc, draft, line)? {

@@ -1,14 +1,16 @@
 //! What a line of a setup says by itself.
 ghost use Rattle.std.specs.Prelude.{◌≡◌, ◌&&◌, not, is_some, IfOk};
-ghost use Rattle.worktree_report.specs.SetupText.{is_skipped, is_once, once_line, rule_line, keyword_line, line_of};
+ghost use Rattle.worktree_report.specs.SetupKeywords.{is_skipped, is_root, is_once, once_line, spec_line, worktree_line, path_line, rule_line, keyword_line, line_of};
 ghost use Rattle.worktree_report.specs.SetupSeen.{seen};
 
+use crate::escape::unescaped;
 use crate::setup::depth::depth_of;
 use crate::setup::field::{Field, parted};
 use crate::setup::index_line::index_entry;
 use crate::setup::option::{SetupOption, option_of};
-use crate::words::is_whole_path;
-use gitbase_core::{Bytes, IndexEntry, OutOfMemory};
+use crate::setup::spec::is_spec;
+use crate::words::{has_nul, is_whole_path};
+use gitbase_core::{Bytes, IndexEntry, OutOfMemory, PathText, is_absolute};
 use std::alloc::Global;
 
 /// What a line says.
@@ -24,6 +26,10 @@ pub enum SetupLine {
     OverrideRule(Bytes),
     /// An ignore rule that comes after those of all directories.
     GlobalRule(Bytes),
+    /// A path spec.
+    Specifies(Bytes),
+    /// The directory at this path is a worktree of its own.
+    SetsApart(PathText),
 }
 
 fn is_skipped(line: &[u8]) -> bool
@@ -44,6 +50,13 @@ fn keyword_line(alloc: Global, fields: Field<'_>) -> Result<Option<SetupLine>, O
     rule_line(alloc, fields)
 }
 
+/// Whether bytes may be a traversal root.
+fn is_root(rest: &[u8]) -> bool
+    ensures { result ≡ is_root rest.now }
+{
+    !rest.is_empty() && !has_nul(rest)
+}
+
 /// Whether a line is one of those that stand once, and has a value that it may have.
 fn is_once(fields: &Field<'_>) -> bool
     ensures { result ≡ is_once (seen fields.now) }
@@ -51,13 +64,17 @@ fn is_once(fields: &Field<'_>) -> bool
     if fields.word == b"depth".as_slice() {
         return depth_of(fields.rest).is_some();
     }
+    if fields.word == b"root".as_slice() {
+        return is_root(fields.rest);
+    }
     if fields.word == b"git_dir".as_slice() || fields.word == b"current_dir".as_slice() {
         return is_whole_path(fields.rest);
     }
     false
 }
 
-/// A line that gives the depth limit or the place of a directory. What it gives is kept as an option under its keyword.
+/// A line that gives the depth limit, the traversal root or the place of a directory. What it gives is kept as an option under
+/// its keyword.
 fn once_line(alloc: Global, fields: Field<'_>) -> Result<Option<SetupLine>, OutOfMemory>
     ensures { IfOk result (λ line. line ≡ once_line (seen fields.entry)) }
 {
@@ -68,6 +85,42 @@ fn once_line(alloc: Global, fields: Field<'_>) -> Result<Option<SetupLine>, OutO
         name: Bytes::from_slice(alloc, fields.word)?,
         value: Bytes::from_slice(alloc, fields.rest)?,
     })))
+}
+
+/// A line that gives a path spec.
+fn spec_line(alloc: Global, text: &[u8]) -> Result<Option<SetupLine>, OutOfMemory>
+    ensures { IfOk result (λ line. line ≡ spec_line text.now) }
+{
+    if !is_spec(alloc, text)? {
+        return Ok(None);
+    }
+    Ok(Some(SetupLine::Specifies(Bytes::from_slice(alloc, text)?)))
+}
+
+/// A line that names a directory that is a worktree of its own.
+fn worktree_line(alloc: Global, rest: &[u8]) -> Result<Option<SetupLine>, OutOfMemory>
+    ensures { IfOk result (λ line. line ≡ worktree_line rest.now) }
+{
+    let Some(path) = unescaped(alloc, rest)? else {
+        return Ok(None);
+    };
+    if is_absolute(path.as_bytes()) {
+        return Ok(None);
+    }
+    Ok(Some(SetupLine::SetsApart(path)))
+}
+
+/// A line that gives a path spec, or names such a directory.
+fn path_line(alloc: Global, fields: Field<'_>) -> Result<Option<SetupLine>, OutOfMemory>
+    ensures { IfOk result (λ line. line ≡ path_line (seen fields.entry)) }
+{
+    if fields.word == b"spec".as_slice() {
+        return spec_line(alloc, fields.rest);
+    }
+    if fields.word == b"worktree".as_slice() {
+        return worktree_line(alloc, fields.rest);
+    }
+    once_line(alloc, fields)
 }
 
 /// A line that gives an ignore rule.
@@ -82,7 +135,7 @@ fn rule_line(alloc: Global, fields: Field<'_>) -> Result<Option<SetupLine>, OutO
         let rule = Bytes::from_slice(alloc, fields.rest)?;
         return Ok(Some(SetupLine::GlobalRule(rule)));
     }
-    once_line(alloc, fields)
+    path_line(alloc, fields)
 }
 
 /// What a line says by itself. None where it says nothing.

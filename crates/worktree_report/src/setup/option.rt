@@ -1,7 +1,7 @@
 //! The options of a setup.
 ghost use Rattle.std.specs.Prelude.{◌≡◌, ◌&&◌, false, option_copied, IfOk};
 ghost use Rattle.std.specs.Str.{bytes_eq};
-ghost use Rattle.worktree_report.specs.SetupOptions.{is_looking, is_reporting, may_be, option_of, is_set, is_set_to, option_named};
+ghost use Rattle.worktree_report.specs.SetupOptions.{is_looking, is_reporting, is_emission, is_collapsed_emission, is_deletion, may_be, option_of, is_set, is_set_to, option_named};
 
 use crate::setup::field::parted;
 use gitbase_core::{Bytes, OutOfMemory};
@@ -20,6 +20,7 @@ fn is_looking(name: &[u8]) -> bool
 {
     name == b"excludes".as_slice()
         || name == b"precious".as_slice()
+        || name == b"strict_parents".as_slice()
         || name == b"ignore_case".as_slice()
         || name == b"recurse_repositories".as_slice()
         || name == b"classify_untracked_bare_repositories".as_slice()
@@ -33,19 +34,45 @@ fn is_reporting(name: &[u8]) -> bool
     name == b"emit_pruned".as_slice()
         || name == b"emit_tracked".as_slice()
         || name == b"emit_empty_directories".as_slice()
+        || name == b"origins".as_slice()
         || name == b"print_outcome".as_slice()
+}
+
+/// Whether a value says how paths of a kind are reported.
+fn is_emission(value: &[u8]) -> bool
+    ensures { result ≡ is_emission value.now }
+{
+    value == b"matching".as_slice() || value == b"collapse".as_slice()
+}
+
+/// Whether a value says which paths are reported besides the directory that was folded over them.
+fn is_collapsed_emission(value: &[u8]) -> bool
+    ensures { result ≡ is_collapsed_emission value.now }
+{
+    value == b"mismatch".as_slice() || value == b"all".as_slice()
+}
+
+/// Whether a value says how deletion goes about ignored directories.
+fn is_deletion(value: &[u8]) -> bool
+    ensures { result ≡ is_deletion value.now }
+{
+    value == b"hide".as_slice() || value == b"nonbare".as_slice() || value == b"all".as_slice()
 }
 
 /// Whether an option may have a value.
 fn may_be(name: &[u8], value: &[u8]) -> bool
     ensures { result ≡ may_be name.now value.now }
 {
-    if name == b"emit_untracked".as_slice() {
-        value == b"matching".as_slice()
-    } else if name == b"emit_ignored".as_slice() {
-        value == b"no".as_slice() || value == b"matching".as_slice()
-    } else if is_looking(name) || is_reporting(name) {
+    if is_looking(name) || is_reporting(name) {
         value == b"no".as_slice() || value == b"yes".as_slice()
+    } else if name == b"emit_untracked".as_slice() {
+        is_emission(value)
+    } else if name == b"emit_ignored".as_slice() {
+        value == b"no".as_slice() || is_emission(value)
+    } else if name == b"emit_collapsed".as_slice() {
+        value == b"no".as_slice() || is_collapsed_emission(value)
+    } else if name == b"for_deletion".as_slice() {
+        value == b"no".as_slice() || is_deletion(value)
     } else {
         false
     }

@@ -1,13 +1,17 @@
-use Rattle.std.proofs.Common.{◌∙◌, sym, rules}
+use Rattle.std.proofs.Common.{◌≡◌, ◌∙◌, sym, true, false, [], rules}
 use Rattle.std.proofs.lemmas.Result.{err_from_is_err_and}
 use Rattle.dir_classify.specs.Excludes.{made_with}
-use Rattle.dir_classify.specs.Layers.{setting_of}
-use Rattle.dir_classify.proofs.Onward.{way-init, grown-normal, onward-grown, Reaches-refused}
+use Rattle.gitbase_core.specs.Path.{components}
+use Rattle.worktree_stack.specs.Reading.{Sources}
+use Rattle.dir_classify.specs.Chosen.{chosen}
+use Rattle.dir_classify.specs.Layers.{setting_of, evidence, on_disk}
+use Rattle.dir_classify.proofs.Onward.{way-init, ends-init, root-asked, grown-normal, grown-spelled, onward-grown, Reaches-refused, Reaches-ended, Reaches-stopped, Reaches-unrooted, ended-short}
 use Rattle.dir_classify.proofs.classify.root_at.Goals as goal
 
 pub loop-next-init : goal.loop-next-init
 loop-next-init g c =
     let first = c.in_ok-class.ensures in
+    let path_is : c.in_ok-path.path ≡ [] = search rules in
     record {
       keeps = first.keeps;
       store = first.store;
@@ -17,6 +21,11 @@ loop-next-init g c =
       leads = λ s tells step quiet.
           let way = way-init (setting_of g.M.Matcher c.args.shared.now) (made_with c.args.excludes.now) s c.args.worktree_relative_root.now c.in_ok-class.class c.is_repository-in_repository.result
           (first.class s tells step quiet) (first.read s tells step quiet) c.is_repository-in_repository.ensures in search rules;
+      ends = λ s tells step r end.
+          let given = setting_of g.M.Matcher c.args.shared.now in
+          ends-init given.options (evidence given (made_with c.args.excludes.now) s) (λ p. on_disk given s.tree p true) (components c.args.worktree_relative_root.now) c.in_ok-path.path c.in_ok-class.class
+          c.is_repository-in_repository.result r path_is c.is_repository-in_repository.ensures (first.swallowed s tells step) end;
+      reads = rw path_is (root-asked (chosen c.args.shared.now.options).recurse_repositories _ _ _ _ c.in_ok-class.class first.reads);
     }
 
 pub class_on_way-requires-in-Some-clause-normal : goal.class_on_way-requires-in-Some-clause-normal
@@ -32,7 +41,7 @@ returns-in_err-class-2 g c =
     rw (p.1, p.2)
     (Reaches-refused g.W.Worktree g.F.Find c.args.worktree.now c.loop-next.worktree c.class_on_way-in-Some.new.worktree c.args.objects.now c.loop-next.objects c.class_on_way-in-Some.new.objects c.args.excludes.now c.loop-next.excludes c.class_on_way-in-Some.new.excludes
     (setting_of g.M.Matcher c.args.shared.now) c.args.worktree_relative_root.now c.loop-next.path c.in-Some.next.name.now c.loop-next.rest.now c.in-Some.next.rest.now c.loop-next.class c.is_repository-in_repository.result
-    c.loop-next.invariant c.in-Some.ensures.0 c.in-Some.ensures.1 c.in_err-class-2.field-0.0
+    c.loop-next.invariant c.in-Some.ensures.0 c.in-Some.ensures.1 c.in_err-class-2.field-0.0 (rw c.as_bytes.ensures at (sym c.goes_on.ensures ∙ c.if-not-goes_on.false))
     (rw (c.as_bytes-in-Some.ensures, c.in_ok-push_component.ensures.pushed) at c.in_err-class-2.ensures))
 
 pub loop-next-preserved : goal.loop-next-preserved
@@ -42,3 +51,33 @@ loop-next-preserved g c =
     (setting_of g.M.Matcher c.args.shared.now) c.args.worktree_relative_root.now c.loop-next.path c.in-Some.next.name.now c.loop-next.rest.now c.in-Some.next.rest.now c.loop-next.class c.is_repository-in_repository.result
     c.loop-next.invariant c.in-Some.ensures.0 c.in-Some.ensures.1 c.in_ok-class-2.class (rw c.as_bytes.ensures at (sym c.goes_on.ensures ∙ c.if-not-goes_on.false))
     (rw (c.as_bytes-in-Some.ensures, c.in_ok-push_component.ensures.pushed) at c.in_ok-class-2.ensures))
+
+pub class_on_way-requires-in-Some-clause-spelled : goal.class_on_way-requires-in-Some-clause-spelled
+class_on_way-requires-in-Some-clause-spelled g c =
+    rw (c.as_bytes-in-Some.ensures, c.in_ok-push_component.ensures.pushed)
+    (grown-spelled g.W.Worktree g.F.Find c.args.worktree.now c.loop-next.worktree c.loop-next.worktree c.args.objects.now c.loop-next.objects c.loop-next.objects c.args.excludes.now c.loop-next.excludes c.loop-next.excludes
+    (setting_of g.M.Matcher c.args.shared.now) c.args.worktree_relative_root.now c.loop-next.path c.in-Some.next.name.now c.loop-next.rest.now c.in-Some.next.rest.now c.loop-next.class c.is_repository-in_repository.result
+    c.loop-next.invariant c.in-Some.ensures.0 c.in-Some.ensures.1)
+
+pub returns-in_err-class : goal.returns-in_err-class
+returns-in_err-class g c =
+    let p = err_from_is_err_and c.from_residual-in_err-class.result c.from_residual-in_err-class.ensures.1 in
+    rw (p.1, p.2)
+    (Reaches-unrooted g.W.Worktree g.F.Find c.args.worktree.now c.class_on_way.new.worktree c.args.objects.now c.class_on_way.new.objects c.args.excludes.now c.class_on_way.new.excludes
+    (setting_of g.M.Matcher c.args.shared.now) c.args.worktree_relative_root.now c.in_err-class.field-0.0 c.in_err-class.ensures)
+
+pub returns-then-not-goes_on : goal.returns-then-not-goes_on
+returns-then-not-goes_on g c =
+    let given = setting_of g.M.Matcher c.args.shared.now in
+    let short = λ (s : Sources). ended-short given.options (evidence given (made_with c.args.excludes.now) s) (λ p. on_disk given s.tree p true) c.loop-next.path c.in-Some.next.name.now c.loop-next.class
+    c.is_repository-in_repository.result (components c.loop-next.rest.now) (components c.in-Some.next.rest.now) c.in-Some.ensures.0 (rw c.as_bytes.ensures at (sym c.goes_on.ensures ∙ c.if-not-goes_on.true)) in
+    Reaches-ended g.W.Worktree g.F.Find c.args.worktree.now c.loop-next.worktree c.args.objects.now c.loop-next.objects c.args.excludes.now c.loop-next.excludes given
+    c.args.worktree_relative_root.now c.loop-next.path c.loop-next.rest.now c.loop-next.class c.is_repository-in_repository.result c.loop-next.invariant c.requires.spelled
+    c.reached.result false c.reached.ensures (λ on. absurd (cc on)) (λ s. (short s).0) (λ s. (short s).1)
+
+pub returns-in_err-push_component : goal.returns-in_err-push_component
+returns-in_err-push_component g c =
+    let p = err_from_is_err_and c.from_residual-in_err-push_component.result c.from_residual-in_err-push_component.ensures.1 in
+    rw (p.1, p.2)
+    (Reaches-stopped g.W.Worktree g.F.Find c.args.worktree.now c.loop-next.worktree c.args.objects.now c.loop-next.objects c.args.excludes.now c.loop-next.excludes
+    (setting_of g.M.Matcher c.args.shared.now) c.args.worktree_relative_root.now c.loop-next.path c.loop-next.rest.now c.loop-next.class c.is_repository-in_repository.result c.loop-next.invariant)

@@ -1,361 +1,496 @@
-use Rattle.std.proofs.Common.{◌+◌, ◌≡◌, ◌≢◌, ◌<◌, ℕ, List, refl, ap, sym, ◌∙◌, subst, length, arith, eqb-true}
-use Rattle.std.specs.Prelude.{false, true}
-use Rattle.std.proofs.lemmas.Bool.{eqb-false}
-use Rattle.std.proofs.lemmas.Result.{err_from_is_err_and, IfErr-weaker, on_ok_weaker, on_err_weaker}
+use Rattle.std.proofs.Common.{◌≡◌, ◌⊎◌, inl, inr, Bool, ◌<◌, ◌+◌, ◌-◌, ◌&&◌, ℕ, List, None, ap, sym, refl, ◌∙◌, length, arith, eqb-true, true, false, subst}
+use Rattle.std.proofs.lemmas.Result.{IfOk-weaker, IfErr-weaker, on_err_weaker, err_from_is_err_and}
 use Rattle.gitbase_core.specs.Path.{is_empty, joined}
-use Rattle.worktree_fs.specs.Tree.{look}
-use Rattle.worktree_fs.specs.Naming.{AreNames}
 use Rattle.worktree_fs.specs.Answers.{ListsNames}
-use Rattle.dir_classify.specs.Chosen.{Chosen, chosen}
-use Rattle.dir_classify.specs.Evidence.{Evidence}
-use Rattle.dir_classify.specs.Excludes.{made_with, tells_excludes}
-use Rattle.dir_classify.specs.Layers.{evidence, setting_of}
-use Rattle.dir_walk.specs.Walked.{item, child_class}
-use Rattle.dir_walk.specs.Emits.{Gives, IsPart}
+use Rattle.worktree_fs.specs.Causes.{Increased, NotIncreased}
+use Rattle.worktree_fs.specs.Paths.{full_path}
+use Rattle.worktree_fs.specs.Tree.{look}
+use Rattle.dir_classify.specs.declared.error.Error.{Error}
+use Rattle.dir_classify.specs.Chosen.{chosen}
+use Rattle.dir_classify.specs.Class.{class, asks, enters, leaf_class}
+use Rattle.dir_classify.specs.Excludes.{made_with}
+use Rattle.dir_classify.specs.Faults.{IsJudged}
+use Rattle.dir_classify.specs.Layers.{setting_of, evidence, on_disk}
+use Rattle.dir_walk.specs.Given.{OnRefused}
+use Rattle.dir_walk.specs.Placed.{Standing}
+use Rattle.dir_walk.specs.Refused.{Refuses, DirectoryRefuses}
 use Rattle.dir_walk.specs.Report.{depth_of}
-use Rattle.dir_walk.specs.Refused.{DirectoryRefuses, Refuses}
-use Rattle.dir_walk.proofs.Emitting.{Extends-none, Extends-then}
-use Rattle.dir_walk.proofs.Keeping.{KeepsAll-listed, KeepsAll-classed, KeepsAll-then, stands-kept}
-use Rattle.dir_walk.proofs.Named.{SoFar-none, SoFar-more, listed-at}
-use Rattle.dir_walk.proofs.Listed.{Gives-empty, Gives-listed}
-use Rattle.dir_walk.proofs.Parts.{IsPart-so_far, IsPart-child, IsPart-entered}
-use Rattle.dir_walk.proofs.Refusals.{DirectoryRefuses-name, Refuses-directory, Refuses-class, IsAbout-class, IsInTree-class, IsInTree-open, IsTooDeep-name, OnInterrupted-class}
-use Rattle.dir_walk.proofs.Steps.{Child, name-at, child-some, child-level, child-placed, class-node, read-node, access-node, telling, Gives-unentered, Gives-entered}
+use Rattle.dir_walk.specs.Emits.{Gives}
+use Rattle.dir_walk.specs.Told.{look_name, look_directory, item_told, directory_told}
+use Rattle.dir_walk.proofs.Emitting.{Within-all}
+use Rattle.dir_walk.proofs.Ending.{Caused-later, Caused-memory}
+use Rattle.dir_walk.proofs.Keeping.{Heeds-after, KeepsDelegate-same, KeepsDelegate-then, KeepsRules-same, KeepsRules-then, AsksStore-same, AsksStore-then, KeepsTree-then, AsksInterrupt-then}
+use Rattle.dir_walk.proofs.Opening.{opens-none, opens-then, opens-still, opens-end, opens-one, opens-refused, opens-below, opens-class, hides-none}
+use Rattle.dir_walk.proofs.Listed.{HasNames-listed, HasPaths-name, Gives-empty, Gives-listed, part-empty, part-name, part-close}
+use Rattle.dir_walk.proofs.Named.{SoFar-none, SoFar-more}
+use Rattle.dir_walk.proofs.JoinedPaths.{joined-some}
+use Rattle.dir_walk.proofs.Placed.{depth_of-joined}
+use Rattle.dir_walk.proofs.Steps.{IsEvidence-told, telling, Stands-later, Gives-leaf, Gives-directory, Gives-put, HasPaths-told, enter-told, among-asked, part-leaf, part-directory, part-put}
+use Rattle.dir_walk.proofs.Rooms.{Hands-none, Hands-leaf, Hands-empty, Hands-refused, Hands-closed, Puts-start, Puts-name}
+use Rattle.dir_walk.proofs.Judged.{indexed-unlisted}
+use Rattle.dir_walk.proofs.Refusals.{HasPaths, IsAbout-class, IsAbout-deep, IsInTree-class, IsInTree-open, Refuses-class, Refuses-deep, Refuses-directory, DirectoryRefuses-name, memory-only, refused-any, rose-or, either}
 use Rattle.dir_walk.proofs.directory.+walk.Goals as goal
+
+pub walk_directory-returns-in_err-names-clause-delegate : goal.walk_directory-returns-in_err-names-clause-delegate
+walk_directory-returns-in_err-names-clause-delegate g t c = KeepsDelegate-same
+
+pub walk_directory-returns-in_err-names-clause-caused : goal.walk_directory-returns-in_err-names-clause-caused
+walk_directory-returns-in_err-names-clause-caused g t c =
+    let p = err_from_is_err_and c.from_residual.result c.from_residual.ensures.1 in let stored = g.F.Find.faults c.args.objects.now in
+    rw (p.1, p.2) (record { fault = c.in_err-names.ensures.fault stored stored; interrupt = c.in_err-names.ensures.raised; listed = tt; calm = tt })
+
+pub walk_directory-returns-then-is_empty-clause-gives : goal.walk_directory-returns-then-is_empty-clause-gives
+walk_directory-returns-then-is_empty-clause-gives g t c = λ made s stands quiet default limit level.
+    let a = c.args in let told = g.D.Delegate.given in let given = setting_of g.M.Matcher a.shared.now in
+    let d = a.place.now.path in let ev = evidence given made s in let names = c.in_ok-names.names in
+    let bare : length names ≡ 0 = ap length (sym c.as_slice.ensures) ∙ eqb-true (length c.as_slice.result.now) 0 (sym c.is_empty.ensures ∙ c.if-is_empty.true) in
+    let lists : ListsNames (look_directory given s.tree d) names = rw c.requires.root at (c.in_ok-names.ensures.lists s.tree stands.tree) in
+    let opened = c.in_ok-names.ensures.counted (told a.delegate.now) in let is = IsEvidence-told given made s a.blocked.now stands.blocked_is in
+    IfOk-weaker c.close_empty.result _ _ (λ h closes. Gives-empty given made s d a.class.now names lists bare limit _ _ _ _ _ _ h (omega (arith, level)) opened closes)
+    (rw c.path-path.ensures.path at (c.close_empty.ensures.gives ev is))
+
+pub walk_directory-returns-then-is_empty-clause-part : goal.walk_directory-returns-then-is_empty-clause-part
+walk_directory-returns-then-is_empty-clause-part g t c = λ made s stands quiet default.
+    let a = c.args in let given = setting_of g.M.Matcher a.shared.now in let d = a.place.now.path in let ev = evidence given made s in
+    let names = c.in_ok-names.names in
+    let bare : length names ≡ 0 = ap length (sym c.as_slice.ensures) ∙ eqb-true (length c.as_slice.result.now) 0 (sym c.is_empty.ensures ∙ c.if-is_empty.true) in
+    let lists : ListsNames (look_directory given s.tree d) names = rw c.requires.root at (c.in_ok-names.ensures.lists s.tree stands.tree) in
+    let opened = c.in_ok-names.ensures.counted (g.D.Delegate.given a.delegate.now) in
+    let is = IsEvidence-told given made s a.blocked.now stands.blocked_is in
+    on_err_weaker c.close_empty.result (λ part. part-empty given made s d a.class.now names lists bare _ _ _ a.outcome.now c.open.new.outcome opened part) (rw c.path-path.ensures.path at (c.close_empty.ensures.part ev is))
+
+pub walk_directory-loop-name-init : goal.walk_directory-loop-name-init
+walk_directory-loop-name-init g t c =
+    let a = c.args in let told = g.D.Delegate.given in let given = setting_of g.M.Matcher a.shared.now in
+    record {
+      worktree = let opened = c.open.ensures.worktree in record { tree = opened.tree; faults = opened.faults; list_faults = opened.list_faults; lists = opened.lists; precomposes = opened.precomposes };
+      store = AsksStore-same;
+      rules = KeepsRules-same;
+      interrupt = c.open.ensures.interrupt;
+      opens = opens-one c.in_ok-names.ensures.opens c.open.ensures.reads;
+      puts = Puts-start a.place.now.path c.as_slice-name-items.result.now c.open.ensures.returned c.open.ensures.seen c.new-held.ensures.entries;
+      delegate = KeepsDelegate-same;
+      listed = c.in_ok-names.ensures.listed;
+      calm = c.in_ok-names.ensures.calm;
+      kept_on = refl;
+      so_far = λ made s stands quiet default limit level.
+          rw (c.new-held.ensures.entries, c.new-held.ensures.blocked) (SoFar-none given made s limit a.place.now.path (told a.delegate.now) (told a.delegate.now) a.outcome.now c.open.new.outcome (c.in_ok-names.ensures.counted (told a.delegate.now)));
+    }
+
+pub walk_directory-returns-in_err-handed-clause-part : goal.walk_directory-returns-in_err-handed-clause-part
+walk_directory-returns-in_err-handed-clause-part g t c = λ made s stands quiet default.
+    let a = c.args in let w = g.W.Worktree in let given = setting_of g.M.Matcher a.shared.now in let d = a.place.now.path in
+    let has = HasNames-listed given s.tree d c.as_slice.ensures c.is_empty.ensures c.if-is_empty.false c.as_slice-name-items.ensures c.in_ok-names.ensures.names (rw c.requires.root at (c.in_ok-names.ensures.lists s.tree stands.tree)) in
+    let kept = c.loop-name.invariant in
+    let now = Stands-later given c.loop-name.excludes kept.worktree.tree kept.store.holds kept.rules.made kept.rules.in_step stands in
+    let before : NotIncreased (w.faults a.worktree.now) (w.faults c.loop-name.worktree) = omega (arith, quiet, c.walk_name.ensures.worktree.faults) in
+    let here : NotIncreased (w.faults c.loop-name.worktree) (w.faults c.walk_name.new.worktree) = omega (arith, quiet, kept.worktree.faults) in
+    let so_far = kept.so_far made s stands before default (a.levels + depth_of d) refl in
+    let p = err_from_is_err_and c.from_residual-in_err-handed.result c.from_residual-in_err-handed.ensures.1 in
+    rw p.1 (part-name given made s d a.class.now c.as_slice-name-items.result.now has.lists has.are c.path-path.ensures.plain has.some (a.levels + depth_of d) c.loop-name.name-index c.name-item.result _ _ _ _ _ _ _ c.loop-name-test.true c.name-item.is so_far
+    (rw c.as_bytes.ensures at (c.in_err-handed.ensures.part made s now here (kept.delegate.default ∙ default))))
+
+pub walk_directory-returns-in_err-handed-clause-rules : goal.walk_directory-returns-in_err-handed-clause-rules
+walk_directory-returns-in_err-handed-clause-rules g t c = let kept = c.loop-name.invariant in KeepsRules-then kept.worktree.tree kept.store.holds kept.rules c.walk_name.ensures.rules
+
+pub walk_directory-returns-in_err-handed-clause-delegate : goal.walk_directory-returns-in_err-handed-clause-delegate
+walk_directory-returns-in_err-handed-clause-delegate g t c = KeepsDelegate-then c.loop-name.invariant.delegate c.walk_name.ensures.delegate
+
+pub walk_directory-returns-in_err-take-clause-part : goal.walk_directory-returns-in_err-take-clause-part
+walk_directory-returns-in_err-take-clause-part g t c = λ made s stands quiet default.
+    let a = c.args in let w = g.W.Worktree in let told = g.D.Delegate.given in let o = chosen a.shared.now.options in
+    let given = setting_of g.M.Matcher a.shared.now in let d = a.place.now.path in let ev = evidence given made s in
+    let has = HasNames-listed given s.tree d c.as_slice.ensures c.is_empty.ensures c.if-is_empty.false c.as_slice-name-items.ensures c.in_ok-names.ensures.names (rw c.requires.root at (c.in_ok-names.ensures.lists s.tree stands.tree)) in
+    let kept = c.loop-name.invariant in
+    let now = Stands-later given c.loop-name.excludes kept.worktree.tree kept.store.holds kept.rules.made kept.rules.in_step stands in
+    let before : NotIncreased (w.faults a.worktree.now) (w.faults c.loop-name.worktree) = omega (arith, quiet, c.walk_name.ensures.worktree.faults) in
+    let here : NotIncreased (w.faults c.loop-name.worktree) (w.faults c.walk_name.new.worktree) = omega (arith, quiet, kept.worktree.faults) in
+    let name = c.name-item.result in
+    let gives : Gives o (a.levels + depth_of d) ev (item_told given made s (joined d name)) (told c.loop-name.delegate) (told c.walk_name.new.delegate) c.loop-name.outcome c.walk_name.new.outcome c.in_ok-handed.handed =
+    rw c.as_bytes.ensures at (c.in_ok-handed.ensures.gives made s now here (kept.delegate.default ∙ default) (a.levels + depth_of d) refl) in
+    let so_far = kept.so_far made s stands before default (a.levels + depth_of d) refl in
+    let p = err_from_is_err_and c.from_residual-in_err-take.result c.from_residual-in_err-take.ensures.1 in
+    rw p.1 (part-name given made s d a.class.now c.as_slice-name-items.result.now has.lists has.are c.path-path.ensures.plain has.some (a.levels + depth_of d) c.loop-name.name-index name _ _ _ _ _ _ _ c.loop-name-test.true c.name-item.is so_far (Within-all _ _ _ _ _ _ _ _ gives.emits (λ q. omega arith)))
+
+pub walk_directory-returns-in_err-take-clause-rules : goal.walk_directory-returns-in_err-take-clause-rules
+walk_directory-returns-in_err-take-clause-rules g t c = let kept = c.loop-name.invariant in KeepsRules-then kept.worktree.tree kept.store.holds kept.rules c.walk_name.ensures.rules
+
+pub walk_directory-returns-in_err-take-clause-delegate : goal.walk_directory-returns-in_err-take-clause-delegate
+walk_directory-returns-in_err-take-clause-delegate g t c = KeepsDelegate-then c.loop-name.invariant.delegate c.walk_name.ensures.delegate
+
+pub walk_directory-loop-name-preserved : goal.walk_directory-loop-name-preserved
+walk_directory-loop-name-preserved g t c =
+    let kept = c.loop-name.invariant in
+    record {
+      worktree = KeepsTree-then kept.worktree c.walk_name.ensures.worktree;
+      store = AsksStore-then kept.store c.walk_name.ensures.store;
+      rules = KeepsRules-then kept.worktree.tree kept.store.holds kept.rules c.walk_name.ensures.rules;
+      interrupt = AsksInterrupt-then kept.interrupt c.walk_name.ensures.interrupt;
+      opens = opens-then kept.opens c.in_ok-handed.ensures.opens;
+      puts = rw c.in_ok-take.ensures.entries (Puts-name c.args.place.now.path c.as_slice-name-items.result.now c.loop-name.name-index c.name-item.result c.loop-name-test.true c.name-item.is kept.puts (rw c.as_bytes.ensures at c.in_ok-handed.ensures.hands.puts));
+      delegate = KeepsDelegate-then kept.delegate c.walk_name.ensures.delegate;
+      listed = c.in_ok-handed.ensures.caused.listed ∙ kept.listed;
+      calm = c.in_ok-handed.ensures.caused.calm ∙ kept.calm;
+      kept_on = c.in_ok-handed.ensures.heeds.kept_on ∙ kept.kept_on;
+      so_far = λ made s stands quiet default limit level.
+          let a = c.args in let w = g.W.Worktree in let told = g.D.Delegate.given in let o = chosen a.shared.now.options in
+          let given = setting_of g.M.Matcher a.shared.now in let d = a.place.now.path in let ev = evidence given made s in
+          let now = Stands-later given c.loop-name.excludes kept.worktree.tree kept.store.holds kept.rules.made kept.rules.in_step stands in
+          let before : NotIncreased (w.faults a.worktree.now) (w.faults c.loop-name.worktree) = omega (arith, quiet, c.walk_name.ensures.worktree.faults) in
+          let here : NotIncreased (w.faults c.loop-name.worktree) (w.faults c.walk_name.new.worktree) = omega (arith, quiet, kept.worktree.faults) in
+          let name = c.name-item.result in
+          let gives : Gives o limit ev (item_told given made s (joined d name)) (told c.loop-name.delegate) (told c.walk_name.new.delegate) c.loop-name.outcome c.walk_name.new.outcome c.in_ok-handed.handed =
+          rw c.as_bytes.ensures at (c.in_ok-handed.ensures.gives made s now here (kept.delegate.default ∙ default) limit level) in
+          SoFar-more given made s limit d c.as_slice-name-items.result.now c.loop-name.name-index name _ _ _ _ _ _ _ _ _ _ c.in_ok-handed.handed c.loop-name-test.true c.name-item.is (kept.so_far made s stands before default limit level) gives c.in_ok-take.ensures.entries c.in_ok-take.ensures.blocked;
+    }
+
+pub walk_directory-returns-clause-gives : goal.walk_directory-returns-clause-gives
+walk_directory-returns-clause-gives g t c = λ made s stands quiet default limit level.
+    let a = c.args in let given = setting_of g.M.Matcher a.shared.now in
+    let d = a.place.now.path in let ev = evidence given made s in
+    let has = HasNames-listed given s.tree d c.as_slice.ensures c.is_empty.ensures c.if-is_empty.false c.as_slice-name-items.ensures c.in_ok-names.ensures.names (rw c.requires.root at (c.in_ok-names.ensures.lists s.tree stands.tree)) in
+    let held = c.loop-name.held in let is = IsEvidence-told given made s a.blocked.now stands.blocked_is in
+    IfOk-weaker c.close.result _ _ (λ h closes. Gives-listed given made s d a.class.now c.as_slice-name-items.result.now has.lists has.are c.path-path.ensures.plain has.some limit c.loop-name.name-index _ _ _ _ _ held.entries.items held.blocked c.loop-name-test.false (c.loop-name.invariant.so_far made s stands quiet default limit level) _ h (omega (arith, level)) closes)
+    (rw c.path-path.ensures.path at (c.close.ensures.gives ev is))
+
+pub walk_directory-returns-clause-part : goal.walk_directory-returns-clause-part
+walk_directory-returns-clause-part g t c = λ made s stands quiet default.
+    let a = c.args in let told = g.D.Delegate.given in let given = setting_of g.M.Matcher a.shared.now in let d = a.place.now.path in
+    let ev = evidence given made s in
+    let has = HasNames-listed given s.tree d c.as_slice.ensures c.is_empty.ensures c.if-is_empty.false c.as_slice-name-items.ensures c.in_ok-names.ensures.names (rw c.requires.root at (c.in_ok-names.ensures.lists s.tree stands.tree)) in
+    let held = c.loop-name.held in let is = IsEvidence-told given made s a.blocked.now stands.blocked_is in
+    let so_far = c.loop-name.invariant.so_far made s stands quiet default (a.levels + depth_of d) refl in
+    on_err_weaker c.close.result (λ part. part-close given made s d a.class.now c.as_slice-name-items.result.now has.lists has.are c.path-path.ensures.plain has.some (a.levels + depth_of d) c.loop-name.name-index (told a.delegate.now) (told c.loop-name.delegate) (told c.close.new.delegate) a.outcome.now c.loop-name.outcome held.entries.items held.blocked c.loop-name-test.false so_far part)
+    (rw c.path-path.ensures.path at (c.close.ensures.part ev is))
+
+pub walk_directory-returns-clause-delegate : goal.walk_directory-returns-clause-delegate
+walk_directory-returns-clause-delegate g t c = KeepsDelegate-then c.loop-name.invariant.delegate c.close.ensures.delegate
+
+pub walk_name-returns-then-is_entered-clause-gives : goal.walk_name-returns-then-is_entered-clause-gives
+walk_name-returns-then-is_entered-clause-gives g t c = λ made s stands quiet default limit level.
+    let a = c.args in let w = g.W.Worktree in let o = chosen a.shared.now.options in
+    let given = setting_of g.M.Matcher a.shared.now in let ev = evidence given made s in let d = a.directory.now.path in
+    let q = joined d a.name.now in let p = c.set_child.new.self.path in let at = ap (λ (x : Standing). x.path) c.in_ok-set_child.ensures in
+    let k = c.in_ok-class.class in
+    let asked : NotIncreased (w.faults a.worktree.now) (w.faults c.at.new.worktree) = omega (arith, quiet, c.walk_directory.ensures.worktree.faults) in
+    let here : NotIncreased (w.faults c.at.new.worktree) (w.faults c.walk_directory.new.worktree) = omega (arith, quiet, c.at.ensures.keeps.faults) in
+    let is : k ≡ class o ev p None (on_disk given s.tree p true) = rw (c.path-path.ensures.path, stands.made_is) at (c.in_ok-class.ensures.class s (telling stands) stands.in_step asked) in
+    let read : (asks o ev p None (on_disk given s.tree p true) && ev.is_unread p) ≡ false = rw (c.path-path.ensures.path, stands.made_is) at (c.in_ok-class.ensures.read s (telling stands) stands.in_step asked) in
+    let now = Stands-later given c.at.new.excludes c.at.ensures.keeps.tree c.at.ensures.store.holds c.at.ensures.rules.made c.at.ensures.rules.in_step stands in
+    let some : is_empty p ≡ false = ap is_empty at ∙ joined-some d a.name.now c.requires.name in
+    let into : enters o k false ≡ true = sym (c.is_entered.ensures.entered default) ∙ c.if-is_entered.true in
+    let deeper : (a.levels - 1) + depth_of p ≡ limit = omega (arith, level, c.if-levels-eq0.false, ap depth_of at, depth_of-joined d a.name.now c.requires.name) in
+    IfOk-weaker c.walk_directory.result _ _ (λ h gives. Gives-directory given made s p k is q at _ _ limit _ _ h read some into gives)
+    (rw c.is_entered.ensures.given at (c.walk_directory.ensures.gives made s now here (c.is_entered.ensures.default ∙ default) limit deeper))
+
+pub walk_name-returns-then-is_entered-clause-part : goal.walk_name-returns-then-is_entered-clause-part
+walk_name-returns-then-is_entered-clause-part g t c = λ made s stands quiet default.
+    let a = c.args in let w = g.W.Worktree in let o = chosen a.shared.now.options in let given = setting_of g.M.Matcher a.shared.now in
+    let ev = evidence given made s in let d = a.directory.now.path in let q = joined d a.name.now in let p = c.set_child.new.self.path in
+    let at = ap (λ (x : Standing). x.path) c.in_ok-set_child.ensures in let k = c.in_ok-class.class in
+    let asked : NotIncreased (w.faults a.worktree.now) (w.faults c.at.new.worktree) = omega (arith, quiet, c.walk_directory.ensures.worktree.faults) in
+    let here : NotIncreased (w.faults c.at.new.worktree) (w.faults c.walk_directory.new.worktree) = omega (arith, quiet, c.at.ensures.keeps.faults) in
+    let is : k ≡ class o ev p None (on_disk given s.tree p true) = rw (c.path-path.ensures.path, stands.made_is) at (c.in_ok-class.ensures.class s (telling stands) stands.in_step asked) in
+    let now = Stands-later given c.at.new.excludes c.at.ensures.keeps.tree c.at.ensures.store.holds c.at.ensures.rules.made c.at.ensures.rules.in_step stands in
+    let some : is_empty p ≡ false = ap is_empty at ∙ joined-some d a.name.now c.requires.name in
+    let into : enters o k false ≡ true = sym (c.is_entered.ensures.entered default) ∙ c.if-is_entered.true in
+    on_err_weaker c.walk_directory.result (λ part. part-directory given made s p k is q at _ _ some into part)
+    (rw c.is_entered.ensures.given at (c.walk_directory.ensures.part made s now here (c.is_entered.ensures.default ∙ default)))
+
+pub walk_name-returns-clause-gives : goal.walk_name-returns-clause-gives
+walk_name-returns-clause-gives g t c = λ made s stands quiet default limit level.
+    let a = c.args in let w = g.W.Worktree in let o = chosen a.shared.now.options in
+    let given = setting_of g.M.Matcher a.shared.now in let ev = evidence given made s in let q = joined a.directory.now.path a.name.now in
+    let p = c.set_child.new.self.path in let at = ap (λ (x : Standing). x.path) c.in_ok-set_child.ensures in let k = c.in_ok-class.class in
+    let asked : NotIncreased (w.faults a.worktree.now) (w.faults c.at.new.worktree) = omega (arith, quiet, c.leaf_class.ensures.worktree.faults) in
+    let here : NotIncreased (w.faults c.at.new.worktree) (w.faults c.leaf_class.new.worktree) = omega (arith, quiet, c.at.ensures.keeps.faults) in
+    let is : k ≡ class o ev p None (on_disk given s.tree p true) = rw (c.path-path.ensures.path, stands.made_is) at (c.in_ok-class.ensures.class s (telling stands) stands.in_step asked) in
+    let read : (asks o ev p None (on_disk given s.tree p true) && ev.is_unread p) ≡ false = rw (c.path-path.ensures.path, stands.made_is) at (c.in_ok-class.ensures.read s (telling stands) stands.in_step asked) in
+    let leaving : enters o k false ≡ false = sym (c.is_entered.ensures.entered default) ∙ c.if-is_entered.false in let z = c.in_ok-class-2.class in
+    let hides : z ≡ leaf_class o ev p k = c.in_ok-class-2.ensures.class made s (c.at.ensures.keeps.tree ∙ stands.tree) here in
+    IfOk-weaker c.put_leaf.result _ _ (λ h closes. Gives-leaf given made s p k is q at _ _ limit _ _ h read leaving (Gives-put o limit ev p k z _ _ _ _ h hides closes))
+    (rw (c.path-path.ensures.path, c.is_entered.ensures.given) at c.put_leaf.ensures.gives)
+
+pub walk_name-returns-clause-part : goal.walk_name-returns-clause-part
+walk_name-returns-clause-part g t c = λ made s stands quiet default.
+    let a = c.args in let w = g.W.Worktree in let o = chosen a.shared.now.options in let given = setting_of g.M.Matcher a.shared.now in
+    let ev = evidence given made s in let q = joined a.directory.now.path a.name.now in let p = c.set_child.new.self.path in
+    let at = ap (λ (x : Standing). x.path) c.in_ok-set_child.ensures in let k = c.in_ok-class.class in
+    let asked : NotIncreased (w.faults a.worktree.now) (w.faults c.at.new.worktree) = omega (arith, quiet, c.leaf_class.ensures.worktree.faults) in
+    let here : NotIncreased (w.faults c.at.new.worktree) (w.faults c.leaf_class.new.worktree) = omega (arith, quiet, c.at.ensures.keeps.faults) in
+    let is : k ≡ class o ev p None (on_disk given s.tree p true) = rw (c.path-path.ensures.path, stands.made_is) at (c.in_ok-class.ensures.class s (telling stands) stands.in_step asked) in
+    let leaving : enters o k false ≡ false = sym (c.is_entered.ensures.entered default) ∙ c.if-is_entered.false in let z = c.in_ok-class-2.class in
+    let hides : z ≡ leaf_class o ev p k = c.in_ok-class-2.ensures.class made s (c.at.ensures.keeps.tree ∙ stands.tree) here in
+    on_err_weaker c.put_leaf.result (λ part. part-leaf given made s p k is q at _ _ leaving (part-put o ev p k z _ _ hides part))
+    (rw (c.path-path.ensures.path, c.is_entered.ensures.given) at c.put_leaf.ensures.part)
 
 pub walk_directory-returns-in_err-names-clause-about : goal.walk_directory-returns-in_err-names-clause-about
 walk_directory-returns-in_err-names-clause-about g t c = λ limit level.
     let p = err_from_is_err_and c.from_residual.result c.from_residual.ensures.1 in
-    rw (p.1, p.2) (c.in_err-names.ensures.about (made_with c.args.excludes.now) c.args.shared.now.worktree_root.now c.requires.placed limit)
-
-pub walk_directory-returns-in_err-names-clause-interrupted : goal.walk_directory-returns-in_err-names-clause-interrupted
-walk_directory-returns-in_err-names-clause-interrupted g t c =
-    let p = err_from_is_err_and c.from_residual.result c.from_residual.ensures.1 in
-    rw (p.1, p.2) (c.in_err-names.ensures.uninterrupted (g.I.Interrupt.raised c.args.interrupt.now) (g.I.Interrupt.raised c.args.interrupt.now))
-
-pub walk_directory-returns-in_err-names-clause-cause : goal.walk_directory-returns-in_err-names-clause-cause
-walk_directory-returns-in_err-names-clause-cause g t c =
-    let p = err_from_is_err_and c.from_residual.result c.from_residual.ensures.1 in
-    rw (p.1, p.2) (c.in_err-names.ensures.cause (g.F.Find.faults c.args.objects.now) (g.F.Find.faults c.args.objects.now))
+    rw (p.1, p.2) (rw c.requires.root at (c.in_err-names.ensures.about (made_with c.args.excludes.now) limit))
 
 pub walk_directory-returns-in_err-names-clause-found : goal.walk_directory-returns-in_err-names-clause-found
 walk_directory-returns-in_err-names-clause-found g t c = λ s told.
-    let place = c.args.place.now in
+    let a = c.args in let p = err_from_is_err_and c.from_residual.result c.from_residual.ensures.1 in
+    rw (p.1, p.2) (IsInTree-open (g.F.Find.holds a.objects.now) s (made_with a.excludes.now) _ _ _ (c.in_err-names.ensures.refused s.tree told))
+
+pub walk_directory-returns-in_err-names-clause-refused : goal.walk_directory-returns-in_err-names-clause-refused
+walk_directory-returns-in_err-names-clause-refused g t c = λ made s stands default limit level.
     let p = err_from_is_err_and c.from_residual.result c.from_residual.ensures.1 in
-    rw (p.1, p.2) (IsInTree-open (g.F.Find.holds c.args.objects.now) s (made_with c.args.excludes.now) place.full (is_empty place.rela) c.in_err-names.field-0.0 (c.in_err-names.ensures.refused s.tree told))
+    rw (p.1, p.2) (inl (rw c.requires.root at (c.in_err-names.ensures.refused s.tree stands.tree)))
 
-pub walk_directory-returns-then-is_empty-clause-gives : goal.walk_directory-returns-then-is_empty-clause-gives
-walk_directory-returns-then-is_empty-clause-gives g t c = λ s made stands quiet limit level.
-    let o : Chosen = chosen c.args.shared.now.options in
-    let ev : Evidence = evidence (setting_of g.M.Matcher c.args.shared.now) made s in
-    let place = c.args.place.now in
-    let entries = c.args.delegate.now.unorded_entries in
-    let bare : length c.in_ok-names.names ≡ 0 = ap length (sym c.as_slice.ensures) ∙ eqb-true (length c.as_slice.result.now) 0 (sym c.is_empty.ensures ∙ c.if-is_empty.true) in
-    Gives-empty o limit ev s.tree place.full place.rela c.args.class.now (omega (arith, level))
-    c.in_ok-names.names (c.in_ok-names.ensures.lists s.tree stands.tree) entries entries c.emit.new.delegate.unorded_entries
-    c.args.outcome.now c.open.new.outcome c.emit.new.outcome bare (c.in_ok-names.ensures.counted entries)
-    (rw (c.as_bytes-rela.ensures) at (rw (c.empty_class-class.ensures made s) at c.in_ok-emit.ensures.emits))
+pub walk_directory-returns-then-is_empty-clause-about : goal.walk_directory-returns-then-is_empty-clause-about
+walk_directory-returns-then-is_empty-clause-about g t c = λ limit level. memory-only c.close_empty.result _ tt c.close_empty.ensures.memory
 
-pub walk_directory-loop-name-init : goal.walk_directory-loop-name-init
-walk_directory-loop-name-init g t c =
-    let place = c.args.place.now in
-    let entries = c.args.delegate.now.unorded_entries in
-    record {
-      keeps = KeepsAll-listed c.open.ensures.keeps;
-      kept = c.in_ok-names.ensures.kept;
-      asks = record { raised = omega arith; questions = omega (arith, c.open.ensures.read) };
-      extends = Extends-none entries;
-      so_far = λ s made stands quiet limit level.
-          let o : Chosen = chosen c.args.shared.now.options in
-          let ev : Evidence = evidence (setting_of g.M.Matcher c.args.shared.now) made s in
-          SoFar-none o limit ev s.tree place.full place.rela entries entries c.args.outcome.now c.open.new.outcome (c.in_ok-names.ensures.counted entries);
-    }
+pub walk_directory-returns-then-is_empty-clause-found : goal.walk_directory-returns-then-is_empty-clause-found
+walk_directory-returns-then-is_empty-clause-found g t c = λ s told. memory-only c.close_empty.result _ tt c.close_empty.ensures.memory
 
-pub walk_directory-returns-in_err-walk_name-clause-about : goal.walk_directory-returns-in_err-walk_name-clause-about
-walk_directory-returns-in_err-walk_name-clause-about g t c = λ limit level.
-    let place = c.args.place.now in
-    let at = c.set_child.new.self in
-    let name = c.name-item.result in
-    let listed = c.as_slice-name-items.result.now in
-    let are : AreNames listed = rw c.as_slice-name-items.ensures c.in_ok-names.ensures.names in
-    let p = err_from_is_err_and c.from_residual-in_err-walk_name.result c.from_residual-in_err-walk_name.ensures.1 in
-    let child : Child place.full place.rela at.full at.rela name =
-    record {
-      is_name = name-at listed c.loop-name.name-index name c.loop-name-test.true c.name-item.is are;
-      full_is = c.in_ok-set_child.ensures.full ∙ ap (joined place.full) c.as_bytes.ensures;
-      rela_is = c.in_ok-set_child.ensures.rela ∙ ap (joined place.rela) c.as_bytes.ensures;
-    } in
-    rw (p.1, p.2)
-    (rw c.loop-name.invariant.keeps.rules.made at (c.in_err-walk_name.ensures.about limit (child-level place.full place.rela at.full at.rela name c.args.levels limit child level)))
+pub walk_directory-returns-then-is_empty-clause-refused : goal.walk_directory-returns-then-is_empty-clause-refused
+walk_directory-returns-then-is_empty-clause-refused g t c = λ made s stands default limit level. memory-only c.close_empty.result _ (inl tt) c.close_empty.ensures.memory
 
-pub walk_directory-returns-in_err-walk_name-clause-found : goal.walk_directory-returns-in_err-walk_name-clause-found
-walk_directory-returns-in_err-walk_name-clause-found g t c = λ s told.
-    let place = c.args.place.now in
-    let keeps0 = c.loop-name.invariant.keeps in
-    let p = err_from_is_err_and c.from_residual-in_err-walk_name.result c.from_residual-in_err-walk_name.ensures.1 in
-    rw (p.1, p.2) (rw (keeps0.store.holds, keeps0.rules.made) at (c.in_err-walk_name.ensures.found s (keeps0.tree ∙ told)))
+pub walk_directory-returns-clause-about : goal.walk_directory-returns-clause-about
+walk_directory-returns-clause-about g t c = λ limit level. memory-only c.close.result _ tt c.close.ensures.memory
 
-pub walk_directory-returns-in_err-walk_name-clause-refused : goal.walk_directory-returns-in_err-walk_name-clause-refused
-walk_directory-returns-in_err-walk_name-clause-refused g t c = λ s made stands quiet limit level.
-    let o : Chosen = chosen c.args.shared.now.options in
-    let ev : Evidence = evidence (setting_of g.M.Matcher c.args.shared.now) made s in
-    let place = c.args.place.now in
-    let at = c.set_child.new.self in
-    let name = c.name-item.result in
-    let listed = c.as_slice-name-items.result.now in
-    let are : AreNames listed = rw c.as_slice-name-items.ensures c.in_ok-names.ensures.names in
-    let lists : ListsNames (look s.tree place.full (is_empty place.rela)) listed = rw c.as_slice-name-items.ensures (c.in_ok-names.ensures.lists s.tree stands.tree) in
-    let entry = listed-at s.tree place.full place.rela listed c.loop-name.name-index name c.loop-name-test.true c.name-item.is are lists in
-    let p = err_from_is_err_and c.from_residual-in_err-walk_name.result c.from_residual-in_err-walk_name.ensures.1 in
-    let child : Child place.full place.rela at.full at.rela name =
-    record {
-      is_name = entry.is_name;
-      full_is = c.in_ok-set_child.ensures.full ∙ ap (joined place.full) c.as_bytes.ensures;
-      rela_is = c.in_ok-set_child.ensures.rela ∙ ap (joined place.rela) c.as_bytes.ensures;
-    } in
-    let keeps0 = c.loop-name.invariant.keeps in
-    let keeps1 = c.walk_name.ensures.keeps in
-    let root = c.args.shared.now.worktree_root.now in
-    let e = c.in_err-walk_name.field-0.0 in
-    let refused = c.in_err-walk_name.ensures.refused s made (stands-kept keeps0 stands) (omega (arith, quiet, keeps0.faults, keeps1.faults))
-    (child-some place.full place.rela at.full at.rela name child) entry.node (ap (λ (q : List ℕ). look s.tree q false) child.full_is ∙ entry.there)
-    limit (child-level place.full place.rela at.full at.rela name c.args.levels limit child level) in
-    let within : Refuses s made o ev root limit (item o ev (joined place.rela name) entry.node) e =
-    subst (λ (q : List ℕ). Refuses s made o ev root limit (item o ev q entry.node) e) child.rela_is refused in
-    rw (p.1, p.2) (DirectoryRefuses-name s made o ev root limit place.full place.rela c.args.class.now lists.names name entry.node e lists.directory_found entry.stands within)
+pub walk_directory-returns-clause-found : goal.walk_directory-returns-clause-found
+walk_directory-returns-clause-found g t c = λ s told. memory-only c.close.result _ tt c.close.ensures.memory
 
-pub walk_directory-loop-name-preserved : goal.walk_directory-loop-name-preserved
-walk_directory-loop-name-preserved g t c =
-    let place = c.args.place.now in
-    let at = c.set_child.new.self in
-    let name = c.name-item.result in
-    let listed = c.as_slice-name-items.result.now in
-    let are : AreNames listed = rw c.as_slice-name-items.ensures c.in_ok-names.ensures.names in
-    let keeps0 = c.loop-name.invariant.keeps in
-    let keeps1 = c.walk_name.ensures.keeps in
-    let asks0 = c.loop-name.invariant.asks in
-    let asks1 = c.walk_name.ensures.asks in
-    record {
-      keeps = KeepsAll-then keeps0 keeps1;
-      kept = c.in_ok-walk_name.ensures.kept ∙ c.loop-name.invariant.kept;
-      asks = record { raised = omega (arith, asks0.raised, asks1.raised); questions = omega (arith, asks0.questions, asks1.questions) };
-      extends = Extends-then c.args.delegate.now.unorded_entries c.loop-name.delegate.unorded_entries c.walk_name.new.delegate.unorded_entries c.loop-name.invariant.extends c.walk_name.ensures.extends;
-      so_far = λ s made stands quiet limit level.
-          let o : Chosen = chosen c.args.shared.now.options in
-          let ev : Evidence = evidence (setting_of g.M.Matcher c.args.shared.now) made s in
-          let lists : ListsNames (look s.tree place.full (is_empty place.rela)) listed = rw c.as_slice-name-items.ensures (c.in_ok-names.ensures.lists s.tree stands.tree) in
-          let entry = listed-at s.tree place.full place.rela listed c.loop-name.name-index name c.loop-name-test.true c.name-item.is are lists in
-          let child : Child place.full place.rela at.full at.rela name =
-          record {
-            is_name = entry.is_name;
-            full_is = c.in_ok-set_child.ensures.full ∙ ap (joined place.full) c.as_bytes.ensures;
-            rela_is = c.in_ok-set_child.ensures.rela ∙ ap (joined place.rela) c.as_bytes.ensures;
-          } in
-          let gives = c.in_ok-walk_name.ensures.gives s made (stands-kept keeps0 stands) (omega (arith, quiet, keeps0.faults, keeps1.faults))
-          (child-some place.full place.rela at.full at.rela name child) entry.node (ap (λ (q : List ℕ). look s.tree q false) child.full_is ∙ entry.there)
-          limit (child-level place.full place.rela at.full at.rela name c.args.levels limit child level) in
-          SoFar-more o limit ev s.tree place.full place.rela listed c.loop-name.name-index name c.args.delegate.now.unorded_entries c.loop-name.delegate.unorded_entries c.walk_name.new.delegate.unorded_entries
-          c.args.outcome.now c.loop-name.outcome c.walk_name.new.outcome entry.node c.loop-name-test.true c.name-item.is entry.there
-          (c.loop-name.invariant.so_far s made stands (omega (arith, quiet, keeps0.faults, keeps1.faults)) limit level)
-          (subst (λ (q : List ℕ). Gives o limit ev (item o ev q entry.node) c.loop-name.delegate.unorded_entries c.walk_name.new.delegate.unorded_entries c.loop-name.outcome c.walk_name.new.outcome) child.rela_is gives);
-    }
+pub walk_directory-returns-clause-refused : goal.walk_directory-returns-clause-refused
+walk_directory-returns-clause-refused g t c = λ made s stands default limit level. memory-only c.close.result _ (inl tt) c.close.ensures.memory
 
-pub walk_directory-returns-clause-gives : goal.walk_directory-returns-clause-gives
-walk_directory-returns-clause-gives g t c = λ s made stands quiet limit level.
-    let o : Chosen = chosen c.args.shared.now.options in
-    let ev : Evidence = evidence (setting_of g.M.Matcher c.args.shared.now) made s in
-    let place = c.args.place.now in
-    let listed = c.as_slice-name-items.result.now in
-    let filled : length c.as_slice.result.now ≢ 0 = eqb-false (length c.as_slice.result.now) 0 (sym c.is_empty.ensures ∙ c.if-is_empty.false) in
-    let some : 0 < length listed = omega (arith, filled, ap length c.as_slice.ensures, ap length c.as_slice-name-items.ensures) in
-    Gives-listed o limit ev s.tree place.full place.rela c.args.class.now (omega (arith, level))
-    listed (rw c.as_slice-name-items.ensures (c.in_ok-names.ensures.lists s.tree stands.tree)) (rw c.as_slice-name-items.ensures c.in_ok-names.ensures.names)
-    c.loop-name.name-index c.args.delegate.now.unorded_entries c.loop-name.delegate.unorded_entries c.args.outcome.now c.loop-name.outcome some c.loop-name-test.false
-    (c.loop-name.invariant.so_far s made stands quiet limit level)
+pub walk_directory-returns-in_err-handed-clause-about : goal.walk_directory-returns-in_err-handed-clause-about
+walk_directory-returns-in_err-handed-clause-about g t c = λ limit level.
+    let p = err_from_is_err_and c.from_residual-in_err-handed.result c.from_residual-in_err-handed.ensures.1 in
+    rw (p.1, p.2) (rw c.loop-name.invariant.rules.made at (c.in_err-handed.ensures.about limit level))
 
-pub walk_directory-returns-in_err-set_child-clause-part : goal.walk_directory-returns-in_err-set_child-clause-part
-walk_directory-returns-in_err-set_child-clause-part g t c = λ s made stands quiet.
-    let o : Chosen = chosen c.args.shared.now.options in
-    let ev : Evidence = evidence (setting_of g.M.Matcher c.args.shared.now) made s in
-    let place = c.args.place.now in
-    let listed = c.as_slice-name-items.result.now in
-    let are : AreNames listed = rw c.as_slice-name-items.ensures c.in_ok-names.ensures.names in
-    let lists : ListsNames (look s.tree place.full (is_empty place.rela)) listed = rw c.as_slice-name-items.ensures (c.in_ok-names.ensures.lists s.tree stands.tree) in
-    let entries = c.args.delegate.now.unorded_entries in
-    let p = err_from_is_err_and c.from_residual-in_err-set_child.result c.from_residual-in_err-set_child.ensures.1 in
-    rw p.1
-    (IsPart-so_far o (c.args.levels + depth_of place.rela) ev s.tree place.full place.rela c.args.class.now listed lists are c.loop-name.name-index entries c.loop-name.delegate.unorded_entries
-    c.args.outcome.now c.loop-name.outcome c.loop-name-test.true (c.loop-name.invariant.so_far s made stands quiet (c.args.levels + depth_of place.rela) refl))
+pub walk_directory-returns-in_err-handed-clause-found : goal.walk_directory-returns-in_err-handed-clause-found
+walk_directory-returns-in_err-handed-clause-found g t c = λ s told.
+    let kept = c.loop-name.invariant in let p = err_from_is_err_and c.from_residual-in_err-handed.result c.from_residual-in_err-handed.ensures.1 in
+    rw (p.1, p.2) (rw (kept.store.holds, kept.rules.made) at (c.in_err-handed.ensures.found s (kept.worktree.tree ∙ told)))
 
-pub walk_directory-returns-in_err-walk_name-clause-part : goal.walk_directory-returns-in_err-walk_name-clause-part
-walk_directory-returns-in_err-walk_name-clause-part g t c = λ s made stands quiet.
-    let o : Chosen = chosen c.args.shared.now.options in
-    let ev : Evidence = evidence (setting_of g.M.Matcher c.args.shared.now) made s in
-    let place = c.args.place.now in
-    let at = c.set_child.new.self in
-    let name = c.name-item.result in
-    let listed = c.as_slice-name-items.result.now in
-    let are : AreNames listed = rw c.as_slice-name-items.ensures c.in_ok-names.ensures.names in
-    let lists : ListsNames (look s.tree place.full (is_empty place.rela)) listed = rw c.as_slice-name-items.ensures (c.in_ok-names.ensures.lists s.tree stands.tree) in
-    let entry = listed-at s.tree place.full place.rela listed c.loop-name.name-index name c.loop-name-test.true c.name-item.is are lists in
-    let p = err_from_is_err_and c.from_residual-in_err-walk_name.result c.from_residual-in_err-walk_name.ensures.1 in
-    let child : Child place.full place.rela at.full at.rela name =
-    record {
-      is_name = entry.is_name;
-      full_is = c.in_ok-set_child.ensures.full ∙ ap (joined place.full) c.as_bytes.ensures;
-      rela_is = c.in_ok-set_child.ensures.rela ∙ ap (joined place.rela) c.as_bytes.ensures;
-    } in
-    let keeps0 = c.loop-name.invariant.keeps in
-    let keeps1 = c.walk_name.ensures.keeps in
-    let entries = c.args.delegate.now.unorded_entries in
-    let part = c.in_err-walk_name.ensures.part s made (stands-kept keeps0 stands) (omega (arith, quiet, keeps0.faults, keeps1.faults))
-    (child-some place.full place.rela at.full at.rela name child) entry.node (ap (λ (q : List ℕ). look s.tree q false) child.full_is ∙ entry.there) in
-    let within : IsPart o (item o ev (joined place.rela name) entry.node).out c.loop-name.delegate.unorded_entries c.walk_name.new.delegate.unorded_entries =
-    subst (λ (q : List ℕ). IsPart o (item o ev q entry.node).out c.loop-name.delegate.unorded_entries c.walk_name.new.delegate.unorded_entries) child.rela_is part in
-    rw p.1
-    (IsPart-child o (c.args.levels + depth_of place.rela) ev s.tree place.full place.rela c.args.class.now listed lists are c.loop-name.name-index entries c.loop-name.delegate.unorded_entries
-    c.args.outcome.now c.loop-name.outcome c.loop-name-test.true
-    (c.loop-name.invariant.so_far s made stands (omega (arith, quiet, keeps0.faults, keeps1.faults)) (c.args.levels + depth_of place.rela) refl) name entry.node c.walk_name.new.delegate.unorded_entries c.name-item.is entry.there within)
+pub walk_directory-returns-in_err-handed-clause-refused : goal.walk_directory-returns-in_err-handed-clause-refused
+walk_directory-returns-in_err-handed-clause-refused g t c = λ made s stands default limit level.
+    let a = c.args in let w = g.W.Worktree in let given = setting_of g.M.Matcher a.shared.now in let d = a.place.now.path in
+    let kept = c.loop-name.invariant in
+    let has = HasNames-listed given s.tree d c.as_slice.ensures c.is_empty.ensures c.if-is_empty.false c.as_slice-name-items.ensures c.in_ok-names.ensures.names (rw c.requires.root at (c.in_ok-names.ensures.lists s.tree stands.tree)) in
+    let now = Stands-later given c.loop-name.excludes kept.worktree.tree kept.store.holds kept.rules.made kept.rules.in_step stands in
+    let name = c.name-item.result in let v = item_told given made s (joined d name) in
+    let within = HasPaths-name given made s d a.class.now c.as_slice-name-items.result.now has.lists has.are c.path-path.ensures.plain has.some c.loop-name.name-index name c.loop-name-test.true c.name-item.is in
+    let here : Type 0 = Increased (w.faults c.loop-name.worktree) (w.faults c.walk_name.new.worktree) in
+    let whole : Type 0 = Increased (w.faults a.worktree.now) (w.faults c.walk_name.new.worktree) in
+    let p = err_from_is_err_and c.from_residual-in_err-handed.result c.from_residual-in_err-handed.ensures.1 in
+    rw (p.1, p.2) (DirectoryRefuses-name given made s limit here whole v d a.class.now within (λ rose. omega (arith, rose, kept.worktree.faults)) _ (rw c.as_bytes.ensures at (c.in_err-handed.ensures.refused made s now (kept.delegate.default ∙ default) limit level)))
 
 pub walk_name-returns-in_err-class-clause-about : goal.walk_name-returns-in_err-class-clause-about
 walk_name-returns-in_err-class-clause-about g t c = λ limit level.
-    let place = c.args.place.now in
-    let root = c.args.shared.now.worktree_root.now in
-    let placed = c.requires.placed in
-    let p = err_from_is_err_and c.from_residual.result c.from_residual.ensures.1 in
-    rw (p.1, p.2) (IsAbout-class (made_with c.args.excludes.now) root limit place.rela c.in_err-class.field-0.0 placed.normal (rw c.as_bytes-rela.ensures at c.in_err-class.ensures.about))
-
-pub walk_name-returns-in_err-class-clause-interrupted : goal.walk_name-returns-in_err-class-clause-interrupted
-walk_name-returns-in_err-class-clause-interrupted g t c =
-    let place = c.args.place.now in
-    let p = err_from_is_err_and c.from_residual.result c.from_residual.ensures.1 in
-    rw (p.1, p.2) (OnInterrupted-class (made_with c.args.excludes.now) c.as_bytes-rela.result.now _ c.in_err-class.field-0.0 c.in_err-class.ensures.about)
+    let a = c.args in let r = err_from_is_err_and c.from_residual-in_err-class.result c.from_residual-in_err-class.ensures.1 in
+    rw (r.1, r.2) (IsAbout-class (made_with a.excludes.now) a.shared.now.worktree_root.now limit c.set_child.new.self.path _ c.path-path.ensures.normal (rw c.path-path.ensures.path at c.in_err-class.ensures.about))
 
 pub walk_name-returns-in_err-class-clause-found : goal.walk_name-returns-in_err-class-clause-found
 walk_name-returns-in_err-class-clause-found g t c = λ s told.
-    let place = c.args.place.now in
-    let root = c.args.shared.now.worktree_root.now in
-    let placed = c.requires.placed in
-    let p = err_from_is_err_and c.from_residual.result c.from_residual.ensures.1 in
-    rw (p.1, p.2)
-    (IsInTree-class (g.F.Find.holds c.args.objects.now) s (made_with c.args.excludes.now) place.rela c.in_err-class.field-0.0 placed.normal (rw c.as_bytes-rela.ensures at c.in_err-class.ensures.about)
-    (λ known. rw c.as_bytes-rela.ensures at (c.in_err-class.ensures.refused s (record { tree_is = told; objects_are = λ some. known }))))
+    let a = c.args in let r = err_from_is_err_and c.from_residual-in_err-class.result c.from_residual-in_err-class.ensures.1 in
+    let made = made_with a.excludes.now in
+    rw (r.1, r.2) (IsInTree-class (g.F.Find.holds a.objects.now) s made c.set_child.new.self.path _ c.path-path.ensures.normal (rw c.path-path.ensures.path at c.in_err-class.ensures.about)
+    (λ known. rw c.path-path.ensures.path at (c.in_err-class.ensures.refused s (record { tree_is = told; objects_are = λ some. known }))))
 
 pub walk_name-returns-in_err-class-clause-refused : goal.walk_name-returns-in_err-class-clause-refused
-walk_name-returns-in_err-class-clause-refused g t c = λ s made stands quiet some node there limit level.
-    let o : Chosen = chosen c.args.shared.now.options in
-    let ev : Evidence = evidence (setting_of g.M.Matcher c.args.shared.now) made s in
-    let place = c.args.place.now in
-    let root = c.args.shared.now.worktree_root.now in
-    let placed = c.requires.placed in
-    let p = err_from_is_err_and c.from_residual.result c.from_residual.ensures.1 in
-    let e = c.in_err-class.field-0.0 in
-    rw (p.1, p.2)
-    (Refuses-class s made o ev root limit place.rela node e placed.normal
-    (rw (c.as_bytes-rela.ensures, stands.made_is) at c.in_err-class.ensures.about)
-    (rw (c.as_bytes-rela.ensures, stands.made_is) at (c.in_err-class.ensures.refused s (telling stands)))
-    (access-node o ev s.tree root place.full place.rela node placed.full_is there e (rw (c.as_bytes-rela.ensures, stands.made_is) at (c.in_err-class.ensures.asked s stands.tree quiet))))
+walk_name-returns-in_err-class-clause-refused g t c = λ made s stands default limit level.
+    let a = c.args in let w = g.W.Worktree in let given = setting_of g.M.Matcher a.shared.now in let p = c.set_child.new.self.path in
+    let at = ap (λ (x : Standing). x.path) c.in_ok-set_child.ensures in let ev = evidence given made s in
+    let some : is_empty p ≡ false = ap is_empty at ∙ joined-some a.directory.now.path a.name.now c.requires.name in
+    let Asks : Type 0 = asks (chosen a.shared.now.options) ev p None (on_disk given s.tree p true) ≡ true in
+    let failed : Type 0 = Increased (w.faults a.worktree.now) (w.faults c.at.new.worktree) in
+    let r = err_from_is_err_and c.from_residual-in_err-class.result c.from_residual-in_err-class.ensures.1 in
+    let P : List ℕ → Type 0 = λ x. Refuses given made s limit failed (item_told given made s x) c.in_err-class.field-0.0 in
+    rw (r.1, r.2) (subst P at (Refuses-class given made s limit failed Asks (item_told given made s p) p c.in_err-class.field-0.0 c.path-path.ensures.normal (rw (c.path-path.ensures.path, stands.made_is) at c.in_err-class.ensures.about)
+    (rw (c.path-path.ensures.path, stands.made_is) at (c.in_err-class.ensures.refused s (telling stands)))
+    (either (λ quiet. inl (rw (c.path-path.ensures.path, stands.made_is) at (c.in_err-class.ensures.asked s stands.tree quiet))) (λ rose. inr rose) (rose-or (w.faults a.worktree.now) (w.faults c.at.new.worktree)))
+    (among-asked given made s p some)))
 
-pub walk_name-returns-then-not-is_entered-clause-gives : goal.walk_name-returns-then-not-is_entered-clause-gives
-walk_name-returns-then-not-is_entered-clause-gives g t c = λ s made stands quiet some node there limit level.
-    let o : Chosen = chosen c.args.shared.now.options in
-    let ev : Evidence = evidence (setting_of g.M.Matcher c.args.shared.now) made s in
-    let place = c.args.place.now in
-    let root = c.args.shared.now.worktree_root.now in
-    let placed = c.requires.placed in
-    let is : c.in_ok-class.class ≡ child_class o ev place.rela node =
-    class-node o ev s.tree root place.full place.rela node placed.full_is there c.in_ok-class.class (rw (c.as_bytes-rela.ensures, stands.made_is) at (c.in_ok-class.ensures.class s (telling stands) stands.in_step quiet)) in
-    Gives-unentered o limit ev place.rela node c.in_ok-class.class c.args.delegate.now.unorded_entries c.emit.new.delegate.unorded_entries c.args.outcome.now c.emit.new.outcome is
-    (read-node o ev s.tree root place.full place.rela node placed.full_is there (rw (c.as_bytes-rela.ensures, stands.made_is) at (c.in_ok-class.ensures.read s (telling stands) stands.in_step quiet)))
-    (sym c.is_entered.ensures ∙ c.if-not-is_entered.true) (rw c.as_bytes-rela.ensures at c.in_ok-emit.ensures.emits)
+pub walk_name-returns-then-levels-eq0-clause-about : goal.walk_name-returns-then-levels-eq0-clause-about
+walk_name-returns-then-levels-eq0-clause-about g t c = λ limit level.
+    let a = c.args in let root = a.shared.now.worktree_root.now in let p = c.set_child.new.self.path in
+    let at = ap (λ (x : Standing). x.path) c.in_ok-set_child.ensures in
+    let base : c.set_child.new.self.root ≡ root = ap (λ (x : Standing). x.root) c.in_ok-set_child.ensures ∙ c.requires.root in
+    let deep : limit < depth_of p = omega (arith, level, c.if-levels-eq0.true, ap depth_of at, depth_of-joined a.directory.now.path a.name.now c.requires.name) in
+    IsAbout-deep (made_with a.excludes.now) root p limit _ _ c.path-path.ensures.normal deep (rw base at c.too_deep.ensures.deep)
 
 pub walk_name-returns-then-levels-eq0-clause-refused : goal.walk_name-returns-then-levels-eq0-clause-refused
-walk_name-returns-then-levels-eq0-clause-refused g t c = λ s made stands quiet some node there limit level.
-    let o : Chosen = chosen c.args.shared.now.options in
-    let ev : Evidence = evidence (setting_of g.M.Matcher c.args.shared.now) made s in
-    let place = c.args.place.now in
-    let root = c.args.shared.now.worktree_root.now in
-    let placed = c.requires.placed in
-    let into = sym c.is_entered.ensures ∙ c.if-not-is_entered.false in
-    let is : c.in_ok-class.class ≡ child_class o ev place.rela node =
-    class-node o ev s.tree root place.full place.rela node placed.full_is there c.in_ok-class.class (rw (c.as_bytes-rela.ensures, stands.made_is) at (c.in_ok-class.ensures.class s (telling stands) stands.in_step quiet)) in
-    IsTooDeep-name o ev root limit place.full place.rela c.in_ok-class.class node c.in_ok-path.path placed (c.in_ok-path.ensures ∙ c.as_bytes-full.ensures) (omega (arith, level, c.if-levels-eq0.true)) is into
+walk_name-returns-then-levels-eq0-clause-refused g t c = λ made s stands default limit level.
+    let a = c.args in let w = g.W.Worktree in let given = setting_of g.M.Matcher a.shared.now in let d = a.directory.now.path in
+    let p = c.set_child.new.self.path in let at = ap (λ (x : Standing). x.path) c.in_ok-set_child.ensures in
+    let base : c.set_child.new.self.root ≡ a.shared.now.worktree_root.now = ap (λ (x : Standing). x.root) c.in_ok-set_child.ensures ∙ c.requires.root in
+    let deep : limit < depth_of p = omega (arith, level, c.if-levels-eq0.true, ap depth_of at, depth_of-joined d a.name.now c.requires.name) in
+    let k = c.in_ok-class.class in let some : is_empty p ≡ false = ap is_empty at ∙ joined-some d a.name.now c.requires.name in
+    let into : enters (chosen a.shared.now.options) k false ≡ true = sym (c.is_entered.ensures.entered default) ∙ c.if-is_entered.true in
+    let exact = λ (quiet : NotIncreased (w.faults a.worktree.now) (w.faults c.at.new.worktree)). (rw (c.path-path.ensures.path, stands.made_is) at (c.in_ok-class.ensures.class s (telling stands) stands.in_step quiet)) in
+    let failed : Type 0 = Increased (w.faults a.worktree.now) (w.faults c.at.new.worktree) in
+    let P : List ℕ → Type 0 = λ x. Refuses given made s limit failed (item_told given made s x) c.too_deep.result in
+    subst P at (Refuses-deep given made s limit failed _ (item_told given made s p) p c.too_deep.result deep
+    (either (λ quiet. inl (enter-told given made s p k (exact quiet) some into)) (λ rose. inr rose) (rose-or (w.faults a.worktree.now) (w.faults c.at.new.worktree))) (rw base at c.too_deep.ensures.deep))
+
+pub walk_name-returns-then-is_entered-clause-about : goal.walk_name-returns-then-is_entered-clause-about
+walk_name-returns-then-is_entered-clause-about g t c = λ limit level.
+    let a = c.args in let at = ap (λ (x : Standing). x.path) c.in_ok-set_child.ensures in
+    let deeper : (a.levels - 1) + depth_of c.set_child.new.self.path ≡ limit = omega (arith, level, c.if-levels-eq0.false, ap depth_of at, depth_of-joined a.directory.now.path a.name.now c.requires.name) in
+    rw c.at.ensures.rules.made at (c.walk_directory.ensures.about limit deeper)
+
+pub walk_name-returns-then-is_entered-clause-found : goal.walk_name-returns-then-is_entered-clause-found
+walk_name-returns-then-is_entered-clause-found g t c = λ s told. rw (c.at.ensures.store.holds, c.at.ensures.rules.made) at (c.walk_directory.ensures.found s (c.at.ensures.keeps.tree ∙ told))
+
+pub walk_name-returns-then-is_entered-clause-refused : goal.walk_name-returns-then-is_entered-clause-refused
+walk_name-returns-then-is_entered-clause-refused g t c = λ made s stands default limit level.
+    let a = c.args in let w = g.W.Worktree in let given = setting_of g.M.Matcher a.shared.now in let d = a.directory.now.path in
+    let q = joined d a.name.now in let p = c.set_child.new.self.path in let at = ap (λ (x : Standing). x.path) c.in_ok-set_child.ensures in
+    let ev = evidence given made s in let k = c.in_ok-class.class in
+    let some : is_empty p ≡ false = ap is_empty at ∙ joined-some d a.name.now c.requires.name in
+    let into : enters (chosen a.shared.now.options) k false ≡ true = sym (c.is_entered.ensures.entered default) ∙ c.if-is_entered.true in
+    let exact = λ (quiet : NotIncreased (w.faults a.worktree.now) (w.faults c.at.new.worktree)). (rw (c.path-path.ensures.path, stands.made_is) at (c.in_ok-class.ensures.class s (telling stands) stands.in_step quiet)) in
+    let now = Stands-later given c.at.new.excludes c.at.ensures.keeps.tree c.at.ensures.store.holds c.at.ensures.rules.made c.at.ensures.rules.in_step stands in
+    let deeper : (a.levels - 1) + depth_of p ≡ limit = omega (arith, level, c.if-levels-eq0.false, ap depth_of at, depth_of-joined d a.name.now c.requires.name) in
+    let inside : Type 0 = Increased (w.faults c.at.new.worktree) (w.faults c.walk_directory.new.worktree) in
+    let failed : Type 0 = Increased (w.faults a.worktree.now) (w.faults c.walk_directory.new.worktree) in
+    let same = ap (λ (b : Bool). look s.tree (full_path given.root p) b) some in
+    let within : HasPaths (directory_told given made s p k) (item_told given made s p) ⊎ failed =
+    either (λ quiet. inl (HasPaths-told given made s p k (exact quiet) some into)) (λ rose. inr (omega (arith, rose, c.walk_directory.ensures.worktree.faults))) (rose-or (w.faults a.worktree.now) (w.faults c.at.new.worktree)) in
+    let judged : IsJudged (λ kind read. class (chosen a.shared.now.options) read p None kind) ev p (on_disk given s.tree p true) k = rw (c.path-path.ensures.path, stands.made_is) at (c.in_ok-class.ensures.swallowed s (telling stands) stands.in_step) in
+    let P : List ℕ → Error → Type 0 = λ x. Refuses given made s limit failed (item_told given made s x) in
+    IfErr-weaker c.walk_directory.result (OnRefused (DirectoryRefuses given made s limit inside p k)) (OnRefused (P q))
+    (refused-any (DirectoryRefuses given made s limit inside p k) (P q)
+    (λ e h. subst (λ (x : List ℕ). P x e) at (Refuses-directory given made s limit inside failed (item_told given made s p) p k e same within (λ rose. omega (arith, rose, c.at.ensures.keeps.faults))
+    (λ why unlisted. indexed-unlisted (chosen a.shared.now.options) ev p (look_name given s.tree p) k why judged into unlisted) h)))
+    (c.walk_directory.ensures.refused made s now (c.is_entered.ensures.default ∙ default) limit deeper)
 
 pub walk_name-returns-clause-about : goal.walk_name-returns-clause-about
-walk_name-returns-clause-about g t c = λ limit level.
-    rw c.at.ensures.rules.made at (c.walk_directory.ensures.about limit (omega (arith, level, c.if-levels-eq0.false)))
+walk_name-returns-clause-about g t c = λ limit level. memory-only c.put_leaf.result _ tt c.put_leaf.ensures.memory
 
 pub walk_name-returns-clause-found : goal.walk_name-returns-clause-found
-walk_name-returns-clause-found g t c = λ s told.
-    rw (c.at.ensures.store.holds, c.at.ensures.rules.made) at (c.walk_directory.ensures.found s (c.at.ensures.keeps.tree ∙ told))
+walk_name-returns-clause-found g t c = λ s told. memory-only c.put_leaf.result _ tt c.put_leaf.ensures.memory
 
 pub walk_name-returns-clause-refused : goal.walk_name-returns-clause-refused
-walk_name-returns-clause-refused g t c = λ s made stands quiet some node there limit level.
-    let o : Chosen = chosen c.args.shared.now.options in
-    let ev : Evidence = evidence (setting_of g.M.Matcher c.args.shared.now) made s in
-    let place = c.args.place.now in
-    let root = c.args.shared.now.worktree_root.now in
-    let placed = c.requires.placed in
-    let into = sym c.is_entered.ensures ∙ c.if-not-is_entered.false in
-    let is : c.in_ok-class.class ≡ child_class o ev place.rela node =
-    class-node o ev s.tree root place.full place.rela node placed.full_is there c.in_ok-class.class (rw (c.as_bytes-rela.ensures, stands.made_is) at (c.in_ok-class.ensures.class s (telling stands) stands.in_step (omega (arith, quiet, c.at.ensures.keeps.faults, c.walk_directory.ensures.keeps.faults)))) in
-    let keeps = KeepsAll-classed c.at.ensures.keeps c.at.ensures.store c.at.ensures.rules in
-    IfErr-weaker c.walk_directory.result (DirectoryRefuses s made o ev root limit place.full place.rela c.in_ok-class.class) (Refuses s made o ev root limit (item o ev place.rela node))
-    (λ e. Refuses-directory s made o ev root limit place.full place.rela c.in_ok-class.class node e placed some there is into)
-    (c.walk_directory.ensures.refused s made (stands-kept keeps stands) (omega (arith, quiet, c.at.ensures.keeps.faults, c.walk_directory.ensures.keeps.faults)) limit (omega (arith, level, c.if-levels-eq0.false)))
+walk_name-returns-clause-refused g t c = λ made s stands default limit level. memory-only c.put_leaf.result _ tt c.put_leaf.ensures.memory
 
-pub walk_name-returns-clause-gives : goal.walk_name-returns-clause-gives
-walk_name-returns-clause-gives g t c = λ s made stands quiet some node there limit level.
-    let o : Chosen = chosen c.args.shared.now.options in
-    let ev : Evidence = evidence (setting_of g.M.Matcher c.args.shared.now) made s in
-    let place = c.args.place.now in
-    let root = c.args.shared.now.worktree_root.now in
-    let placed = c.requires.placed in
-    let into = sym c.is_entered.ensures ∙ c.if-not-is_entered.false in
-    let is : c.in_ok-class.class ≡ child_class o ev place.rela node =
-    class-node o ev s.tree root place.full place.rela node placed.full_is there c.in_ok-class.class (rw (c.as_bytes-rela.ensures, stands.made_is) at (c.in_ok-class.ensures.class s (telling stands) stands.in_step (omega (arith, quiet, c.at.ensures.keeps.faults, c.walk_directory.ensures.keeps.faults)))) in
-    let keeps = KeepsAll-classed c.at.ensures.keeps c.at.ensures.store c.at.ensures.rules in
-    on_ok_weaker c.walk_directory.result
-    (Gives-entered o limit ev s.tree place.full place.rela node c.in_ok-class.class c.args.delegate.now.unorded_entries c.walk_directory.new.delegate.unorded_entries c.args.outcome.now c.walk_directory.new.outcome there some is
-    (read-node o ev s.tree root place.full place.rela node placed.full_is there (rw (c.as_bytes-rela.ensures, stands.made_is) at (c.in_ok-class.ensures.read s (telling stands) stands.in_step (omega (arith, quiet, c.at.ensures.keeps.faults, c.walk_directory.ensures.keeps.faults))))) into)
-    (c.walk_directory.ensures.gives s made (stands-kept keeps stands) (omega (arith, quiet, c.at.ensures.keeps.faults, c.walk_directory.ensures.keeps.faults)) limit (omega (arith, level, c.if-levels-eq0.false)))
+pub walk_directory-returns-in_err-names-clause-opens : goal.walk_directory-returns-in_err-names-clause-opens
+walk_directory-returns-in_err-names-clause-opens g t c =
+    let p = err_from_is_err_and c.from_residual.result c.from_residual.ensures.1 in rw (p.1, p.2) (opens-refused c.in_err-names.ensures.tried c.open.ensures.reads)
 
-pub walk_name-returns-clause-part : goal.walk_name-returns-clause-part
-walk_name-returns-clause-part g t c = λ s made stands quiet some node there.
-    let o : Chosen = chosen c.args.shared.now.options in
-    let ev : Evidence = evidence (setting_of g.M.Matcher c.args.shared.now) made s in
-    let place = c.args.place.now in
-    let root = c.args.shared.now.worktree_root.now in
-    let placed = c.requires.placed in
-    let into = sym c.is_entered.ensures ∙ c.if-not-is_entered.false in
-    let is : c.in_ok-class.class ≡ child_class o ev place.rela node =
-    class-node o ev s.tree root place.full place.rela node placed.full_is there c.in_ok-class.class (rw (c.as_bytes-rela.ensures, stands.made_is) at (c.in_ok-class.ensures.class s (telling stands) stands.in_step (omega (arith, quiet, c.at.ensures.keeps.faults, c.walk_directory.ensures.keeps.faults)))) in
-    let keeps = KeepsAll-classed c.at.ensures.keeps c.at.ensures.store c.at.ensures.rules in
-    on_err_weaker c.walk_directory.result
-    (IsPart-entered o ev s.tree place.full place.rela node c.in_ok-class.class c.args.delegate.now.unorded_entries c.walk_directory.new.delegate.unorded_entries there some is into)
-    (c.walk_directory.ensures.part s made (stands-kept keeps stands) (omega (arith, quiet, c.at.ensures.keeps.faults, c.walk_directory.ensures.keeps.faults)))
+pub walk_directory-returns-then-is_empty-clause-opens : goal.walk_directory-returns-then-is_empty-clause-opens
+walk_directory-returns-then-is_empty-clause-opens g t c = opens-end (opens-one c.in_ok-names.ensures.opens c.open.ensures.reads) c.close_empty.ensures.entered
 
-pub walk_name-returns-clause-asks : goal.walk_name-returns-clause-asks
-walk_name-returns-clause-asks g t c =
-    let asks = c.walk_directory.ensures.asks in
-    record { raised = omega (arith, c.ask.ensures.later, asks.raised); questions = omega (arith, c.ask.ensures.questions, asks.questions) }
+pub walk_directory-returns-in_err-handed-clause-opens : goal.walk_directory-returns-in_err-handed-clause-opens
+walk_directory-returns-in_err-handed-clause-opens g t c =
+    let p = err_from_is_err_and c.from_residual-in_err-handed.result c.from_residual-in_err-handed.ensures.1 in
+    rw (p.1, p.2) (opens-then c.loop-name.invariant.opens c.in_err-handed.ensures.opens)
 
-pub walk_directory-returns-in_err-names-clause-extends : goal.walk_directory-returns-in_err-names-clause-extends
-walk_directory-returns-in_err-names-clause-extends g t c = Extends-none c.args.delegate.now.unorded_entries
+pub walk_directory-returns-in_err-take-clause-opens : goal.walk_directory-returns-in_err-take-clause-opens
+walk_directory-returns-in_err-take-clause-opens g t c =
+    let p = err_from_is_err_and c.from_residual-in_err-take.result c.from_residual-in_err-take.ensures.1 in
+    rw p.1 (opens-end (opens-then c.loop-name.invariant.opens c.in_ok-handed.ensures.opens) refl)
 
-pub walk_directory-walk_name-requires : goal.walk_directory-walk_name-requires
-walk_directory-walk_name-requires g t c = λ κs lives.
-    let place = c.args.place.now in
-    let at = c.set_child.new.self in
-    let name = c.name-item.result in
-    let listed = c.as_slice-name-items.result.now in
-    let are : AreNames listed = rw c.as_slice-name-items.ensures c.in_ok-names.ensures.names in
-    let child : Child place.full place.rela at.full at.rela name =
-    record {
-      is_name = name-at listed c.loop-name.name-index name c.loop-name-test.true c.name-item.is are;
-      full_is = c.in_ok-set_child.ensures.full ∙ ap (joined place.full) c.as_bytes.ensures;
-      rela_is = c.in_ok-set_child.ensures.rela ∙ ap (joined place.rela) c.as_bytes.ensures;
-    } in
-    let kept : tells_excludes (made_with c.loop-name.excludes) ≡ true = ap tells_excludes c.loop-name.invariant.keeps.rules.made ∙ c.requires.excludes in
-    let placed = child-placed c.args.shared.now.worktree_root.now place.full place.rela at.full at.rela name child c.requires.placed in
-    (omega (arith, c.decreases), (lives.0, (lives.1.0, (lives.1.1.0, (lives.1.1.1, (kept, (c.requires.lookup, placed)))))))
+pub walk_directory-returns-clause-opens : goal.walk_directory-returns-clause-opens
+walk_directory-returns-clause-opens g t c = opens-end c.loop-name.invariant.opens c.close.ensures.entered
+
+pub walk_name-returns-in_err-set_child-clause-opens : goal.walk_name-returns-in_err-set_child-clause-opens
+walk_name-returns-in_err-set_child-clause-opens g t c = opens-none refl refl (omega arith) (λ on. omega arith)
+
+pub walk_name-returns-in_err-class-clause-opens : goal.walk_name-returns-in_err-class-clause-opens
+walk_name-returns-in_err-class-clause-opens g t c =
+    let path = ap (λ (x : Standing). x.path) c.in_ok-set_child.ensures in
+    let r = err_from_is_err_and c.from_residual-in_err-class.result c.from_residual-in_err-class.ensures.1 in
+    rw (r.1, r.2) (opens-class c.args.directory.now.path c.args.name.now c.requires.name c.at.ensures.keeps.lists (rw (c.path-path.ensures.path, path) at c.in_err-class.ensures.reads))
+
+pub walk_name-returns-then-levels-eq0-clause-opens : goal.walk_name-returns-then-levels-eq0-clause-opens
+walk_name-returns-then-levels-eq0-clause-opens g t c =
+    let path = ap (λ (x : Standing). x.path) c.in_ok-set_child.ensures in
+    opens-still (opens-class c.args.directory.now.path c.args.name.now c.requires.name c.at.ensures.keeps.lists (rw (c.path-path.ensures.path, path) at c.in_ok-class.ensures.reads)) refl refl c.too_deep.ensures.interrupt.questions (λ on. refl)
+
+pub walk_name-returns-then-is_entered-clause-opens : goal.walk_name-returns-then-is_entered-clause-opens
+walk_name-returns-then-is_entered-clause-opens g t c =
+    let path = ap (λ (x : Standing). x.path) c.in_ok-set_child.ensures in
+    opens-then (opens-class c.args.directory.now.path c.args.name.now c.requires.name c.at.ensures.keeps.lists (rw (c.path-path.ensures.path, path) at c.in_ok-class.ensures.reads)) (opens-below c.args.directory.now.path c.args.name.now c.requires.name (rw path at c.walk_directory.ensures.opens))
+
+pub walk_name-returns-in_err-class-2-clause-opens : goal.walk_name-returns-in_err-class-2-clause-opens
+walk_name-returns-in_err-class-2-clause-opens g t c =
+    let path = ap (λ (x : Standing). x.path) c.in_ok-set_child.ensures in let o = chosen c.args.shared.now.options in
+    opens-still (opens-class c.args.directory.now.path c.args.name.now c.requires.name c.at.ensures.keeps.lists (rw (c.path-path.ensures.path, path) at c.in_ok-class.ensures.reads)) c.leaf_class.ensures.worktree.lists refl (omega arith) (λ on. c.leaf_class.ensures.reads (hides-none o on))
+
+pub walk_name-returns-clause-opens : goal.walk_name-returns-clause-opens
+walk_name-returns-clause-opens g t c =
+    let path = ap (λ (x : Standing). x.path) c.in_ok-set_child.ensures in let o = chosen c.args.shared.now.options in
+    opens-still (opens-class c.args.directory.now.path c.args.name.now c.requires.name c.at.ensures.keeps.lists (rw (c.path-path.ensures.path, path) at c.in_ok-class.ensures.reads)) c.leaf_class.ensures.worktree.lists c.put_leaf.ensures.entered (omega arith)
+    (λ on. c.leaf_class.ensures.reads (hides-none o on))
+
+pub walk_directory-returns-in_err-names-clause-hands : goal.walk_directory-returns-in_err-names-clause-hands
+walk_directory-returns-in_err-names-clause-hands g t c =
+    let p = err_from_is_err_and c.from_residual.result c.from_residual.ensures.1 in rw p.1 (Hands-none refl c.open.ensures.returned c.open.ensures.seen)
+
+pub walk_directory-returns-then-is_empty-clause-hands : goal.walk_directory-returns-then-is_empty-clause-hands
+walk_directory-returns-then-is_empty-clause-hands g t c = Hands-empty c.open.ensures.returned c.open.ensures.seen (rw c.path-path.ensures.path at c.close_empty.ensures.hands)
+
+pub walk_directory-returns-in_err-handed-clause-hands : goal.walk_directory-returns-in_err-handed-clause-hands
+walk_directory-returns-in_err-handed-clause-hands g t c =
+    let p = err_from_is_err_and c.from_residual-in_err-handed.result c.from_residual-in_err-handed.ensures.1 in
+    rw p.1 (Hands-refused c.args.place.now.path c.as_slice-name-items.result.now c.loop-name.name-index c.name-item.result c.loop-name-test.true c.name-item.is c.loop-name.invariant.puts (rw c.as_bytes.ensures at c.in_err-handed.ensures.hands.puts) (rw c.as_slice-name-items.ensures c.in_ok-names.ensures.names)
+    c.path-path.ensures.plain)
+
+pub walk_directory-returns-in_err-take-clause-hands : goal.walk_directory-returns-in_err-take-clause-hands
+walk_directory-returns-in_err-take-clause-hands g t c =
+    let p = err_from_is_err_and c.from_residual-in_err-take.result c.from_residual-in_err-take.ensures.1 in
+    rw p.1 (Hands-refused c.args.place.now.path c.as_slice-name-items.result.now c.loop-name.name-index c.name-item.result c.loop-name-test.true c.name-item.is c.loop-name.invariant.puts (rw c.as_bytes.ensures at c.in_ok-handed.ensures.hands.puts) (rw c.as_slice-name-items.ensures c.in_ok-names.ensures.names)
+    c.path-path.ensures.plain)
+
+pub walk_directory-returns-clause-hands : goal.walk_directory-returns-clause-hands
+walk_directory-returns-clause-hands g t c =
+    Hands-closed c.args.place.now.path c.as_slice-name-items.result.now c.loop-name.name-index (rw c.as_slice-name-items.ensures c.in_ok-names.ensures.names) c.path-path.ensures.plain c.loop-name.invariant.puts (rw c.path-path.ensures.path at c.close.ensures.hands)
+
+pub walk_name-returns-in_err-set_child-clause-hands : goal.walk_name-returns-in_err-set_child-clause-hands
+walk_name-returns-in_err-set_child-clause-hands g t c =
+    let r = err_from_is_err_and c.from_residual.result c.from_residual.ensures.1 in rw r.1 (Hands-none refl refl refl)
+
+pub walk_name-returns-in_err-class-clause-hands : goal.walk_name-returns-in_err-class-clause-hands
+walk_name-returns-in_err-class-clause-hands g t c =
+    let r = err_from_is_err_and c.from_residual-in_err-class.result c.from_residual-in_err-class.ensures.1 in rw r.1 (Hands-none refl refl refl)
+
+pub walk_name-returns-then-levels-eq0-clause-hands : goal.walk_name-returns-then-levels-eq0-clause-hands
+walk_name-returns-then-levels-eq0-clause-hands g t c = Hands-none c.is_entered.ensures.given refl refl
+
+pub walk_name-returns-then-is_entered-clause-hands : goal.walk_name-returns-then-is_entered-clause-hands
+walk_name-returns-then-is_entered-clause-hands g t c =
+    let path = ap (λ (x : Standing). x.path) c.in_ok-set_child.ensures in rw (path, c.is_entered.ensures.given) at c.walk_directory.ensures.hands
+
+pub walk_name-returns-in_err-class-2-clause-hands : goal.walk_name-returns-in_err-class-2-clause-hands
+walk_name-returns-in_err-class-2-clause-hands g t c =
+    let r = err_from_is_err_and c.from_residual-in_err-class-2.result c.from_residual-in_err-class-2.ensures.1 in rw r.1 (Hands-none c.is_entered.ensures.given refl refl)
+
+pub walk_name-returns-clause-hands : goal.walk_name-returns-clause-hands
+walk_name-returns-clause-hands g t c =
+    let path = ap (λ (x : Standing). x.path) c.in_ok-set_child.ensures in
+    Hands-leaf (rw (c.path-path.ensures.path, path, c.is_entered.ensures.given) at c.put_leaf.ensures.hands)
+
+pub walk_directory-returns-in_err-handed-clause-heeds : goal.walk_directory-returns-in_err-handed-clause-heeds
+walk_directory-returns-in_err-handed-clause-heeds g t c =
+    let p = err_from_is_err_and c.from_residual-in_err-handed.result c.from_residual-in_err-handed.ensures.1 in
+    rw (p.1, p.2) (Heeds-after g.D.Delegate _ _ _ _ c.loop-name.invariant.kept_on c.in_err-handed.ensures.heeds)
+
+pub walk_directory-returns-in_err-handed-clause-caused : goal.walk_directory-returns-in_err-handed-clause-caused
+walk_directory-returns-in_err-handed-clause-caused g t c =
+    let kept = c.loop-name.invariant in let p = err_from_is_err_and c.from_residual-in_err-handed.result c.from_residual-in_err-handed.ensures.1 in
+    rw (p.1, p.2) (Caused-later _ kept.worktree.faults kept.store.faults kept.calm kept.listed c.in_err-handed.ensures.caused)
+
+pub walk_directory-returns-in_err-take-clause-about : goal.walk_directory-returns-in_err-take-clause-about
+walk_directory-returns-in_err-take-clause-about g t c = λ limit level.
+    let p = err_from_is_err_and c.from_residual-in_err-take.result c.from_residual-in_err-take.ensures.1 in rw (p.1, p.2) tt
+
+pub walk_directory-returns-in_err-take-clause-found : goal.walk_directory-returns-in_err-take-clause-found
+walk_directory-returns-in_err-take-clause-found g t c = λ s told.
+    let p = err_from_is_err_and c.from_residual-in_err-take.result c.from_residual-in_err-take.ensures.1 in rw (p.1, p.2) tt
+
+pub walk_directory-returns-clause-heeds : goal.walk_directory-returns-clause-heeds
+walk_directory-returns-clause-heeds g t c = Heeds-after g.D.Delegate _ _ _ c.close.result c.loop-name.invariant.kept_on c.close.ensures.heeds
+
+pub walk_directory-returns-clause-caused : goal.walk_directory-returns-clause-caused
+walk_directory-returns-clause-caused g t c =
+    let kept = c.loop-name.invariant in
+    Caused-later c.close.result kept.worktree.faults kept.store.faults kept.calm kept.listed (Caused-memory c.close.result c.close.ensures.memory)
+
+pub walk_name-returns-then-is_entered-clause-rules : goal.walk_name-returns-then-is_entered-clause-rules
+walk_name-returns-then-is_entered-clause-rules g t c = KeepsRules-then c.at.ensures.keeps.tree c.at.ensures.store.holds c.at.ensures.rules c.walk_directory.ensures.rules

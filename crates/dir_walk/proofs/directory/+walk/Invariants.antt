@@ -1,13 +1,19 @@
-use Rattle.std.proofs.Common.{◌≡◌, ◌+◌, ◌*◌, ℕ, Option, take}
+use Rattle.std.proofs.Common.{◌≡◌, ◌+◌, ◌*◌, ℕ, true, Option, take}
+use Rattle.gitbase_core.specs.Path.{components}
 use Rattle.worktree_fs.specs.Causes.{NotIncreased}
+use Rattle.worktree_fs.specs.Kept.{AsksStore}
 use Rattle.worktree_stack.specs.Setup.{Made}
 use Rattle.worktree_stack.specs.Reading.{Sources}
 use Rattle.dir_classify.specs.Chosen.{chosen}
-use Rattle.dir_classify.specs.Layers.{evidence, setting_of}
+use Rattle.dir_classify.specs.Kept.{KeepsRules}
+use Rattle.dir_classify.specs.Layers.{setting_of}
+use Rattle.dir_walk.specs.Kept.{KeepsTree, AsksInterrupt, KeepsDelegate}
+use Rattle.dir_walk.specs.Opens.{OpensWithin}
+use Rattle.dir_walk.specs.Puts.{Puts}
 use Rattle.dir_walk.specs.Report.{depth_of}
-use Rattle.dir_walk.specs.Emits.{Extends, Stands}
-use Rattle.dir_walk.specs.Kept.{KeepsAll, AsksInterrupt}
+use Rattle.dir_walk.specs.Told.{Stands}
 use Rattle.dir_walk.proofs.Named.{SoFar}
+use Rattle.dir_walk.proofs.Rooms.{once_below}
 use Rattle.dir_walk.proofs.directory.+walk.Given as goal
 
 abbrev pub decreases-walk_directory : goal.decreases-walk_directory
@@ -20,13 +26,21 @@ abbrev pub invariant-walk_directory-loop-name : goal.invariant-walk_directory-lo
 invariant-walk_directory-loop-name g l =
     let w = g.W.Worktree in
     let f = g.F.Find in
-    let before = l.fn.worktree in
-    let now = l.worktree in
+    let i = g.I.Interrupt in
+    let d = g.D.Delegate in
+    let given = setting_of g.M.Matcher l.shared in
     record {
-      keeps : KeepsAll w f before now l.fn.objects l.objects l.fn.excludes l.excludes;
-      kept : w.list_faults now ≡ w.list_faults before;
-      asks : AsksInterrupt g.I.Interrupt l.fn.interrupt l.interrupt (l.fn.outcome.read_dir_calls + 1) l.outcome.read_dir_calls;
-      extends : Extends l.fn.delegate.unorded_entries l.delegate.unorded_entries;
-      so_far : (s : Sources) (made : Option Made) → Stands (w.told before) (f.holds l.fn.objects) l.fn.excludes s made → NotIncreased (w.faults before) (w.faults now) → (limit : ℕ) → l.levels + depth_of l.place.rela ≡ limit
-          → SoFar (chosen l.shared.options) limit (evidence (setting_of g.M.Matcher l.shared) made s) s.tree l.place.full l.place.rela (take l.name-index l.name-items) l.fn.delegate.unorded_entries l.delegate.unorded_entries l.fn.outcome l.outcome;
+      worktree : KeepsTree w l.fn.worktree l.worktree;
+      store : AsksStore f l.fn.objects l.objects;
+      rules : KeepsRules w f l.fn.worktree l.worktree l.fn.objects l.fn.excludes l.excludes;
+      interrupt : AsksInterrupt i l.fn.interrupt l.interrupt;
+      opens : OpensWithin w i l.fn.worktree l.worktree l.fn.interrupt l.interrupt l.fn.outcome l.outcome (chosen l.shared.options) l.fn.excludes l.excludes (components l.place.path) 1 0;
+      puts : Puts (once_below l.place.path (take l.name-index l.name-items)) (d.given l.fn.delegate) (d.given l.delegate) l.fn.outcome l.outcome l.held.entries.items;
+      delegate : KeepsDelegate d l.fn.delegate l.delegate;
+      listed : w.list_faults l.worktree ≡ w.list_faults l.fn.worktree;
+      calm : i.raised l.interrupt ≡ i.raised l.fn.interrupt;
+      kept_on : d.breaks l.delegate ≡ d.breaks l.fn.delegate;
+      so_far : (made : Option Made) (s : Sources) → Stands given (w.told l.fn.worktree) (f.holds l.fn.objects) l.fn.excludes l.blocked made s → NotIncreased (w.faults l.fn.worktree) (w.faults l.worktree)
+          → d.is_default l.fn.delegate ≡ true → (limit : ℕ) → l.levels + depth_of l.place.path ≡ limit
+          → SoFar given made s limit l.place.path (take l.name-index l.name-items) (d.given l.fn.delegate) (d.given l.delegate) l.fn.outcome l.outcome l.held.entries.items l.held.blocked;
     }

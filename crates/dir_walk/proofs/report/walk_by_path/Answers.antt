@@ -1,44 +1,56 @@
-use Rattle.std.proofs.Common.{◌≡◌, Some}
-use Rattle.dir_walk.specs.declared.report.Report.{Report}
-use Rattle.dir_walk.specs.Report.{report}
-use Rattle.dir_classify.specs.Chosen.{Chosen, chosen}
-use Rattle.dir_classify.specs.Evidence.{Evidence}
+use Rattle.std.proofs.Common.{Some, true, refl, ap, subst, List, ℕ, length, arith}
+use Rattle.std.proofs.lemmas.List.Sorted.{length_permutation}
+use Rattle.std.proofs.lemmas.Result.{err_from_is_err_and}
 use Rattle.dir_classify.specs.Excludes.{made_with}
-use Rattle.dir_classify.specs.Layers.{evidence, setting_in}
-use Rattle.dir_walk.proofs.Reports.{report-walked, ascends-walked, walked-hides_none}
+use Rattle.dir_classify.specs.Layers.{setting_in}
+use Rattle.dir_walk.specs.Emissions.{Emission}
+use Rattle.dir_walk.specs.Walks.{WalkGives}
+use Rattle.dir_walk.proofs.ByPath.{ascends-given, distinct-given, is-report}
+use Rattle.dir_walk.proofs.WalksSo.{walks-memory, walks-other}
 use Rattle.dir_walk.proofs.report.walk_by_path.Goals as goal
 
 pub returns-clause-gives : goal.returns-clause-gives
-returns-clause-gives g c = λ s told step quiet.
-    let o : Chosen = chosen c.args.options in
-    let ev : Evidence = evidence (setting_in g.M.Matcher c.args.worktree_root.now c.args.options c.args.ctx) (made_with c.args.ctx.excludes.now) s in
-    let root = c.args.worktree_root.now in
-    let limit = c.args.ctx.depth_limit in
-    let tree_is = g.met.W.Worktree.is_tree c.args.ctx.worktree.now s.tree told.tree_is in
-    report-walked o limit ev s.tree root c.in_ok-outcome.root
-    c.new-delegate.result.unorded_entries c.walk.new.delegate.unorded_entries c.in_ok-entries.entries c.in_ok-outcome.outcome
-    tree_is c.new-delegate.ensures c.in_ok-outcome.ensures.root (c.in_ok-outcome.ensures.gives s told step quiet) c.in_ok-entries.ensures.sorted
+returns-clause-gives g c = λ s tells quiet.
+    let a = c.args in
+    let given = setting_in g.M.Matcher a.worktree_root.now a.options a.ctx in
+    let made = made_with a.ctx.excludes.now in
+    let explicit = a.ctx.explicit_traversal_root.now in
+    let tree = g.met.W.Worktree.is_tree a.ctx.worktree.now s.tree tells.tells.tree_is in
+    is-report given made s explicit a.ctx.depth_limit tree c.walk.new.delegate.unorded_entries c.in_ok-entries.entries c.in_ok-outcome.outcome c.in_ok-outcome.root
+    (subst (λ (before : List Emission). WalkGives given made s explicit a.ctx.depth_limit (Some before) (Some c.walk.new.delegate.unorded_entries) (c.in_ok-outcome.outcome, c.in_ok-outcome.root)) c.new-delegate.ensures
+    (c.in_ok-outcome.ensures.feeds.gives s tells refl quiet (omega arith)))
+    c.in_ok-entries.ensures.sorted
 
-pub returns-clause-hides_none : goal.returns-clause-hides_none
-returns-clause-hides_none g c = λ s told step quiet.
-    let o : Chosen = chosen c.args.options in
-    let ev : Evidence = evidence (setting_in g.M.Matcher c.args.worktree_root.now c.args.options c.args.ctx) (made_with c.args.ctx.excludes.now) s in
-    let root = c.args.worktree_root.now in
-    let limit = c.args.ctx.depth_limit in
-    let tree_is = g.met.W.Worktree.is_tree c.args.ctx.worktree.now s.tree told.tree_is in
-    let made : Report = record { outcome = c.in_ok-outcome.outcome; root = c.in_ok-outcome.root; entries = c.in_ok-entries.entries } in
-    let is : report o limit ev s.tree root ≡ Some made =
-    report-walked o limit ev s.tree root c.in_ok-outcome.root c.new-delegate.result.unorded_entries c.walk.new.delegate.unorded_entries c.in_ok-entries.entries c.in_ok-outcome.outcome
-    tree_is c.new-delegate.ensures c.in_ok-outcome.ensures.root (c.in_ok-outcome.ensures.gives s told step quiet) c.in_ok-entries.ensures.sorted in
-    walked-hides_none o limit ev s.tree root made tree_is is
+pub returns-in_err-outcome-clause-walks_worktree : goal.returns-in_err-outcome-clause-walks_worktree
+returns-in_err-outcome-clause-walks_worktree g c =
+    let a = c.args in
+    let p = err_from_is_err_and c.from_residual.result c.from_residual.ensures.1 in
+    rw (p.1, p.2)
+    (walks-other g.W.Worktree g.F.Find g.I.Interrupt (setting_in g.M.Matcher a.worktree_root.now a.options a.ctx) a.ctx.explicit_traversal_root.now a.ctx.depth_limit true (λ r. r.0) (λ r. r.outcome) c.in_err-outcome.field-0.0
+    c.in_err-outcome.ensures.walks_worktree)
 
-pub returns-clause-ascending : goal.returns-clause-ascending
-returns-clause-ascending g c = λ s told step quiet.
-    let o : Chosen = chosen c.args.options in
-    let ev : Evidence = evidence (setting_in g.M.Matcher c.args.worktree_root.now c.args.options c.args.ctx) (made_with c.args.ctx.excludes.now) s in
-    let root = c.args.worktree_root.now in
-    let limit = c.args.ctx.depth_limit in
-    let tree_is = g.met.W.Worktree.is_tree c.args.ctx.worktree.now s.tree told.tree_is in
-    ascends-walked o limit ev s.tree root
-    c.new-delegate.result.unorded_entries c.walk.new.delegate.unorded_entries c.in_ok-entries.entries c.in_ok-outcome.outcome
-    tree_is c.new-delegate.ensures (c.in_ok-outcome.ensures.gives s told step quiet) c.in_ok-entries.ensures.sorted
+pub returns-in_err-entries-clause-walks_worktree : goal.returns-in_err-entries-clause-walks_worktree
+returns-in_err-entries-clause-walks_worktree g c =
+    let a = c.args in
+    let p = err_from_is_err_and c.from_residual-in_err-entries.result c.from_residual-in_err-entries.ensures.1 in
+    rw (p.1, p.2)
+    (walks-memory g.W.Worktree g.F.Find g.I.Interrupt (setting_in g.M.Matcher a.worktree_root.now a.options a.ctx) a.ctx.explicit_traversal_root.now a.ctx.depth_limit true (λ r. r.0) (λ r. r.outcome)
+    (c.in_ok-outcome.outcome, c.in_ok-outcome.root) c.in_ok-outcome.ensures.walks_worktree)
+
+pub returns-clause-ordered : goal.returns-clause-ordered
+returns-clause-ordered g c =
+    let a = c.args in
+    let got = c.walk.new.delegate.unorded_entries in
+    ascends-given got c.in_ok-entries.entries
+    (distinct-given (setting_in g.M.Matcher a.worktree_root.now a.options a.ctx) a.ctx.explicit_traversal_root.now c.new-delegate.result.unorded_entries got c.new-delegate.ensures c.in_ok-outcome.ensures.feeds.once)
+    c.in_ok-entries.ensures.sorted
+
+pub returns-clause-counted : goal.returns-clause-counted
+returns-clause-counted g c =
+    let got = c.walk.new.delegate.unorded_entries in
+    omega (
+      arith,
+      c.in_ok-outcome.ensures.feeds.returned refl,
+      ap {B = ℕ} (λ (xs : List Emission). length xs) c.new-delegate.ensures,
+      length_permutation got c.in_ok-entries.entries c.in_ok-entries.ensures.same,
+    )

@@ -1,52 +1,140 @@
+use Rattle.std.proofs.Common.{◌≡◌, ◌≤◌, ◌∙◌, ap, sym, refl, arith, Some, Ok, Err}
 use Rattle.std.proofs.lemmas.Result.{err_from_is_err_and}
-use Rattle.dir_classify.specs.Chosen.{Chosen, chosen}
-use Rattle.dir_classify.specs.Evidence.{Evidence}
-use Rattle.dir_classify.specs.Excludes.{made_with}
-use Rattle.dir_classify.specs.Layers.{evidence, setting_of}
-use Rattle.dir_walk.specs.Report.{walked}
-use Rattle.dir_walk.proofs.Parts.{IsPart-walked, IsPart-whole}
-use Rattle.dir_walk.proofs.Whole.{only-memory, WalkGives-all}
+use Rattle.worktree_fs.specs.Causes.{NotIncreased}
+use Rattle.worktree_fs.specs.Paths.{full_path}
+use Rattle.worktree_fs.specs.Tree.{Names}
+use Rattle.dir_classify.specs.declared.error.Error.TheVariants as errors
+use Rattle.dir_classify.specs.Layers.{setting_of}
+use Rattle.dir_walk.specs.declared.handed.Stop.TheVariants.{Broken}
+use Rattle.dir_walk.specs.Opens.{refused_walk}
+use Rattle.dir_walk.specs.Root.{rooted, traversal_root}
+use Rattle.dir_walk.specs.Rooting.{IsNormalized}
+use Rattle.dir_walk.proofs.FeedsSo.{feeds-broken, feeds-done, feeds-refused}
+use Rattle.dir_walk.proofs.Overall.{opens-whole, refused-most}
+use Rattle.dir_walk.proofs.WalksSo.{walks-done, walks-outside, walks-refused}
 use Rattle.dir_walk.proofs.walk.walk_parts.Goals as goal
 
-pub returns-in_err-walk_root-clause-walks_worktree : goal.returns-in_err-walk_root-clause-walks_worktree
-returns-in_err-walk_root-clause-walks_worktree g c =
-    record {
-      about = let p = err_from_is_err_and c.from_residual.result c.from_residual.ensures.1 in rw (p.1, p.2) c.in_err-walk_root.ensures.about;
-      cause = let p = err_from_is_err_and c.from_residual.result c.from_residual.ensures.1 in rw (p.1, p.2) c.in_err-walk_root.ensures.cause;
-      interrupted = let p = err_from_is_err_and c.from_residual.result c.from_residual.ensures.1 in rw (p.1, p.2) c.in_err-walk_root.ensures.interrupted;
-      found = λ s told. let p = err_from_is_err_and c.from_residual.result c.from_residual.ensures.1 in rw (p.1, p.2) (c.in_err-walk_root.ensures.found s told);
-      refused = λ s told step quiet. let p = err_from_is_err_and c.from_residual.result c.from_residual.ensures.1 in rw (p.1, p.2) (c.in_err-walk_root.ensures.refused s told step quiet);
-      complete = λ s told step quiet store_quiet calm walkable.
-          let p = err_from_is_err_and c.from_residual.result c.from_residual.ensures.1 in
-          let faults = g.W.Worktree.faults in
-          let stores = g.F.Find.faults in
-          let raised = g.I.Interrupt.raised in
-          rw (p.1, p.2)
-          (only-memory s (made_with c.args.excludes.now) (setting_of g.M.Matcher c.args.shared.now) c.args.depth_limit (faults c.args.worktree.now) (faults c.walk_root.new.worktree) (stores c.args.objects.now) (stores c.walk_root.new.objects)
-          (raised c.args.interrupt.now) (raised c.walk_root.new.interrupt) c.in_err-walk_root.field-0.0 c.in_err-walk_root.ensures.cause c.in_err-walk_root.ensures.interrupted
-          (c.in_err-walk_root.ensures.refused s told step quiet) quiet store_quiet calm walkable);
-      keeps = c.walk_root.ensures.keeps;
-      list_faults_kept = let p = err_from_is_err_and c.from_residual.result c.from_residual.ensures.1 in rw p.1 tt;
-      raised = c.walk_root.ensures.asks.raised;
-    }
+pub returns-in_err-root-clause-walks_worktree : goal.returns-in_err-root-clause-walks_worktree
+returns-in_err-root-clause-walks_worktree g c =
+    let a = c.args in
+    let p = err_from_is_err_and c.from_residual.result c.from_residual.ensures.1 in
+    let refused = c.in_err-root.ensures in
+    rw (p.1, p.2)
+    (walks-outside g.W.Worktree g.F.Find g.I.Interrupt (setting_of g.M.Matcher a.shared.now) a.explicit.now a.depth_limit (g.D.Delegate.is_default a.delegate.now) (λ r. r.0) refused.keeps refused.reads c.in_err-root.field-0.0
+    refused.about refused.refused refused.fault)
 
-pub returns-clause-gives : goal.returns-clause-gives
-returns-clause-gives g c = λ s told step quiet.
-    let o : Chosen = chosen c.args.shared.now.options in
-    let ev : Evidence = evidence (setting_of g.M.Matcher c.args.shared.now) (made_with c.args.excludes.now) s in
-    let root = c.args.shared.now.worktree_root.now in
-    WalkGives-all o c.args.depth_limit ev s.tree root c.args.delegate.now.unorded_entries c.walk_root.new.delegate.unorded_entries c.default-outcome.result c.walk_root.new.outcome
-    c.default-outcome.ensures.0 c.default-outcome.ensures.1.0 c.default-outcome.ensures.1.1 (c.in_ok-walk_root.ensures.gives s told step quiet)
+pub returns-in_err-full-clause-walks_worktree : goal.returns-in_err-full-clause-walks_worktree
+returns-in_err-full-clause-walks_worktree g c =
+    let a = c.args in
+    let p = err_from_is_err_and c.from_residual-in_err-full.result c.from_residual-in_err-full.ensures.1 in
+    let found = c.in_ok-root.ensures in
+    rw (p.1, p.2)
+    (walks-outside g.W.Worktree g.F.Find g.I.Interrupt (setting_of g.M.Matcher a.shared.now) a.explicit.now a.depth_limit (g.D.Delegate.is_default a.delegate.now) (λ r. r.0) found.keeps found.reads errors.OutOfMemory tt
+    (λ t told. tt) (λ before now. tt))
 
-pub returns-in_err-root-clause-part : goal.returns-in_err-root-clause-part
-returns-in_err-root-clause-part g c = λ s told step quiet w walk.
-    let o : Chosen = chosen c.args.shared.now.options in
-    let ev : Evidence = evidence (setting_of g.M.Matcher c.args.shared.now) (made_with c.args.excludes.now) s in
-    let root = c.args.shared.now.worktree_root.now in
-    let all = c.in_ok-walk_root.ensures.gives s told step quiet in
-    let entries = c.args.delegate.now.unorded_entries in
-    let after = c.walk_root.new.delegate.unorded_entries in
-    let p = err_from_is_err_and c.from_residual-in_err-root.result c.from_residual-in_err-root.ensures.1 in
-    rw p.1
-    (IsPart-walked o (walked o ev s.tree root) entries after all.w w all.walked_is walk
-    (IsPart-whole o c.args.depth_limit ev all.w entries after c.default-outcome.result c.walk_root.new.outcome all.gives))
+pub returns-in-Ok-clause-walks_worktree : goal.returns-in-Ok-clause-walks_worktree
+returns-in-Ok-clause-walks_worktree g c =
+    let a = c.args in
+    let w = g.W.Worktree in
+    let f = g.F.Find in
+    let i = g.I.Interrupt in
+    let d = g.D.Delegate in
+    let given = setting_of g.M.Matcher a.shared.now in
+    let root = c.as_bytes-2.result.now in
+    let found = c.in_ok-root.ensures in
+    let normal : IsNormalized given a.explicit.now root = rw c.as_bytes-2.ensures found.asked in
+    let rooted_is : (t : Names) → w.told a.worktree.now ≡ Some t → NotIncreased (w.faults a.worktree.now) (w.faults c.traversal_root.new.worktree) → traversal_root given t a.explicit.now ≡ rooted root =
+    λ t told quiet. found.root t told quiet ∙ ap rooted (sym c.as_bytes-2.ensures) in
+    let from = c.in-Ok.ensures in
+    let none : refused_walk c.walk_from.result ≤ 0 = rw c.in-Ok.is (omega arith) in
+    walks-done w f i d given a.explicit.now a.depth_limit (d.is_default a.delegate.now) (λ r. r.0) root found.keeps normal rooted_is (c.walk_from.new.outcome, c.in_ok-full.full) (Ok tt) from.ends from.ends.caused.listed from.ends.caused.calm
+    (opens-whole found.keeps.lists found.reads c.walk_from.result (Ok (c.walk_from.new.outcome, c.in_ok-full.full)) c.default-outcome.ensures.0 normal refl none c.walk_from.ensures.opens)
+
+pub returns-in-Ok-clause-feeds : goal.returns-in-Ok-clause-feeds
+returns-in-Ok-clause-feeds g c =
+    let a = c.args in
+    let w = g.W.Worktree in
+    let d = g.D.Delegate in
+    let given = setting_of g.M.Matcher a.shared.now in
+    let root = c.as_bytes-2.result.now in
+    let found = c.in_ok-root.ensures in
+    let normal : IsNormalized given a.explicit.now root = rw c.as_bytes-2.ensures found.asked in
+    let rooted_is : (t : Names) → w.told a.worktree.now ≡ Some t → NotIncreased (w.faults a.worktree.now) (w.faults c.traversal_root.new.worktree) → traversal_root given t a.explicit.now ≡ rooted root =
+    λ t told quiet. found.root t told quiet ∙ ap rooted (sym c.as_bytes-2.ensures) in
+    let from = c.in-Ok.ensures in
+    let zeros = c.default-outcome.ensures in
+    let full_is : c.in_ok-full.full ≡ full_path given.root root = c.in_ok-full.ensures ∙ ap (full_path given.root) (c.as_bytes.ensures ∙ sym c.as_bytes-2.ensures) in
+    feeds-done w g.F.Find d a.worktree.now c.traversal_root.new.worktree c.walk_from.new.worktree a.objects.now a.excludes.now a.delegate.now c.walk_from.new.delegate given a.explicit.now a.depth_limit root c.default-outcome.result c.walk_from.new.outcome
+    found.keeps from.ends.worktree.faults normal rooted_is from.ends.delegate c.walk_from.ensures.puts zeros.0 zeros.1.0 zeros.1.1 c.in_ok-full.full full_is from.ends.heeds.kept_on
+    (λ s told. g.met.W.Worktree.is_tree a.worktree.now s.tree told) from.gives
+
+pub returns-in-Err-Broken-clause-walks_worktree : goal.returns-in-Err-Broken-clause-walks_worktree
+returns-in-Err-Broken-clause-walks_worktree g c =
+    let a = c.args in
+    let w = g.W.Worktree in
+    let f = g.F.Find in
+    let i = g.I.Interrupt in
+    let d = g.D.Delegate in
+    let given = setting_of g.M.Matcher a.shared.now in
+    let root = c.as_bytes-2.result.now in
+    let found = c.in_ok-root.ensures in
+    let normal : IsNormalized given a.explicit.now root = rw c.as_bytes-2.ensures found.asked in
+    let rooted_is : (t : Names) → w.told a.worktree.now ≡ Some t → NotIncreased (w.faults a.worktree.now) (w.faults c.traversal_root.new.worktree) → traversal_root given t a.explicit.now ≡ rooted root =
+    λ t told quiet. found.root t told quiet ∙ ap rooted (sym c.as_bytes-2.ensures) in
+    let from = c.in-Err-Broken.ensures in
+    let none : refused_walk c.walk_from.result ≤ 0 = rw (c.in-Err-Broken.is, c.in-Err-Broken.field-0-is) (omega arith) in
+    walks-done w f i d given a.explicit.now a.depth_limit (d.is_default a.delegate.now) (λ r. r.0) root found.keeps normal rooted_is (c.walk_from.new.outcome, c.in_ok-full.full) (Err Broken) (rw c.in-Err-Broken.field-0-is at from.ends) (rw c.in-Err-Broken.field-0-is at from.ends).caused.listed (rw c.in-Err-Broken.field-0-is at from.ends).caused.calm
+    (opens-whole found.keeps.lists found.reads c.walk_from.result (Ok (c.walk_from.new.outcome, c.in_ok-full.full)) c.default-outcome.ensures.0 normal refl none c.walk_from.ensures.opens)
+
+pub returns-in-Err-Broken-clause-feeds : goal.returns-in-Err-Broken-clause-feeds
+returns-in-Err-Broken-clause-feeds g c =
+    let a = c.args in
+    let w = g.W.Worktree in
+    let d = g.D.Delegate in
+    let given = setting_of g.M.Matcher a.shared.now in
+    let root = c.as_bytes-2.result.now in
+    let found = c.in_ok-root.ensures in
+    let normal : IsNormalized given a.explicit.now root = rw c.as_bytes-2.ensures found.asked in
+    let rooted_is : (t : Names) → w.told a.worktree.now ≡ Some t → NotIncreased (w.faults a.worktree.now) (w.faults c.traversal_root.new.worktree) → traversal_root given t a.explicit.now ≡ rooted root =
+    λ t told quiet. found.root t told quiet ∙ ap rooted (sym c.as_bytes-2.ensures) in
+    let from = rw c.in-Err-Broken.field-0-is at c.in-Err-Broken.ensures in
+    let zeros = c.default-outcome.ensures in
+    let full_is : c.in_ok-full.full ≡ full_path given.root root = c.in_ok-full.ensures ∙ ap (full_path given.root) (c.as_bytes.ensures ∙ sym c.as_bytes-2.ensures) in
+    feeds-broken w g.F.Find d a.worktree.now c.traversal_root.new.worktree c.walk_from.new.worktree a.objects.now a.excludes.now a.delegate.now c.walk_from.new.delegate given a.explicit.now a.depth_limit root c.default-outcome.result c.walk_from.new.outcome
+    found.keeps from.ends.worktree.faults normal rooted_is from.ends.delegate c.walk_from.ensures.puts zeros.0 zeros.1.0 zeros.1.1 c.in_ok-full.full full_is from.ends.heeds
+    (λ s tells by quiet v is. from.part s tells quiet by v is)
+
+pub returns-clause-walks_worktree : goal.returns-clause-walks_worktree
+returns-clause-walks_worktree g c =
+    let a = c.args in
+    let w = g.W.Worktree in
+    let f = g.F.Find in
+    let i = g.I.Interrupt in
+    let d = g.D.Delegate in
+    let given = setting_of g.M.Matcher a.shared.now in
+    let root = c.as_bytes-2.result.now in
+    let found = c.in_ok-root.ensures in
+    let normal : IsNormalized given a.explicit.now root = rw c.as_bytes-2.ensures found.asked in
+    let rooted_is : (t : Names) → w.told a.worktree.now ≡ Some t → NotIncreased (w.faults a.worktree.now) (w.faults c.traversal_root.new.worktree) → traversal_root given t a.explicit.now ≡ rooted root =
+    λ t told quiet. found.root t told quiet ∙ ap rooted (sym c.as_bytes-2.ensures) in
+    let from = rw c.in-Err-Refused.field-0-is at c.in-Err-Refused.ensures in
+    let e = c.in-Err-Refused.error in
+    walks-refused w f i d given a.explicit.now a.depth_limit (d.is_default a.delegate.now) (λ r. r.0) root found.keeps normal rooted_is e from.ends from.about from.found
+    (λ s tells by quiet store_quiet. from.refused s tells quiet store_quiet by) from.no_root
+    (opens-whole found.keeps.lists found.reads c.walk_from.result (Err e) c.default-outcome.ensures.0 normal tt (refused-most c.walk_from.result) c.walk_from.ensures.opens)
+
+pub returns-clause-feeds : goal.returns-clause-feeds
+returns-clause-feeds g c =
+    let a = c.args in
+    let w = g.W.Worktree in
+    let d = g.D.Delegate in
+    let given = setting_of g.M.Matcher a.shared.now in
+    let root = c.as_bytes-2.result.now in
+    let found = c.in_ok-root.ensures in
+    let normal : IsNormalized given a.explicit.now root = rw c.as_bytes-2.ensures found.asked in
+    let rooted_is : (t : Names) → w.told a.worktree.now ≡ Some t → NotIncreased (w.faults a.worktree.now) (w.faults c.traversal_root.new.worktree) → traversal_root given t a.explicit.now ≡ rooted root =
+    λ t told quiet. found.root t told quiet ∙ ap rooted (sym c.as_bytes-2.ensures) in
+    let from = rw c.in-Err-Refused.field-0-is at c.in-Err-Refused.ensures in
+    feeds-refused w g.F.Find d a.worktree.now c.traversal_root.new.worktree c.walk_from.new.worktree a.objects.now a.excludes.now a.delegate.now c.walk_from.new.delegate given a.explicit.now a.depth_limit root c.default-outcome.result c.walk_from.new.outcome
+    found.keeps from.ends.worktree.faults normal rooted_is from.ends.delegate c.walk_from.ensures.puts c.in-Err-Refused.error from.ends.heeds
+    (λ s tells by quiet v is. from.part s tells quiet by v is)

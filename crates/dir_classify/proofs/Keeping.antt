@@ -1,0 +1,73 @@
+-- What stays, and what was asked, when steps follow one another.
+use Rattle.std.proofs.Common.{◌≡◌, ◌≤◌, ◌∙◌, ℕ, List, true, Bool, Option, Ok, Err, refl, inl, inr, arith}
+use Rattle.std.specs.Prelude.{Result}
+use Rattle.gitbase_core.specs.Objects.{Objects}
+use Rattle.worktree_fs.specs.Causes.{Increased, NotIncreased}
+use Rattle.worktree_fs.specs.Kept.{Asks}
+use Rattle.worktree_fs.specs.Tree.{Names}
+use Rattle.worktree_fs.specs.declared.worktree.Worktree.{Ghosts as WorktreeOf}
+use Rattle.worktree_stack.specs.Reading.{Sources}
+use Rattle.worktree_stack.specs.Setup.{Made}
+use Rattle.worktree_stack.specs.Stacked.{Stacked}
+use Rattle.dir_classify.specs.Excludes.{TellsIf}
+use Rattle.dir_classify.specs.Kept.{AsksRules, AsksAtMost}
+
+pub asks-rules : {W : Type 0} (w : WorktreeOf W) (w0 w1 : W) → Asks w w0 w1 → AsksRules w w0 w1
+asks-rules w w0 w1 asks = record { tree = asks.tree; faults = asks.faults; list_faults = asks.list_faults; lists = asks.lists; precomposes = asks.precomposes }
+
+pub asks-same : {W : Type 0} (w : WorktreeOf W) (w0 : W) → Asks w w0 w0
+asks-same w w0 = record { tree = refl; faults = omega arith; list_faults = refl; reads = omega arith; lists = refl; precomposes = refl }
+
+pub asks-then : {W : Type 0} (w : WorktreeOf W) (w0 w1 w2 : W) → AsksRules w w0 w1 → AsksRules w w1 w2 → AsksRules w w0 w2
+asks-then w w0 w1 w2 a b =
+    record {
+      tree = b.tree ∙ a.tree;
+      faults = omega (arith, a.faults, b.faults);
+      list_faults = b.list_faults ∙ a.list_faults;
+      lists = b.lists ∙ a.lists;
+      precomposes = b.precomposes ∙ a.precomposes;
+    }
+
+-- without a fault in all there was none in a part
+pub quiet-first : (n0 n1 n2 : ℕ) → n0 ≤ n1 → n1 ≤ n2 → NotIncreased n0 n2 → NotIncreased n0 n1
+quiet-first n0 n1 n2 a b quiet = omega (arith, a, b, quiet)
+
+pub quiet-second : (n0 n1 n2 : ℕ) → n0 ≤ n1 → n1 ≤ n2 → NotIncreased n0 n2 → NotIncreased n1 n2
+quiet-second n0 n1 n2 a b quiet = omega (arith, a, b, quiet)
+
+-- the same tree is told
+pub tells-then : (told0 told1 : Option Names) (holds : Option Objects) (made : Option Made) (s : Sources) → told1 ≡ told0 → TellsIf told0 holds made s → TellsIf told1 holds made s
+tells-then told0 told1 holds made s same tells = record { tree_is = same ∙ tells.tree_is; objects_are = tells.objects_are }
+
+-- a fault that was counted in a part was counted in all
+pub increased-later : (n0 n1 n2 : ℕ) → n0 ≤ n1 → Increased n1 n2 → Increased n0 n2
+increased-later n0 n1 n2 a more = omega (arith, a, more)
+
+-- ---- about which path the rules were asked
+
+-- they were, and then the worktree was read no more where repositories are walked into
+pub at-most : {T U E : Type 0} (recurses : Bool) (path : List ℕ) (r0 r1 r2 : ℕ) (old new : Option Stacked) (t : T) (u : U) → (recurses ≡ true → r2 ≡ r1)
+    → AsksAtMost {T = T} {E = E} true path r0 r1 old new (Ok t) → AsksAtMost {T = U} {E = E} recurses path r0 r2 old new (Ok u)
+at-most recurses path r0 r1 r2 old new t u same (inl asked) = inl (record { same = asked.same; reads = λ on. same on ∙ asked.reads refl })
+at-most recurses path r0 r1 r2 old new t u same (inr asked) =
+    inr (record { looked_up = asked.looked_up; on_way = asked.on_way; reads = λ on. let r = same on in let most = asked.reads refl in omega (arith, r, most) })
+
+-- they were, and a later step was refused
+pub at-most-stopped : {T U E : Type 0} (recurses : Bool) (path : List ℕ) (r0 r1 r2 : ℕ) (old new : Option Stacked) (t : T) (e : E) → (recurses ≡ true → r2 ≡ r1)
+    → AsksAtMost {T = T} {E = E} true path r0 r1 old new (Ok t) → AsksAtMost {T = U} {E = E} recurses path r0 r2 old new (Err e)
+at-most-stopped recurses path r0 r1 r2 old new t e same (inl asked) = inl (record { same = asked.same; reads = λ on. same on ∙ asked.reads refl })
+at-most-stopped recurses path r0 r1 r2 old new t e same (inr asked) =
+    inr (record { looked_up = tt; on_way = asked.on_way; reads = λ on. let r = same on in let most = asked.reads refl in omega (arith, r, most) })
+
+-- they were asked and refused
+pub at-most-refused : {T U E : Type 0} (recurses : Bool) (path : List ℕ) (r0 r1 : ℕ) (old new : Option Stacked) (e : E)
+    → AsksAtMost {T = T} {E = E} true path r0 r1 old new (Err e) → AsksAtMost {T = U} {E = E} recurses path r0 r1 old new (Err e)
+at-most-refused recurses path r0 r1 old new e (inl asked) = inl (record { same = asked.same; reads = λ on. asked.reads refl })
+at-most-refused recurses path r0 r1 old new e (inr asked) = inr (record { looked_up = tt; on_way = asked.on_way; reads = λ on. asked.reads refl })
+
+-- before they were asked, the worktree was not read
+pub at-most-later : {T E : Type 0} (recurses : Bool) (path : List ℕ) (r0 r1 r2 : ℕ) (old new : Option Stacked) (result : Result T E) → r1 ≡ r0
+    → AsksAtMost recurses path r1 r2 old new result → AsksAtMost recurses path r0 r2 old new result
+at-most-later recurses path r0 r1 r2 old new result same (inl asked) = inl (record { same = asked.same; reads = λ on. asked.reads on ∙ same })
+at-most-later recurses path r0 r1 r2 old new result same (inr asked) =
+    inr (record { looked_up = asked.looked_up; on_way = asked.on_way; reads = λ on. let most = asked.reads on in omega (arith, same, most) })

@@ -1,0 +1,124 @@
+-- What the rules were asked on the way to a traversal root.
+use Rattle.std.proofs.Common.{◌≡◌, ◌∙◌, ap, sym, subst, ℕ, List, [], ◌∷◌, ◌++◌, length, Bool, true, false, Option, Some, None, Ok, Err, refl, inl, inr, append_assoc, arith}
+use Rattle.std.specs.Prelude.{Result, if◌then◌else◌}
+use Rattle.std.specs.Str.{bytes_eq}
+use Rattle.std.proofs.lemmas.List.{append-nil}
+use Rattle.gitbase_core.specs.Path.{components}
+use Rattle.worktree_fs.specs.Paths.{common_front, spelled, without_last}
+use Rattle.worktree_fs.specs.PathStack.{IsOnWay}
+use Rattle.worktree_fs.proofs.Grown.{same_name}
+use Rattle.worktree_stack.specs.Lookups.{staying}
+use Rattle.worktree_stack.specs.Stacked.{Stacked, pushed}
+use Rattle.dir_classify.specs.declared.classify.RootOutcome.{RootOutcome}
+use Rattle.dir_classify.specs.declared.error.Error.{Error}
+use Rattle.dir_classify.specs.Excludes.{pushed_in}
+use Rattle.dir_classify.specs.Kept.{AsksAtMost}
+use Rattle.dir_classify.specs.Rooted.{AsksOnWay, LeadsTo}
+
+-- ---- what lies on the way to a path lies on the way to those beneath it
+
+-- what is left of a list before its last element, and of a longer one
+front-more : {A : Type 0} (xs ys : List A) → (zs : List A) × (without_last (xs ++ ys) ≡ without_last xs ++ zs)
+front-more [] ys = (without_last ys, refl)
+front-more (x ∷ []) [] = ([], refl)
+front-more (x ∷ []) (y ∷ ys) = (x ∷ without_last (y ∷ ys), refl)
+front-more (x ∷ y ∷ xs) ys = let rest = front-more (y ∷ xs) ys in (rest.0, ap (λ l. x ∷ l) rest.1)
+
+pub on-way-further : (at : Option (List (List ℕ))) (names more : List (List ℕ)) → IsOnWay at names → IsOnWay at (names ++ more)
+on-way-further None names more is = tt
+on-way-further (Some pushed) names more is =
+    let rest = front-more names more in
+    record { rest = is.rest ++ rest.0; joined = rest.1 ∙ ap (λ l. l ++ rest.0) is.joined ∙ append_assoc pushed is.rest rest.0 }
+
+common-self : (xs ys : List (List ℕ)) → common_front xs (xs ++ ys) ≡ xs
+common-self [] ys = refl
+common-self (x ∷ xs) ys = go (common-self xs ys) (bytes_eq x x) (same_name x x refl)
+  where
+    go : common_front xs (xs ++ ys) ≡ xs → (b : Bool) → b ≡ true → (if b then x ∷ common_front xs (xs ++ ys) else []) ≡ x ∷ xs
+    go ih true e = ap (λ (l : List (List ℕ)). x ∷ l) ih
+    go ih false e = absurd (cc e)
+
+-- what lies on the way to a path stays pushed in its lookup
+stays-on-way : (at : Option (List (List ℕ))) (names : List (List ℕ)) → IsOnWay at names → staying at names ≡ at
+stays-on-way None names is = refl
+stays-on-way (Some pushed) names is = ap Some (ap (common_front pushed) is.joined ∙ common-self pushed is.rest)
+
+leads-further : (root path first : List ℕ) (rest : List (List ℕ)) → components root ≡ components path ++ rest → LeadsTo path first → LeadsTo root first
+leads-further root path first rest split leads =
+    record { spelled_is = leads.spelled_is; rest = leads.rest ++ rest; components_are = split ∙ ap (λ l. l ++ rest) leads.components_are ∙ append_assoc (components first) leads.rest rest }
+
+-- ---- one path further
+
+module _ {T E : Type 0} (recurses : Bool) (path name next : List ℕ) (r0 r1 r2 : ℕ) (old now new : Option Stacked) (result : Result T E)
+    (grown : components next ≡ components path ++ name ∷ []) (next_is : next ≡ spelled (components next)) where
+  further : (at : Option (List (List ℕ))) → IsOnWay at (components path) → IsOnWay at (components next)
+  further at is = subst (IsOnWay at) (sym grown) (on-way-further at (components path) (name ∷ []) is)
+
+  pub way-asked : AsksOnWay {T = Unit {0}} {E = Error} recurses path r0 r1 old now (Ok tt) → AsksAtMost recurses next r1 r2 now new result → AsksOnWay recurses next r0 r2 old new result
+  way-asked (inl a) (inl b) = inl (record { same = b.same ∙ a.same; reads = λ on. b.reads on ∙ a.reads on })
+  way-asked (inl a) (inr b) =
+      inr (record {
+        first = next;
+        leads = record { spelled_is = next_is; rest = []; components_are = sym (append-nil (components next)) };
+        on_way = b.on_way;
+        reads = λ on.
+            let same = a.reads on in
+            let stay : length (pushed (staying (pushed_in now) (components next))) ≡ length (pushed (staying (pushed_in old) (components next))) =
+            ap (λ (o : Option Stacked). length (pushed (staying (pushed_in o) (components next)))) a.same in
+            let most = b.reads on in
+            omega (arith, same, stay, most);
+      })
+  way-asked (inr a) (inl b) =
+      inr (record {
+        first = a.first;
+        leads = leads-further next path a.first (name ∷ []) grown a.leads;
+        on_way = subst (λ (o : Option Stacked). IsOnWay (pushed_in o) (components next)) (sym b.same) (further (pushed_in now) a.on_way);
+        reads = λ on.
+            let same = b.reads on in
+            let all : length (pushed (pushed_in new)) ≡ length (pushed (pushed_in now)) = ap (λ (o : Option Stacked). length (pushed (pushed_in o))) b.same in
+            let most = a.reads on in
+            omega (arith, same, all, most);
+      })
+  way-asked (inr a) (inr b) =
+      inr (record {
+        first = a.first;
+        leads = leads-further next path a.first (name ∷ []) grown a.leads;
+        on_way = b.on_way;
+        reads = λ on.
+            let stay : length (pushed (staying (pushed_in now) (components next))) ≡ length (pushed (pushed_in now)) =
+            ap (λ (at : Option (List (List ℕ))). length (pushed at)) (stays-on-way (pushed_in now) (components next) (further (pushed_in now) a.on_way)) in
+            let first = a.reads on in
+            let then_ = b.reads on in
+            omega (arith, stay, first, then_);
+      })
+
+-- ---- the whole way
+
+pub way-root : {T E : Type 0} (recurses : Bool) (root path : List ℕ) (rest : List (List ℕ)) (r0 r1 : ℕ) (old new : Option Stacked) (result : Result T E)
+    → components root ≡ components path ++ rest → AsksOnWay recurses path r0 r1 old new result → AsksOnWay recurses root r0 r1 old new result
+way-root recurses root path rest r0 r1 old new result split (inl a) = inl a
+way-root recurses root path rest r0 r1 old new result split (inr a) =
+    inr (record {
+      first = a.first;
+      leads = leads-further root path a.first rest split a.leads;
+      on_way = subst (IsOnWay (pushed_in new)) (sym split) (on-way-further (pushed_in new) (components path) rest a.on_way);
+      reads = a.reads;
+    })
+
+-- whatever was answered, and whatever was refused
+pub way-answered : {T U : Type 0} (recurses : Bool) (path : List ℕ) (r0 r1 : ℕ) (old new : Option Stacked) (t : T) (u : U)
+    → AsksOnWay {T = T} {E = Error} recurses path r0 r1 old new (Ok t) → AsksOnWay {T = U} {E = Error} recurses path r0 r1 old new (Ok u)
+way-answered recurses path r0 r1 old new t u (inl a) = inl a
+way-answered recurses path r0 r1 old new t u (inr a) = inr (record { first = a.first; leads = a.leads; on_way = a.on_way; reads = a.reads })
+
+pub way-refused : {T U : Type 0} (recurses : Bool) (path : List ℕ) (r0 r1 : ℕ) (old new : Option Stacked) (e : Error)
+    → AsksOnWay {T = T} {E = Error} recurses path r0 r1 old new (Err e) → AsksOnWay {T = U} {E = Error} recurses path r0 r1 old new (Err e)
+way-refused recurses path r0 r1 old new e (inl a) = inl a
+way-refused recurses path r0 r1 old new e (inr a) = inr (record { first = a.first; leads = a.leads; on_way = a.on_way; reads = a.reads })
+
+-- memory was refused before the next path was asked about
+pub way-stopped : (recurses : Bool) (path : List ℕ) (r0 r1 : ℕ) (old new : Option Stacked) (e : Error)
+    → AsksOnWay {T = Unit {0}} {E = Error} recurses path r0 r1 old new (Ok tt) → AsksOnWay {T = RootOutcome} {E = Error} recurses path r0 r1 old new (Err e)
+way-stopped recurses path r0 r1 old new e (inl a) = inl a
+way-stopped recurses path r0 r1 old new e (inr a) =
+    inr (record { first = a.first; leads = a.leads; on_way = a.on_way; reads = λ on. let most = a.reads on in omega (arith, most) })

@@ -1,0 +1,28 @@
+use Rattle.std.proofs.Common.{◌≡◌, refl, false, rules}
+use Rattle.gitbase_core.specs.Path.{is_empty}
+use Rattle.std.proofs.lemmas.Result.{err_from_is_err_and}
+use Rattle.dir_classify.specs.Excludes.{made_with}
+use Rattle.dir_classify.specs.Layers.{setting_of}
+use Rattle.dir_classify.proofs.Keeping.{tells-then}
+use Rattle.dir_classify.proofs.Refusals.{on-access}
+use Rattle.dir_classify.proofs.Ruled.{made-some, ruled-read}
+use Rattle.dir_classify.proofs.steps.ruling_at.Goals as goal
+
+pub returns-clause-swallowed : goal.returns-clause-swallowed
+returns-clause-swallowed g c = λ s tells step.
+    ruled-read (setting_of g.M.Matcher c.args.shared.now) (made_with c.args.excludes.now) s c.args.rela_path.now c.args.full.now c.args.kind c.in_ok-is_dir.is_dir c.in_ok-ruling.ruling
+    c.requires.full (made-some c.args.excludes.now (search rules)) (search rules) (c.in_ok-is_dir.ensures.swallowed s.tree tells.tree_is) (c.in_ok-ruling.ensures.ruling s
+    (tells-then (g.W.Worktree.told c.args.worktree.now) (g.W.Worktree.told c.ruled_as.new.worktree) (g.F.Find.holds c.args.objects.now) (made_with c.args.excludes.now) s c.in_ok-is_dir.ensures.keeps.tree tells) step)
+
+pub returns-in_err-ruling-clause-asked : goal.returns-in_err-ruling-clause-asked
+returns-in_err-ruling-clause-asked g c =
+    let p = err_from_is_err_and c.from_residual-in_err-ruling.result c.from_residual-in_err-ruling.ensures.1 in
+    let given = made-some c.args.excludes.now (search rules) in
+    let some : is_empty c.args.rela_path.now ≡ false = search rules in
+    rw (p.1, p.2) (on-access _ (rw (given, some) refl) c.in_err-ruling.field-0.0)
+
+pub returns-in_err-ruling-clause-untouched : goal.returns-in_err-ruling-clause-untouched
+returns-in_err-ruling-clause-untouched g c =
+    let given = made-some c.args.excludes.now (search rules) in
+    let some : is_empty c.args.rela_path.now ≡ false = search rules in
+    λ none. absurd (let never = rw (given, some) at none in cc never)

@@ -1,0 +1,18 @@
+//! Paths below the worktree root.
+ghost use Rattle.std.specs.Prelude.{◌≡◌, IfOk};
+ghost use Rattle.dir_classify.specs.Paths.{full_path};
+
+use gitbase_core::{OutOfMemory, PathText};
+use std::alloc::Global;
+
+/// The whole path of one that is relative to the worktree root: the root itself for the empty path. A slash stands between
+/// the two, unless the root ends in one.
+pub fn full_path(alloc: Global, worktree_root: &[u8], path: &[u8]) -> Result<PathText, OutOfMemory>
+    ensures { IfOk result (λ full. full ≡ full_path worktree_root.now path.now) }
+{
+    let mut full = PathText::from_bytes(alloc, worktree_root)?;
+    if !path.is_empty() {
+        full.push_component(alloc, path)?;
+    }
+    Ok(full)
+}

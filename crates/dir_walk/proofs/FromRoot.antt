@@ -1,0 +1,104 @@
+-- What is opened, read and given from a traversal root on.
+use Rattle.std.proofs.Common.{◌≡◌, ℕ, ◌+◌, ◌-◌, ◌≤◌, max, List, [], ◌∷◌, ◌++◌, Bool, true, Option, Some, None, Result, inl, inr, length, append_assoc, refl, ap, ◌∙◌, arith}
+use Rattle.std.proofs.lemmas.List.{length-append}
+use Rattle.gitbase_core.specs.Path.{components}
+use Rattle.worktree_fs.specs.declared.interrupt.Interrupt.{Ghosts as InterruptOf}
+use Rattle.worktree_fs.specs.declared.worktree.Worktree.{Ghosts as WorktreeOf}
+use Rattle.worktree_fs.specs.Paths.{common_front, without_last}
+use Rattle.worktree_fs.specs.PathStack.{IsOnWay}
+use Rattle.worktree_stack.specs.Lookups.{refused_one}
+use Rattle.worktree_stack.specs.Stacked.{Stacked, pushed}
+use Rattle.dir_classify.specs.declared.entry.Entry.{Entry}
+use Rattle.dir_classify.specs.Chosen.{Chosen}
+use Rattle.dir_classify.specs.Excludes.{pushed_in}
+use Rattle.dir_classify.specs.Rooted.{AsksOnWay}
+use Rattle.dir_walk.specs.declared.handed.Stop.{Stop}
+use Rattle.dir_walk.specs.declared.outcome.Outcome.{Outcome}
+use Rattle.dir_walk.specs.Emissions.{Emission}
+use Rattle.dir_walk.specs.Opens.{OpensFrom, OpensWithin, pushed_to, refused_walk}
+use Rattle.dir_walk.specs.Puts.{Puts, held_at}
+use Rattle.dir_walk.proofs.Lists.{and_left}
+use Rattle.dir_walk.proofs.Opening.{front-all, length-fronts, opens-refused, pushed-most}
+use Rattle.dir_walk.proofs.Putting.{Puts-as, Puts-over}
+
+-- ---- the way to the traversal root
+
+last-of : (names : List (List ℕ)) → (last : List (List ℕ)) × (names ≡ without_last names ++ last)
+last-of [] = ([], refl)
+last-of (name ∷ []) = (name ∷ [], refl)
+last-of (name ∷ next ∷ names) = let more = last-of (next ∷ names) in (more.0, ap (λ (l : List (List ℕ)). name ∷ l) more.1)
+
+-- what is pushed on the way to a directory is held for it
+held-on-way : (at : Option (List (List ℕ))) (names : List (List ℕ)) → IsOnWay at names → length (pushed at) ≤ pushed_to at names
+held-on-way None names way = omega arith
+held-on-way (Some held) names way =
+    let last = last-of names in
+    let front : common_front held names ≡ held =
+    ap (common_front held) (last.1 ∙ ap (λ (l : List (List ℕ)). l ++ last.0) way.joined ∙ append_assoc held way.rest last.0) ∙ front-all held (way.rest ++ last.0) in
+    omega (arith, length-fronts held, ap {B = ℕ} (λ (l : List (List ℕ)). length l) front)
+
+-- the classes on the way read at most once for each directory there whose rules are held then
+asks-on-way : {T E : Type 0} (recurses : Bool) (root : List ℕ) (reads0 reads1 : ℕ) (old new : Option Stacked) (result : Result T E) → recurses ≡ true → AsksOnWay recurses root reads0 reads1 old new result
+    → reads1 ≤ reads0 + pushed_to (pushed_in new) (components root) + refused_one result
+asks-on-way recurses root reads0 reads1 old new result on (inl unasked) = omega (arith, unasked.reads on)
+asks-on-way recurses root reads0 reads1 old new result on (inr asked) = omega (arith, asked.reads on, held-on-way (pushed_in new) (components root) asked.on_way)
+
+-- what is pushed on the way to a directory lies above it, or is the worktree root
+above-last : (names : List (List ℕ)) → length (without_last names) ≤ length names - 1
+above-last [] = omega arith
+above-last (name ∷ []) = omega arith
+above-last (name ∷ next ∷ names) = omega (arith, above-last (next ∷ names))
+
+pushed-above : (at : Option (List (List ℕ))) (names : List (List ℕ)) → IsOnWay at names → length (pushed at) ≤ max (length names) 1
+pushed-above None names way = omega arith
+pushed-above (Some held) names way = omega (arith, length-fronts held, above-last names, ap {B = ℕ} (λ (l : List (List ℕ)). length l) way.joined, length-append held way.rest)
+
+-- so the classes on the way read at most once for each component
+asks-above : {T E : Type 0} (recurses : Bool) (root : List ℕ) (reads0 reads1 : ℕ) (old new : Option Stacked) (result : Result T E) → recurses ≡ true → AsksOnWay recurses root reads0 reads1 old new result
+    → reads1 ≤ reads0 + max (length (components root)) 1 + refused_one result
+asks-above recurses root reads0 reads1 old new result on (inl unasked) = omega (arith, unasked.reads on)
+asks-above recurses root reads0 reads1 old new result on (inr asked) = omega (arith, asked.reads on, pushed-above (pushed_in new) (components root) asked.on_way)
+
+-- ---- what is opened
+
+-- a traversal root is to be entered, and want of memory comes first
+pub opens-not : {W I : Type 0} {w : WorktreeOf W} {i : InterruptOf I} {o : Chosen} {w0 w1 : W} {i0 : I} {a : Outcome} {at : Option Stacked} {names : List (List ℕ)} → w.lists w1 ≡ w.lists w0 → w.reads w1 ≡ w.reads w0
+    → OpensWithin w i w0 w1 i0 i0 a a o at at names 1 1
+opens-not lists reads = opens-refused (0, record { listed = λ small. omega (arith, lists, small); counted = λ small. omega (arith, small); asked = omega arith }) reads
+
+module _ {W I T U E : Type 0} {w : WorktreeOf W} {i : InterruptOf I} {o : Chosen} {w0 w2 : W} (w1 : W) {i0 : I} {a b : Outcome} {old mid : Option Stacked} {root : List ℕ} {reached : Result U E}
+    (asks : AsksOnWay o.recurse_repositories root (w.reads w0) (w.reads w1) old mid reached) where
+  -- the way to the traversal root ended before it, or it is not entered
+  pub opens-short : (result : Result T Stop) → w.lists w2 ≡ w.lists w0 → w.reads w2 ≡ w.reads w1 → b.read_dir_calls ≡ a.read_dir_calls → refused_one reached ≤ refused_walk result
+      → OpensFrom w i w0 w2 i0 i0 a b o old root result
+  opens-short result lists reads counted fits =
+      record {
+        opened = 0;
+        opens = record { listed = λ small. omega (arith, lists, small); counted = λ small. omega (arith, counted, small); asked = omega arith };
+        reads = λ on none. omega (arith, asks-above o.recurse_repositories root (w.reads w0) (w.reads w1) old mid reached (and_left o.recurse_repositories _ on) asks, reads, fits);
+      }
+
+  -- it is entered
+  pub opens-entered : {w3 : W} {i1 : I} {new : Option Stacked} (result : Result T Stop) → w.lists w2 ≡ w.lists w0 → w.reads w2 ≡ w.reads w1 → refused_one reached ≡ 0
+      → OpensWithin w i w2 w3 i0 i1 a b o mid new (components root) 1 (refused_walk result) → OpensFrom w i w0 w3 i0 i1 a b o old root result
+  opens-entered {new = new} result lists reads answered one =
+      record {
+        opened = one.opened;
+        opens = record { listed = λ small. omega (arith, lists, small, one.opens.listed (omega (arith, lists, small))); counted = one.opens.counted; asked = one.opens.asked };
+        reads = λ on none.
+            omega (
+              arith,
+              asks-on-way o.recurse_repositories root (w.reads w0) (w.reads w1) old mid reached (and_left o.recurse_repositories _ on) asks,
+              one.reads on,
+              pushed-most (pushed_in new) (components root),
+              reads,
+              answered,
+            );
+      }
+
+-- ---- what is given
+
+-- what was handed up, if anything, is put out
+pub Puts-out : {room : List ℕ → ℕ} {a b c : Option (List Emission)} {i j k : Outcome} (up : List Entry) → Puts room a b i j up → Puts (λ path. held_at path up) b c j k [] → Puts room a c i k []
+Puts-out {room} {a} {b} {c} {i} {j} {k} up one two =
+    Puts-over room (λ path. 0) room a b c i j k up [] one (Puts-as (λ path. held_at path up) (λ path. 0 + held_at path up) b c j k [] two (λ path. omega arith)) (λ path. omega arith)

@@ -1,0 +1,176 @@
+-- Directories that are opened, one call after another, and what is read for their rules.
+use Rattle.std.proofs.Common.{◌≡◌, ℕ, ◌+◌, ◌≤◌, not, List, [], ◌∷◌, ◌++◌, Bool, true, false, cond, Option, Some, None, Result, inl, inr, length, refl, sym, ap, ◌∙◌, arith}
+use Rattle.std.specs.Str.{bytes_eq}
+use Rattle.std.proofs.lemmas.Cmp.{nat_list_eq_equiv}
+use Rattle.std.proofs.lemmas.List.{length-map}
+use Rattle.gitbase_core.specs.Path.{components, joined}
+use Rattle.worktree_fs.specs.declared.interrupt.Interrupt.{Ghosts as InterruptOf}
+use Rattle.worktree_fs.specs.declared.worktree.Worktree.{Ghosts as WorktreeOf}
+use Rattle.worktree_fs.specs.Causes.{with_more}
+use Rattle.worktree_fs.specs.Naming.{IsName}
+use Rattle.worktree_fs.specs.Paths.{common_front, fronts, without_last}
+use Rattle.worktree_fs.specs.PathStack.{IsOnWay, kept}
+use Rattle.worktree_fs.proofs.Spelled.{without_last-snoc}
+use Rattle.worktree_stack.specs.Lookups.{staying, refused_one}
+use Rattle.worktree_stack.specs.Stacked.{Stacked, pushed}
+use Rattle.dir_classify.specs.Chosen.{Chosen, may_hide_repositories}
+use Rattle.dir_classify.specs.Excludes.{pushed_in}
+use Rattle.dir_classify.specs.Kept.{AsksAtMost}
+use Rattle.dir_walk.specs.declared.outcome.Outcome.{Outcome}
+use Rattle.dir_walk.specs.Opens.{Opens, OpensWithin, pushed_to, reads_rules_alone}
+use Rattle.dir_walk.proofs.Lists.{and_left, and_right}
+use Rattle.dir_walk.proofs.Placed.{components-child}
+
+-- ---- directories on the way to one
+
+pub length-fronts : (names : List (List ℕ)) → length (fronts names) ≡ length names + 1
+length-fronts [] = refl
+length-fronts (name ∷ names) = omega (arith, length-map (fronts names) (λ (front : List (List ℕ)). name ∷ front), length-fronts names)
+
+pub front-all : (names rest : List (List ℕ)) → common_front names (names ++ rest) ≡ names
+front-all [] rest = refl
+front-all (name ∷ names) rest = rw (nat_list_eq_equiv.refl name, front-all names rest) refl
+
+-- one more directory on the way is held, or is not
+front-grows : (held names : List (List ℕ)) (name : List ℕ)
+    → (length (common_front held names) ≤ length (common_front held (names ++ name ∷ []))) × (length (common_front held (names ++ name ∷ [])) ≤ length (common_front held names) + 1)
+front-grows [] names name = (omega arith, omega arith)
+front-grows (h ∷ held) [] name = go (bytes_eq h name)
+  where
+    go : (b : Bool) → (0 ≤ length (cond b (h ∷ common_front held []) [])) × (length (cond b (h ∷ common_front held []) []) ≤ 0 + 1)
+    go true = none held
+      where
+        none : (held : List (List ℕ)) → (0 ≤ length (h ∷ common_front held [])) × (length (h ∷ common_front held []) ≤ 0 + 1)
+        none [] = (omega arith, omega arith)
+        none (x ∷ held) = (omega arith, omega arith)
+    go false = (omega arith, omega arith)
+front-grows (h ∷ held) (n ∷ names) name = go (bytes_eq h n) (front-grows held names name)
+  where
+    go : (b : Bool)
+        → (length (common_front held names) ≤ length (common_front held (names ++ name ∷ []))) × (length (common_front held (names ++ name ∷ [])) ≤ length (common_front held names) + 1)
+        → (length (cond b (h ∷ common_front held names) []) ≤ length (cond b (h ∷ common_front held (names ++ name ∷ [])) []))
+        × (length (cond b (h ∷ common_front held (names ++ name ∷ [])) []) ≤ length (cond b (h ∷ common_front held names) []) + 1)
+    go true ih = (omega (arith, ih.0), omega (arith, ih.1))
+    go false ih = (omega arith, omega arith)
+
+pushed-grows : (at : Option (List (List ℕ))) (d name : List ℕ) → IsName name
+    → (pushed_to at (components d) ≤ pushed_to at (components (joined d name))) × (pushed_to at (components (joined d name)) ≤ pushed_to at (components d) + 1)
+pushed-grows None d name is = (omega arith, omega arith)
+pushed-grows (Some held) d name is =
+    let longer = front-grows held (components d) name in
+    let same = ap {B = ℕ} (λ (names : List (List ℕ)). length (common_front held names)) (components-child d name is) in
+    (omega (arith, longer.0, same), omega (arith, longer.1, same))
+
+-- never more are held than there are
+pub pushed-most : (at : Option (List (List ℕ))) (names : List (List ℕ)) → pushed_to at names ≤ length names + 1
+pushed-most None names = omega arith
+pushed-most (Some held) names = omega (arith, shorter held names)
+  where
+    shorter : (held names : List (List ℕ)) → length (common_front held names) ≤ length names
+    shorter [] names = omega arith
+    shorter (h ∷ held) [] = omega arith
+    shorter (h ∷ held) (n ∷ names) = go (bytes_eq h n) (shorter held names)
+      where
+        go : (b : Bool) → length (common_front held names) ≤ length names → length (cond b (h ∷ common_front held names) []) ≤ length (n ∷ names)
+        go true ih = omega (arith, ih)
+        go false ih = omega arith
+
+-- ---- one call after another
+
+module _ {W I : Type 0} {w : WorktreeOf W} {i : InterruptOf I} where
+  Opens-then : {w0 w1 w2 : W} {i0 i1 i2 : I} {a b c : Outcome} (m n : ℕ) → Opens w i w0 w1 i0 i1 a b m → Opens w i w1 w2 i1 i2 b c n → Opens w i w0 w2 i0 i2 a c (m + n)
+  Opens-then m n one two =
+      record {
+        listed = λ small. let first = one.listed small in omega (arith, first, two.listed (omega (arith, first)));
+        counted = λ small. let first = one.counted small in omega (arith, first, two.counted (omega (arith, first)));
+        asked = omega (arith, one.asked, two.asked);
+      }
+
+  module _ {o : Chosen} where
+    -- nothing is opened
+    pub opens-none : {w0 w1 : W} {i0 i1 : I} {a b : Outcome} {old new : Option Stacked} {names : List (List ℕ)} {spare : ℕ} → w.lists w1 ≡ w.lists w0 → b.read_dir_calls ≡ a.read_dir_calls
+        → with_more (i.questions i0) 0 ≤ i.questions i1
+        → (reads_rules_alone o ≡ true → w.reads w1 + pushed_to (pushed_in old) names ≤ w.reads w0 + pushed_to (pushed_in new) names + spare)
+        → OpensWithin w i w0 w1 i0 i1 a b o old new names 0 spare
+    opens-none lists read asked reads =
+        record {
+          opened = 0;
+          opens = record { listed = λ small. omega (arith, lists, small); counted = λ small. omega (arith, read, small); asked = asked };
+          reads = λ on. omega (arith, reads on);
+        }
+
+    pub opens-then : {w0 w1 w2 : W} {i0 i1 i2 : I} {a b c : Outcome} {old mid new : Option Stacked} {names : List (List ℕ)} {own spare : ℕ}
+        → OpensWithin w i w0 w1 i0 i1 a b o old mid names own 0 → OpensWithin w i w1 w2 i1 i2 b c o mid new names 0 spare → OpensWithin w i w0 w2 i0 i2 a c o old new names own spare
+    opens-then one two =
+        record {
+          opened = one.opened + two.opened;
+          opens = Opens-then one.opened two.opened one.opens two.opens;
+          reads = λ on. omega (arith, one.reads on, two.reads on);
+        }
+
+    -- and then nothing more
+    pub opens-still : {w0 w1 w2 : W} {i0 i1 i2 : I} {a b c : Outcome} {old new : Option Stacked} {names : List (List ℕ)} {own spare : ℕ}
+        → OpensWithin w i w0 w1 i0 i1 a b o old new names own 0 → w.lists w2 ≡ w.lists w1 → c.read_dir_calls ≡ b.read_dir_calls → with_more (i.questions i1) 0 ≤ i.questions i2
+        → (reads_rules_alone o ≡ true → w.reads w2 ≡ w.reads w1) → OpensWithin w i w0 w2 i0 i2 a c o old new names own spare
+    opens-still one lists read asked reads = opens-then one (opens-none lists read asked (λ on. omega (arith, reads on)))
+
+    -- not even of a worktree or an interrupt
+    pub opens-end : {w0 w1 : W} {i0 i1 : I} {a b c : Outcome} {old new : Option Stacked} {names : List (List ℕ)} {own spare : ℕ}
+        → OpensWithin w i w0 w1 i0 i1 a b o old new names own 0 → c.read_dir_calls ≡ b.read_dir_calls → OpensWithin w i w0 w1 i0 i1 a c o old new names own spare
+    opens-end one read = opens-still one refl read (omega arith) (λ on. refl)
+
+    -- the directory itself is opened, and before it nothing was read
+    pub opens-one : {w0 w1 : W} {i0 i1 : I} {a b : Outcome} {at : Option Stacked} {names : List (List ℕ)} → Opens w i w0 w1 i0 i1 a b 1 → w.reads w1 ≡ w.reads w0
+        → OpensWithin w i w0 w1 i0 i1 a b o at at names 1 0
+    opens-one opens reads = record { opened = 1; opens = opens; reads = λ on. omega (arith, reads) }
+
+    -- or that is refused
+    pub opens-refused : {w0 w1 : W} {i0 i1 : I} {a b : Outcome} {at : Option Stacked} {names : List (List ℕ)} → (n : ℕ) × Opens w i w0 w1 i0 i1 a b n → w.reads w1 ≡ w.reads w0
+        → OpensWithin w i w0 w1 i0 i1 a b o at at names 1 1
+    opens-refused opens reads = record { opened = opens.0; opens = opens.1; reads = λ on. omega (arith, reads) }
+
+    -- what is opened in a directory below another is opened below that one
+    pub opens-below : {w0 w1 : W} {i0 i1 : I} {a b : Outcome} {old new : Option Stacked} (d name : List ℕ) {spare : ℕ} → IsName name
+        → OpensWithin w i w0 w1 i0 i1 a b o old new (components (joined d name)) 1 spare → OpensWithin w i w0 w1 i0 i1 a b o old new (components d) 0 spare
+    opens-below {old = old} {new = new} d name is one =
+        record {
+          opened = one.opened;
+          opens = one.opens;
+          reads = λ on. omega (arith, one.reads on, (pushed-grows (pushed_in old) d name is).0, (pushed-grows (pushed_in new) d name is).1);
+        }
+
+-- ---- the class of a path
+
+module _ (d name : List ℕ) (is : IsName name) where
+  above : without_last (components (joined d name)) ≡ components d
+  above = ap without_last (components-child d name is) ∙ without_last-snoc (components d) name
+
+  stays : (at : Option (List (List ℕ))) → length (pushed (staying at (components (joined d name)))) ≡ pushed_to at (components d)
+  stays None = refl
+  stays (Some held) = length-fronts (kept held (components (joined d name))) ∙ ap {B = ℕ} (λ (names : List (List ℕ)). length (common_front held names) + 1) above
+
+  on-way : (at : Option (List (List ℕ))) → IsOnWay at (components (joined d name)) → length (pushed at) ≡ pushed_to at (components d)
+  on-way None way = refl
+  on-way (Some held) way =
+      let front : common_front held (components d) ≡ held = ap (common_front held) (sym above ∙ way.joined) ∙ front-all held way.rest in
+      length-fronts held ∙ ap {B = ℕ} (λ (names : List (List ℕ)). length names + 1) (sym front)
+
+  -- a look-up reads at most once for each directory above the path whose rules were not held and are held then
+  pub asks-reads : {T E : Type 0} (recurses : Bool) (reads0 reads1 : ℕ) (old new : Option Stacked) (result : Result T E) → recurses ≡ true → AsksAtMost recurses (joined d name) reads0 reads1 old new result
+      → reads1 + pushed_to (pushed_in old) (components d) ≤ reads0 + pushed_to (pushed_in new) (components d) + refused_one result
+  asks-reads recurses reads0 reads1 old new result on (inl unasked) = omega (arith, unasked.reads on, ap {B = ℕ} (λ (x : Option Stacked). pushed_to (pushed_in x) (components d)) unasked.same)
+  asks-reads recurses reads0 reads1 old new result on (inr asked) = omega (arith, asked.reads on, stays (pushed_in old), on-way (pushed_in new) asked.on_way)
+
+-- the rules are asked for a class, where files are read for rules alone
+pub opens-class : {W I T E : Type 0} {w : WorktreeOf W} {i : InterruptOf I} {o : Chosen} {w0 w1 : W} {i0 : I} {a : Outcome} {old new : Option Stacked} (d name : List ℕ) {result : Result T E} → IsName name
+    → w.lists w1 ≡ w.lists w0 → AsksAtMost o.recurse_repositories (joined d name) (w.reads w0) (w.reads w1) old new result
+    → OpensWithin w i w0 w1 i0 i0 a a o old new (components d) 0 (refused_one result)
+opens-class {w = w} {o = o} {w0 = w0} {w1 = w1} {old = old} {new = new} d name {result = result} is lists asks =
+    opens-none lists refl (omega arith) (λ on. asks-reads d name is o.recurse_repositories (w.reads w0) (w.reads w1) old new result (and_left o.recurse_repositories _ on) asks)
+
+pub hides-none : (o : Chosen) → reads_rules_alone o ≡ true → may_hide_repositories o.for_deletion ≡ false
+hides-none o on = go (may_hide_repositories o.for_deletion) (and_right o.recurse_repositories _ on)
+  where
+    go : (b : Bool) → not b ≡ true → b ≡ false
+    go true e = absurd (cc e)
+    go false e = refl

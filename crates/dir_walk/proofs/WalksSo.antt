@@ -1,0 +1,206 @@
+-- What every walk says, by how it ended.
+use Rattle.std.proofs.Common.{◌≡◌, inl, inr, ℕ, List, [], Bool, true, Option, Some, Result, Ok, Err, refl, ap, ◌∙◌, arith}
+use Rattle.gitbase_core.specs.declared.find.Find.{Ghosts as FindOf}
+use Rattle.worktree_fs.specs.declared.interrupt.Interrupt.{Ghosts as InterruptOf}
+use Rattle.worktree_fs.specs.declared.worktree.Worktree.{Ghosts as WorktreeOf}
+use Rattle.worktree_fs.specs.Causes.{Increased, NotIncreased}
+use Rattle.worktree_fs.specs.Kept.{Asks}
+use Rattle.worktree_fs.specs.Tree.{Names}
+use Rattle.worktree_stack.specs.Reading.{Sources}
+use Rattle.worktree_stack.specs.Setup.{Made}
+use Rattle.worktree_stack.specs.Stacked.{Stacked}
+use Rattle.dir_classify.specs.declared.error.Error.{Error}
+use Rattle.dir_classify.specs.declared.error.Error.TheVariants as errors
+use Rattle.dir_classify.specs.Excludes.{made_with}
+use Rattle.dir_classify.specs.Layers.{Setting}
+use Rattle.dir_classify.specs.Refused.{OnFault}
+use Rattle.dir_walk.specs.declared.handed.Stop.{Stop}
+use Rattle.dir_walk.specs.declared.handed.Stop.TheVariants.{Refused}
+use Rattle.dir_walk.specs.declared.outcome.Outcome.{Outcome}
+use Rattle.dir_walk.specs.declared.delegate.Delegate.{Ghosts as DelegateOf}
+use Rattle.dir_walk.specs.Kept.{OnInterrupt}
+use Rattle.dir_walk.specs.Root.{rooted, traversal_root}
+use Rattle.dir_walk.specs.Rooting.{EndsIn, IsNormalized, RootAbout}
+use Rattle.dir_walk.specs.WalkRefused.{IsNoDirectory, OnNoRoot, StartAbout, StartFound, StartRefuses}
+use Rattle.dir_walk.specs.Walks.{Ends, OpensDirectories, ReadsAtMost, Tells, WalksWorktree}
+use Rattle.dir_walk.proofs.CallByCall.{Before-asked, Ends-after, unlisted}
+use Rattle.dir_walk.proofs.Complete.{only-memory}
+use Rattle.dir_walk.proofs.Keeping.{AsksStore-same, KeepsRules-same}
+use Rattle.dir_walk.proofs.Overall.{opens-nothing}
+
+-- ---- there is no traversal root
+
+interrupt-outside : (P : Type 0) (given : Setting) (explicit : Option (List ℕ)) (e : Error) → RootAbout given explicit e → OnInterrupt P e
+interrupt-outside P given explicit errors.Interrupted h = absurd h
+interrupt-outside P given explicit (errors.WorktreeRootIsFile root) h = tt
+interrupt-outside P given explicit (errors.NormalizeRoot root) h = tt
+interrupt-outside P given explicit (errors.SymlinkInRoot whole worktree_root index) h = tt
+interrupt-outside P given explicit (errors.SymlinkMetadata full why) h = tt
+interrupt-outside P given explicit (errors.ExcludesAccess x) h = tt
+interrupt-outside P given explicit (errors.TooDeep at) h = tt
+interrupt-outside P given explicit (errors.ReadDir at why) h = tt
+interrupt-outside P given explicit (errors.DirEntry at) h = tt
+interrupt-outside P given explicit errors.OutOfMemory h = tt
+
+no_root-outside : (P : Type 0) (given : Setting) (explicit : Option (List ℕ)) (e : Error) → RootAbout given explicit e → OnNoRoot P e
+no_root-outside P given explicit errors.Interrupted h = tt
+no_root-outside P given explicit (errors.WorktreeRootIsFile root) h = absurd h
+no_root-outside P given explicit (errors.NormalizeRoot root) h = tt
+no_root-outside P given explicit (errors.SymlinkInRoot whole worktree_root index) h = tt
+no_root-outside P given explicit (errors.SymlinkMetadata full why) h = tt
+no_root-outside P given explicit (errors.ExcludesAccess x) h = tt
+no_root-outside P given explicit (errors.TooDeep at) h = tt
+no_root-outside P given explicit (errors.ReadDir at why) h = tt
+no_root-outside P given explicit (errors.DirEntry at) h = tt
+no_root-outside P given explicit errors.OutOfMemory h = tt
+
+module _ {W F I T : Type 0} (w : WorktreeOf W) (f : FindOf F) (i : InterruptOf I) {w0 w1 : W} {o0 : F} {i0 : I} {r0 : Option Stacked} (given : Setting) (explicit : Option (List ℕ)) (limit : ℕ) (default : Bool) (outcome_of : T → Outcome)
+    (keeps : Asks w w0 w1) (reads : w.reads w1 ≡ w.reads w0) where
+  pub walks-outside : (e : Error) → RootAbout given explicit e → ((t : Names) → w.told w0 ≡ Some t → EndsIn (traversal_root given t explicit) e)
+      → ((before now : ℕ) → OnFault (Increased (w.faults w0) (w.faults w1)) (Increased before now) e) → WalksWorktree w f i w0 w1 o0 o0 i0 i0 r0 r0 given explicit limit default outcome_of (Err e)
+  walks-outside e about ends fault =
+      record {
+        about = inl about;
+        cause = fault (f.faults o0) (f.faults o0);
+        interrupted = interrupt-outside (Increased (i.raised i0) (i.raised i0)) given explicit e about;
+        found = λ s told. inl (ends s.tree told);
+        refused = λ s tells by quiet store_quiet. inl (ends s.tree tells.tells.tree_is);
+        no_root = λ s tells quiet. no_root-outside ((traversal_root given s.tree explicit ≡ rooted []) × IsNoDirectory given s) given explicit e about;
+        complete = λ s tells by quiet store_quiet calm is.
+            only-memory s (made_with r0) given explicit limit (w.faults w0) (w.faults w1) (f.faults o0) (f.faults o0) (i.raised i0) (i.raised i0) e (fault (f.faults o0) (f.faults o0))
+            (interrupt-outside (Increased (i.raised i0) (i.raised i0)) given explicit e about) (inl (ends s.tree tells.tells.tree_is)) quiet store_quiet calm is;
+        worktree = unlisted (Before-asked {f = f} {o = o0} {rules = r0} keeps).worktree;
+        store = AsksStore-same;
+        rules = KeepsRules-same;
+        interrupt = record { questions = omega arith; raised = omega arith };
+        listed = tt;
+        calm = tt;
+        opens = opens-nothing keeps.lists reads;
+      }
+
+-- ---- it was refused on the way from there
+
+no_root-start : (P Q : Type 0) (made : Option Made) (top root : List ℕ) (limit : ℕ) (e : Error) → StartAbout made top root limit e → (root ≡ [] → P → Q) → OnNoRoot P e → OnNoRoot Q e
+no_root-start P Q made top root limit errors.Interrupted about f h = tt
+no_root-start P Q made top root limit (errors.WorktreeRootIsFile path) about f h = f about.1 h
+no_root-start P Q made top root limit (errors.NormalizeRoot path) about f h = tt
+no_root-start P Q made top root limit (errors.SymlinkInRoot path worktree_root index) about f h = tt
+no_root-start P Q made top root limit (errors.SymlinkMetadata path why) about f h = tt
+no_root-start P Q made top root limit (errors.ExcludesAccess x) about f h = tt
+no_root-start P Q made top root limit (errors.TooDeep path) about f h = tt
+no_root-start P Q made top root limit (errors.ReadDir path why) about f h = tt
+no_root-start P Q made top root limit (errors.DirEntry path) about f h = tt
+no_root-start P Q made top root limit errors.OutOfMemory about f h = tt
+
+module _ {W F I D T : Type 0} (w : WorktreeOf W) (f : FindOf F) (i : InterruptOf I) (d : DelegateOf D) {w0 w1 w2 : W} {o0 o2 : F} {i0 i2 : I} {r0 r2 : Option Stacked} {d0 d2 : D}
+    (given : Setting) (explicit : Option (List ℕ)) (limit : ℕ) (default : Bool) (outcome_of : T → Outcome) (root : List ℕ) (keeps : Asks w w0 w1) (normalized_is : IsNormalized given explicit root)
+    (rooted_is : (t : Names) → w.told w0 ≡ Some t → NotIncreased (w.faults w0) (w.faults w1) → traversal_root given t explicit ≡ rooted root) where
+  pub walks-refused : (e : Error) → Ends {T = Unit {0}} w f i d w1 w2 o0 o2 i0 i2 r0 r2 d0 d2 (Err (Refused e)) → StartAbout (made_with r0) given.root root limit e
+      → ((s : Sources) → w.told w1 ≡ Some s.tree → StartFound (f.holds o0) s (made_with r0) e)
+      → ((s : Sources) → Tells w f w1 o0 r0 s → default ≡ true → NotIncreased (w.faults w1) (w.faults w2) → NotIncreased (f.faults o0) (f.faults o2) → StartRefuses given (made_with r0) s root limit e)
+      → ((s : Sources) → Tells w f w1 o0 r0 s → NotIncreased (w.faults w1) (w.faults w2) → OnNoRoot (IsNoDirectory given s) e)
+      → OpensDirectories w i w0 w2 i0 i2 r0 given explicit outcome_of (Err e)
+      → WalksWorktree w f i w0 w2 o0 o2 i0 i2 r0 r2 given explicit limit default outcome_of (Err e)
+  walks-refused e here about found refused no_root opens =
+      let ends = Ends-after w f i d (Err (Refused e)) (Before-asked keeps) here in
+      let later : (s : Sources) → Tells w f w0 o0 r0 s → Tells w f w1 o0 r0 s =
+      λ s tells. record { tells = record { tree_is = keeps.tree ∙ tells.tells.tree_is; objects_are = tells.tells.objects_are }; in_step = tells.in_step } in
+      let first : NotIncreased (w.faults w0) (w.faults w2) → NotIncreased (w.faults w0) (w.faults w1) = λ quiet. omega (arith, quiet, here.worktree.faults) in
+      let second : NotIncreased (w.faults w0) (w.faults w2) → NotIncreased (w.faults w1) (w.faults w2) = λ quiet. omega (arith, quiet, keeps.faults) in
+      record {
+        about = inr (root, normalized_is, about);
+        cause = ends.caused.fault;
+        interrupted = ends.caused.interrupt;
+        found = λ s told. inr (found s (keeps.tree ∙ told));
+        refused = λ s tells by quiet store_quiet. inr (root, rooted_is s.tree tells.tells.tree_is (first quiet), refused s (later s tells) by (second quiet) store_quiet);
+        no_root = λ s tells quiet.
+            no_root-start (IsNoDirectory given s) ((traversal_root given s.tree explicit ≡ rooted []) × IsNoDirectory given s) (made_with r0) given.root root limit e about
+            (λ top node. (rooted_is s.tree tells.tells.tree_is (first quiet) ∙ ap rooted top, node)) (no_root s (later s tells) (second quiet));
+        complete = λ s tells by quiet store_quiet calm is.
+            only-memory s (made_with r0) given explicit limit (w.faults w0) (w.faults w2) (f.faults o0) (f.faults o2) (i.raised i0) (i.raised i2) e ends.caused.fault ends.caused.interrupt
+            (inr (root, rooted_is s.tree tells.tells.tree_is (first quiet), refused s (later s tells) by (second quiet) store_quiet)) quiet store_quiet calm is;
+        worktree = ends.worktree;
+        store = ends.store;
+        rules = ends.rules;
+        interrupt = ends.interrupt;
+        listed = tt;
+        calm = tt;
+        opens = opens;
+      }
+
+  -- or it was done, or broken off
+  pub walks-done : (r : T) (stop : Result (Unit {0}) Stop) → Ends w f i d w1 w2 o0 o2 i0 i2 r0 r2 d0 d2 stop → w.list_faults w2 ≡ w.list_faults w1 → i.raised i2 ≡ i.raised i0
+      → OpensDirectories w i w0 w2 i0 i2 r0 given explicit outcome_of (Ok r) → WalksWorktree w f i w0 w2 o0 o2 i0 i2 r0 r2 given explicit limit default outcome_of (Ok r)
+  walks-done r stop here lists calm opens =
+      let ends = Ends-after w f i d stop (Before-asked keeps) here in
+      record {
+        about = tt;
+        cause = tt;
+        interrupted = tt;
+        found = λ s told. tt;
+        refused = λ s tells by quiet store_quiet. tt;
+        no_root = λ s tells quiet. tt;
+        complete = λ s tells by quiet store_quiet raised is. tt;
+        worktree = ends.worktree;
+        store = ends.store;
+        rules = ends.rules;
+        interrupt = ends.interrupt;
+        listed = lists ∙ keeps.list_faults;
+        calm = calm;
+        opens = opens;
+      }
+
+-- ---- a walk by another name
+
+reads-spared : (given : Setting) (explicit : Option (List ℕ)) (before now opened : ℕ) → ReadsAtMost given explicit before now opened 0 → ReadsAtMost given explicit before now opened 1
+reads-spared given explicit before now opened (inl same) = inl same
+reads-spared given explicit before now opened (inr h) = inr (h.0, h.1, omega (arith, h.2))
+
+module _ {W F I S T : Type 0} (w : WorktreeOf W) (f : FindOf F) (i : InterruptOf I) {w0 w1 : W} {o0 o1 : F} {i0 i1 : I} {r0 r1 : Option Stacked} (given : Setting) (explicit : Option (List ℕ)) (limit : ℕ) (default : Bool)
+    (outcome_of : S → Outcome) (other_of : T → Outcome) where
+  -- what is refused is handed on
+  pub walks-other : (e : Error) → WalksWorktree {T = S} w f i w0 w1 o0 o1 i0 i1 r0 r1 given explicit limit default outcome_of (Err e) → WalksWorktree {T = T} w f i w0 w1 o0 o1 i0 i1 r0 r1 given explicit limit default other_of (Err e)
+  walks-other e h =
+      record {
+        about = h.about;
+        cause = h.cause;
+        interrupted = h.interrupted;
+        found = h.found;
+        refused = h.refused;
+        no_root = h.no_root;
+        complete = h.complete;
+        worktree = h.worktree;
+        store = h.store;
+        rules = h.rules;
+        interrupt = h.interrupt;
+        listed = tt;
+        calm = tt;
+        opens = record { opened = h.opens.opened; listed = h.opens.listed; asked = h.opens.asked; counted = tt; reads = h.opens.reads };
+      }
+
+  -- what was done may want memory afterwards
+  pub walks-memory : (r : S) → WalksWorktree {T = S} w f i w0 w1 o0 o1 i0 i1 r0 r1 given explicit limit default outcome_of (Ok r)
+      → WalksWorktree {T = T} w f i w0 w1 o0 o1 i0 i1 r0 r1 given explicit limit default other_of (Err errors.OutOfMemory)
+  walks-memory r h =
+      record {
+        about = inl tt;
+        cause = tt;
+        interrupted = tt;
+        found = λ s told. inl tt;
+        refused = λ s tells by quiet store_quiet. inl tt;
+        no_root = λ s tells quiet. tt;
+        complete = λ s tells by quiet store_quiet calm is. refl;
+        worktree = h.worktree;
+        store = h.store;
+        rules = h.rules;
+        interrupt = h.interrupt;
+        listed = tt;
+        calm = tt;
+        opens = record {
+          opened = h.opens.opened;
+          listed = h.opens.listed;
+          asked = h.opens.asked;
+          counted = tt;
+          reads = λ on none. reads-spared given explicit (w.reads w0) (w.reads w1) h.opens.opened (h.opens.reads on none);
+        };
+      }

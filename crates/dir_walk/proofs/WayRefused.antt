@@ -1,0 +1,185 @@
+-- The way to a traversal root was refused, or what is entered there.
+use Rattle.std.proofs.Common.{◌≡◌, ◌⊎◌, inl, inr, ℕ, List, [], ◌∷◌, true, false, Option, Some, None, refl}
+use Rattle.std.specs.Prelude.{IsSomeAnd, is_some}
+use Rattle.gitbase_core.specs.Objects.{Objects}
+use Rattle.gitbase_core.specs.Path.{components, is_empty}
+use Rattle.worktree_fs.specs.Paths.{is_normal}
+use Rattle.worktree_stack.specs.Reading.{Sources}
+use Rattle.worktree_stack.specs.Refused as lookups
+use Rattle.worktree_stack.specs.Setup.{Made}
+use Rattle.dir_classify.specs.declared.classify.RootOutcome.{RootOutcome}
+use Rattle.dir_classify.specs.declared.error.Error.{Error}
+use Rattle.dir_classify.specs.declared.error.Error.TheVariants as errors
+use Rattle.dir_classify.specs.Kinds.{holds_names}
+use Rattle.dir_classify.specs.Layers.{Setting}
+use Rattle.dir_classify.specs.Refused.{IsAccess, OnAccess}
+use Rattle.dir_classify.specs.Refused as classes
+use Rattle.dir_classify.specs.Rooted.{LeadsTo, OnWayTo, way_to}
+use Rattle.dir_classify.proofs.NormalPaths.{normal-front}
+use Rattle.dir_walk.specs.Refused.{IsAbout, IsInTree, IsNoAccess}
+use Rattle.dir_walk.specs.Rooting.{IsRoot}
+use Rattle.dir_walk.specs.Root.{walked_at}
+use Rattle.dir_walk.specs.Starts.{OnlyRoot}
+use Rattle.dir_walk.specs.WalkRefused.{IsNoRoot, IsNoWay, OnNoRoot, StartAbout, StartFound, StartRefuses, walked_or_nothing}
+
+-- ---- the way
+
+-- a path on the way to a traversal root is normal
+on-way-normal : (root path : List ℕ) → IsRoot root → LeadsTo root path → is_normal path ≡ true
+on-way-normal root path shape leads = normal-front root path leads.rest shape.normal leads.components_are leads.spelled_is
+
+pub way-about : (made : Option Made) (top root : List ℕ) (limit : ℕ) (e : Error) → IsRoot root → OnWayTo root (λ path. classes.IsAbout made path e) → StartAbout made top root limit e
+way-about made top root limit errors.Interrupted shape h = tt
+way-about made top root limit (errors.WorktreeRootIsFile p) shape (path, leads, h) = absurd h
+way-about made top root limit (errors.NormalizeRoot p) shape (path, leads, h) = h
+way-about made top root limit (errors.SymlinkInRoot p worktree_root index) shape (path, leads, h) = h
+way-about made top root limit (errors.SymlinkMetadata p why) shape (path, leads, h) = h
+way-about None top root limit (errors.ExcludesAccess x) shape (path, leads, h) = h
+way-about (Some rules) top root limit (errors.ExcludesAccess x) shape (path, leads, h) = record { path = path; normal = on-way-normal root path shape leads; access = h }
+way-about made top root limit (errors.TooDeep p) shape (path, leads, h) = absurd h
+way-about made top root limit (errors.ReadDir p why) shape (path, leads, h) = absurd h
+way-about made top root limit (errors.DirEntry p) shape (path, leads, h) = absurd h
+way-about made top root limit errors.OutOfMemory shape h = tt
+
+pub way-found : (holds : Option Objects) (s : Sources) (made : Option Made) (root : List ℕ) (e : Error) → IsRoot root → OnWayTo root (λ path. classes.IsAbout made path e)
+    → ((is_some made ≡ true → holds ≡ Some s.objects) → OnWayTo root (λ path. classes.IsAbout made path e × classes.Refuses s made path e)) → StartFound holds s made e
+way-found holds s made root errors.Interrupted shape h refused = tt
+way-found holds s made root (errors.WorktreeRootIsFile p) shape h refused = tt
+way-found holds s made root (errors.NormalizeRoot p) shape (path, leads, h) refused = h
+way-found holds s made root (errors.SymlinkInRoot p worktree_root index) shape (path, leads, h) refused = h
+way-found holds s made root (errors.SymlinkMetadata p why) shape (path, leads, h) refused = h
+way-found holds s None root (errors.ExcludesAccess x) shape (path, leads, h) refused = h
+way-found holds s (Some rules) root (errors.ExcludesAccess x) shape h refused = λ told.
+    let r = refused (λ some. told) in
+    record { path = r.0; normal = on-way-normal root r.0 shape r.1; access = r.2.0; refused = r.2.1 }
+way-found holds s made root (errors.TooDeep p) shape h refused = tt
+way-found holds s made root (errors.ReadDir p why) shape (path, leads, h) refused = absurd h
+way-found holds s made root (errors.DirEntry p) shape h refused = tt
+way-found holds s made root errors.OutOfMemory shape h refused = tt
+
+pub way-refuses : (given : Setting) (made : Option Made) (s : Sources) (root : List ℕ) (limit : ℕ) (Failed : Type 0) (e : Error)
+    → OnWayTo root (λ path. classes.IsAbout made path e × classes.Refuses s made path e) → OnAccess (((way_to given made s root).is_unread ≡ true) ⊎ Failed) e → (Failed → ⊥) → StartRefuses given made s root limit e
+way-refuses given made s root limit F errors.Interrupted h asked off = tt
+way-refuses given made s root limit F (errors.WorktreeRootIsFile p) (path, leads, h) asked off = absurd h.0
+way-refuses given made s root limit F (errors.NormalizeRoot p) (path, leads, h) asked off = h.0
+way-refuses given made s root limit F (errors.SymlinkInRoot p worktree_root index) (path, leads, h) asked off = h.0
+way-refuses given made s root limit F (errors.SymlinkMetadata p why) (path, leads, h) asked off = h.0
+way-refuses given made s root limit F (errors.ExcludesAccess x) (path, leads, h) asked off = go made refl h
+  where
+    unread : (U : Type 0) → U ⊎ F → U
+    unread U (inl u) = u
+    unread U (inr f) = absurd (off f)
+
+    go : (m : Option Made) → made ≡ m → IsSomeAnd m (λ rules. IsAccess rules path x) × IsSomeAnd m (λ rules. lookups.RefusesIn s rules (components path) x)
+        → IsSomeAnd m (λ rules. IsNoWay given made s root rules x ⊎ IsNoAccess s rules (walked_or_nothing (walked_at given made s root)) ⊥ x)
+    go None is k = k.0
+    go (Some rules) is k = inl (record { path = path; leads = leads; access = k.0; refused = k.1; unread = unread ((way_to given made s root).is_unread ≡ true) asked })
+way-refuses given made s root limit F (errors.TooDeep p) (path, leads, h) asked off = absurd h.0
+way-refuses given made s root limit F (errors.ReadDir p why) (path, leads, h) asked off = absurd h.0
+way-refuses given made s root limit F (errors.DirEntry p) (path, leads, h) asked off = absurd h.0
+way-refuses given made s root limit F errors.OutOfMemory h asked off = tt
+
+pub way-no_root : (Holds : Type 0) (made : Option Made) (root : List ℕ) (e : Error) → OnWayTo root (λ path. classes.IsAbout made path e) → OnNoRoot Holds e
+way-no_root Holds made root errors.Interrupted h = tt
+way-no_root Holds made root (errors.WorktreeRootIsFile p) (path, leads, h) = absurd h
+way-no_root Holds made root (errors.NormalizeRoot p) h = tt
+way-no_root Holds made root (errors.SymlinkInRoot p worktree_root index) h = tt
+way-no_root Holds made root (errors.SymlinkMetadata p why) h = tt
+way-no_root Holds made root (errors.ExcludesAccess x) h = tt
+way-no_root Holds made root (errors.TooDeep p) h = tt
+way-no_root Holds made root (errors.ReadDir p why) h = tt
+way-no_root Holds made root (errors.DirEntry p) h = tt
+way-no_root Holds made root errors.OutOfMemory h = tt
+
+-- ---- what is entered
+
+pub entered-about : (made : Option Made) (top root : List ℕ) (limit : ℕ) (e : Error) → IsAbout made top limit e → StartAbout made top root limit e
+entered-about made top root limit errors.Interrupted h = tt
+entered-about made top root limit (errors.WorktreeRootIsFile p) h = absurd h
+entered-about made top root limit (errors.NormalizeRoot p) h = h
+entered-about made top root limit (errors.SymlinkInRoot p worktree_root index) h = h
+entered-about made top root limit (errors.SymlinkMetadata p why) h = h
+entered-about made top root limit (errors.ExcludesAccess x) h = h
+entered-about made top root limit (errors.TooDeep p) h = h
+entered-about made top root limit (errors.ReadDir p why) h = h
+entered-about made top root limit (errors.DirEntry p) h = h
+entered-about made top root limit errors.OutOfMemory h = tt
+
+pub entered-found : (holds : Option Objects) (s : Sources) (made : Option Made) (top : List ℕ) (limit : ℕ) (e : Error) → IsAbout made top limit e → IsInTree holds s made e → StartFound holds s made e
+entered-found holds s made top limit errors.Interrupted about h = tt
+entered-found holds s made top limit (errors.WorktreeRootIsFile p) about h = tt
+entered-found holds s made top limit (errors.NormalizeRoot p) about h = about
+entered-found holds s made top limit (errors.SymlinkInRoot p worktree_root index) about h = about
+entered-found holds s made top limit (errors.SymlinkMetadata p why) about h = about
+entered-found holds s made top limit (errors.ExcludesAccess x) about h = h
+entered-found holds s made top limit (errors.TooDeep p) about h = tt
+entered-found holds s made top limit (errors.ReadDir p why) about h = h
+entered-found holds s made top limit (errors.DirEntry p) about h = tt
+entered-found holds s made top limit errors.OutOfMemory about h = tt
+
+pub entered-no_root : (Holds : Type 0) (made : Option Made) (top : List ℕ) (limit : ℕ) (e : Error) → IsAbout made top limit e → OnNoRoot Holds e
+entered-no_root Holds made top limit errors.Interrupted h = tt
+entered-no_root Holds made top limit (errors.WorktreeRootIsFile p) h = absurd h
+entered-no_root Holds made top limit (errors.NormalizeRoot p) h = tt
+entered-no_root Holds made top limit (errors.SymlinkInRoot p worktree_root index) h = tt
+entered-no_root Holds made top limit (errors.SymlinkMetadata p why) h = tt
+entered-no_root Holds made top limit (errors.ExcludesAccess x) h = tt
+entered-no_root Holds made top limit (errors.TooDeep p) h = tt
+entered-no_root Holds made top limit (errors.ReadDir p why) h = tt
+entered-no_root Holds made top limit (errors.DirEntry p) h = tt
+entered-no_root Holds made top limit errors.OutOfMemory h = tt
+
+-- ---- what is not
+
+bare : (path : List ℕ) → is_empty path ≡ true → path ≡ []
+bare [] e = refl
+bare (b ∷ path) e = absurd (cc e)
+
+pub only-about : (made : Option Made) (top root : List ℕ) (limit : ℕ) (reached : RootOutcome) (e : Error) → OnlyRoot top root reached e → StartAbout made top root limit e
+only-about made top root limit reached errors.Interrupted h = absurd h
+only-about made top root limit reached (errors.WorktreeRootIsFile p) h = (h.0, bare root h.1)
+only-about made top root limit reached (errors.NormalizeRoot p) h = h
+only-about made top root limit reached (errors.SymlinkInRoot p worktree_root index) h = h
+only-about made top root limit reached (errors.SymlinkMetadata p why) h = h
+only-about made top root limit reached (errors.ExcludesAccess x) h = absurd h
+only-about made top root limit reached (errors.TooDeep p) h = absurd h
+only-about made top root limit reached (errors.ReadDir p why) h = absurd h
+only-about made top root limit reached (errors.DirEntry p) h = absurd h
+only-about made top root limit reached errors.OutOfMemory h = tt
+
+pub only-found : (holds : Option Objects) (s : Sources) (made : Option Made) (top root : List ℕ) (reached : RootOutcome) (e : Error) → OnlyRoot top root reached e → StartFound holds s made e
+only-found holds s made top root reached errors.Interrupted h = tt
+only-found holds s made top root reached (errors.WorktreeRootIsFile p) h = tt
+only-found holds s made top root reached (errors.NormalizeRoot p) h = h
+only-found holds s made top root reached (errors.SymlinkInRoot p worktree_root index) h = h
+only-found holds s made top root reached (errors.SymlinkMetadata p why) h = h
+only-found holds s made top root reached (errors.ExcludesAccess x) h = absurd h
+only-found holds s made top root reached (errors.TooDeep p) h = tt
+only-found holds s made top root reached (errors.ReadDir p why) h = absurd h
+only-found holds s made top root reached (errors.DirEntry p) h = tt
+only-found holds s made top root reached errors.OutOfMemory h = tt
+
+pub only-refuses : (given : Setting) (made : Option Made) (s : Sources) (top root : List ℕ) (limit : ℕ) (reached : RootOutcome) (e : Error)
+    → (is_empty root ≡ true → holds_names reached.outcome.disk_kind ≡ false → IsNoRoot given made s root) → OnlyRoot top root reached e → StartRefuses given made s root limit e
+only-refuses given made s top root limit reached errors.Interrupted none h = tt
+only-refuses given made s top root limit reached (errors.WorktreeRootIsFile p) none h = none h.1 h.2
+only-refuses given made s top root limit reached (errors.NormalizeRoot p) none h = h
+only-refuses given made s top root limit reached (errors.SymlinkInRoot p worktree_root index) none h = h
+only-refuses given made s top root limit reached (errors.SymlinkMetadata p why) none h = h
+only-refuses given made s top root limit reached (errors.ExcludesAccess x) none h = absurd h
+only-refuses given made s top root limit reached (errors.TooDeep p) none h = absurd h
+only-refuses given made s top root limit reached (errors.ReadDir p why) none h = absurd h
+only-refuses given made s top root limit reached (errors.DirEntry p) none h = tt
+only-refuses given made s top root limit reached errors.OutOfMemory none h = tt
+
+pub only-no_root : (Holds : Type 0) (top root : List ℕ) (reached : RootOutcome) (e : Error) → (is_empty root ≡ true → holds_names reached.outcome.disk_kind ≡ false → Holds) → OnlyRoot top root reached e → OnNoRoot Holds e
+only-no_root Holds top root reached errors.Interrupted none h = tt
+only-no_root Holds top root reached (errors.WorktreeRootIsFile p) none h = none h.1 h.2
+only-no_root Holds top root reached (errors.NormalizeRoot p) none h = tt
+only-no_root Holds top root reached (errors.SymlinkInRoot p worktree_root index) none h = tt
+only-no_root Holds top root reached (errors.SymlinkMetadata p why) none h = tt
+only-no_root Holds top root reached (errors.ExcludesAccess x) none h = tt
+only-no_root Holds top root reached (errors.TooDeep p) none h = tt
+only-no_root Holds top root reached (errors.ReadDir p why) none h = tt
+only-no_root Holds top root reached (errors.DirEntry p) none h = tt
+only-no_root Holds top root reached errors.OutOfMemory none h = tt

@@ -1,0 +1,99 @@
+use Rattle.std.proofs.Common.{arith, option_to_list, Err}
+use Rattle.std.proofs.lemmas.Result.{err_from_is_err_and, on_err_weaker, on_ok_weaker}
+use Rattle.worktree_fs.specs.Causes.{Increased, NotIncreased}
+use Rattle.dir_classify.specs.Chosen.{chosen}
+use Rattle.dir_classify.specs.Excludes.{made_with}
+use Rattle.dir_classify.specs.Layers.{setting_of, evidence}
+use Rattle.dir_walk.specs.Refused.{DirectoryRefuses}
+use Rattle.dir_walk.specs.Told.{directory_told}
+use Rattle.dir_walk.proofs.CallByCall.{Before-asked, Ends-after, Ends-err, Ends-then}
+use Rattle.dir_walk.proofs.FromRoot.{Puts-out, opens-not}
+use Rattle.dir_walk.proofs.HandedOn.{DirectoryRefuses-weaker, Stands-asked, gives-all, part-all, part-out}
+use Rattle.dir_walk.proofs.Refusals.{refused-any}
+use Rattle.dir_walk.proofs.enter.walk_entered.Goals as goal
+
+pub returns-in_err-handed-clause-part : goal.returns-in_err-handed-clause-part
+returns-in_err-handed-clause-part g c = λ s tells quiet default.
+    let a = c.args in
+    let w = g.W.Worktree in
+    let given = setting_of g.M.Matcher a.shared.now in
+    let made = made_with a.excludes.now in
+    let asked = c.in_ok-blocked.ensures in
+    let before : NotIncreased (w.faults a.worktree.now) (w.faults c.blocked_directory.new.worktree) = omega (arith, quiet, c.walk_deep.ensures.ends.worktree.faults) in
+    let here : NotIncreased (w.faults c.blocked_directory.new.worktree) (w.faults c.walk_deep.new.worktree) = omega (arith, quiet, asked.keeps.faults) in
+    let stands = Stands-asked given tells asked.keeps (asked.blocked made s tells.tells.tree_is before) in
+    let p = err_from_is_err_and c.from_residual-in_err-handed.result c.from_residual-in_err-handed.ensures.1 in
+    rw p.1 (part-out (chosen a.shared.now.options) (directory_told given made s a.path.now a.class.now) _ _ (rw c.in_ok-place.ensures at (c.in_err-handed.ensures.part made s stands here default)))
+
+pub returns-in_err-handed-clause-refused : goal.returns-in_err-handed-clause-refused
+returns-in_err-handed-clause-refused g c = λ s tells quiet default.
+    let a = c.args in
+    let w = g.W.Worktree in
+    let given = setting_of g.M.Matcher a.shared.now in
+    let made = made_with a.excludes.now in
+    let asked = c.in_ok-blocked.ensures in
+    let before : NotIncreased (w.faults a.worktree.now) (w.faults c.blocked_directory.new.worktree) = omega (arith, quiet, c.walk_deep.ensures.ends.worktree.faults) in
+    let Failed = Increased (w.faults c.blocked_directory.new.worktree) (w.faults c.walk_deep.new.worktree) in
+    let stands = Stands-asked given tells asked.keeps (asked.blocked made s tells.tells.tree_is before) in
+    let p = err_from_is_err_and c.from_residual-in_err-handed.result c.from_residual-in_err-handed.ensures.1 in
+    rw (p.1, p.2)
+    (refused-any (DirectoryRefuses given made s a.depth_limit Failed a.path.now a.class.now) (DirectoryRefuses given made s a.depth_limit ⊥ a.path.now a.class.now)
+    (λ e. DirectoryRefuses-weaker given made s a.depth_limit Failed ⊥ a.path.now a.class.now e (λ rose. let k = asked.keeps.faults in omega (arith, quiet, rose, k))) c.in_err-handed.field-0.0
+    (rw c.in_ok-place.ensures at (c.in_err-handed.ensures.refused made s stands default)))
+
+pub returns-clause-gives : goal.returns-clause-gives
+returns-clause-gives g c = λ s tells quiet default.
+    let a = c.args in
+    let w = g.W.Worktree in
+    let given = setting_of g.M.Matcher a.shared.now in
+    let made = made_with a.excludes.now in
+    let asked = c.in_ok-blocked.ensures in
+    let before : NotIncreased (w.faults a.worktree.now) (w.faults c.blocked_directory.new.worktree) = omega (arith, quiet, c.walk_deep.ensures.ends.worktree.faults) in
+    let here : NotIncreased (w.faults c.blocked_directory.new.worktree) (w.faults c.walk_deep.new.worktree) = omega (arith, quiet, asked.keeps.faults) in
+    let stands = Stands-asked given tells asked.keeps (asked.blocked made s tells.tells.tree_is before) in
+    on_ok_weaker c.put_handed.result
+    (gives-all (chosen a.shared.now.options) (directory_told given made s a.path.now a.class.now) a.depth_limit (evidence given made s) c.in_ok-handed.handed _ _ _ a.outcome.now c.walk_deep.new.outcome
+    (rw c.in_ok-place.ensures at (c.in_ok-handed.ensures.gives made s stands here default)) c.put_handed.new.outcome)
+    c.put_handed.ensures.gives
+
+pub returns-clause-part : goal.returns-clause-part
+returns-clause-part g c = λ s tells quiet default.
+    let a = c.args in
+    let w = g.W.Worktree in
+    let given = setting_of g.M.Matcher a.shared.now in
+    let made = made_with a.excludes.now in
+    let asked = c.in_ok-blocked.ensures in
+    let before : NotIncreased (w.faults a.worktree.now) (w.faults c.blocked_directory.new.worktree) = omega (arith, quiet, c.walk_deep.ensures.ends.worktree.faults) in
+    let here : NotIncreased (w.faults c.blocked_directory.new.worktree) (w.faults c.walk_deep.new.worktree) = omega (arith, quiet, asked.keeps.faults) in
+    let stands = Stands-asked given tells asked.keeps (asked.blocked made s tells.tells.tree_is before) in
+    on_err_weaker c.put_handed.result
+    (part-all (chosen a.shared.now.options) (directory_told given made s a.path.now a.class.now) a.depth_limit (evidence given made s) c.in_ok-handed.handed _ _ _ a.outcome.now c.walk_deep.new.outcome
+    (rw c.in_ok-place.ensures at (c.in_ok-handed.ensures.gives made s stands here default)))
+    c.put_handed.ensures.part
+
+pub returns-clause-ends : goal.returns-clause-ends
+returns-clause-ends g c =
+    let w = g.W.Worktree in
+    let f = g.F.Find in
+    let i = g.I.Interrupt in
+    let d = g.D.Delegate in
+    let told = c.put_handed.ensures in
+    Ends-then w f i d c.in_ok-handed.handed c.put_handed.result (Ends-after w f i d _ (Before-asked c.in_ok-blocked.ensures.keeps) c.in_ok-handed.ensures.ends) told.delegate told.heeds told.memory
+
+pub returns-in_err-blocked-clause-opens : goal.returns-in_err-blocked-clause-opens
+returns-in_err-blocked-clause-opens g c =
+    let p = err_from_is_err_and c.from_residual-in_err-blocked.result c.from_residual-in_err-blocked.ensures.1 in
+    rw (p.1, p.2) (opens-not c.in_err-blocked.ensures.keeps.lists c.in_err-blocked.ensures.reads)
+
+pub returns-clause-puts : goal.returns-clause-puts
+returns-clause-puts g c = Puts-out (option_to_list c.in_ok-handed.handed.entry) (rw c.in_ok-place.ensures at c.in_ok-handed.ensures.hands.puts) c.put_handed.ensures.puts
+
+pub returns-in_err-handed-clause-ends : goal.returns-in_err-handed-clause-ends
+returns-in_err-handed-clause-ends g c =
+    let w = g.W.Worktree in
+    let f = g.F.Find in
+    let i = g.I.Interrupt in
+    let d = g.D.Delegate in
+    let p = err_from_is_err_and c.from_residual-in_err-handed.result c.from_residual-in_err-handed.ensures.1 in
+    let stop = c.in_err-handed.field-0.0 in
+    rw (p.1, p.2) (Ends-err w f i d stop (Ends-after w f i d (Err stop) (Before-asked c.in_ok-blocked.ensures.keeps) c.in_err-handed.ensures.ends))

@@ -1,0 +1,10 @@
+use Rattle.std.proofs.Common.{take, length-take, arith}
+use Rattle.dir_walk.proofs.Tallies.{tally-loose, tally-small}
+use Rattle.dir_walk.proofs.fold.tally.Goals as goal
+
+pub tally_more-counts-requires : goal.tally_more-counts-requires
+tally_more-counts-requires c =
+    rw c.loop-entry.invariant (tally-small (take c.loop-entry.entry-index c.args.held.now) (omega (arith, length-take c.loop-entry.entry-index c.args.held.now)))
+
+pub returns-clause-loose : goal.returns-clause-loose
+returns-clause-loose c = rw c.loop-entry.invariant (tally-loose (take c.loop-entry.entry-index c.args.held.now))

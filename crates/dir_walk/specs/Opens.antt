@@ -1,0 +1,54 @@
+-- Directories that are opened, over any worktree: what is counted of them, how often the interrupt is asked, and what is read.
+use Rattle.std.specs.Prelude.{◌≡◌, ◌≤◌, ◌<◌, ◌+◌, ◌-◌, ◌^◌, ◌&&◌, min, max, not, Bool, true, ℕ, List, length, Option, Some, None, Result, Ok, Err}
+use Rattle.gitbase_core.specs.Path.{components}
+use Rattle.worktree_fs.specs.declared.interrupt.Interrupt.{Ghosts as InterruptOf}
+use Rattle.worktree_fs.specs.declared.worktree.Worktree.{Ghosts as WorktreeOf}
+use Rattle.worktree_fs.specs.Causes.{with_more}
+use Rattle.worktree_fs.specs.Paths.{common_front}
+use Rattle.worktree_stack.specs.Stacked.{Stacked}
+use Rattle.dir_classify.specs.Chosen.{Chosen, may_hide_repositories}
+use Rattle.dir_classify.specs.Excludes.{pushed_in}
+use Rattle.dir_walk.specs.declared.handed.Stop.{Stop}
+use Rattle.dir_walk.specs.declared.handed.Stop.TheVariants.{Refused, Broken}
+use Rattle.dir_walk.specs.declared.outcome.Outcome.{Outcome}
+
+-- So many directories were opened: they were listed, or that was refused. The worktree counted each as listed and the walk as
+-- entered, and before each the interrupt was asked. A count stands at its type's end.
+pub record Opens {W I : Type 0} (w : WorktreeOf W) (i : InterruptOf I) (w0 w1 : W) (i0 i1 : I) (start stop : Outcome) (opened : ℕ) : Type 0 where
+  pub listed : w.lists w0 < 2 ^ 64 → w.lists w1 ≡ with_more (w.lists w0) opened
+  pub counted : start.read_dir_calls < 2 ^ 32 → stop.read_dir_calls ≡ min (start.read_dir_calls + opened) (2 ^ 32 - 1)
+  pub asked : with_more (i.questions i0) opened ≤ i.questions i1
+
+-- how many of the directories on the way to one, itself and the worktree root among them, hold their rules
+abbrev pub pushed_to : Option (List (List ℕ)) → List (List ℕ) → ℕ
+pushed_to None names = 0
+pushed_to (Some pushed) names = length (common_front pushed names) + 1
+
+-- Files are read for their rules alone: repositories are walked into like directories, and no deletion looks for repositories in
+-- what is ignored.
+abbrev pub reads_rules_alone : Chosen → Bool
+reads_rules_alone o = o.recurse_repositories && not (may_hide_repositories o.for_deletion)
+
+-- In the directory of these names, or beneath it, some directories were opened; `own` is one where it was itself among them.
+-- Where files are read for their rules alone, the worktree was read at most once for each of the others, and once for each
+-- directory on the way to this one whose rules were not held; and at most `spare` times more.
+pub record OpensWithin {W I : Type 0} (w : WorktreeOf W) (i : InterruptOf I) (w0 w1 : W) (i0 i1 : I) (start stop : Outcome)
+    (o : Chosen) (old new : Option Stacked) (names : List (List ℕ)) (own spare : ℕ) : Type 0 where
+  pub opened : ℕ
+  pub opens : Opens w i w0 w1 i0 i1 start stop opened
+  pub reads : reads_rules_alone o ≡ true → w.reads w1 + pushed_to (pushed_in old) names + own ≤ w.reads w0 + pushed_to (pushed_in new) names + opened + spare
+
+-- one where a walk was refused, none where it was done or broken off
+abbrev pub refused_walk : {T : Type 0} → Result T Stop → ℕ
+refused_walk (Ok done) = 0
+refused_walk (Err (Refused error)) = 1
+refused_walk (Err Broken) = 0
+
+-- What a walk opens from a traversal root on, in the same words. Where nothing was pushed before, and files are read for
+-- their rules alone, the worktree was read at most once for each directory opened and once for each component of the
+-- traversal root, or once where there is neither; a refusal may come with one more.
+pub record OpensFrom {W I T : Type 0} (w : WorktreeOf W) (i : InterruptOf I) (w0 w1 : W) (i0 i1 : I) (start stop : Outcome) (o : Chosen) (old : Option Stacked) (root : List ℕ)
+    (result : Result T Stop) : Type 0 where
+  pub opened : ℕ
+  pub opens : Opens w i w0 w1 i0 i1 start stop opened
+  pub reads : reads_rules_alone o ≡ true → pushed_in old ≡ None → w.reads w1 ≤ w.reads w0 + max (opened + length (components root)) 1 + refused_walk result

@@ -1,0 +1,154 @@
+-- Why a whole walk is refused.
+use Rattle.std.specs.Prelude.{◌≡◌, ◌≢◌, ◌⊎◌, ℕ, true, false, List, [], Option, Some, None, Err, IsSomeAnd}
+use Rattle.gitbase_core.specs.Objects.{Objects}
+use Rattle.gitbase_core.specs.Path.{components}
+use Rattle.worktree_fs.specs.declared.answers.ListError.{ListError}
+use Rattle.worktree_fs.specs.declared.answers.ListError.TheVariants as lists
+use Rattle.worktree_fs.specs.declared.answers.NodeKind.TheVariants as nodes
+use Rattle.worktree_fs.specs.Answers.{kind_of, list_of}
+use Rattle.worktree_fs.specs.Paths.{full_path}
+use Rattle.worktree_fs.specs.Tree.{look}
+use Rattle.worktree_stack.specs.declared.error.AtPathError.{AtPathError}
+use Rattle.worktree_stack.specs.Reading.{Sources}
+use Rattle.worktree_stack.specs.Refused as lookups
+use Rattle.worktree_stack.specs.Setup.{Made}
+use Rattle.dir_classify.specs.declared.classify.Outcome.{Outcome}
+use Rattle.dir_classify.specs.declared.entry.Kind.TheVariants.{Directory, Repository}
+use Rattle.dir_classify.specs.declared.error.Error.{Error}
+use Rattle.dir_classify.specs.declared.error.Error.TheVariants as errors
+use Rattle.dir_classify.specs.declared.error.ReadWhy.{ReadWhy}
+use Rattle.dir_classify.specs.declared.error.ReadWhy.TheVariants as reads
+use Rattle.dir_classify.specs.Chosen.{Chosen}
+use Rattle.dir_classify.specs.Class.{is_worktree}
+use Rattle.dir_classify.specs.Enters.{is_ignored_status}
+use Rattle.dir_classify.specs.Evidence.{Evidence}
+use Rattle.dir_classify.specs.Layers.{Setting, evidence}
+use Rattle.dir_classify.specs.Refused.{IsAccess}
+use Rattle.dir_classify.specs.Rooted.{LeadsTo, way_to}
+use Rattle.dir_walk.specs.Refused.{IsBelow, IsBelowLimit, IsInTree, IsNoAccess, IsSomeAccess, IsTooDeep, IsUnlisted}
+use Rattle.dir_walk.specs.Root.{is_root_entered, look_root, rooted, traversal_root, walked_at}
+use Rattle.dir_walk.specs.Rooting.{EndsIn, IsNormalized, RootAbout}
+use Rattle.dir_walk.specs.Walked.{Walked, nothing}
+
+-- ---- from a traversal root on: what holds of any worktree
+
+-- what a refusal says of the worktree root, the traversal root, the rules and the limit
+abbrev pub StartAbout : Option Made → List ℕ → List ℕ → ℕ → Error → Type 0
+StartAbout made top root limit errors.Interrupted = Unit {0}
+StartAbout made top root limit (errors.WorktreeRootIsFile path) = (path ≡ top) × (root ≡ [])
+StartAbout made top root limit (errors.NormalizeRoot path) = ⊥
+StartAbout made top root limit (errors.SymlinkInRoot path worktree_root index) = ⊥
+StartAbout made top root limit (errors.SymlinkMetadata path why) = ⊥
+StartAbout made top root limit (errors.ExcludesAccess e) = IsSomeAnd made (λ rules. IsSomeAccess rules e)
+StartAbout made top root limit (errors.TooDeep path) = IsBelowLimit top limit path
+StartAbout made top root limit (errors.ReadDir path why) = IsBelow top path
+StartAbout made top root limit (errors.DirEntry path) = IsBelow top path
+StartAbout made top root limit errors.OutOfMemory = Unit {0}
+
+-- ---- what holds over a told tree
+
+-- what it says of the tree, and, where the store holds these objects, of the rules, whether or not they are in step
+abbrev pub StartFound : Option Objects → Sources → Option Made → Error → Type 0
+StartFound holds s made errors.Interrupted = Unit {0}
+StartFound holds s made (errors.WorktreeRootIsFile path) = Unit {0}
+StartFound holds s made (errors.NormalizeRoot path) = ⊥
+StartFound holds s made (errors.SymlinkInRoot path worktree_root index) = ⊥
+StartFound holds s made (errors.SymlinkMetadata path why) = ⊥
+StartFound holds s made (errors.ExcludesAccess e) = IsInTree holds s made (errors.ExcludesAccess e)
+StartFound holds s made (errors.TooDeep path) = Unit {0}
+StartFound holds s made (errors.ReadDir path why) = IsInTree holds s made (errors.ReadDir path why)
+StartFound holds s made (errors.DirEntry path) = Unit {0}
+StartFound holds s made errors.OutOfMemory = Unit {0}
+
+-- ---- what holds where the rules are in step too, a delegate recurses by default, and neither the worktree nor the store failed
+
+-- what is walked, if something is
+abbrev pub walked_or_nothing : Option Walked → Walked
+walked_or_nothing None = nothing
+walked_or_nothing (Some w) = w
+
+-- the node of the worktree root, a link not followed, is absent or no directory
+abbrev pub IsNoDirectory : Setting → Sources → Type 0
+IsNoDirectory given s = kind_of (look s.tree given.root false) ≢ Some nodes.Directory
+
+-- there is nothing to walk: the traversal root is the worktree root, which is not entered and is no directory
+pub record IsNoRoot (given : Setting) (made : Option Made) (s : Sources) (root : List ℕ) : Type 0 where
+  pub top : root ≡ []
+  pub unentered : is_root_entered given.options (evidence given made s) (way_to given made s root) ≡ false
+  pub not_walked : walked_at given made s root ≡ None
+  pub node : IsNoDirectory given s
+
+-- the lookup of a path on the way to the traversal root was refused, by a rules file or a blob that is refused; the way
+-- asks rules that cannot be read
+pub record IsNoWay (given : Setting) (made : Option Made) (s : Sources) (root : List ℕ) (rules : Made) (e : AtPathError) : Type 0 where
+  pub path : List ℕ
+  pub leads : LeadsTo root path
+  pub access : IsAccess rules path e
+  pub refused : lookups.RefusesIn s rules (components path) e
+  pub unread : (way_to given made s root).is_unread ≡ true
+
+-- Why the class of what is no directory has it as one: by the index, by the worktree set, or as the rules exclude it and deletion
+-- saw a repository there.
+abbrev pub IsHeldDirectory : Chosen → Evidence → List ℕ → Outcome → Type 0
+IsHeldDirectory o ev path c =
+    ((ev.in_index path).up_to_date ≡ Some Directory)
+    ⊎ ((ev.in_index path).up_to_date ≡ Some Repository)
+    ⊎ (is_worktree o path ≡ true)
+    ⊎ (is_ignored_status c.status ≡ true)
+
+-- the whole path of the traversal root, which is entered though its names cannot be listed
+pub record IsBrokenRoot (given : Setting) (made : Option Made) (s : Sources) (root : List ℕ) (why : ListError) (path : List ℕ) : Type 0 where
+  pub path_is : path ≡ full_path given.root root
+  pub entered : is_root_entered given.options (evidence given made s) (way_to given made s root) ≡ true
+  pub node : list_of (look_root given s.tree root) ≡ Err why
+  pub held : IsHeldDirectory given.options (evidence given made s) root (way_to given made s root).class
+
+abbrev pub IsUnlistedRoot : Setting → Option Made → Sources → List ℕ → List ℕ → ReadWhy → Type 0
+IsUnlistedRoot given made s root path reads.Absent = IsBrokenRoot given made s root lists.Absent path
+IsUnlistedRoot given made s root path reads.NotADirectory = IsBrokenRoot given made s root lists.NotADirectory path
+IsUnlistedRoot given made s root path reads.Fault = Unit {0}
+
+-- The refusal of a walk from a traversal root on. `made` is what the rules were made with.
+abbrev pub StartRefuses : Setting → Option Made → Sources → List ℕ → ℕ → Error → Type 0
+StartRefuses given made s root limit errors.Interrupted = Unit {0}
+StartRefuses given made s root limit (errors.WorktreeRootIsFile path) = IsNoRoot given made s root
+StartRefuses given made s root limit (errors.NormalizeRoot path) = ⊥
+StartRefuses given made s root limit (errors.SymlinkInRoot path worktree_root index) = ⊥
+StartRefuses given made s root limit (errors.SymlinkMetadata path why) = ⊥
+StartRefuses given made s root limit (errors.ExcludesAccess e) =
+    IsSomeAnd made (λ rules. IsNoWay given made s root rules e ⊎ IsNoAccess s rules (walked_or_nothing (walked_at given made s root)) ⊥ e)
+StartRefuses given made s root limit (errors.TooDeep path) = IsTooDeep given.root limit (walked_or_nothing (walked_at given made s root)) ⊥ path
+StartRefuses given made s root limit (errors.ReadDir path why) =
+    IsUnlistedRoot given made s root path why
+    ⊎ IsUnlisted s.tree (evidence given made s) given.root (walked_or_nothing (walked_at given made s root)) ⊥ path why
+StartRefuses given made s root limit (errors.DirEntry path) = Unit {0}
+StartRefuses given made s root limit errors.OutOfMemory = Unit {0}
+
+-- what holds where the worktree root is refused
+abbrev pub OnNoRoot : Type 0 → Error → Type 0
+OnNoRoot Holds errors.Interrupted = Unit {0}
+OnNoRoot Holds (errors.WorktreeRootIsFile root) = Holds
+OnNoRoot Holds (errors.NormalizeRoot root) = Unit {0}
+OnNoRoot Holds (errors.SymlinkInRoot whole worktree_root index) = Unit {0}
+OnNoRoot Holds (errors.SymlinkMetadata full why) = Unit {0}
+OnNoRoot Holds (errors.ExcludesAccess e) = Unit {0}
+OnNoRoot Holds (errors.TooDeep path) = Unit {0}
+OnNoRoot Holds (errors.ReadDir path why) = Unit {0}
+OnNoRoot Holds (errors.DirEntry path) = Unit {0}
+OnNoRoot Holds errors.OutOfMemory = Unit {0}
+
+-- ---- the whole: there is no traversal root, or what is walked from it is refused
+
+-- what a refusal says of what was handed in
+abbrev pub WalkAbout : Setting → Option Made → Option (List ℕ) → ℕ → Error → Type 0
+WalkAbout given made explicit limit e = RootAbout given explicit e ⊎ ((root : List ℕ) × IsNormalized given explicit root × StartAbout made given.root root limit e)
+
+-- what it says of the tree, the store and the rules
+abbrev pub WalkFound : Setting → Option Made → Option (List ℕ) → Option Objects → Sources → Error → Type 0
+WalkFound given made explicit holds s e = EndsIn (traversal_root given s.tree explicit) e ⊎ StartFound holds s made e
+
+-- and what where the rules are in step too, a delegate recurses by default, and neither the worktree nor the store failed
+abbrev pub WalkRefuses : Setting → Option Made → Sources → Option (List ℕ) → ℕ → Error → Type 0
+WalkRefuses given made s explicit limit e =
+    EndsIn (traversal_root given s.tree explicit) e
+    ⊎ ((root : List ℕ) × (traversal_root given s.tree explicit ≡ rooted root) × StartRefuses given made s root limit e)

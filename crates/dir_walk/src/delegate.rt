@@ -1,0 +1,80 @@
+//! What a walk gives its entries to.
+ghost use Rattle.std.specs.Prelude.{◌≡◌, ◌≤◌, ℕ, Bool, true, false, List, Option, OnOk, OnErr};
+ghost use Rattle.worktree_fs.specs.Causes.{Incremented};
+ghost use Rattle.dir_classify.specs.Enters.{can_recurse};
+ghost use Rattle.dir_classify.specs.Entries.{entry_of};
+ghost use Rattle.dir_walk.specs.Emissions.{Emission, emission_of};
+ghost use Rattle.dir_walk.specs.Given.{with_emission, OnBreak, OnContinue, UnlessBreak};
+
+use dir_classify::{EntryRef, ForDeletionMode, Status};
+use gitbase_core::OutOfMemory;
+use std::alloc::Global;
+
+/// Whether a walk goes on, as gitoxide's `gix_dir::walk::Action`.
+#[derive(Clone, Copy, Debug, PartialEq, Eq)]
+pub enum Action {
+    /// It goes on.
+    Continue,
+    /// It ends, and gives no more.
+    Break,
+}
+
+/// What a walk gives its entries to, after gitoxide's `gix_dir::walk::Delegate`.
+///
+/// Contracts speak of what it was given where it tells that, and of the count of its Breaks always. The count is of 64 bits, and
+/// stands at its last value.
+pub trait Delegate {
+    /// What it was given so far, in that order, where it tells that.
+    ghost given: { Self → Option (List Emission) };
+
+    /// Whether `can_recurse` answers as its default body does.
+    ghost is_default: { Self → Bool };
+
+    /// How often it answered Break; it never falls.
+    ghost breaks: { Self → ℕ };
+
+    /// Whether it answered Break when it was last given an entry.
+    ghost is_stopped: { Self → Bool };
+
+    /// Takes an entry, with the status of the directory that was folded over it, if one was.
+    ///
+    /// Where memory is refused it was not given the entry.
+    fn emit(
+        &mut self,
+        alloc: Global,
+        entry: EntryRef<'_>,
+        collapsed_directory_status: Option<Status>,
+    ) -> Result<Action, OutOfMemory>
+        ensures added { OnOk result (given self.new ≡ with_emission (given self.old)
+            (emission_of (entry_of entry.entry) collapsed_directory_status)) }
+        ensures refused { OnErr result (given self.new ≡ given self.old) }
+        ensures broken { OnBreak result (Incremented (breaks self.old) (breaks self.new)) }
+        ensures stopped { OnBreak result (is_stopped self.new ≡ true) }
+        ensures continued { OnContinue result (is_stopped self.new ≡ false) }
+        ensures unbroken { UnlessBreak result (breaks self.new ≡ breaks self.old) }
+        ensures breaks { breaks self.old ≤ breaks self.new }
+        ensures default { is_default self.new ≡ is_default self.old };
+
+    /// Whether the walk looks into a directory or a repository. By default it does as its status says.
+    fn can_recurse(
+        &mut self,
+        entry: EntryRef<'_>,
+        for_deletion: Option<ForDeletionMode>,
+        worktree_root_is_repository: bool,
+    ) -> bool
+        ensures recursion { is_default self.old ≡ true
+            → result ≡ can_recurse entry.entry.status entry.entry.disk_kind
+            entry.entry.pathspec_match for_deletion worktree_root_is_repository }
+        ensures given { given self.new ≡ given self.old }
+        ensures breaks { breaks self.new ≡ breaks self.old }
+        ensures stopped { is_stopped self.new ≡ is_stopped self.old }
+        ensures default { is_default self.new ≡ is_default self.old }
+    {
+        entry.status.can_recurse(
+            entry.disk_kind,
+            entry.pathspec_match,
+            for_deletion,
+            worktree_root_is_repository,
+        )
+    }
+}

@@ -1,0 +1,270 @@
+//! Entering the traversal root.
+ghost use Rattle.std.specs.Prelude.{◌≡◌, ◌+◌, ℕ, List, [], Option, Some, true, false, length, option_copied, option_to_list, IfOk, IfErr, OnOk, OnErr};
+ghost use Rattle.gitbase_core.specs.Path.{components, ends_in_slash, past_slashes};
+ghost use Rattle.worktree_fs.specs.Causes.{NotIncreased, Increased};
+ghost use Rattle.worktree_fs.specs.Kept.{Asks, AsksStore};
+ghost use Rattle.worktree_fs.specs.Paths.{is_normal, spelled};
+ghost use Rattle.worktree_stack.specs.Reading.{Sources};
+ghost use Rattle.worktree_stack.specs.Setup.{Made};
+ghost use Rattle.dir_classify.specs.Chosen.{chosen};
+ghost use Rattle.dir_classify.specs.Excludes.{made_with, tells_excludes};
+ghost use Rattle.dir_classify.specs.Kept.{KeepsRules};
+ghost use Rattle.dir_classify.specs.Layers.{setting_of, evidence, rest_behind, IsLookupIf};
+ghost use Rattle.dir_walk.specs.Emits.{Emits, Gives, GivesAll, IsPart, Within, put_plain};
+ghost use Rattle.dir_walk.specs.Given.{OnRefused};
+ghost use Rattle.dir_walk.specs.Kept.{KeepsTree, AsksInterrupt, KeepsDelegate, Heeds, Caused, WantsMemory};
+ghost use Rattle.dir_walk.specs.Opens.{OpensWithin, refused_walk};
+ghost use Rattle.dir_walk.specs.Puts.{Hands, Puts, held_at, once_within};
+ghost use Rattle.dir_walk.specs.Refused.{IsAbout, IsInTree, DirectoryRefuses};
+ghost use Rattle.dir_walk.specs.Report.{depth_of, out_of};
+ghost use Rattle.dir_walk.specs.Told.{Stands, directory_told};
+ghost use Rattle.dir_walk.specs.Walks.{Ends, Tells};
+
+use crate::delegate::Delegate;
+use crate::directory::walk_directory;
+use crate::emit::emit;
+use crate::handed::{Handed, Stop};
+use crate::open::{deletion_mode, too_deep};
+use crate::outcome::Outcome;
+use crate::place::Place;
+use dir_classify::{Options, Shared, classify};
+use gitbase_core::{Find, OutOfMemory, PathText, relative_to};
+use glob_rules::pathspec::Matcher;
+use std::alloc::Global;
+use worktree_fs::{Interrupt, ReadError, Worktree, next_component};
+use worktree_stack::Stack;
+
+/// How many components a path has.
+fn depth_of(path: &[u8]) -> usize
+    ensures { result ≡ depth_of path.now }
+{
+    let mut depth = 0;
+    let mut rest = path;
+    while let Some(next) = next_component(rest) {
+        depth += 1;
+        rest = next.rest;
+    }
+    depth
+}
+
+/// The rest of a path behind a directory that it is or lies beneath.
+fn rest_behind<'a>(directory: &[u8], path: &'a [u8]) -> Option<&'a [u8]>
+    ensures { option_copied result ≡ rest_behind directory.now path.now }
+{
+    if directory == path {
+        return Some(&[]);
+    }
+    relative_to(path, directory)
+}
+
+/// A path without the slashes at its start.
+fn past_slashes(path: &[u8]) -> &[u8]
+    ensures { result.now ≡ past_slashes path.now }
+{
+    let mut rest = path;
+    while let [b'/', after @ ..] = rest {
+        rest = after;
+    }
+    rest
+}
+
+/// In deletion, the directory that must not go: the current one, where it is the worktree root or lies beneath. A fault
+/// of the question for the real path of the worktree root reads as none.
+fn blocked_directory<W: Worktree, M: Matcher>(
+    alloc: Global,
+    shared: &Shared<'_, M>,
+    worktree: &mut W,
+) -> Result<Option<PathText>, OutOfMemory>
+    ensures blocked { (made : Option Made) (s : Sources) → W.told worktree.old ≡ Some s.tree
+        → NotIncreased (W.faults worktree.old) (W.faults worktree.new)
+        → IfOk result (λ blocked. (evidence (setting_of M.Matcher shared.now) made s).blocked
+        ≡ blocked) }
+    ensures keeps { Asks W.Worktree worktree.old worktree.new }
+    ensures reads { W.reads worktree.new ≡ W.reads worktree.old }
+{
+    if deletion_mode(&shared.options).is_none() {
+        return Ok(None);
+    }
+    match worktree.real_path(alloc, shared.worktree_root, shared.current_dir) {
+        Ok(Some(real)) => match rest_behind(real.as_bytes(), shared.current_dir) {
+            Some(rest) => PathText::from_bytes(alloc, past_slashes(rest))?.normalize(alloc),
+            None => Ok(None),
+        },
+        Ok(None) => Ok(None),
+        Err(ReadError::Fault) => Ok(None),
+        Err(ReadError::OutOfMemory) => Err(OutOfMemory),
+    }
+}
+
+/// Puts out what is handed up at the end, by itself.
+fn put_handed<D: Delegate>(
+    alloc: Global,
+    options: &Options<'_>,
+    handed: &Handed,
+    delegate: &mut D,
+    outcome: &mut Outcome,
+) -> Result<(), Stop>
+    ensures gives { OnOk result (Emits (D.given delegate.old) (D.given delegate.new) outcome.old
+        outcome.new (put_plain (chosen options.now) (option_to_list handed.now.entry))
+        (length (option_to_list handed.now.entry)) 0) }
+    ensures part { OnErr result (Within (D.given delegate.old) (D.given delegate.new)
+        (put_plain (chosen options.now) (option_to_list handed.now.entry))) }
+    ensures puts { Puts (λ path. held_at path (option_to_list handed.now.entry))
+        (D.given delegate.old) (D.given delegate.new) outcome.old outcome.new [] }
+    ensures entered { outcome.new.read_dir_calls ≡ outcome.old.read_dir_calls }
+    ensures delegate { KeepsDelegate D.Delegate delegate.old delegate.new }
+    ensures heeds { Heeds D.Delegate delegate.old delegate.new result }
+    ensures memory { WantsMemory result }
+{
+    match &handed.entry {
+        None => Ok(()),
+        Some(entry) => emit(alloc, options, entry.to_ref(), None, delegate, outcome),
+    }
+}
+
+/// Walks a directory that is entered as the traversal root, unless it lies too deep.
+fn walk_deep<W: Worktree, F: Find, I: Interrupt, M: Matcher, D: Delegate>(
+    alloc: Global,
+    shared: &Shared<'_, M>,
+    blocked: &Option<PathText>,
+    place: &Place,
+    class: &classify::Outcome,
+    depth_limit: usize,
+    excludes: &mut Option<Stack>,
+    worktree: &mut W,
+    objects: &mut F,
+    interrupt: &mut I,
+    delegate: &mut D,
+    outcome: &mut Outcome,
+) -> Result<Handed, Stop>
+    requires root { place.now.root ≡ shared.now.worktree_root.now }
+    requires lookup { IsLookupIf shared.now.index.now shared.now.ignore_case_index_lookup.now }
+    requires excludes { tells_excludes (made_with excludes.old) ≡ true }
+    ensures gives { (made : Option Made) (s : Sources)
+        → Stands (setting_of M.Matcher shared.now) (W.told worktree.old) (F.holds objects.old)
+        excludes.old blocked.now made s
+        → NotIncreased (W.faults worktree.old) (W.faults worktree.new)
+        → D.is_default delegate.old ≡ true
+        → IfOk result (Gives (chosen shared.now.options) depth_limit
+        (evidence (setting_of M.Matcher shared.now) made s)
+        (directory_told (setting_of M.Matcher shared.now) made s place.now.path class.now)
+        (D.given delegate.old) (D.given delegate.new) outcome.old outcome.new) }
+    ensures part { (made : Option Made) (s : Sources)
+        → Stands (setting_of M.Matcher shared.now) (W.told worktree.old) (F.holds objects.old)
+        excludes.old blocked.now made s
+        → NotIncreased (W.faults worktree.old) (W.faults worktree.new)
+        → D.is_default delegate.old ≡ true
+        → OnErr result (IsPart (chosen shared.now.options)
+        (directory_told (setting_of M.Matcher shared.now) made s place.now.path class.now).out
+        (D.given delegate.old) (D.given delegate.new)) }
+    ensures refused { (made : Option Made) (s : Sources)
+        → Stands (setting_of M.Matcher shared.now) (W.told worktree.old) (F.holds objects.old)
+        excludes.old blocked.now made s
+        → D.is_default delegate.old ≡ true
+        → IfErr result (OnRefused (DirectoryRefuses (setting_of M.Matcher shared.now) made s
+        depth_limit (Increased (W.faults worktree.old) (W.faults worktree.new)) place.now.path
+        class.now)) }
+    ensures about { IfErr result (OnRefused (IsAbout (made_with excludes.old)
+        shared.now.worktree_root.now depth_limit)) }
+    ensures found { (s : Sources) → W.told worktree.old ≡ Some s.tree
+        → IfErr result (OnRefused (IsInTree (F.holds objects.old) s (made_with excludes.old))) }
+    ensures opens { OpensWithin W.Worktree I.Interrupt worktree.old worktree.new interrupt.old
+        interrupt.new outcome.old outcome.new (chosen shared.now.options) excludes.old
+        excludes.new (components place.now.path) 1 (refused_walk result) }
+    ensures hands { Hands place.now.path (once_within place.now.path) (D.given delegate.old)
+        (D.given delegate.new) outcome.old outcome.new result }
+    ensures ends { Ends W.Worktree F.Find I.Interrupt D.Delegate worktree.old worktree.new
+        objects.old objects.new interrupt.old interrupt.new excludes.old excludes.new delegate.old
+        delegate.new result }
+{
+    let depth = depth_of(place.path());
+    if depth > depth_limit {
+        return Err(Stop::Refused(too_deep(alloc, place, interrupt)));
+    }
+    walk_directory(
+        alloc,
+        shared,
+        blocked,
+        place,
+        class,
+        depth_limit - depth,
+        excludes,
+        worktree,
+        objects,
+        interrupt,
+        delegate,
+        outcome,
+    )
+}
+
+/// Walks the traversal root `path`, of the class `class`, which is entered.
+pub(crate) fn walk_entered<W: Worktree, F: Find, I: Interrupt, M: Matcher, D: Delegate>(
+    alloc: Global,
+    shared: &Shared<'_, M>,
+    path: &[u8],
+    class: &classify::Outcome,
+    depth_limit: usize,
+    excludes: &mut Option<Stack>,
+    worktree: &mut W,
+    objects: &mut F,
+    interrupt: &mut I,
+    delegate: &mut D,
+    outcome: &mut Outcome,
+) -> Result<(), Stop>
+    requires normal { is_normal path.now ≡ true }
+    requires plain { ends_in_slash path.now ≡ false }
+    requires spelled { path.now ≡ spelled (components path.now) }
+    requires lookup { IsLookupIf shared.now.index.now shared.now.ignore_case_index_lookup.now }
+    requires excludes { tells_excludes (made_with excludes.old) ≡ true }
+    ensures gives { (s : Sources)
+        → Tells W.Worktree F.Find worktree.old objects.old excludes.old s
+        → NotIncreased (W.faults worktree.old) (W.faults worktree.new)
+        → D.is_default delegate.old ≡ true
+        → OnOk result (GivesAll (chosen shared.now.options) depth_limit
+        (evidence (setting_of M.Matcher shared.now) (made_with excludes.old) s)
+        (directory_told (setting_of M.Matcher shared.now) (made_with excludes.old) s path.now
+        class.now) (D.given delegate.old) (D.given delegate.new) outcome.old outcome.new) }
+    ensures part { (s : Sources)
+        → Tells W.Worktree F.Find worktree.old objects.old excludes.old s
+        → NotIncreased (W.faults worktree.old) (W.faults worktree.new)
+        → D.is_default delegate.old ≡ true
+        → OnErr result (IsPart (chosen shared.now.options)
+        (out_of (directory_told (setting_of M.Matcher shared.now) (made_with excludes.old) s
+        path.now class.now)) (D.given delegate.old) (D.given delegate.new)) }
+    ensures refused { (s : Sources)
+        → Tells W.Worktree F.Find worktree.old objects.old excludes.old s
+        → NotIncreased (W.faults worktree.old) (W.faults worktree.new)
+        → D.is_default delegate.old ≡ true
+        → IfErr result (OnRefused (DirectoryRefuses (setting_of M.Matcher shared.now)
+        (made_with excludes.old) s depth_limit ⊥ path.now class.now)) }
+    ensures about { IfErr result (OnRefused (IsAbout (made_with excludes.old)
+        shared.now.worktree_root.now depth_limit)) }
+    ensures found { (s : Sources) → W.told worktree.old ≡ Some s.tree
+        → IfErr result (OnRefused (IsInTree (F.holds objects.old) s (made_with excludes.old))) }
+    ensures opens { OpensWithin W.Worktree I.Interrupt worktree.old worktree.new interrupt.old
+        interrupt.new outcome.old outcome.new (chosen shared.now.options) excludes.old
+        excludes.new (components path.now) 1 (refused_walk result) }
+    ensures puts { Puts (once_within path.now) (D.given delegate.old) (D.given delegate.new)
+        outcome.old outcome.new [] }
+    ensures ends { Ends W.Worktree F.Find I.Interrupt D.Delegate worktree.old worktree.new
+        objects.old objects.new interrupt.old interrupt.new excludes.old excludes.new delegate.old
+        delegate.new result }
+{
+    let place = Place::at(alloc, shared.worktree_root, path)?;
+    let blocked = blocked_directory(alloc, shared, worktree)?;
+    let handed = walk_deep(
+        alloc,
+        shared,
+        &blocked,
+        &place,
+        class,
+        depth_limit,
+        excludes,
+        worktree,
+        objects,
+        interrupt,
+        delegate,
+        outcome,
+    )?;
+    put_handed(alloc, &shared.options, &handed, delegate, outcome)
+}

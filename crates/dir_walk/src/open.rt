@@ -1,0 +1,149 @@
+//! Entering a directory.
+ghost use Rattle.std.specs.Prelude.{◌≡◌, ◌-◌, ◌+◌, ◌^◌, min, ℕ, List, Option, Some, true, false, IfOk, IfErr, OnOk, OnErr};
+ghost use Rattle.gitbase_core.specs.Path.{is_empty};
+ghost use Rattle.worktree_fs.specs.Answers.{ListsNames};
+ghost use Rattle.worktree_fs.specs.Causes.{Increased};
+ghost use Rattle.worktree_fs.specs.Kept.{Lists};
+ghost use Rattle.worktree_fs.specs.Naming.{AreNames};
+ghost use Rattle.worktree_fs.specs.Paths.{full_path};
+ghost use Rattle.worktree_fs.specs.Tree.{Names, look};
+ghost use Rattle.worktree_stack.specs.Setup.{Made};
+ghost use Rattle.dir_classify.specs.Chosen.{chosen};
+ghost use Rattle.dir_classify.specs.Class.{enters};
+ghost use Rattle.dir_classify.specs.Refused.{OnFault};
+ghost use Rattle.dir_walk.specs.Emissions.{Emission};
+ghost use Rattle.dir_walk.specs.Emits.{Emits};
+ghost use Rattle.dir_walk.specs.Kept.{AsksInterrupt, OnInterrupt};
+ghost use Rattle.dir_walk.specs.Opens.{Opens};
+ghost use Rattle.dir_walk.specs.Refused.{IsAbout, OpenRefuses, IsDeep, read_error};
+
+use crate::delegate::Delegate;
+use crate::outcome::Outcome;
+use crate::place::Place;
+use dir_classify::entry::{entry_over, holds_names};
+use dir_classify::{Error, ForDeletionMode, Options, ReadWhy, classify};
+use gitbase_core::{OutOfMemory, PathText};
+use std::alloc::Global;
+use worktree_fs::{Interrupt, ListError, NameList, Worktree};
+
+/// Lists the names of a directory that is entered, unless the interrupt is raised. A last link is followed for the worktree root
+/// alone.
+pub(crate) fn open<W: Worktree, I: Interrupt>(
+    alloc: Global,
+    place: &Place,
+    worktree: &mut W,
+    interrupt: &mut I,
+    outcome: &mut Outcome,
+) -> Result<NameList, Error>
+    ensures names { IfOk result AreNames }
+    ensures lists { (t : Names) → W.told worktree.old ≡ Some t → IfOk result (ListsNames
+        (look t (full_path place.now.root place.now.path) (is_empty place.now.path))) }
+    ensures refused { (t : Names) → W.told worktree.old ≡ Some t
+        → IfErr result (OpenRefuses (full_path place.now.root place.now.path)
+        (look t (full_path place.now.root place.now.path) (is_empty place.now.path))) }
+    ensures about { (made : Option Made) (limit : ℕ)
+        → IfErr result (IsAbout made place.now.root limit) }
+    ensures counted { (given : Option (List Emission))
+        → OnOk result (Emits given given outcome.old outcome.new (λ p. 0) 0 1) }
+    ensures worktree { Lists W.Worktree worktree.old worktree.new }
+    ensures interrupt { AsksInterrupt I.Interrupt interrupt.old interrupt.new }
+    ensures opens { OnOk result (Opens W.Worktree I.Interrupt worktree.old worktree.new
+        interrupt.old interrupt.new outcome.old outcome.new 1) }
+    ensures tried { OnErr result ((opened : ℕ) × Opens W.Worktree I.Interrupt worktree.old
+        worktree.new interrupt.old interrupt.new outcome.old outcome.new opened) }
+    ensures returned { outcome.new.returned_entries ≡ outcome.old.returned_entries }
+    ensures seen { outcome.new.seen_entries ≡ outcome.old.seen_entries }
+    ensures reads { W.reads worktree.new ≡ W.reads worktree.old }
+    ensures fault { (before now : ℕ)
+        → IfErr result (OnFault (Increased (W.faults worktree.old) (W.faults worktree.new))
+        (Increased before now)) }
+    ensures raised { IfErr result (OnInterrupt (Increased (I.raised interrupt.old)
+        (I.raised interrupt.new))) }
+    ensures listed { OnOk result (W.list_faults worktree.new ≡ W.list_faults worktree.old) }
+    ensures calm { OnOk result (I.raised interrupt.new ≡ I.raised interrupt.old) }
+{
+    if interrupt.is_raised() {
+        return Err(Error::Interrupted);
+    }
+    outcome.read_dir_calls = outcome.read_dir_calls.saturating_add(1);
+    let follow = place.path().is_empty();
+    match worktree.list(alloc, place.whole(), follow) {
+        Ok(names) => Ok(names),
+        Err(refused) => Err(read_error(alloc, place.whole(), refused)?),
+    }
+}
+
+/// The refusal of a walk that stands for a refusal to list the directory at `path`.
+fn read_error(alloc: Global, path: &[u8], refused: ListError) -> Result<Error, OutOfMemory>
+    ensures { IfOk result (λ error. error ≡ read_error path.now refused) }
+{
+    let path = PathText::from_bytes(alloc, path)?;
+    Ok(match refused {
+        ListError::Absent => Error::ReadDir {
+            path,
+            why: ReadWhy::Absent,
+        },
+        ListError::NotADirectory => Error::ReadDir {
+            path,
+            why: ReadWhy::NotADirectory,
+        },
+        ListError::OpenFault => Error::ReadDir {
+            path,
+            why: ReadWhy::Fault,
+        },
+        ListError::EntryFault => Error::DirEntry {
+            parent_directory: path,
+        },
+        ListError::OutOfMemory => Error::OutOfMemory,
+    })
+}
+
+/// The refusal of a directory that lies too deep to be entered; the interrupt is asked first.
+pub(crate) fn too_deep<I: Interrupt>(alloc: Global, place: &Place, interrupt: &mut I) -> Error
+    ensures deep { IsDeep (full_path place.now.root place.now.path)
+        (Increased (I.raised interrupt.old) (I.raised interrupt.new)) result }
+    ensures interrupt { AsksInterrupt I.Interrupt interrupt.old interrupt.new }
+{
+    let raised = interrupt.is_raised();
+    if raised {
+        return Error::Interrupted;
+    }
+    match PathText::from_bytes(alloc, place.whole()) {
+        Ok(path) => Error::TooDeep { path },
+        Err(refused) => Error::from(refused),
+    }
+}
+
+/// Whether the walk enters a path of a class: the delegate is asked for what holds names.
+#[tactic(auto, using(crate::proofs::Entering::shut))]
+pub(crate) fn is_entered<D: Delegate>(
+    options: &Options<'_>,
+    path: &[u8],
+    class: &classify::Outcome,
+    worktree_root_is_repository: bool,
+    delegate: &mut D,
+) -> bool
+    ensures entered { D.is_default delegate.old ≡ true
+        → result ≡ enters (chosen options.now) class.now worktree_root_is_repository }
+    ensures given { D.given delegate.new ≡ D.given delegate.old }
+    ensures breaks { D.breaks delegate.new ≡ D.breaks delegate.old }
+    ensures stopped { D.is_stopped delegate.new ≡ D.is_stopped delegate.old }
+    ensures default { D.is_default delegate.new ≡ D.is_default delegate.old }
+{
+    if !holds_names(class.disk_kind) {
+        return false;
+    }
+    delegate.can_recurse(
+        entry_over(path, class),
+        deletion_mode(options),
+        worktree_root_is_repository,
+    )
+}
+
+/// Whether the entries are to be deleted, and how.
+#[tactic(auto, unfolding(dir_classify::specs::Chosen::chosen))]
+pub(crate) fn deletion_mode(options: &Options<'_>) -> Option<ForDeletionMode>
+    ensures { result ≡ (chosen options.now).for_deletion }
+{
+    options.for_deletion
+}

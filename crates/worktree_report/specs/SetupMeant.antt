@@ -1,0 +1,135 @@
+-- What the lines of a setup mean together.
+use Rattle.std.specs.Prelude.{ℕ, List, [], ◌∷◌, not, codes, Option, Some, None, option_map, option_and_then, if◌then◌else◌}
+use Rattle.std.specs.BTreeSet.{insert_key}
+use Rattle.std.specs.Cmp.Lexicographic.{slice_cmp}
+use Rattle.std.specs.Ordering.{nat_cmp}
+use Rattle.dir_classify.specs.declared.options.EmissionMode.{EmissionMode}
+use Rattle.dir_classify.specs.declared.options.EmissionMode.TheVariants.{Matching, CollapseDirectory}
+use Rattle.dir_classify.specs.declared.options.CollapsedEntriesEmissionMode.{CollapsedEntriesEmissionMode}
+use Rattle.dir_classify.specs.declared.options.CollapsedEntriesEmissionMode.TheVariants.{OnStatusMismatch, All}
+use Rattle.dir_classify.specs.declared.options.ForDeletionMode.{ForDeletionMode}
+use Rattle.dir_classify.specs.declared.options.ForDeletionMode.TheVariants.{IgnoredDirectoriesCanHideNestedRepositories, FindNonBareRepositoriesInIgnoredDirectories, FindRepositoriesInIgnoredDirectories}
+use Rattle.worktree_report.specs.declared.setup.option.SetupOption.{SetupOption}
+use Rattle.worktree_report.specs.declared.setup.SetupOptions.{SetupOptions}
+use Rattle.worktree_report.specs.declared.setup.Setup.{Setup}
+use Rattle.worktree_report.specs.declared.setup.meant.Looking.{Looking}
+use Rattle.worktree_report.specs.declared.setup.meant.Reporting.{Reporting}
+use Rattle.worktree_report.specs.SetupDepth.{depth_of}
+use Rattle.worktree_report.specs.SetupOptions.{is_set_to, option_named}
+use Rattle.worktree_report.specs.SetupSaid.{Said}
+use Rattle.worktree_report.specs.SetupSpecs.{specs_in}
+
+-- ---- the options, each with its default where no line sets it
+
+-- how untracked paths are reported
+abbrev pub emit_untracked_of : List SetupOption → EmissionMode
+emit_untracked_of options = if is_set_to (codes "emit_untracked") (codes "collapse") options then CollapseDirectory else Matching
+
+-- whether and how ignored paths are
+abbrev pub emit_ignored_of : List SetupOption → Option EmissionMode
+emit_ignored_of options =
+    if is_set_to (codes "emit_ignored") (codes "matching") options then Some Matching
+    else if is_set_to (codes "emit_ignored") (codes "collapse") options then Some CollapseDirectory
+    else None
+
+-- which paths are besides the directory that was folded over them
+abbrev pub emit_collapsed_of : List SetupOption → Option CollapsedEntriesEmissionMode
+emit_collapsed_of options =
+    if is_set_to (codes "emit_collapsed") (codes "mismatch") options then Some OnStatusMismatch
+    else if is_set_to (codes "emit_collapsed") (codes "all") options then Some All
+    else None
+
+-- whether the paths are to be deleted, and how ignored directories are looked into
+abbrev pub for_deletion_of : List SetupOption → Option ForDeletionMode
+for_deletion_of options =
+    if is_set_to (codes "for_deletion") (codes "hide") options then Some IgnoredDirectoriesCanHideNestedRepositories
+    else if is_set_to (codes "for_deletion") (codes "nonbare") options then Some FindNonBareRepositoriesInIgnoredDirectories
+    else if is_set_to (codes "for_deletion") (codes "all") options then Some FindRepositoriesInIgnoredDirectories
+    else None
+
+-- those that say how paths are looked at
+unfoldable pub looking_of : List SetupOption → Looking
+looking_of options =
+    record {
+      ignore_case = is_set_to (codes "ignore_case") (codes "yes") options;
+      recurse_repositories = is_set_to (codes "recurse_repositories") (codes "yes") options;
+      classify_untracked_bare_repositories = is_set_to (codes "classify_untracked_bare_repositories") (codes "yes") options;
+      symlinks_to_directories_are_ignored_like_directories = is_set_to (codes "symlinks_to_directories_are_ignored_like_directories") (codes "yes") options;
+      excludes = not (is_set_to (codes "excludes") (codes "no") options);
+      precious = is_set_to (codes "precious") (codes "yes") options;
+      strict_parents = is_set_to (codes "strict_parents") (codes "yes") options;
+      for_deletion = for_deletion_of options;
+    }
+
+-- and those that say what is reported
+unfoldable pub reporting_of : List SetupOption → Reporting
+reporting_of options =
+    record {
+      emit_pruned = is_set_to (codes "emit_pruned") (codes "yes") options;
+      emit_tracked = is_set_to (codes "emit_tracked") (codes "yes") options;
+      emit_untracked = emit_untracked_of options;
+      emit_ignored = emit_ignored_of options;
+      emit_collapsed = emit_collapsed_of options;
+      emit_empty_directories = is_set_to (codes "emit_empty_directories") (codes "yes") options;
+      origins = is_set_to (codes "origins") (codes "yes") options;
+      print_outcome = is_set_to (codes "print_outcome") (codes "yes") options;
+    }
+
+abbrev pub options_from : Looking → Reporting → SetupOptions
+options_from l r =
+    record {
+      ignore_case = l.ignore_case;
+      recurse_repositories = l.recurse_repositories;
+      emit_pruned = r.emit_pruned;
+      emit_tracked = r.emit_tracked;
+      emit_untracked = r.emit_untracked;
+      emit_ignored = r.emit_ignored;
+      emit_collapsed = r.emit_collapsed;
+      emit_empty_directories = r.emit_empty_directories;
+      for_deletion = l.for_deletion;
+      classify_untracked_bare_repositories = l.classify_untracked_bare_repositories;
+      symlinks_to_directories_are_ignored_like_directories = l.symlinks_to_directories_are_ignored_like_directories;
+      excludes = l.excludes;
+      precious = l.precious;
+      strict_parents = l.strict_parents;
+      origins = r.origins;
+      print_outcome = r.print_outcome;
+    }
+
+unfoldable pub options_meant : List SetupOption → SetupOptions
+options_meant options = options_from (looking_of options) (reporting_of options)
+
+-- ---- the rest
+
+-- what stands once, by its keyword
+unfoldable pub value_of : List ℕ → List SetupOption → Option (List ℕ)
+value_of name options = option_map (λ (o : SetupOption). o.value) (option_named name options)
+
+-- the depth limit, and its default
+abbrev pub depth_or : Option ℕ → ℕ
+depth_or None = 256
+depth_or (Some depth) = depth
+
+unfoldable pub depth_meant : List SetupOption → ℕ
+depth_meant options = depth_or (option_and_then depth_of (value_of (codes "depth") options))
+
+-- paths in the order of their bytes, each once, with some more in their places
+abbrev pub ordered_after : List (List ℕ) → List (List ℕ) → List (List ℕ)
+ordered_after paths [] = paths
+ordered_after paths (path ∷ more) = ordered_after (insert_key (slice_cmp nat_cmp) paths path) more
+
+-- the setup that is meant by what the lines say
+abbrev pub meant : Said → Setup
+meant all =
+    record {
+      git_dir = value_of (codes "git_dir") all.options;
+      current_dir = value_of (codes "current_dir") all.options;
+      root = value_of (codes "root") all.options;
+      depth = depth_meant all.options;
+      index = all.index;
+      overrides = all.overrides;
+      globals = all.globals;
+      specs = specs_in (options_meant all.options).ignore_case all.specs;
+      worktrees = record { keys = ordered_after [] all.worktrees };
+      options = options_meant all.options;
+    }

@@ -1,0 +1,41 @@
+//! The path specs of a setup.
+ghost use Rattle.std.specs.Prelude.{◌≡◌, map, IfOk};
+ghost use Rattle.worktree_report.specs.SetupSpecs.{spec_in, is_spec, specs_in};
+
+use gitbase_core::{Bytes, OutOfMemory};
+use glob_rules::pathspec::{Defaults, Error, Search, Spec};
+use std::alloc::Global;
+
+/// The path spec of a text, where it is one.
+fn spec_in(alloc: Global, ignore_case: bool, text: &[u8]) -> Result<Option<Spec>, OutOfMemory>
+    ensures { IfOk result (λ spec. spec ≡ spec_in ignore_case text.now) }
+{
+    match Spec::parse(alloc, text, Defaults { ignore_case }) {
+        Ok(spec) => Ok(Some(spec)),
+        Err(Error::Parse { at: _ }) => Ok(None),
+        Err(Error::Normalize) => Ok(None),
+        Err(Error::OutOfMemory) => Err(OutOfMemory),
+    }
+}
+
+/// Whether a text is a path spec, whether letters fold or not.
+pub fn is_spec(alloc: Global, text: &[u8]) -> Result<bool, OutOfMemory>
+    ensures { IfOk result (λ is. is ≡ is_spec text.now) }
+{
+    let plain = spec_in(alloc, false, text)?;
+    let folded = spec_in(alloc, true, text)?;
+    Ok(plain.is_some() && folded.is_some())
+}
+
+/// The path specs of some texts, in their order.
+pub fn specs_in(alloc: Global, ignore_case: bool, texts: &[Bytes]) -> Result<Search, OutOfMemory>
+    ensures { IfOk result (λ specs. specs ≡ specs_in ignore_case texts.now) }
+{
+    let mut specs = Vec::new(alloc);
+    for text in texts {
+        if let Some(spec) = spec_in(alloc, ignore_case, text.as_bytes())? {
+            specs.push(spec)?;
+        }
+    }
+    Ok(Search::from_specs(specs))
+}
