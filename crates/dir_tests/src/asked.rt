@@ -1,6 +1,7 @@
 //! What classes and walks are asked with.
 use crate::cases::number;
 use dir_classify::{CollapsedEntriesEmissionMode, EmissionMode, ForDeletionMode, Options};
+use dir_walk::Strategy;
 use gitbase_core::{Bytes, PathText};
 use glob_rules::pathspec::{Defaults, Error, Search, Spec};
 use std::alloc::Global;
@@ -17,6 +18,8 @@ pub struct Asked {
     pub root: Option<Bytes>,
     pub current_dir: Bytes,
     pub depth_limit: usize,
+    /// How subtrees are walked.
+    pub strategy: Strategy,
     /// The question from which on the interrupt is raised; 0 for never.
     pub raised: usize,
 }
@@ -31,6 +34,7 @@ impl Asked {
             root: None,
             current_dir: Bytes::new(alloc),
             depth_limit: 9,
+            strategy: Strategy::Held,
             raised: 0,
         }
     }

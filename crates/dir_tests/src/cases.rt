@@ -6,6 +6,7 @@ use crate::asked::{Asked, is_asked};
 use crate::classes::{is_class, is_root, is_upgraded};
 use crate::walks::{is_given, is_walk};
 use bstr::ByteSlice;
+use dir_walk::Strategy;
 use gitbase_core::{Bytes, Flags, IndexEntry, Mode, ObjectId, OutOfMemory, PathText, State};
 use glob_rules::Case;
 use glob_rules::ignore::{List, ParseIgnore, Search};
@@ -204,6 +205,16 @@ fn first_lie<'a>(alloc: Global, world: &mut World, steps: &'a [u8]) -> Option<&'
 
 /// The first step of a case that does not hold; the case itself where its rules could not be made.
 pub fn lie_of(alloc: Global, case: &[u8]) -> Option<&[u8]> {
+    lie_in(alloc, case, Strategy::Held)
+}
+
+/// The same where subtrees are walked at once.
+pub fn lie_at_once(alloc: Global, case: &[u8]) -> Option<&[u8]> {
+    lie_in(alloc, case, Strategy::AtOnce)
+}
+
+/// The same, as a strategy says.
+fn lie_in(alloc: Global, case: &[u8], strategy: Strategy) -> Option<&[u8]> {
     let (head, steps) = case.split_once_str(b"|").unwrap_or((case, b""));
     let (_, rules) = parted(head);
     let (globals, strict) = parted(rules);
@@ -220,5 +231,6 @@ pub fn lie_of(alloc: Global, case: &[u8]) -> Option<&[u8]> {
         excludes: stack,
         asked: Asked::plainly(alloc),
     };
+    world.asked.strategy = strategy;
     first_lie(alloc, &mut world, steps)
 }

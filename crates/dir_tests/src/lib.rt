@@ -11,6 +11,10 @@ mod classes;
 #[cfg(test)]
 mod entries;
 #[cfg(test)]
+mod jobs;
+#[cfg(test)]
+mod noted;
+#[cfg(test)]
 mod odd;
 #[cfg(test)]
 mod refusals;

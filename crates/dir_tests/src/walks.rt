@@ -3,14 +3,14 @@ ghost use Rattle.std.specs.Prelude.{◌≡◌, true};
 ghost use Rattle.dir_classify.specs.Excludes.{made_with, tells_excludes};
 
 use crate::asked::options_of;
-use crate::cases::{World, lie_of, number, parted};
+use crate::cases::{World, lie_at_once, lie_of, number, parted};
 use crate::classes::{kind_word, match_word, property_word, status_word};
 use crate::odd::{Looks, Odd};
 use crate::refusals::is_error;
 use bstr::ByteSlice;
 use dir_classify::{Context, Entry, Error, Options, Status, tells_excludes};
 use dir_walk::walk::walk;
-use dir_walk::{Outcome, Report, walk_by_path};
+use dir_walk::{Outcome, Report, Strategy, walk_at_once, walk_by_path};
 use gitbase_core::{Bytes, MemoryStore, PathText, State};
 use glob_rules::ignore::{Origin, RuleGroup};
 use glob_rules::pathspec::Search;
@@ -55,7 +55,7 @@ walk`/w`/w`2`3`untracked directory - always - - - d|ask`options`folding within|\
 walk`/w`/w`2`3`untracked directory - always - - - d`untracked file - always - untracked - d/a`\
 untracked file - always - untracked - d/b|reversed|\
 walk`/w`/w`2`3`untracked directory - always - - - d`untracked file - always - untracked - d/a`\
-untracked file - always - untracked - d/b|ask`raised`2|walk`/w`interrupted@\
+untracked file - always - untracked - d/b@\
 a directory with a repository`-|file`/w/d/a|git`/w/d/r/.git|ask`options`folding|\
 walk`/w`/w`2`2`untracked file - always - - - d/a`untracked repository - always - - - d/r@\
 a directory with a tracked file`-|file`/w/d/t|file`/w/d/u|index`d/t`file|ask`options`folding|\
@@ -87,7 +87,7 @@ untracked symlink - always - - - d/l|ask`root`d/f|walk`/w`/w/d/f`0`1`untracked f
 ask`root`a/..|walk`/w`/w`2`4`untracked file - always - - - a`untracked file - always - - - d/f`\
 untracked symlink - always - - - d/l`untracked symlink - always - - - l";
 
-/// Cases of rules, and of faults. Repositories are not looked for where a fault is planned.
+/// Cases of rules, of an interrupt and of faults. Repositories are not looked for where a fault is planned.
 const RULES: &[u8] = b"\
 the rule that decided``|file`/w/.gitignore`*.o\n!k.o|file`/w/a.o|file`/w/k.o|ask`options`shown|\
 walk`/w`/w`1`3`untracked file - always - - - .gitignore`ignored file - always - - 0:1:+ a.o`\
@@ -106,6 +106,7 @@ a rules file that is a link to itself``|file`/w/d/f|link`/w/d/.gitignore`.gitign
 a rules file that is no file``|file`/w/d/f|other`/w/d/.gitignore|walk`/w`special`/w/d/.gitignore@\
 a rules file that is not read``|file`/w/d/f|file`/w/d/.gitignore`f|fail`read`2|ask`options`recursing|\
 walk`/w`unread`/w/d/.gitignore|faults`1@\
+an interrupt`-|file`/w/d/a|ask`raised`2|walk`/w`interrupted@\
 a fault at the root's kind`-|file`/w/d/f|fail`kind`1|walk`/w`no root`/w|faults`1@\
 a fault at a component's kind`-|file`/w/d/f|fail`kind`1|ask`root`d|walk`/w`unknown component`/w/d|faults`1@\
 a fault of a listing`-|file`/w/d/f|fail`list open`1|walk`/w`fault`/w|faults`1@\
@@ -261,13 +262,67 @@ fn report_in<'a>(
         explicit_traversal_root,
         depth_limit,
     };
-    walk_by_path(alloc, root, ctx, options)
+    walk_by_path(alloc, root, ctx, options, Strategy::Held)
+}
+
+/// The same where subtrees are walked at once.
+fn report_at_once<'a>(
+    alloc: Global,
+    root: &[u8],
+    options: Options<'_>,
+    worktree: &'a mut MemoryWorktree,
+    objects: &'a mut MemoryStore,
+    interrupt: &'a mut PlannedInterrupt,
+    pathspec: &'a Search,
+    excludes: &'a mut Option<Stack>,
+    index: &'a State,
+    current_dir: &'a [u8],
+    explicit_traversal_root: &'a Option<Bytes>,
+    depth_limit: usize,
+) -> Result<Report, Error>
+    requires excludes { tells_excludes (made_with excludes.old) ≡ true }
+{
+    let ctx = Context {
+        worktree,
+        objects,
+        interrupt,
+        pathspec,
+        excludes,
+        index,
+        ignore_case_index_lookup: &None,
+        git_dir_realpath: b"/w/.git",
+        current_dir,
+        explicit_traversal_root,
+        depth_limit,
+    };
+    let (outcome, root, collect) = walk_at_once(alloc, root, ctx, options)?;
+    Ok(Report {
+        outcome,
+        root,
+        entries: collect.into_entries_by_path(alloc)?,
+    })
 }
 
 /// The report of a walk, over a store that holds nothing.
 fn report(alloc: Global, world: &mut World, root: &[u8]) -> Result<Report, Error> {
     if !tells_excludes(&world.excludes) {
         return Err(Error::OutOfMemory);
+    }
+    if world.asked.strategy == Strategy::AtOnce {
+        return report_at_once(
+            alloc,
+            root,
+            options_of(world.asked.options.as_bytes(), &world.asked.worktrees),
+            &mut world.tree,
+            &mut MemoryStore::new(alloc),
+            &mut interrupt_at(world.asked.raised),
+            &world.asked.specs,
+            &mut world.excludes,
+            &world.index,
+            world.asked.current_dir.as_bytes(),
+            &world.asked.root,
+            world.asked.depth_limit,
+        );
     }
     report_in(
         alloc,
@@ -392,6 +447,23 @@ fn walks(rt: HostRuntime) {
 fn folds(rt: HostRuntime) {
     for case in FOLDS.split(|byte| *byte == b'@') {
         assert_eq!(rt; lie_of(rt.alloc(), case), None, "{case:?}");
+    }
+}
+
+/// The first case that does not hold where subtrees are walked at once.
+fn lie_among(alloc: Global, cases: &[u8]) -> Option<&[u8]> {
+    for case in cases.split(|byte| *byte == b'@') {
+        if lie_at_once(alloc, case).is_some() {
+            return Some(case);
+        }
+    }
+    None
+}
+
+#[test]
+fn walks_at_once(rt: HostRuntime) {
+    for cases in [WALKS, FOLDS, ROOTS] {
+        assert_eq!(rt; lie_among(rt.alloc(), cases), None);
     }
 }
 

@@ -1,5 +1,5 @@
 -- What a walk gave, in the order of paths, is the report.
-use Rattle.std.proofs.Common.{◌≡◌, inl, inr, ◌≤◌, ℕ, List, [], Bool, true, false, cond, Option, Some, None, count_by, refl, sym, ap, subst, ◌∙◌, arith}
+use Rattle.std.proofs.Common.{◌≡◌, inl, inr, ◌≤◌, ℕ, List, [], Bool, true, false, cond, Option, Some, None, Result, count_by, refl, sym, ap, subst, ◌∙◌, arith}
 use Rattle.std.specs.Str.{bytes_eq}
 use Rattle.std.specs.Prelude.{IsSomeAnd, if◌then◌else◌, option_and_then}
 use Rattle.std.proofs.lemmas.List.Sorted.{sum_by-IsPermutation}
@@ -9,6 +9,7 @@ use Rattle.worktree_fs.specs.Paths.{full_path}
 use Rattle.worktree_fs.specs.Tree.{directory}
 use Rattle.worktree_stack.specs.Reading.{Sources}
 use Rattle.worktree_stack.specs.Setup.{Made}
+use Rattle.dir_classify.specs.declared.error.Error.{Error}
 use Rattle.dir_classify.specs.Layers.{Setting, evidence}
 use Rattle.dir_walk.specs.declared.outcome.Outcome.{Outcome}
 use Rattle.dir_walk.specs.declared.report.Report.{Report as Made_Report}
@@ -105,12 +106,13 @@ module _ (given : Setting) (made : Option Made) (s : Sources) (explicit : Option
 -- ---- over any worktree
 
 -- what a delegate is given that had nothing before has distinct paths
-pub distinct-given : (given : Setting) (explicit : Option (List ℕ)) (before got : List Emission) → before ≡ [] → GivesOnce given explicit (Some before) (Some got) → HasDistinctPaths got
-distinct-given given explicit before got none (inl same) =
+pub distinct-given : {T : Type 0} (given : Setting) (explicit : Option (List ℕ)) (path_of : T → List ℕ) (result : Result T Error) (before got : List Emission) → before ≡ []
+    → GivesOnce given explicit path_of result (Some before) (Some got) → HasDistinctPaths got
+distinct-given given explicit path_of result before got none (inl same) =
     record { once = λ path. omega (arith, ap {B = ℕ} (λ (xs : List Emission). given_at path xs) (some_list same), ap {B = ℕ} (λ (xs : List Emission). given_at path xs) none) }
-distinct-given given explicit before got none (inr (root, is, inl adds)) =
+distinct-given given explicit path_of result before got none (inr (root, is, inl adds)) =
     record { once = λ path. omega (arith, adds refl path, ap {B = ℕ} (λ (xs : List Emission). given_at path xs) none, one_if-most (is_path_prefix root path)) }
-distinct-given given explicit before got none (inr (root, is, inr (only, leads, adds))) =
+distinct-given given explicit path_of result before got none (inr (root, is, inr (only, leads, adds))) =
     record { once = λ path. omega (arith, adds refl path, ap {B = ℕ} (λ (xs : List Emission). given_at path xs) none, one_if-most (bytes_eq path only)) }
 
 -- in the order of paths they ascend

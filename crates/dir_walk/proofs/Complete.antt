@@ -44,7 +44,7 @@ use Rattle.dir_walk.proofs.WalkedAt.{walk-split}
 
 -- ---- what makes a walk refused
 
-not-failed : {A : Type 0} → A ⊎ ⊥ → A
+pub not-failed : {A : Type 0} → A ⊎ ⊥ → A
 not-failed (inl a) = a
 not-failed (inr e) = absurd e
 

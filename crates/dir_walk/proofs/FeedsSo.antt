@@ -69,7 +69,7 @@ module _ {W F D : Type 0} (w : WorktreeOf W) (f : FindOf F) (d : DelegateOf D) (
         heeded = inl heeds.unbroken;
         unbroken = heeds.unbroken;
         delegate = delegate;
-        once = gives-once given explicit normalized_is puts;
+        once = gives-once given explicit (λ (r : Outcome × List ℕ). r.1) (Err e) (record { normalized = normalized_is; named = tt }) puts;
         returned = tt;
         seen = tt;
       }
@@ -83,7 +83,7 @@ module _ {W F D : Type 0} (w : WorktreeOf W) (f : FindOf F) (d : DelegateOf D) (
           heeded = inr (heeds.broken, heeds.stopped);
           unbroken = tt;
           delegate = delegate;
-          once = gives-once given explicit normalized_is puts;
+          once = gives-once given explicit (λ (r : Outcome × List ℕ). r.1) (Ok (stop, full)) (record { normalized = normalized_is; named = full_is }) puts;
           returned = returned-since puts returned0;
           seen = seen-since puts returned0 seen0;
         }
@@ -101,7 +101,7 @@ module _ {W F D : Type 0} (w : WorktreeOf W) (f : FindOf F) (d : DelegateOf D) (
           heeded = inl kept;
           unbroken = tt;
           delegate = delegate;
-          once = gives-once given explicit normalized_is puts;
+          once = gives-once given explicit (λ (r : Outcome × List ℕ). r.1) (Ok (stop, full)) (record { normalized = normalized_is; named = full_is }) puts;
           returned = returned-since puts returned0;
           seen = seen-since puts returned0 seen0;
         }

@@ -1,9 +1,10 @@
 -- What is opened, read and given from a traversal root on.
-use Rattle.std.proofs.Common.{◌≡◌, ℕ, ◌+◌, ◌-◌, ◌≤◌, max, List, [], ◌∷◌, ◌++◌, Bool, true, Option, Some, None, Result, inl, inr, length, append_assoc, refl, ap, ◌∙◌, arith}
+use Rattle.std.proofs.Common.{◌≡◌, ℕ, ◌+◌, ◌-◌, ◌≤◌, max, List, [], ◌∷◌, ◌++◌, Bool, true, Option, Some, None, Result, Err, inl, inr, length, append_assoc, refl, ap, ◌∙◌, arith}
 use Rattle.std.proofs.lemmas.List.{length-append}
 use Rattle.gitbase_core.specs.Path.{components}
 use Rattle.worktree_fs.specs.declared.interrupt.Interrupt.{Ghosts as InterruptOf}
 use Rattle.worktree_fs.specs.declared.worktree.Worktree.{Ghosts as WorktreeOf}
+use Rattle.worktree_fs.specs.Causes.{with_more}
 use Rattle.worktree_fs.specs.Paths.{common_front, without_last}
 use Rattle.worktree_fs.specs.PathStack.{IsOnWay}
 use Rattle.worktree_stack.specs.Lookups.{refused_one}
@@ -13,9 +14,12 @@ use Rattle.dir_classify.specs.Chosen.{Chosen}
 use Rattle.dir_classify.specs.Excludes.{pushed_in}
 use Rattle.dir_classify.specs.Rooted.{AsksOnWay}
 use Rattle.dir_walk.specs.declared.handed.Stop.{Stop}
+use Rattle.dir_walk.specs.declared.handed.Stop.TheVariants.{Broken, Refused}
 use Rattle.dir_walk.specs.declared.outcome.Outcome.{Outcome}
+use Rattle.dir_walk.specs.declared.strategy.Strategy.{Strategy}
+use Rattle.dir_walk.specs.declared.strategy.Strategy.TheVariants.{AtOnce, Held}
 use Rattle.dir_walk.specs.Emissions.{Emission}
-use Rattle.dir_walk.specs.Opens.{OpensFrom, OpensWithin, pushed_to, refused_walk}
+use Rattle.dir_walk.specs.Opens.{IsListed, OpensFrom, OpensRoot, pushed_to, refused_walk}
 use Rattle.dir_walk.specs.Puts.{Puts, held_at}
 use Rattle.dir_walk.proofs.Lists.{and_left}
 use Rattle.dir_walk.proofs.Opening.{front-all, length-fronts, opens-refused, pushed-most}
@@ -61,40 +65,88 @@ asks-above recurses root reads0 reads1 old new result on (inr asked) = omega (ar
 
 -- ---- what is opened
 
--- a traversal root is to be entered, and want of memory comes first
-pub opens-not : {W I : Type 0} {w : WorktreeOf W} {i : InterruptOf I} {o : Chosen} {w0 w1 : W} {i0 : I} {a : Outcome} {at : Option Stacked} {names : List (List ℕ)} → w.lists w1 ≡ w.lists w0 → w.reads w1 ≡ w.reads w0
-    → OpensWithin w i w0 w1 i0 i0 a a o at at names 1 1
-opens-not lists reads = opens-refused (0, record { listed = λ small. omega (arith, lists, small); counted = λ small. omega (arith, small); asked = omega arith }) reads
+-- nothing is listed
+pub listed-none : (strategy : Strategy) {before now : ℕ} → now ≡ before → IsListed strategy before now 0
+listed-none Held same = λ small. omega (arith, same, small)
+listed-none AtOnce same = omega (arith, same)
 
-module _ {W I T U E : Type 0} {w : WorktreeOf W} {i : InterruptOf I} {o : Chosen} {w0 w2 : W} (w1 : W) {i0 : I} {a b : Outcome} {old mid : Option Stacked} {root : List ℕ} {reached : Result U E}
+-- or nothing before
+pub listed-later : (strategy : Strategy) {before mid : ℕ} (now opened : ℕ) → mid ≡ before → IsListed strategy mid now opened → IsListed strategy before now opened
+listed-later Held now opened same listed = λ small. omega (arith, same, small, listed (omega (arith, same, small)))
+listed-later AtOnce now opened same listed = omega (arith, same, listed)
+
+-- a traversal root is to be entered, and a refusal comes first
+pub opens-not : {W I : Type 0} (strategy : Strategy) (w : WorktreeOf W) (i : InterruptOf I) (o : Chosen) (w0 w1 : W) (i0 i1 : I) (a : Outcome) (at : Option Stacked) (names : List (List ℕ)) → w.lists w1 ≡ w.lists w0 → w.reads w1 ≡ w.reads w0
+    → with_more (i.questions i0) 0 ≤ i.questions i1 → OpensRoot w i w0 w1 i0 i1 a a strategy o at at names 1
+opens-not AtOnce w i o w0 w1 i0 i1 a at names lists reads asked = record { enters = record { opened = 0; counted = λ small. omega (arith, small); asked = asked }; listed = omega (arith, lists) }
+opens-not Held w i o w0 w1 i0 i1 a at names lists reads asked = opens-refused (0, record { listed = λ small. omega (arith, lists, small); counted = λ small. omega (arith, small); asked = asked }) reads
+
+module _ {W I T U E : Type 0} {w : WorktreeOf W} {i : InterruptOf I} {o : Chosen} {w0 w2 : W} (w1 : W) (strategy : Strategy) {i0 : I} {a b : Outcome} {old mid : Option Stacked} {root : List ℕ} {reached : Result U E}
     (asks : AsksOnWay o.recurse_repositories root (w.reads w0) (w.reads w1) old mid reached) where
   -- the way to the traversal root ended before it, or it is not entered
   pub opens-short : (result : Result T Stop) → w.lists w2 ≡ w.lists w0 → w.reads w2 ≡ w.reads w1 → b.read_dir_calls ≡ a.read_dir_calls → refused_one reached ≤ refused_walk result
-      → OpensFrom w i w0 w2 i0 i0 a b o old root result
+      → OpensFrom w i w0 w2 i0 i0 a b strategy o root result
   opens-short result lists reads counted fits =
       record {
         opened = 0;
-        opens = record { listed = λ small. omega (arith, lists, small); counted = λ small. omega (arith, counted, small); asked = omega arith };
-        reads = λ on none. omega (arith, asks-above o.recurse_repositories root (w.reads w0) (w.reads w1) old mid reached (and_left o.recurse_repositories _ on) asks, reads, fits);
+        listed = listed-none strategy lists;
+        counted = λ small. omega (arith, counted, small);
+        asked = omega arith;
+        reads = λ held on. omega (arith, asks-above o.recurse_repositories root (w.reads w0) (w.reads w1) old mid reached (and_left o.recurse_repositories _ on) asks, reads, fits);
       }
 
-  -- it is entered
-  pub opens-entered : {w3 : W} {i1 : I} {new : Option Stacked} (result : Result T Stop) → w.lists w2 ≡ w.lists w0 → w.reads w2 ≡ w.reads w1 → refused_one reached ≡ 0
-      → OpensWithin w i w2 w3 i0 i1 a b o mid new (components root) 1 (refused_walk result) → OpensFrom w i w0 w3 i0 i1 a b o old root result
-  opens-entered {new = new} result lists reads answered one =
-      record {
-        opened = one.opened;
-        opens = record { listed = λ small. omega (arith, lists, small, one.opens.listed (omega (arith, lists, small))); counted = one.opens.counted; asked = one.opens.asked };
-        reads = λ on none.
-            omega (
-              arith,
-              asks-on-way o.recurse_repositories root (w.reads w0) (w.reads w1) old mid reached (and_left o.recurse_repositories _ on) asks,
-              one.reads on,
-              pushed-most (pushed_in new) (components root),
-              reads,
-              answered,
-            );
-      }
+-- what is opened is opened between calls that list and read nothing
+pub opens-around : {W I : Type 0} (strategy : Strategy) (w : WorktreeOf W) (i : InterruptOf I) (o : Chosen) (w0 w1 w2 : W) (i0 i1 : I) (a b c : Outcome) (old new : Option Stacked) (names : List (List ℕ)) (less spare : ℕ)
+    → w.lists w1 ≡ w.lists w0 → w.reads w1 ≡ w.reads w0 → c.read_dir_calls ≡ b.read_dir_calls → less ≤ spare → OpensRoot w i w1 w2 i0 i1 a b strategy o old new names less → OpensRoot w i w0 w2 i0 i1 a c strategy o old new names spare
+opens-around Held w i o w0 w1 w2 i0 i1 a b c old new names less spare lists reads read fits one =
+    record {
+      opened = one.opened;
+      opens = record {
+        listed = λ small. omega (arith, lists, small, one.opens.listed (omega (arith, lists, small)));
+        counted = λ small. omega (arith, read, one.opens.counted small);
+        asked = one.opens.asked;
+      };
+      reads = λ on. omega (arith, reads, fits, one.reads on);
+    }
+opens-around AtOnce w i o w0 w1 w2 i0 i1 a b c old new names less spare lists reads read fits one =
+    record {
+      enters = record { opened = one.enters.opened; counted = λ small. omega (arith, read, one.enters.counted small); asked = one.enters.asked };
+      listed = omega (arith, lists, one.listed);
+    }
+
+pub refused-same : (S T : Type 0) (stop : Stop) → refused_walk {T = S} (Err stop) ≤ refused_walk {T = T} (Err stop)
+refused-same S T (Refused e) = omega arith
+refused-same S T Broken = omega arith
+
+-- it is entered
+pub opens-entered : {W I T U E : Type 0} {w : WorktreeOf W} {i : InterruptOf I} {o : Chosen} {w0 : W} (w1 w2 : W) (strategy : Strategy) {i0 : I} {a b : Outcome} {old mid : Option Stacked} {root : List ℕ} {reached : Result U E}
+    → AsksOnWay o.recurse_repositories root (w.reads w0) (w.reads w1) old mid reached
+    → {w3 : W} {i1 : I} (new : Option Stacked) (result : Result T Stop) → w.lists w2 ≡ w.lists w0 → w.reads w2 ≡ w.reads w1 → refused_one reached ≡ 0
+    → OpensRoot w i w2 w3 i0 i1 a b strategy o mid new (components root) (refused_walk result) → OpensFrom w i w0 w3 i0 i1 a b strategy o root result
+opens-entered {w = w} {o = o} {w0 = w0} w1 w2 Held {old = old} {mid = mid} {root = root} {reached = reached} asks new result lists reads answered one =
+    record {
+      opened = one.opened;
+      listed = λ small. omega (arith, lists, small, one.opens.listed (omega (arith, lists, small)));
+      counted = one.opens.counted;
+      asked = one.opens.asked;
+      reads = λ held on.
+          omega (
+            arith,
+            asks-on-way o.recurse_repositories root (w.reads w0) (w.reads w1) old mid reached (and_left o.recurse_repositories _ on) asks,
+            one.reads on,
+            pushed-most (pushed_in new) (components root),
+            reads,
+            answered,
+          );
+    }
+opens-entered w1 w2 AtOnce asks new result lists reads answered one =
+    record {
+      opened = one.enters.opened;
+      listed = omega (arith, lists, one.listed);
+      counted = one.enters.counted;
+      asked = one.enters.asked;
+      reads = λ held. absurd (cc held);
+    }
 
 -- ---- what is given
 

@@ -15,7 +15,7 @@ use Rattle.dir_classify.specs.declared.classify.Outcome.{Outcome}
 use Rattle.dir_classify.specs.declared.excludes.Ruling.{Ruling}
 use Rattle.dir_classify.specs.Chosen.{Chosen, finds_bare_repositories}
 use Rattle.dir_classify.specs.Class.{class, class_of_kind, class_dot_git, class_unmatched, class_worktree, class_indexed, class_unindexed, class_by_rules, class_directory, class_other, finds_in_ignored, upgrade, is_worktree, is_indexed, is_dot_git, settled_kind, ruling_of, dot_git_ruling}
-use Rattle.dir_classify.specs.Enters.{is_open}
+use Rattle.dir_classify.specs.Enters.{is_open, is_ignored_status}
 use Rattle.dir_classify.specs.Evidence.{Evidence}
 use Rattle.dir_classify.specs.Kinds.{from_node, first_of_kinds, is_directory, is_symlink, is_repository, is_dir, holds_names}
 use Rattle.dir_classify.specs.Layers.{kind_at}
@@ -61,8 +61,18 @@ module _ (o : Chosen) (ev : Evidence) (path : List ℕ) (known : Option Kind) wh
   held-free c true is e = held-kind c is
   held-free c false is e = held-kind c e
 
+  -- an ignored path has the kind that is known, or deletion saw a repository there
+  sought : (finds sees : Bool) → let k = if finds then (if sees then Some Repository else kind) else kind in holds_names k ≡ true → (holds_names kind ≡ true) ⊎ (is_repository k ≡ true)
+  sought false sees e = inl e
+  sought true true e = inr refl
+  sought true false e = inl e
+
+  held-ignored : (c : Outcome) → is_ignored_status c.status ≡ true → (holds_names kind ≡ true) ⊎ (is_repository c.disk_kind ≡ true) → Held c
+  held-ignored c ignored (inl holds) = held-kind c holds
+  held-ignored c ignored (inr repository) = inl (inr (inr (inr (ignored, repository))))
+
   held-rules : (ruling : Ruling) (excluded : Option IgnoredAs) → holds_names (class_by_rules o ev path kind excluded).disk_kind ≡ true → Held (record (class_by_rules o ev path kind excluded) { origin = ruling.origin })
-  held-rules ruling (Some excluded) e = inl (inr (inr (inr refl)))
+  held-rules ruling (Some excluded) e = held-ignored (record (class_by_rules o ev path kind (Some excluded)) { origin = ruling.origin }) refl (sought (finds_in_ignored o) _ e)
   held-rules ruling None e = held-free (record (class_by_rules o ev path kind None) { origin = ruling.origin }) (holds_names kind) refl e
 
   held-cases : (worktree indexed : Bool) (ruling : Ruling) → is_worktree o path ≡ worktree

@@ -1,10 +1,12 @@
 pub mod Accounts
+pub mod Apart
 pub mod Beneath
 pub mod Blocked
 pub mod ByPath
 pub mod CallByCall
 pub mod Closes
 pub mod Closing
+pub mod Collected
 pub mod Comes
 pub mod Complete
 pub mod Counts
@@ -19,6 +21,7 @@ pub mod Ending
 pub mod Entering
 pub mod FeedsSo
 pub mod Folds
+pub mod Forked
 pub mod FromRoot
 pub mod Guards
 pub mod HandedOn
@@ -58,6 +61,7 @@ pub mod Steps
 pub mod Strict
 pub mod Tallies
 pub mod Unread
+pub mod Walkable
 pub mod WalkedAt
 pub mod WalksSo
 pub mod WayRefused

@@ -4,18 +4,18 @@ use Rattle.std.specs.Prelude.{IfOk}
 use Rattle.worktree_fs.specs.declared.interrupt.Interrupt.{Ghosts as InterruptOf}
 use Rattle.worktree_fs.specs.declared.worktree.Worktree.{Ghosts as WorktreeOf}
 use Rattle.worktree_stack.specs.Lookups.{refused_one}
-use Rattle.worktree_stack.specs.Stacked.{Stacked}
 use Rattle.dir_classify.specs.declared.error.Error.{Error}
 use Rattle.dir_classify.specs.Layers.{Setting}
 use Rattle.dir_walk.specs.declared.handed.Stop.{Stop}
 use Rattle.dir_walk.specs.declared.handed.Stop.TheVariants.{Refused, Broken}
 use Rattle.dir_walk.specs.declared.outcome.Outcome.{Outcome}
+use Rattle.dir_walk.specs.declared.strategy.Strategy.{Strategy}
 use Rattle.dir_walk.specs.Emissions.{Emission}
 use Rattle.dir_walk.specs.Given.{listed}
 use Rattle.dir_walk.specs.Opens.{OpensFrom, refused_walk}
 use Rattle.dir_walk.specs.Puts.{AddsAtMost, Puts, PutsFrom}
-use Rattle.dir_walk.specs.Rooting.{IsNormalized}
-use Rattle.dir_walk.specs.Walks.{GivesOnce, OpensDirectories}
+use Rattle.dir_walk.proofs.FromRoot.{listed-later, listed-none}
+use Rattle.dir_walk.specs.Walks.{GivesOnce, IsRootOf, OpensDirectories}
 
 -- ---- what is opened
 
@@ -24,22 +24,22 @@ refused-most (Ok done) = omega arith
 refused-most (Err (Refused error)) = omega arith
 refused-most (Err Broken) = omega arith
 
-module _ {W I T : Type 0} {w : WorktreeOf W} {i : InterruptOf I} {w0 w1 : W} {i0 : I} {old : Option Stacked} {given : Setting} {explicit : Option (List ℕ)} {outcome_of : T → Outcome}
+module _ {W I T : Type 0} {w : WorktreeOf W} {i : InterruptOf I} {w0 w1 : W} {i0 : I} (strategy : Strategy) {given : Setting} {explicit : Option (List ℕ)} {outcome_of : T → Outcome} {path_of : T → List ℕ}
     (lists : w.lists w1 ≡ w.lists w0) (reads : w.reads w1 ≡ w.reads w0) where
   -- it was refused before
-  pub opens-nothing : {e : Error} → OpensDirectories w i w0 w1 i0 i0 old given explicit outcome_of (Err e)
-  opens-nothing = record { opened = 0; listed = λ small. omega (arith, lists, small); asked = omega arith; counted = tt; reads = λ on none. inl reads }
+  pub opens-nothing : {e : Error} → OpensDirectories w i w0 w1 i0 i0 strategy given explicit outcome_of path_of (Err e)
+  opens-nothing = record { opened = 0; listed = listed-none strategy lists; asked = omega arith; counted = tt; reads = λ held on. inl reads }
 
-  pub opens-whole : {U : Type 0} {w2 : W} {i1 : I} {a b : Outcome} {root : List ℕ} (ended : Result U Stop) (result : Result T Error) → a.read_dir_calls ≡ 0 → IsNormalized given explicit root
-      → IfOk result (λ r. outcome_of r ≡ b) → refused_walk ended ≤ refused_one result → OpensFrom w i w1 w2 i0 i1 a b given.options old root ended
-      → OpensDirectories w i w0 w2 i0 i1 old given explicit outcome_of result
+  pub opens-whole : {U : Type 0} {w2 : W} {i1 : I} {a b : Outcome} {root : List ℕ} (ended : Result U Stop) (result : Result T Error) → a.read_dir_calls ≡ 0 → IsRootOf given explicit path_of result root
+      → IfOk result (λ r. outcome_of r ≡ b) → refused_walk ended ≤ refused_one result → OpensFrom w i w1 w2 i0 i1 a b strategy given.options root ended
+      → OpensDirectories w i w0 w2 i0 i1 strategy given explicit outcome_of path_of result
   opens-whole {b = b} {root = root} ended result zero is outcome_is fits one =
       record {
         opened = one.opened;
-        listed = λ small. omega (arith, lists, small, one.opens.listed (omega (arith, lists, small)));
-        asked = one.opens.asked;
-        counted = in_numbers one.opened result outcome_is (omega (arith, zero, one.opens.counted (omega (arith, zero))));
-        reads = λ on none. inr (root, is, omega (arith, one.reads on none, reads, fits));
+        listed = listed-later strategy _ _ lists one.listed;
+        asked = one.asked;
+        counted = in_numbers one.opened result outcome_is (omega (arith, zero, one.counted (omega (arith, zero))));
+        reads = λ held on. inr (root, is, omega (arith, one.reads held on, reads, fits));
       }
     where
       in_numbers : (opened : ℕ) (result : Result T Error) → IfOk result (λ r. outcome_of r ≡ b) → b.read_dir_calls ≡ min opened (2 ^ 32 - 1) → IfOk result (λ r. (outcome_of r).read_dir_calls ≡ min opened (2 ^ 32 - 1))
@@ -59,9 +59,10 @@ module _ {room : List ℕ → ℕ} {a b : Option (List Emission)} {i j : Outcome
   sees-since zero none = omega (arith, zero, none, (put.seen (omega (arith, zero)) (omega (arith, none))).0)
 
 module _ {root : List ℕ} {a b : Option (List Emission)} {i j : Outcome} where
-  pub gives-once : (given : Setting) (explicit : Option (List ℕ)) → IsNormalized given explicit root → PutsFrom root a b i j → GivesOnce given explicit a b
-  gives-once given explicit is (inl put) = inr (root, is, inl (adds put))
-  gives-once given explicit is (inr put) = inr (root, is, inr (put.0, put.1, adds put.2))
+  pub gives-once : {T : Type 0} (given : Setting) (explicit : Option (List ℕ)) (path_of : T → List ℕ) (result : Result T Error) → IsRootOf given explicit path_of result root → PutsFrom root a b i j
+      → GivesOnce given explicit path_of result a b
+  gives-once given explicit path_of result is (inl put) = inr (root, is, inl (adds put))
+  gives-once given explicit path_of result is (inr put) = inr (root, is, inr (put.0, put.1, adds put.2))
 
   pub returned-since : PutsFrom root a b i j → i.returned_entries ≡ 0 → is_some a ≡ true → j.returned_entries ≡ min (length (listed b) - length (listed a)) (2 ^ 64 - 1)
   returned-since (inl put) zero = counts-since put zero

@@ -1,11 +1,12 @@
 -- What every walk says, by how it ended.
-use Rattle.std.proofs.Common.{◌≡◌, inl, inr, ℕ, List, [], Bool, true, Option, Some, Result, Ok, Err, refl, ap, ◌∙◌, arith}
+use Rattle.std.proofs.Common.{◌≡◌, inl, inr, ℕ, List, [], Bool, true, Option, Some, Result, Ok, Err, refl, ap, ◌∙◌, ◌≤◌, arith}
 use Rattle.gitbase_core.specs.declared.find.Find.{Ghosts as FindOf}
 use Rattle.worktree_fs.specs.declared.interrupt.Interrupt.{Ghosts as InterruptOf}
 use Rattle.worktree_fs.specs.declared.worktree.Worktree.{Ghosts as WorktreeOf}
 use Rattle.worktree_fs.specs.Causes.{Increased, NotIncreased}
 use Rattle.worktree_fs.specs.Kept.{Asks}
 use Rattle.worktree_fs.specs.Tree.{Names}
+use Rattle.worktree_stack.specs.Lookups.{refused_one}
 use Rattle.worktree_stack.specs.Reading.{Sources}
 use Rattle.worktree_stack.specs.Setup.{Made}
 use Rattle.worktree_stack.specs.Stacked.{Stacked}
@@ -17,6 +18,7 @@ use Rattle.dir_classify.specs.Refused.{OnFault}
 use Rattle.dir_walk.specs.declared.handed.Stop.{Stop}
 use Rattle.dir_walk.specs.declared.handed.Stop.TheVariants.{Refused}
 use Rattle.dir_walk.specs.declared.outcome.Outcome.{Outcome}
+use Rattle.dir_walk.specs.declared.strategy.Strategy.{Strategy}
 use Rattle.dir_walk.specs.declared.delegate.Delegate.{Ghosts as DelegateOf}
 use Rattle.dir_walk.specs.Kept.{OnInterrupt}
 use Rattle.dir_walk.specs.Root.{rooted, traversal_root}
@@ -24,7 +26,7 @@ use Rattle.dir_walk.specs.Rooting.{EndsIn, IsNormalized, RootAbout}
 use Rattle.dir_walk.specs.WalkRefused.{IsNoDirectory, OnNoRoot, StartAbout, StartFound, StartRefuses}
 use Rattle.dir_walk.specs.Walks.{Ends, OpensDirectories, ReadsAtMost, Tells, WalksWorktree}
 use Rattle.dir_walk.proofs.CallByCall.{Before-asked, Ends-after, unlisted}
-use Rattle.dir_walk.proofs.Complete.{only-memory}
+use Rattle.dir_walk.proofs.Walkable.{valid-memory}
 use Rattle.dir_walk.proofs.Keeping.{AsksStore-same, KeepsRules-same}
 use Rattle.dir_walk.proofs.Overall.{opens-nothing}
 
@@ -54,10 +56,10 @@ no_root-outside P given explicit (errors.ReadDir at why) h = tt
 no_root-outside P given explicit (errors.DirEntry at) h = tt
 no_root-outside P given explicit errors.OutOfMemory h = tt
 
-module _ {W F I T : Type 0} (w : WorktreeOf W) (f : FindOf F) (i : InterruptOf I) {w0 w1 : W} {o0 : F} {i0 : I} {r0 : Option Stacked} (given : Setting) (explicit : Option (List ℕ)) (limit : ℕ) (default : Bool) (outcome_of : T → Outcome)
+module _ {W F I T : Type 0} (w : WorktreeOf W) (f : FindOf F) (i : InterruptOf I) {w0 w1 : W} {o0 : F} {i0 : I} {r0 : Option Stacked} (strategy : Strategy) (given : Setting) (explicit : Option (List ℕ)) (limit : ℕ) (default : Bool) (outcome_of : T → Outcome) (path_of : T → List ℕ)
     (keeps : Asks w w0 w1) (reads : w.reads w1 ≡ w.reads w0) where
   pub walks-outside : (e : Error) → RootAbout given explicit e → ((t : Names) → w.told w0 ≡ Some t → EndsIn (traversal_root given t explicit) e)
-      → ((before now : ℕ) → OnFault (Increased (w.faults w0) (w.faults w1)) (Increased before now) e) → WalksWorktree w f i w0 w1 o0 o0 i0 i0 r0 r0 given explicit limit default outcome_of (Err e)
+      → ((before now : ℕ) → OnFault (Increased (w.faults w0) (w.faults w1)) (Increased before now) e) → WalksWorktree w f i w0 w1 o0 o0 i0 i0 r0 r0 strategy given explicit limit default outcome_of path_of (Err e)
   walks-outside e about ends fault =
       record {
         about = inl about;
@@ -67,7 +69,7 @@ module _ {W F I T : Type 0} (w : WorktreeOf W) (f : FindOf F) (i : InterruptOf I
         refused = λ s tells by quiet store_quiet. inl (ends s.tree tells.tells.tree_is);
         no_root = λ s tells quiet. no_root-outside ((traversal_root given s.tree explicit ≡ rooted []) × IsNoDirectory given s) given explicit e about;
         complete = λ s tells by quiet store_quiet calm is.
-            only-memory s (made_with r0) given explicit limit (w.faults w0) (w.faults w1) (f.faults o0) (f.faults o0) (i.raised i0) (i.raised i0) e (fault (f.faults o0) (f.faults o0))
+            valid-memory s (made_with r0) given explicit limit (w.faults w0) (w.faults w1) (f.faults o0) (f.faults o0) (i.raised i0) (i.raised i0) e (fault (f.faults o0) (f.faults o0))
             (interrupt-outside (Increased (i.raised i0) (i.raised i0)) given explicit e about) (inl (ends s.tree tells.tells.tree_is)) quiet store_quiet calm is;
         worktree = unlisted (Before-asked {f = f} {o = o0} {rules = r0} keeps).worktree;
         store = AsksStore-same;
@@ -75,7 +77,7 @@ module _ {W F I T : Type 0} (w : WorktreeOf W) (f : FindOf F) (i : InterruptOf I
         interrupt = record { questions = omega arith; raised = omega arith };
         listed = tt;
         calm = tt;
-        opens = opens-nothing keeps.lists reads;
+        opens = opens-nothing strategy keeps.lists reads;
       }
 
 -- ---- it was refused on the way from there
@@ -93,14 +95,14 @@ no_root-start P Q made top root limit (errors.DirEntry path) about f h = tt
 no_root-start P Q made top root limit errors.OutOfMemory about f h = tt
 
 module _ {W F I D T : Type 0} (w : WorktreeOf W) (f : FindOf F) (i : InterruptOf I) (d : DelegateOf D) {w0 w1 w2 : W} {o0 o2 : F} {i0 i2 : I} {r0 r2 : Option Stacked} {d0 d2 : D}
-    (given : Setting) (explicit : Option (List ℕ)) (limit : ℕ) (default : Bool) (outcome_of : T → Outcome) (root : List ℕ) (keeps : Asks w w0 w1) (normalized_is : IsNormalized given explicit root)
+    (strategy : Strategy) (given : Setting) (explicit : Option (List ℕ)) (limit : ℕ) (default : Bool) (outcome_of : T → Outcome) (path_of : T → List ℕ) (root : List ℕ) (keeps : Asks w w0 w1) (normalized_is : IsNormalized given explicit root)
     (rooted_is : (t : Names) → w.told w0 ≡ Some t → NotIncreased (w.faults w0) (w.faults w1) → traversal_root given t explicit ≡ rooted root) where
   pub walks-refused : (e : Error) → Ends {T = Unit {0}} w f i d w1 w2 o0 o2 i0 i2 r0 r2 d0 d2 (Err (Refused e)) → StartAbout (made_with r0) given.root root limit e
       → ((s : Sources) → w.told w1 ≡ Some s.tree → StartFound (f.holds o0) s (made_with r0) e)
       → ((s : Sources) → Tells w f w1 o0 r0 s → default ≡ true → NotIncreased (w.faults w1) (w.faults w2) → NotIncreased (f.faults o0) (f.faults o2) → StartRefuses given (made_with r0) s root limit e)
       → ((s : Sources) → Tells w f w1 o0 r0 s → NotIncreased (w.faults w1) (w.faults w2) → OnNoRoot (IsNoDirectory given s) e)
-      → OpensDirectories w i w0 w2 i0 i2 r0 given explicit outcome_of (Err e)
-      → WalksWorktree w f i w0 w2 o0 o2 i0 i2 r0 r2 given explicit limit default outcome_of (Err e)
+      → OpensDirectories w i w0 w2 i0 i2 strategy given explicit outcome_of path_of (Err e)
+      → WalksWorktree w f i w0 w2 o0 o2 i0 i2 r0 r2 strategy given explicit limit default outcome_of path_of (Err e)
   walks-refused e here about found refused no_root opens =
       let ends = Ends-after w f i d (Err (Refused e)) (Before-asked keeps) here in
       let later : (s : Sources) → Tells w f w0 o0 r0 s → Tells w f w1 o0 r0 s =
@@ -117,7 +119,7 @@ module _ {W F I D T : Type 0} (w : WorktreeOf W) (f : FindOf F) (i : InterruptOf
             no_root-start (IsNoDirectory given s) ((traversal_root given s.tree explicit ≡ rooted []) × IsNoDirectory given s) (made_with r0) given.root root limit e about
             (λ top node. (rooted_is s.tree tells.tells.tree_is (first quiet) ∙ ap rooted top, node)) (no_root s (later s tells) (second quiet));
         complete = λ s tells by quiet store_quiet calm is.
-            only-memory s (made_with r0) given explicit limit (w.faults w0) (w.faults w2) (f.faults o0) (f.faults o2) (i.raised i0) (i.raised i2) e ends.caused.fault ends.caused.interrupt
+            valid-memory s (made_with r0) given explicit limit (w.faults w0) (w.faults w2) (f.faults o0) (f.faults o2) (i.raised i0) (i.raised i2) e ends.caused.fault ends.caused.interrupt
             (inr (root, rooted_is s.tree tells.tells.tree_is (first quiet), refused s (later s tells) by (second quiet) store_quiet)) quiet store_quiet calm is;
         worktree = ends.worktree;
         store = ends.store;
@@ -130,7 +132,7 @@ module _ {W F I D T : Type 0} (w : WorktreeOf W) (f : FindOf F) (i : InterruptOf
 
   -- or it was done, or broken off
   pub walks-done : (r : T) (stop : Result (Unit {0}) Stop) → Ends w f i d w1 w2 o0 o2 i0 i2 r0 r2 d0 d2 stop → w.list_faults w2 ≡ w.list_faults w1 → i.raised i2 ≡ i.raised i0
-      → OpensDirectories w i w0 w2 i0 i2 r0 given explicit outcome_of (Ok r) → WalksWorktree w f i w0 w2 o0 o2 i0 i2 r0 r2 given explicit limit default outcome_of (Ok r)
+      → OpensDirectories w i w0 w2 i0 i2 strategy given explicit outcome_of path_of (Ok r) → WalksWorktree w f i w0 w2 o0 o2 i0 i2 r0 r2 strategy given explicit limit default outcome_of path_of (Ok r)
   walks-done r stop here lists calm opens =
       let ends = Ends-after w f i d stop (Before-asked keeps) here in
       record {
@@ -152,14 +154,22 @@ module _ {W F I D T : Type 0} (w : WorktreeOf W) (f : FindOf F) (i : InterruptOf
 
 -- ---- a walk by another name
 
-reads-spared : (given : Setting) (explicit : Option (List ℕ)) (before now opened : ℕ) → ReadsAtMost given explicit before now opened 0 → ReadsAtMost given explicit before now opened 1
-reads-spared given explicit before now opened (inl same) = inl same
-reads-spared given explicit before now opened (inr h) = inr (h.0, h.1, omega (arith, h.2))
+-- a refusal names no root
+reads-refused : {S T : Type 0} (given : Setting) (explicit : Option (List ℕ)) (path_of : S → List ℕ) (other_path_of : T → List ℕ) (result : Result S Error) (e : Error) (before now opened : ℕ)
+    → refused_one result ≤ 1 → ReadsAtMost given explicit path_of result before now opened → ReadsAtMost given explicit other_path_of (Err e) before now opened
+reads-refused given explicit path_of other_path_of result e before now opened fits (inl same) = inl same
+reads-refused given explicit path_of other_path_of result e before now opened fits (inr h) = inr (h.0, record { normalized = h.1.normalized; named = tt }, omega (arith, h.2, fits))
 
-module _ {W F I S T : Type 0} (w : WorktreeOf W) (f : FindOf F) (i : InterruptOf I) {w0 w1 : W} {o0 o1 : F} {i0 i1 : I} {r0 r1 : Option Stacked} (given : Setting) (explicit : Option (List ℕ)) (limit : ℕ) (default : Bool)
-    (outcome_of : S → Outcome) (other_of : T → Outcome) where
+-- the same root is named
+reads-more : {S T : Type 0} (given : Setting) (explicit : Option (List ℕ)) (path_of : S → List ℕ) (other_path_of : T → List ℕ) (r : S) (t : T) (before now opened : ℕ) → other_path_of t ≡ path_of r
+    → ReadsAtMost given explicit path_of (Ok r) before now opened → ReadsAtMost given explicit other_path_of (Ok t) before now opened
+reads-more given explicit path_of other_path_of r t before now opened path (inl same) = inl same
+reads-more given explicit path_of other_path_of r t before now opened path (inr h) = inr (h.0, record { normalized = h.1.normalized; named = path ∙ h.1.named }, h.2)
+
+module _ {W F I S T : Type 0} (w : WorktreeOf W) (f : FindOf F) (i : InterruptOf I) {w0 w1 : W} {o0 o1 : F} {i0 i1 : I} {r0 r1 : Option Stacked} (strategy : Strategy) (given : Setting) (explicit : Option (List ℕ)) (limit : ℕ) (default : Bool)
+    (outcome_of : S → Outcome) (path_of : S → List ℕ) (other_of : T → Outcome) (other_path_of : T → List ℕ) where
   -- what is refused is handed on
-  pub walks-other : (e : Error) → WalksWorktree {T = S} w f i w0 w1 o0 o1 i0 i1 r0 r1 given explicit limit default outcome_of (Err e) → WalksWorktree {T = T} w f i w0 w1 o0 o1 i0 i1 r0 r1 given explicit limit default other_of (Err e)
+  pub walks-other : (e : Error) → WalksWorktree {T = S} w f i w0 w1 o0 o1 i0 i1 r0 r1 strategy given explicit limit default outcome_of path_of (Err e) → WalksWorktree {T = T} w f i w0 w1 o0 o1 i0 i1 r0 r1 strategy given explicit limit default other_of other_path_of (Err e)
   walks-other e h =
       record {
         about = h.about;
@@ -175,12 +185,45 @@ module _ {W F I S T : Type 0} (w : WorktreeOf W) (f : FindOf F) (i : InterruptOf
         interrupt = h.interrupt;
         listed = tt;
         calm = tt;
-        opens = record { opened = h.opens.opened; listed = h.opens.listed; asked = h.opens.asked; counted = tt; reads = h.opens.reads };
+        opens = record {
+          opened = h.opens.opened;
+          listed = h.opens.listed;
+          asked = h.opens.asked;
+          counted = tt;
+          reads = λ held on. reads-refused given explicit path_of other_path_of (Err e) e (w.reads w0) (w.reads w1) h.opens.opened (omega arith) (h.opens.reads held on);
+        };
+      }
+
+  -- what is done is done with something more in the answer
+  pub walks-more : (r : S) (t : T) → other_of t ≡ outcome_of r → other_path_of t ≡ path_of r → WalksWorktree {T = S} w f i w0 w1 o0 o1 i0 i1 r0 r1 strategy given explicit limit default outcome_of path_of (Ok r)
+      → WalksWorktree {T = T} w f i w0 w1 o0 o1 i0 i1 r0 r1 strategy given explicit limit default other_of other_path_of (Ok t)
+  walks-more r t counts path h =
+      record {
+        about = tt;
+        cause = tt;
+        interrupted = tt;
+        found = λ s told. tt;
+        refused = λ s tells by quiet store_quiet. tt;
+        no_root = λ s tells quiet. tt;
+        complete = λ s tells by quiet store_quiet calm is. tt;
+        worktree = h.worktree;
+        store = h.store;
+        rules = h.rules;
+        interrupt = h.interrupt;
+        listed = h.listed;
+        calm = h.calm;
+        opens = record {
+          opened = h.opens.opened;
+          listed = h.opens.listed;
+          asked = h.opens.asked;
+          counted = ap {B = ℕ} (λ (x : Outcome). x.read_dir_calls) counts ∙ h.opens.counted;
+          reads = λ held on. reads-more given explicit path_of other_path_of r t (w.reads w0) (w.reads w1) h.opens.opened path (h.opens.reads held on);
+        };
       }
 
   -- what was done may want memory afterwards
-  pub walks-memory : (r : S) → WalksWorktree {T = S} w f i w0 w1 o0 o1 i0 i1 r0 r1 given explicit limit default outcome_of (Ok r)
-      → WalksWorktree {T = T} w f i w0 w1 o0 o1 i0 i1 r0 r1 given explicit limit default other_of (Err errors.OutOfMemory)
+  pub walks-memory : (r : S) → WalksWorktree {T = S} w f i w0 w1 o0 o1 i0 i1 r0 r1 strategy given explicit limit default outcome_of path_of (Ok r)
+      → WalksWorktree {T = T} w f i w0 w1 o0 o1 i0 i1 r0 r1 strategy given explicit limit default other_of other_path_of (Err errors.OutOfMemory)
   walks-memory r h =
       record {
         about = inl tt;
@@ -201,6 +244,6 @@ module _ {W F I S T : Type 0} (w : WorktreeOf W) (f : FindOf F) (i : InterruptOf
           listed = h.opens.listed;
           asked = h.opens.asked;
           counted = tt;
-          reads = λ on none. reads-spared given explicit (w.reads w0) (w.reads w1) h.opens.opened (h.opens.reads on none);
+          reads = λ held on. reads-refused given explicit path_of other_path_of (Ok r) errors.OutOfMemory (w.reads w0) (w.reads w1) h.opens.opened (omega arith) (h.opens.reads held on);
         };
       }

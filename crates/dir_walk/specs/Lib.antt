@@ -7,6 +7,7 @@ pub mod Emits
 pub mod Fold
 pub mod Given
 pub mod Guarded
+pub mod Jobs
 pub mod Kept
 pub mod Opens
 pub mod Placed
@@ -20,5 +21,6 @@ pub mod Safe
 pub mod Starts
 pub mod Told
 pub mod WalkRefused
+pub mod Walkable
 pub mod Walked
 pub mod Walks

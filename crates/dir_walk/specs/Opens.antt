@@ -11,6 +11,8 @@ use Rattle.dir_classify.specs.Excludes.{pushed_in}
 use Rattle.dir_walk.specs.declared.handed.Stop.{Stop}
 use Rattle.dir_walk.specs.declared.handed.Stop.TheVariants.{Refused, Broken}
 use Rattle.dir_walk.specs.declared.outcome.Outcome.{Outcome}
+use Rattle.dir_walk.specs.declared.strategy.Strategy.{Strategy}
+use Rattle.dir_walk.specs.declared.strategy.Strategy.TheVariants.{Held, AtOnce}
 
 -- So many directories were opened: they were listed, or that was refused. The worktree counted each as listed and the walk as
 -- entered, and before each the interrupt was asked. A count stands at its type's end.
@@ -38,17 +40,42 @@ pub record OpensWithin {W I : Type 0} (w : WorktreeOf W) (i : InterruptOf I) (w0
   pub opens : Opens w i w0 w1 i0 i1 start stop opened
   pub reads : reads_rules_alone o ≡ true → w.reads w1 + pushed_to (pushed_in old) names + own ≤ w.reads w0 + pushed_to (pushed_in new) names + opened + spare
 
+-- So many directories were opened over forks of a worktree: the walk counted each as entered, and before each the interrupt
+-- was asked, or a fork of it. A count stands at its type's end.
+pub record Enters {I : Type 0} (i : InterruptOf I) (i0 i1 : I) (start stop : Outcome) : Type 0 where
+  pub opened : ℕ
+  pub counted : start.read_dir_calls < 2 ^ 32 → stop.read_dir_calls ≡ min (start.read_dir_calls + opened) (2 ^ 32 - 1)
+  pub asked : with_more (i.questions i0) opened ≤ i.questions i1
+
+-- The same where the worktree counted no more than `own` of them as listed, as all others were opened over forks.
+pub record OpensApart {W I : Type 0} (w : WorktreeOf W) (i : InterruptOf I) (w0 w1 : W) (i0 i1 : I) (start stop : Outcome) (own : ℕ) : Type 0 where
+  pub enters : Enters i i0 i1 start stop
+  pub listed : w.lists w1 ≤ w.lists w0 + own
+
+-- A traversal root is opened, itself over the worktree, and what lies beneath it there too or over forks.
+abbrev pub OpensRoot : {W I : Type 0} → WorktreeOf W → InterruptOf I → W → W → I → I → Outcome → Outcome → Strategy → Chosen → Option Stacked → Option Stacked → List (List ℕ) → ℕ → Type 0
+OpensRoot w i w0 w1 i0 i1 start stop Held o old new names spare = OpensWithin w i w0 w1 i0 i1 start stop o old new names 1 spare
+OpensRoot w i w0 w1 i0 i1 start stop AtOnce o old new names spare = OpensApart w i w0 w1 i0 i1 start stop 1
+
 -- one where a walk was refused, none where it was done or broken off
 abbrev pub refused_walk : {T : Type 0} → Result T Stop → ℕ
 refused_walk (Ok done) = 0
 refused_walk (Err (Refused error)) = 1
 refused_walk (Err Broken) = 0
 
--- What a walk opens from a traversal root on, in the same words. Where nothing was pushed before, and files are read for
--- their rules alone, the worktree was read at most once for each directory opened and once for each component of the
--- traversal root, or once where there is neither; a refusal may come with one more.
-pub record OpensFrom {W I T : Type 0} (w : WorktreeOf W) (i : InterruptOf I) (w0 w1 : W) (i0 i1 : I) (start stop : Outcome) (o : Chosen) (old : Option Stacked) (root : List ℕ)
+-- How often a worktree counts as listed where so many directories were opened: each time where they were listed over it, and at
+-- most once where only the traversal root was.
+abbrev pub IsListed : Strategy → ℕ → ℕ → ℕ → Type 0
+IsListed Held before now opened = before < 2 ^ 64 → now ≡ with_more before opened
+IsListed AtOnce before now opened = now ≤ before + 1
+
+-- What a walk opens from a traversal root on, in the same words. Where files are read for their rules alone, the worktree
+-- was read at most once for each directory opened and once for each component of the traversal root, or once where there
+-- is neither; a refusal may come with one more. Where subtrees are walked over forks nothing is said of what is read.
+pub record OpensFrom {W I T : Type 0} (w : WorktreeOf W) (i : InterruptOf I) (w0 w1 : W) (i0 i1 : I) (start stop : Outcome) (strategy : Strategy) (o : Chosen) (root : List ℕ)
     (result : Result T Stop) : Type 0 where
   pub opened : ℕ
-  pub opens : Opens w i w0 w1 i0 i1 start stop opened
-  pub reads : reads_rules_alone o ≡ true → pushed_in old ≡ None → w.reads w1 ≤ w.reads w0 + max (opened + length (components root)) 1 + refused_walk result
+  pub listed : IsListed strategy (w.lists w0) (w.lists w1) opened
+  pub counted : start.read_dir_calls < 2 ^ 32 → stop.read_dir_calls ≡ min (start.read_dir_calls + opened) (2 ^ 32 - 1)
+  pub asked : with_more (i.questions i0) opened ≤ i.questions i1
+  pub reads : strategy ≡ Held → reads_rules_alone o ≡ true → w.reads w1 ≤ w.reads w0 + max (opened + length (components root)) 1 + refused_walk result

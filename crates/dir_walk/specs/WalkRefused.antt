@@ -22,6 +22,7 @@ use Rattle.dir_classify.specs.Chosen.{Chosen}
 use Rattle.dir_classify.specs.Class.{is_worktree}
 use Rattle.dir_classify.specs.Enters.{is_ignored_status}
 use Rattle.dir_classify.specs.Evidence.{Evidence}
+use Rattle.dir_classify.specs.Kinds.{is_repository}
 use Rattle.dir_classify.specs.Layers.{Setting, evidence}
 use Rattle.dir_classify.specs.Refused.{IsAccess}
 use Rattle.dir_classify.specs.Rooted.{LeadsTo, way_to}
@@ -94,7 +95,7 @@ IsHeldDirectory o ev path c =
     ((ev.in_index path).up_to_date ≡ Some Directory)
     ⊎ ((ev.in_index path).up_to_date ≡ Some Repository)
     ⊎ (is_worktree o path ≡ true)
-    ⊎ (is_ignored_status c.status ≡ true)
+    ⊎ ((is_ignored_status c.status ≡ true) × (is_repository c.disk_kind ≡ true))
 
 -- the whole path of the traversal root, which is entered though its names cannot be listed
 pub record IsBrokenRoot (given : Setting) (made : Option Made) (s : Sources) (root : List ℕ) (why : ListError) (path : List ℕ) : Type 0 where

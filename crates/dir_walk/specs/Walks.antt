@@ -1,5 +1,5 @@
 -- What every walk of a worktree says, and what it gives to a delegate.
-use Rattle.std.specs.Prelude.{◌≡◌, ◌⊎◌, ◌≤◌, ◌<◌, ◌+◌, ◌-◌, ◌^◌, min, max, ℕ, Bool, true, false, List, [], ◌++◌, length, Option, Some, None, Result, IfOk, IfErr, OnOk, IsPermutation, IsSomeAnd, is_some}
+use Rattle.std.specs.Prelude.{◌≡◌, ◌⊎◌, ◌≤◌, ◌+◌, ◌-◌, ◌^◌, min, max, ℕ, Bool, true, false, List, [], ◌++◌, length, Option, Some, Result, IfOk, IfErr, OnOk, IsPermutation, IsSomeAnd, is_some}
 use Rattle.gitbase_core.specs.Path.{components}
 use Rattle.gitbase_core.specs.declared.find.Find.{Ghosts as FindOf}
 use Rattle.worktree_fs.specs.declared.interrupt.Interrupt.{Ghosts as InterruptOf}
@@ -13,55 +13,65 @@ use Rattle.worktree_stack.specs.Setup.{Made}
 use Rattle.worktree_stack.specs.Stacked.{Stacked}
 use Rattle.dir_classify.specs.declared.error.Error.{Error}
 use Rattle.dir_classify.specs.declared.error.Error.TheVariants.{OutOfMemory}
-use Rattle.dir_classify.specs.Excludes.{made_with, pushed_in, TellsIf, InStepIf}
+use Rattle.dir_classify.specs.Excludes.{made_with, TellsIf, InStepIf}
 use Rattle.dir_classify.specs.Kept.{KeepsRules}
 use Rattle.dir_classify.specs.Layers.{Setting, evidence}
 use Rattle.dir_classify.specs.Refused.{OnFault}
 use Rattle.dir_classify.specs.Rooted.{LeadsTo}
+use Rattle.dir_walk.specs.declared.collect.Collect.{Collect}
 use Rattle.dir_walk.specs.declared.delegate.Delegate.{Ghosts as DelegateOf}
 use Rattle.dir_walk.specs.declared.handed.Stop.{Stop}
 use Rattle.dir_walk.specs.declared.outcome.Outcome.{Outcome}
+use Rattle.dir_walk.specs.declared.strategy.Strategy.{Strategy}
+use Rattle.dir_walk.specs.declared.strategy.Strategy.TheVariants.{Held}
 use Rattle.dir_walk.specs.Covered.{Covers, as_matching, without_folding}
 use Rattle.dir_walk.specs.Emissions.{Emission}
 use Rattle.dir_walk.specs.Emits.{IsPart}
 use Rattle.dir_walk.specs.Given.{listed}
 use Rattle.dir_walk.specs.Kept.{AsksInterrupt, Caused, Heeds, KeepsDelegate, KeepsTree, OnInterrupt}
-use Rattle.dir_walk.specs.Opens.{reads_rules_alone}
+use Rattle.dir_walk.specs.Opens.{IsListed, reads_rules_alone}
 use Rattle.dir_walk.specs.Puts.{AddsAtMost, once_at, once_within}
-use Rattle.dir_walk.specs.Report.{counts, is_walk_refused, out_of, report, shown}
+use Rattle.dir_walk.specs.Report.{counts, is_walk_refused, out_of, shown}
 use Rattle.dir_walk.specs.Rooting.{IsNormalized}
 use Rattle.dir_walk.specs.Root.{Walk, rooted, traversal_root, walk_in}
 use Rattle.dir_walk.specs.Safe.{IsSafe}
 use Rattle.dir_walk.specs.WalkRefused.{IsNoDirectory, OnNoRoot, WalkAbout, WalkFound, WalkRefuses}
+use Rattle.dir_walk.specs.Walkable.{IsValid}
 
 -- A worktree tells a tree and a store, where there are rules, objects, and the rules are in step with them.
 pub record Tells {W F : Type 0} (w : WorktreeOf W) (f : FindOf F) (w0 : W) (o0 : F) (old : Option Stacked) (s : Sources) : Type 0 where
   pub tells : TellsIf (w.told w0) (f.holds o0) (made_with old) s
   pub in_step : InStepIf s old
 
--- The worktree is read no more often than this, from a traversal root on; `opened` directories were opened, and a
--- refusal spares one.
-abbrev pub ReadsAtMost : Setting → Option (List ℕ) → ℕ → ℕ → ℕ → ℕ → Type 0
-ReadsAtMost given explicit before now opened spare =
-    (now ≡ before) ⊎ ((root : List ℕ) × IsNormalized given explicit root × (now ≤ before + max (opened + length (components root)) 1 + spare))
+-- A traversal root that was asked for, and that the answer names, if there is one; `path_of` is the whole path that an
+-- answer names.
+pub record IsRootOf {T : Type 0} (given : Setting) (explicit : Option (List ℕ)) (path_of : T → List ℕ) (result : Result T Error) (root : List ℕ) : Type 0 where
+  pub normalized : IsNormalized given explicit root
+  pub named : IfOk result (λ r. path_of r ≡ full_path given.root root)
 
--- So many directories were opened: they were listed, or that was refused. The worktree counted each as listed and the
--- walk as entered, and before each the interrupt was asked. Where the walk begins with no rules pushed, and files are
--- read for their rules alone, the worktree was read at most once for each and once for each component of the traversal
--- root, or once where there is neither; a refusal may come with one more.
-pub record OpensDirectories {W I T : Type 0} (w : WorktreeOf W) (i : InterruptOf I) (w0 w1 : W) (i0 i1 : I) (old : Option Stacked) (given : Setting) (explicit : Option (List ℕ))
-    (outcome_of : T → Outcome) (result : Result T Error) : Type 0 where
+-- The worktree is not read, or no more often than this, from its traversal root on; `opened` directories were opened,
+-- and a refusal spares one.
+abbrev pub ReadsAtMost : {T : Type 0} → Setting → Option (List ℕ) → (T → List ℕ) → Result T Error → ℕ → ℕ → ℕ → Type 0
+ReadsAtMost given explicit path_of result before now opened =
+    (now ≡ before) ⊎ ((root : List ℕ) × IsRootOf given explicit path_of result root × (now ≤ before + max (opened + length (components root)) 1 + refused_one result))
+
+-- So many directories were opened: they were listed, or that was refused. The walk counted each as entered, and before
+-- each the interrupt was asked. The worktree counted each as listed, or where subtrees are walked at once, over forks, at
+-- most one. Where files are read for their rules alone, and all over this worktree, it was read at most once for each and
+-- once for each component of the traversal root, or once where there is neither; a refusal may come with one more.
+pub record OpensDirectories {W I T : Type 0} (w : WorktreeOf W) (i : InterruptOf I) (w0 w1 : W) (i0 i1 : I) (strategy : Strategy) (given : Setting) (explicit : Option (List ℕ))
+    (outcome_of : T → Outcome) (path_of : T → List ℕ) (result : Result T Error) : Type 0 where
   pub opened : ℕ
-  pub listed : w.lists w0 < 2 ^ 64 → w.lists w1 ≡ with_more (w.lists w0) opened
+  pub listed : IsListed strategy (w.lists w0) (w.lists w1) opened
   pub asked : with_more (i.questions i0) opened ≤ i.questions i1
   pub counted : IfOk result (λ r. (outcome_of r).read_dir_calls ≡ min opened (2 ^ 32 - 1))
-  pub reads : reads_rules_alone given.options ≡ true → pushed_in old ≡ None → ReadsAtMost given explicit (w.reads w0) (w.reads w1) opened (refused_one result)
+  pub reads : strategy ≡ Held → reads_rules_alone given.options ≡ true → ReadsAtMost given explicit path_of result (w.reads w0) (w.reads w1) opened
 
 -- Why a walk is refused, and what it leaves, where a worktree was `w0` and is `w1`, a store was `o0` and is `o1`, an
 -- interrupt was `i0` and is `i1`, and the rules were `old` and are `new`. `default` says that the delegate recurses by
--- default.
+-- default; an answer has a count and a whole path of its traversal root.
 pub record WalksWorktree {W F I T : Type 0} (w : WorktreeOf W) (f : FindOf F) (i : InterruptOf I) (w0 w1 : W) (o0 o1 : F) (i0 i1 : I) (old new : Option Stacked)
-    (given : Setting) (explicit : Option (List ℕ)) (limit : ℕ) (default : Bool) (outcome_of : T → Outcome) (result : Result T Error) : Type 0 where
+    (strategy : Strategy) (given : Setting) (explicit : Option (List ℕ)) (limit : ℕ) (default : Bool) (outcome_of : T → Outcome) (path_of : T → List ℕ) (result : Result T Error) : Type 0 where
   -- Each refusal has its cause.
   pub about : IfErr result (WalkAbout given (made_with old) explicit limit)
   pub cause : IfErr result (OnFault (Increased (w.faults w0) (w.faults w1)) (Increased (f.faults o0) (f.faults o1)))
@@ -71,10 +81,10 @@ pub record WalksWorktree {W F I T : Type 0} (w : WorktreeOf W) (f : FindOf F) (i
       → IfErr result (WalkRefuses given (made_with old) s explicit limit)
   pub no_root : (s : Sources) → Tells w f w0 o0 old s → NotIncreased (w.faults w0) (w.faults w1)
       → IfErr result (OnNoRoot ((traversal_root given s.tree explicit ≡ rooted []) × IsNoDirectory given s))
-  -- Where the report is defined and nothing failed or was raised, only memory may be wanted.
+  -- For valid input, and where nothing failed or was raised, only memory may be wanted.
   pub complete : (s : Sources) → Tells w f w0 o0 old s → default ≡ true
       → NotIncreased (w.faults w0) (w.faults w1) → NotIncreased (f.faults o0) (f.faults o1) → NotIncreased (i.raised i0) (i.raised i1)
-      → is_some (report given (made_with old) s explicit limit) ≡ true → IfErr result (λ e. e ≡ OutOfMemory)
+      → IsValid given (made_with old) s explicit limit → IfErr result (λ e. e ≡ OutOfMemory)
   -- What stays.
   pub worktree : KeepsTree w w0 w1
   pub store : AsksStore f o0 o1
@@ -83,7 +93,7 @@ pub record WalksWorktree {W F I T : Type 0} (w : WorktreeOf W) (f : FindOf F) (i
   pub listed : OnOk result (w.list_faults w1 ≡ w.list_faults w0)
   pub calm : OnOk result (i.raised i1 ≡ i.raised i0)
   -- What is opened and read.
-  pub opens : OpensDirectories w i w0 w1 i0 i1 old given explicit outcome_of result
+  pub opens : OpensDirectories w i w0 w1 i0 i1 strategy given explicit outcome_of path_of result
 
 -- How what is walked from a traversal root ends, and what it leaves.
 pub record Ends {W F I D T : Type 0} (w : WorktreeOf W) (f : FindOf F) (i : InterruptOf I) (d : DelegateOf D) (w0 w1 : W) (o0 o1 : F) (i0 i1 : I) (old new : Option Stacked) (d0 d1 : D)
@@ -118,12 +128,12 @@ pub record WalkGives (given : Setting) (made : Option Made) (s : Sources) (expli
   pub outcome_is : r.0 ≡ counts given.options walk.gives
   pub root_is : r.1 ≡ full_path given.root walk.root
 
--- A delegate is given nothing; or each path at or beneath a traversal root at most once; or the one path on the way to
+-- A delegate is given nothing; or each path at or beneath the traversal root at most once; or the one path on the way to
 -- it where the way ended.
-abbrev pub GivesOnce : Setting → Option (List ℕ) → Option (List Emission) → Option (List Emission) → Type 0
-GivesOnce given explicit before after =
+abbrev pub GivesOnce : {T : Type 0} → Setting → Option (List ℕ) → (T → List ℕ) → Result T Error → Option (List Emission) → Option (List Emission) → Type 0
+GivesOnce given explicit path_of result before after =
     (after ≡ before)
-    ⊎ ((root : List ℕ) × IsNormalized given explicit root
+    ⊎ ((root : List ℕ) × IsRootOf given explicit path_of result root
     × (AddsAtMost (once_within root) before after ⊎ ((path : List ℕ) × LeadsTo root path × AddsAtMost (once_at path) before after)))
 
 -- What a delegate was given that was `d0` and is `d1`.
@@ -140,6 +150,23 @@ pub record Feeds {W F D : Type 0} (w : WorktreeOf W) (f : FindOf F) (d : Delegat
   pub unbroken : IfErr result (λ _. d.breaks d1 ≡ d.breaks d0)
   pub delegate : KeepsDelegate d d0 d1
   -- Over any worktree no path comes twice, and the counts are of what is given.
-  pub once : GivesOnce given explicit (d.given d0) (d.given d1)
+  pub once : GivesOnce given explicit (λ (r : Outcome × List ℕ). r.1) result (d.given d0) (d.given d1)
   pub returned : IfOk result (λ r. is_some (d.given d0) ≡ true → r.0.returned_entries ≡ min (length (listed (d.given d1)) - length (listed (d.given d0))) (2 ^ 64 - 1))
+  pub seen : IfOk result (λ r. min r.0.returned_entries (2 ^ 32 - 1) ≤ r.0.seen_entries)
+
+-- ---- what is collected
+
+-- the whole path of the traversal root in an answer that has what was collected too
+abbrev pub root_in : Outcome × List ℕ × Collect → List ℕ
+root_in r = r.1
+
+-- A walk of which the entries are collected from none on: over a worktree that was `w0` and is `w1`, and a store that was `o0`.
+pub record Collects {W F : Type 0} (w : WorktreeOf W) (f : FindOf F) (w0 w1 : W) (o0 : F) (old : Option Stacked)
+    (given : Setting) (explicit : Option (List ℕ)) (limit : ℕ) (result : Result (Outcome × List ℕ × Collect) Error) : Type 0 where
+  -- They are those of the report.
+  pub gives : (s : Sources) → Tells w f w0 o0 old s → NotIncreased (w.faults w0) (w.faults w1)
+      → IfOk result (λ r. WalkGives given (made_with old) s explicit limit (Some []) (Some r.2.unorded_entries) (r.0, r.1))
+  -- Over any worktree no path comes twice, and the counts are of what is given.
+  pub once : IfOk result (λ r. GivesOnce given explicit root_in result (Some []) (Some r.2.unorded_entries))
+  pub returned : IfOk result (λ r. r.0.returned_entries ≡ min (length r.2.unorded_entries) (2 ^ 64 - 1))
   pub seen : IfOk result (λ r. min r.0.returned_entries (2 ^ 32 - 1) ≤ r.0.seen_entries)

@@ -37,6 +37,7 @@ use worktree_fs::Worktree;
 ///
 /// A fault of that look is counted, and reads as no repository, or as one that is not the worktree's own.
 #[tactic(auto, unfolding(dir_classify::specs::Class::leaf_class, dir_classify::specs::Layers::evidence))]
+#[inline(never)]
 pub(crate) fn leaf_class<W: Worktree, M: Matcher>(
     alloc: Global,
     shared: &Shared<'_, M>,
@@ -93,6 +94,7 @@ pub(crate) fn is_blocked(blocked: &Option<PathText>, path: &[u8]) -> bool
 
 /// A directory without names: it is a leaf.
 #[tactic(auto, unfolding(crate::specs::Walked::empty_directory))]
+#[inline(never)]
 pub(crate) fn close_empty<M: Matcher, D: Delegate>(
     alloc: Global,
     shared: &Shared<'_, M>,
@@ -171,6 +173,7 @@ fn match_kind_of<M: Matcher>(pathspec: &M, path: &[u8]) -> Option<PathspecMatch>
 
 /// A directory with names, when these are done: it is folded over what they handed up, or that is put out.
 #[tactic(auto, unfolding(crate::specs::Walked::closed))]
+#[inline(never)]
 pub(crate) fn close<M: Matcher, D: Delegate>(
     alloc: Global,
     shared: &Shared<'_, M>,

@@ -1,12 +1,14 @@
 //! The names of a directory that is entered, one after another.
-ghost use Rattle.std.specs.Prelude.{◌≡◌, ◌+◌, ℕ, true, false, Option, Some, IfOk, IfErr, OnOk, OnErr};
+ghost use Rattle.std.specs.Prelude.{◌≡◌, ◌+◌, ℕ, true, false, Option, Some, None, IfOk, IfErr, OnOk, OnErr};
 ghost use Rattle.gitbase_core.specs.Path.{components, joined};
 ghost use Rattle.worktree_fs.specs.Causes.{NotIncreased, Increased};
 ghost use Rattle.worktree_fs.specs.Kept.{AsksStore};
 ghost use Rattle.worktree_fs.specs.Naming.{IsName};
+ghost use Rattle.worktree_fs.specs.Paths.{full_path, is_normal, spelled};
 ghost use Rattle.worktree_stack.specs.Reading.{Sources};
 ghost use Rattle.worktree_stack.specs.Setup.{Made};
 ghost use Rattle.dir_classify.specs.Chosen.{chosen};
+ghost use Rattle.dir_classify.specs.Classes.{Classes};
 ghost use Rattle.dir_classify.specs.Excludes.{made_with, tells_excludes};
 ghost use Rattle.dir_classify.specs.Kept.{KeepsRules};
 ghost use Rattle.dir_classify.specs.Layers.{setting_of, evidence, IsLookupIf};
@@ -26,12 +28,37 @@ use crate::handed::{Handed, Held, Stop};
 use crate::open::{is_entered, open, too_deep};
 use crate::outcome::Outcome;
 use crate::place::Place;
-use dir_classify::{Shared, classify};
+use dir_classify::{Error, Shared, classify};
 use gitbase_core::{Find, PathText};
 use glob_rules::pathspec::Matcher;
 use std::alloc::Global;
 use worktree_fs::{Interrupt, Worktree};
 use worktree_stack::Stack;
+
+/// The class of the path of a name, of which nothing is known. It stands apart, as [`walk_directory`] calls itself: what a
+/// class takes of the stack is given back before the walk goes deeper.
+#[inline(never)]
+pub(crate) fn class_of<W: Worktree, F: Find, M: Matcher>(
+    alloc: Global,
+    full: &[u8],
+    path: &[u8],
+    shared: &Shared<'_, M>,
+    excludes: &mut Option<Stack>,
+    worktree: &mut W,
+    objects: &mut F,
+) -> Result<classify::Outcome, Error>
+    requires full { full.now ≡ full_path shared.now.worktree_root.now path.now }
+    requires normal { is_normal path.now ≡ true }
+    requires spelled { path.now ≡ spelled (components path.now) }
+    requires lookup { IsLookupIf shared.now.index.now shared.now.ignore_case_index_lookup.now }
+    requires excludes { tells_excludes (made_with excludes.old) ≡ true }
+    ensures { Classes W.Worktree F.Find worktree.old worktree.new objects.old objects.new
+        excludes.old excludes.new (setting_of M.Matcher shared.now) path.now None true result }
+{
+    classify::at(
+        alloc, full, path, None, true, shared, excludes, worktree, objects,
+    )
+}
 
 /// Walks a name in a directory that is entered; so many more levels of directories may be entered below that. `child` is the room
 /// for the name's place.
@@ -106,9 +133,7 @@ fn walk_name<W: Worktree, F: Find, I: Interrupt, M: Matcher, D: Delegate>(
     child.set_child(alloc, directory, name)?;
     let path = child.path();
     let full = child.whole();
-    let class = classify::at(
-        alloc, full, path, None, true, shared, excludes, worktree, objects,
-    )?;
+    let class = class_of(alloc, full, path, shared, excludes, worktree, objects)?;
     if is_entered(&shared.options, path, &class, false, delegate) {
         if levels == 0 {
             return Err(Stop::Refused(too_deep(alloc, child, interrupt)));

@@ -139,6 +139,7 @@ fn emit_merged<D: Delegate>(
 
 /// A path that is not entered: it is handed up, or put out.
 #[tactic(auto, unfolding(crate::specs::Walked::leaf))]
+#[inline(never)]
 pub(crate) fn put_leaf<D: Delegate>(
     alloc: Global,
     options: &Options<'_>,

@@ -13,13 +13,14 @@ ghost use Rattle.dir_classify.specs.Layers.{setting_of, evidence, rest_behind, I
 ghost use Rattle.dir_walk.specs.Emits.{Emits, Gives, GivesAll, IsPart, Within, put_plain};
 ghost use Rattle.dir_walk.specs.Given.{OnRefused};
 ghost use Rattle.dir_walk.specs.Kept.{KeepsTree, AsksInterrupt, KeepsDelegate, Heeds, Caused, WantsMemory};
-ghost use Rattle.dir_walk.specs.Opens.{OpensWithin, refused_walk};
+ghost use Rattle.dir_walk.specs.Opens.{OpensRoot, refused_walk};
 ghost use Rattle.dir_walk.specs.Puts.{Hands, Puts, held_at, once_within};
 ghost use Rattle.dir_walk.specs.Refused.{IsAbout, IsInTree, DirectoryRefuses};
 ghost use Rattle.dir_walk.specs.Report.{depth_of, out_of};
 ghost use Rattle.dir_walk.specs.Told.{Stands, directory_told};
 ghost use Rattle.dir_walk.specs.Walks.{Ends, Tells};
 
+use crate::children::walk_children;
 use crate::delegate::Delegate;
 use crate::directory::walk_directory;
 use crate::emit::emit;
@@ -27,6 +28,7 @@ use crate::handed::{Handed, Stop};
 use crate::open::{deletion_mode, too_deep};
 use crate::outcome::Outcome;
 use crate::place::Place;
+use crate::strategy::Strategy;
 use dir_classify::{Options, Shared, classify};
 use gitbase_core::{Find, OutOfMemory, PathText, relative_to};
 use glob_rules::pathspec::Matcher;
@@ -122,7 +124,7 @@ fn put_handed<D: Delegate>(
     }
 }
 
-/// Walks a directory that is entered as the traversal root, unless it lies too deep.
+/// Walks a directory that is entered as the traversal root, as a strategy says, unless it lies too deep.
 fn walk_deep<W: Worktree, F: Find, I: Interrupt, M: Matcher, D: Delegate>(
     alloc: Global,
     shared: &Shared<'_, M>,
@@ -130,6 +132,7 @@ fn walk_deep<W: Worktree, F: Find, I: Interrupt, M: Matcher, D: Delegate>(
     place: &Place,
     class: &classify::Outcome,
     depth_limit: usize,
+    strategy: Strategy,
     excludes: &mut Option<Stack>,
     worktree: &mut W,
     objects: &mut F,
@@ -168,9 +171,9 @@ fn walk_deep<W: Worktree, F: Find, I: Interrupt, M: Matcher, D: Delegate>(
         shared.now.worktree_root.now depth_limit)) }
     ensures found { (s : Sources) → W.told worktree.old ≡ Some s.tree
         → IfErr result (OnRefused (IsInTree (F.holds objects.old) s (made_with excludes.old))) }
-    ensures opens { OpensWithin W.Worktree I.Interrupt worktree.old worktree.new interrupt.old
-        interrupt.new outcome.old outcome.new (chosen shared.now.options) excludes.old
-        excludes.new (components place.now.path) 1 (refused_walk result) }
+    ensures opens { OpensRoot W.Worktree I.Interrupt worktree.old worktree.new interrupt.old
+        interrupt.new outcome.old outcome.new strategy (chosen shared.now.options) excludes.old
+        excludes.new (components place.now.path) (refused_walk result) }
     ensures hands { Hands place.now.path (once_within place.now.path) (D.given delegate.old)
         (D.given delegate.new) outcome.old outcome.new result }
     ensures ends { Ends W.Worktree F.Find I.Interrupt D.Delegate worktree.old worktree.new
@@ -181,29 +184,27 @@ fn walk_deep<W: Worktree, F: Find, I: Interrupt, M: Matcher, D: Delegate>(
     if depth > depth_limit {
         return Err(Stop::Refused(too_deep(alloc, place, interrupt)));
     }
-    walk_directory(
-        alloc,
-        shared,
-        blocked,
-        place,
-        class,
-        depth_limit - depth,
-        excludes,
-        worktree,
-        objects,
-        interrupt,
-        delegate,
-        outcome,
-    )
+    let levels = depth_limit - depth;
+    match strategy {
+        Strategy::Held => walk_directory(
+            alloc, shared, blocked, place, class, levels, excludes, worktree, objects, interrupt,
+            delegate, outcome,
+        ),
+        Strategy::AtOnce => walk_children(
+            alloc, shared, blocked, place, class, levels, excludes, worktree, objects, interrupt,
+            delegate, outcome,
+        ),
+    }
 }
 
-/// Walks the traversal root `path`, of the class `class`, which is entered.
+/// Walks the traversal root `path`, of the class `class`, which is entered, as a strategy says.
 pub(crate) fn walk_entered<W: Worktree, F: Find, I: Interrupt, M: Matcher, D: Delegate>(
     alloc: Global,
     shared: &Shared<'_, M>,
     path: &[u8],
     class: &classify::Outcome,
     depth_limit: usize,
+    strategy: Strategy,
     excludes: &mut Option<Stack>,
     worktree: &mut W,
     objects: &mut F,
@@ -241,9 +242,9 @@ pub(crate) fn walk_entered<W: Worktree, F: Find, I: Interrupt, M: Matcher, D: De
         shared.now.worktree_root.now depth_limit)) }
     ensures found { (s : Sources) → W.told worktree.old ≡ Some s.tree
         → IfErr result (OnRefused (IsInTree (F.holds objects.old) s (made_with excludes.old))) }
-    ensures opens { OpensWithin W.Worktree I.Interrupt worktree.old worktree.new interrupt.old
-        interrupt.new outcome.old outcome.new (chosen shared.now.options) excludes.old
-        excludes.new (components path.now) 1 (refused_walk result) }
+    ensures opens { OpensRoot W.Worktree I.Interrupt worktree.old worktree.new interrupt.old
+        interrupt.new outcome.old outcome.new strategy (chosen shared.now.options) excludes.old
+        excludes.new (components path.now) (refused_walk result) }
     ensures puts { Puts (once_within path.now) (D.given delegate.old) (D.given delegate.new)
         outcome.old outcome.new [] }
     ensures ends { Ends W.Worktree F.Find I.Interrupt D.Delegate worktree.old worktree.new
@@ -259,6 +260,7 @@ pub(crate) fn walk_entered<W: Worktree, F: Find, I: Interrupt, M: Matcher, D: De
         &place,
         class,
         depth_limit,
+        strategy,
         excludes,
         worktree,
         objects,

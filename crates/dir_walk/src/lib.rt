@@ -1,9 +1,12 @@
 //! The walk of a worktree: every path below its traversal root with its class, directory by directory. What a name hands up is
 //! held until the directory's names are done; then the directory is folded over it, or it is put out.
 //!
-//! [`walk::walk`] gives what it finds to a [`Delegate`]; [`walk_by_path`] keeps it in the order of paths.
+//! [`walk::walk`] gives what it finds to a [`Delegate`]; [`walk_by_path`] keeps it in the order of paths; [`walk_at_once`] walks
+//! each subtree of the traversal root as a job of its own.
 #![tactic(auto)]
 
+pub mod at_once;
+mod children;
 mod close;
 pub mod collect;
 pub mod delegate;
@@ -12,15 +15,18 @@ mod emit;
 mod enter;
 mod fold;
 pub mod handed;
+mod jobs;
 mod open;
 pub mod outcome;
 pub mod place;
 pub mod report;
 pub mod root;
 mod start;
+pub mod strategy;
 pub mod tally;
 pub mod walk;
 
+pub use at_once::walk_at_once;
 pub use collect::{Collect, EmittedEntries};
 pub use delegate::{Action, Delegate};
 pub use directory::walk_directory;
@@ -29,3 +35,4 @@ pub use outcome::Outcome;
 pub use place::Place;
 pub use report::{Report, walk_by_path};
 pub use root::traversal_root;
+pub use strategy::Strategy;

@@ -1,5 +1,5 @@
 //! Entering a directory.
-ghost use Rattle.std.specs.Prelude.{◌≡◌, ◌-◌, ◌+◌, ◌^◌, min, ℕ, List, Option, Some, true, false, IfOk, IfErr, OnOk, OnErr};
+ghost use Rattle.std.specs.Prelude.{◌≡◌, ◌≤◌, ◌-◌, ◌+◌, ◌^◌, min, ℕ, List, Option, Some, true, false, IfOk, IfErr, OnOk, OnErr};
 ghost use Rattle.gitbase_core.specs.Path.{is_empty};
 ghost use Rattle.worktree_fs.specs.Answers.{ListsNames};
 ghost use Rattle.worktree_fs.specs.Causes.{Increased};
@@ -28,6 +28,7 @@ use worktree_fs::{Interrupt, ListError, NameList, Worktree};
 
 /// Lists the names of a directory that is entered, unless the interrupt is raised. A last link is followed for the worktree root
 /// alone.
+#[inline(never)]
 pub(crate) fn open<W: Worktree, I: Interrupt>(
     alloc: Global,
     place: &Place,
@@ -51,6 +52,7 @@ pub(crate) fn open<W: Worktree, I: Interrupt>(
         interrupt.old interrupt.new outcome.old outcome.new 1) }
     ensures tried { OnErr result ((opened : ℕ) × Opens W.Worktree I.Interrupt worktree.old
         worktree.new interrupt.old interrupt.new outcome.old outcome.new opened) }
+    ensures once { W.lists worktree.new ≤ W.lists worktree.old + 1 }
     ensures returned { outcome.new.returned_entries ≡ outcome.old.returned_entries }
     ensures seen { outcome.new.seen_entries ≡ outcome.old.seen_entries }
     ensures reads { W.reads worktree.new ≡ W.reads worktree.old }
@@ -99,6 +101,7 @@ fn read_error(alloc: Global, path: &[u8], refused: ListError) -> Result<Error, O
 }
 
 /// The refusal of a directory that lies too deep to be entered; the interrupt is asked first.
+#[inline(never)]
 pub(crate) fn too_deep<I: Interrupt>(alloc: Global, place: &Place, interrupt: &mut I) -> Error
     ensures deep { IsDeep (full_path place.now.root place.now.path)
         (Increased (I.raised interrupt.old) (I.raised interrupt.new)) result }
@@ -116,6 +119,7 @@ pub(crate) fn too_deep<I: Interrupt>(alloc: Global, place: &Place, interrupt: &m
 
 /// Whether the walk enters a path of a class: the delegate is asked for what holds names.
 #[tactic(auto, using(crate::proofs::Entering::shut))]
+#[inline(never)]
 pub(crate) fn is_entered<D: Delegate>(
     options: &Options<'_>,
     path: &[u8],

@@ -80,6 +80,7 @@ impl Place {
     }
 
     /// Goes to a name in a directory.
+    #[inline(never)]
     pub fn set_child(
         &mut self,
         alloc: Global,

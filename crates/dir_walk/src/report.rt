@@ -10,7 +10,8 @@ ghost use Rattle.dir_walk.specs.Walks.{Tells, WalksWorktree};
 
 use crate::collect::{Collect, EmittedEntries};
 use crate::outcome::Outcome;
-use crate::walk::walk;
+use crate::strategy::Strategy;
+use crate::walk::walk_as;
 use dir_classify::{Context, Error, Options};
 use gitbase_core::{Find, PathText};
 use glob_rules::pathspec::Matcher;
@@ -28,17 +29,18 @@ pub struct Report {
     pub entries: EmittedEntries,
 }
 
-/// Walks a worktree as [`walk`] does with a delegate that recurses by default and keeps what it is given, and gives the
-/// entries in the order of their paths.
+/// Walks a worktree as [`walk`](crate::walk::walk) does with a delegate that recurses by default and keeps what it is given,
+/// or its subtrees at once, as [`walk_at_once`](crate::walk_at_once) does, and gives the entries in the order of their paths.
 ///
 /// # Errors
 ///
-/// Those of [`walk`], each for the same causes.
+/// Those of [`walk`](crate::walk::walk), each for the same causes.
 pub fn walk_by_path<W: Worktree, F: Find, I: Interrupt, M: Matcher>(
     alloc: Global,
     worktree_root: &[u8],
     ctx: Context<'_, W, F, I, M>,
     options: Options<'_>,
+    strategy: Strategy,
 ) -> Result<Report, Error>
     requires excludes { tells_excludes (made_with ctx.excludes.now) ≡ true }
     requires lookup { IsLookupIf ctx.index.now ctx.ignore_case_index_lookup.now }
@@ -57,11 +59,12 @@ pub fn walk_by_path<W: Worktree, F: Find, I: Interrupt, M: Matcher>(
     ensures walks_worktree { WalksWorktree W.Worktree F.Find I.Interrupt
         ctx.entry.worktree.now ctx.exit.0.now ctx.entry.objects.now ctx.exit.1.0.now
         ctx.entry.interrupt.now ctx.exit.1.1.0.now ctx.entry.excludes.now ctx.exit.1.1.1.1.0.now
-        (setting_in M.Matcher worktree_root.now options.entry ctx.entry)
-        ctx.entry.explicit_traversal_root.now ctx.entry.depth_limit true (λ r. r.outcome) result }
+        strategy (setting_in M.Matcher worktree_root.now options.entry ctx.entry)
+        ctx.entry.explicit_traversal_root.now ctx.entry.depth_limit true (λ r. r.outcome)
+        (λ r. r.root) result }
 {
     let mut delegate = Collect::new(alloc);
-    let (outcome, root) = walk(alloc, worktree_root, ctx, options, &mut delegate)?;
+    let (outcome, root) = walk_as(alloc, worktree_root, ctx, options, strategy, &mut delegate)?;
     let entries = delegate.into_entries_by_path(alloc)?;
     Ok(Report {
         outcome,

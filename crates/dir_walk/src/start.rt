@@ -31,6 +31,7 @@ use crate::handed::Stop;
 use crate::open::is_entered;
 use crate::outcome::Outcome;
 use crate::root::leads_to_directory;
+use crate::strategy::Strategy;
 use dir_classify::classify::RootOutcome;
 use dir_classify::entry::{entry_over, holds_names};
 use dir_classify::{Error, Kind, Shared, classify};
@@ -169,6 +170,7 @@ pub(crate) fn walk_from<W: Worktree, F: Find, I: Interrupt, M: Matcher, D: Deleg
     shared: &Shared<'_, M>,
     root: &[u8],
     depth_limit: usize,
+    strategy: Strategy,
     excludes: &mut Option<Stack>,
     worktree: &mut W,
     objects: &mut F,
@@ -210,7 +212,7 @@ pub(crate) fn walk_from<W: Worktree, F: Find, I: Interrupt, M: Matcher, D: Deleg
     ensures found { (s : Sources) → W.told worktree.old ≡ Some s.tree
         → IfErr result (OnRefused (StartFound (F.holds objects.old) s (made_with excludes.old))) }
     ensures opens { OpensFrom W.Worktree I.Interrupt worktree.old worktree.new interrupt.old
-        interrupt.new outcome.old outcome.new (chosen shared.now.options) excludes.old root.now
+        interrupt.new outcome.old outcome.new strategy (chosen shared.now.options) root.now
         result }
     ensures puts { PutsFrom root.now (D.given delegate.old) (D.given delegate.new) outcome.old
         outcome.new }
@@ -226,6 +228,7 @@ pub(crate) fn walk_from<W: Worktree, F: Find, I: Interrupt, M: Matcher, D: Deleg
             root,
             &reached.outcome,
             depth_limit,
+            strategy,
             excludes,
             worktree,
             objects,

@@ -2,6 +2,7 @@
 ghost use Rattle.std.specs.Prelude.{◌≡◌, true};
 ghost use Rattle.dir_classify.specs.Excludes.{made_with, tells_excludes};
 ghost use Rattle.dir_classify.specs.Layers.{setting_in, setting_of, IsLookupIf};
+ghost use Rattle.dir_walk.specs.declared.strategy.Strategy.TheVariants.{Held};
 ghost use Rattle.dir_walk.specs.Walks.{Feeds, WalksWorktree};
 
 use crate::delegate::Delegate;
@@ -9,6 +10,7 @@ use crate::handed::Stop;
 use crate::outcome::Outcome;
 use crate::root::traversal_root;
 use crate::start::walk_from;
+use crate::strategy::Strategy;
 use dir_classify::{Context, Error, Options, Shared, full_path};
 use gitbase_core::{Bytes, Find, PathText};
 use glob_rules::pathspec::Matcher;
@@ -67,9 +69,34 @@ pub fn walk<W: Worktree, F: Find, I: Interrupt, M: Matcher, D: Delegate>(
     ensures walks_worktree { WalksWorktree W.Worktree F.Find I.Interrupt
         ctx.entry.worktree.now ctx.exit.0.now ctx.entry.objects.now ctx.exit.1.0.now
         ctx.entry.interrupt.now ctx.exit.1.1.0.now ctx.entry.excludes.now ctx.exit.1.1.1.1.0.now
-        (setting_in M.Matcher worktree_root.now options.entry ctx.entry)
+        Held (setting_in M.Matcher worktree_root.now options.entry ctx.entry)
         ctx.entry.explicit_traversal_root.now ctx.entry.depth_limit
-        (D.is_default delegate.old) (λ r. r.0) result }
+        (D.is_default delegate.old) (λ r. r.0) (λ r. r.1) result }
+    ensures feeds { Feeds W.Worktree F.Find D.Delegate ctx.entry.worktree.now ctx.exit.0.now
+        ctx.entry.objects.now ctx.entry.excludes.now delegate.old delegate.new
+        (setting_in M.Matcher worktree_root.now options.entry ctx.entry)
+        ctx.entry.explicit_traversal_root.now ctx.entry.depth_limit result }
+{
+    walk_as(alloc, worktree_root, ctx, options, Strategy::Held, delegate)
+}
+
+/// The same as a strategy says.
+pub(crate) fn walk_as<W: Worktree, F: Find, I: Interrupt, M: Matcher, D: Delegate>(
+    alloc: Global,
+    worktree_root: &[u8],
+    ctx: Context<'_, W, F, I, M>,
+    options: Options<'_>,
+    strategy: Strategy,
+    delegate: &mut D,
+) -> Result<(Outcome, PathText), Error>
+    requires excludes { tells_excludes (made_with ctx.excludes.now) ≡ true }
+    requires lookup { IsLookupIf ctx.index.now ctx.ignore_case_index_lookup.now }
+    ensures walks_worktree { WalksWorktree W.Worktree F.Find I.Interrupt
+        ctx.entry.worktree.now ctx.exit.0.now ctx.entry.objects.now ctx.exit.1.0.now
+        ctx.entry.interrupt.now ctx.exit.1.1.0.now ctx.entry.excludes.now ctx.exit.1.1.1.1.0.now
+        strategy (setting_in M.Matcher worktree_root.now options.entry ctx.entry)
+        ctx.entry.explicit_traversal_root.now ctx.entry.depth_limit
+        (D.is_default delegate.old) (λ r. r.0) (λ r. r.1) result }
     ensures feeds { Feeds W.Worktree F.Find D.Delegate ctx.entry.worktree.now ctx.exit.0.now
         ctx.entry.objects.now ctx.entry.excludes.now delegate.old delegate.new
         (setting_in M.Matcher worktree_root.now options.entry ctx.entry)
@@ -102,6 +129,7 @@ pub fn walk<W: Worktree, F: Find, I: Interrupt, M: Matcher, D: Delegate>(
         &shared,
         explicit_traversal_root,
         depth_limit,
+        strategy,
         excludes,
         worktree,
         objects,
@@ -110,12 +138,13 @@ pub fn walk<W: Worktree, F: Find, I: Interrupt, M: Matcher, D: Delegate>(
     )
 }
 
-/// The same over the parts of a context.
-fn walk_parts<W: Worktree, F: Find, I: Interrupt, M: Matcher, D: Delegate>(
+/// The same over the parts of a context, as a strategy says.
+pub(crate) fn walk_parts<W: Worktree, F: Find, I: Interrupt, M: Matcher, D: Delegate>(
     alloc: Global,
     shared: &Shared<'_, M>,
     explicit: &Option<Bytes>,
     depth_limit: usize,
+    strategy: Strategy,
     excludes: &mut Option<Stack>,
     worktree: &mut W,
     objects: &mut F,
@@ -126,8 +155,8 @@ fn walk_parts<W: Worktree, F: Find, I: Interrupt, M: Matcher, D: Delegate>(
     requires lookup { IsLookupIf shared.now.index.now shared.now.ignore_case_index_lookup.now }
     ensures walks_worktree { WalksWorktree W.Worktree F.Find I.Interrupt worktree.old worktree.new
         objects.old objects.new interrupt.old interrupt.new excludes.old excludes.new
-        (setting_of M.Matcher shared.now) explicit.now depth_limit
-        (D.is_default delegate.old) (λ r. r.0) result }
+        strategy (setting_of M.Matcher shared.now) explicit.now depth_limit
+        (D.is_default delegate.old) (λ r. r.0) (λ r. r.1) result }
     ensures feeds { Feeds W.Worktree F.Find D.Delegate worktree.old worktree.new objects.old
         excludes.old delegate.old delegate.new (setting_of M.Matcher shared.now) explicit.now
         depth_limit result }
@@ -140,6 +169,7 @@ fn walk_parts<W: Worktree, F: Find, I: Interrupt, M: Matcher, D: Delegate>(
         shared,
         root.as_bytes(),
         depth_limit,
+        strategy,
         excludes,
         worktree,
         objects,

@@ -28,12 +28,20 @@ fn words<R: Env>(rt: &R, alloc: Global) -> Result<Vec<Bytes>, OutOfMemory> {
     Ok(words)
 }
 
+/// Whether the worktree is to compose names: the first word says so.
+fn composes(words: &[Bytes]) -> bool {
+    match words.first() {
+        Some(word) => word.as_bytes() == b"composed".as_slice(),
+        None => false,
+    }
+}
+
 fn main(rt: HostRuntime) -> ExitCode {
     let alloc = rt.alloc();
     let Ok(words) = words(&rt, alloc) else {
         return ExitCode::from(8);
     };
-    let mut worktree = DiskWorktree::new(&rt, false);
+    let mut worktree = DiskWorktree::new(&rt, composes(&words));
     let mut interrupt = PlannedInterrupt::never();
     let mut out = StdSink::out(&rt);
     let mut err = StdSink::err(&rt);

@@ -1,13 +1,23 @@
 //! Reports over a worktree in memory, whole: words in, a status and two texts out.
+mod calls;
+mod faults;
+mod mapped;
+mod modules;
 mod rows;
 mod walks;
 
+use faults::{
+    AT_ONCE, COLLAPSE, EACH_CALL, EACH_CALL_AT_ONCE, EACH_LOOK, Failing, IGNORING, NESTED,
+};
+use git_config_lite::Source;
 use gitbase_core::{Bytes, OutOfMemory};
+use mapped::MAPPED;
+use modules::{MISREAD, MODULED};
 use rows::{A_FILE, IGNORED, OPTIONS, REFUSALS, REPORTS, REQUIRED, Row, WITHOUT_RULES};
 use std::alloc::Global;
 use walks::{DELETED, FOLDED, ROOTED, RULED, SPECIFIED};
 use worktree_fs::{AddError, CallKind, MemorySink, MemoryWorktree, NewNode, PlannedInterrupt};
-use worktree_report::run;
+use worktree_report::{Permissions, run};
 
 const REPORT: &[&[u8]] = &[b"report", b"/w", b"/s"];
 
@@ -115,6 +125,34 @@ fn first_lie(alloc: Global, rows: &[Row]) -> Option<&'static str> {
     None
 }
 
+/// A setup by which subtrees are walked at once.
+fn at_once(alloc: Global, setup: &[u8]) -> Result<Vec<u8>, OutOfMemory> {
+    let mut text = b"option strategy at_once\n".to_vec(alloc)?;
+    text.extend_from_slice(setup)?;
+    Ok(text)
+}
+
+/// Whether a row's worktree is answered as the row says where subtrees are walked at once.
+fn holds_at_once(alloc: Global, row: &Row) -> bool {
+    let Ok(setup) = at_once(alloc, row.setup) else {
+        return false;
+    };
+    match tree(alloc, row.nodes, &setup) {
+        Ok(mut tree) => answers(alloc, REPORT, &mut tree, (row.status, row.out, row.err)),
+        Err(_) => false,
+    }
+}
+
+/// The name of the first row that is answered otherwise where subtrees are walked at once.
+fn first_lie_at_once(alloc: Global, rows: &[Row]) -> Option<&'static str> {
+    for row in rows {
+        if !holds_at_once(alloc, row) {
+            return Some(row.name);
+        }
+    }
+    None
+}
+
 #[test]
 fn reports_each_path(rt: HostRuntime) {
     assert_eq!(rt; first_lie(rt.alloc(), &REPORTS), None);
@@ -151,8 +189,49 @@ fn reports_what_path_specs_mean(rt: HostRuntime) {
 }
 
 #[test]
+fn reads_rules_from_the_blobs_of_the_index(rt: HostRuntime) {
+    assert_eq!(rt; first_lie(rt.alloc(), &MAPPED), None);
+}
+
+#[test]
 fn names_the_rule_that_decides(rt: HostRuntime) {
     assert_eq!(rt; first_lie(rt.alloc(), &RULED), None);
+}
+
+#[test]
+fn says_of_which_submodule_a_path_is(rt: HostRuntime) {
+    assert_eq!(rt; first_lie(rt.alloc(), &MODULED), None);
+}
+
+#[test]
+fn says_what_of_submodules_is_outside_its_grammar(rt: HostRuntime) {
+    assert_eq!(rt; first_lie(rt.alloc(), &MISREAD), None);
+}
+
+#[test]
+fn answers_each_call(rt: HostRuntime) {
+    let alloc = rt.alloc();
+    assert!(rt; calls::parses(alloc));
+    assert_eq!(rt; calls::loads(alloc), Some(true));
+    assert_eq!(rt; calls::reports(alloc), Some(true));
+    assert!(rt; calls::has_statuses() && calls::has_defaults() && calls::isolates());
+}
+
+#[test]
+fn admits_configurations(rt: HostRuntime) {
+    let isolated = Permissions::isolated();
+    let all = Permissions::all();
+    assert!(rt; !isolated.admits(Source::User) && isolated.admits(Source::Local));
+    assert!(rt; !all.admits(Source::GitInstallation) && all.admits(Source::System));
+}
+
+#[test]
+fn reports_the_same_where_subtrees_are_walked_at_once(rt: HostRuntime) {
+    let alloc = rt.alloc();
+    assert_eq!(rt; first_lie_at_once(alloc, &REPORTS), None);
+    assert_eq!(rt; first_lie_at_once(alloc, &IGNORED), None);
+    assert_eq!(rt; first_lie_at_once(alloc, &FOLDED), None);
+    assert_eq!(rt; first_lie_at_once(alloc, &DELETED), None);
 }
 
 /// Whether a report of two directories is stopped at this question.
@@ -183,13 +262,68 @@ fn refuses_what_it_must(rt: HostRuntime) {
 }
 
 /// Words that are no command.
-static NO_COMMANDS: [&[&[u8]]; 5] = [
+static NO_COMMANDS: [&[&[u8]]; 12] = [
     &[],
     &[b"report", b"/w"],
     &[b"report", b"w", b"/s"],
     &[b"report", b"/w/..", b"/s"],
     &[b"status", b"/w", b"/s"],
+    &[b"composed", b"report", b"/w", b"/s"],
+    &[b"composed", b"generate", b"1"],
+    &[b"generate"],
+    &[b"generate", b"0"],
+    &[b"generate", b"01"],
+    &[b"generate", b"100001"],
+    &[b"generate", b"1x"],
 ];
+
+/// Files in memory, and how much there is to report of them.
+static GENERATED: [(&[u8], &[u8]); 2] = [
+    (
+        b"1",
+        b"generated 1 lines 0\n# read_dir 2 returned 0 seen 1\n",
+    ),
+    (
+        b"200",
+        b"generated 200 lines 91\n# read_dir 3 returned 91 seen 201\n",
+    ),
+];
+
+#[test]
+fn says_how_much_there_is_of_files_in_memory(rt: HostRuntime) {
+    let alloc = rt.alloc();
+    for composes in [false, true] {
+        let mut tree = MemoryWorktree::new(alloc, composes);
+        for (count, text) in GENERATED {
+            assert!(rt; answers(alloc, &[b"generate", count], &mut tree, (0, text, b"")));
+        }
+        assert_eq!(rt; tree.read_count(), 0);
+    }
+}
+
+/// A name with a combining mark, and the same name composed.
+const DECOMPOSED: &[u8] = b"/w/a\xcc\x88";
+
+const COMPOSED: &[u8] = b"/w/\xc3\xa4";
+
+/// Whether the report over names that were composed is asked for by the word `composed`, and not without it.
+fn is_composed(alloc: Global) -> Result<bool, AddError> {
+    let mut tree = MemoryWorktree::new(alloc, true);
+    tree.add(alloc, DECOMPOSED, A_FILE)?;
+    tree.add(alloc, b"/s", A_FILE)?;
+    let composed: &[&[u8]] = &[b"composed", b"report", b"/w", b"/s"];
+    let text = b"untracked file - always - -\t\xc3\xa4\n";
+    Ok(
+        answers(alloc, composed, &mut tree, (0, text, b""))
+            && answers(alloc, REPORT, &mut tree, (2, b"", USAGE))
+            && matches!(tree.add(alloc, COMPOSED, A_FILE), Err(AddError::Exists)),
+    )
+}
+
+#[test]
+fn composes_names_where_the_worktree_does(rt: HostRuntime) {
+    assert_eq!(rt; is_composed(rt.alloc()), Ok(true));
+}
 
 #[test]
 fn says_how_it_is_used(rt: HostRuntime) {
@@ -242,38 +376,68 @@ fn enters_directories_to_the_limit(rt: HostRuntime) {
     }
 }
 
-/// A call that fails, and whether the program says so: a fault of a kind reads as no kind.
-static FAULTS: [(&[u8], CallKind, u64, bool); 7] = [
-    (REQUIRED, CallKind::Read, 1, true),
-    (REQUIRED, CallKind::Read, 2, true),
-    (REQUIRED, CallKind::ListOpen, 1, true),
-    (REQUIRED, CallKind::ListEntry, 1, true),
-    (REQUIRED, CallKind::Kind, 2, false),
-    (WITHOUT_RULES, CallKind::Read, 1, true),
-    (WITHOUT_RULES, CallKind::ListOpen, 1, true),
-];
+/// The deepest tree that a setup can ask for, in which each directory is entered without a look for rules or repositories.
+const DEEPEST: &[u8] = b"depth 1000\noption recurse_repositories yes\noption excludes no\n";
 
-/// Whether a call that fails is counted once, and said where it must be.
-fn is_counted(alloc: Global, setup: &[u8], call: CallKind, nth: u64, is_said: bool) -> bool {
-    let Ok(mut tree) = tree(alloc, &[(b"/w/a", A_FILE)], setup) else {
+#[test]
+fn enters_a_thousand_directories_in_one_another(rt: HostRuntime) {
+    assert_eq!(rt; is_walked(rt.alloc(), 1000, DEEPEST), Some(true));
+}
+
+/// Whether a report of these nodes ends as a row says where a call fails, and so many failures were counted.
+fn ends_so(
+    alloc: Global,
+    nodes: &[(&[u8], NewNode<'_>)],
+    setup: &[u8],
+    failing: &Failing,
+    counted: u64,
+) -> bool {
+    let (call, nth, status, text) = *failing;
+    let Ok(mut tree) = tree(alloc, nodes, setup) else {
         return false;
     };
-    let want: (u8, &[u8], &[u8]) = if is_said {
-        (6, b"", b"worktree fault\n")
+    let want: (u8, &[u8], &[u8]) = if status == 0 {
+        (status, text, b"")
     } else {
-        (0, b"", b"")
+        (status, b"", text)
     };
     tree.fail(alloc, call, nth).is_ok()
         && answers(alloc, REPORT, &mut tree, want)
-        && tree.fault_count() == 1
+        && tree.fault_count() == counted
 }
 
 #[test]
-fn counts_faults(rt: HostRuntime) {
-    for (setup, call, nth, is_said) in FAULTS {
+fn counts_each_call_that_fails(rt: HostRuntime) {
+    for failing in &EACH_CALL {
         assert!(rt;
-            is_counted(rt.alloc(), setup, call, nth, is_said),
-            "{call:?} {nth}"
+            ends_so(rt.alloc(), IGNORING, REQUIRED, failing, 1),
+            "{:?} {}",
+            failing.0,
+            failing.1
+        );
+    }
+}
+
+#[test]
+fn counts_each_call_that_fails_outside_of_jobs(rt: HostRuntime) {
+    for (failing, counted) in &EACH_CALL_AT_ONCE {
+        assert!(rt;
+            ends_so(rt.alloc(), IGNORING, AT_ONCE, failing, *counted),
+            "{:?} {}",
+            failing.0,
+            failing.1
+        );
+    }
+}
+
+#[test]
+fn looks_for_a_repository_in_vain_where_a_call_fails(rt: HostRuntime) {
+    for failing in &EACH_LOOK {
+        assert!(rt;
+            ends_so(rt.alloc(), NESTED, COLLAPSE, failing, 1),
+            "{:?} {}",
+            failing.0,
+            failing.1
         );
     }
 }

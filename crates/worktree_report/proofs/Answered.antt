@@ -1,6 +1,5 @@
--- The text of a report, or the refusal of the program that stands for that of a walk.
-use Rattle.std.proofs.Common.{◌≡◌, ℕ, List, Option, Some, Result, Ok, Err, IsErrOf, refl, sym, ap, ◌∙◌, subst, option_map, arith}
-use Rattle.std.specs.FinMap.{empty}
+-- The text of a report, or the refusal of the program that stands for that of a report.
+use Rattle.std.proofs.Common.{◌≡◌, ℕ, List, Option, Bool, Some, Result, Ok, Err, IsErrOf, refl, sym, ap, ◌∙◌, subst, option_map, arith}
 use Rattle.gitbase_core.specs.Objects.{Objects}
 use Rattle.gitbase_core.specs.declared.find.Find.{Ghosts as FindOf}
 use Rattle.worktree_fs.specs.declared.interrupt.Interrupt.{Ghosts as InterruptOf}
@@ -9,6 +8,7 @@ use Rattle.worktree_fs.specs.Causes.{NotIncreased}
 use Rattle.worktree_fs.specs.Tree.{Names}
 use Rattle.worktree_stack.specs.declared.error.AtPathError.{AtPathError}
 use Rattle.worktree_stack.specs.declared.error.AtPathError.TheVariants as inner
+use Rattle.worktree_stack.specs.declared.error.BlobWhy.TheVariants as blobs
 use Rattle.worktree_stack.specs.declared.error.RulesWhy.TheVariants as rules
 use Rattle.worktree_stack.specs.Refused as lookups
 use Rattle.worktree_stack.specs.Setup.{Made}
@@ -18,46 +18,56 @@ use Rattle.dir_classify.specs.declared.error.MetadataWhy.TheVariants as metadata
 use Rattle.dir_classify.specs.declared.error.ReadWhy.TheVariants as why
 use Rattle.dir_classify.specs.Excludes.{TellsIf}
 use Rattle.dir_classify.specs.Refused.{OnFault}
-use Rattle.dir_walk.specs.declared.report.Report.{Report}
+use Rattle.dir_walk.specs.declared.strategy.Strategy.{Strategy}
+use Rattle.dir_walk.specs.Opens.{IsListed}
 use Rattle.dir_walk.specs.Kept.{OnInterrupt}
-use Rattle.dir_walk.specs.Walks.{ReadsAtMost}
+use Rattle.worktree_report.specs.declared.error.ReportError.{ReportError}
+use Rattle.worktree_report.specs.declared.error.ReportError.TheVariants as errors
+use Rattle.worktree_report.specs.declared.known.Known.{Known}
+use Rattle.worktree_report.specs.declared.refusal.Misread.{Misread}
+use Rattle.worktree_report.specs.declared.refusal.WalkWord.{WalkWord}
+use Rattle.worktree_report.specs.declared.report.Report.{Report}
 use Rattle.worktree_report.specs.declared.setup.Setup.{Setup}
 use Rattle.worktree_report.specs.declared.refusal.Refusal.{Refusal}
 use Rattle.worktree_report.specs.declared.refusal.Refusal.TheVariants as refusals
-use Rattle.worktree_report.specs.Asked.{asked_of, read_in}
-use Rattle.worktree_report.specs.Converted.{of_lookup, of_walk, IsOfWalking}
+use Rattle.worktree_report.specs.Asked.{read_in, About, IsAboutWalkAt, ReadsWithin, Refuses, RefusesWalkAt}
+use Rattle.worktree_report.specs.Converted.{of_lookup, of_report, of_walk, IsOfWalking}
+use Rattle.worktree_report.specs.Loading.{known_in}
 use Rattle.worktree_report.specs.Lines.{text_with}
-use Rattle.worktree_report.specs.Reported.{Reports, Texts}
+use Rattle.worktree_report.specs.Reported.{MakesReport, Misreads, OnReportFault, OnWalk, Texts}
+use Rattle.worktree_report.proofs.ReportMade.{report_is}
 
 -- ---- refusals
 
-fault-of_lookup : (Failed Stored : Type 0) (e : AtPathError) → lookups.OnFault Failed Stored e → of_lookup e ≡ refusals.Fault → Failed
-fault-of_lookup Failed Stored inner.NotNormal h is = absurd cc
-fault-of_lookup Failed Stored (inner.Component c) h is = absurd cc
-fault-of_lookup Failed Stored (inner.Collision path) h is = absurd cc
-fault-of_lookup Failed Stored (inner.Directory path c) h is = absurd cc
-fault-of_lookup Failed Stored (inner.RulesFile path rules.Link) h is = absurd cc
-fault-of_lookup Failed Stored (inner.RulesFile path rules.LinkLimit) h is = absurd cc
-fault-of_lookup Failed Stored (inner.RulesFile path rules.Special) h is = absurd cc
-fault-of_lookup Failed Stored (inner.RulesFile path rules.Fault) h is = h
-fault-of_lookup Failed Stored (inner.Blob id c) h is = absurd cc
-fault-of_lookup Failed Stored inner.OutOfMemory h is = absurd cc
+fault-of_lookup : (Failed Stored : Type 0) → (Stored → ⊥) → (e : AtPathError) → lookups.OnFault Failed Stored e → of_lookup e ≡ refusals.Fault → Failed
+fault-of_lookup Failed Stored never inner.NotNormal h is = absurd cc
+fault-of_lookup Failed Stored never (inner.Component c) h is = absurd cc
+fault-of_lookup Failed Stored never (inner.Collision path) h is = absurd cc
+fault-of_lookup Failed Stored never (inner.Directory path c) h is = absurd cc
+fault-of_lookup Failed Stored never (inner.RulesFile path rules.Link) h is = absurd cc
+fault-of_lookup Failed Stored never (inner.RulesFile path rules.LinkLimit) h is = absurd cc
+fault-of_lookup Failed Stored never (inner.RulesFile path rules.Special) h is = absurd cc
+fault-of_lookup Failed Stored never (inner.RulesFile path rules.Fault) h is = h
+fault-of_lookup Failed Stored never (inner.Blob id blobs.Missing) h is = absurd cc
+fault-of_lookup Failed Stored never (inner.Blob id blobs.NotABlob) h is = absurd cc
+fault-of_lookup Failed Stored never (inner.Blob id blobs.Fault) h is = absurd (never h)
+fault-of_lookup Failed Stored never inner.OutOfMemory h is = absurd cc
 
--- a fault is told where the worktree failed
-fault-of_walk : (Failed Stored : Type 0) (e : Error) → OnFault Failed Stored e → of_walk e ≡ refusals.Fault → Failed
-fault-of_walk Failed Stored walk.Interrupted h is = absurd cc
-fault-of_walk Failed Stored (walk.NormalizeRoot root) h is = absurd cc
-fault-of_walk Failed Stored (walk.SymlinkInRoot root worktree_root index) h is = absurd cc
-fault-of_walk Failed Stored (walk.SymlinkMetadata path metadata.Absent) h is = absurd cc
-fault-of_walk Failed Stored (walk.SymlinkMetadata path metadata.Fault) h is = h
-fault-of_walk Failed Stored (walk.WorktreeRootIsFile root) h is = absurd cc
-fault-of_walk Failed Stored (walk.ExcludesAccess e) h is = fault-of_lookup Failed Stored e h is
-fault-of_walk Failed Stored (walk.ReadDir path why.Absent) h is = absurd cc
-fault-of_walk Failed Stored (walk.ReadDir path why.NotADirectory) h is = absurd cc
-fault-of_walk Failed Stored (walk.ReadDir path why.Fault) h is = h
-fault-of_walk Failed Stored (walk.DirEntry path) h is = h
-fault-of_walk Failed Stored (walk.TooDeep path) h is = absurd cc
-fault-of_walk Failed Stored walk.OutOfMemory h is = absurd cc
+-- a fault is told where the worktree failed, as the store never does
+fault-of_walk : (Failed Stored : Type 0) → (Stored → ⊥) → (e : Error) → OnFault Failed Stored e → of_walk e ≡ refusals.Fault → Failed
+fault-of_walk Failed Stored never walk.Interrupted h is = absurd cc
+fault-of_walk Failed Stored never (walk.NormalizeRoot root) h is = absurd cc
+fault-of_walk Failed Stored never (walk.SymlinkInRoot root worktree_root index) h is = absurd cc
+fault-of_walk Failed Stored never (walk.SymlinkMetadata path metadata.Absent) h is = absurd cc
+fault-of_walk Failed Stored never (walk.SymlinkMetadata path metadata.Fault) h is = h
+fault-of_walk Failed Stored never (walk.WorktreeRootIsFile root) h is = absurd cc
+fault-of_walk Failed Stored never (walk.ExcludesAccess e) h is = fault-of_lookup Failed Stored never e h is
+fault-of_walk Failed Stored never (walk.ReadDir path why.Absent) h is = absurd cc
+fault-of_walk Failed Stored never (walk.ReadDir path why.NotADirectory) h is = absurd cc
+fault-of_walk Failed Stored never (walk.ReadDir path why.Fault) h is = h
+fault-of_walk Failed Stored never (walk.DirEntry path) h is = h
+fault-of_walk Failed Stored never (walk.TooDeep path) h is = absurd cc
+fault-of_walk Failed Stored never walk.OutOfMemory h is = absurd cc
 
 is_no_interrupt : (e : AtPathError) → of_lookup e ≡ refusals.Interrupted → ⊥
 is_no_interrupt inner.NotNormal is = absurd cc
@@ -68,7 +78,9 @@ is_no_interrupt (inner.RulesFile path rules.Link) is = absurd cc
 is_no_interrupt (inner.RulesFile path rules.LinkLimit) is = absurd cc
 is_no_interrupt (inner.RulesFile path rules.Special) is = absurd cc
 is_no_interrupt (inner.RulesFile path rules.Fault) is = absurd cc
-is_no_interrupt (inner.Blob id c) is = absurd cc
+is_no_interrupt (inner.Blob id blobs.Missing) is = absurd cc
+is_no_interrupt (inner.Blob id blobs.NotABlob) is = absurd cc
+is_no_interrupt (inner.Blob id blobs.Fault) is = absurd cc
 is_no_interrupt inner.OutOfMemory is = absurd cc
 
 -- and an interrupt where that was raised
@@ -87,6 +99,36 @@ interrupt-of_walk Raised (walk.DirEntry path) h is = absurd cc
 interrupt-of_walk Raised (walk.TooDeep path) h is = absurd cc
 interrupt-of_walk Raised walk.OutOfMemory h is = absurd cc
 
+lookup_no_misread : (which : Misread) (e : AtPathError) → of_lookup e ≡ refusals.Misread which → ⊥
+lookup_no_misread which inner.NotNormal is = absurd cc
+lookup_no_misread which (inner.Component c) is = absurd cc
+lookup_no_misread which (inner.Collision path) is = absurd cc
+lookup_no_misread which (inner.Directory path c) is = absurd cc
+lookup_no_misread which (inner.RulesFile path rules.Link) is = absurd cc
+lookup_no_misread which (inner.RulesFile path rules.LinkLimit) is = absurd cc
+lookup_no_misread which (inner.RulesFile path rules.Special) is = absurd cc
+lookup_no_misread which (inner.RulesFile path rules.Fault) is = absurd cc
+lookup_no_misread which (inner.Blob id blobs.Missing) is = absurd cc
+lookup_no_misread which (inner.Blob id blobs.NotABlob) is = absurd cc
+lookup_no_misread which (inner.Blob id blobs.Fault) is = absurd cc
+lookup_no_misread which inner.OutOfMemory is = absurd cc
+
+-- no walk says that a text is outside its grammar
+is_no_misread : (which : Misread) (e : Error) → of_walk e ≡ refusals.Misread which → ⊥
+is_no_misread which walk.Interrupted is = absurd cc
+is_no_misread which (walk.NormalizeRoot root) is = absurd cc
+is_no_misread which (walk.SymlinkInRoot root worktree_root index) is = absurd cc
+is_no_misread which (walk.SymlinkMetadata path metadata.Absent) is = absurd cc
+is_no_misread which (walk.SymlinkMetadata path metadata.Fault) is = absurd cc
+is_no_misread which (walk.WorktreeRootIsFile root) is = absurd cc
+is_no_misread which (walk.ExcludesAccess e) is = lookup_no_misread which e is
+is_no_misread which (walk.ReadDir path why.Absent) is = absurd cc
+is_no_misread which (walk.ReadDir path why.NotADirectory) is = absurd cc
+is_no_misread which (walk.ReadDir path why.Fault) is = absurd cc
+is_no_misread which (walk.DirEntry path) is = absurd cc
+is_no_misread which (walk.TooDeep path) is = absurd cc
+is_no_misread which walk.OutOfMemory is = absurd cc
+
 lookup_of_walking : (e : AtPathError) → IsOfWalking (of_lookup e)
 lookup_of_walking inner.NotNormal = tt
 lookup_of_walking (inner.Component c) = tt
@@ -96,7 +138,9 @@ lookup_of_walking (inner.RulesFile path rules.Link) = tt
 lookup_of_walking (inner.RulesFile path rules.LinkLimit) = tt
 lookup_of_walking (inner.RulesFile path rules.Special) = tt
 lookup_of_walking (inner.RulesFile path rules.Fault) = tt
-lookup_of_walking (inner.Blob id c) = tt
+lookup_of_walking (inner.Blob id blobs.Missing) = tt
+lookup_of_walking (inner.Blob id blobs.NotABlob) = tt
+lookup_of_walking (inner.Blob id blobs.Fault) = tt
 lookup_of_walking inner.OutOfMemory = tt
 
 of_walking : (e : Error) → IsOfWalking (of_walk e)
@@ -114,81 +158,138 @@ of_walking (walk.DirEntry path) = tt
 of_walking (walk.TooDeep path) = tt
 of_walking walk.OutOfMemory = tt
 
+-- ---- those of a report
+
+fault-of_report : (Failed Stored : Type 0) → (Stored → ⊥) → (e : ReportError) → OnReportFault Failed Stored e → of_report e ≡ refusals.Fault → Failed
+fault-of_report Failed Stored never (errors.Config at line) h is = absurd cc
+fault-of_report Failed Stored never (errors.Modules line) h is = absurd cc
+fault-of_report Failed Stored never (errors.ActiveSpec at) h is = absurd cc
+fault-of_report Failed Stored never errors.ReadFault h is = h
+fault-of_report Failed Stored never (errors.Walk e) h is = fault-of_walk Failed Stored never e h is
+fault-of_report Failed Stored never errors.OutOfMemory h is = absurd cc
+
+interrupt-of_report : (Raised : Type 0) (e : ReportError) → OnWalk (OnInterrupt Raised) e → of_report e ≡ refusals.Interrupted → Raised
+interrupt-of_report Raised (errors.Config at line) h is = absurd cc
+interrupt-of_report Raised (errors.Modules line) h is = absurd cc
+interrupt-of_report Raised (errors.ActiveSpec at) h is = absurd cc
+interrupt-of_report Raised errors.ReadFault h is = absurd cc
+interrupt-of_report Raised (errors.Walk e) h is = interrupt-of_walk Raised e h is
+interrupt-of_report Raised errors.OutOfMemory h is = absurd cc
+
+of_reporting : (e : ReportError) → IsOfWalking (of_report e)
+of_reporting (errors.Config at line) = tt
+of_reporting (errors.Modules line) = tt
+of_reporting (errors.ActiveSpec at) = tt
+of_reporting errors.ReadFault = tt
+of_reporting (errors.Walk e) = of_walking e
+of_reporting errors.OutOfMemory = tt
+
+misread-of_report : (given : Result (Option Known) Misread) (which : Misread) (e : ReportError) → Misreads given e → of_report e ≡ refusals.Misread which → given ≡ Err which
+misread-of_report given which (errors.Config at line) h is = cc
+misread-of_report given which (errors.Modules line) h is = cc
+misread-of_report given which (errors.ActiveSpec at) h is = cc
+misread-of_report given which errors.ReadFault h is = absurd cc
+misread-of_report given which (errors.Walk e) h is = absurd (is_no_misread which e is)
+misread-of_report given which errors.OutOfMemory h is = absurd cc
+
+refused-of_report : (composes : Bool) (t : Names) (root : List ℕ) (setup : Setup) (word : WalkWord) (path : List ℕ) (e : ReportError)
+    → OnWalk (About composes root setup) e → OnWalk (Refuses composes (read_in t setup) root setup) e → of_report e ≡ refusals.Walk word path → RefusesWalkAt composes t root setup word path
+refused-of_report composes t root setup word path (errors.Config at line) about cause is = absurd cc
+refused-of_report composes t root setup word path (errors.Modules line) about cause is = absurd cc
+refused-of_report composes t root setup word path (errors.ActiveSpec at) about cause is = absurd cc
+refused-of_report composes t root setup word path errors.ReadFault about cause is = absurd cc
+refused-of_report composes t root setup word path (errors.Walk e) about cause is = record { error = e; is = is; about = about; cause = cause }
+refused-of_report composes t root setup word path errors.OutOfMemory about cause is = absurd cc
+
+about-of_report : (composes : Bool) (root : List ℕ) (setup : Setup) (word : WalkWord) (path : List ℕ) (e : ReportError) → OnWalk (About composes root setup) e → of_report e ≡ refusals.Walk word path → IsAboutWalkAt composes root setup word path
+about-of_report composes root setup word path (errors.Config at line) about is = absurd cc
+about-of_report composes root setup word path (errors.Modules line) about is = absurd cc
+about-of_report composes root setup word path (errors.ActiveSpec at) about is = absurd cc
+about-of_report composes root setup word path errors.ReadFault about is = absurd cc
+about-of_report composes root setup word path (errors.Walk e) about is = record { error = e; is = is; about = about }
+about-of_report composes root setup word path errors.OutOfMemory about is = absurd cc
+
 -- ---- texts
 
 -- which refusal is answered
 answered : {from which : Refusal} → IsErrOf {T = List ℕ} (Err from) which → from ≡ which
 answered is = cc
 
--- a worktree tells its tree, and an empty store that it holds nothing
-told-empty : {told : Option Names} {holds : Option Objects} {made : Option Made} {t : Names} → holds ≡ Some empty → told ≡ Some t → TellsIf told holds made (read_in t)
-told-empty none tree = record { tree_is = tree; objects_are = λ some. none }
+-- a worktree tells its tree, and the store of a setup what it holds
+pub told-blobs : {told : Option Names} {holds : Option Objects} {made : Option Made} {t : Names} (setup : Setup) → holds ≡ Some setup.blobs → told ≡ Some t → TellsIf told holds made (read_in t setup)
+told-blobs setup held tree = record { tree_is = tree; objects_are = λ some. held }
 
 module _ {W F I : Type 0} {w : WorktreeOf W} {f : FindOf F} {i : InterruptOf I} {w0 w1 : W} {o0 o1 : F} {i0 i1 : I} {root : List ℕ} {setup : Setup} where
   -- the text of a report
-  pub Texts-ok : (r : Report) (text : List ℕ) → Reports w f i w0 w1 o0 o1 i0 i1 root setup (Ok r) → f.holds o0 ≡ Some empty → text ≡ text_with setup.options r
-      → Texts w i w0 w1 i0 i1 root setup (Ok text)
-  Texts-ok r text reports none lines =
+  pub Texts-ok : (r : Report) (text : List ℕ) → MakesReport w f i w0 w1 o0 o1 i0 i1 root setup (Ok r) → f.holds o0 ≡ Some setup.blobs → text ≡ text_with setup.options r
+      → Texts w i (w.precomposes w0) w0 w1 i0 i1 root setup (Ok text)
+  Texts-ok r text reports held lines =
       record {
-        gives = λ t told quiet. ap (option_map (text_with setup.options)) (reports.gives (read_in t) (told-empty none told) quiet).is ∙ ap (λ (x : List ℕ). Some x) (sym lines);
-        safe = λ t told quiet. record { made = r; is = reports.gives (read_in t) (told-empty none told) quiet };
+        gives = λ t told quiet. ap (option_map (text_with setup.options)) (report_is (reports.gives (read_in t setup) (told-blobs setup held told) quiet)) ∙ ap (λ (x : List ℕ). Some x) (sym lines);
+        safe = λ t told quiet. record { made = r; is = reports.gives (read_in t setup) (told-blobs setup held told) quiet };
         works = λ t told quiet.
             record {
               made = r;
-              is = (reports.gives (read_in t) (told-empty none told) quiet).is;
+              is = report_is (reports.gives (read_in t setup) (told-blobs setup held told) quiet);
               asked = let o = reports.opens.opened in let asks = reports.opens.asked in let counts = reports.opens.counted in omega (arith, asks, counts);
-              reads = λ rules_alone few.
+              reads = λ over_itself rules_alone few.
                   let same : reports.opens.opened ≡ r.outcome.read_dir_calls = let counts = reports.opens.counted in omega (arith, counts, few) in
-                  subst (λ (n : ℕ). ReadsAtMost (asked_of root setup) setup.root (w.reads w0) (w.reads w1) n 0) same (reports.opens.reads rules_alone refl);
+                  subst (λ (n : ℕ). ReadsWithin {E = ReportError} (w.precomposes w0) root setup (Ok r) (w.reads w0) (w.reads w1) n 0) same (reports.opens.reads over_itself rules_alone);
             };
         refused = λ t told quiet word path is. absurd cc;
+        misread = λ t told which is. absurd cc;
         about = λ word path is. absurd cc;
         cause = λ is. absurd cc;
         interrupted = λ is. absurd cc;
         answers = tt;
-        complete = λ t told quiet calm defined. tt;
+        complete = λ t told quiet calm valid. tt;
         worktree = reports.worktree;
         interrupt = reports.interrupt;
         listed = reports.listed;
+        lists = λ at_once. subst (λ (strategy : Strategy). IsListed strategy (w.lists w0) (w.lists w1) reports.opens.opened) at_once reports.opens.listed;
         calm = reports.calm;
       }
 
   -- no memory for the text, or for what the refusal says
-  pub Texts-memory : {result : Result Report Error} → Reports w f i w0 w1 o0 o1 i0 i1 root setup result → Texts w i w0 w1 i0 i1 root setup (Err refusals.OutOfMemory)
+  pub Texts-memory : {result : Result Report ReportError} → MakesReport w f i w0 w1 o0 o1 i0 i1 root setup result → Texts w i (w.precomposes w0) w0 w1 i0 i1 root setup (Err refusals.OutOfMemory)
   Texts-memory reports =
       record {
         gives = λ t told quiet. tt;
         safe = λ t told quiet. tt;
         works = λ t told quiet. tt;
         refused = λ t told quiet word path is. absurd cc;
+        misread = λ t told which is. absurd cc;
         about = λ word path is. absurd cc;
         cause = λ is. absurd cc;
         interrupted = λ is. absurd cc;
         answers = tt;
-        complete = λ t told quiet calm defined. refl;
+        complete = λ t told quiet calm valid. refl;
         worktree = reports.worktree;
         interrupt = reports.interrupt;
         listed = tt;
+        lists = tt;
         calm = tt;
       }
 
-  -- the refusal that stands for that of a walk
-  pub Texts-refused : (e : Error) (refusal : Refusal) → Reports w f i w0 w1 o0 o1 i0 i1 root setup (Err e) → f.holds o0 ≡ Some empty → NotIncreased (f.faults o0) (f.faults o1) → refusal ≡ of_walk e
-      → Texts w i w0 w1 i0 i1 root setup (Err refusal)
-  Texts-refused e refusal reports none kept same =
+  -- the refusal that stands for that of a report
+  pub Texts-refused : (e : ReportError) (refusal : Refusal) → MakesReport w f i w0 w1 o0 o1 i0 i1 root setup (Err e) → f.holds o0 ≡ Some setup.blobs → NotIncreased (f.faults o0) (f.faults o1) → refusal ≡ of_report e
+      → Texts w i (w.precomposes w0) w0 w1 i0 i1 root setup (Err refusal)
+  Texts-refused e refusal reports held kept same =
       rw same
       (record {
         gives = λ t told quiet. tt;
         safe = λ t told quiet. tt;
         works = λ t told quiet. tt;
-        refused = λ t told quiet word path is. record { error = e; is = answered is; about = reports.about; cause = reports.refused (read_in t) (told-empty none told) quiet kept };
-        about = λ word path is. record { error = e; is = answered is; about = reports.about };
-        cause = λ is. fault-of_walk _ _ e reports.cause (answered is);
-        interrupted = λ is. interrupt-of_walk _ e reports.interrupted (answered is);
-        answers = of_walking e;
-        complete = λ t told quiet calm defined. ap of_walk (reports.complete (read_in t) (told-empty none told) quiet kept calm defined);
+        refused = λ t told quiet word path is. refused-of_report (w.precomposes w0) t root setup word path e reports.about (reports.refused (read_in t setup) (told-blobs setup held told) quiet kept) (answered is);
+        misread = λ t told which is. misread-of_report (known_in t root setup) which e (reports.misread t told) (answered is);
+        about = λ word path is. about-of_report (w.precomposes w0) root setup word path e reports.about (answered is);
+        cause = λ is. fault-of_report _ _ (λ stored. omega (arith, stored, kept)) e reports.cause (answered is);
+        interrupted = λ is. interrupt-of_report _ e reports.interrupted (answered is);
+        answers = of_reporting e;
+        complete = λ t told quiet calm valid. ap of_report (reports.complete (read_in t setup) (told-blobs setup held told) quiet kept calm valid);
         worktree = reports.worktree;
         interrupt = reports.interrupt;
         listed = tt;
+        lists = tt;
         calm = tt;
       })

@@ -4,5 +4,10 @@ pub mod Fronts
 pub mod SetupLines
 pub mod Statuses
 pub mod Runs
+pub mod Generating
+pub mod Generated
+pub mod Numbers
 pub mod Walks
+pub mod ReportMade
 pub mod Answered
+pub mod Meanings

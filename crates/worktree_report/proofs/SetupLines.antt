@@ -3,27 +3,30 @@ use Rattle.std.proofs.Common.{◌≡◌, ℕ, suc, ◌+◌, ◌<◌, ◌≤◌, 
 use Rattle.std.proofs.lemmas.List.{length-map, take_more, drop_all, get_or-map}
 use Rattle.gitbase_core.specs.declared.entry.IndexEntry.{IndexEntry}
 use Rattle.worktree_report.specs.declared.setup.option.SetupOption.{SetupOption}
+use Rattle.worktree_report.specs.declared.setup.files.SetupBlob.{SetupBlob}
+use Rattle.worktree_report.specs.ConfigFiles.{ConfigFile}
 use Rattle.worktree_report.specs.SetupSaid.{Said, nothing, both}
 use Rattle.worktree_report.specs.SetupKeywords.{line_of}
 use Rattle.worktree_report.specs.SetupText.{says, said, is_refused, taken, first_outside}
 
-abbrev said_of : List SetupOption → List IndexEntry → List ℕ → List ℕ → List (List ℕ) → List (List ℕ) → Said
-said_of options index overrides globals specs worktrees = record { options = options; index = index; overrides = overrides; globals = globals; specs = specs; worktrees = worktrees }
+abbrev said_of : List SetupOption → List IndexEntry → List SetupBlob → List ℕ → List ℕ → List (List ℕ) → List (List ℕ) → List ConfigFile → Said
+said_of options index blobs overrides globals specs worktrees configs =
+    record { options = options; index = index; blobs = blobs; overrides = overrides; globals = globals; specs = specs; worktrees = worktrees; configs = configs }
 
 -- two records with the same fields
-same : {o1 o2 : List SetupOption} {i1 i2 : List IndexEntry} {r1 r2 g1 g2 : List ℕ} {s1 s2 w1 w2 : List (List ℕ)}
-    → o1 ≡ o2 → i1 ≡ i2 → r1 ≡ r2 → g1 ≡ g2 → s1 ≡ s2 → w1 ≡ w2 → said_of o1 i1 r1 g1 s1 w1 ≡ said_of o2 i2 r2 g2 s2 w2
-same o i r g s w = cc
+same : {o1 o2 : List SetupOption} {i1 i2 : List IndexEntry} {b1 b2 : List SetupBlob} {r1 r2 g1 g2 : List ℕ} {s1 s2 w1 w2 : List (List ℕ)} {c1 c2 : List ConfigFile}
+    → o1 ≡ o2 → i1 ≡ i2 → b1 ≡ b2 → r1 ≡ r2 → g1 ≡ g2 → s1 ≡ s2 → w1 ≡ w2 → c1 ≡ c2 → said_of o1 i1 b1 r1 g1 s1 w1 c1 ≡ said_of o2 i2 b2 r2 g2 s2 w2 c2
+same o i b r g s w c = cc
 
 -- saying nothing more is saying no more
 both-nothing : (a : Said) → both a nothing ≡ a
 both-nothing a =
-    same (append-nil a.options) (append-nil a.index) (append-nil a.overrides) (append-nil a.globals) (append-nil a.specs) (append-nil a.worktrees)
+    same (append-nil a.options) (append-nil a.index) (append-nil a.blobs) (append-nil a.overrides) (append-nil a.globals) (append-nil a.specs) (append-nil a.worktrees) (append-nil a.configs)
 
 both-assoc : (a b c : Said) → both (both a b) c ≡ both a (both b c)
 both-assoc a b c =
-    same (append_assoc a.options b.options c.options) (append_assoc a.index b.index c.index) (append_assoc a.overrides b.overrides c.overrides) (append_assoc a.globals b.globals c.globals)
-    (append_assoc a.specs b.specs c.specs) (append_assoc a.worktrees b.worktrees c.worktrees)
+    same (append_assoc a.options b.options c.options) (append_assoc a.index b.index c.index) (append_assoc a.blobs b.blobs c.blobs) (append_assoc a.overrides b.overrides c.overrides)
+    (append_assoc a.globals b.globals c.globals) (append_assoc a.specs b.specs c.specs) (append_assoc a.worktrees b.worktrees c.worktrees) (append_assoc a.configs b.configs c.configs)
 
 said-append : (lines : List (List ℕ)) (line : List ℕ) → said (lines ++ line ∷ []) ≡ both (said lines) (says (line_of line))
 unfolding said

@@ -1,6 +1,7 @@
 -- Refusals by their statuses.
 use Rattle.std.proofs.Common.{◌≡◌, ◌⊎◌, ◌<◌, ℕ, List, inl, inr, refl, sym, ap, ◌∙◌, subst, Option, arith}
 use Rattle.worktree_report.specs.declared.refusal.WalkWord.{WalkWord}
+use Rattle.worktree_report.specs.declared.refusal.Misread.{Misread}
 use Rattle.worktree_report.specs.declared.refusal.Refusal.{Refusal}
 use Rattle.worktree_report.specs.declared.refusal.Refusal.TheVariants as refusals
 use Rattle.worktree_report.specs.Refusals.{status_of, line_of, Says, IsStatus}
@@ -18,6 +19,7 @@ is_memory refusals.Interrupted e = absurd (omega arith)
 is_memory refusals.Usage e = absurd (omega arith)
 is_memory (refusals.Setup line) e = absurd (omega arith)
 is_memory (refusals.Walk word path) e = absurd (omega arith)
+is_memory (refusals.Misread which) e = absurd (omega arith)
 is_memory refusals.Fault e = absurd (omega arith)
 is_memory refusals.Output e = absurd (omega arith)
 is_memory refusals.OutOfMemory e = refl
@@ -34,6 +36,7 @@ three refusals.Interrupted e = absurd (omega arith)
 three refusals.Usage e = absurd (omega arith)
 three (refusals.Setup line) e = (line, refl)
 three (refusals.Walk word path) e = absurd (omega arith)
+three (refusals.Misread which) e = absurd (omega arith)
 three refusals.Fault e = absurd (omega arith)
 three refusals.Output e = absurd (omega arith)
 three refusals.OutOfMemory e = absurd (omega arith)
@@ -52,12 +55,27 @@ four refusals.Interrupted e = absurd (omega arith)
 four refusals.Usage e = absurd (omega arith)
 four (refusals.Setup line) e = absurd (omega arith)
 four (refusals.Walk word path) e = record { word = word; path = path; is = refl }
+four (refusals.Misread which) e = absurd (omega arith)
 four refusals.Fault e = absurd (omega arith)
 four refusals.Output e = absurd (omega arith)
 four refusals.OutOfMemory e = absurd (omega arith)
 
 pub is_walk : (refusal : Refusal) (n : ℕ) → (n ≡ status_of refusal) ⊎ (n ≡ 8) → n ≡ 4 → IsWalk refusal
 is_walk refusal n status is = four refusal (same_status refusal n 4 status is (omega arith))
+
+five : (refusal : Refusal) → status_of refusal ≡ 5 → (which : Misread) × (refusal ≡ refusals.Misread which)
+five refusals.Interrupted e = absurd (omega arith)
+five refusals.Usage e = absurd (omega arith)
+five (refusals.Setup line) e = absurd (omega arith)
+five (refusals.Walk word path) e = absurd (omega arith)
+five (refusals.Misread which) e = (which, refl)
+five refusals.Fault e = absurd (omega arith)
+five refusals.Output e = absurd (omega arith)
+five refusals.OutOfMemory e = absurd (omega arith)
+
+-- a refusal for what is outside its grammar
+pub is_misread : (refusal : Refusal) (n : ℕ) → (n ≡ status_of refusal) ⊎ (n ≡ 8) → n ≡ 5 → (which : Misread) × (refusal ≡ refusals.Misread which)
+is_misread refusal n status is = five refusal (same_status refusal n 5 status is (omega arith))
 
 -- what a refusal says, where it is known which one it is
 pub said_as : (before after : Option (List ℕ)) (refusals_before refusals_after : ℕ) (refusal which : Refusal) (n : ℕ) → refusal ≡ which → n ≡ status_of which

@@ -1,6 +1,5 @@
 -- What a walk answers, with what a setup asks for.
-use Rattle.std.proofs.Common.{◌≡◌, ℕ, List, Bool, true, Option, None, Result, IfOk, IfErr, refl, sym, ap, ◌∙◌, subst}
-use Rattle.std.specs.Prelude.{is_some}
+use Rattle.std.proofs.Common.{◌≡◌, ℕ, List, Bool, true, Option, Result, IfOk, IfErr, refl, sym, ap, ◌∙◌, subst, Err, inl, arith}
 use Rattle.gitbase_core.specs.declared.find.Find.{Ghosts as FindOf}
 use Rattle.worktree_fs.specs.declared.interrupt.Interrupt.{Ghosts as InterruptOf}
 use Rattle.worktree_fs.specs.declared.worktree.Worktree.{Ghosts as WorktreeOf}
@@ -9,35 +8,39 @@ use Rattle.worktree_stack.specs.Reading.{Sources}
 use Rattle.worktree_stack.specs.Setup.{Made}
 use Rattle.worktree_stack.specs.Stacked.{Stacked}
 use Rattle.dir_classify.specs.declared.error.Error.{Error}
+use Rattle.dir_classify.specs.declared.error.Error.TheVariants.{OutOfMemory}
 use Rattle.dir_classify.specs.Chosen.{Chosen}
-use Rattle.dir_classify.specs.Excludes.{made_with, pushed_in, InStepIf, TellsIf}
+use Rattle.dir_classify.specs.Excludes.{made_with, InStepIf, TellsIf}
 use Rattle.dir_classify.specs.Layers.{Setting}
 use Rattle.dir_walk.specs.declared.outcome.Outcome.{Outcome}
 use Rattle.dir_walk.specs.declared.report.Report.{Report}
+use Rattle.dir_walk.specs.declared.strategy.Strategy.{Strategy}
+use Rattle.dir_walk.specs.declared.strategy.Strategy.TheVariants.{AtOnce, Held}
+use Rattle.dir_walk.specs.Opens.{IsListed}
 use Rattle.dir_walk.specs.Reports.{IsReport}
 use Rattle.dir_walk.specs.WalkRefused.{WalkAbout, WalkRefuses}
+use Rattle.dir_walk.specs.Walkable.{IsValid}
 use Rattle.dir_walk.specs.Walks.{Tells, WalksWorktree}
-use Rattle.dir_walk.specs.Report.{report}
 use Rattle.worktree_report.specs.declared.setup.Setup.{Setup}
 use Rattle.worktree_report.specs.Asked.{asked_of, chosen_of, current_dir_or, git_dir_or, setting_with}
 use Rattle.worktree_report.specs.Excluding.{excludes_of}
 use Rattle.worktree_report.specs.Reported.{Reports}
 
 -- what a walk is given is what the setup asks for
-pub asked_is : (root : List ℕ) (setup : Setup) (options : Chosen) (has_lookup : Bool) (git_dir current_dir : List ℕ)
-    → options ≡ chosen_of setup → has_lookup ≡ setup.options.ignore_case → git_dir ≡ git_dir_or root setup.git_dir → current_dir ≡ current_dir_or root setup.current_dir
-    → setting_with setup.specs root options setup.index has_lookup git_dir current_dir ≡ asked_of root setup
-asked_is root setup options has_lookup git_dir current_dir options_are lookup_is git_dir_is current_dir_is =
+pub asked_is : (composes : Bool) (root : List ℕ) (setup : Setup) (options : Chosen) (has_lookup : Bool) (git_dir current_dir : List ℕ)
+    → options ≡ chosen_of composes setup → has_lookup ≡ setup.options.ignore_case → git_dir ≡ git_dir_or root setup.git_dir → current_dir ≡ current_dir_or root setup.current_dir
+    → setting_with setup.specs root options setup.index has_lookup git_dir current_dir ≡ asked_of composes root setup
+asked_is composes root setup options has_lookup git_dir current_dir options_are lookup_is git_dir_is current_dir_is =
     ap (λ (x : Chosen). setting_with setup.specs root x setup.index has_lookup git_dir current_dir) options_are
-    ∙ ap (λ (x : Bool). setting_with setup.specs root (chosen_of setup) setup.index x git_dir current_dir) lookup_is
-    ∙ ap (λ (x : List ℕ). setting_with setup.specs root (chosen_of setup) setup.index setup.options.ignore_case x current_dir) git_dir_is
-    ∙ ap (λ (x : List ℕ). setting_with setup.specs root (chosen_of setup) setup.index setup.options.ignore_case (git_dir_or root setup.git_dir) x) current_dir_is
+    ∙ ap (λ (x : Bool). setting_with setup.specs root (chosen_of composes setup) setup.index x git_dir current_dir) lookup_is
+    ∙ ap (λ (x : List ℕ). setting_with setup.specs root (chosen_of composes setup) setup.index setup.options.ignore_case x current_dir) git_dir_is
+    ∙ ap (λ (x : List ℕ). setting_with setup.specs root (chosen_of composes setup) setup.index setup.options.ignore_case (git_dir_or root setup.git_dir) x) current_dir_is
 
 -- and so a walk of what it is given is one of what the setup asks for
-pub walks-asked : {W F I T : Type 0} {w : WorktreeOf W} {f : FindOf F} {i : InterruptOf I} {w0 w1 : W} {o0 o1 : F} {i0 i1 : I} {old new : Option Stacked} {explicit : Option (List ℕ)} {limit : ℕ} {default : Bool} {outcome_of : T → Outcome} {result : Result T Error} {x y : Setting}
-    → x ≡ y → WalksWorktree w f i w0 w1 o0 o1 i0 i1 old new x explicit limit default outcome_of result → WalksWorktree w f i w0 w1 o0 o1 i0 i1 old new y explicit limit default outcome_of result
-walks-asked {w = w} {f = f} {i = i} {w0 = w0} {w1 = w1} {o0 = o0} {o1 = o1} {i0 = i0} {i1 = i1} {old = old} {new = new} {explicit = explicit} {limit = limit} {default = default} {outcome_of = outcome_of} {result = result} e h =
-    subst (λ (x : Setting). WalksWorktree w f i w0 w1 o0 o1 i0 i1 old new x explicit limit default outcome_of result) e h
+pub walks-asked : {W F I T : Type 0} {w : WorktreeOf W} {f : FindOf F} {i : InterruptOf I} {w0 w1 : W} {o0 o1 : F} {i0 i1 : I} {old new : Option Stacked} {strategy : Strategy} {explicit : Option (List ℕ)} {limit : ℕ} {default : Bool} {outcome_of : T → Outcome} {path_of : T → List ℕ} {result : Result T Error} {x y : Setting}
+    → x ≡ y → WalksWorktree w f i w0 w1 o0 o1 i0 i1 old new strategy x explicit limit default outcome_of path_of result → WalksWorktree w f i w0 w1 o0 o1 i0 i1 old new strategy y explicit limit default outcome_of path_of result
+walks-asked {w = w} {f = f} {i = i} {w0 = w0} {w1 = w1} {o0 = o0} {o1 = o1} {i0 = i0} {i1 = i1} {old = old} {new = new} {strategy = strategy} {explicit = explicit} {limit = limit} {default = default} {outcome_of = outcome_of} {path_of = path_of} {result = result} e h =
+    subst (λ (x : Setting). WalksWorktree w f i w0 w1 o0 o1 i0 i1 old new strategy x explicit limit default outcome_of path_of result) e h
 
 -- what is told is told of the rules of the setup
 tells_of : {W F : Type 0} {w : WorktreeOf W} {f : FindOf F} {w0 : W} {o0 : F} {old : Option Stacked} {m : Option Made} → made_with old ≡ m → ((s : Sources) → InStepIf s old)
@@ -46,30 +49,54 @@ tells_of {w = w} {f = f} {w0 = w0} {o0 = o0} made step s told = record { tells =
 
 -- a walk by the rules of the setup, which are in step with anything as nothing is pushed, makes its report
 pub Reports-walked : {W F I : Type 0} {w : WorktreeOf W} {f : FindOf F} {i : InterruptOf I} {w0 w1 : W} {o0 o1 : F} {i0 i1 : I} {old new : Option Stacked} {root : List ℕ} {setup : Setup} {result : Result Report Error}
-    → made_with old ≡ excludes_of root setup → ((s : Sources) → InStepIf s old) → pushed_in old ≡ None
-    → ((s : Sources) → Tells w f w0 o0 old s → NotIncreased (w.faults w0) (w.faults w1) → IfOk result (IsReport (asked_of root setup) (made_with old) s setup.root setup.depth))
-    → WalksWorktree w f i w0 w1 o0 o1 i0 i1 old new (asked_of root setup) setup.root setup.depth true (λ (r : Report). r.outcome) result
+    → made_with old ≡ excludes_of root setup → ((s : Sources) → InStepIf s old)
+    → ((s : Sources) → Tells w f w0 o0 old s → NotIncreased (w.faults w0) (w.faults w1) → IfOk result (IsReport (asked_of (w.precomposes w0) root setup) (made_with old) s setup.root setup.depth))
+    → WalksWorktree w f i w0 w1 o0 o1 i0 i1 old new setup.options.strategy (asked_of (w.precomposes w0) root setup) setup.root setup.depth true (λ (r : Report). r.outcome) (λ (r : Report). r.root) result
     → Reports w f i w0 w1 o0 o1 i0 i1 root setup result
-Reports-walked {w = w} {f = f} {root = root} {setup = setup} {result = result} made step unpushed gives walks =
+Reports-walked {w = w} {f = f} {w0 = w0} {root = root} {setup = setup} {result = result} made step gives walks =
     record {
-      gives = λ s told quiet. subst (λ m. IfOk result (IsReport (asked_of root setup) m s setup.root setup.depth)) made (gives s (tells_of {w = w} {f = f} made step s told) quiet);
-      about = subst (λ m. IfErr result (WalkAbout (asked_of root setup) m setup.root setup.depth)) made walks.about;
+      gives = λ s told quiet. subst (λ m. IfOk result (IsReport (asked_of (w.precomposes w0) root setup) m s setup.root setup.depth)) made (gives s (tells_of {w = w} {f = f} made step s told) quiet);
+      about = subst (λ m. IfErr result (WalkAbout (asked_of (w.precomposes w0) root setup) m setup.root setup.depth)) made walks.about;
       cause = walks.cause;
       interrupted = walks.interrupted;
-      refused = λ s told quiet stored. subst (λ m. IfErr result (WalkRefuses (asked_of root setup) m s setup.root setup.depth)) made (walks.refused s (tells_of {w = w} {f = f} made step s told) refl quiet stored);
-      complete = λ s told quiet stored calm defined.
-          walks.complete s (tells_of {w = w} {f = f} made step s told) refl quiet stored calm (ap (λ m. is_some (report (asked_of root setup) m s setup.root setup.depth)) made ∙ defined);
+      refused = λ s told quiet stored. subst (λ m. IfErr result (WalkRefuses (asked_of (w.precomposes w0) root setup) m s setup.root setup.depth)) made (walks.refused s (tells_of {w = w} {f = f} made step s told) refl quiet stored);
+      complete = λ s told quiet stored calm valid.
+          walks.complete s (tells_of {w = w} {f = f} made step s told) refl quiet stored calm (subst (λ m. IsValid (asked_of (w.precomposes w0) root setup) m s setup.root setup.depth) (sym made) valid);
       worktree = walks.worktree;
       store = walks.store;
       interrupt = walks.interrupt;
       listed = walks.listed;
       calm = walks.calm;
+      opens = walks.opens;
+    }
+
+-- where nothing is listed, no directory is opened
+pub unlisted_so : (strategy : Strategy) (before now : ℕ) → now ≡ before → IsListed strategy before now 0
+unlisted_so Held before now same = λ few. omega (arith, few, same)
+unlisted_so AtOnce before now same = omega (arith, same)
+
+-- memory may be wanted before anything is asked
+pub Reports-memory : {W F I : Type 0} (w : WorktreeOf W) (f : FindOf F) (i : InterruptOf I) (w0 : W) (o0 : F) (i0 : I) (root : List ℕ) (setup : Setup)
+    → Reports w f i w0 w0 o0 o0 i0 i0 root setup (Err OutOfMemory)
+Reports-memory w f i w0 o0 i0 root setup =
+    record {
+      gives = λ s told quiet. tt;
+      about = inl tt;
+      cause = tt;
+      interrupted = tt;
+      refused = λ s told quiet stored. inl tt;
+      complete = λ s told quiet stored calm valid. refl;
+      worktree = record { tree = refl; faults = omega arith; list_faults = omega arith; lists = omega arith; precomposes = refl };
+      store = record { holds = refl; faults = omega arith };
+      interrupt = record { questions = omega arith; raised = omega arith };
+      listed = tt;
+      calm = tt;
       opens =
           record {
-            opened = walks.opens.opened;
-            listed = walks.opens.listed;
-            asked = walks.opens.asked;
-            counted = walks.opens.counted;
-            reads = λ rules_alone none. walks.opens.reads rules_alone unpushed;
+            opened = 0;
+            listed = unlisted_so setup.options.strategy (w.lists w0) (w.lists w0) refl;
+            asked = omega arith;
+            counted = tt;
+            reads = λ over_itself rules_alone. inl refl;
           };
     }

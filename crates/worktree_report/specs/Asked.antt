@@ -1,34 +1,42 @@
 -- The report of a work tree that a setup asks for.
-use Rattle.std.specs.Prelude.{◌≡◌, ◌≤◌, ◌<◌, ◌-◌, ◌^◌, ℕ, List, Bool, codes, Option, Some, None, option_map, true, false}
-use Rattle.std.specs.FinMap.{empty}
+use Rattle.std.specs.Prelude.{◌≡◌, ◌⊎◌, ◌≤◌, ◌<◌, ◌-◌, ◌^◌, max, ℕ, List, Bool, codes, length, Option, Some, None, option_map, true, false, ◌+◌, Result, Ok, Err, IfOk}
 use Rattle.gitbase_core.specs.declared.entry.IndexEntry.{IndexEntry}
-use Rattle.gitbase_core.specs.Path.{joined}
+use Rattle.gitbase_core.specs.Path.{components, joined}
 use Rattle.glob_rules.specs.PathSpec.{PathSpec}
 use Rattle.glob_rules.specs.PathSpecs.{can_match, list_match, covers, common_directory}
 use Rattle.worktree_fs.specs.Causes.{with_more}
+use Rattle.worktree_fs.specs.Paths.{full_path}
 use Rattle.worktree_fs.specs.Tree.{Names}
 use Rattle.worktree_stack.specs.Reading.{Sources}
 use Rattle.dir_classify.specs.declared.error.Error.{Error}
 use Rattle.dir_classify.specs.Chosen.{Chosen}
 use Rattle.dir_classify.specs.Layers.{Setting}
-use Rattle.dir_walk.specs.declared.report.Report.{Report}
+use Rattle.dir_walk.specs.declared.strategy.Strategy.TheVariants.{Held}
+use Rattle.dir_walk.specs.declared.report.Report.{Report as WalkReport}
 use Rattle.dir_walk.specs.Opens.{reads_rules_alone}
 use Rattle.dir_walk.specs.Report.{report}
 use Rattle.dir_walk.specs.Reports.{IsReport}
 use Rattle.dir_walk.specs.WalkRefused.{WalkAbout, WalkRefuses}
-use Rattle.dir_walk.specs.Walks.{ReadsAtMost}
+use Rattle.dir_walk.specs.Rooting.{IsNormalized}
+use Rattle.dir_walk.specs.Walkable.{IsValid}
+use Rattle.worktree_report.specs.declared.known.Known.{Known}
+use Rattle.worktree_report.specs.declared.report.Report.{Report}
+use Rattle.worktree_report.specs.declared.refusal.Misread.{Misread}
+use Rattle.worktree_report.specs.declared.error.ReportError.{ReportError}
 use Rattle.worktree_report.specs.declared.setup.Setup.{Setup}
 use Rattle.worktree_report.specs.declared.refusal.WalkWord.{WalkWord}
 use Rattle.worktree_report.specs.declared.refusal.Refusal.TheVariants as refusals
 use Rattle.worktree_report.specs.Excluding.{excludes_of}
 use Rattle.worktree_report.specs.Lines.{text_with}
+use Rattle.worktree_report.specs.Loading.{files_if, known_in}
+use Rattle.worktree_report.specs.Submodules.{described}
 use Rattle.worktree_report.specs.Converted.{of_walk}
 
--- the options of a walk; names are not composed
-abbrev pub chosen_of : Setup → Chosen
-chosen_of setup =
+-- the options of a walk over a worktree that composes names or not
+abbrev pub chosen_of : Bool → Setup → Chosen
+chosen_of composes setup =
     record {
-      precompose_unicode = false;
+      precompose_unicode = composes;
       ignore_case = setup.options.ignore_case;
       recurse_repositories = setup.options.recurse_repositories;
       emit_pruned = setup.options.emit_pruned;
@@ -69,64 +77,103 @@ setting_with specs root options index has_lookup git_dir current_dir =
       current_dir = current_dir;
     }
 
--- what the walk of the work tree at `root` is given; there is a folded look-up where letters compare without their case
-abbrev pub asked_of : List ℕ → Setup → Setting
-asked_of root setup =
-    setting_with setup.specs root (chosen_of setup) setup.index setup.options.ignore_case (git_dir_or root setup.git_dir) (current_dir_or root setup.current_dir)
+-- what the walk of the work tree at `root` is given, where the worktree composes names or not; there is a folded look-up
+-- where letters compare without their case
+abbrev pub asked_of : Bool → List ℕ → Setup → Setting
+asked_of composes root setup =
+    setting_with setup.specs root (chosen_of composes setup) setup.index setup.options.ignore_case (git_dir_or root setup.git_dir) (current_dir_or root setup.current_dir)
 
--- where rules are read: in a tree; no object is there
-abbrev pub read_in : Names → Sources
-read_in t = record { tree = t; objects = empty }
+-- where rules are read: in a tree, and in the blobs of the setup
+abbrev pub read_in : Names → Setup → Sources
+read_in t setup = record { tree = t; objects = setup.blobs }
 
--- the report of the work tree at `root` over a tree and a store; none where there is no such report
-abbrev pub report_of : Sources → List ℕ → Setup → Option Report
-report_of s root setup = report (asked_of root setup) (excludes_of root setup) s setup.root setup.depth
+-- what a walk of the work tree at `root` gives over a tree and a store; none where there is no such report
+abbrev pub walked_of : Bool → Sources → List ℕ → Setup → Option WalkReport
+walked_of composes s root setup = report (asked_of composes root setup) (excludes_of root setup) s setup.root setup.depth
+
+abbrev pub described_by : Result (Option Known) Misread → Option WalkReport → Option Report
+described_by (Ok known) walked = option_map (described known) walked
+described_by (Err why) walked = None
+
+-- the report: that with the submodules, where they are asked for; none where what tells of them is outside its grammar
+abbrev pub report_of : Bool → Sources → List ℕ → Setup → Option Report
+report_of composes s root setup = described_by (known_in s.tree root setup) (walked_of composes s root setup)
+
+-- What tells of submodules is in its grammar, where it is asked for; and there is such a walk, or all is as a walk needs it, item by
+-- item.
+pub record IsValidAt (composes : Bool) (s : Sources) (root : List ℕ) (setup : Setup) : Type 0 where
+  pub known : Option Known
+  pub known_is : known_in s.tree root setup ≡ Ok known
+  pub walkable : IsValid (asked_of composes root setup) (excludes_of root setup) s setup.root setup.depth
 
 -- its text
-abbrev pub text_of : Names → List ℕ → Setup → Option (List ℕ)
-text_of t root setup = option_map (text_with setup.options) (report_of (read_in t) root setup)
+abbrev pub text_of : Bool → Names → List ℕ → Setup → Option (List ℕ)
+text_of composes t root setup = option_map (text_with setup.options) (report_of composes (read_in t setup) root setup)
 
--- This is that report, and safe to act on: its entries ascend strictly by path, so that none stands twice; beneath no path of one
+-- This is what the walk gives, and safe to act on: its entries ascend strictly by path, so that none stands twice; beneath no path of one
 -- lies a leaf that the walk met and that is tracked or a repository, unless it is pruned; and it covers what the same walk
 -- without folding shows.
-abbrev pub IsReportOf : Sources → List ℕ → Setup → Report → Type 0
-IsReportOf s root setup r = IsReport (asked_of root setup) (excludes_of root setup) s setup.root setup.depth r
+abbrev pub IsWalkOf : Bool → Sources → List ℕ → Setup → WalkReport → Type 0
+IsWalkOf composes s root setup walked = IsReport (asked_of composes root setup) (excludes_of root setup) s setup.root setup.depth walked
+
+-- this is the report: such a walk, with the submodules
+pub record IsReportOf (composes : Bool) (s : Sources) (root : List ℕ) (setup : Setup) (r : Report) : Type 0 where
+  pub walked : WalkReport
+  pub known : Option Known
+  pub walk_is : IsWalkOf composes s root setup walked
+  pub known_is : known_in s.tree root setup ≡ Ok known
+  pub same : r ≡ described known walked
 
 -- the report over a tree is safe to act on
-pub record IsSafeAt (t : Names) (root : List ℕ) (setup : Setup) : Type 0 where
+pub record IsSafeAt (composes : Bool) (t : Names) (root : List ℕ) (setup : Setup) : Type 0 where
   pub made : Report
-  pub is : IsReportOf (read_in t) root setup made
+  pub is : IsReportOf composes (read_in t setup) root setup made
+
+-- The worktree is not read any more, or no more often than a walk reads it from its traversal root on, which the report names, if
+-- there is one; `opened` directories were opened, and a refusal may come with `spare` more.
+abbrev pub ReadsFrom : {E : Type 0} → Bool → List ℕ → Setup → Result Report E → ℕ → ℕ → ℕ → ℕ → Type 0
+ReadsFrom composes root setup result before now opened spare =
+    (now ≡ before)
+    ⊎ ((start : List ℕ) × IsNormalized (asked_of composes root setup) setup.root start × IfOk result (λ r. r.root ≡ full_path root start)
+    × (now ≤ before + max (opened + length (components start)) 1 + spare))
+
+-- The worktree is read no more often than a walk reads it, and once for each file that tells of submodules before.
+pub record ReadsWithin {E : Type 0} (composes : Bool) (root : List ℕ) (setup : Setup) (result : Result Report E) (before now opened spare : ℕ) : Type 0 where
+  pub between : ℕ
+  pub loaded : between ≤ before + files_if setup
+  pub walked : ReadsFrom composes root setup result between now opened spare
 
 -- Of the report over a tree: the interrupt was asked at least as often as directories are counted, or stands at its last value;
--- and where files are read for their rules alone, the worktree was read at most once for each of these and once for each
--- component of the traversal root, or once where there is neither. The count is to be below its last value.
-pub record WorksAt (t : Names) (root : List ℕ) (setup : Setup) (questions0 questions1 reads0 reads1 : ℕ) : Type 0 where
+-- and where files are read for their rules alone, and all over the worktree itself, it was read at most once for each of these and
+-- once for each component of the traversal root, or once where there is neither, besides what tells of submodules. The count is to
+-- be below its last value.
+pub record WorksAt (composes : Bool) (t : Names) (root : List ℕ) (setup : Setup) (questions0 questions1 reads0 reads1 : ℕ) : Type 0 where
   pub made : Report
-  pub is : report_of (read_in t) root setup ≡ Some made
+  pub is : report_of composes (read_in t setup) root setup ≡ Some made
   pub asked : with_more questions0 made.outcome.read_dir_calls ≤ questions1
-  pub reads : reads_rules_alone (chosen_of setup) ≡ true → made.outcome.read_dir_calls < 2 ^ 32 - 1
-      → ReadsAtMost (asked_of root setup) setup.root reads0 reads1 made.outcome.read_dir_calls 0
+  pub reads : setup.options.strategy ≡ Held → reads_rules_alone (chosen_of composes setup) ≡ true → made.outcome.read_dir_calls < 2 ^ 32 - 1
+      → ReadsWithin {E = ReportError} composes root setup (Ok made) reads0 reads1 made.outcome.read_dir_calls 0
 
 -- ---- refusals
 
 -- what the refusal of a walk says of the tree and the rules
-abbrev pub Refuses : Sources → List ℕ → Setup → Error → Type 0
-Refuses s root setup error = WalkRefuses (asked_of root setup) (excludes_of root setup) s setup.root setup.depth error
+abbrev pub Refuses : Bool → Sources → List ℕ → Setup → Error → Type 0
+Refuses composes s root setup error = WalkRefuses (asked_of composes root setup) (excludes_of root setup) s setup.root setup.depth error
 
 -- and of what was handed in
-abbrev pub About : List ℕ → Setup → Error → Type 0
-About root setup error = WalkAbout (asked_of root setup) (excludes_of root setup) setup.root setup.depth error
+abbrev pub About : Bool → List ℕ → Setup → Error → Type 0
+About composes root setup error = WalkAbout (asked_of composes root setup) (excludes_of root setup) setup.root setup.depth error
 
 -- The walk of the work tree at `root` is refused with a word and a path: the error that they stand for is about what was handed
 -- in, and has its cause in the tree.
-pub record RefusesWalkAt (t : Names) (root : List ℕ) (setup : Setup) (word : WalkWord) (path : List ℕ) : Type 0 where
+pub record RefusesWalkAt (composes : Bool) (t : Names) (root : List ℕ) (setup : Setup) (word : WalkWord) (path : List ℕ) : Type 0 where
   pub error : Error
   pub is : of_walk error ≡ refusals.Walk word path
-  pub about : About root setup error
-  pub cause : Refuses (read_in t) root setup error
+  pub about : About composes root setup error
+  pub cause : Refuses composes (read_in t setup) root setup error
 
 -- the word and the path of a refused walk are about the root, the rules and the limit that were handed in, told tree or not
-pub record IsAboutWalkAt (root : List ℕ) (setup : Setup) (word : WalkWord) (path : List ℕ) : Type 0 where
+pub record IsAboutWalkAt (composes : Bool) (root : List ℕ) (setup : Setup) (word : WalkWord) (path : List ℕ) : Type 0 where
   pub error : Error
   pub is : of_walk error ≡ refusals.Walk word path
-  pub about : About root setup error
+  pub about : About composes root setup error

@@ -1,16 +1,21 @@
 -- The refusal of the program that stands for one of a part of it.
 use Rattle.std.specs.Prelude.{ℕ, List, [], length, drop}
 use Rattle.gitbase_core.specs.Path.{components}
+use Rattle.hex.specs.Hex.{encode_lower}
 use Rattle.worktree_fs.specs.declared.answers.ReadError.{ReadError}
 use Rattle.worktree_fs.specs.declared.answers.ReadError.TheVariants as read
 use Rattle.worktree_stack.specs.declared.error.AtPathError.{AtPathError}
 use Rattle.worktree_stack.specs.declared.error.AtPathError.TheVariants as inner
+use Rattle.worktree_stack.specs.declared.error.BlobWhy.TheVariants as blobs
 use Rattle.worktree_stack.specs.declared.error.RulesWhy.TheVariants as rules
 use Rattle.dir_classify.specs.declared.error.Error.{Error}
 use Rattle.dir_classify.specs.declared.error.Error.TheVariants as walk
 use Rattle.dir_classify.specs.declared.error.MetadataWhy.TheVariants as metadata
 use Rattle.dir_classify.specs.declared.error.ReadWhy.TheVariants as why
 use Rattle.worktree_report.specs.Below.{through}
+use Rattle.worktree_report.specs.declared.error.ReportError.{ReportError}
+use Rattle.worktree_report.specs.declared.error.ReportError.TheVariants as errors
+use Rattle.worktree_report.specs.declared.refusal.Misread.TheVariants as misread
 use Rattle.worktree_report.specs.declared.setup.SetupError.{SetupError}
 use Rattle.worktree_report.specs.declared.setup.SetupError.TheVariants as setup
 use Rattle.worktree_report.specs.declared.refusal.Refusal.{Refusal}
@@ -25,7 +30,8 @@ abbrev pub of_setup : SetupError → Refusal
 of_setup (setup.Line line) = refusals.Setup line
 of_setup setup.OutOfMemory = refusals.OutOfMemory
 
--- The rules were not asked. Only what a rules file is and a fault come in a walk.
+-- The rules were not asked. Only what a rules file or its blob is and a fault come in a walk; in the place of the path of a blob stands
+-- its id.
 abbrev pub of_lookup : AtPathError → Refusal
 of_lookup inner.NotNormal = refusals.Walk words.Lookup []
 of_lookup (inner.Component why) = refusals.Walk words.Lookup []
@@ -35,7 +41,9 @@ of_lookup (inner.RulesFile path rules.Link) = refusals.Walk words.RulesFile path
 of_lookup (inner.RulesFile path rules.LinkLimit) = refusals.Walk words.RulesFile path
 of_lookup (inner.RulesFile path rules.Special) = refusals.Walk words.RulesFile path
 of_lookup (inner.RulesFile path rules.Fault) = refusals.Fault
-of_lookup (inner.Blob id why) = refusals.Walk words.Lookup []
+of_lookup (inner.Blob id blobs.Missing) = refusals.Walk words.Blob (encode_lower id)
+of_lookup (inner.Blob id blobs.NotABlob) = refusals.Walk words.Blob (encode_lower id)
+of_lookup (inner.Blob id blobs.Fault) = refusals.Fault
 of_lookup inner.OutOfMemory = refusals.OutOfMemory
 
 -- the whole path of the component with a number, from 0, of a traversal root, by the whole path of that and the worktree root
@@ -58,21 +66,32 @@ of_walk (walk.DirEntry path) = refusals.Fault
 of_walk (walk.TooDeep path) = refusals.Walk words.TooDeep path
 of_walk walk.OutOfMemory = refusals.OutOfMemory
 
+-- why there is no report
+abbrev pub of_report : ReportError → Refusal
+of_report (errors.Config at line) = refusals.Misread (misread.Config at line)
+of_report (errors.Modules line) = refusals.Misread (misread.Modules line)
+of_report (errors.ActiveSpec at) = refusals.Misread (misread.ActiveSpec at)
+of_report errors.ReadFault = refusals.Fault
+of_report (errors.Walk e) = of_walk e
+of_report errors.OutOfMemory = refusals.OutOfMemory
+
 -- a refusal that reading a setup may answer
 abbrev pub IsOfReading : Refusal → Type 0
 IsOfReading refusals.Interrupted = ⊥
 IsOfReading refusals.Usage = ⊥
 IsOfReading (refusals.Setup line) = Unit {0}
+IsOfReading (refusals.Misread which) = ⊥
 IsOfReading (refusals.Walk word path) = ⊥
 IsOfReading refusals.Fault = Unit {0}
 IsOfReading refusals.Output = ⊥
 IsOfReading refusals.OutOfMemory = Unit {0}
 
--- a refusal that a walk may answer
+-- a refusal that making a report may answer
 abbrev pub IsOfWalking : Refusal → Type 0
 IsOfWalking refusals.Interrupted = Unit {0}
 IsOfWalking refusals.Usage = ⊥
 IsOfWalking (refusals.Setup line) = ⊥
+IsOfWalking (refusals.Misread which) = Unit {0}
 IsOfWalking (refusals.Walk word path) = Unit {0}
 IsOfWalking refusals.Fault = Unit {0}
 IsOfWalking refusals.Output = ⊥

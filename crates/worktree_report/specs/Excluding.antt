@@ -1,9 +1,7 @@
 -- The ignore rules that a setup asks for.
 use Rattle.std.specs.Prelude.{ℕ, List, [], ◌∷◌, Bool, Option, Some, None, codes, if◌then◌else◌}
 use Rattle.glob_rules.specs.Ignore.{Rules, entries}
-use Rattle.glob_rules.specs.declared.Case.{Case}
-use Rattle.glob_rules.specs.declared.Case.TheVariants.{Sensitive, Fold}
-use Rattle.worktree_stack.specs.declared.ignore_source.Source.TheVariants.{WorktreeThenIdMappingIfNotSkipped}
+use Rattle.worktree_stack.specs.Mappings.{case_of, mappings_in}
 use Rattle.worktree_stack.specs.Setup.{Setup as Rulings, Made}
 use Rattle.worktree_report.specs.declared.setup.Setup.{Setup}
 
@@ -12,25 +10,27 @@ abbrev pub rules_in : Bool → List ℕ → Rules
 rules_in precious text = record { entries = entries precious text; source = None; base = [] }
 
 -- the override lines as one list above those of directories, the global lines as one below them; each directory has the
--- rules of its `.gitignore`, read from the worktree; with strict parents no rule lifts that of a directory above
+-- rules of its `.gitignore`, read where the options say; with strict parents no rule lifts that of a directory above
 abbrev pub rules_given : Setup → Rulings
 rules_given setup =
     record {
       overrides = rules_in setup.options.precious setup.overrides ∷ [];
       globals = rules_in setup.options.precious setup.globals ∷ [];
       file_name = codes ".gitignore";
-      source = WorktreeThenIdMappingIfNotSkipped;
+      source = setup.options.ignore_source;
       precious = setup.options.precious;
       strict = setup.options.strict_parents;
     }
 
--- how letters compare
-abbrev pub case_of : Setup → Case
-case_of setup = if setup.options.ignore_case then Fold else Sensitive
-
--- what the rules of the work tree at `root` are made with; no rules file is mapped to a blob
+-- what the rules of the work tree at `root` are made with; rules files are mapped to the blobs that the index has for them
 abbrev pub rules_of : List ℕ → Setup → Made
-rules_of root setup = record { root = root; case = case_of setup; mappings = []; ignore = Some (rules_given setup) }
+rules_of root setup =
+    record {
+      root = root;
+      case = case_of setup.options.ignore_case;
+      mappings = mappings_in (case_of setup.options.ignore_case) (Some (rules_given setup)) setup.index;
+      ignore = Some (rules_given setup);
+    }
 
 -- they are asked where the options say so
 abbrev pub excludes_of : List ℕ → Setup → Option Made

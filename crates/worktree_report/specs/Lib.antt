@@ -1,4 +1,6 @@
 pub mod Words
+pub mod Permissions
+pub mod ConfigFiles
 pub mod Named
 pub mod Escapes
 pub mod Below
@@ -11,6 +13,7 @@ pub mod SetupDepth
 pub mod SetupOptions
 pub mod SetupSaid
 pub mod SetupSpecs
+pub mod SetupFiles
 pub mod SetupKeywords
 pub mod SetupMeant
 pub mod SetupText
@@ -18,9 +21,13 @@ pub mod SetupParsed
 pub mod Refusals
 pub mod Converted
 pub mod SetupAt
+pub mod Loading
+pub mod Loads
+pub mod Submodules
 pub mod Excluding
 pub mod Steps
 pub mod SetupIndex
 pub mod Asked
 pub mod Reported
+pub mod Generate
 pub mod Run

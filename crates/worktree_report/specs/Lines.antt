@@ -6,6 +6,7 @@ use Rattle.glob_rules.specs.declared.ignore.Kind.TheVariants.{Expendable, Precio
 use Rattle.glob_rules.specs.declared.ignore.Origin.{Origin}
 use Rattle.glob_rules.specs.declared.ignore.RuleGroup.{RuleGroup}
 use Rattle.glob_rules.specs.declared.ignore.RuleGroup.TheVariants as groups
+use Rattle.dir_classify.specs.declared.entry.Entry.{Entry}
 use Rattle.dir_classify.specs.declared.entry.Status.{Status}
 use Rattle.dir_classify.specs.declared.entry.Status.TheVariants.{Pruned, Tracked, Ignored, Untracked}
 use Rattle.dir_classify.specs.declared.entry.Kind.{Kind}
@@ -15,8 +16,11 @@ use Rattle.dir_classify.specs.declared.entry.PathspecMatch.TheVariants.{Always, 
 use Rattle.dir_classify.specs.declared.entry.Property.{Property}
 use Rattle.dir_classify.specs.declared.entry.Property.TheVariants.{DotGit, EmptyDirectory, EmptyDirectoryAndCWD, TrackedExcluded}
 use Rattle.dir_walk.specs.declared.outcome.Outcome.{Outcome}
-use Rattle.dir_walk.specs.declared.report.Report.{Report}
-use Rattle.dir_walk.specs.Emissions.{Emission}
+use Rattle.worktree_report.specs.declared.facts.Activity.{Activity}
+use Rattle.worktree_report.specs.declared.facts.Activity.TheVariants.{Active, Inactive, Invalid}
+use Rattle.worktree_report.specs.declared.facts.Facts.{Facts}
+use Rattle.worktree_report.specs.declared.report.Report.{Report}
+use Rattle.worktree_report.specs.declared.report.ReportEntry.{ReportEntry}
 use Rattle.worktree_report.specs.declared.setup.SetupOptions.{SetupOptions}
 use Rattle.worktree_report.specs.Below.{below}
 use Rattle.worktree_report.specs.Escapes.{escaped, escaped_in_word}
@@ -58,6 +62,20 @@ abbrev pub collapsed_word : Option Status → List ℕ
 collapsed_word None = codes "-"
 collapsed_word (Some status) = status_word status
 
+-- the submodule at a path: whether it is active, a colon, and its name
+abbrev pub activity_word : Activity → List ℕ
+activity_word Active = codes "active:"
+activity_word Inactive = codes "inactive:"
+activity_word (Invalid input) = codes "invalid:"
+
+abbrev pub facts_word : Option Facts → List ℕ
+facts_word None = codes "-"
+facts_word (Some facts) = activity_word facts.active ++ escaped_in_word facts.name
+
+-- a space and that word, where it is asked for
+abbrev pub facts_if : Bool → Option Facts → List ℕ
+facts_if submodules facts = if submodules then 32 ∷ facts_word facts else []
+
 -- the rules file of the directory above a path that has so many components
 abbrev pub rules_file : List ℕ → ℕ → List ℕ
 rules_file path depth = joined (below [] depth (components path)) (codes ".gitignore")
@@ -82,17 +100,22 @@ origin_if origins path origin = if origins then 32 ∷ origin_word path origin e
 abbrev pub spaced : List ℕ → List ℕ
 spaced word = word ++ 32 ∷ []
 
+-- the class of an entry, and the status of the directory that it was folded into, with a space between each two words
+abbrev pub class_words : Entry → Option Status → List ℕ
+class_words entry collapsed =
+    spaced (status_word entry.status) ++ spaced (kind_word entry.disk_kind) ++ spaced (kind_word entry.index_kind)
+    ++ spaced (match_word entry.pathspec_match) ++ spaced (property_word entry.property) ++ collapsed_word collapsed
+
 -- The words of an entry, a tab, the escaped path and a line feed. The words are the status, the kind on disk, the
 -- kind in the index, the match of the path specs, the property, the status of the directory that the entry was
--- folded into, and, where that is asked for, the rule that decided.
-unfoldable pub line_of : Bool → Emission → List ℕ
-line_of origins emission =
-    spaced (status_word emission.0.status) ++ spaced (kind_word emission.0.disk_kind) ++ spaced (kind_word emission.0.index_kind)
-    ++ spaced (match_word emission.0.pathspec_match) ++ spaced (property_word emission.0.property) ++ collapsed_word emission.1
-    ++ origin_if origins emission.0.rela_path emission.0.origin ++ 9 ∷ [] ++ escaped emission.0.rela_path ++ 10 ∷ []
+-- folded into, and, where they are asked for, the submodule at the path and the rule that decided.
+unfoldable pub line_of : SetupOptions → ReportEntry → List ℕ
+line_of options e =
+    class_words e.entry e.collapsed ++ facts_if options.submodules e.facts ++ origin_if options.origins e.entry.rela_path e.entry.origin
+    ++ 9 ∷ [] ++ escaped e.entry.rela_path ++ 10 ∷ []
 
-abbrev pub lines_of : Bool → List Emission → List ℕ
-lines_of origins emissions = flat_map (line_of origins) emissions
+abbrev pub lines_of : SetupOptions → List ReportEntry → List ℕ
+lines_of options entries = flat_map (line_of options) entries
 
 -- the last line, which says how many directories were read, how many entries are reported, and how many were met
 abbrev pub outcome_line : Outcome → List ℕ
@@ -101,4 +124,4 @@ outcome_line o =
 
 -- the text of a report, with the last line or without, as the options ask for it
 abbrev pub text_with : SetupOptions → Report → List ℕ
-text_with options r = lines_of options.origins r.entries ++ (if options.print_outcome then outcome_line r.outcome else [])
+text_with options r = lines_of options r.entries ++ (if options.print_outcome then outcome_line r.outcome else [])

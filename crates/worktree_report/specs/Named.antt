@@ -1,6 +1,8 @@
--- The paths that a command holds.
+-- What a command holds.
 use Rattle.worktree_report.specs.declared.words.Command as code
-use Rattle.worktree_report.specs.Words.{Command}
+use Rattle.worktree_report.specs.declared.words.Command.TheVariants as commands
+use Rattle.worktree_report.specs.Words.{Command, report, generate}
 
-abbrev pub paths_of : code.Command → Command
-paths_of c = record { root = c.root.now; setup = c.setup.now }
+abbrev pub asked_by : code.Command → Command
+asked_by (commands.Report root setup) = report root.now setup.now
+asked_by (commands.Generate count) = generate count

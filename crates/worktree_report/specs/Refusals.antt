@@ -3,6 +3,8 @@ use Rattle.std.specs.Prelude.{◌≡◌, ◌⊎◌, ℕ, List, [], ◌∷◌, �
 use Rattle.worktree_fs.specs.Causes.{NotIncreased}
 use Rattle.worktree_report.specs.declared.refusal.WalkWord.{WalkWord}
 use Rattle.worktree_report.specs.declared.refusal.WalkWord.TheVariants as words
+use Rattle.worktree_report.specs.declared.refusal.Misread.{Misread}
+use Rattle.worktree_report.specs.declared.refusal.Misread.TheVariants as misread
 use Rattle.worktree_report.specs.declared.refusal.Refusal.{Refusal}
 use Rattle.worktree_report.specs.declared.refusal.Refusal.TheVariants as refusals
 use Rattle.worktree_report.specs.Escapes.{escaped}
@@ -14,6 +16,7 @@ status_of refusals.Interrupted = 1
 status_of refusals.Usage = 2
 status_of (refusals.Setup line) = 3
 status_of (refusals.Walk word path) = 4
+status_of (refusals.Misread which) = 5
 status_of refusals.Fault = 6
 status_of refusals.Output = 7
 status_of refusals.OutOfMemory = 8
@@ -26,14 +29,22 @@ word_of words.MissingRoot = codes "missing-root"
 word_of words.AbsentDirectory = codes "absent-directory"
 word_of words.NotADirectory = codes "not-a-directory"
 word_of words.RulesFile = codes "rules-file"
+word_of words.Blob = codes "blob"
 word_of words.Lookup = codes "lookup"
 word_of words.TooDeep = codes "too-deep"
+
+-- what is outside its grammar, and where
+abbrev pub misread_line : Misread → List ℕ
+misread_line (misread.Config at line) = codes "config " ++ decimal at ++ codes ": line " ++ decimal line ++ 10 ∷ []
+misread_line (misread.Modules line) = codes "modules: line " ++ decimal line ++ 10 ∷ []
+misread_line (misread.ActiveSpec at) = codes "active: value " ++ decimal at ++ 10 ∷ []
 
 -- the line on standard error, its line feed included
 abbrev pub line_of : Refusal → List ℕ
 line_of refusals.Interrupted = codes "interrupted\n"
 line_of refusals.Usage = codes "usage: report ROOT SETUP or generate N\n"
 line_of (refusals.Setup line) = codes "setup: line " ++ decimal line ++ 10 ∷ []
+line_of (refusals.Misread which) = misread_line which
 line_of (refusals.Walk word path) = codes "walk: " ++ word_of word ++ 32 ∷ [] ++ escaped path ++ 10 ∷ []
 line_of refusals.Fault = codes "worktree fault\n"
 line_of refusals.Output = codes "output fault\n"
@@ -46,6 +57,7 @@ Says before after refusals_before refusals_after line = NotIncreased refusals_be
 -- whether the line of a refusal has to be made, which takes memory
 abbrev pub is_made : Refusal → Bool
 is_made (refusals.Setup line) = true
+is_made (refusals.Misread which) = true
 is_made (refusals.Walk word path) = true
 is_made refusals.Interrupted = false
 is_made refusals.Usage = false

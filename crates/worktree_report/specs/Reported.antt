@@ -1,68 +1,154 @@
 -- What making a report says: of the report or the refusal, and of what stays.
-use Rattle.std.specs.Prelude.{◌≡◌, ℕ, List, true, Some, None, Result, IfOk, IfErr, OnOk, IsErrOf, is_some}
+use Rattle.std.specs.Prelude.{◌≡◌, ◌≤◌, ◌-◌, ◌+◌, ◌^◌, min, ℕ, List, true, Bool, Option, Some, Result, Ok, Err, IfOk, IfErr, OnOk, IsErrOf}
 use Rattle.gitbase_core.specs.declared.find.Find.{Ghosts as FindOf}
 use Rattle.worktree_fs.specs.declared.interrupt.Interrupt.{Ghosts as InterruptOf}
 use Rattle.worktree_fs.specs.declared.worktree.Worktree.{Ghosts as WorktreeOf}
-use Rattle.worktree_fs.specs.Causes.{NotIncreased, Increased}
+use Rattle.worktree_fs.specs.Causes.{NotIncreased, Increased, with_more}
 use Rattle.worktree_fs.specs.Kept.{AsksStore}
 use Rattle.worktree_fs.specs.Tree.{Names}
+use Rattle.worktree_stack.specs.Lookups.{refused_one}
 use Rattle.worktree_stack.specs.Reading.{Sources}
 use Rattle.dir_classify.specs.declared.error.Error.{Error}
 use Rattle.dir_classify.specs.declared.error.Error.TheVariants.{OutOfMemory}
 use Rattle.dir_classify.specs.Excludes.{TellsIf}
 use Rattle.dir_classify.specs.Refused.{OnFault}
-use Rattle.dir_walk.specs.declared.report.Report.{Report}
+use Rattle.dir_walk.specs.declared.report.Report.{Report as WalkReport}
+use Rattle.dir_walk.specs.declared.strategy.Strategy.TheVariants.{Held, AtOnce}
 use Rattle.dir_walk.specs.Kept.{AsksInterrupt, KeepsTree, OnInterrupt}
+use Rattle.dir_walk.specs.Opens.{IsListed, reads_rules_alone}
+use Rattle.dir_walk.specs.Walkable.{IsValid}
 use Rattle.dir_walk.specs.Walks.{OpensDirectories}
+use Rattle.worktree_report.specs.declared.error.ReportError.{ReportError}
+use Rattle.worktree_report.specs.declared.error.ReportError.TheVariants as errors
+use Rattle.worktree_report.specs.declared.known.Known.{Known}
+use Rattle.worktree_report.specs.declared.refusal.Misread.{Misread}
+use Rattle.worktree_report.specs.declared.refusal.Misread.TheVariants as misread
+use Rattle.worktree_report.specs.declared.report.Report.{Report}
 use Rattle.worktree_report.specs.declared.setup.Setup.{Setup}
 use Rattle.worktree_report.specs.declared.refusal.Refusal.{Refusal}
 use Rattle.worktree_report.specs.declared.refusal.Refusal.TheVariants as refusals
 use Rattle.worktree_report.specs.declared.refusal.WalkWord.{WalkWord}
-use Rattle.worktree_report.specs.Asked.{asked_of, read_in, report_of, text_of, About, Refuses, IsReportOf, IsSafeAt, WorksAt, RefusesWalkAt, IsAboutWalkAt}
+use Rattle.worktree_report.specs.Asked.{asked_of, chosen_of, read_in, text_of, About, Refuses, IsReportOf, IsWalkOf, ReadsWithin, IsSafeAt, IsValidAt, WorksAt, RefusesWalkAt, IsAboutWalkAt}
 use Rattle.worktree_report.specs.Converted.{IsOfWalking}
 use Rattle.worktree_report.specs.Excluding.{excludes_of}
+use Rattle.worktree_report.specs.Loading.{known_in}
+use Rattle.worktree_report.specs.Loads.{of_walk}
+use Rattle.worktree_report.specs.Submodules.{described}
 
--- The report of the work tree at `root`, where a worktree was `w0` and is `w1`, a store was `o0` and is `o1`, and an interrupt
+-- What the walk of the work tree at `root` gives, where a worktree was `w0` and is `w1`, a store was `o0` and is `o1`, and an interrupt
 -- was `i0` and is `i1`.
 pub record Reports {W F I : Type 0} (w : WorktreeOf W) (f : FindOf F) (i : InterruptOf I) (w0 w1 : W) (o0 o1 : F) (i0 i1 : I)
-    (root : List ℕ) (setup : Setup) (result : Result Report Error) : Type 0 where
+    (root : List ℕ) (setup : Setup) (result : Result WalkReport Error) : Type 0 where
   -- Over a told tree and a store that tells what it holds, and without a fault, it is exactly the one that the setup asks for.
   pub gives : (s : Sources) → TellsIf (w.told w0) (f.holds o0) (excludes_of root setup) s → NotIncreased (w.faults w0) (w.faults w1)
-      → IfOk result (IsReportOf s root setup)
+      → IfOk result (IsWalkOf (w.precomposes w0) s root setup)
   -- Each refusal has its cause.
-  pub about : IfErr result (About root setup)
+  pub about : IfErr result (About (w.precomposes w0) root setup)
   pub cause : IfErr result (OnFault (Increased (w.faults w0) (w.faults w1)) (Increased (f.faults o0) (f.faults o1)))
   pub interrupted : IfErr result (OnInterrupt (Increased (i.raised i0) (i.raised i1)))
   pub refused : (s : Sources) → TellsIf (w.told w0) (f.holds o0) (excludes_of root setup) s → NotIncreased (w.faults w0) (w.faults w1)
-      → NotIncreased (f.faults o0) (f.faults o1) → IfErr result (Refuses s root setup)
-  -- Where there is such a report and nothing failed or was raised, only memory may be wanted.
+      → NotIncreased (f.faults o0) (f.faults o1) → IfErr result (Refuses (w.precomposes w0) s root setup)
+  -- For valid input, and where nothing failed or was raised, only memory may be wanted.
   pub complete : (s : Sources) → TellsIf (w.told w0) (f.holds o0) (excludes_of root setup) s
       → NotIncreased (w.faults w0) (w.faults w1) → NotIncreased (f.faults o0) (f.faults o1) → NotIncreased (i.raised i0) (i.raised i1)
-      → is_some (report_of s root setup) ≡ true → IfErr result (λ e. e ≡ OutOfMemory)
+      → IsValid (asked_of (w.precomposes w0) root setup) (excludes_of root setup) s setup.root setup.depth → IfErr result (λ e. e ≡ OutOfMemory)
   -- What stays.
   pub worktree : KeepsTree w w0 w1
   pub store : AsksStore f o0 o1
   pub interrupt : AsksInterrupt i i0 i1
   pub listed : OnOk result (w.list_faults w1 ≡ w.list_faults w0)
   pub calm : OnOk result (i.raised i1 ≡ i.raised i0)
-  -- What is opened and read; the rules begin with no directory pushed.
-  pub opens : OpensDirectories w i w0 w1 i0 i1 None (asked_of root setup) setup.root (λ (r : Report). r.outcome) result
+  -- What is opened and read.
+  pub opens : OpensDirectories w i w0 w1 i0 i1 setup.options.strategy (asked_of (w.precomposes w0) root setup) setup.root (λ (r : WalkReport). r.outcome) (λ (r : WalkReport). r.root) result
 
--- The same of its text over a tree alone, with the refusals of the program.
-pub record Texts {W I : Type 0} (w : WorktreeOf W) (i : InterruptOf I) (w0 w1 : W) (i0 i1 : I) (root : List ℕ) (setup : Setup) (result : Result (List ℕ) Refusal) : Type 0 where
-  pub gives : (t : Names) → w.told w0 ≡ Some t → NotIncreased (w.faults w0) (w.faults w1) → IfOk result (λ text. text_of t root setup ≡ Some text)
-  pub safe : (t : Names) → w.told w0 ≡ Some t → NotIncreased (w.faults w0) (w.faults w1) → OnOk result (IsSafeAt t root setup)
+-- what holds of a refused walk
+abbrev pub OnWalk : (Error → Type 0) → ReportError → Type 0
+OnWalk Holds (errors.Walk e) = Holds e
+OnWalk Holds (errors.Config at line) = Unit {0}
+OnWalk Holds (errors.Modules line) = Unit {0}
+OnWalk Holds (errors.ActiveSpec at) = Unit {0}
+OnWalk Holds errors.ReadFault = Unit {0}
+OnWalk Holds errors.OutOfMemory = Unit {0}
+
+-- what holds where the worktree failed, and what where the store did
+abbrev pub OnReportFault : Type 0 → Type 0 → ReportError → Type 0
+OnReportFault TreeFailed StoreFailed (errors.Walk e) = OnFault TreeFailed StoreFailed e
+OnReportFault TreeFailed StoreFailed (errors.Config at line) = Unit {0}
+OnReportFault TreeFailed StoreFailed (errors.Modules line) = Unit {0}
+OnReportFault TreeFailed StoreFailed (errors.ActiveSpec at) = Unit {0}
+OnReportFault TreeFailed StoreFailed errors.ReadFault = TreeFailed
+OnReportFault TreeFailed StoreFailed errors.OutOfMemory = Unit {0}
+
+-- what tells of submodules is outside its grammar just there where a refusal says so
+abbrev pub Misreads : Result (Option Known) Misread → ReportError → Type 0
+Misreads given (errors.Config at line) = given ≡ Err (misread.Config at line)
+Misreads given (errors.Modules line) = given ≡ Err (misread.Modules line)
+Misreads given (errors.ActiveSpec at) = given ≡ Err (misread.ActiveSpec at)
+Misreads given errors.ReadFault = Unit {0}
+Misreads given (errors.Walk e) = Unit {0}
+Misreads given errors.OutOfMemory = Unit {0}
+
+-- a report is that of a walk with the submodules, and is refused for want of memory or as the walk is
+abbrev pub Describes : Result Report ReportError → Option Known → Result WalkReport Error → Type 0
+Describes (Ok r) known (Ok walked) = r ≡ described known walked
+Describes (Ok r) known (Err e) = ⊥
+Describes (Err error) known (Ok walked) = error ≡ errors.OutOfMemory
+Describes (Err error) known (Err e) = error ≡ of_walk e
+
+-- What is opened and read: what tells of submodules first, and then as the walk does.
+pub record LoadsAndOpens {W I : Type 0} (w : WorktreeOf W) (i : InterruptOf I) (w0 w1 : W) (i0 i1 : I) (root : List ℕ) (setup : Setup) (result : Result Report ReportError) : Type 0 where
+  pub opened : ℕ
+  pub listed : IsListed setup.options.strategy (w.lists w0) (w.lists w1) opened
+  pub asked : with_more (i.questions i0) opened ≤ i.questions i1
+  pub counted : IfOk result (λ r. r.outcome.read_dir_calls ≡ min opened (2 ^ 32 - 1))
+  pub reads : setup.options.strategy ≡ Held → reads_rules_alone (chosen_of (w.precomposes w0) setup) ≡ true
+      → ReadsWithin (w.precomposes w0) root setup result (w.reads w0) (w.reads w1) opened (refused_one result)
+
+-- The report of the work tree at `root`, where a worktree was `w0` and is `w1`, a store was `o0` and is `o1`, and an interrupt
+-- was `i0` and is `i1`.
+pub record MakesReport {W F I : Type 0} (w : WorktreeOf W) (f : FindOf F) (i : InterruptOf I) (w0 w1 : W) (o0 o1 : F) (i0 i1 : I)
+    (root : List ℕ) (setup : Setup) (result : Result Report ReportError) : Type 0 where
+  -- Over a told tree and a store that tells what it holds, and without a fault, it is exactly the one that the setup asks for.
+  pub gives : (s : Sources) → TellsIf (w.told w0) (f.holds o0) (excludes_of root setup) s → NotIncreased (w.faults w0) (w.faults w1)
+      → IfOk result (IsReportOf (w.precomposes w0) s root setup)
+  -- Each refusal has its cause.
+  pub misread : (t : Names) → w.told w0 ≡ Some t → IfErr result (Misreads (known_in t root setup))
+  pub about : IfErr result (OnWalk (About (w.precomposes w0) root setup))
+  pub cause : IfErr result (OnReportFault (Increased (w.faults w0) (w.faults w1)) (Increased (f.faults o0) (f.faults o1)))
+  pub interrupted : IfErr result (OnWalk (OnInterrupt (Increased (i.raised i0) (i.raised i1))))
+  pub refused : (s : Sources) → TellsIf (w.told w0) (f.holds o0) (excludes_of root setup) s → NotIncreased (w.faults w0) (w.faults w1)
+      → NotIncreased (f.faults o0) (f.faults o1) → IfErr result (OnWalk (Refuses (w.precomposes w0) s root setup))
+  -- For valid input, and where nothing failed or was raised, only memory may be wanted.
+  pub complete : (s : Sources) → TellsIf (w.told w0) (f.holds o0) (excludes_of root setup) s
+      → NotIncreased (w.faults w0) (w.faults w1) → NotIncreased (f.faults o0) (f.faults o1) → NotIncreased (i.raised i0) (i.raised i1)
+      → IsValidAt (w.precomposes w0) s root setup → IfErr result (λ e. e ≡ errors.OutOfMemory)
+  -- What stays.
+  pub worktree : KeepsTree w w0 w1
+  pub store : AsksStore f o0 o1
+  pub interrupt : AsksInterrupt i i0 i1
+  pub listed : OnOk result (w.list_faults w1 ≡ w.list_faults w0)
+  pub calm : OnOk result (i.raised i1 ≡ i.raised i0)
+  -- What is opened and read.
+  pub opens : LoadsAndOpens w i w0 w1 i0 i1 root setup result
+
+-- The same of its text over a tree alone, with the refusals of the program. `composes` says whether the worktree composes names.
+pub record Texts {W I : Type 0} (w : WorktreeOf W) (i : InterruptOf I) (composes : Bool) (w0 w1 : W) (i0 i1 : I) (root : List ℕ) (setup : Setup) (result : Result (List ℕ) Refusal) : Type 0 where
+  pub gives : (t : Names) → w.told w0 ≡ Some t → NotIncreased (w.faults w0) (w.faults w1) → IfOk result (λ text. text_of composes t root setup ≡ Some text)
+  pub safe : (t : Names) → w.told w0 ≡ Some t → NotIncreased (w.faults w0) (w.faults w1) → OnOk result (IsSafeAt composes t root setup)
   pub works : (t : Names) → w.told w0 ≡ Some t → NotIncreased (w.faults w0) (w.faults w1)
-      → OnOk result (WorksAt t root setup (i.questions i0) (i.questions i1) (w.reads w0) (w.reads w1))
+      → OnOk result (WorksAt composes t root setup (i.questions i0) (i.questions i1) (w.reads w0) (w.reads w1))
   pub refused : (t : Names) → w.told w0 ≡ Some t → NotIncreased (w.faults w0) (w.faults w1)
-      → (word : WalkWord) (path : List ℕ) → IsErrOf result (refusals.Walk word path) → RefusesWalkAt t root setup word path
-  pub about : (word : WalkWord) (path : List ℕ) → IsErrOf result (refusals.Walk word path) → IsAboutWalkAt root setup word path
+      → (word : WalkWord) (path : List ℕ) → IsErrOf result (refusals.Walk word path) → RefusesWalkAt composes t root setup word path
+  pub misread : (t : Names) → w.told w0 ≡ Some t → (which : Misread) → IsErrOf result (refusals.Misread which) → known_in t root setup ≡ Err which
+  pub about : (word : WalkWord) (path : List ℕ) → IsErrOf result (refusals.Walk word path) → IsAboutWalkAt composes root setup word path
   pub cause : IsErrOf result refusals.Fault → Increased (w.faults w0) (w.faults w1)
   pub interrupted : IsErrOf result refusals.Interrupted → Increased (i.raised i0) (i.raised i1)
   pub answers : IfErr result IsOfWalking
   pub complete : (t : Names) → w.told w0 ≡ Some t → NotIncreased (w.faults w0) (w.faults w1) → NotIncreased (i.raised i0) (i.raised i1)
-      → is_some (report_of (read_in t) root setup) ≡ true → IfErr result (λ refusal. refusal ≡ refusals.OutOfMemory)
+      → IsValidAt composes (read_in t setup) root setup → IfErr result (λ refusal. refusal ≡ refusals.OutOfMemory)
   pub worktree : KeepsTree w w0 w1
   pub interrupt : AsksInterrupt i i0 i1
   pub listed : OnOk result (w.list_faults w1 ≡ w.list_faults w0)
+  -- where subtrees are walked at once, over forks, the worktree counts one directory as listed at most
+  pub lists : OnOk result (setup.options.strategy ≡ AtOnce → w.lists w1 ≤ w.lists w0 + 1)
   pub calm : OnOk result (i.raised i1 ≡ i.raised i0)

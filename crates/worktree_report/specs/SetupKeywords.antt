@@ -4,13 +4,14 @@ use Rattle.std.specs.Str.{bytes_eq}
 use Rattle.std.specs.List.{list_any}
 use Rattle.gitbase_core.specs.Path.{is_empty, is_absolute}
 use Rattle.worktree_report.specs.declared.setup.line.SetupLine.{SetupLine}
-use Rattle.worktree_report.specs.declared.setup.line.SetupLine.TheVariants.{Skipped, Sets, Indexes, OverrideRule, GlobalRule, Specifies, SetsApart}
+use Rattle.worktree_report.specs.declared.setup.line.SetupLine.TheVariants.{Skipped, Sets, Indexes, Stores, OverrideRule, GlobalRule, Specifies, SetsApart, Configures}
 use Rattle.worktree_report.specs.Escapes.{unescaped}
 use Rattle.worktree_report.specs.SetupFields.{Parted, parted}
 use Rattle.worktree_report.specs.SetupDepth.{depth_of}
 use Rattle.worktree_report.specs.SetupOptions.{option_of}
 use Rattle.worktree_report.specs.SetupIndex.{index_entry}
 use Rattle.worktree_report.specs.SetupSpecs.{is_spec}
+use Rattle.worktree_report.specs.SetupFiles.{blob_of, config_of}
 use Rattle.worktree_report.specs.Words.{is_whole_path}
 
 -- an empty line, or a comment
@@ -45,12 +46,19 @@ worktree_line rest = option_and_then apart_if_relative (unescaped rest)
 abbrev pub spec_line : List ℕ → Option SetupLine
 spec_line text = if is_spec text then Some (Specifies text) else None
 
+-- a blob behind its keyword, or a configuration
+abbrev pub file_line : Parted → Option SetupLine
+file_line fields =
+    if bytes_eq fields.word (codes "blob") then option_map Stores (blob_of fields.rest)
+    else if bytes_eq fields.word (codes "config") then option_map Configures (config_of fields.rest)
+    else once_line fields
+
 -- a path spec behind its keyword, or such a directory
 abbrev pub path_line : Parted → Option SetupLine
 path_line fields =
     if bytes_eq fields.word (codes "spec") then spec_line fields.rest
     else if bytes_eq fields.word (codes "worktree") then worktree_line fields.rest
-    else once_line fields
+    else file_line fields
 
 -- an ignore rule behind its keyword; any bytes are one, none too
 abbrev pub rule_line : Parted → Option SetupLine

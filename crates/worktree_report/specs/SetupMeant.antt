@@ -1,6 +1,7 @@
 -- What the lines of a setup mean together.
 use Rattle.std.specs.Prelude.{ℕ, List, [], ◌∷◌, not, codes, Option, Some, None, option_map, option_and_then, if◌then◌else◌}
 use Rattle.std.specs.BTreeSet.{insert_key}
+use Rattle.std.specs.FinMap.{empty}
 use Rattle.std.specs.Cmp.Lexicographic.{slice_cmp}
 use Rattle.std.specs.Ordering.{nat_cmp}
 use Rattle.dir_classify.specs.declared.options.EmissionMode.{EmissionMode}
@@ -9,12 +10,19 @@ use Rattle.dir_classify.specs.declared.options.CollapsedEntriesEmissionMode.{Col
 use Rattle.dir_classify.specs.declared.options.CollapsedEntriesEmissionMode.TheVariants.{OnStatusMismatch, All}
 use Rattle.dir_classify.specs.declared.options.ForDeletionMode.{ForDeletionMode}
 use Rattle.dir_classify.specs.declared.options.ForDeletionMode.TheVariants.{IgnoredDirectoriesCanHideNestedRepositories, FindNonBareRepositoriesInIgnoredDirectories, FindRepositoriesInIgnoredDirectories}
+use Rattle.worktree_stack.specs.declared.ignore_source.Source.{Source as IgnoreSource}
+use Rattle.worktree_stack.specs.declared.ignore_source.Source.TheVariants as ignore_sources
+use Rattle.worktree_report.specs.declared.permissions.Permissions.{Permissions}
+use Rattle.dir_walk.specs.declared.strategy.Strategy.{Strategy}
+use Rattle.dir_walk.specs.declared.strategy.Strategy.TheVariants.{Held, AtOnce}
 use Rattle.worktree_report.specs.declared.setup.option.SetupOption.{SetupOption}
 use Rattle.worktree_report.specs.declared.setup.SetupOptions.{SetupOptions}
 use Rattle.worktree_report.specs.declared.setup.Setup.{Setup}
 use Rattle.worktree_report.specs.declared.setup.meant.Looking.{Looking}
 use Rattle.worktree_report.specs.declared.setup.meant.Reporting.{Reporting}
+use Rattle.worktree_report.specs.Permissions.{all_permissions, isolated_permissions}
 use Rattle.worktree_report.specs.SetupDepth.{depth_of}
+use Rattle.worktree_report.specs.SetupFiles.{stored_after}
 use Rattle.worktree_report.specs.SetupOptions.{is_set_to, option_named}
 use Rattle.worktree_report.specs.SetupSaid.{Said}
 use Rattle.worktree_report.specs.SetupSpecs.{specs_in}
@@ -47,6 +55,20 @@ for_deletion_of options =
     else if is_set_to (codes "for_deletion") (codes "all") options then Some FindRepositoriesInIgnoredDirectories
     else None
 
+-- where rules files are read
+abbrev pub ignore_source_of : List SetupOption → IgnoreSource
+ignore_source_of options =
+    if is_set_to (codes "ignore_source") (codes "mapping") options then ignore_sources.IdMapping
+    else ignore_sources.WorktreeThenIdMappingIfNotSkipped
+
+-- which configurations are read; what is safe in a repository of anybody is all, since nothing that is read is run
+abbrev pub permissions_of : List SetupOption → Permissions
+permissions_of options = if is_set_to (codes "permissions") (codes "isolated") options then isolated_permissions else all_permissions
+
+-- how the walk goes
+abbrev pub strategy_of : List SetupOption → Strategy
+strategy_of options = if is_set_to (codes "strategy") (codes "at_once") options then AtOnce else Held
+
 -- those that say how paths are looked at
 unfoldable pub looking_of : List SetupOption → Looking
 looking_of options =
@@ -59,6 +81,8 @@ looking_of options =
       precious = is_set_to (codes "precious") (codes "yes") options;
       strict_parents = is_set_to (codes "strict_parents") (codes "yes") options;
       for_deletion = for_deletion_of options;
+      ignore_source = ignore_source_of options;
+      strategy = strategy_of options;
     }
 
 -- and those that say what is reported
@@ -72,6 +96,8 @@ reporting_of options =
       emit_collapsed = emit_collapsed_of options;
       emit_empty_directories = is_set_to (codes "emit_empty_directories") (codes "yes") options;
       origins = is_set_to (codes "origins") (codes "yes") options;
+      submodules = is_set_to (codes "submodules") (codes "yes") options;
+      permissions = permissions_of options;
       print_outcome = is_set_to (codes "print_outcome") (codes "yes") options;
     }
 
@@ -94,6 +120,10 @@ options_from l r =
       strict_parents = l.strict_parents;
       origins = r.origins;
       print_outcome = r.print_outcome;
+      submodules = r.submodules;
+      ignore_source = l.ignore_source;
+      permissions = r.permissions;
+      strategy = l.strategy;
     }
 
 unfoldable pub options_meant : List SetupOption → SetupOptions
@@ -127,9 +157,11 @@ meant all =
       root = value_of (codes "root") all.options;
       depth = depth_meant all.options;
       index = all.index;
+      blobs = stored_after empty all.blobs;
       overrides = all.overrides;
       globals = all.globals;
       specs = specs_in (options_meant all.options).ignore_case all.specs;
       worktrees = record { keys = ordered_after [] all.worktrees };
+      configs = all.configs;
       options = options_meant all.options;
     }

@@ -1,5 +1,5 @@
 -- The options of a setup.
-use Rattle.std.specs.Prelude.{ℕ, List, Bool, false, ◌&&◌, ◌||◌, if◌then◌else◌, codes, Option, Some, None, option_and_then, find}
+use Rattle.std.specs.Prelude.{ℕ, List, Bool, ◌&&◌, ◌||◌, if◌then◌else◌, codes, Option, Some, None, option_and_then, find}
 use Rattle.std.specs.Str.{bytes_eq}
 use Rattle.std.specs.List.{list_any}
 use Rattle.worktree_report.specs.declared.setup.option.SetupOption.{SetupOption}
@@ -23,6 +23,7 @@ is_reporting name =
     || bytes_eq name (codes "emit_tracked")
     || bytes_eq name (codes "emit_empty_directories")
     || bytes_eq name (codes "origins")
+    || bytes_eq name (codes "submodules")
     || bytes_eq name (codes "print_outcome")
 
 -- how paths of a kind are reported: each by itself, or directories in place of what lies in them
@@ -37,6 +38,25 @@ is_collapsed_emission value = bytes_eq value (codes "mismatch") || bytes_eq valu
 abbrev pub is_deletion : List ℕ → Bool
 is_deletion value = bytes_eq value (codes "hide") || bytes_eq value (codes "nonbare") || bytes_eq value (codes "all")
 
+-- where rules files are read: in the worktree, or in blobs
+abbrev pub is_ignore_source : List ℕ → Bool
+is_ignore_source value = bytes_eq value (codes "worktree") || bytes_eq value (codes "mapping")
+
+-- which configurations are read: those that are safe in a repository of anybody, all, or those of the repository alone
+abbrev pub is_permissions : List ℕ → Bool
+is_permissions value = bytes_eq value (codes "secure") || bytes_eq value (codes "all") || bytes_eq value (codes "isolated")
+
+-- how subtrees are walked: in one walk, or each by itself over forks
+abbrev pub is_strategy : List ℕ → Bool
+is_strategy value = bytes_eq value (codes "held") || bytes_eq value (codes "at_once")
+
+-- whether an option that says where files are read, or how subtrees are walked, may have a value
+abbrev pub may_go_by : List ℕ → List ℕ → Bool
+may_go_by name value =
+    if bytes_eq name (codes "ignore_source") then is_ignore_source value
+    else if bytes_eq name (codes "permissions") then is_permissions value
+    else bytes_eq name (codes "strategy") && is_strategy value
+
 -- whether an option may have a value
 abbrev pub may_be : List ℕ → List ℕ → Bool
 may_be name value =
@@ -45,7 +65,7 @@ may_be name value =
     else if bytes_eq name (codes "emit_ignored") then bytes_eq value (codes "no") || is_emission value
     else if bytes_eq name (codes "emit_collapsed") then bytes_eq value (codes "no") || is_collapsed_emission value
     else if bytes_eq name (codes "for_deletion") then bytes_eq value (codes "no") || is_deletion value
-    else false
+    else may_go_by name value
 
 abbrev pub option_if_known : Parted → Option SetupOption
 option_if_known fields = if may_be fields.word fields.rest then Some (record { name = fields.word; value = fields.rest }) else None

@@ -2,19 +2,23 @@
 use Rattle.std.specs.Prelude.{ℕ, List, [], ◌++◌}
 use Rattle.gitbase_core.specs.declared.entry.IndexEntry.{IndexEntry}
 use Rattle.worktree_report.specs.declared.setup.option.SetupOption.{SetupOption}
+use Rattle.worktree_report.specs.declared.setup.files.SetupBlob.{SetupBlob}
+use Rattle.worktree_report.specs.ConfigFiles.{ConfigFile}
 
--- the options that are set, the entries of the index, two texts of ignore rules, the texts of path specs, and the paths of
--- directories that are worktrees of their own
+-- the options that are set, the entries of the index, the blobs, two texts of ignore rules, the texts of path specs, the paths of
+-- directories that are worktrees of their own, and the configurations
 pub record Said : Type 0 where
   pub options : List SetupOption
   pub index : List IndexEntry
+  pub blobs : List SetupBlob
   pub overrides : List ℕ
   pub globals : List ℕ
   pub specs : List (List ℕ)
   pub worktrees : List (List ℕ)
+  pub configs : List ConfigFile
 
 abbrev pub nothing : Said
-nothing = record { options = []; index = []; overrides = []; globals = []; specs = []; worktrees = [] }
+nothing = record { options = []; index = []; blobs = []; overrides = []; globals = []; specs = []; worktrees = []; configs = [] }
 
 -- what is said, and behind it what is said later
 abbrev pub both : Said → Said → Said
@@ -22,8 +26,10 @@ both a b =
     record {
       options = a.options ++ b.options;
       index = a.index ++ b.index;
+      blobs = a.blobs ++ b.blobs;
       overrides = a.overrides ++ b.overrides;
       globals = a.globals ++ b.globals;
       specs = a.specs ++ b.specs;
       worktrees = a.worktrees ++ b.worktrees;
+      configs = a.configs ++ b.configs;
     }

@@ -3,7 +3,7 @@ use Rattle.std.specs.Prelude.{ℕ, ◌+◌, List, [], ◌∷◌, ◌++◌, lengt
 use Rattle.std.specs.List.{slice_split}
 use Rattle.gitbase_core.specs.Index.{entry_error}
 use Rattle.worktree_report.specs.declared.setup.line.SetupLine.{SetupLine}
-use Rattle.worktree_report.specs.declared.setup.line.SetupLine.TheVariants.{Skipped, Sets, Indexes, OverrideRule, GlobalRule, Specifies, SetsApart}
+use Rattle.worktree_report.specs.declared.setup.line.SetupLine.TheVariants.{Skipped, Sets, Indexes, Stores, OverrideRule, GlobalRule, Specifies, SetsApart, Configures}
 use Rattle.worktree_report.specs.declared.setup.Setup.{Setup}
 use Rattle.worktree_report.specs.SetupKeywords.{line_of}
 use Rattle.worktree_report.specs.SetupMeant.{meant}
@@ -16,10 +16,12 @@ says None = nothing
 says (Some Skipped) = nothing
 says (Some (Sets o)) = record nothing { options = o ∷ [] }
 says (Some (Indexes e)) = record nothing { index = e ∷ [] }
+says (Some (Stores given)) = record nothing { blobs = given ∷ [] }
 says (Some (OverrideRule rule)) = record nothing { overrides = rule ++ 10 ∷ [] }
 says (Some (GlobalRule rule)) = record nothing { globals = rule ++ 10 ∷ [] }
 says (Some (Specifies text)) = record nothing { specs = text ∷ [] }
 says (Some (SetsApart path)) = record nothing { worktrees = path ∷ [] }
+says (Some (Configures named)) = record nothing { configs = named ∷ [] }
 
 -- what lines say together
 unfoldable pub said : List (List ℕ) → Said
@@ -32,10 +34,12 @@ is_refused earlier None = true
 is_refused earlier (Some Skipped) = false
 is_refused earlier (Some (Sets o)) = is_set o.name earlier.options
 is_refused earlier (Some (Indexes e)) = is_some (entry_error earlier.index e)
+is_refused earlier (Some (Stores given)) = false
 is_refused earlier (Some (OverrideRule rule)) = false
 is_refused earlier (Some (GlobalRule rule)) = false
 is_refused earlier (Some (Specifies text)) = false
 is_refused earlier (Some (SetsApart path)) = false
+is_refused earlier (Some (Configures named)) = false
 
 -- what is said with one more line, where that is in the grammar
 abbrev pub taken : Said → Option SetupLine → Option Said

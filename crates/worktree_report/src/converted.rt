@@ -1,37 +1,61 @@
 //! Why there is no report, where the walk was refused.
 ghost use Rattle.std.specs.Prelude.{◌≡◌, IfOk};
-ghost use Rattle.worktree_report.specs.Converted.{of_lookup, of_walk, component_path};
+ghost use Rattle.worktree_report.specs.Refusals.{status_of};
+ghost use Rattle.worktree_report.specs.Converted.{of_lookup, of_walk, of_report, component_path};
 
 use crate::below::{behind, through};
-use crate::refusal::{Refusal, WalkWord};
+use crate::error::ReportError;
+use crate::refusal::{Misread, Refusal, WalkWord};
 use dir_classify::{Error, MetadataWhy, ReadWhy};
-use gitbase_core::{OutOfMemory, PathText};
+use gitbase_core::{ObjectId, OutOfMemory, PathText};
 use std::alloc::Global;
-use worktree_stack::{AtPathError, RulesWhy};
+use worktree_stack::{AtPathError, BlobWhy, RulesWhy};
+
+/// That the walk was refused for what is at a path.
+fn walk_refused(alloc: Global, word: WalkWord, path: &[u8]) -> Result<Refusal, OutOfMemory>
+    ensures { IfOk result (λ refusal. refusal ≡ Refusal.Walk word path.now) }
+{
+    Ok(Refusal::Walk {
+        word,
+        path: PathText::from_bytes(alloc, path)?,
+    })
+}
+
+/// Why there is no report, where the blob of a rules file was not read.
+fn of_blob(alloc: Global, id: &ObjectId, why: BlobWhy) -> Result<Refusal, OutOfMemory>
+    ensures { IfOk result (λ refusal. refusal ≡ of_lookup (AtPathError.Blob id.now why)) }
+{
+    match why {
+        BlobWhy::Missing => walk_refused(alloc, WalkWord::Blob, &id.to_hex()),
+        BlobWhy::NotABlob => walk_refused(alloc, WalkWord::Blob, &id.to_hex()),
+        BlobWhy::Fault => Ok(Refusal::Fault),
+    }
+}
 
 /// Why there is no report, where the ignore rules could not be asked.
-fn of_lookup(alloc: Global, refused: AtPathError) -> Refusal
-    ensures { result ≡ of_lookup refused }
+fn of_lookup(alloc: Global, refused: &AtPathError) -> Result<Refusal, OutOfMemory>
+    ensures { IfOk result (λ refusal. refusal ≡ of_lookup refused.now) }
 {
     match refused {
+        AtPathError::Blob { id, why } => of_blob(alloc, id, *why),
         AtPathError::RulesFile {
             path: _,
             why: RulesWhy::Fault,
-        } => Refusal::Fault,
-        AtPathError::RulesFile { path, why: _ } => Refusal::Walk {
-            word: WalkWord::RulesFile,
-            path,
-        },
-        AtPathError::Collision { path } | AtPathError::Directory { path, why: _ } => Refusal::Walk {
-            word: WalkWord::Lookup,
-            path,
-        },
-        AtPathError::NotNormal | AtPathError::Component(_) | AtPathError::Blob { id: _, why: _ } =>
-            Refusal::Walk {
-                word: WalkWord::Lookup,
-                path: PathText::new(alloc),
-            },
-        AtPathError::OutOfMemory => Refusal::OutOfMemory,
+        } => Ok(Refusal::Fault),
+        AtPathError::RulesFile { path, why: _ } => walk_refused(
+            alloc,
+            WalkWord::RulesFile,
+            path.as_bytes(),
+        ),
+        AtPathError::Collision { path } => walk_refused(alloc, WalkWord::Lookup, path.as_bytes()),
+        AtPathError::Directory { path, why: _ } => walk_refused(
+            alloc,
+            WalkWord::Lookup,
+            path.as_bytes(),
+        ),
+        AtPathError::NotNormal => walk_refused(alloc, WalkWord::Lookup, b""),
+        AtPathError::Component(_) => walk_refused(alloc, WalkWord::Lookup, b""),
+        AtPathError::OutOfMemory => Ok(Refusal::OutOfMemory),
     }
 }
 
@@ -93,7 +117,7 @@ pub fn of_walk(alloc: Global, error: Error) -> Result<Refusal, OutOfMemory>
             word: WalkWord::RootIsFile,
             path: root,
         }),
-        Error::ExcludesAccess(refused) => Ok(of_lookup(alloc, refused)),
+        Error::ExcludesAccess(refused) => of_lookup(alloc, &refused),
         Error::ReadDir { path, why } => Ok(of_listing(path, why)),
         Error::DirEntry {
             parent_directory: _,
@@ -113,5 +137,96 @@ pub fn of_walk(alloc: Global, error: Error) -> Result<Refusal, OutOfMemory>
         } => of_link(alloc, root, worktree_root, component_index),
         Error::SymlinkMetadata { path, why } => Ok(of_metadata(path, why)),
         Error::OutOfMemory => Ok(Refusal::OutOfMemory),
+    }
+}
+
+/// Why there is no report.
+pub fn of_report(alloc: Global, error: ReportError) -> Result<Refusal, OutOfMemory>
+    ensures { IfOk result (λ refusal. refusal ≡ of_report error) }
+{
+    match error {
+        ReportError::Config { at, line } => Ok(Refusal::Misread(Misread::Config { at, line })),
+        ReportError::Modules { line } => Ok(Refusal::Misread(Misread::Modules { line })),
+        ReportError::ActiveSpec { at } => Ok(Refusal::Misread(Misread::ActiveSpec { at })),
+        ReportError::ReadFault => Ok(Refusal::Fault),
+        ReportError::Walk(error) => of_walk(alloc, error),
+        ReportError::OutOfMemory => Ok(Refusal::OutOfMemory),
+    }
+}
+
+/// The status that the program ends with where the ignore rules could not be asked.
+fn lookup_status(refused: &AtPathError) -> u8
+    ensures { result ≡ status_of (of_lookup refused.now) }
+{
+    match refused {
+        AtPathError::RulesFile {
+            path: _,
+            why: RulesWhy::Fault,
+        } => 6,
+        AtPathError::RulesFile { path: _, why: _ } => 4,
+        AtPathError::Collision { path: _ } => 4,
+        AtPathError::Directory { path: _, why: _ } => 4,
+        AtPathError::NotNormal => 4,
+        AtPathError::Component(_) => 4,
+        AtPathError::Blob {
+            id: _,
+            why: BlobWhy::Fault,
+        } => 6,
+        AtPathError::Blob { id: _, why: _ } => 4,
+        AtPathError::OutOfMemory => 8,
+    }
+}
+
+/// The status that the program ends with where the walk was refused.
+fn walk_status(error: &Error) -> u8
+    ensures { result ≡ status_of (of_walk error.now) }
+{
+    match error {
+        Error::Interrupted => 1,
+        Error::WorktreeRootIsFile { root: _ } => 4,
+        Error::NormalizeRoot { root: _ } => 4,
+        Error::SymlinkInRoot {
+            root: _,
+            worktree_root: _,
+            component_index: _,
+        } => 4,
+        Error::SymlinkMetadata {
+            path: _,
+            why: MetadataWhy::Fault,
+        } => 6,
+        Error::SymlinkMetadata { path: _, why: _ } => 4,
+        Error::ExcludesAccess(refused) => lookup_status(refused),
+        Error::ReadDir {
+            path: _,
+            why: ReadWhy::Fault,
+        } => 6,
+        Error::ReadDir { path: _, why: _ } => 4,
+        Error::DirEntry {
+            parent_directory: _,
+        } => 6,
+        Error::TooDeep { path: _ } => 4,
+        Error::OutOfMemory => 8,
+    }
+}
+
+/// The status that the program ends with where there is no report; takes no memory.
+///
+/// | status | where |
+/// |---|---|
+/// | 1 | the interrupt was raised |
+/// | 4 | the walk was refused for what is there |
+/// | 5 | a configuration, `.gitmodules` or a value of `submodule.active` is outside its grammar |
+/// | 6 | the worktree or the store failed |
+/// | 8 | want of memory |
+pub fn status_of(error: &ReportError) -> u8
+    ensures { result ≡ status_of (of_report error.now) }
+{
+    match error {
+        ReportError::Config { at: _, line: _ } => 5,
+        ReportError::Modules { line: _ } => 5,
+        ReportError::ActiveSpec { at: _ } => 5,
+        ReportError::ReadFault => 6,
+        ReportError::Walk(error) => walk_status(error),
+        ReportError::OutOfMemory => 8,
     }
 }

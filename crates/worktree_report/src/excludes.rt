@@ -3,14 +3,12 @@ ghost use Rattle.std.specs.Prelude.{◌≡◌, ◌∷◌, [], None, IfOk};
 ghost use Rattle.worktree_stack.specs.Reading.{Sources};
 ghost use Rattle.worktree_stack.specs.Stacked.{IsInStep, made_of};
 ghost use Rattle.dir_classify.specs.Excludes.{made_with, pushed_in, InStepIf};
-ghost use Rattle.worktree_report.specs.Excluding.{rules_in, rules_given, case_of, rules_of, excludes_of};
+ghost use Rattle.worktree_report.specs.Excluding.{rules_in, rules_given, rules_of, excludes_of};
 
 use crate::setup::Setup;
-use gitbase_core::{Bytes, OutOfMemory, PathText};
-use glob_rules::Case;
+use gitbase_core::{OutOfMemory, PathText};
 use glob_rules::ignore::{List, ParseIgnore, Search};
 use std::alloc::Global;
-use worktree_stack::ignore_source::Source;
 use worktree_stack::{Ignore, Stack, State};
 
 /// The rules in a text that was read from no file, as the one list of a search.
@@ -34,37 +32,22 @@ fn ignore_of(alloc: Global, setup: &Setup) -> Result<Ignore, OutOfMemory>
     };
     let overrides = search_of(alloc, setup.overrides.as_bytes(), parse)?;
     let globals = search_of(alloc, setup.globals.as_bytes(), parse)?;
-    let source = Source::WorktreeThenIdMappingIfNotSkipped;
+    let source = setup.options.ignore_source;
     let ignore = Ignore::new(alloc, overrides, globals, None, source, parse)?;
     Ok(ignore.with_strict_parents(setup.options.strict_parents))
 }
 
-/// How letters compare in the rules of a setup.
-fn case_of(setup: &Setup) -> Case
-    ensures { result ≡ case_of setup.now }
-{
-    if setup.options.ignore_case {
-        Case::Fold
-    } else {
-        Case::Sensitive
-    }
-}
-
-/// The rules of a setup below a worktree root, with no directory pushed.
+/// The rules of a setup below a worktree root, with no directory pushed. Rules files are mapped to the blobs that the index
+/// has for them.
 fn stack_of(alloc: Global, root: &[u8], setup: &Setup) -> Result<Stack, OutOfMemory>
     ensures made { IfOk result (λ stack. made_of stack ≡ rules_of root.now setup.now) }
     ensures in_step { (s : Sources) → IfOk result (IsInStep s) }
     ensures unpushed { IfOk result (λ stack. stack.at ≡ None) }
 {
     let ignore = ignore_of(alloc, setup)?;
-    Ok(Stack::new(
-        alloc,
-        PathText::from_bytes(alloc, root)?,
-        State::IgnoreStack(ignore),
-        case_of(setup),
-        Bytes::new(alloc),
-        Vec::new(alloc),
-    ))
+    let root = PathText::from_bytes(alloc, root)?;
+    let state = State::IgnoreStack(ignore);
+    Stack::from_state_and_ignore_case(alloc, root, setup.options.ignore_case, state, &setup.index)
 }
 
 /// The ignore rules of the work tree at `root`, where the options ask for them. They are made from the setup alone, and read

@@ -1,13 +1,14 @@
 //! The lines of a report.
 ghost use Rattle.std.specs.Prelude.{◌≡◌, ◌++◌, decimal, if◌then◌else◌, IfOk, OnOk};
-ghost use Rattle.worktree_report.specs.Lines.{status_word, kind_word, match_word, property_word, collapsed_word, rules_file, group_word, origin_word, origin_if, spaced, line_of, lines_of, outcome_line, text_with};
-ghost use Rattle.dir_walk.specs.Emissions.{emission_of};
+ghost use Rattle.worktree_report.specs.Lines.{status_word, kind_word, match_word, property_word, collapsed_word, activity_word, facts_word, facts_if, rules_file, group_word, origin_word, origin_if, spaced, class_words, line_of, lines_of, outcome_line, text_with};
 
 use crate::below::below;
 use crate::escape::{add_escaped, add_escaped_in_word};
+use crate::facts::{Activity, Facts};
+use crate::report::{Report, ReportEntry};
 use crate::setup::SetupOptions;
 use dir_classify::{Entry, Kind, PathspecMatch, Property, Status};
-use dir_walk::{Outcome, Report};
+use dir_walk::Outcome;
 use gitbase_core::{Bytes, OutOfMemory, PathText};
 use glob_rules::ignore;
 use glob_rules::ignore::{Origin, RuleGroup};
@@ -78,6 +79,43 @@ fn add_spaced(text: &mut Vec<u8>, word: &[u8]) -> Result<(), OutOfMemory>
     text.extend_from_slice(word)?;
     text.push(b' ')?;
     Ok(())
+}
+
+fn activity_word(activity: &Activity) -> &'static [u8]
+    ensures { result.now ≡ activity_word activity.now }
+{
+    match activity {
+        Activity::Active => b"active:",
+        Activity::Inactive => b"inactive:",
+        Activity::Invalid { input: _ } => b"invalid:",
+    }
+}
+
+/// Adds the submodule at a path, and whether it is active.
+fn add_facts(text: &mut Vec<u8>, facts: &Option<Facts>) -> Result<(), OutOfMemory>
+    ensures { OnOk result (text.new.items ≡ text.old.items ++ facts_word facts.now) }
+{
+    let Some(facts) = facts else {
+        text.push(b'-')?;
+        return Ok(());
+    };
+    text.extend_from_slice(activity_word(&facts.active))?;
+    add_escaped_in_word(text, facts.name.as_bytes())
+}
+
+/// Adds a space and that word, where it is asked for.
+fn add_facts_if(
+    text: &mut Vec<u8>,
+    submodules: bool,
+    facts: &Option<Facts>,
+) -> Result<(), OutOfMemory>
+    ensures { OnOk result (text.new.items ≡ text.old.items ++ facts_if submodules facts.now) }
+{
+    if !submodules {
+        return Ok(());
+    }
+    text.push(b' ')?;
+    add_facts(text, facts)
 }
 
 /// The rules file of the directory above a path that has so many components.
@@ -152,17 +190,14 @@ fn add_origin_if(
     add_origin(alloc, text, entry.rela_path.as_bytes(), entry.origin)
 }
 
-/// Adds the line of an entry, with the status of the directory that it was folded into.
-#[tactic(auto, unfolding(crate::specs::Lines::line_of))]
-fn add_line(
-    alloc: Global,
+/// Adds what each line has: the class of an entry, and the status of the directory that it was folded into.
+fn add_class(
     text: &mut Vec<u8>,
-    origins: bool,
     entry: &Entry,
     collapsed: Option<Status>,
 ) -> Result<(), OutOfMemory>
     ensures { OnOk result (text.new.items
-        ≡ text.old.items ++ line_of origins (emission_of entry.now collapsed)) }
+        ≡ text.old.items ++ class_words entry.now collapsed) }
 {
     add_spaced(text, status_word(entry.status))?;
     add_spaced(text, kind_word(entry.disk_kind))?;
@@ -170,9 +205,24 @@ fn add_line(
     add_spaced(text, match_word(entry.pathspec_match))?;
     add_spaced(text, property_word(entry.property))?;
     text.extend_from_slice(collapsed_word(collapsed))?;
-    add_origin_if(alloc, text, origins, entry)?;
+    Ok(())
+}
+
+/// Adds the line of an entry.
+#[tactic(auto, unfolding(crate::specs::Lines::line_of))]
+fn add_line(
+    alloc: Global,
+    text: &mut Vec<u8>,
+    options: &SetupOptions,
+    entry: &ReportEntry,
+) -> Result<(), OutOfMemory>
+    ensures { OnOk result (text.new.items ≡ text.old.items ++ line_of options.now entry.now) }
+{
+    add_class(text, &entry.entry, entry.collapsed)?;
+    add_facts_if(text, options.submodules, &entry.facts)?;
+    add_origin_if(alloc, text, options.origins, &entry.entry)?;
     text.push(b'\t')?;
-    add_escaped(text, entry.rela_path.as_bytes())?;
+    add_escaped(text, entry.entry.rela_path.as_bytes())?;
     text.push(b'\n')?;
     Ok(())
 }
@@ -181,19 +231,19 @@ fn add_line(
 fn add_lines(
     alloc: Global,
     text: &mut Vec<u8>,
-    origins: bool,
-    entries: &[(Entry, Option<Status>)],
+    options: &SetupOptions,
+    entries: &[ReportEntry],
 ) -> Result<(), OutOfMemory>
-    ensures { OnOk result (text.new.items ≡ text.old.items ++ lines_of origins entries.now) }
+    ensures { OnOk result (text.new.items ≡ text.old.items ++ lines_of options.now entries.now) }
 {
-    for emission in entries {
-        add_line(alloc, text, origins, &emission.0, emission.1)?;
+    for entry in entries {
+        add_line(alloc, text, options, entry)?;
     }
     Ok(())
 }
 
 /// Adds a decimal number.
-fn add_number(alloc: Global, text: &mut Vec<u8>, number: u64) -> Result<(), OutOfMemory>
+pub fn add_number(alloc: Global, text: &mut Vec<u8>, number: u64) -> Result<(), OutOfMemory>
     ensures { OnOk result (text.new.items ≡ text.old.items ++ decimal number) }
 {
     let digits = format!(in alloc; "{number}")?;
@@ -202,7 +252,7 @@ fn add_number(alloc: Global, text: &mut Vec<u8>, number: u64) -> Result<(), OutO
 }
 
 /// Adds the line that says how much was walked.
-fn add_outcome(alloc: Global, text: &mut Vec<u8>, outcome: &Outcome) -> Result<(), OutOfMemory>
+pub fn add_outcome(alloc: Global, text: &mut Vec<u8>, outcome: &Outcome) -> Result<(), OutOfMemory>
     ensures { OnOk result (text.new.items ≡ text.old.items ++ outcome_line outcome.now) }
 {
     text.extend_from_slice(b"# read_dir ")?;
@@ -215,12 +265,17 @@ fn add_outcome(alloc: Global, text: &mut Vec<u8>, outcome: &Outcome) -> Result<(
     Ok(())
 }
 
-/// The text of a report, with a last line that says how much was walked where that is asked for.
-pub fn text_of(alloc: Global, report: &Report, options: &SetupOptions) -> Result<Bytes, OutOfMemory>
+/// The text of a report: a line for each entry, with the words that the options ask for, and a last line that says how much was
+/// walked where they ask for it.
+pub fn report_bytes(
+    alloc: Global,
+    report: &Report,
+    options: &SetupOptions,
+) -> Result<Bytes, OutOfMemory>
     ensures { IfOk result (λ text. text ≡ text_with options.now report.now) }
 {
     let mut text = Vec::new(alloc);
-    add_lines(alloc, &mut text, options.origins, report.entries.as_slice())?;
+    add_lines(alloc, &mut text, options, report.entries.as_slice())?;
     if options.print_outcome {
         add_outcome(alloc, &mut text, &report.outcome)?;
     }

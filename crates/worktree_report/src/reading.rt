@@ -6,7 +6,7 @@ ghost use Rattle.worktree_report.specs.SetupAt.{setup_at};
 ghost use Rattle.worktree_report.specs.Converted.{IsOfReading};
 
 use crate::refusal::Refusal;
-use crate::setup::{Setup, SetupError, parse};
+use crate::setup::{Setup, SetupError};
 use gitbase_core::Bytes;
 use std::alloc::Global;
 use worktree_fs::{ReadAnswer, ReadError, Worktree};
@@ -64,7 +64,7 @@ pub fn read_setup<W: Worktree>(
 {
     let mut text = Bytes::new(alloc);
     match worktree.read(alloc, path, true, &mut text)? {
-        ReadAnswer::Read => Ok(parse(alloc, text.as_bytes())?),
+        ReadAnswer::Read => Ok(Setup::parse(alloc, text.as_bytes())?),
         _ => Err(Refusal::Setup { line: 0 }),
     }
 }

@@ -24,12 +24,26 @@ pub enum WalkWord {
     AbsentDirectory,
     /// What was to be entered is no directory.
     NotADirectory,
-    /// A rules file leads along more links than are followed, or to what is neither a file nor a directory.
+    /// A rules file leads along more links than are followed, or to what is neither a file nor a directory; or it is a link,
+    /// though it is mapped to a blob.
     RulesFile,
+    /// The blob that a rules file is mapped to is not there, or is no blob. In the place of a path stands its id.
+    Blob,
     /// The rules could not be asked for another reason, which does not come in a walk.
     Lookup,
     /// What was to be entered lies deeper than the limit.
     TooDeep,
+}
+
+/// What is outside its grammar among what tells of submodules.
+#[derive(Clone, Copy, Debug, PartialEq, Eq)]
+pub enum Misread {
+    /// The first such line of a configuration, which has this place among those of the setup. Both are counted from 1.
+    Config { at: usize, line: usize },
+    /// The first such line of `.gitmodules`.
+    Modules { line: usize },
+    /// The first such value of `submodule.active`, counted from 1.
+    ActiveSpec { at: usize },
 }
 
 /// Why there is no report.
@@ -41,6 +55,8 @@ pub enum Refusal {
     Usage,
     /// The first line of the setup outside its grammar; 0 where the setup is not read as a file.
     Setup { line: usize },
+    /// What tells of submodules is outside its grammar.
+    Misread(Misread),
     /// The walk was refused, for what is at a path.
     Walk { word: WalkWord, path: PathText },
     /// The worktree failed.
@@ -71,6 +87,7 @@ pub fn status_of(refusal: &Refusal) -> u8
         Refusal::Usage => 2,
         Refusal::Setup { line: _ } => 3,
         Refusal::Walk { word: _, path: _ } => 4,
+        Refusal::Misread(_) => 5,
         Refusal::Fault => 6,
         Refusal::Output => 7,
         Refusal::OutOfMemory => 8,
@@ -88,6 +105,7 @@ fn word_of(word: WalkWord) -> &'static [u8]
         WalkWord::AbsentDirectory => b"absent-directory",
         WalkWord::NotADirectory => b"not-a-directory",
         WalkWord::RulesFile => b"rules-file",
+        WalkWord::Blob => b"blob",
         WalkWord::Lookup => b"lookup",
         WalkWord::TooDeep => b"too-deep",
     }
@@ -97,6 +115,17 @@ fn setup_line(alloc: Global, line: usize) -> Result<Bytes, OutOfMemory>
     ensures { IfOk result (λ text. text ≡ line_of (Refusal.Setup line)) }
 {
     let text = format!(in alloc; "setup: line {line}\n")?;
+    Ok(Bytes::from_slice(alloc, text.as_bytes())?)
+}
+
+fn misread_line(alloc: Global, misread: Misread) -> Result<Bytes, OutOfMemory>
+    ensures { IfOk result (λ text. text ≡ line_of (Refusal.Misread misread)) }
+{
+    let text = match misread {
+        Misread::Config { at, line } => format!(in alloc; "config {at}: line {line}\n")?,
+        Misread::Modules { line } => format!(in alloc; "modules: line {line}\n")?,
+        Misread::ActiveSpec { at } => format!(in alloc; "active: value {at}\n")?,
+    };
     Ok(Bytes::from_slice(alloc, text.as_bytes())?)
 }
 
@@ -132,6 +161,7 @@ fn fixed_line(refusal: &Refusal) -> &'static [u8]
         Refusal::Output => b"output fault\n",
         Refusal::OutOfMemory => b"out of memory\n",
         Refusal::Setup { line: _ } => b"",
+        Refusal::Misread(_) => b"",
         Refusal::Walk { word: _, path: _ } => b"",
     }
 }
@@ -143,6 +173,7 @@ fn made_line(alloc: Global, refusal: &Refusal) -> Result<Option<Bytes>, OutOfMem
 {
     match refusal {
         Refusal::Setup { line } => Ok(Some(setup_line(alloc, *line)?)),
+        Refusal::Misread(misread) => Ok(Some(misread_line(alloc, *misread)?)),
         Refusal::Walk { word, path } => Ok(Some(walk_line(alloc, *word, path.as_bytes())?)),
         Refusal::Interrupted => Ok(None),
         Refusal::Usage => Ok(None),

@@ -3,22 +3,28 @@ ghost use Rattle.std.specs.Prelude.{◌≡◌, map, IfOk};
 ghost use Rattle.worktree_report.specs.SetupText.{text_lines, setup_of};
 ghost use Rattle.worktree_report.specs.SetupParsed.{ParseGives};
 
-mod depth;
+pub mod configs;
+pub mod depth;
 mod draft;
 mod field;
+mod files;
 mod index_line;
 mod line;
 mod meant;
 mod option;
 mod spec;
 
+use crate::permissions::Permissions;
+use configs::Configs;
 use dir_classify::{CollapsedEntriesEmissionMode, EmissionMode, ForDeletionMode};
+use dir_walk::Strategy;
 use draft::read_lines;
-use gitbase_core::{Bytes, OutOfMemory, PathText, State};
+use gitbase_core::{Bytes, MemoryStore, OutOfMemory, PathText, State};
 use glob_rules::pathspec::Search;
 use meant::meant;
 use std::alloc::Global;
 use std::collections::BTreeSet;
+use worktree_stack::ignore_source;
 
 /// The options of a setup, under the names that its lines give them.
 #[derive(Clone, Copy, Debug, PartialEq, Eq)]
@@ -55,21 +61,31 @@ pub struct SetupOptions {
     pub origins: bool,
     /// Whether a last line says how much was walked.
     pub print_outcome: bool,
+    /// Whether each line says of which submodule its path is.
+    pub submodules: bool,
+    /// Where rules files are read.
+    pub ignore_source: ignore_source::Source,
+    /// Which configurations are read.
+    pub permissions: Permissions,
+    /// How the walk goes.
+    pub strategy: Strategy,
 }
 
 /// What a report is made from, beside the worktree.
 #[derive(Debug, Drop)]
 pub struct Setup {
     /// The real path of the git directory of the worktree; `.git` in the worktree root where none is given.
-    pub git_dir: Option<Bytes>,
+    pub git_dir: Option<PathText>,
     /// The real path of the current directory; the worktree root where none is given.
-    pub current_dir: Option<Bytes>,
+    pub current_dir: Option<PathText>,
     /// The directory or file to walk, relative to the worktree root; where none is given it follows from the path specs.
     pub root: Option<Bytes>,
     /// How many components a directory that is entered may have below the worktree root.
     pub depth: usize,
     /// The entries of the index.
     pub index: State,
+    /// The blobs that ignore rules may be mapped to.
+    pub blobs: MemoryStore,
     /// Ignore rules that come before those of any directory, each with a line feed.
     pub overrides: Bytes,
     /// Ignore rules that come after those of all directories, each with a line feed.
@@ -78,6 +94,8 @@ pub struct Setup {
     pub specs: Search,
     /// The directories that are worktrees of their own, relative to the worktree root.
     pub worktrees: BTreeSet<PathText>,
+    /// The configurations that are read for submodules, in this order, as far as the permissions admit them.
+    pub configs: Configs,
     /// The options, those that no line sets at their defaults.
     pub options: SetupOptions,
 }
@@ -108,14 +126,19 @@ fn text_lines(alloc: Global, bytes: &[u8]) -> Result<Vec<&[u8]>, OutOfMemory>
     Ok(bytes.split(|b| *b == b'\n').collect(alloc)?)
 }
 
-/// Reads a setup text.
-///
-/// `Line` names the first line outside the grammar, counted from 1.
-#[tactic(auto, unfolding(crate::specs::SetupText::setup_of))]
-pub fn parse(alloc: Global, bytes: &[u8]) -> Result<Setup, SetupError>
-    ensures { ParseGives result (setup_of bytes.now) }
-{
-    let lines = text_lines(alloc, bytes)?;
-    let draft = read_lines(alloc, &lines)?;
-    Ok(meant(alloc, draft)?)
+impl Setup {
+    /// Reads a setup text.
+    ///
+    /// # Errors
+    ///
+    /// - `Line` names the first line outside the grammar, counted from 1.
+    /// - `OutOfMemory` for want of memory.
+    #[tactic(auto, unfolding(crate::specs::SetupText::setup_of))]
+    pub fn parse(alloc: Global, bytes: &[u8]) -> Result<Setup, SetupError>
+        ensures { ParseGives result (setup_of bytes.now) }
+    {
+        let lines = text_lines(alloc, bytes)?;
+        let draft = read_lines(alloc, &lines)?;
+        Ok(meant(alloc, draft)?)
+    }
 }

@@ -10,26 +10,28 @@ ghost use Rattle.dir_walk.specs.Walks.{Tells, WalksWorktree};
 ghost use Rattle.worktree_report.specs.Asked.{chosen_of, git_dir_or, current_dir_or, asked_of};
 ghost use Rattle.worktree_report.specs.Reported.{Reports, Texts};
 
-use crate::converted::of_walk;
+use crate::converted::of_report;
 use crate::excludes::excludes_of;
-use crate::lines::text_of;
+use crate::lines::report_bytes;
+use crate::making::worktree_report;
 use crate::refusal::Refusal;
 use crate::setup::Setup;
 use dir_classify::{Context, Error, Options};
-use dir_walk::{Report, walk_by_path};
-use gitbase_core::{AccelerateLookup, Bytes, Find, MemoryStore, OutOfMemory, PathText};
+use dir_walk as walk;
+use dir_walk::walk_by_path;
+use gitbase_core::{AccelerateLookup, Bytes, Find, OutOfMemory, PathText};
 use std::alloc::Global;
 use worktree_fs::{Interrupt, Worktree};
 use worktree_stack::Stack;
 
-/// What a walk is asked to emit, and how it looks at paths.
+/// What a walk over a worktree that composes names or not is asked to emit, and how it looks at paths.
 #[tactic(auto, unfolding(dir_classify::specs::Chosen::chosen))]
-fn options_of(setup: &Setup) -> Options<'_>
-    ensures { chosen result ≡ chosen_of setup.now }
+fn options_of(composes: bool, setup: &Setup) -> Options<'_>
+    ensures { chosen result ≡ chosen_of composes setup.now }
 {
     let options = &setup.options;
     Options {
-        precompose_unicode: false,
+        precompose_unicode: composes,
         ignore_case: options.ignore_case,
         recurse_repositories: options.recurse_repositories,
         emit_pruned: options.emit_pruned,
@@ -90,19 +92,21 @@ fn walk_with<'a, W: Worktree, F: Find, I: Interrupt>(
     excludes: &'a mut Option<Stack>,
     lookup: &'a Option<AccelerateLookup>,
     git_dir: &'a [u8],
-) -> Result<Report, Error>
+) -> Result<walk::Report, Error>
     requires excludes { tells_excludes (made_with excludes.old) ≡ true }
     requires lookup { IsLookupIf setup.now.index lookup.now }
     requires given { is_some lookup.now ≡ setup.now.options.ignore_case }
     requires git_dir { git_dir.now ≡ git_dir_or root.now setup.now.git_dir }
     ensures gives { (s : Sources) → Tells W.Worktree F.Find worktree.old objects.old excludes.old s
         → NotIncreased (W.faults worktree.old) (W.faults worktree.new)
-        → IfOk result (IsReport (asked_of root.now setup.now) (made_with excludes.old) s
-        setup.now.root setup.now.depth) }
+        → IfOk result (IsReport (asked_of (W.precomposes worktree.old) root.now setup.now)
+        (made_with excludes.old) s setup.now.root setup.now.depth) }
     ensures walks_worktree { WalksWorktree W.Worktree F.Find I.Interrupt worktree.old worktree.new
         objects.old objects.new interrupt.old interrupt.new excludes.old excludes.new
-        (asked_of root.now setup.now) setup.now.root setup.now.depth true (λ r. r.outcome) result }
+        setup.now.options.strategy (asked_of (W.precomposes worktree.old) root.now setup.now)
+        setup.now.root setup.now.depth true (λ r. r.outcome) (λ r. r.root) result }
 {
+    let options = options_of(worktree.precomposes(), setup);
     let ctx = Context {
         worktree,
         objects,
@@ -116,23 +120,19 @@ fn walk_with<'a, W: Worktree, F: Find, I: Interrupt>(
         explicit_traversal_root: &setup.root,
         depth_limit: setup.depth,
     };
-    walk_by_path(alloc, root, ctx, options_of(setup))
+    walk_by_path(alloc, root, ctx, options, setup.options.strategy)
 }
 
-/// The report of the work tree at `root`, which is absolute and has no component `.` or `..`, as the setup asks for it. Blobs
-/// that ignore rules are mapped to are looked up in `objects`.
-///
-/// # Errors
-///
-/// Those of [`dir_walk::walk::walk`], each for the same causes.
-pub fn worktree_report<W: Worktree, F: Find, I: Interrupt>(
+/// Walks the work tree at `root` as the setup asks for it. Blobs that ignore rules are mapped to are looked up in `objects`. It is
+/// refused as [`dir_walk::walk::walk`] is.
+pub fn walk_by_setup<W: Worktree, F: Find, I: Interrupt>(
     alloc: Global,
     worktree: &mut W,
     objects: &mut F,
     interrupt: &mut I,
     root: &[u8],
     setup: &Setup,
-) -> Result<Report, Error>
+) -> Result<walk::Report, Error>
     ensures { Reports W.Worktree F.Find I.Interrupt worktree.old worktree.new objects.old
         objects.new interrupt.old interrupt.new root.now setup.now result }
 {
@@ -152,9 +152,9 @@ pub fn worktree_report<W: Worktree, F: Find, I: Interrupt>(
     )
 }
 
-/// The lines of the report of the work tree at `root`.
+/// The lines of the report of the work tree at `root`. Blobs that ignore rules are mapped to are those of the setup.
 ///
-/// `Walk` has the cause that the walk names, `Fault` comes only where the worktree counted one, and `Interrupted` where the
+/// `Misread` names what tells of submodules and is outside its grammar, `Walk` has the cause that the walk names, `Fault` comes only where the worktree counted one, and `Interrupted` where the
 /// interrupt counted that it was raised.
 pub fn walked_text<W: Worktree, I: Interrupt>(
     alloc: Global,
@@ -163,12 +163,12 @@ pub fn walked_text<W: Worktree, I: Interrupt>(
     root: &[u8],
     setup: &Setup,
 ) -> Result<Bytes, Refusal>
-    ensures { Texts W.Worktree I.Interrupt worktree.old worktree.new interrupt.old interrupt.new
-        root.now setup.now result }
+    ensures { Texts W.Worktree I.Interrupt (W.precomposes worktree.old) worktree.old worktree.new
+        interrupt.old interrupt.new root.now setup.now result }
 {
-    let mut objects = MemoryStore::new(alloc);
+    let mut objects = setup.blobs.fork(alloc)?;
     match worktree_report(alloc, worktree, &mut objects, interrupt, root, setup) {
-        Ok(report) => Ok(text_of(alloc, &report, &setup.options)?),
-        Err(error) => Err(of_walk(alloc, error)?),
+        Ok(report) => Ok(report_bytes(alloc, &report, &setup.options)?),
+        Err(error) => Err(of_report(alloc, error)?),
     }
 }

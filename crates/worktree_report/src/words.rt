@@ -1,18 +1,24 @@
 //! The words of the command line.
-ghost use Rattle.std.specs.Prelude.{◌≡◌, ◌==◌, not, option_map, None};
+ghost use Rattle.std.specs.Prelude.{◌≡◌, ◌==◌, not, option_map, option_and_then};
 ghost use Rattle.std.specs.List.{slice_split, list_all, list_any};
 ghost use Rattle.worktree_fs.specs.Tree.{is_absolute};
 ghost use Rattle.worktree_fs.specs.Paths.{is_dots};
-ghost use Rattle.worktree_report.specs.Words.{is_whole_path, is_plain_path, command_of};
-ghost use Rattle.worktree_report.specs.Named.{paths_of};
+ghost use Rattle.worktree_report.specs.Words.{is_whole_path, is_plain_path, number_behind, if_few, count_of, report_words, composed_words, generate_words, command_of};
+ghost use Rattle.worktree_report.specs.Named.{asked_by};
 
+use crate::setup::depth::digit_of;
 use gitbase_core::Bytes;
 
-/// A worktree root and the path of a setup text, as the words name them.
+/// The most files that a tree in memory is asked to have.
+const FILE_LIMIT: usize = 100_000;
+
+/// What the words ask for.
 #[derive(Clone, Copy, Debug)]
-pub struct Command<'a> {
-    pub root: &'a [u8],
-    pub setup: &'a [u8],
+pub enum Command<'a> {
+    /// The report of the work tree at a root, by the setup text at a path.
+    Report { root: &'a [u8], setup: &'a [u8] },
+    /// How much there is to report of a tree of so many files in memory.
+    Generate { count: usize },
 }
 
 /// Whether a path begins at the root.
@@ -57,10 +63,36 @@ pub fn is_plain_path(path: &[u8]) -> bool
     is_whole_path(path) && !has_nul(path)
 }
 
-/// What the words ask for: `report ROOT SETUP`, with two plain paths. None for any other words.
-#[tactic(auto, unfolding(crate::specs::Words::command_of))]
-pub fn command_of(words: &[Bytes]) -> Option<Command<'_>>
-    ensures { option_map paths_of result ≡ command_of words.now }
+/// The number that digits write, up to the limit. None where a byte is no digit.
+fn number_of(digits: &[u8]) -> Option<usize>
+    ensures { result ≡ option_and_then if_few (number_behind 0 digits.now) }
+{
+    let mut number = 0;
+    for byte in digits {
+        let Some(digit) = digit_of(*byte) else {
+            return None;
+        };
+        number = 10 * number + digit;
+        if number > FILE_LIMIT {
+            return None;
+        }
+    }
+    Some(number)
+}
+
+/// The number of files that a word gives. None where it gives none.
+fn count_of(word: &[u8]) -> Option<usize>
+    ensures { result ≡ count_of word.now }
+{
+    match word {
+        [] | [b'0', ..] => None,
+        _ => number_of(word),
+    }
+}
+
+/// What is asked for by `report ROOT SETUP`, with two plain paths.
+fn report_words(words: &[Bytes]) -> Option<Command<'_>>
+    ensures { option_map asked_by result ≡ report_words words.now }
 {
     if words.len() != 3 {
         return None;
@@ -73,5 +105,44 @@ pub fn command_of(words: &[Bytes]) -> Option<Command<'_>>
     {
         return None;
     }
-    Some(Command { root, setup })
+    Some(Command::Report { root, setup })
+}
+
+/// The same behind the word `composed`.
+fn composed_words(words: &[Bytes]) -> Option<Command<'_>>
+    ensures { option_map asked_by result ≡ composed_words words.now }
+{
+    let Some((word, rest)) = words.split_first() else {
+        return None;
+    };
+    if word.as_bytes() != b"composed".as_slice() {
+        return None;
+    }
+    report_words(rest)
+}
+
+/// The number of files that is asked for by `generate N`.
+fn generate_words(words: &[Bytes]) -> Option<usize>
+    ensures { result ≡ generate_words words.now }
+{
+    if words.len() != 2 || words[0].as_bytes() != b"generate".as_slice() {
+        return None;
+    }
+    count_of(words[1].as_bytes())
+}
+
+/// What the words ask for, over a worktree that composes names or not: `generate N`, or `report ROOT SETUP` with two plain
+/// paths, with `composed` before it exactly where the worktree composes names. None for any other words.
+#[tactic(auto, unfolding(crate::specs::Words::command_of))]
+pub fn command_of(composes: bool, words: &[Bytes]) -> Option<Command<'_>>
+    ensures { option_map asked_by result ≡ command_of composes words.now }
+{
+    if let Some(count) = generate_words(words) {
+        return Some(Command::Generate { count });
+    }
+    if composes {
+        composed_words(words)
+    } else {
+        report_words(words)
+    }
 }

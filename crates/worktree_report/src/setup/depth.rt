@@ -2,7 +2,7 @@
 ghost use Rattle.std.specs.Prelude.{◌≡◌, ◌≤◌, IfSome};
 ghost use Rattle.worktree_report.specs.SetupDepth.{digit_of, leading_digit_of, two_digits, three_digits, depth_of};
 
-fn digit_of(byte: u8) -> Option<usize>
+pub fn digit_of(byte: u8) -> Option<usize>
     ensures value { result ≡ digit_of byte }
     ensures within { IfSome result (λ digit. digit ≤ 9) }
 {

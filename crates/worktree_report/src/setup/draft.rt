@@ -5,8 +5,10 @@ ghost use Rattle.worktree_report.specs.SetupKeywords.{line_of};
 ghost use Rattle.worktree_report.specs.SetupParsed.{ReadGives};
 
 use crate::setup::SetupError;
+use crate::setup::files::SetupBlob;
 use crate::setup::line::{SetupLine, line_of};
 use crate::setup::option::{SetupOption, is_set};
+use git_config_lite::Source;
 use gitbase_core::{Bytes, OutOfMemory, PathText, State};
 use std::alloc::Global;
 use std::marker::Model;
@@ -16,6 +18,8 @@ use std::marker::Model;
 pub struct Draft {
     pub options: Vec<SetupOption>,
     pub index: State,
+    /// The blobs of the store.
+    pub blobs: Vec<SetupBlob>,
     /// Ignore rules that come before those of any directory, each with its line feed.
     pub overrides: Vec<u8>,
     /// Ignore rules that come after those of all directories, each with its line feed.
@@ -24,6 +28,8 @@ pub struct Draft {
     pub specs: Vec<Bytes>,
     /// The paths of directories that are worktrees of their own.
     pub worktrees: Vec<PathText>,
+    /// The configurations: what each belongs to, and the path of its file.
+    pub configs: Vec<(Source, PathText)>,
 }
 
 impl Model for Draft {
@@ -31,7 +37,7 @@ impl Model for Draft {
 
     ghost Value = { Said };
 
-    ghost view = { λ draft. record { options = draft.options.items; index = draft.index; overrides = draft.overrides.items; globals = draft.globals.items; specs = draft.specs.items; worktrees = draft.worktrees.items } };
+    ghost view = { λ draft. record { options = draft.options.items; index = draft.index; blobs = draft.blobs.items; overrides = draft.overrides.items; globals = draft.globals.items; specs = draft.specs.items; worktrees = draft.worktrees.items; configs = draft.configs.items } };
 }
 
 /// Adds an ignore rule and a line feed.
@@ -64,6 +70,10 @@ fn taken(alloc: Global, mut draft: Draft, line: &[u8]) -> Result<Option<Draft>, 
             draft.index.push(alloc, entry)?;
             Ok(Some(draft))
         }
+        Some(SetupLine::Stores(blob)) => {
+            draft.blobs.push(blob)?;
+            Ok(Some(draft))
+        }
         Some(SetupLine::OverrideRule(rule)) => {
             add_rule(&mut draft.overrides, rule.as_bytes())?;
             Ok(Some(draft))
@@ -80,6 +90,10 @@ fn taken(alloc: Global, mut draft: Draft, line: &[u8]) -> Result<Option<Draft>, 
             draft.worktrees.push(path)?;
             Ok(Some(draft))
         }
+        Some(SetupLine::Configures(config)) => {
+            draft.configs.push(config)?;
+            Ok(Some(draft))
+        }
     }
 }
 
@@ -93,10 +107,12 @@ pub fn read_lines(alloc: Global, lines: &[&[u8]]) -> Result<Draft, SetupError>
     let mut draft = Draft {
         options: Vec::new(alloc),
         index: State::new(alloc),
+        blobs: Vec::new(alloc),
         overrides: Vec::new(alloc),
         globals: Vec::new(alloc),
         specs: Vec::new(alloc),
         worktrees: Vec::new(alloc),
+        configs: Vec::new(alloc),
     };
     for (i, line) in lines.iter().enumerate() {
         match taken(alloc, draft, line)? {

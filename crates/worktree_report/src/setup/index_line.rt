@@ -78,7 +78,8 @@ fn several_flags_of(word: &[u8]) -> Option<Flags>
     }
 }
 
-fn id_of(word: &[u8]) -> Option<ObjectId>
+/// The id of a word: a dash for that of no object, or 40 hexadecimal digits. None for any other word.
+pub fn id_of(word: &[u8]) -> Option<ObjectId>
     ensures { result ≡ id_of word.now }
 {
     if word == b"-".as_slice() {

@@ -1,15 +1,17 @@
 //! What a line of a setup says by itself.
 ghost use Rattle.std.specs.Prelude.{◌≡◌, ◌&&◌, not, is_some, IfOk};
-ghost use Rattle.worktree_report.specs.SetupKeywords.{is_skipped, is_root, is_once, once_line, spec_line, worktree_line, path_line, rule_line, keyword_line, line_of};
+ghost use Rattle.worktree_report.specs.SetupKeywords.{is_skipped, is_root, is_once, once_line, file_line, spec_line, worktree_line, path_line, rule_line, keyword_line, line_of};
 ghost use Rattle.worktree_report.specs.SetupSeen.{seen};
 
 use crate::escape::unescaped;
 use crate::setup::depth::depth_of;
 use crate::setup::field::{Field, parted};
+use crate::setup::files::{SetupBlob, blob_of, config_of};
 use crate::setup::index_line::index_entry;
 use crate::setup::option::{SetupOption, option_of};
 use crate::setup::spec::is_spec;
 use crate::words::{has_nul, is_whole_path};
+use git_config_lite::Source;
 use gitbase_core::{Bytes, IndexEntry, OutOfMemory, PathText, is_absolute};
 use std::alloc::Global;
 
@@ -22,6 +24,8 @@ pub enum SetupLine {
     Sets(SetupOption),
     /// The index has an entry.
     Indexes(IndexEntry),
+    /// The store has a blob.
+    Stores(SetupBlob),
     /// An ignore rule that comes before those of any directory.
     OverrideRule(Bytes),
     /// An ignore rule that comes after those of all directories.
@@ -30,6 +34,8 @@ pub enum SetupLine {
     Specifies(Bytes),
     /// The directory at this path is a worktree of its own.
     SetsApart(PathText),
+    /// A configuration: what it belongs to, and the path of its file.
+    Configures((Source, PathText)),
 }
 
 fn is_skipped(line: &[u8]) -> bool
@@ -110,6 +116,19 @@ fn worktree_line(alloc: Global, rest: &[u8]) -> Result<Option<SetupLine>, OutOfM
     Ok(Some(SetupLine::SetsApart(path)))
 }
 
+/// A line that gives a blob, or names a configuration.
+fn file_line(alloc: Global, fields: Field<'_>) -> Result<Option<SetupLine>, OutOfMemory>
+    ensures { IfOk result (λ line. line ≡ file_line (seen fields.entry)) }
+{
+    if fields.word == b"blob".as_slice() {
+        return Ok(blob_of(alloc, fields.rest)?.map(SetupLine::Stores));
+    }
+    if fields.word == b"config".as_slice() {
+        return Ok(config_of(alloc, fields.rest)?.map(SetupLine::Configures));
+    }
+    once_line(alloc, fields)
+}
+
 /// A line that gives a path spec, or names such a directory.
 fn path_line(alloc: Global, fields: Field<'_>) -> Result<Option<SetupLine>, OutOfMemory>
     ensures { IfOk result (λ line. line ≡ path_line (seen fields.entry)) }
@@ -120,7 +139,7 @@ fn path_line(alloc: Global, fields: Field<'_>) -> Result<Option<SetupLine>, OutO
     if fields.word == b"worktree".as_slice() {
         return worktree_line(alloc, fields.rest);
     }
-    once_line(alloc, fields)
+    file_line(alloc, fields)
 }
 
 /// A line that gives an ignore rule.

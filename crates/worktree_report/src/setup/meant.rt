@@ -1,16 +1,21 @@
 //! What the lines of a setup mean together.
 ghost use Rattle.std.specs.Prelude.{◌≡◌, [], IfOk};
-ghost use Rattle.worktree_report.specs.SetupMeant.{emit_untracked_of, emit_ignored_of, emit_collapsed_of, for_deletion_of, looking_of, reporting_of, options_meant, value_of, depth_meant, ordered_after, meant};
+ghost use Rattle.worktree_report.specs.SetupMeant.{emit_untracked_of, emit_ignored_of, emit_collapsed_of, for_deletion_of, ignore_source_of, permissions_of, strategy_of, looking_of, reporting_of, options_meant, value_of, depth_meant, ordered_after, meant};
 
+use crate::permissions::Permissions;
+use crate::setup::configs::Configs;
 use crate::setup::depth::depth_of;
 use crate::setup::draft::Draft;
+use crate::setup::files::stored;
 use crate::setup::option::{SetupOption, is_set_to, option_named};
 use crate::setup::spec::specs_in;
 use crate::setup::{Setup, SetupOptions};
 use dir_classify::{CollapsedEntriesEmissionMode, EmissionMode, ForDeletionMode};
+use dir_walk::Strategy;
 use gitbase_core::{Bytes, OutOfMemory, PathText};
 use std::alloc::Global;
 use std::collections::BTreeSet;
+use worktree_stack::ignore_source;
 
 /// How many components a directory that is entered may have below the worktree root, where no line says that.
 const DEPTH_LIMIT: usize = 256;
@@ -67,6 +72,41 @@ fn for_deletion_of(options: &[SetupOption]) -> Option<ForDeletionMode>
     }
 }
 
+/// Where rules files are read.
+fn ignore_source_of(options: &[SetupOption]) -> ignore_source::Source
+    ensures { result ≡ ignore_source_of options.now }
+{
+    if is_set_to(b"ignore_source", b"mapping", options) {
+        ignore_source::Source::IdMapping
+    } else {
+        ignore_source::Source::WorktreeThenIdMappingIfNotSkipped
+    }
+}
+
+/// Which configurations are read.
+fn permissions_of(options: &[SetupOption]) -> Permissions
+    ensures { result ≡ permissions_of options.now }
+{
+    if is_set_to(b"permissions", b"isolated", options) {
+        Permissions::isolated()
+    } else if is_set_to(b"permissions", b"all", options) {
+        Permissions::all()
+    } else {
+        Permissions::secure()
+    }
+}
+
+/// How the walk goes.
+fn strategy_of(options: &[SetupOption]) -> Strategy
+    ensures { result ≡ strategy_of options.now }
+{
+    if is_set_to(b"strategy", b"at_once", options) {
+        Strategy::AtOnce
+    } else {
+        Strategy::Held
+    }
+}
+
 /// The options that say how paths are looked at.
 #[derive(Clone, Copy)]
 struct Looking {
@@ -78,6 +118,8 @@ struct Looking {
     precious: bool,
     strict_parents: bool,
     for_deletion: Option<ForDeletionMode>,
+    ignore_source: ignore_source::Source,
+    strategy: Strategy,
 }
 
 /// The options that say what is reported.
@@ -90,6 +132,8 @@ struct Reporting {
     emit_collapsed: Option<CollapsedEntriesEmissionMode>,
     emit_empty_directories: bool,
     origins: bool,
+    submodules: bool,
+    permissions: Permissions,
     print_outcome: bool,
 }
 
@@ -114,6 +158,8 @@ fn looking_of(options: &[SetupOption]) -> Looking
         precious: is_set_to(b"precious", b"yes", options),
         strict_parents: is_set_to(b"strict_parents", b"yes", options),
         for_deletion: for_deletion_of(options),
+        ignore_source: ignore_source_of(options),
+        strategy: strategy_of(options),
     }
 }
 
@@ -129,6 +175,8 @@ fn reporting_of(options: &[SetupOption]) -> Reporting
         emit_collapsed: emit_collapsed_of(options),
         emit_empty_directories: is_set_to(b"emit_empty_directories", b"yes", options),
         origins: is_set_to(b"origins", b"yes", options),
+        submodules: is_set_to(b"submodules", b"yes", options),
+        permissions: permissions_of(options),
         print_outcome: is_set_to(b"print_outcome", b"yes", options),
     }
 }
@@ -156,6 +204,25 @@ fn options_meant(options: &[SetupOption]) -> SetupOptions
         strict_parents: looking.strict_parents,
         origins: reporting.origins,
         print_outcome: reporting.print_outcome,
+        submodules: reporting.submodules,
+        ignore_source: looking.ignore_source,
+        permissions: reporting.permissions,
+        strategy: looking.strategy,
+    }
+}
+
+/// A path that stands once, by its keyword.
+#[tactic(auto, unfolding(crate::specs::SetupMeant::value_of))]
+fn path_of(
+    alloc: Global,
+    name: &[u8],
+    options: &[SetupOption],
+) -> Result<Option<PathText>, OutOfMemory>
+    ensures { IfOk result (λ path. path ≡ value_of name.now options.now) }
+{
+    match option_named(name, options) {
+        Some(option) => Ok(Some(PathText::from_bytes(alloc, option.value.as_bytes())?)),
+        None => Ok(None),
     }
 }
 
@@ -200,23 +267,26 @@ fn in_order(alloc: Global, paths: &[PathText]) -> Result<BTreeSet<PathText>, Out
 pub fn meant(alloc: Global, draft: Draft) -> Result<Setup, OutOfMemory>
     ensures { IfOk result (λ setup. setup ≡ meant draft) }
 {
-    let git_dir = value_of(alloc, b"git_dir", &draft.options)?;
-    let current_dir = value_of(alloc, b"current_dir", &draft.options)?;
+    let git_dir = path_of(alloc, b"git_dir", &draft.options)?;
+    let current_dir = path_of(alloc, b"current_dir", &draft.options)?;
     let root = value_of(alloc, b"root", &draft.options)?;
     let depth = depth_meant(&draft.options);
     let options = options_meant(&draft.options);
     let specs = specs_in(alloc, options.ignore_case, &draft.specs)?;
     let worktrees = in_order(alloc, &draft.worktrees)?;
+    let blobs = stored(alloc, &draft.blobs)?;
     Ok(Setup {
         git_dir,
         current_dir,
         root,
         depth,
         index: draft.index,
+        blobs,
         overrides: Bytes::from_vec(draft.overrides),
         globals: Bytes::from_vec(draft.globals),
         specs,
         worktrees,
+        configs: Configs::from_vec(draft.configs),
         options,
     })
 }

@@ -1,7 +1,7 @@
 //! The options of a setup.
-ghost use Rattle.std.specs.Prelude.{◌≡◌, ◌&&◌, false, option_copied, IfOk};
+ghost use Rattle.std.specs.Prelude.{◌≡◌, ◌&&◌, option_copied, IfOk};
 ghost use Rattle.std.specs.Str.{bytes_eq};
-ghost use Rattle.worktree_report.specs.SetupOptions.{is_looking, is_reporting, is_emission, is_collapsed_emission, is_deletion, may_be, option_of, is_set, is_set_to, option_named};
+ghost use Rattle.worktree_report.specs.SetupOptions.{is_looking, is_reporting, is_emission, is_collapsed_emission, is_deletion, is_ignore_source, is_permissions, is_strategy, may_go_by, may_be, option_of, is_set, is_set_to, option_named};
 
 use crate::setup::field::parted;
 use gitbase_core::{Bytes, OutOfMemory};
@@ -35,6 +35,7 @@ fn is_reporting(name: &[u8]) -> bool
         || name == b"emit_tracked".as_slice()
         || name == b"emit_empty_directories".as_slice()
         || name == b"origins".as_slice()
+        || name == b"submodules".as_slice()
         || name == b"print_outcome".as_slice()
 }
 
@@ -59,6 +60,40 @@ fn is_deletion(value: &[u8]) -> bool
     value == b"hide".as_slice() || value == b"nonbare".as_slice() || value == b"all".as_slice()
 }
 
+/// Whether a value says where rules files are read.
+fn is_ignore_source(value: &[u8]) -> bool
+    ensures { result ≡ is_ignore_source value.now }
+{
+    value == b"worktree".as_slice() || value == b"mapping".as_slice()
+}
+
+/// Whether a value says which configurations are read.
+fn is_permissions(value: &[u8]) -> bool
+    ensures { result ≡ is_permissions value.now }
+{
+    value == b"secure".as_slice() || value == b"all".as_slice() || value == b"isolated".as_slice()
+}
+
+/// Whether a value says how subtrees are walked.
+fn is_strategy(value: &[u8]) -> bool
+    ensures { result ≡ is_strategy value.now }
+{
+    value == b"held".as_slice() || value == b"at_once".as_slice()
+}
+
+/// Whether an option that says where files are read, or how subtrees are walked, may have a value.
+fn may_go_by(name: &[u8], value: &[u8]) -> bool
+    ensures { result ≡ may_go_by name.now value.now }
+{
+    if name == b"ignore_source".as_slice() {
+        is_ignore_source(value)
+    } else if name == b"permissions".as_slice() {
+        is_permissions(value)
+    } else {
+        name == b"strategy".as_slice() && is_strategy(value)
+    }
+}
+
 /// Whether an option may have a value.
 fn may_be(name: &[u8], value: &[u8]) -> bool
     ensures { result ≡ may_be name.now value.now }
@@ -74,7 +109,7 @@ fn may_be(name: &[u8], value: &[u8]) -> bool
     } else if name == b"for_deletion".as_slice() {
         value == b"no".as_slice() || is_deletion(value)
     } else {
-        false
+        may_go_by(name, value)
     }
 }
 

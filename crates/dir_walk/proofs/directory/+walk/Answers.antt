@@ -172,11 +172,11 @@ walk_name-returns-then-is_entered-clause-gives g t c = λ made s stands quiet de
     let given = setting_of g.M.Matcher a.shared.now in let ev = evidence given made s in let d = a.directory.now.path in
     let q = joined d a.name.now in let p = c.set_child.new.self.path in let at = ap (λ (x : Standing). x.path) c.in_ok-set_child.ensures in
     let k = c.in_ok-class.class in
-    let asked : NotIncreased (w.faults a.worktree.now) (w.faults c.at.new.worktree) = omega (arith, quiet, c.walk_directory.ensures.worktree.faults) in
-    let here : NotIncreased (w.faults c.at.new.worktree) (w.faults c.walk_directory.new.worktree) = omega (arith, quiet, c.at.ensures.keeps.faults) in
+    let asked : NotIncreased (w.faults a.worktree.now) (w.faults c.class_of.new.worktree) = omega (arith, quiet, c.walk_directory.ensures.worktree.faults) in
+    let here : NotIncreased (w.faults c.class_of.new.worktree) (w.faults c.walk_directory.new.worktree) = omega (arith, quiet, c.class_of.ensures.keeps.faults) in
     let is : k ≡ class o ev p None (on_disk given s.tree p true) = rw (c.path-path.ensures.path, stands.made_is) at (c.in_ok-class.ensures.class s (telling stands) stands.in_step asked) in
     let read : (asks o ev p None (on_disk given s.tree p true) && ev.is_unread p) ≡ false = rw (c.path-path.ensures.path, stands.made_is) at (c.in_ok-class.ensures.read s (telling stands) stands.in_step asked) in
-    let now = Stands-later given c.at.new.excludes c.at.ensures.keeps.tree c.at.ensures.store.holds c.at.ensures.rules.made c.at.ensures.rules.in_step stands in
+    let now = Stands-later given c.class_of.new.excludes c.class_of.ensures.keeps.tree c.class_of.ensures.store.holds c.class_of.ensures.rules.made c.class_of.ensures.rules.in_step stands in
     let some : is_empty p ≡ false = ap is_empty at ∙ joined-some d a.name.now c.requires.name in
     let into : enters o k false ≡ true = sym (c.is_entered.ensures.entered default) ∙ c.if-is_entered.true in
     let deeper : (a.levels - 1) + depth_of p ≡ limit = omega (arith, level, c.if-levels-eq0.false, ap depth_of at, depth_of-joined d a.name.now c.requires.name) in
@@ -188,10 +188,10 @@ walk_name-returns-then-is_entered-clause-part g t c = λ made s stands quiet def
     let a = c.args in let w = g.W.Worktree in let o = chosen a.shared.now.options in let given = setting_of g.M.Matcher a.shared.now in
     let ev = evidence given made s in let d = a.directory.now.path in let q = joined d a.name.now in let p = c.set_child.new.self.path in
     let at = ap (λ (x : Standing). x.path) c.in_ok-set_child.ensures in let k = c.in_ok-class.class in
-    let asked : NotIncreased (w.faults a.worktree.now) (w.faults c.at.new.worktree) = omega (arith, quiet, c.walk_directory.ensures.worktree.faults) in
-    let here : NotIncreased (w.faults c.at.new.worktree) (w.faults c.walk_directory.new.worktree) = omega (arith, quiet, c.at.ensures.keeps.faults) in
+    let asked : NotIncreased (w.faults a.worktree.now) (w.faults c.class_of.new.worktree) = omega (arith, quiet, c.walk_directory.ensures.worktree.faults) in
+    let here : NotIncreased (w.faults c.class_of.new.worktree) (w.faults c.walk_directory.new.worktree) = omega (arith, quiet, c.class_of.ensures.keeps.faults) in
     let is : k ≡ class o ev p None (on_disk given s.tree p true) = rw (c.path-path.ensures.path, stands.made_is) at (c.in_ok-class.ensures.class s (telling stands) stands.in_step asked) in
-    let now = Stands-later given c.at.new.excludes c.at.ensures.keeps.tree c.at.ensures.store.holds c.at.ensures.rules.made c.at.ensures.rules.in_step stands in
+    let now = Stands-later given c.class_of.new.excludes c.class_of.ensures.keeps.tree c.class_of.ensures.store.holds c.class_of.ensures.rules.made c.class_of.ensures.rules.in_step stands in
     let some : is_empty p ≡ false = ap is_empty at ∙ joined-some d a.name.now c.requires.name in
     let into : enters o k false ≡ true = sym (c.is_entered.ensures.entered default) ∙ c.if-is_entered.true in
     on_err_weaker c.walk_directory.result (λ part. part-directory given made s p k is q at _ _ some into part)
@@ -202,12 +202,12 @@ walk_name-returns-clause-gives g t c = λ made s stands quiet default limit leve
     let a = c.args in let w = g.W.Worktree in let o = chosen a.shared.now.options in
     let given = setting_of g.M.Matcher a.shared.now in let ev = evidence given made s in let q = joined a.directory.now.path a.name.now in
     let p = c.set_child.new.self.path in let at = ap (λ (x : Standing). x.path) c.in_ok-set_child.ensures in let k = c.in_ok-class.class in
-    let asked : NotIncreased (w.faults a.worktree.now) (w.faults c.at.new.worktree) = omega (arith, quiet, c.leaf_class.ensures.worktree.faults) in
-    let here : NotIncreased (w.faults c.at.new.worktree) (w.faults c.leaf_class.new.worktree) = omega (arith, quiet, c.at.ensures.keeps.faults) in
+    let asked : NotIncreased (w.faults a.worktree.now) (w.faults c.class_of.new.worktree) = omega (arith, quiet, c.leaf_class.ensures.worktree.faults) in
+    let here : NotIncreased (w.faults c.class_of.new.worktree) (w.faults c.leaf_class.new.worktree) = omega (arith, quiet, c.class_of.ensures.keeps.faults) in
     let is : k ≡ class o ev p None (on_disk given s.tree p true) = rw (c.path-path.ensures.path, stands.made_is) at (c.in_ok-class.ensures.class s (telling stands) stands.in_step asked) in
     let read : (asks o ev p None (on_disk given s.tree p true) && ev.is_unread p) ≡ false = rw (c.path-path.ensures.path, stands.made_is) at (c.in_ok-class.ensures.read s (telling stands) stands.in_step asked) in
     let leaving : enters o k false ≡ false = sym (c.is_entered.ensures.entered default) ∙ c.if-is_entered.false in let z = c.in_ok-class-2.class in
-    let hides : z ≡ leaf_class o ev p k = c.in_ok-class-2.ensures.class made s (c.at.ensures.keeps.tree ∙ stands.tree) here in
+    let hides : z ≡ leaf_class o ev p k = c.in_ok-class-2.ensures.class made s (c.class_of.ensures.keeps.tree ∙ stands.tree) here in
     IfOk-weaker c.put_leaf.result _ _ (λ h closes. Gives-leaf given made s p k is q at _ _ limit _ _ h read leaving (Gives-put o limit ev p k z _ _ _ _ h hides closes))
     (rw (c.path-path.ensures.path, c.is_entered.ensures.given) at c.put_leaf.ensures.gives)
 
@@ -216,11 +216,11 @@ walk_name-returns-clause-part g t c = λ made s stands quiet default.
     let a = c.args in let w = g.W.Worktree in let o = chosen a.shared.now.options in let given = setting_of g.M.Matcher a.shared.now in
     let ev = evidence given made s in let q = joined a.directory.now.path a.name.now in let p = c.set_child.new.self.path in
     let at = ap (λ (x : Standing). x.path) c.in_ok-set_child.ensures in let k = c.in_ok-class.class in
-    let asked : NotIncreased (w.faults a.worktree.now) (w.faults c.at.new.worktree) = omega (arith, quiet, c.leaf_class.ensures.worktree.faults) in
-    let here : NotIncreased (w.faults c.at.new.worktree) (w.faults c.leaf_class.new.worktree) = omega (arith, quiet, c.at.ensures.keeps.faults) in
+    let asked : NotIncreased (w.faults a.worktree.now) (w.faults c.class_of.new.worktree) = omega (arith, quiet, c.leaf_class.ensures.worktree.faults) in
+    let here : NotIncreased (w.faults c.class_of.new.worktree) (w.faults c.leaf_class.new.worktree) = omega (arith, quiet, c.class_of.ensures.keeps.faults) in
     let is : k ≡ class o ev p None (on_disk given s.tree p true) = rw (c.path-path.ensures.path, stands.made_is) at (c.in_ok-class.ensures.class s (telling stands) stands.in_step asked) in
     let leaving : enters o k false ≡ false = sym (c.is_entered.ensures.entered default) ∙ c.if-is_entered.false in let z = c.in_ok-class-2.class in
-    let hides : z ≡ leaf_class o ev p k = c.in_ok-class-2.ensures.class made s (c.at.ensures.keeps.tree ∙ stands.tree) here in
+    let hides : z ≡ leaf_class o ev p k = c.in_ok-class-2.ensures.class made s (c.class_of.ensures.keeps.tree ∙ stands.tree) here in
     on_err_weaker c.put_leaf.result (λ part. part-leaf given made s p k is q at _ _ leaving (part-put o ev p k z _ _ hides part))
     (rw (c.path-path.ensures.path, c.is_entered.ensures.given) at c.put_leaf.ensures.part)
 
@@ -298,12 +298,12 @@ walk_name-returns-in_err-class-clause-refused g t c = λ made s stands default l
     let at = ap (λ (x : Standing). x.path) c.in_ok-set_child.ensures in let ev = evidence given made s in
     let some : is_empty p ≡ false = ap is_empty at ∙ joined-some a.directory.now.path a.name.now c.requires.name in
     let Asks : Type 0 = asks (chosen a.shared.now.options) ev p None (on_disk given s.tree p true) ≡ true in
-    let failed : Type 0 = Increased (w.faults a.worktree.now) (w.faults c.at.new.worktree) in
+    let failed : Type 0 = Increased (w.faults a.worktree.now) (w.faults c.class_of.new.worktree) in
     let r = err_from_is_err_and c.from_residual-in_err-class.result c.from_residual-in_err-class.ensures.1 in
     let P : List ℕ → Type 0 = λ x. Refuses given made s limit failed (item_told given made s x) c.in_err-class.field-0.0 in
     rw (r.1, r.2) (subst P at (Refuses-class given made s limit failed Asks (item_told given made s p) p c.in_err-class.field-0.0 c.path-path.ensures.normal (rw (c.path-path.ensures.path, stands.made_is) at c.in_err-class.ensures.about)
     (rw (c.path-path.ensures.path, stands.made_is) at (c.in_err-class.ensures.refused s (telling stands)))
-    (either (λ quiet. inl (rw (c.path-path.ensures.path, stands.made_is) at (c.in_err-class.ensures.asked s stands.tree quiet))) (λ rose. inr rose) (rose-or (w.faults a.worktree.now) (w.faults c.at.new.worktree)))
+    (either (λ quiet. inl (rw (c.path-path.ensures.path, stands.made_is) at (c.in_err-class.ensures.asked s stands.tree quiet))) (λ rose. inr rose) (rose-or (w.faults a.worktree.now) (w.faults c.class_of.new.worktree)))
     (among-asked given made s p some)))
 
 pub walk_name-returns-then-levels-eq0-clause-about : goal.walk_name-returns-then-levels-eq0-clause-about
@@ -322,20 +322,20 @@ walk_name-returns-then-levels-eq0-clause-refused g t c = λ made s stands defaul
     let deep : limit < depth_of p = omega (arith, level, c.if-levels-eq0.true, ap depth_of at, depth_of-joined d a.name.now c.requires.name) in
     let k = c.in_ok-class.class in let some : is_empty p ≡ false = ap is_empty at ∙ joined-some d a.name.now c.requires.name in
     let into : enters (chosen a.shared.now.options) k false ≡ true = sym (c.is_entered.ensures.entered default) ∙ c.if-is_entered.true in
-    let exact = λ (quiet : NotIncreased (w.faults a.worktree.now) (w.faults c.at.new.worktree)). (rw (c.path-path.ensures.path, stands.made_is) at (c.in_ok-class.ensures.class s (telling stands) stands.in_step quiet)) in
-    let failed : Type 0 = Increased (w.faults a.worktree.now) (w.faults c.at.new.worktree) in
+    let exact = λ (quiet : NotIncreased (w.faults a.worktree.now) (w.faults c.class_of.new.worktree)). (rw (c.path-path.ensures.path, stands.made_is) at (c.in_ok-class.ensures.class s (telling stands) stands.in_step quiet)) in
+    let failed : Type 0 = Increased (w.faults a.worktree.now) (w.faults c.class_of.new.worktree) in
     let P : List ℕ → Type 0 = λ x. Refuses given made s limit failed (item_told given made s x) c.too_deep.result in
     subst P at (Refuses-deep given made s limit failed _ (item_told given made s p) p c.too_deep.result deep
-    (either (λ quiet. inl (enter-told given made s p k (exact quiet) some into)) (λ rose. inr rose) (rose-or (w.faults a.worktree.now) (w.faults c.at.new.worktree))) (rw base at c.too_deep.ensures.deep))
+    (either (λ quiet. inl (enter-told given made s p k (exact quiet) some into)) (λ rose. inr rose) (rose-or (w.faults a.worktree.now) (w.faults c.class_of.new.worktree))) (rw base at c.too_deep.ensures.deep))
 
 pub walk_name-returns-then-is_entered-clause-about : goal.walk_name-returns-then-is_entered-clause-about
 walk_name-returns-then-is_entered-clause-about g t c = λ limit level.
     let a = c.args in let at = ap (λ (x : Standing). x.path) c.in_ok-set_child.ensures in
     let deeper : (a.levels - 1) + depth_of c.set_child.new.self.path ≡ limit = omega (arith, level, c.if-levels-eq0.false, ap depth_of at, depth_of-joined a.directory.now.path a.name.now c.requires.name) in
-    rw c.at.ensures.rules.made at (c.walk_directory.ensures.about limit deeper)
+    rw c.class_of.ensures.rules.made at (c.walk_directory.ensures.about limit deeper)
 
 pub walk_name-returns-then-is_entered-clause-found : goal.walk_name-returns-then-is_entered-clause-found
-walk_name-returns-then-is_entered-clause-found g t c = λ s told. rw (c.at.ensures.store.holds, c.at.ensures.rules.made) at (c.walk_directory.ensures.found s (c.at.ensures.keeps.tree ∙ told))
+walk_name-returns-then-is_entered-clause-found g t c = λ s told. rw (c.class_of.ensures.store.holds, c.class_of.ensures.rules.made) at (c.walk_directory.ensures.found s (c.class_of.ensures.keeps.tree ∙ told))
 
 pub walk_name-returns-then-is_entered-clause-refused : goal.walk_name-returns-then-is_entered-clause-refused
 walk_name-returns-then-is_entered-clause-refused g t c = λ made s stands default limit level.
@@ -344,19 +344,19 @@ walk_name-returns-then-is_entered-clause-refused g t c = λ made s stands defaul
     let ev = evidence given made s in let k = c.in_ok-class.class in
     let some : is_empty p ≡ false = ap is_empty at ∙ joined-some d a.name.now c.requires.name in
     let into : enters (chosen a.shared.now.options) k false ≡ true = sym (c.is_entered.ensures.entered default) ∙ c.if-is_entered.true in
-    let exact = λ (quiet : NotIncreased (w.faults a.worktree.now) (w.faults c.at.new.worktree)). (rw (c.path-path.ensures.path, stands.made_is) at (c.in_ok-class.ensures.class s (telling stands) stands.in_step quiet)) in
-    let now = Stands-later given c.at.new.excludes c.at.ensures.keeps.tree c.at.ensures.store.holds c.at.ensures.rules.made c.at.ensures.rules.in_step stands in
+    let exact = λ (quiet : NotIncreased (w.faults a.worktree.now) (w.faults c.class_of.new.worktree)). (rw (c.path-path.ensures.path, stands.made_is) at (c.in_ok-class.ensures.class s (telling stands) stands.in_step quiet)) in
+    let now = Stands-later given c.class_of.new.excludes c.class_of.ensures.keeps.tree c.class_of.ensures.store.holds c.class_of.ensures.rules.made c.class_of.ensures.rules.in_step stands in
     let deeper : (a.levels - 1) + depth_of p ≡ limit = omega (arith, level, c.if-levels-eq0.false, ap depth_of at, depth_of-joined d a.name.now c.requires.name) in
-    let inside : Type 0 = Increased (w.faults c.at.new.worktree) (w.faults c.walk_directory.new.worktree) in
+    let inside : Type 0 = Increased (w.faults c.class_of.new.worktree) (w.faults c.walk_directory.new.worktree) in
     let failed : Type 0 = Increased (w.faults a.worktree.now) (w.faults c.walk_directory.new.worktree) in
     let same = ap (λ (b : Bool). look s.tree (full_path given.root p) b) some in
     let within : HasPaths (directory_told given made s p k) (item_told given made s p) ⊎ failed =
-    either (λ quiet. inl (HasPaths-told given made s p k (exact quiet) some into)) (λ rose. inr (omega (arith, rose, c.walk_directory.ensures.worktree.faults))) (rose-or (w.faults a.worktree.now) (w.faults c.at.new.worktree)) in
+    either (λ quiet. inl (HasPaths-told given made s p k (exact quiet) some into)) (λ rose. inr (omega (arith, rose, c.walk_directory.ensures.worktree.faults))) (rose-or (w.faults a.worktree.now) (w.faults c.class_of.new.worktree)) in
     let judged : IsJudged (λ kind read. class (chosen a.shared.now.options) read p None kind) ev p (on_disk given s.tree p true) k = rw (c.path-path.ensures.path, stands.made_is) at (c.in_ok-class.ensures.swallowed s (telling stands) stands.in_step) in
     let P : List ℕ → Error → Type 0 = λ x. Refuses given made s limit failed (item_told given made s x) in
     IfErr-weaker c.walk_directory.result (OnRefused (DirectoryRefuses given made s limit inside p k)) (OnRefused (P q))
     (refused-any (DirectoryRefuses given made s limit inside p k) (P q)
-    (λ e h. subst (λ (x : List ℕ). P x e) at (Refuses-directory given made s limit inside failed (item_told given made s p) p k e same within (λ rose. omega (arith, rose, c.at.ensures.keeps.faults))
+    (λ e h. subst (λ (x : List ℕ). P x e) at (Refuses-directory given made s limit inside failed (item_told given made s p) p k e same within (λ rose. omega (arith, rose, c.class_of.ensures.keeps.faults))
     (λ why unlisted. indexed-unlisted (chosen a.shared.now.options) ev p (look_name given s.tree p) k why judged into unlisted) h)))
     (c.walk_directory.ensures.refused made s now (c.is_entered.ensures.default ∙ default) limit deeper)
 
@@ -396,27 +396,27 @@ pub walk_name-returns-in_err-class-clause-opens : goal.walk_name-returns-in_err-
 walk_name-returns-in_err-class-clause-opens g t c =
     let path = ap (λ (x : Standing). x.path) c.in_ok-set_child.ensures in
     let r = err_from_is_err_and c.from_residual-in_err-class.result c.from_residual-in_err-class.ensures.1 in
-    rw (r.1, r.2) (opens-class c.args.directory.now.path c.args.name.now c.requires.name c.at.ensures.keeps.lists (rw (c.path-path.ensures.path, path) at c.in_err-class.ensures.reads))
+    rw (r.1, r.2) (opens-class c.args.directory.now.path c.args.name.now c.requires.name c.class_of.ensures.keeps.lists (rw (c.path-path.ensures.path, path) at c.in_err-class.ensures.reads))
 
 pub walk_name-returns-then-levels-eq0-clause-opens : goal.walk_name-returns-then-levels-eq0-clause-opens
 walk_name-returns-then-levels-eq0-clause-opens g t c =
     let path = ap (λ (x : Standing). x.path) c.in_ok-set_child.ensures in
-    opens-still (opens-class c.args.directory.now.path c.args.name.now c.requires.name c.at.ensures.keeps.lists (rw (c.path-path.ensures.path, path) at c.in_ok-class.ensures.reads)) refl refl c.too_deep.ensures.interrupt.questions (λ on. refl)
+    opens-still (opens-class c.args.directory.now.path c.args.name.now c.requires.name c.class_of.ensures.keeps.lists (rw (c.path-path.ensures.path, path) at c.in_ok-class.ensures.reads)) refl refl c.too_deep.ensures.interrupt.questions (λ on. refl)
 
 pub walk_name-returns-then-is_entered-clause-opens : goal.walk_name-returns-then-is_entered-clause-opens
 walk_name-returns-then-is_entered-clause-opens g t c =
     let path = ap (λ (x : Standing). x.path) c.in_ok-set_child.ensures in
-    opens-then (opens-class c.args.directory.now.path c.args.name.now c.requires.name c.at.ensures.keeps.lists (rw (c.path-path.ensures.path, path) at c.in_ok-class.ensures.reads)) (opens-below c.args.directory.now.path c.args.name.now c.requires.name (rw path at c.walk_directory.ensures.opens))
+    opens-then (opens-class c.args.directory.now.path c.args.name.now c.requires.name c.class_of.ensures.keeps.lists (rw (c.path-path.ensures.path, path) at c.in_ok-class.ensures.reads)) (opens-below c.args.directory.now.path c.args.name.now c.requires.name (rw path at c.walk_directory.ensures.opens))
 
 pub walk_name-returns-in_err-class-2-clause-opens : goal.walk_name-returns-in_err-class-2-clause-opens
 walk_name-returns-in_err-class-2-clause-opens g t c =
     let path = ap (λ (x : Standing). x.path) c.in_ok-set_child.ensures in let o = chosen c.args.shared.now.options in
-    opens-still (opens-class c.args.directory.now.path c.args.name.now c.requires.name c.at.ensures.keeps.lists (rw (c.path-path.ensures.path, path) at c.in_ok-class.ensures.reads)) c.leaf_class.ensures.worktree.lists refl (omega arith) (λ on. c.leaf_class.ensures.reads (hides-none o on))
+    opens-still (opens-class c.args.directory.now.path c.args.name.now c.requires.name c.class_of.ensures.keeps.lists (rw (c.path-path.ensures.path, path) at c.in_ok-class.ensures.reads)) c.leaf_class.ensures.worktree.lists refl (omega arith) (λ on. c.leaf_class.ensures.reads (hides-none o on))
 
 pub walk_name-returns-clause-opens : goal.walk_name-returns-clause-opens
 walk_name-returns-clause-opens g t c =
     let path = ap (λ (x : Standing). x.path) c.in_ok-set_child.ensures in let o = chosen c.args.shared.now.options in
-    opens-still (opens-class c.args.directory.now.path c.args.name.now c.requires.name c.at.ensures.keeps.lists (rw (c.path-path.ensures.path, path) at c.in_ok-class.ensures.reads)) c.leaf_class.ensures.worktree.lists c.put_leaf.ensures.entered (omega arith)
+    opens-still (opens-class c.args.directory.now.path c.args.name.now c.requires.name c.class_of.ensures.keeps.lists (rw (c.path-path.ensures.path, path) at c.in_ok-class.ensures.reads)) c.leaf_class.ensures.worktree.lists c.put_leaf.ensures.entered (omega arith)
     (λ on. c.leaf_class.ensures.reads (hides-none o on))
 
 pub walk_directory-returns-in_err-names-clause-hands : goal.walk_directory-returns-in_err-names-clause-hands
@@ -493,4 +493,4 @@ walk_directory-returns-clause-caused g t c =
     Caused-later c.close.result kept.worktree.faults kept.store.faults kept.calm kept.listed (Caused-memory c.close.result c.close.ensures.memory)
 
 pub walk_name-returns-then-is_entered-clause-rules : goal.walk_name-returns-then-is_entered-clause-rules
-walk_name-returns-then-is_entered-clause-rules g t c = KeepsRules-then c.at.ensures.keeps.tree c.at.ensures.store.holds c.at.ensures.rules c.walk_directory.ensures.rules
+walk_name-returns-then-is_entered-clause-rules g t c = KeepsRules-then c.class_of.ensures.keeps.tree c.class_of.ensures.store.holds c.class_of.ensures.rules c.walk_directory.ensures.rules

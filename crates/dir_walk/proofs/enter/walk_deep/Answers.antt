@@ -1,9 +1,10 @@
-use Rattle.std.proofs.Common.{ℕ, inl, inr, ap, arith}
+use Rattle.std.proofs.Common.{ℕ, inl, inr, ap, refl, arith}
 use Rattle.dir_classify.specs.Chosen.{chosen}
 use Rattle.dir_classify.specs.Layers.{setting_of, evidence}
 use Rattle.worktree_fs.specs.Causes.{Increased}
 use Rattle.dir_walk.specs.Report.{depth_of}
 use Rattle.dir_walk.specs.Told.{directory_told, look_directory}
+use Rattle.dir_walk.proofs.FromRoot.{opens-not}
 use Rattle.dir_walk.proofs.Refusals.{Refuses-deep}
 use Rattle.dir_walk.proofs.Steps.{entered-among}
 use Rattle.dir_walk.proofs.enter.walk_deep.Goals as goal
@@ -21,9 +22,25 @@ returns-then-depth-depth_limit-clause-refused g c = λ made s stands default.
     (inl (entered-among (chosen a.shared.now.options) (evidence given made s) d a.class.now (look_directory given s.tree d)))
     (rw c.requires.root at c.too_deep.ensures.deep))
 
-pub returns-clause-refused : goal.returns-clause-refused
-returns-clause-refused g c = λ made s stands default.
+pub returns-in-Held-clause-refused : goal.returns-in-Held-clause-refused
+returns-in-Held-clause-refused g c = λ made s stands default.
     c.walk_directory.ensures.refused made s stands default c.args.depth_limit (omega (arith, c.if-depth-depth_limit.false, c.depth_of-depth.ensures, ap {B = ℕ} depth_of c.path.ensures.path))
 
-pub returns-clause-about : goal.returns-clause-about
-returns-clause-about g c = c.walk_directory.ensures.about c.args.depth_limit (omega (arith, c.if-depth-depth_limit.false, c.depth_of-depth.ensures, ap {B = ℕ} depth_of c.path.ensures.path))
+pub returns-in-Held-clause-about : goal.returns-in-Held-clause-about
+returns-in-Held-clause-about g c = c.walk_directory.ensures.about c.args.depth_limit (omega (arith, c.if-depth-depth_limit.false, c.depth_of-depth.ensures, ap {B = ℕ} depth_of c.path.ensures.path))
+
+pub returns-in-AtOnce-clause-refused : goal.returns-in-AtOnce-clause-refused
+returns-in-AtOnce-clause-refused g c = λ made s stands default.
+    c.walk_children.ensures.refused made s stands default c.args.depth_limit (omega (arith, c.if-depth-depth_limit.false, c.depth_of-depth.ensures, ap {B = ℕ} depth_of c.path.ensures.path))
+
+pub returns-in-AtOnce-clause-about : goal.returns-in-AtOnce-clause-about
+returns-in-AtOnce-clause-about g c = c.walk_children.ensures.about c.args.depth_limit (omega (arith, c.if-depth-depth_limit.false, c.depth_of-depth.ensures, ap {B = ℕ} depth_of c.path.ensures.path))
+
+pub returns-then-depth-depth_limit-clause-opens : goal.returns-then-depth-depth_limit-clause-opens
+returns-then-depth-depth_limit-clause-opens g c = opens-not c.args.strategy _ _ _ _ _ _ _ _ _ _ refl refl c.too_deep.ensures.interrupt.questions
+
+pub returns-in-Held-clause-opens : goal.returns-in-Held-clause-opens
+returns-in-Held-clause-opens g c = rw c.in-Held.is c.walk_directory.ensures.opens
+
+pub returns-in-AtOnce-clause-opens : goal.returns-in-AtOnce-clause-opens
+returns-in-AtOnce-clause-opens g c = rw c.in-AtOnce.is c.walk_children.ensures.opens

@@ -1,13 +1,14 @@
-use Rattle.std.proofs.Common.{arith, option_to_list, Err}
+use Rattle.std.proofs.Common.{arith, refl, option_to_list, Err}
 use Rattle.std.proofs.lemmas.Result.{err_from_is_err_and, on_err_weaker, on_ok_weaker}
 use Rattle.worktree_fs.specs.Causes.{Increased, NotIncreased}
 use Rattle.dir_classify.specs.Chosen.{chosen}
 use Rattle.dir_classify.specs.Excludes.{made_with}
 use Rattle.dir_classify.specs.Layers.{setting_of, evidence}
+use Rattle.dir_walk.specs.declared.handed.Handed.{Handed}
 use Rattle.dir_walk.specs.Refused.{DirectoryRefuses}
 use Rattle.dir_walk.specs.Told.{directory_told}
 use Rattle.dir_walk.proofs.CallByCall.{Before-asked, Ends-after, Ends-err, Ends-then}
-use Rattle.dir_walk.proofs.FromRoot.{Puts-out, opens-not}
+use Rattle.dir_walk.proofs.FromRoot.{Puts-out, opens-around, opens-not, refused-same}
 use Rattle.dir_walk.proofs.HandedOn.{DirectoryRefuses-weaker, Stands-asked, gives-all, part-all, part-out}
 use Rattle.dir_walk.proofs.Refusals.{refused-any}
 use Rattle.dir_walk.proofs.enter.walk_entered.Goals as goal
@@ -80,10 +81,15 @@ returns-clause-ends g c =
     let told = c.put_handed.ensures in
     Ends-then w f i d c.in_ok-handed.handed c.put_handed.result (Ends-after w f i d _ (Before-asked c.in_ok-blocked.ensures.keeps) c.in_ok-handed.ensures.ends) told.delegate told.heeds told.memory
 
+pub returns-in_err-place-clause-opens : goal.returns-in_err-place-clause-opens
+returns-in_err-place-clause-opens g c =
+    let p = err_from_is_err_and c.from_residual.result c.from_residual.ensures.1 in
+    rw (p.1, p.2) (opens-not c.args.strategy _ _ _ _ _ _ _ _ _ _ refl refl (omega arith))
+
 pub returns-in_err-blocked-clause-opens : goal.returns-in_err-blocked-clause-opens
 returns-in_err-blocked-clause-opens g c =
     let p = err_from_is_err_and c.from_residual-in_err-blocked.result c.from_residual-in_err-blocked.ensures.1 in
-    rw (p.1, p.2) (opens-not c.in_err-blocked.ensures.keeps.lists c.in_err-blocked.ensures.reads)
+    rw (p.1, p.2) (opens-not c.args.strategy _ _ _ _ _ _ _ _ _ _ c.in_err-blocked.ensures.keeps.lists c.in_err-blocked.ensures.reads (omega arith))
 
 pub returns-clause-puts : goal.returns-clause-puts
 returns-clause-puts g c = Puts-out (option_to_list c.in_ok-handed.handed.entry) (rw c.in_ok-place.ensures at c.in_ok-handed.ensures.hands.puts) c.put_handed.ensures.puts
@@ -97,3 +103,14 @@ returns-in_err-handed-clause-ends g c =
     let p = err_from_is_err_and c.from_residual-in_err-handed.result c.from_residual-in_err-handed.ensures.1 in
     let stop = c.in_err-handed.field-0.0 in
     rw (p.1, p.2) (Ends-err w f i d stop (Ends-after w f i d (Err stop) (Before-asked c.in_ok-blocked.ensures.keeps) c.in_err-handed.ensures.ends))
+
+pub returns-in_err-handed-clause-opens : goal.returns-in_err-handed-clause-opens
+returns-in_err-handed-clause-opens g c =
+    let asked = c.in_ok-blocked.ensures in
+    let p = err_from_is_err_and c.from_residual-in_err-handed.result c.from_residual-in_err-handed.ensures.1 in
+    rw (p.1, p.2) (opens-around c.args.strategy _ _ _ _ _ _ _ _ _ _ _ _ _ _ _ _ asked.keeps.lists asked.reads refl (refused-same Handed (Unit {0}) c.in_err-handed.field-0.0) (rw c.in_ok-place.ensures at c.in_err-handed.ensures.opens))
+
+pub returns-clause-opens : goal.returns-clause-opens
+returns-clause-opens g c =
+    let asked = c.in_ok-blocked.ensures in
+    opens-around c.args.strategy _ _ _ _ _ _ _ _ _ _ _ _ _ _ _ _ asked.keeps.lists asked.reads c.put_handed.ensures.entered (omega arith) (rw c.in_ok-place.ensures at c.in_ok-handed.ensures.opens)

@@ -3,10 +3,11 @@ use Rattle.std.proofs.lemmas.List.Sorted.{length_permutation}
 use Rattle.std.proofs.lemmas.Result.{err_from_is_err_and}
 use Rattle.dir_classify.specs.Excludes.{made_with}
 use Rattle.dir_classify.specs.Layers.{setting_in}
+use Rattle.dir_walk.specs.declared.report.Report.{Report}
 use Rattle.dir_walk.specs.Emissions.{Emission}
 use Rattle.dir_walk.specs.Walks.{WalkGives}
 use Rattle.dir_walk.proofs.ByPath.{ascends-given, distinct-given, is-report}
-use Rattle.dir_walk.proofs.WalksSo.{walks-memory, walks-other}
+use Rattle.dir_walk.proofs.WalksSo.{walks-memory, walks-more, walks-other}
 use Rattle.dir_walk.proofs.report.walk_by_path.Goals as goal
 
 pub returns-clause-gives : goal.returns-clause-gives
@@ -16,8 +17,8 @@ returns-clause-gives g c = λ s tells quiet.
     let made = made_with a.ctx.excludes.now in
     let explicit = a.ctx.explicit_traversal_root.now in
     let tree = g.met.W.Worktree.is_tree a.ctx.worktree.now s.tree tells.tells.tree_is in
-    is-report given made s explicit a.ctx.depth_limit tree c.walk.new.delegate.unorded_entries c.in_ok-entries.entries c.in_ok-outcome.outcome c.in_ok-outcome.root
-    (subst (λ (before : List Emission). WalkGives given made s explicit a.ctx.depth_limit (Some before) (Some c.walk.new.delegate.unorded_entries) (c.in_ok-outcome.outcome, c.in_ok-outcome.root)) c.new-delegate.ensures
+    is-report given made s explicit a.ctx.depth_limit tree c.walk_as.new.delegate.unorded_entries c.in_ok-entries.entries c.in_ok-outcome.outcome c.in_ok-outcome.root
+    (subst (λ (before : List Emission). WalkGives given made s explicit a.ctx.depth_limit (Some before) (Some c.walk_as.new.delegate.unorded_entries) (c.in_ok-outcome.outcome, c.in_ok-outcome.root)) c.new-delegate.ensures
     (c.in_ok-outcome.ensures.feeds.gives s tells refl quiet (omega arith)))
     c.in_ok-entries.ensures.sorted
 
@@ -26,7 +27,7 @@ returns-in_err-outcome-clause-walks_worktree g c =
     let a = c.args in
     let p = err_from_is_err_and c.from_residual.result c.from_residual.ensures.1 in
     rw (p.1, p.2)
-    (walks-other g.W.Worktree g.F.Find g.I.Interrupt (setting_in g.M.Matcher a.worktree_root.now a.options a.ctx) a.ctx.explicit_traversal_root.now a.ctx.depth_limit true (λ r. r.0) (λ r. r.outcome) c.in_err-outcome.field-0.0
+    (walks-other g.W.Worktree g.F.Find g.I.Interrupt a.strategy (setting_in g.M.Matcher a.worktree_root.now a.options a.ctx) a.ctx.explicit_traversal_root.now a.ctx.depth_limit true (λ r. r.0) (λ r. r.1) (λ r. r.outcome) (λ r. r.root) c.in_err-outcome.field-0.0
     c.in_err-outcome.ensures.walks_worktree)
 
 pub returns-in_err-entries-clause-walks_worktree : goal.returns-in_err-entries-clause-walks_worktree
@@ -34,20 +35,27 @@ returns-in_err-entries-clause-walks_worktree g c =
     let a = c.args in
     let p = err_from_is_err_and c.from_residual-in_err-entries.result c.from_residual-in_err-entries.ensures.1 in
     rw (p.1, p.2)
-    (walks-memory g.W.Worktree g.F.Find g.I.Interrupt (setting_in g.M.Matcher a.worktree_root.now a.options a.ctx) a.ctx.explicit_traversal_root.now a.ctx.depth_limit true (λ r. r.0) (λ r. r.outcome)
+    (walks-memory g.W.Worktree g.F.Find g.I.Interrupt a.strategy (setting_in g.M.Matcher a.worktree_root.now a.options a.ctx) a.ctx.explicit_traversal_root.now a.ctx.depth_limit true (λ r. r.0) (λ r. r.1) (λ r. r.outcome) (λ r. r.root)
     (c.in_ok-outcome.outcome, c.in_ok-outcome.root) c.in_ok-outcome.ensures.walks_worktree)
+
+pub returns-clause-walks_worktree : goal.returns-clause-walks_worktree
+returns-clause-walks_worktree g c =
+    let a = c.args in
+    let made : Report = record { outcome = c.in_ok-outcome.outcome; root = c.in_ok-outcome.root; entries = c.in_ok-entries.entries } in
+    walks-more g.W.Worktree g.F.Find g.I.Interrupt a.strategy (setting_in g.M.Matcher a.worktree_root.now a.options a.ctx) a.ctx.explicit_traversal_root.now a.ctx.depth_limit true (λ r. r.0) (λ r. r.1) (λ r. r.outcome) (λ r. r.root)
+    (c.in_ok-outcome.outcome, c.in_ok-outcome.root) made refl refl c.in_ok-outcome.ensures.walks_worktree
 
 pub returns-clause-ordered : goal.returns-clause-ordered
 returns-clause-ordered g c =
     let a = c.args in
-    let got = c.walk.new.delegate.unorded_entries in
+    let got = c.walk_as.new.delegate.unorded_entries in
     ascends-given got c.in_ok-entries.entries
-    (distinct-given (setting_in g.M.Matcher a.worktree_root.now a.options a.ctx) a.ctx.explicit_traversal_root.now c.new-delegate.result.unorded_entries got c.new-delegate.ensures c.in_ok-outcome.ensures.feeds.once)
+    (distinct-given (setting_in g.M.Matcher a.worktree_root.now a.options a.ctx) a.ctx.explicit_traversal_root.now _ _ c.new-delegate.result.unorded_entries got c.new-delegate.ensures c.in_ok-outcome.ensures.feeds.once)
     c.in_ok-entries.ensures.sorted
 
 pub returns-clause-counted : goal.returns-clause-counted
 returns-clause-counted g c =
-    let got = c.walk.new.delegate.unorded_entries in
+    let got = c.walk_as.new.delegate.unorded_entries in
     omega (
       arith,
       c.in_ok-outcome.ensures.feeds.returned refl,

@@ -162,22 +162,22 @@ returns-clause-no_root g c = λ s tells quiet.
 pub returns-in_err-reached-clause-opens : goal.returns-in_err-reached-clause-opens
 returns-in_err-reached-clause-opens g c =
     let p = err_from_is_err_and c.from_residual.result c.from_residual.ensures.1 in
-    rw (p.1, p.2) (opens-short c.root_at.new.worktree c.in_err-reached.ensures.reads _ c.in_err-reached.ensures.keeps.lists refl refl (omega arith))
+    rw (p.1, p.2) (opens-short c.root_at.new.worktree c.args.strategy c.in_err-reached.ensures.reads _ c.in_err-reached.ensures.keeps.lists refl refl (omega arith))
 
 pub returns-in_err-is_root_entered-clause-opens : goal.returns-in_err-is_root_entered-clause-opens
 returns-in_err-is_root_entered-clause-opens g c =
     let way = c.in_ok-reached.ensures in
     let asked = c.in_err-is_root_entered.ensures in
-    opens-short c.root_at.new.worktree way.reads _ (asked.keeps.lists ∙ way.keeps.lists) asked.reads refl (omega arith)
+    opens-short c.root_at.new.worktree c.args.strategy way.reads _ (asked.keeps.lists ∙ way.keeps.lists) asked.reads refl (omega arith)
 
 pub returns-then-branch-clause-opens : goal.returns-then-branch-clause-opens
 returns-then-branch-clause-opens g c =
     let way = c.in_ok-reached.ensures in
     let asked = c.in_ok-is_root_entered.ensures in
-    opens-entered c.root_at.new.worktree way.reads c.walk_entered.result (asked.keeps.lists ∙ way.keeps.lists) asked.reads refl c.walk_entered.ensures.opens
+    opens-entered c.root_at.new.worktree c.is_root_entered.new.worktree c.args.strategy way.reads c.walk_entered.new.excludes c.walk_entered.result (asked.keeps.lists ∙ way.keeps.lists) asked.reads refl c.walk_entered.ensures.opens
 
 pub returns-clause-opens : goal.returns-clause-opens
 returns-clause-opens g c =
     let way = c.in_ok-reached.ensures in
     let asked = c.in_ok-is_root_entered.ensures in
-    opens-short c.root_at.new.worktree way.reads c.put_root.result (asked.keeps.lists ∙ way.keeps.lists) asked.reads c.put_root.ensures.entered (omega arith)
+    opens-short c.root_at.new.worktree c.args.strategy way.reads c.put_root.result (asked.keeps.lists ∙ way.keeps.lists) asked.reads c.put_root.ensures.entered (omega arith)

@@ -1,4 +1,4 @@
-use Rattle.std.proofs.Common.{◌≡◌, ◌≤◌, ◌∙◌, ap, sym, refl, arith, Some, Ok, Err}
+use Rattle.std.proofs.Common.{◌≡◌, List, ℕ, ◌≤◌, ◌∙◌, ap, sym, refl, arith, Some, Ok, Err}
 use Rattle.std.proofs.lemmas.Result.{err_from_is_err_and}
 use Rattle.worktree_fs.specs.Causes.{NotIncreased}
 use Rattle.worktree_fs.specs.Paths.{full_path}
@@ -6,9 +6,11 @@ use Rattle.worktree_fs.specs.Tree.{Names}
 use Rattle.dir_classify.specs.declared.error.Error.TheVariants as errors
 use Rattle.dir_classify.specs.Layers.{setting_of}
 use Rattle.dir_walk.specs.declared.handed.Stop.TheVariants.{Broken}
+use Rattle.dir_walk.specs.declared.outcome.Outcome.{Outcome}
 use Rattle.dir_walk.specs.Opens.{refused_walk}
 use Rattle.dir_walk.specs.Root.{rooted, traversal_root}
 use Rattle.dir_walk.specs.Rooting.{IsNormalized}
+use Rattle.dir_walk.specs.Walks.{IsRootOf}
 use Rattle.dir_walk.proofs.FeedsSo.{feeds-broken, feeds-done, feeds-refused}
 use Rattle.dir_walk.proofs.Overall.{opens-whole, refused-most}
 use Rattle.dir_walk.proofs.WalksSo.{walks-done, walks-outside, walks-refused}
@@ -20,7 +22,7 @@ returns-in_err-root-clause-walks_worktree g c =
     let p = err_from_is_err_and c.from_residual.result c.from_residual.ensures.1 in
     let refused = c.in_err-root.ensures in
     rw (p.1, p.2)
-    (walks-outside g.W.Worktree g.F.Find g.I.Interrupt (setting_of g.M.Matcher a.shared.now) a.explicit.now a.depth_limit (g.D.Delegate.is_default a.delegate.now) (λ r. r.0) refused.keeps refused.reads c.in_err-root.field-0.0
+    (walks-outside g.W.Worktree g.F.Find g.I.Interrupt a.strategy (setting_of g.M.Matcher a.shared.now) a.explicit.now a.depth_limit (g.D.Delegate.is_default a.delegate.now) (λ r. r.0) (λ r. r.1) refused.keeps refused.reads c.in_err-root.field-0.0
     refused.about refused.refused refused.fault)
 
 pub returns-in_err-full-clause-walks_worktree : goal.returns-in_err-full-clause-walks_worktree
@@ -29,7 +31,7 @@ returns-in_err-full-clause-walks_worktree g c =
     let p = err_from_is_err_and c.from_residual-in_err-full.result c.from_residual-in_err-full.ensures.1 in
     let found = c.in_ok-root.ensures in
     rw (p.1, p.2)
-    (walks-outside g.W.Worktree g.F.Find g.I.Interrupt (setting_of g.M.Matcher a.shared.now) a.explicit.now a.depth_limit (g.D.Delegate.is_default a.delegate.now) (λ r. r.0) found.keeps found.reads errors.OutOfMemory tt
+    (walks-outside g.W.Worktree g.F.Find g.I.Interrupt a.strategy (setting_of g.M.Matcher a.shared.now) a.explicit.now a.depth_limit (g.D.Delegate.is_default a.delegate.now) (λ r. r.0) (λ r. r.1) found.keeps found.reads errors.OutOfMemory tt
     (λ t told. tt) (λ before now. tt))
 
 pub returns-in-Ok-clause-walks_worktree : goal.returns-in-Ok-clause-walks_worktree
@@ -46,9 +48,11 @@ returns-in-Ok-clause-walks_worktree g c =
     let rooted_is : (t : Names) → w.told a.worktree.now ≡ Some t → NotIncreased (w.faults a.worktree.now) (w.faults c.traversal_root.new.worktree) → traversal_root given t a.explicit.now ≡ rooted root =
     λ t told quiet. found.root t told quiet ∙ ap rooted (sym c.as_bytes-2.ensures) in
     let from = c.in-Ok.ensures in
+    let full_is : c.in_ok-full.full ≡ full_path given.root root = c.in_ok-full.ensures ∙ ap (full_path given.root) (c.as_bytes.ensures ∙ sym c.as_bytes-2.ensures) in
+    let is_root : IsRootOf given a.explicit.now (λ (r : Outcome × List ℕ). r.1) (Ok (c.walk_from.new.outcome, c.in_ok-full.full)) root = record { normalized = normal; named = full_is } in
     let none : refused_walk c.walk_from.result ≤ 0 = rw c.in-Ok.is (omega arith) in
-    walks-done w f i d given a.explicit.now a.depth_limit (d.is_default a.delegate.now) (λ r. r.0) root found.keeps normal rooted_is (c.walk_from.new.outcome, c.in_ok-full.full) (Ok tt) from.ends from.ends.caused.listed from.ends.caused.calm
-    (opens-whole found.keeps.lists found.reads c.walk_from.result (Ok (c.walk_from.new.outcome, c.in_ok-full.full)) c.default-outcome.ensures.0 normal refl none c.walk_from.ensures.opens)
+    walks-done w f i d a.strategy given a.explicit.now a.depth_limit (d.is_default a.delegate.now) (λ r. r.0) (λ r. r.1) root found.keeps normal rooted_is (c.walk_from.new.outcome, c.in_ok-full.full) (Ok tt) from.ends from.ends.caused.listed from.ends.caused.calm
+    (opens-whole a.strategy found.keeps.lists found.reads c.walk_from.result (Ok (c.walk_from.new.outcome, c.in_ok-full.full)) c.default-outcome.ensures.0 is_root refl none c.walk_from.ensures.opens)
 
 pub returns-in-Ok-clause-feeds : goal.returns-in-Ok-clause-feeds
 returns-in-Ok-clause-feeds g c =
@@ -82,9 +86,11 @@ returns-in-Err-Broken-clause-walks_worktree g c =
     let rooted_is : (t : Names) → w.told a.worktree.now ≡ Some t → NotIncreased (w.faults a.worktree.now) (w.faults c.traversal_root.new.worktree) → traversal_root given t a.explicit.now ≡ rooted root =
     λ t told quiet. found.root t told quiet ∙ ap rooted (sym c.as_bytes-2.ensures) in
     let from = c.in-Err-Broken.ensures in
+    let full_is : c.in_ok-full.full ≡ full_path given.root root = c.in_ok-full.ensures ∙ ap (full_path given.root) (c.as_bytes.ensures ∙ sym c.as_bytes-2.ensures) in
+    let is_root : IsRootOf given a.explicit.now (λ (r : Outcome × List ℕ). r.1) (Ok (c.walk_from.new.outcome, c.in_ok-full.full)) root = record { normalized = normal; named = full_is } in
     let none : refused_walk c.walk_from.result ≤ 0 = rw (c.in-Err-Broken.is, c.in-Err-Broken.field-0-is) (omega arith) in
-    walks-done w f i d given a.explicit.now a.depth_limit (d.is_default a.delegate.now) (λ r. r.0) root found.keeps normal rooted_is (c.walk_from.new.outcome, c.in_ok-full.full) (Err Broken) (rw c.in-Err-Broken.field-0-is at from.ends) (rw c.in-Err-Broken.field-0-is at from.ends).caused.listed (rw c.in-Err-Broken.field-0-is at from.ends).caused.calm
-    (opens-whole found.keeps.lists found.reads c.walk_from.result (Ok (c.walk_from.new.outcome, c.in_ok-full.full)) c.default-outcome.ensures.0 normal refl none c.walk_from.ensures.opens)
+    walks-done w f i d a.strategy given a.explicit.now a.depth_limit (d.is_default a.delegate.now) (λ r. r.0) (λ r. r.1) root found.keeps normal rooted_is (c.walk_from.new.outcome, c.in_ok-full.full) (Err Broken) (rw c.in-Err-Broken.field-0-is at from.ends) (rw c.in-Err-Broken.field-0-is at from.ends).caused.listed (rw c.in-Err-Broken.field-0-is at from.ends).caused.calm
+    (opens-whole a.strategy found.keeps.lists found.reads c.walk_from.result (Ok (c.walk_from.new.outcome, c.in_ok-full.full)) c.default-outcome.ensures.0 is_root refl none c.walk_from.ensures.opens)
 
 pub returns-in-Err-Broken-clause-feeds : goal.returns-in-Err-Broken-clause-feeds
 returns-in-Err-Broken-clause-feeds g c =
@@ -119,9 +125,9 @@ returns-clause-walks_worktree g c =
     λ t told quiet. found.root t told quiet ∙ ap rooted (sym c.as_bytes-2.ensures) in
     let from = rw c.in-Err-Refused.field-0-is at c.in-Err-Refused.ensures in
     let e = c.in-Err-Refused.error in
-    walks-refused w f i d given a.explicit.now a.depth_limit (d.is_default a.delegate.now) (λ r. r.0) root found.keeps normal rooted_is e from.ends from.about from.found
+    walks-refused w f i d a.strategy given a.explicit.now a.depth_limit (d.is_default a.delegate.now) (λ r. r.0) (λ r. r.1) root found.keeps normal rooted_is e from.ends from.about from.found
     (λ s tells by quiet store_quiet. from.refused s tells quiet store_quiet by) from.no_root
-    (opens-whole found.keeps.lists found.reads c.walk_from.result (Err e) c.default-outcome.ensures.0 normal tt (refused-most c.walk_from.result) c.walk_from.ensures.opens)
+    (opens-whole a.strategy found.keeps.lists found.reads c.walk_from.result (Err e) c.default-outcome.ensures.0 (record { normalized = normal; named = tt }) tt (refused-most c.walk_from.result) c.walk_from.ensures.opens)
 
 pub returns-clause-feeds : goal.returns-clause-feeds
 returns-clause-feeds g c =

@@ -3,7 +3,7 @@ use Rattle.worktree_report.proofs.Answered.{Texts-ok, Texts-refused}
 use Rattle.worktree_report.proofs.walking.walked_text.Goals as goal
 
 pub returns-in-Ok : goal.returns-in-Ok
-returns-in-Ok g c = Texts-ok c.in-Ok.report c.in_ok-text_of-in-Ok.field-0 c.in-Ok.ensures (ap Some c.new-objects.ensures) c.in_ok-text_of-in-Ok.ensures
+returns-in-Ok g c = Texts-ok c.in-Ok.report c.in_ok-report_bytes-in-Ok.field-0 c.in-Ok.ensures (ap Some c.in_ok-objects.ensures) c.in_ok-report_bytes-in-Ok.ensures
 
 pub returns : goal.returns
-returns g c = Texts-refused c.in-Err.error c.in_ok-of_walk-in-Err.field-0 c.in-Err.ensures (ap Some c.new-objects.ensures) (omega arith) c.in_ok-of_walk-in-Err.ensures
+returns g c = Texts-refused c.in-Err.error c.in_ok-of_report-in-Err.field-0 c.in-Err.ensures (ap Some c.in_ok-objects.ensures) (omega arith) c.in_ok-of_report-in-Err.ensures

@@ -1,0 +1,276 @@
+use Rattle.std.proofs.Common.{◌≡◌, inl, ◌+◌, ap, sym, refl, ◌∙◌, length, arith, eqb-true}
+use Rattle.std.proofs.lemmas.Result.{IfOk-weaker, on_err_weaker, err_from_is_err_and}
+use Rattle.gitbase_core.specs.Path.{joined}
+use Rattle.worktree_fs.specs.Answers.{ListsNames}
+use Rattle.worktree_fs.specs.Causes.{Increased, NotIncreased}
+use Rattle.dir_classify.specs.Chosen.{chosen}
+use Rattle.dir_classify.specs.Excludes.{made_with}
+use Rattle.dir_classify.specs.Layers.{setting_of, evidence}
+use Rattle.dir_walk.specs.Report.{depth_of}
+use Rattle.dir_walk.specs.Emits.{Gives}
+use Rattle.dir_walk.specs.Told.{look_directory, item_told}
+use Rattle.dir_walk.proofs.Emitting.{Within-all}
+use Rattle.dir_walk.proofs.Ending.{Caused-later, Caused-memory}
+use Rattle.dir_walk.proofs.Keeping.{Heeds-after, KeepsDelegate-same, KeepsDelegate-then, KeepsRules-same, KeepsRules-then, AsksStore-same, AsksStore-then, KeepsTree-then, AsksInterrupt-then}
+use Rattle.dir_walk.proofs.Apart.{apart-end, apart-one, apart-then, apart-tried}
+use Rattle.dir_walk.proofs.Listed.{HasNames-listed, HasPaths-name, Gives-empty, Gives-listed, part-empty, part-name, part-close}
+use Rattle.dir_walk.proofs.Named.{SoFar-none, SoFar-more}
+use Rattle.dir_walk.proofs.Steps.{IsEvidence-told, Stands-later}
+use Rattle.dir_walk.proofs.Rooms.{Hands-none, Hands-empty, Hands-refused, Hands-closed, Puts-start, Puts-name}
+use Rattle.dir_walk.proofs.Refusals.{IsInTree-open, DirectoryRefuses-name, memory-only}
+use Rattle.dir_walk.proofs.children.walk_children.Goals as goal
+
+pub returns-in_err-names-clause-delegate : goal.returns-in_err-names-clause-delegate
+returns-in_err-names-clause-delegate g c = KeepsDelegate-same
+
+pub returns-in_err-names-clause-caused : goal.returns-in_err-names-clause-caused
+returns-in_err-names-clause-caused g c =
+    let p = err_from_is_err_and c.from_residual.result c.from_residual.ensures.1 in let stored = g.F.Find.faults c.args.objects.now in
+    rw (p.1, p.2) (record { fault = c.in_err-names.ensures.fault stored stored; interrupt = c.in_err-names.ensures.raised; listed = tt; calm = tt })
+
+pub returns-then-is_empty-clause-gives : goal.returns-then-is_empty-clause-gives
+returns-then-is_empty-clause-gives g c = λ made s stands quiet default limit level.
+    let a = c.args in let told = g.D.Delegate.given in let given = setting_of g.M.Matcher a.shared.now in
+    let d = a.place.now.path in let ev = evidence given made s in let names = c.in_ok-names.names in
+    let bare : length names ≡ 0 = ap length (sym c.as_slice.ensures) ∙ eqb-true (length c.as_slice.result.now) 0 (sym c.is_empty.ensures ∙ c.if-is_empty.true) in
+    let lists : ListsNames (look_directory given s.tree d) names = rw c.requires.root at (c.in_ok-names.ensures.lists s.tree stands.tree) in
+    let opened = c.in_ok-names.ensures.counted (told a.delegate.now) in let is = IsEvidence-told given made s a.blocked.now stands.blocked_is in
+    IfOk-weaker c.close_empty.result _ _ (λ h closes. Gives-empty given made s d a.class.now names lists bare limit _ _ _ _ _ _ h (omega (arith, level)) opened closes)
+    (rw c.path-path.ensures.path at (c.close_empty.ensures.gives ev is))
+
+pub returns-then-is_empty-clause-part : goal.returns-then-is_empty-clause-part
+returns-then-is_empty-clause-part g c = λ made s stands quiet default.
+    let a = c.args in let given = setting_of g.M.Matcher a.shared.now in let d = a.place.now.path in let ev = evidence given made s in
+    let names = c.in_ok-names.names in
+    let bare : length names ≡ 0 = ap length (sym c.as_slice.ensures) ∙ eqb-true (length c.as_slice.result.now) 0 (sym c.is_empty.ensures ∙ c.if-is_empty.true) in
+    let lists : ListsNames (look_directory given s.tree d) names = rw c.requires.root at (c.in_ok-names.ensures.lists s.tree stands.tree) in
+    let opened = c.in_ok-names.ensures.counted (g.D.Delegate.given a.delegate.now) in
+    let is = IsEvidence-told given made s a.blocked.now stands.blocked_is in
+    on_err_weaker c.close_empty.result (λ part. part-empty given made s d a.class.now names lists bare _ _ _ a.outcome.now c.open.new.outcome opened part) (rw c.path-path.ensures.path at (c.close_empty.ensures.part ev is))
+
+pub loop-name-init : goal.loop-name-init
+loop-name-init g c =
+    let a = c.args in let told = g.D.Delegate.given in let given = setting_of g.M.Matcher a.shared.now in
+    record {
+      worktree = let opened = c.open.ensures.worktree in record { tree = opened.tree; faults = opened.faults; list_faults = opened.list_faults; lists = opened.lists; precomposes = opened.precomposes };
+      store = AsksStore-same;
+      rules = KeepsRules-same;
+      interrupt = c.open.ensures.interrupt;
+      opens = apart-one c.in_ok-names.ensures.opens c.open.ensures.once;
+      puts = Puts-start a.place.now.path c.as_slice-name-items.result.now c.open.ensures.returned c.open.ensures.seen c.new-held.ensures.entries;
+      delegate = KeepsDelegate-same;
+      listed = c.in_ok-names.ensures.listed;
+      calm = c.in_ok-names.ensures.calm;
+      kept_on = refl;
+      so_far = λ made s stands quiet default limit level.
+          rw (c.new-held.ensures.entries, c.new-held.ensures.blocked) (SoFar-none given made s limit a.place.now.path (told a.delegate.now) (told a.delegate.now) a.outcome.now c.open.new.outcome (c.in_ok-names.ensures.counted (told a.delegate.now)));
+    }
+
+pub returns-in_err-handed-clause-part : goal.returns-in_err-handed-clause-part
+returns-in_err-handed-clause-part g c = λ made s stands quiet default.
+    let a = c.args in let w = g.W.Worktree in let given = setting_of g.M.Matcher a.shared.now in let d = a.place.now.path in
+    let has = HasNames-listed given s.tree d c.as_slice.ensures c.is_empty.ensures c.if-is_empty.false c.as_slice-name-items.ensures c.in_ok-names.ensures.names (rw c.requires.root at (c.in_ok-names.ensures.lists s.tree stands.tree)) in
+    let kept = c.loop-name.invariant in
+    let now = Stands-later given c.loop-name.excludes kept.worktree.tree kept.store.holds kept.rules.made kept.rules.in_step stands in
+    let before : NotIncreased (w.faults a.worktree.now) (w.faults c.loop-name.worktree) = omega (arith, quiet, c.walk_child.ensures.worktree.faults) in
+    let here : NotIncreased (w.faults c.loop-name.worktree) (w.faults c.walk_child.new.worktree) = omega (arith, quiet, kept.worktree.faults) in
+    let so_far = kept.so_far made s stands before default (a.levels + depth_of d) refl in
+    let p = err_from_is_err_and c.from_residual-in_err-handed.result c.from_residual-in_err-handed.ensures.1 in
+    rw p.1 (part-name given made s d a.class.now c.as_slice-name-items.result.now has.lists has.are c.path-path.ensures.plain has.some (a.levels + depth_of d) c.loop-name.name-index c.name-item.result _ _ _ _ _ _ _ c.loop-name-test.true c.name-item.is so_far
+    (rw c.as_bytes.ensures at (c.in_err-handed.ensures.part made s now here (kept.delegate.default ∙ default))))
+
+pub returns-in_err-handed-clause-rules : goal.returns-in_err-handed-clause-rules
+returns-in_err-handed-clause-rules g c = let kept = c.loop-name.invariant in KeepsRules-then kept.worktree.tree kept.store.holds kept.rules c.walk_child.ensures.rules
+
+pub returns-in_err-handed-clause-delegate : goal.returns-in_err-handed-clause-delegate
+returns-in_err-handed-clause-delegate g c = KeepsDelegate-then c.loop-name.invariant.delegate c.walk_child.ensures.delegate
+
+pub returns-in_err-take-clause-part : goal.returns-in_err-take-clause-part
+returns-in_err-take-clause-part g c = λ made s stands quiet default.
+    let a = c.args in let w = g.W.Worktree in let told = g.D.Delegate.given in let o = chosen a.shared.now.options in
+    let given = setting_of g.M.Matcher a.shared.now in let d = a.place.now.path in let ev = evidence given made s in
+    let has = HasNames-listed given s.tree d c.as_slice.ensures c.is_empty.ensures c.if-is_empty.false c.as_slice-name-items.ensures c.in_ok-names.ensures.names (rw c.requires.root at (c.in_ok-names.ensures.lists s.tree stands.tree)) in
+    let kept = c.loop-name.invariant in
+    let now = Stands-later given c.loop-name.excludes kept.worktree.tree kept.store.holds kept.rules.made kept.rules.in_step stands in
+    let before : NotIncreased (w.faults a.worktree.now) (w.faults c.loop-name.worktree) = omega (arith, quiet, c.walk_child.ensures.worktree.faults) in
+    let here : NotIncreased (w.faults c.loop-name.worktree) (w.faults c.walk_child.new.worktree) = omega (arith, quiet, kept.worktree.faults) in
+    let name = c.name-item.result in
+    let gives : Gives o (a.levels + depth_of d) ev (item_told given made s (joined d name)) (told c.loop-name.delegate) (told c.walk_child.new.delegate) c.loop-name.outcome c.walk_child.new.outcome c.in_ok-handed.handed =
+    rw c.as_bytes.ensures at (c.in_ok-handed.ensures.gives made s now here (kept.delegate.default ∙ default) (a.levels + depth_of d) refl) in
+    let so_far = kept.so_far made s stands before default (a.levels + depth_of d) refl in
+    let p = err_from_is_err_and c.from_residual-in_err-take.result c.from_residual-in_err-take.ensures.1 in
+    rw p.1 (part-name given made s d a.class.now c.as_slice-name-items.result.now has.lists has.are c.path-path.ensures.plain has.some (a.levels + depth_of d) c.loop-name.name-index name _ _ _ _ _ _ _ c.loop-name-test.true c.name-item.is so_far (Within-all _ _ _ _ _ _ _ _ gives.emits (λ q. omega arith)))
+
+pub returns-in_err-take-clause-rules : goal.returns-in_err-take-clause-rules
+returns-in_err-take-clause-rules g c = let kept = c.loop-name.invariant in KeepsRules-then kept.worktree.tree kept.store.holds kept.rules c.walk_child.ensures.rules
+
+pub returns-in_err-take-clause-delegate : goal.returns-in_err-take-clause-delegate
+returns-in_err-take-clause-delegate g c = KeepsDelegate-then c.loop-name.invariant.delegate c.walk_child.ensures.delegate
+
+pub loop-name-preserved : goal.loop-name-preserved
+loop-name-preserved g c =
+    let kept = c.loop-name.invariant in
+    record {
+      worktree = KeepsTree-then kept.worktree c.walk_child.ensures.worktree;
+      store = AsksStore-then kept.store c.walk_child.ensures.store;
+      rules = KeepsRules-then kept.worktree.tree kept.store.holds kept.rules c.walk_child.ensures.rules;
+      interrupt = AsksInterrupt-then kept.interrupt c.walk_child.ensures.interrupt;
+      opens = apart-then kept.opens c.walk_child.ensures.opens;
+      puts = rw c.in_ok-take.ensures.entries (Puts-name c.args.place.now.path c.as_slice-name-items.result.now c.loop-name.name-index c.name-item.result c.loop-name-test.true c.name-item.is kept.puts (rw c.as_bytes.ensures at c.in_ok-handed.ensures.hands.puts));
+      delegate = KeepsDelegate-then kept.delegate c.walk_child.ensures.delegate;
+      listed = c.in_ok-handed.ensures.caused.listed ∙ kept.listed;
+      calm = c.in_ok-handed.ensures.caused.calm ∙ kept.calm;
+      kept_on = c.in_ok-handed.ensures.heeds.kept_on ∙ kept.kept_on;
+      so_far = λ made s stands quiet default limit level.
+          let a = c.args in let w = g.W.Worktree in let told = g.D.Delegate.given in let o = chosen a.shared.now.options in
+          let given = setting_of g.M.Matcher a.shared.now in let d = a.place.now.path in let ev = evidence given made s in
+          let now = Stands-later given c.loop-name.excludes kept.worktree.tree kept.store.holds kept.rules.made kept.rules.in_step stands in
+          let before : NotIncreased (w.faults a.worktree.now) (w.faults c.loop-name.worktree) = omega (arith, quiet, c.walk_child.ensures.worktree.faults) in
+          let here : NotIncreased (w.faults c.loop-name.worktree) (w.faults c.walk_child.new.worktree) = omega (arith, quiet, kept.worktree.faults) in
+          let name = c.name-item.result in
+          let gives : Gives o limit ev (item_told given made s (joined d name)) (told c.loop-name.delegate) (told c.walk_child.new.delegate) c.loop-name.outcome c.walk_child.new.outcome c.in_ok-handed.handed =
+          rw c.as_bytes.ensures at (c.in_ok-handed.ensures.gives made s now here (kept.delegate.default ∙ default) limit level) in
+          SoFar-more given made s limit d c.as_slice-name-items.result.now c.loop-name.name-index name _ _ _ _ _ _ _ _ _ _ c.in_ok-handed.handed c.loop-name-test.true c.name-item.is (kept.so_far made s stands before default limit level) gives c.in_ok-take.ensures.entries c.in_ok-take.ensures.blocked;
+    }
+
+pub returns-clause-gives : goal.returns-clause-gives
+returns-clause-gives g c = λ made s stands quiet default limit level.
+    let a = c.args in let given = setting_of g.M.Matcher a.shared.now in
+    let d = a.place.now.path in let ev = evidence given made s in
+    let has = HasNames-listed given s.tree d c.as_slice.ensures c.is_empty.ensures c.if-is_empty.false c.as_slice-name-items.ensures c.in_ok-names.ensures.names (rw c.requires.root at (c.in_ok-names.ensures.lists s.tree stands.tree)) in
+    let held = c.loop-name.held in let is = IsEvidence-told given made s a.blocked.now stands.blocked_is in
+    IfOk-weaker c.close.result _ _ (λ h closes. Gives-listed given made s d a.class.now c.as_slice-name-items.result.now has.lists has.are c.path-path.ensures.plain has.some limit c.loop-name.name-index _ _ _ _ _ held.entries.items held.blocked c.loop-name-test.false (c.loop-name.invariant.so_far made s stands quiet default limit level) _ h (omega (arith, level)) closes)
+    (rw c.path-path.ensures.path at (c.close.ensures.gives ev is))
+
+pub returns-clause-part : goal.returns-clause-part
+returns-clause-part g c = λ made s stands quiet default.
+    let a = c.args in let told = g.D.Delegate.given in let given = setting_of g.M.Matcher a.shared.now in let d = a.place.now.path in
+    let ev = evidence given made s in
+    let has = HasNames-listed given s.tree d c.as_slice.ensures c.is_empty.ensures c.if-is_empty.false c.as_slice-name-items.ensures c.in_ok-names.ensures.names (rw c.requires.root at (c.in_ok-names.ensures.lists s.tree stands.tree)) in
+    let held = c.loop-name.held in let is = IsEvidence-told given made s a.blocked.now stands.blocked_is in
+    let so_far = c.loop-name.invariant.so_far made s stands quiet default (a.levels + depth_of d) refl in
+    on_err_weaker c.close.result (λ part. part-close given made s d a.class.now c.as_slice-name-items.result.now has.lists has.are c.path-path.ensures.plain has.some (a.levels + depth_of d) c.loop-name.name-index (told a.delegate.now) (told c.loop-name.delegate) (told c.close.new.delegate) a.outcome.now c.loop-name.outcome held.entries.items held.blocked c.loop-name-test.false so_far part)
+    (rw c.path-path.ensures.path at (c.close.ensures.part ev is))
+
+pub returns-clause-delegate : goal.returns-clause-delegate
+returns-clause-delegate g c = KeepsDelegate-then c.loop-name.invariant.delegate c.close.ensures.delegate
+
+pub returns-in_err-names-clause-about : goal.returns-in_err-names-clause-about
+returns-in_err-names-clause-about g c = λ limit level.
+    let p = err_from_is_err_and c.from_residual.result c.from_residual.ensures.1 in
+    rw (p.1, p.2) (rw c.requires.root at (c.in_err-names.ensures.about (made_with c.args.excludes.now) limit))
+
+pub returns-in_err-names-clause-found : goal.returns-in_err-names-clause-found
+returns-in_err-names-clause-found g c = λ s told.
+    let a = c.args in let p = err_from_is_err_and c.from_residual.result c.from_residual.ensures.1 in
+    rw (p.1, p.2) (IsInTree-open (g.F.Find.holds a.objects.now) s (made_with a.excludes.now) _ _ _ (c.in_err-names.ensures.refused s.tree told))
+
+pub returns-in_err-names-clause-refused : goal.returns-in_err-names-clause-refused
+returns-in_err-names-clause-refused g c = λ made s stands default limit level.
+    let p = err_from_is_err_and c.from_residual.result c.from_residual.ensures.1 in
+    rw (p.1, p.2) (inl (rw c.requires.root at (c.in_err-names.ensures.refused s.tree stands.tree)))
+
+pub returns-then-is_empty-clause-about : goal.returns-then-is_empty-clause-about
+returns-then-is_empty-clause-about g c = λ limit level. memory-only c.close_empty.result _ tt c.close_empty.ensures.memory
+
+pub returns-then-is_empty-clause-found : goal.returns-then-is_empty-clause-found
+returns-then-is_empty-clause-found g c = λ s told. memory-only c.close_empty.result _ tt c.close_empty.ensures.memory
+
+pub returns-then-is_empty-clause-refused : goal.returns-then-is_empty-clause-refused
+returns-then-is_empty-clause-refused g c = λ made s stands default limit level. memory-only c.close_empty.result _ (inl tt) c.close_empty.ensures.memory
+
+pub returns-clause-about : goal.returns-clause-about
+returns-clause-about g c = λ limit level. memory-only c.close.result _ tt c.close.ensures.memory
+
+pub returns-clause-found : goal.returns-clause-found
+returns-clause-found g c = λ s told. memory-only c.close.result _ tt c.close.ensures.memory
+
+pub returns-clause-refused : goal.returns-clause-refused
+returns-clause-refused g c = λ made s stands default limit level. memory-only c.close.result _ (inl tt) c.close.ensures.memory
+
+pub returns-in_err-handed-clause-about : goal.returns-in_err-handed-clause-about
+returns-in_err-handed-clause-about g c = λ limit level.
+    let p = err_from_is_err_and c.from_residual-in_err-handed.result c.from_residual-in_err-handed.ensures.1 in
+    rw (p.1, p.2) (rw c.loop-name.invariant.rules.made at (c.in_err-handed.ensures.about limit level))
+
+pub returns-in_err-handed-clause-found : goal.returns-in_err-handed-clause-found
+returns-in_err-handed-clause-found g c = λ s told.
+    let kept = c.loop-name.invariant in let p = err_from_is_err_and c.from_residual-in_err-handed.result c.from_residual-in_err-handed.ensures.1 in
+    rw (p.1, p.2) (rw (kept.store.holds, kept.rules.made) at (c.in_err-handed.ensures.found s (kept.worktree.tree ∙ told)))
+
+pub returns-in_err-handed-clause-refused : goal.returns-in_err-handed-clause-refused
+returns-in_err-handed-clause-refused g c = λ made s stands default limit level.
+    let a = c.args in let w = g.W.Worktree in let given = setting_of g.M.Matcher a.shared.now in let d = a.place.now.path in
+    let kept = c.loop-name.invariant in
+    let has = HasNames-listed given s.tree d c.as_slice.ensures c.is_empty.ensures c.if-is_empty.false c.as_slice-name-items.ensures c.in_ok-names.ensures.names (rw c.requires.root at (c.in_ok-names.ensures.lists s.tree stands.tree)) in
+    let now = Stands-later given c.loop-name.excludes kept.worktree.tree kept.store.holds kept.rules.made kept.rules.in_step stands in
+    let name = c.name-item.result in let v = item_told given made s (joined d name) in
+    let within = HasPaths-name given made s d a.class.now c.as_slice-name-items.result.now has.lists has.are c.path-path.ensures.plain has.some c.loop-name.name-index name c.loop-name-test.true c.name-item.is in
+    let here : Type 0 = Increased (w.faults c.loop-name.worktree) (w.faults c.walk_child.new.worktree) in
+    let whole : Type 0 = Increased (w.faults a.worktree.now) (w.faults c.walk_child.new.worktree) in
+    let p = err_from_is_err_and c.from_residual-in_err-handed.result c.from_residual-in_err-handed.ensures.1 in
+    rw (p.1, p.2) (DirectoryRefuses-name given made s limit here whole v d a.class.now within (λ rose. omega (arith, rose, kept.worktree.faults)) _ (rw c.as_bytes.ensures at (c.in_err-handed.ensures.refused made s now (kept.delegate.default ∙ default) limit level)))
+
+pub returns-in_err-names-clause-hands : goal.returns-in_err-names-clause-hands
+returns-in_err-names-clause-hands g c =
+    let p = err_from_is_err_and c.from_residual.result c.from_residual.ensures.1 in rw p.1 (Hands-none refl c.open.ensures.returned c.open.ensures.seen)
+
+pub returns-then-is_empty-clause-hands : goal.returns-then-is_empty-clause-hands
+returns-then-is_empty-clause-hands g c = Hands-empty c.open.ensures.returned c.open.ensures.seen (rw c.path-path.ensures.path at c.close_empty.ensures.hands)
+
+pub returns-in_err-handed-clause-hands : goal.returns-in_err-handed-clause-hands
+returns-in_err-handed-clause-hands g c =
+    let p = err_from_is_err_and c.from_residual-in_err-handed.result c.from_residual-in_err-handed.ensures.1 in
+    rw p.1 (Hands-refused c.args.place.now.path c.as_slice-name-items.result.now c.loop-name.name-index c.name-item.result c.loop-name-test.true c.name-item.is c.loop-name.invariant.puts (rw c.as_bytes.ensures at c.in_err-handed.ensures.hands.puts) (rw c.as_slice-name-items.ensures c.in_ok-names.ensures.names)
+    c.path-path.ensures.plain)
+
+pub returns-in_err-take-clause-hands : goal.returns-in_err-take-clause-hands
+returns-in_err-take-clause-hands g c =
+    let p = err_from_is_err_and c.from_residual-in_err-take.result c.from_residual-in_err-take.ensures.1 in
+    rw p.1 (Hands-refused c.args.place.now.path c.as_slice-name-items.result.now c.loop-name.name-index c.name-item.result c.loop-name-test.true c.name-item.is c.loop-name.invariant.puts (rw c.as_bytes.ensures at c.in_ok-handed.ensures.hands.puts) (rw c.as_slice-name-items.ensures c.in_ok-names.ensures.names)
+    c.path-path.ensures.plain)
+
+pub returns-clause-hands : goal.returns-clause-hands
+returns-clause-hands g c =
+    Hands-closed c.args.place.now.path c.as_slice-name-items.result.now c.loop-name.name-index (rw c.as_slice-name-items.ensures c.in_ok-names.ensures.names) c.path-path.ensures.plain c.loop-name.invariant.puts (rw c.path-path.ensures.path at c.close.ensures.hands)
+
+pub returns-in_err-handed-clause-heeds : goal.returns-in_err-handed-clause-heeds
+returns-in_err-handed-clause-heeds g c =
+    let p = err_from_is_err_and c.from_residual-in_err-handed.result c.from_residual-in_err-handed.ensures.1 in
+    rw (p.1, p.2) (Heeds-after g.D.Delegate _ _ _ _ c.loop-name.invariant.kept_on c.in_err-handed.ensures.heeds)
+
+pub returns-in_err-handed-clause-caused : goal.returns-in_err-handed-clause-caused
+returns-in_err-handed-clause-caused g c =
+    let kept = c.loop-name.invariant in let p = err_from_is_err_and c.from_residual-in_err-handed.result c.from_residual-in_err-handed.ensures.1 in
+    rw (p.1, p.2) (Caused-later _ kept.worktree.faults kept.store.faults kept.calm kept.listed c.in_err-handed.ensures.caused)
+
+pub returns-in_err-take-clause-about : goal.returns-in_err-take-clause-about
+returns-in_err-take-clause-about g c = λ limit level.
+    let p = err_from_is_err_and c.from_residual-in_err-take.result c.from_residual-in_err-take.ensures.1 in rw (p.1, p.2) tt
+
+pub returns-in_err-take-clause-found : goal.returns-in_err-take-clause-found
+returns-in_err-take-clause-found g c = λ s told.
+    let p = err_from_is_err_and c.from_residual-in_err-take.result c.from_residual-in_err-take.ensures.1 in rw (p.1, p.2) tt
+
+pub returns-clause-heeds : goal.returns-clause-heeds
+returns-clause-heeds g c = Heeds-after g.D.Delegate _ _ _ c.close.result c.loop-name.invariant.kept_on c.close.ensures.heeds
+
+pub returns-clause-caused : goal.returns-clause-caused
+returns-clause-caused g c =
+    let kept = c.loop-name.invariant in
+    Caused-later c.close.result kept.worktree.faults kept.store.faults kept.calm kept.listed (Caused-memory c.close.result c.close.ensures.memory)
+
+pub returns-in_err-names-clause-opens : goal.returns-in_err-names-clause-opens
+returns-in_err-names-clause-opens g c = apart-tried c.in_err-names.ensures.tried c.open.ensures.once
+
+pub returns-then-is_empty-clause-opens : goal.returns-then-is_empty-clause-opens
+returns-then-is_empty-clause-opens g c = apart-end (apart-one c.in_ok-names.ensures.opens c.open.ensures.once) c.close_empty.ensures.entered
+
+pub returns-in_err-handed-clause-opens : goal.returns-in_err-handed-clause-opens
+returns-in_err-handed-clause-opens g c = apart-then c.loop-name.invariant.opens c.walk_child.ensures.opens
+
+pub returns-in_err-take-clause-opens : goal.returns-in_err-take-clause-opens
+returns-in_err-take-clause-opens g c = apart-then c.loop-name.invariant.opens c.walk_child.ensures.opens
+
+pub returns-clause-opens : goal.returns-clause-opens
+returns-clause-opens g c = apart-end c.loop-name.invariant.opens c.close.ensures.entered

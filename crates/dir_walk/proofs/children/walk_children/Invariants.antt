@@ -1,0 +1,38 @@
+use Rattle.std.proofs.Common.{◌≡◌, ◌+◌, ℕ, true, Option, take}
+use Rattle.worktree_fs.specs.Causes.{NotIncreased}
+use Rattle.worktree_fs.specs.Kept.{AsksStore}
+use Rattle.worktree_stack.specs.Setup.{Made}
+use Rattle.worktree_stack.specs.Reading.{Sources}
+use Rattle.dir_classify.specs.Kept.{KeepsRules}
+use Rattle.dir_classify.specs.Layers.{setting_of}
+use Rattle.dir_walk.specs.Kept.{KeepsTree, AsksInterrupt, KeepsDelegate}
+use Rattle.dir_walk.specs.Opens.{OpensApart}
+use Rattle.dir_walk.specs.Puts.{Puts}
+use Rattle.dir_walk.specs.Report.{depth_of}
+use Rattle.dir_walk.specs.Told.{Stands}
+use Rattle.dir_walk.proofs.Named.{SoFar}
+use Rattle.dir_walk.proofs.Rooms.{once_below}
+use Rattle.dir_walk.proofs.children.walk_children.Given as goal
+
+abbrev pub invariant-loop-name : goal.invariant-loop-name
+invariant-loop-name g l =
+    let w = g.W.Worktree in
+    let f = g.F.Find in
+    let i = g.I.Interrupt in
+    let d = g.D.Delegate in
+    let given = setting_of g.M.Matcher l.shared in
+    record {
+      worktree : KeepsTree w l.fn.worktree l.worktree;
+      store : AsksStore f l.fn.objects l.objects;
+      rules : KeepsRules w f l.fn.worktree l.worktree l.fn.objects l.fn.excludes l.excludes;
+      interrupt : AsksInterrupt i l.fn.interrupt l.interrupt;
+      opens : OpensApart w i l.fn.worktree l.worktree l.fn.interrupt l.interrupt l.fn.outcome l.outcome 1;
+      puts : Puts (once_below l.place.path (take l.name-index l.name-items)) (d.given l.fn.delegate) (d.given l.delegate) l.fn.outcome l.outcome l.held.entries.items;
+      delegate : KeepsDelegate d l.fn.delegate l.delegate;
+      listed : w.list_faults l.worktree ≡ w.list_faults l.fn.worktree;
+      calm : i.raised l.interrupt ≡ i.raised l.fn.interrupt;
+      kept_on : d.breaks l.delegate ≡ d.breaks l.fn.delegate;
+      so_far : (made : Option Made) (s : Sources) → Stands given (w.told l.fn.worktree) (f.holds l.fn.objects) l.fn.excludes l.blocked made s → NotIncreased (w.faults l.fn.worktree) (w.faults l.worktree)
+          → d.is_default l.fn.delegate ≡ true → (limit : ℕ) → l.levels + depth_of l.place.path ≡ limit
+          → SoFar given made s limit l.place.path (take l.name-index l.name-items) (d.given l.fn.delegate) (d.given l.delegate) l.fn.outcome l.outcome l.held.entries.items l.held.blocked;
+    }

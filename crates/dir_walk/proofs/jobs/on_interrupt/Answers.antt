@@ -1,0 +1,32 @@
+use Rattle.std.proofs.lemmas.Result.{err_from_is_err_and}
+use Rattle.dir_classify.specs.Layers.{setting_of}
+use Rattle.dir_walk.proofs.Forked.{job-interrupt, job-memory}
+use Rattle.dir_walk.proofs.jobs.on_interrupt.Goals as goal
+
+pub returns-in_err-fork : goal.returns-in_err-fork
+returns-in_err-fork g c =
+    let p = err_from_is_err_and c.from_residual.result c.from_residual.ensures.1 in rw (p.1, p.2) (job-memory g.W.Worktree g.F.Find g.I.Interrupt g.D.Delegate)
+
+pub returns : goal.returns
+returns g c =
+    let a = c.args in
+    let forked = c.in_ok-fork.ensures in
+    let absorbed = c.absorb.ensures in
+    let walked = c.walk_directory-result.ensures in
+    job-interrupt g.W.Worktree g.F.Find g.I.Interrupt g.D.Delegate a.interrupt.now (setting_of g.M.Matcher a.shared.now) a.place.now.path a.class.now c.walk_directory-result.result
+    forked.questions forked.raised absorbed.questions absorbed.raised absorbed.later
+    (record {
+      gives = walked.gives;
+      part = walked.part;
+      about = walked.about;
+      found = walked.found;
+      refused = walked.refused;
+      caused = walked.caused;
+      worktree = walked.worktree;
+      store = walked.store;
+      interrupt = walked.interrupt;
+      enters = record { opened = walked.opens.opened; counted = walked.opens.opens.counted; asked = walked.opens.opens.asked };
+      hands = walked.hands;
+      delegate = walked.delegate;
+      heeds = walked.heeds;
+    })

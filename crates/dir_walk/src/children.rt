@@ -1,0 +1,223 @@
+//! The names of a traversal root, of which each that is entered is a job of its own.
+ghost use Rattle.std.specs.Prelude.{◌≡◌, ◌+◌, ℕ, true, false, Option, Some, IfOk, IfErr, OnOk, OnErr};
+ghost use Rattle.gitbase_core.specs.Path.{joined};
+ghost use Rattle.worktree_fs.specs.Causes.{NotIncreased, Increased};
+ghost use Rattle.worktree_fs.specs.Kept.{AsksStore};
+ghost use Rattle.worktree_fs.specs.Naming.{IsName};
+ghost use Rattle.worktree_stack.specs.Reading.{Sources};
+ghost use Rattle.worktree_stack.specs.Setup.{Made};
+ghost use Rattle.dir_classify.specs.Chosen.{chosen};
+ghost use Rattle.dir_classify.specs.Excludes.{made_with, tells_excludes};
+ghost use Rattle.dir_classify.specs.Kept.{KeepsRules};
+ghost use Rattle.dir_classify.specs.Layers.{setting_of, evidence, IsLookupIf};
+ghost use Rattle.dir_walk.specs.Emits.{Gives, IsPart};
+ghost use Rattle.dir_walk.specs.Given.{OnRefused};
+ghost use Rattle.dir_walk.specs.Kept.{KeepsTree, AsksInterrupt, KeepsDelegate, Heeds, Caused};
+ghost use Rattle.dir_walk.specs.Opens.{OpensApart};
+ghost use Rattle.dir_walk.specs.Puts.{Hands, once_within};
+ghost use Rattle.dir_walk.specs.Refused.{IsAbout, IsInTree, Refuses, DirectoryRefuses};
+ghost use Rattle.dir_walk.specs.Report.{depth_of};
+ghost use Rattle.dir_walk.specs.Told.{Stands, item_told, directory_told};
+
+use crate::close::{close, close_empty, leaf_class};
+use crate::delegate::Delegate;
+use crate::directory::class_of;
+use crate::emit::put_leaf;
+use crate::handed::{Handed, Held, Stop};
+use crate::jobs::walk_job;
+use crate::open::{is_entered, open, too_deep};
+use crate::outcome::Outcome;
+use crate::place::Place;
+use dir_classify::{Shared, classify};
+use gitbase_core::{Find, PathText};
+use glob_rules::pathspec::Matcher;
+use std::alloc::Global;
+use worktree_fs::{Interrupt, Worktree};
+use worktree_stack::Stack;
+
+/// Walks a name in the traversal root; so many more levels of directories may be entered below that. What is entered is a job.
+/// `child` is the room for the name's place.
+fn walk_child<W: Worktree, F: Find, I: Interrupt, M: Matcher, D: Delegate>(
+    alloc: Global,
+    shared: &Shared<'_, M>,
+    blocked: &Option<PathText>,
+    directory: &Place,
+    name: &[u8],
+    child: &mut Place,
+    levels: usize,
+    excludes: &mut Option<Stack>,
+    worktree: &mut W,
+    objects: &mut F,
+    interrupt: &mut I,
+    delegate: &mut D,
+    outcome: &mut Outcome,
+) -> Result<Handed, Stop>
+    requires name { IsName name.now }
+    requires root { directory.now.root ≡ shared.now.worktree_root.now }
+    requires lookup { IsLookupIf shared.now.index.now shared.now.ignore_case_index_lookup.now }
+    requires excludes { tells_excludes (made_with excludes.old) ≡ true }
+    ensures gives { (made : Option Made) (s : Sources)
+        → Stands (setting_of M.Matcher shared.now) (W.told worktree.old) (F.holds objects.old)
+        excludes.old blocked.now made s
+        → NotIncreased (W.faults worktree.old) (W.faults worktree.new)
+        → D.is_default delegate.old ≡ true
+        → (limit : ℕ) → levels + depth_of directory.now.path ≡ limit
+        → IfOk result (Gives (chosen shared.now.options) limit
+        (evidence (setting_of M.Matcher shared.now) made s)
+        (item_told (setting_of M.Matcher shared.now) made s (joined directory.now.path name.now))
+        (D.given delegate.old) (D.given delegate.new) outcome.old outcome.new) }
+    ensures part { (made : Option Made) (s : Sources)
+        → Stands (setting_of M.Matcher shared.now) (W.told worktree.old) (F.holds objects.old)
+        excludes.old blocked.now made s
+        → NotIncreased (W.faults worktree.old) (W.faults worktree.new)
+        → D.is_default delegate.old ≡ true
+        → OnErr result (IsPart (chosen shared.now.options)
+        (item_told (setting_of M.Matcher shared.now) made s
+        (joined directory.now.path name.now)).out (D.given delegate.old) (D.given delegate.new)) }
+    ensures about { (limit : ℕ) → levels + depth_of directory.now.path ≡ limit
+        → IfErr result (OnRefused (IsAbout (made_with excludes.old) shared.now.worktree_root.now
+        limit)) }
+    ensures found { (s : Sources) → W.told worktree.old ≡ Some s.tree
+        → IfErr result (OnRefused (IsInTree (F.holds objects.old) s (made_with excludes.old))) }
+    ensures refused { (made : Option Made) (s : Sources)
+        → Stands (setting_of M.Matcher shared.now) (W.told worktree.old) (F.holds objects.old)
+        excludes.old blocked.now made s
+        → D.is_default delegate.old ≡ true
+        → (limit : ℕ) → levels + depth_of directory.now.path ≡ limit
+        → IfErr result (OnRefused (Refuses (setting_of M.Matcher shared.now) made s limit
+        (Increased (W.faults worktree.old) (W.faults worktree.new))
+        (item_told (setting_of M.Matcher shared.now) made s
+        (joined directory.now.path name.now)))) }
+    ensures worktree { KeepsTree W.Worktree worktree.old worktree.new }
+    ensures store { AsksStore F.Find objects.old objects.new }
+    ensures rules { KeepsRules W.Worktree F.Find worktree.old worktree.new objects.old excludes.old
+        excludes.new }
+    ensures interrupt { AsksInterrupt I.Interrupt interrupt.old interrupt.new }
+    ensures opens { OpensApart W.Worktree I.Interrupt worktree.old worktree.new interrupt.old
+        interrupt.new outcome.old outcome.new 0 }
+    ensures hands { Hands (joined directory.now.path name.now)
+        (once_within (joined directory.now.path name.now)) (D.given delegate.old)
+        (D.given delegate.new) outcome.old outcome.new result }
+    ensures delegate { KeepsDelegate D.Delegate delegate.old delegate.new }
+    ensures heeds { Heeds D.Delegate delegate.old delegate.new result }
+    ensures caused { Caused W.Worktree F.Find I.Interrupt worktree.old worktree.new objects.old
+        objects.new interrupt.old interrupt.new result }
+{
+    child.set_child(alloc, directory, name)?;
+    let path = child.path();
+    let full = child.whole();
+    let class = class_of(alloc, full, path, shared, excludes, worktree, objects)?;
+    if is_entered(&shared.options, path, &class, false, delegate) {
+        if levels == 0 {
+            return Err(Stop::Refused(too_deep(alloc, child, interrupt)));
+        }
+        return walk_job(
+            alloc,
+            shared,
+            blocked,
+            child,
+            &class,
+            levels - 1,
+            excludes,
+            worktree,
+            objects,
+            interrupt,
+            delegate,
+            outcome,
+        );
+    }
+    let class = leaf_class(alloc, shared, child, &class, worktree)?;
+    put_leaf(alloc, &shared.options, path, &class, delegate, outcome)
+}
+
+/// Walks a directory that is entered as the traversal root, at `place` and of the class `class`, as
+/// [`walk_directory`](crate::directory::walk_directory) does; but each name that is entered is a job over forks.
+pub(crate) fn walk_children<W: Worktree, F: Find, I: Interrupt, M: Matcher, D: Delegate>(
+    alloc: Global,
+    shared: &Shared<'_, M>,
+    blocked: &Option<PathText>,
+    place: &Place,
+    class: &classify::Outcome,
+    levels: usize,
+    excludes: &mut Option<Stack>,
+    worktree: &mut W,
+    objects: &mut F,
+    interrupt: &mut I,
+    delegate: &mut D,
+    outcome: &mut Outcome,
+) -> Result<Handed, Stop>
+    requires root { place.now.root ≡ shared.now.worktree_root.now }
+    requires lookup { IsLookupIf shared.now.index.now shared.now.ignore_case_index_lookup.now }
+    requires excludes { tells_excludes (made_with excludes.old) ≡ true }
+    ensures gives { (made : Option Made) (s : Sources)
+        → Stands (setting_of M.Matcher shared.now) (W.told worktree.old) (F.holds objects.old)
+        excludes.old blocked.now made s
+        → NotIncreased (W.faults worktree.old) (W.faults worktree.new)
+        → D.is_default delegate.old ≡ true
+        → (limit : ℕ) → levels + depth_of place.now.path ≡ limit
+        → IfOk result (Gives (chosen shared.now.options) limit
+        (evidence (setting_of M.Matcher shared.now) made s)
+        (directory_told (setting_of M.Matcher shared.now) made s place.now.path class.now)
+        (D.given delegate.old) (D.given delegate.new) outcome.old outcome.new) }
+    ensures part { (made : Option Made) (s : Sources)
+        → Stands (setting_of M.Matcher shared.now) (W.told worktree.old) (F.holds objects.old)
+        excludes.old blocked.now made s
+        → NotIncreased (W.faults worktree.old) (W.faults worktree.new)
+        → D.is_default delegate.old ≡ true
+        → OnErr result (IsPart (chosen shared.now.options)
+        (directory_told (setting_of M.Matcher shared.now) made s place.now.path class.now).out
+        (D.given delegate.old) (D.given delegate.new)) }
+    ensures about { (limit : ℕ) → levels + depth_of place.now.path ≡ limit
+        → IfErr result (OnRefused (IsAbout (made_with excludes.old) shared.now.worktree_root.now
+        limit)) }
+    ensures found { (s : Sources) → W.told worktree.old ≡ Some s.tree
+        → IfErr result (OnRefused (IsInTree (F.holds objects.old) s (made_with excludes.old))) }
+    ensures refused { (made : Option Made) (s : Sources)
+        → Stands (setting_of M.Matcher shared.now) (W.told worktree.old) (F.holds objects.old)
+        excludes.old blocked.now made s
+        → D.is_default delegate.old ≡ true
+        → (limit : ℕ) → levels + depth_of place.now.path ≡ limit
+        → IfErr result (OnRefused (DirectoryRefuses (setting_of M.Matcher shared.now) made s
+        limit (Increased (W.faults worktree.old) (W.faults worktree.new)) place.now.path
+        class.now)) }
+    ensures worktree { KeepsTree W.Worktree worktree.old worktree.new }
+    ensures store { AsksStore F.Find objects.old objects.new }
+    ensures rules { KeepsRules W.Worktree F.Find worktree.old worktree.new objects.old excludes.old
+        excludes.new }
+    ensures interrupt { AsksInterrupt I.Interrupt interrupt.old interrupt.new }
+    ensures opens { OpensApart W.Worktree I.Interrupt worktree.old worktree.new interrupt.old
+        interrupt.new outcome.old outcome.new 1 }
+    ensures hands { Hands place.now.path (once_within place.now.path) (D.given delegate.old)
+        (D.given delegate.new) outcome.old outcome.new result }
+    ensures delegate { KeepsDelegate D.Delegate delegate.old delegate.new }
+    ensures heeds { Heeds D.Delegate delegate.old delegate.new result }
+    ensures caused { Caused W.Worktree F.Find I.Interrupt worktree.old worktree.new objects.old
+        objects.new interrupt.old interrupt.new result }
+{
+    let path = place.path();
+    let names = open(alloc, place, worktree, interrupt, outcome)?;
+    if names.as_slice().is_empty() {
+        return close_empty(alloc, shared, blocked, path, class, delegate, outcome);
+    }
+    let mut held = Held::new(alloc);
+    let mut child = Place::new(alloc);
+    for name in names.as_slice() {
+        let handed = walk_child(
+            alloc,
+            shared,
+            blocked,
+            place,
+            name.as_bytes(),
+            &mut child,
+            levels,
+            excludes,
+            worktree,
+            objects,
+            interrupt,
+            delegate,
+            outcome,
+        )?;
+        held.take(alloc, handed)?;
+    }
+    close(alloc, shared, blocked, path, class, held, delegate, outcome)
+}

@@ -1,0 +1,164 @@
+-- Rows entry by entry.
+use Rattle.std.proofs.Common.{rules, arith, suc, ◌+◌, ◌-◌, ◌<◌, length, drop, drop-cons, get_or, ◌≡◌, ℕ, List, [], ◌∷◌, ◌++◌, Bool, true, false, map, Option, Some, refl, sym, ap, ◌∙◌, subst, append_assoc}
+use Rattle.std.specs.Prelude.{if◌then◌else◌, option_map, slice_get}
+use Rattle.std.specs.Bool.{MatchBool}
+use Rattle.std.specs.List.{Contains}
+use Rattle.std.proofs.lemmas.List.{append-nil}
+use Rattle.std.proofs.lemmas.List.Elements.{Contains-append_right}
+use Rattle.gitbase_core.specs.Path.{components}
+use Rattle.gitbase_core.specs.declared.entry.IndexEntry.{IndexEntry}
+use Rattle.worktree_fs.specs.Kept.{Asks}
+use Rattle.worktree_fs.specs.Tree.{Names}
+use Rattle.worktree_fs.specs.declared.worktree.Worktree.{Ghosts as WorktreeOf}
+use Rattle.index_status.specs.declared.error.StatesError.{StatesError}
+use Rattle.index_status.specs.declared.error.StatesError.TheVariants as errors
+use Rattle.index_status.specs.declared.path_state.PathState.{PathState}
+use Rattle.index_status.specs.Rows.{ArePaired, ArePossible, IsMore, IsWithEntry, Refuses, Row, firsts, firsts_after, is_last, is_path, last_path, path_of, row}
+use Rattle.index_status.specs.States.{IsPossible, IsState}
+use Rattle.index_status.specs.Ways.{IsOnWay, StopsLook}
+
+paired-snoc : (Has : IndexEntry → PathState → Type 0) (entries : List IndexEntry) (made : List Row) (e : IndexEntry) (s : PathState) → ArePaired Has entries made → Has e s
+    → ArePaired Has (entries ++ e ∷ []) (made ++ (e.path, s) ∷ [])
+paired-snoc Has [] made e s are has = subst (λ (l : List Row). ArePaired Has (e ∷ []) (l ++ (e.path, s) ∷ [])) (sym are) (refl, has, refl)
+paired-snoc Has (x ∷ entries) [] e s are has = absurd are
+paired-snoc Has (x ∷ entries) (r ∷ made) e s are has = (are.0, are.1, paired-snoc Has entries made e s are.2 has)
+
+paired-as : (P Q : IndexEntry → PathState → Type 0) (entries : List IndexEntry) (made : List Row) → ((e : IndexEntry) (s : PathState) → P e s → Q e s) → ArePaired P entries made → ArePaired Q entries made
+paired-as P Q [] made f are = are
+paired-as P Q (x ∷ entries) [] f are = absurd are
+paired-as P Q (x ∷ entries) (r ∷ made) f are = (are.0, f x r.1 are.1, paired-as P Q entries made f are.2)
+
+last-snoc : (made : List Row) (path : List ℕ) (s : PathState) → last_path (made ++ (path, s) ∷ []) ≡ Some path
+last-snoc [] path s = refl
+last-snoc (r ∷ []) path s = refl
+last-snoc (r ∷ next ∷ made) path s = last-snoc (next ∷ made) path s
+
+-- the rows of the first entries so far, and the entries that are left
+pub record IsAlong {W : Type 0} (w : WorktreeOf W) (w0 w1 : W) (root : List ℕ) (entries left : List IndexEntry) (made : List Row) : Type 0 where
+  pub keeps : Asks w w0 w1
+  pub done : List IndexEntry
+  pub before : List IndexEntry
+  pub all : firsts entries ≡ done ++ firsts_after (last_path made) left
+  pub whole : entries ≡ before ++ left
+  pub paired : ArePaired (IsState (w.told w0) root) done made
+
+firsts-again : (before : Option (List ℕ)) (e : IndexEntry) (left : List IndexEntry) → is_path before e.path ≡ true → firsts_after before (e ∷ left) ≡ firsts_after before left
+firsts-again before e left again = ap (λ (b : Bool). if b then firsts_after before left else e ∷ firsts_after (Some e.path) left) again
+
+firsts-new : (before : Option (List ℕ)) (e : IndexEntry) (left : List IndexEntry) → is_path before e.path ≡ false → firsts_after before (e ∷ left) ≡ e ∷ firsts_after (Some e.path) left
+firsts-new before e left new = ap (λ (b : Bool). if b then firsts_after before left else e ∷ firsts_after (Some e.path) left) new
+
+module _ {W : Type 0} (w : WorktreeOf W) (w0 w1 w2 : W) (root : List ℕ) (entries left : List IndexEntry) (made : List Row)
+    (at : IsAlong w w0 w1 root entries left made) (e : IndexEntry) (rest : List IndexEntry) (left_is : left ≡ e ∷ rest) where
+  further : entries ≡ (at.before ++ e ∷ []) ++ rest
+  further = at.whole ∙ ap (λ (l : List IndexEntry). at.before ++ l) left_is ∙ sym (append_assoc at.before (e ∷ []) rest)
+
+  along-again : is_last made e.path ≡ true → Asks w w1 w2 → IsAlong w w0 w2 root entries rest made
+  along-again again keeps =
+      let first = at.keeps in
+      record {
+        keeps = search rules;
+        done = at.done;
+        before = at.before ++ e ∷ [];
+        all =
+            at.all
+            ∙ ap (λ (l : List IndexEntry). at.done ++ firsts_after (last_path made) l) left_is
+            ∙ ap (λ (l : List IndexEntry). at.done ++ l) (firsts-again (last_path made) e rest again);
+        whole = further;
+        paired = at.paired;
+      }
+
+  along-new : (s : PathState) (more : List Row) → is_last made e.path ≡ false → Asks w w1 w2 → IsState (w.told w1) root e s → IsMore made e.path s more
+      → IsAlong w w0 w2 root entries rest more
+  along-new s more new keeps is grown =
+      let first = at.keeps in
+      subst (λ (l : List Row). IsAlong w w0 w2 root entries rest l) (sym grown)
+      (record {
+        keeps = search rules;
+        done = at.done ++ e ∷ [];
+        before = at.before ++ e ∷ [];
+        all =
+            at.all
+            ∙ ap (λ (l : List IndexEntry). at.done ++ firsts_after (last_path made) l) left_is
+            ∙ ap (λ (l : List IndexEntry). at.done ++ l) (firsts-new (last_path made) e rest new)
+            ∙ ap (λ (p : Option (List ℕ)). at.done ++ e ∷ firsts_after p rest) (sym (last-snoc made e.path s))
+            ∙ sym (append_assoc at.done (e ∷ []) (firsts_after (last_path (made ++ (e.path, s) ∷ [])) rest));
+        whole = further;
+        paired =
+            paired-snoc (IsState (w.told w0) root) at.done made e s at.paired
+            (subst (λ (told : Option Names). IsState told root e s) at.keeps.tree is);
+      })
+
+  pub along-entry : (more : List Row) → Asks w w1 w2 → IsWithEntry (w.told w1) root e made more → IsAlong w w0 w2 root entries rest more
+  along-entry more keeps with = by (is_last made e.path) refl with
+    where
+      by : (b : Bool) → is_last made e.path ≡ b → MatchBool b (more ≡ made) ((s : PathState) × IsState (w.told w1) root e s × IsMore made e.path s more)
+          → IsAlong w w0 w2 root entries rest more
+      by true again same = subst (λ (l : List Row). IsAlong w w0 w2 root entries rest l) (sym same) (along-again again keeps)
+      by false new grown = along-new grown.0 more new keeps grown.1 grown.2
+
+  contained : (before : List IndexEntry) → Contains (before ++ e ∷ rest) e
+  contained before = Contains-append_right before (e ∷ rest) e (0, omega arith, refl)
+
+  pub along-stops : (Rose Rose' : Type 0) (error : StatesError) → (Rose → Rose') → StopsLook (IsOnWay root (components e.path)) Rose error → Refuses root entries Rose' error
+  along-stops Rose Rose' (errors.Fault path) more h = (
+    more h.0,
+    record {
+      entry = e;
+      is_entry = subst (λ (l : List IndexEntry). Contains l e) (sym (at.whole ∙ ap (λ (l : List IndexEntry). at.before ++ l) left_is)) (contained at.before);
+      on_way = h.1;
+    },
+  )
+  along-stops Rose Rose' errors.OutOfMemory more h = tt
+
+module _ (told : Option Names) (root : List ℕ) (entries : List IndexEntry) (made : List Row) (paired : ArePaired (IsState told root) (firsts entries) made) where
+  pub possible-rows : ArePossible entries made
+  possible-rows = paired-as (IsState told root) IsPossible (firsts entries) made (λ e s is. is.possible) paired
+
+pub paired-told : (told : Option Names) (t : Names) (root : List ℕ) (entries : List IndexEntry) (made : List Row) → told ≡ Some t → ArePaired (IsState told root) entries made → made ≡ map (row t root) entries
+paired-told told t root [] made tells are = are
+paired-told told t root (e ∷ entries) [] tells are = absurd are
+paired-told told t root (e ∷ entries) ((path, s) ∷ made) tells are =
+    ap (λ (p : List ℕ). (p, s) ∷ made) are.0
+    ∙ ap (λ (x : PathState). (e.path, x) ∷ made) (are.1.exact t tells)
+    ∙ ap (λ (l : List Row). row t root e ∷ l) (paired-told told t root entries made tells are.2)
+
+pub along-done : {W : Type 0} (w : WorktreeOf W) (w0 w1 : W) (root : List ℕ) (entries left : List IndexEntry) (made : List Row) → IsAlong w w0 w1 root entries left made → left ≡ []
+    → ArePaired (IsState (w.told w0) root) (firsts entries) made
+along-done w w0 w1 root entries left made at none =
+    subst (λ (l : List IndexEntry). ArePaired (IsState (w.told w0) root) l made)
+    (sym (at.all ∙ ap (λ (l : List IndexEntry). at.done ++ firsts_after (last_path made) l) none ∙ append-nil at.done)) at.paired
+
+-- the last row stands at the end
+pub last-is : (made : List Row) → last_path made ≡ option_map path_of (slice_get made (length made - 1))
+last-is [] = refl
+last-is (r ∷ []) = refl
+last-is (r ∷ next ∷ made) =
+    let here : length (r ∷ next ∷ made) - 1 ≡ suc (length made) = omega arith in
+    let there : length (next ∷ made) - 1 ≡ length made = omega arith in
+    last-is (next ∷ made)
+    ∙ ap (λ (k : ℕ). option_map path_of (slice_get (next ∷ made) k)) there
+    ∙ sym (ap (λ (k : ℕ). option_map path_of (slice_get (r ∷ next ∷ made) k)) here)
+
+asks-nothing : {W : Type 0} (w : WorktreeOf W) (w0 : W) → Asks w w0 w0
+asks-nothing w w0 = search rules
+
+pub along-start : {W : Type 0} (w : WorktreeOf W) (w0 : W) (root : List ℕ) (entries left : List IndexEntry) (made : List Row) → left ≡ entries → made ≡ [] → IsAlong w w0 w0 root entries left made
+along-start w w0 root entries left made whole none =
+    subst (λ (l : List Row). IsAlong w w0 w0 root entries left l) (sym none)
+    (record {
+      keeps = asks-nothing w w0;
+      done = [];
+      before = [];
+      all = ap firsts (sym whole);
+      whole = sym whole;
+      paired = refl;
+    })
+
+-- the first of what is left of a list
+pub next-left : (entries : List IndexEntry) (i : ℕ) (e : IndexEntry) → i < length entries → e ≡ get_or entries i e → drop i entries ≡ e ∷ drop (i + 1) entries
+next-left entries i e lt is =
+    let one : suc i ≡ i + 1 = omega arith in
+    drop-cons entries i e lt
+    ∙ ap (λ (x : IndexEntry). x ∷ drop (suc i) entries) (sym is)
+    ∙ ap (λ (k : ℕ). e ∷ drop k entries) one

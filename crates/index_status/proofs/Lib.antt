@@ -1,0 +1,4 @@
+mod Alongside
+mod Ordered
+mod Settled
+mod Wayside

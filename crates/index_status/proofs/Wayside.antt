@@ -1,0 +1,14 @@
+-- On the way from a root to a path below it.
+use Rattle.std.proofs.Common.{◌≡◌, ℕ, List, ◌∷◌, Some}
+use Rattle.gitbase_core.specs.Path.{components}
+use Rattle.worktree_fs.specs.Kept.{Asks}
+use Rattle.worktree_fs.specs.Tree.{Names}
+use Rattle.worktree_fs.specs.declared.worktree.Worktree.{Ghosts as WorktreeOf}
+use Rattle.index_status.specs.Ways.{IsOnWay, way}
+
+-- directories alone have led here, and the way goes on along a name and those that are left
+pub record IsOn {W : Type 0} (w : WorktreeOf W) (w0 w1 : W) (root path here name : List ℕ) (left : List (List ℕ)) : Type 0 where
+  pub keeps : Asks w w0 w1
+  pub unread : w.reads w1 ≡ w.reads w0
+  pub leads : (t : Names) → w.told w0 ≡ Some t → way t here (name ∷ left) ≡ way t root (components path)
+  pub on_way : (at : List ℕ) → IsOnWay here (name ∷ left) at → IsOnWay root (components path) at

@@ -1,0 +1,6 @@
+use Rattle.std.proofs.Common.{drop}
+use Rattle.index_status.proofs.Alongside.{IsAlong}
+use Rattle.index_status.proofs.compare.states.Given as goal
+
+abbrev pub invariant-loop-entry : goal.invariant-loop-entry
+invariant-loop-entry g l = IsAlong g.W.Worktree l.fn.worktree l.worktree l.worktree_root l.index (drop l.entry-index l.entry-items) l.made.items

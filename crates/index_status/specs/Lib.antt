@@ -1,0 +1,4 @@
+pub mod Blobs
+pub mod Ways
+pub mod States
+pub mod Rows

@@ -1,0 +1,84 @@
+-- The states of all paths of an index.
+use Rattle.std.specs.Prelude.{◌≡◌, ℕ, List, [], ◌∷◌, ◌++◌, Bool, false, bytes_eq, map, Option, Some, None, if◌then◌else◌}
+use Rattle.std.specs.Bool.{MatchBool}
+use Rattle.std.specs.Cmp.Lexicographic.{slice_cmp}
+use Rattle.std.specs.List.{Contains}
+use Rattle.std.specs.List.Sorted.{IsStrictlySortedBy}
+use Rattle.std.specs.Ordering.{nat_cmp}
+use Rattle.gitbase_core.specs.Path.{components}
+use Rattle.gitbase_core.specs.declared.entry.IndexEntry.{IndexEntry}
+use Rattle.worktree_fs.specs.Tree.{Names}
+use Rattle.index_status.specs.declared.error.StatesError.{StatesError}
+use Rattle.index_status.specs.declared.error.StatesError.TheVariants as errors
+use Rattle.index_status.specs.declared.path_state.PathState.{PathState}
+use Rattle.index_status.specs.States.{IsPossible, IsState, state}
+use Rattle.index_status.specs.Ways.{IsOnWay}
+
+-- a path and its state
+abbrev pub Row : Type 0
+Row = List ℕ × PathState
+
+abbrev pub path_of : Row → List ℕ
+path_of row = row.0
+
+abbrev pub row : Names → List ℕ → IndexEntry → Row
+row t root e = (e.path, state t root e)
+
+abbrev pub is_path : Option (List ℕ) → List ℕ → Bool
+is_path None path = false
+is_path (Some other) path = bytes_eq other path
+
+-- the first entry of each path, behind an entry of some path; those of one path stand beside one another
+abbrev pub firsts_after : Option (List ℕ) → List IndexEntry → List IndexEntry
+firsts_after before [] = []
+firsts_after before (e ∷ entries) =
+    if is_path before e.path then firsts_after before entries else e ∷ firsts_after (Some e.path) entries
+
+abbrev pub firsts : List IndexEntry → List IndexEntry
+firsts entries = firsts_after None entries
+
+-- Each path of an index once, in its order, with its state over a tree.
+abbrev pub rows : Names → List ℕ → List IndexEntry → List Row
+rows t root entries = map (row t root) (firsts entries)
+
+-- the path of the last row, if there is one
+abbrev pub last_path : List Row → Option (List ℕ)
+last_path [] = None
+last_path (row ∷ []) = Some row.0
+last_path (row ∷ next ∷ made) = last_path (next ∷ made)
+
+abbrev pub is_last : List Row → List ℕ → Bool
+is_last made path = is_path (last_path made) path
+
+abbrev pub IsMore : List Row → List ℕ → PathState → List Row → Type 0
+IsMore made path s more = more ≡ made ++ (path, s) ∷ []
+
+-- with the row of an entry, unless the last row is of its path
+abbrev pub IsWithEntry : Option Names → List ℕ → IndexEntry → List Row → List Row → Type 0
+IsWithEntry told root e made more =
+    MatchBool (is_last made e.path) (more ≡ made) ((s : PathState) × IsState told root e s × IsMore made e.path s more)
+
+-- some entries and their rows, one by one
+abbrev pub ArePaired : (IndexEntry → PathState → Type 0) → List IndexEntry → List Row → Type 0
+ArePaired Has [] made = made ≡ []
+ArePaired Has (e ∷ entries) [] = ⊥
+ArePaired Has (e ∷ entries) (row ∷ made) = (row.0 ≡ e.path) × Has e row.1 × ArePaired Has entries made
+
+-- each path of the index once, in its order, with a state that it may have
+abbrev pub ArePossible : List IndexEntry → List Row → Type 0
+ArePossible entries made = ArePaired IsPossible (firsts entries) made
+
+-- the paths ascend strictly, byte by byte
+abbrev pub Ascends : List Row → Type 0
+Ascends made = IsStrictlySortedBy (slice_cmp nat_cmp) (map path_of made)
+
+-- a path is one of those on the way to the paths of some entries
+pub record IsAskedFor (root : List ℕ) (entries : List IndexEntry) (path : List ℕ) : Type 0 where
+  pub entry : IndexEntry
+  pub is_entry : Contains entries entry
+  pub on_way : IsOnWay root (components entry.path) path
+
+-- why there are no states: the worktree failed at a path that was asked for
+abbrev pub Refuses : List ℕ → List IndexEntry → Type 0 → StatesError → Type 0
+Refuses root entries Rose (errors.Fault path) = Rose × IsAskedFor root entries path
+Refuses root entries Rose errors.OutOfMemory = Unit {0}

@@ -1,0 +1,138 @@
+//! The state of each index path.
+ghost use Rattle.std.specs.Prelude.{◌≡◌, false, Some, IfOk, IfErr, length, slice_get};
+ghost use Rattle.gitbase_core.specs.Path.{components};
+ghost use Rattle.worktree_fs.specs.Causes.{Increased};
+ghost use Rattle.worktree_fs.specs.Kept.{Asks};
+ghost use Rattle.worktree_fs.specs.Tree.{Names};
+ghost use Rattle.index_status.specs.States as states;
+ghost use Rattle.index_status.specs.Rows as rows;
+ghost use Rattle.index_status.specs.Ways as ways;
+
+use crate::error::StatesError;
+use crate::look::state_at;
+use crate::path_state::PathState;
+use crate::way::way_to;
+use gitbase_core::{Flags, IndexEntry, OutOfMemory, PathText, State};
+use std::alloc::Global;
+use worktree_fs::Worktree;
+
+/// Each path of an index, once and in ascending order, with its state against the worktree, as `git diff-files` compares:
+/// the first of these that fits.
+///
+/// - `Conflicted`: the path has entries of other stages than 0.
+/// - `Skipped`: its entry is to be skipped or taken as unchanged, or is the directory of a sparse index.
+/// - `Deleted`: nothing is there, or what leads there from the root is not all directories; a link is none.
+/// - `Unchecked` and `TypeChanged`: for a submodule, whether there is a directory; for a link, whether there is one.
+/// - `TypeChanged`, `Same` and `Modified`: for a file, no file; one whose bytes have the id of the entry; any other.
+///
+/// Bytes are compared as they are on disk, without filters. Each file is read once; a mark that an entry was up to date saves
+/// no reading.
+///
+/// # Errors
+///
+/// - `Fault`: the worktree failed at this path, on the way to that of an entry or there, which it counted.
+/// - `OutOfMemory`: memory was refused.
+pub fn states<W: Worktree>(
+    alloc: Global,
+    worktree: &mut W,
+    worktree_root: &[u8],
+    index: &State,
+) -> Result<Vec<(PathText, PathState)>, StatesError>
+    ensures states { (t : Names) → W.told worktree.old ≡ Some t
+        → IfOk result (λ made. made.items ≡ rows.rows t worktree_root.now index.now) }
+    ensures possible { IfOk result (λ made. rows.ArePossible index.now made.items) }
+    ensures ascends { IfOk result (λ made. rows.Ascends made.items) }
+    ensures refused { IfErr result (rows.Refuses worktree_root.now index.now
+        (Increased (W.faults worktree.old) (W.faults worktree.new))) }
+    ensures keeps { Asks W.Worktree worktree.old worktree.new }
+{
+    let mut made = Vec::new(alloc);
+    for entry in index.entries() {
+        made = with_entry(alloc, worktree, worktree_root, made, entry)?;
+    }
+    Ok(made)
+}
+
+/// Rows with that of an entry, unless the last one is of its path.
+fn with_entry<W: Worktree>(
+    alloc: Global,
+    worktree: &mut W,
+    root: &[u8],
+    made: Vec<(PathText, PathState)>,
+    entry: &IndexEntry,
+) -> Result<Vec<(PathText, PathState)>, StatesError>
+    ensures more { IfOk result (λ more. rows.IsWithEntry (W.told worktree.old) root.now entry.now
+        made.items more.items) }
+    ensures refused { IfErr result (ways.StopsLook
+        (ways.IsOnWay root.now (components entry.now.path))
+        (Increased (W.faults worktree.old) (W.faults worktree.new))) }
+    ensures keeps { Asks W.Worktree worktree.old worktree.new }
+{
+    if is_last(&made, &entry.path) {
+        return Ok(made);
+    }
+    let state = state_of(alloc, worktree, root, entry)?;
+    Ok(with_row(alloc, made, &entry.path, state)?)
+}
+
+/// Whether the last row has this path.
+fn is_last(made: &Vec<(PathText, PathState)>, path: &PathText) -> bool
+    ensures { result ≡ rows.is_last made.now.items path.now }
+{
+    match made.last() {
+        Some((last, _)) => last.as_bytes() == path.as_bytes(),
+        None => false,
+    }
+}
+
+/// Rows with one more.
+fn with_row(
+    alloc: Global,
+    mut made: Vec<(PathText, PathState)>,
+    path: &PathText,
+    state: PathState,
+) -> Result<Vec<(PathText, PathState)>, OutOfMemory>
+    ensures { IfOk result (λ more. rows.IsMore made.items path.now state more.items) }
+{
+    let path = PathText::from_bytes(alloc, path.as_bytes())?;
+    made.push((path, state))?;
+    Ok(made)
+}
+
+/// The state of an entry, the first of its path.
+fn state_of<W: Worktree>(
+    alloc: Global,
+    worktree: &mut W,
+    root: &[u8],
+    entry: &IndexEntry,
+) -> Result<PathState, StatesError>
+    ensures state { IfOk result (states.IsState (W.told worktree.old) root.now entry.now) }
+    ensures refused { IfErr result (ways.StopsLook
+        (ways.IsOnWay root.now (components entry.now.path))
+        (Increased (W.faults worktree.old) (W.faults worktree.new))) }
+    ensures keeps { Asks W.Worktree worktree.old worktree.new }
+{
+    if entry.stage != 0 {
+        return Ok(PathState::Conflicted);
+    }
+    if is_left_out(entry) {
+        return Ok(PathState::Skipped);
+    }
+    match way_to(alloc, worktree, root, &entry.path)? {
+        Some(full) => state_at(alloc, worktree, full, entry),
+        None => Ok(PathState::Deleted),
+    }
+}
+
+/// Whether the index says not to look at an entry's path.
+fn is_left_out(entry: &IndexEntry) -> bool
+    ensures { result ≡ states.is_left_out entry.now }
+{
+    if entry.flags.contains(Flags::SKIP_WORKTREE) {
+        return true;
+    }
+    if entry.flags.contains(Flags::ASSUME_VALID) {
+        return true;
+    }
+    entry.mode.is_sparse()
+}

@@ -1,0 +1,131 @@
+//! What stands at an index path, against what the index has.
+ghost use Rattle.std.specs.Prelude.{◌≡◌, false, Some, IfOk, IfErr};
+ghost use Rattle.worktree_fs.specs.Causes.{Increased};
+ghost use Rattle.worktree_fs.specs.Kept.{Asks};
+ghost use Rattle.worktree_fs.specs.Tree.{Names, look};
+ghost use Rattle.index_status.specs.Blobs.{blob_id};
+ghost use Rattle.index_status.specs.States as states;
+ghost use Rattle.index_status.specs.Ways as ways;
+
+use crate::blob::blob_id;
+use crate::error::StatesError;
+use crate::path_state::PathState;
+use gitbase_core::{Bytes, IndexEntry, Mode, ObjectId, OutOfMemory, PathText};
+use std::alloc::Global;
+use worktree_fs::{NodeKind, ReadAnswer, ReadError, Worktree};
+
+/// The state of an entry whose node stands at a whole path, to which directories lead.
+pub(crate) fn state_at<W: Worktree>(
+    alloc: Global,
+    worktree: &mut W,
+    full: PathText,
+    entry: &IndexEntry,
+) -> Result<PathState, StatesError>
+    ensures state { (t : Names) → W.told worktree.old ≡ Some t
+        → IfOk result (λ state. state ≡ states.by_mode entry.now (look t full false)) }
+    ensures possible { IfOk result (states.IsSeen entry.now) }
+    ensures refused { IfErr result (ways.StopsAt full
+        (Increased (W.faults worktree.old) (W.faults worktree.new))) }
+    ensures keeps { Asks W.Worktree worktree.old worktree.new }
+{
+    if entry.mode.is_submodule() {
+        return submodule_state(alloc, worktree, full);
+    }
+    if is_link_mode(entry.mode) {
+        return link_state(alloc, worktree, full);
+    }
+    file_state(alloc, worktree, full, &entry.id)
+}
+
+/// Whether this is the mode of a link.
+fn is_link_mode(mode: Mode) -> bool
+    ensures { result ≡ states.is_link_mode mode }
+{
+    mode.bits() == 0o120000
+}
+
+/// The state of a submodule.
+fn submodule_state<W: Worktree>(
+    alloc: Global,
+    worktree: &mut W,
+    full: PathText,
+) -> Result<PathState, StatesError>
+    ensures state { (t : Names) → W.told worktree.old ≡ Some t
+        → IfOk result (λ state. state ≡ states.by_submodule (look t full false)) }
+    ensures possible { IfOk result states.IsUnread }
+    ensures refused { IfErr result (ways.StopsAt full
+        (Increased (W.faults worktree.old) (W.faults worktree.new))) }
+    ensures keeps { Asks W.Worktree worktree.old worktree.new }
+{
+    match worktree.kind(alloc, full.as_bytes()) {
+        Ok(None) => Ok(PathState::Deleted),
+        Ok(Some(NodeKind::Directory)) => Ok(PathState::Unchecked),
+        Ok(Some(NodeKind::File)) => Ok(PathState::TypeChanged),
+        Ok(Some(NodeKind::Symlink)) => Ok(PathState::TypeChanged),
+        Ok(Some(NodeKind::Untrackable)) => Ok(PathState::TypeChanged),
+        Err(ReadError::Fault) => Err(StatesError::Fault { path: full }),
+        Err(ReadError::OutOfMemory) => Err(StatesError::OutOfMemory),
+    }
+}
+
+/// The state of a link.
+fn link_state<W: Worktree>(
+    alloc: Global,
+    worktree: &mut W,
+    full: PathText,
+) -> Result<PathState, StatesError>
+    ensures state { (t : Names) → W.told worktree.old ≡ Some t
+        → IfOk result (λ state. state ≡ states.by_link (look t full false)) }
+    ensures possible { IfOk result states.IsUnread }
+    ensures refused { IfErr result (ways.StopsAt full
+        (Increased (W.faults worktree.old) (W.faults worktree.new))) }
+    ensures keeps { Asks W.Worktree worktree.old worktree.new }
+{
+    match worktree.kind(alloc, full.as_bytes()) {
+        Ok(None) => Ok(PathState::Deleted),
+        Ok(Some(NodeKind::Symlink)) => Ok(PathState::Unchecked),
+        Ok(Some(NodeKind::File)) => Ok(PathState::TypeChanged),
+        Ok(Some(NodeKind::Directory)) => Ok(PathState::TypeChanged),
+        Ok(Some(NodeKind::Untrackable)) => Ok(PathState::TypeChanged),
+        Err(ReadError::Fault) => Err(StatesError::Fault { path: full }),
+        Err(ReadError::OutOfMemory) => Err(StatesError::OutOfMemory),
+    }
+}
+
+/// The state of a file, which is read once.
+fn file_state<W: Worktree>(
+    alloc: Global,
+    worktree: &mut W,
+    full: PathText,
+    id: &ObjectId,
+) -> Result<PathState, StatesError>
+    ensures state { (t : Names) → W.told worktree.old ≡ Some t
+        → IfOk result (λ state. state ≡ states.by_file id.now (look t full false)) }
+    ensures possible { IfOk result states.IsRead }
+    ensures refused { IfErr result (ways.StopsAt full
+        (Increased (W.faults worktree.old) (W.faults worktree.new))) }
+    ensures keeps { Asks W.Worktree worktree.old worktree.new }
+{
+    let mut bytes = Bytes::new(alloc);
+    match worktree.read(alloc, full.as_bytes(), false, &mut bytes) {
+        Ok(ReadAnswer::Read) => Ok(compared(alloc, bytes.as_bytes(), id)?),
+        Ok(ReadAnswer::Absent) => Ok(PathState::Deleted),
+        Ok(ReadAnswer::IsDirectory) => Ok(PathState::TypeChanged),
+        Ok(ReadAnswer::IsLink) => Ok(PathState::TypeChanged),
+        Ok(ReadAnswer::LinkLimit) => Ok(PathState::TypeChanged),
+        Ok(ReadAnswer::Special) => Ok(PathState::TypeChanged),
+        Err(ReadError::Fault) => Err(StatesError::Fault { path: full }),
+        Err(ReadError::OutOfMemory) => Err(StatesError::OutOfMemory),
+    }
+}
+
+/// The state of a file by its bytes.
+fn compared(alloc: Global, bytes: &[u8], id: &ObjectId) -> Result<PathState, OutOfMemory>
+    ensures { IfOk result (λ state. state ≡ states.by_bytes id.now bytes.now) }
+{
+    let own = blob_id(alloc, bytes)?;
+    if own.as_bytes().as_slice() == id.as_bytes().as_slice() {
+        return Ok(PathState::Same);
+    }
+    Ok(PathState::Modified)
+}

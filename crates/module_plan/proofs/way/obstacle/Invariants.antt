@@ -1,0 +1,5 @@
+use Rattle.module_plan.proofs.Onward.{IsOn}
+use Rattle.module_plan.proofs.way.obstacle.Given as goal
+
+abbrev pub invariant-loop-name : goal.invariant-loop-name
+invariant-loop-name g l = IsOn g.W.Worktree l.fn.worktree l.worktree l.root l.path l.full l.name-iterator

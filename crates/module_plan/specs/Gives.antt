@@ -1,0 +1,10 @@
+-- What the calls answer that ask for a step of a submodule. Want of memory is always free.
+use Rattle.std.specs.Prelude.{◌≡◌, Result, Ok, Err}
+use Rattle.module_plan.specs.declared.step.Why.{Why}
+use Rattle.module_plan.specs.declared.wanted.Stop.{Stop}
+use Rattle.module_plan.specs.declared.wanted.Stop.TheVariants as stops
+
+abbrev pub Gives : {T : Type 0} → Result T Stop → Result T Why → Type 0
+Gives (Ok answer) given = given ≡ Ok answer
+Gives (Err (stops.LeaveOut why)) given = given ≡ Err why
+Gives (Err stops.OutOfMemory) given = Unit {0}

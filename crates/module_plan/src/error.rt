@@ -1,0 +1,34 @@
+//! Why there is no plan.
+use bstr::BStr;
+use gitbase_core::{OutOfMemory, PathText};
+use thiserror::Error;
+
+/// Why there is no plan.
+#[derive(Debug, Drop, PartialEq, Eq, Error)]
+pub enum ModuleError {
+    /// This value of `submodule.active`, counted from 1, is no path spec, or its path is absolute or leads out of the top.
+    #[error("The pathspec in value {value} of 'submodule.active' is refused")]
+    ActiveSpec { value: usize },
+    /// The worktree failed when it was asked for the node at this path, which begins with the root.
+    #[error("Could not learn what stands at '{}'", shown(.path))]
+    Fault { path: PathText },
+    /// Want of memory.
+    #[error("Out of memory: the allocator refused to make room")]
+    OutOfMemory,
+}
+
+/// A path as text, with U+FFFD for what is not UTF-8.
+fn shown(path: &PathText) -> BStr<'_> {
+    BStr::new(path.as_bytes())
+}
+
+impl From<OutOfMemory> for ModuleError {
+    ghost use Rattle.std.specs.Prelude.{◌≡◌};
+    ghost use Rattle.module_plan.specs.declared.error.ModuleError.TheVariants as errors;
+
+    ghost from_gives = { λ _ e. e ≡ errors.OutOfMemory };
+
+    fn from(_refused: OutOfMemory) -> ModuleError {
+        ModuleError::OutOfMemory
+    }
+}

@@ -1,0 +1,15 @@
+//! The steps that an update of the active submodules of a work tree would take; it takes none of them.
+#![tactic(auto)]
+
+mod asking;
+mod error;
+mod judge;
+mod planned;
+mod step;
+mod taken;
+mod wanted;
+mod way;
+
+pub use error::ModuleError;
+pub use planned::plan;
+pub use step::{ModulePlan, Skipped, Step, StepKind, Why};

@@ -1,0 +1,106 @@
+//! The plan of an update.
+ghost use Rattle.std.specs.Prelude.{◌≡◌, ◌≢◌, None, Some, IfOk, IfErr, OnOk, IsPermutation, Result};
+ghost use Rattle.std.specs.List.{IsDistinct};
+ghost use Rattle.worktree_fs.specs.Causes.{Increased};
+ghost use Rattle.worktree_fs.specs.Kept.{Asks};
+ghost use Rattle.worktree_fs.specs.Tree.{Names};
+ghost use Rattle.submodule.specs.Active.{platform};
+ghost use Rattle.module_plan.specs.Judged as judged;
+ghost use Rattle.module_plan.specs.Plans as plans;
+ghost use Rattle.module_plan.specs.Wanted.{asked_of};
+
+use crate::asking::Asking;
+use crate::error::ModuleError;
+use crate::judge::judged;
+use crate::step::{ModulePlan, Step};
+use git_config_lite as config;
+use gitbase_core::OutOfMemory;
+use glob_rules::pathspec::Defaults;
+use std::alloc::Global;
+use submodule::{IsActivePlatform, is_active_platform};
+use worktree_fs::Worktree;
+
+/// The steps that an update of the active submodules would take, as `git submodule update --init`; it takes none of them.
+///
+/// Each submodule that `.gitmodules` names is updated, or left out for the first reason of `Why` that holds. Which are active
+/// says the configuration, by `IsActivePlatform::is_active`; in the path specs of `submodule.active` letters fold if
+/// `defaults` says so. The worktree is asked for the nodes on the way to each path that no earlier submodule asks for, links
+/// not followed.
+///
+/// # Errors
+///
+/// - `ActiveSpec`: `modules.is_active_platform` refuses this value.
+/// - `Fault`: the worktree failed at a path on the way to that of a submodule, which it counted; no value is refused.
+/// - `OutOfMemory`: memory was refused.
+pub fn plan<W: Worktree>(
+    alloc: Global,
+    worktree: &mut W,
+    worktree_root: &[u8],
+    modules: &submodule::File,
+    config: &config::File,
+    defaults: Defaults,
+) -> Result<ModulePlan, ModuleError>
+    ensures planned { (t : Names) → W.told worktree.old ≡ Some t
+        → IfOk result (plans.IsPlan (plans.verdicts t worktree_root.now
+        (asked_of defaults.ignore_case modules.now config.now))) }
+    ensures possible { IfOk result (plans.IsPlanned (W.told worktree.old) worktree_root.now
+        (asked_of defaults.ignore_case modules.now config.now)) }
+    ensures ascends { IfOk result (λ plan. plans.Ascends plan.steps.items) }
+    ensures safe { IfOk result (plans.AreSafe
+        (asked_of defaults.ignore_case modules.now config.now)) }
+    ensures open_way { (t : Names) → W.told worktree.old ≡ Some t
+        → IfOk result (plans.AreOpen t worktree_root.now) }
+    ensures active { OnOk result (plans.refused_value
+        (platform defaults.ignore_case config.now.sections) ≡ None) }
+    ensures refused { IfErr result (plans.Refuses worktree_root.now
+        (asked_of defaults.ignore_case modules.now config.now)
+        (plans.refused_value (platform defaults.ignore_case config.now.sections))
+        (Increased (W.faults worktree.old) (W.faults worktree.new))) }
+    ensures keeps { Asks W.Worktree worktree.old worktree.new }
+    ensures reads { W.reads worktree.new ≡ W.reads worktree.old }
+{
+    let mut platform = platform_of(alloc, modules, config, defaults)?;
+    let asking = Asking {
+        root: worktree_root,
+        modules,
+        config,
+    };
+    let plan = judged(alloc, worktree, &asking, &mut platform)?;
+    Ok(by_path(plan)?)
+}
+
+/// What decides which submodules are active.
+fn platform_of(
+    alloc: Global,
+    modules: &submodule::File,
+    config: &config::File,
+    defaults: Defaults,
+) -> Result<IsActivePlatform, ModuleError>
+    ensures platform { IfOk result (λ made.
+        platform defaults.ignore_case config.now.sections ≡ Ok made) }
+    ensures refused { IfErr result (plans.RefusesValue
+        (plans.refused_value (platform defaults.ignore_case config.now.sections))) }
+{
+    match modules.is_active_platform(alloc, config, defaults) {
+        Ok(platform) => Ok(platform),
+        Err(is_active_platform::Error::ParsePattern { value, at: _ }) => {
+            Err(ModuleError::ActiveSpec { value })
+        }
+        Err(is_active_platform::Error::NormalizePattern { value }) => {
+            Err(ModuleError::ActiveSpec { value })
+        }
+        Err(is_active_platform::Error::OutOfMemory) => Err(ModuleError::OutOfMemory),
+    }
+}
+
+/// The plan with its steps in ascending order of their paths.
+fn by_path(plan: ModulePlan) -> Result<ModulePlan, OutOfMemory>
+    ensures same { IfOk result (λ sorted. IsPermutation plan.steps.items sorted.steps.items) }
+    ensures skipped { IfOk result (λ sorted. sorted.skipped.items ≡ plan.skipped.items) }
+    ensures ascends { plans.HaveDistinctPaths plan.steps.items
+        → IfOk result (λ sorted. plans.Ascends sorted.steps.items) }
+{
+    let ModulePlan { mut steps, skipped } = plan;
+    steps.sort_by(|a, b| a.path.as_bytes().cmp(&b.path.as_bytes()))?;
+    Ok(ModulePlan { steps, skipped })
+}

@@ -1,0 +1,156 @@
+//! What a submodule asks for, before the worktree is looked at.
+ghost use Rattle.std.specs.Prelude.{◌≡◌, Some, Ok, IfOk, is_err};
+ghost use Rattle.std.specs.List.{list_any};
+ghost use Rattle.gitbase_core.specs.Path.{components};
+ghost use Rattle.submodule.specs.Access as access;
+ghost use Rattle.submodule.specs.Active as active;
+ghost use Rattle.module_plan.specs.Wanted as wanted;
+ghost use Rattle.module_plan.specs.Gives.{Gives};
+
+use crate::asking::Asking;
+use crate::step::{StepKind, Why};
+use git_config_lite as config;
+use gitbase_core::{OutOfMemory, PathText, eq_ignore_case};
+use std::alloc::Global;
+use submodule::{IsActivePlatform, Update, path, update, url};
+
+/// A step that a submodule asks for.
+#[derive(Debug, Drop)]
+pub struct Wanted {
+    pub path: PathText,
+    pub kind: StepKind,
+}
+
+/// Why a submodule asks for no step.
+#[derive(Clone, Copy, Debug)]
+pub enum Stop {
+    LeaveOut(Why),
+    OutOfMemory,
+}
+
+impl From<OutOfMemory> for Stop {
+    ghost use Rattle.std.specs.Prelude.{◌≡◌};
+    ghost use Rattle.module_plan.specs.declared.wanted.Stop.TheVariants as stops;
+
+    ghost from_gives = { λ _ e. e ≡ stops.OutOfMemory };
+
+    fn from(_refused: OutOfMemory) -> Stop {
+        Stop::OutOfMemory
+    }
+}
+
+/// The step that a submodule asks for: it is active, has a path, an update and a url.
+pub(crate) fn asked_for(
+    alloc: Global,
+    asking: &Asking<'_>,
+    platform: &mut IsActivePlatform,
+    name: &[u8],
+) -> Result<Wanted, Stop>
+    ensures wanted { Gives result (wanted.wanted
+        (wanted.asked_by asking.now platform.old) name.now) }
+    ensures same { platform.new ≡ platform.old }
+{
+    if let Some(why) = why_inactive(asking.config, platform, name) {
+        return Err(Stop::LeaveOut(why));
+    }
+    let path = path_of(alloc, asking.modules, name)?;
+    let kind = kind_of(alloc, asking.modules, name)?;
+    if lacks_url(alloc, asking.modules, name)? {
+        return Err(Stop::LeaveOut(Why::BadUrl));
+    }
+    Ok(Wanted { path, kind })
+}
+
+/// Why a submodule is not active, if it is not.
+fn why_inactive(config: &config::File, platform: &mut IsActivePlatform, name: &[u8]) -> Option<Why>
+    ensures why { result
+        ≡ wanted.why_inactive (active.is_active platform.old config.now.sections name.now) }
+    ensures same { platform.new ≡ platform.old }
+{
+    match platform.is_active(config, name) {
+        Ok(true) => None,
+        Ok(false) => Some(Why::Inactive),
+        Err(_) => Some(Why::BadActive),
+    }
+}
+
+/// Where a submodule stands.
+fn path_of(alloc: Global, modules: &submodule::File, name: &[u8]) -> Result<PathText, Stop>
+    ensures { Gives result (wanted.place (access.path name.now modules.now.sections)) }
+{
+    match modules.path(alloc, name) {
+        Ok(path) => place_of(alloc, path),
+        Err(path::Error::Missing { .. }) => Err(Stop::LeaveOut(Why::BadPath)),
+        Err(path::Error::Absolute { .. }) => Err(Stop::LeaveOut(Why::BadPath)),
+        Err(path::Error::OutsideOfWorktree { .. }) => Err(Stop::LeaveOut(Why::BadPath)),
+        Err(path::Error::OutOfMemory) => Err(Stop::OutOfMemory),
+    }
+}
+
+/// Where a path leads, if a submodule may stand there.
+fn place_of(alloc: Global, path: &[u8]) -> Result<PathText, Stop>
+    ensures { Gives result (wanted.place (Ok path.now)) }
+{
+    let Some(path) = PathText::from_bytes(alloc, path)?.normalize(alloc)? else {
+        return Err(Stop::LeaveOut(Why::BadPath));
+    };
+    if path.as_bytes().is_empty() {
+        return Err(Stop::LeaveOut(Why::Root));
+    }
+    if has_dot_git(&path) {
+        return Err(Stop::LeaveOut(Why::DotGit));
+    }
+    Ok(path)
+}
+
+/// Whether a component of a path is `.git`, whatever the case of the letters.
+fn has_dot_git(path: &PathText) -> bool
+    ensures { result ≡ list_any wanted.is_dot_git (components path.now) }
+{
+    for name in path.components() {
+        if eq_ignore_case(name, b".git") {
+            return true;
+        }
+    }
+    false
+}
+
+/// How a submodule is updated.
+fn kind_of(alloc: Global, modules: &submodule::File, name: &[u8]) -> Result<StepKind, Stop>
+    ensures { Gives result (wanted.kind (access.update name.now modules.now.sections)) }
+{
+    match modules.update(alloc, name) {
+        Ok(update) => step_kind(update),
+        Err(update::Error::Invalid { .. }) => Err(Stop::LeaveOut(Why::BadUpdate)),
+        Err(update::Error::CommandForbiddenInModulesConfiguration { .. }) => {
+            Err(Stop::LeaveOut(Why::SharedCommand))
+        }
+        Err(update::Error::OutOfMemory) => Err(Stop::OutOfMemory),
+    }
+}
+
+/// The step of an update; the commit is checked out where nothing is said.
+fn step_kind(update: Option<Update>) -> Result<StepKind, Stop>
+    ensures { Gives result (wanted.step_kind update) }
+{
+    match update {
+        None => Ok(StepKind::Checkout),
+        Some(Update::Checkout) => Ok(StepKind::Checkout),
+        Some(Update::Rebase) => Ok(StepKind::Rebase),
+        Some(Update::Merge) => Ok(StepKind::Merge),
+        Some(Update::Command(command)) => Ok(StepKind::Command(command)),
+        Some(Update::None) => Err(Stop::LeaveOut(Why::NoUpdate)),
+    }
+}
+
+/// Whether a submodule has no url.
+fn lacks_url(alloc: Global, modules: &submodule::File, name: &[u8]) -> Result<bool, OutOfMemory>
+    ensures { IfOk result (λ lacks. lacks ≡ is_err (access.url name.now modules.now.sections)) }
+{
+    match modules.url(alloc, name) {
+        Ok(_) => Ok(false),
+        Err(url::Error::Missing { .. }) => Ok(true),
+        Err(url::Error::Parse { .. }) => Ok(true),
+        Err(url::Error::OutOfMemory) => Err(OutOfMemory),
+    }
+}

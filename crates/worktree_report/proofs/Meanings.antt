@@ -1,0 +1,72 @@
+-- What the options of a setup mean, and a line that names a configuration.
+use Rattle.std.proofs.Common.{◌≡◌, ℕ, List, [], ◌∷◌, ◌++◌, Bool, Option, Some, codes, refl, sym, ap, ◌∙◌, append-nil}
+use Rattle.std.specs.FinMap.{empty}
+use Rattle.gitbase_core.specs.Objects.{Objects}
+use Rattle.gitbase_core.specs.declared.entry.IndexEntry.{IndexEntry}
+use Rattle.glob_rules.specs.PathSpec.{PathSpec}
+use Rattle.dir_classify.specs.declared.options.EmissionMode.{EmissionMode}
+use Rattle.dir_classify.specs.declared.options.CollapsedEntriesEmissionMode.{CollapsedEntriesEmissionMode}
+use Rattle.worktree_report.specs.declared.permissions.Permissions.{Permissions}
+use Rattle.worktree_report.specs.declared.setup.SetupOptions.{SetupOptions}
+use Rattle.worktree_report.specs.declared.setup.line.SetupLine.{SetupLine}
+use Rattle.worktree_report.specs.declared.setup.line.SetupLine.TheVariants.{Configures}
+use Rattle.worktree_report.specs.declared.setup.option.SetupOption.{SetupOption}
+use Rattle.worktree_report.specs.ConfigFiles.{ConfigFile}
+use Rattle.worktree_report.specs.SetupFiles.{stored_after}
+use Rattle.worktree_report.specs.SetupMeant.{depth_meant, emit_untracked_of, emit_ignored_of, emit_collapsed_of, meant, options_meant, ordered_after, permissions_of, reporting_of, value_of}
+use Rattle.worktree_report.specs.SetupSpecs.{specs_in}
+use Rattle.worktree_report.specs.SetupOptions.{is_set_to}
+use Rattle.worktree_report.specs.SetupSaid.{Said}
+use Rattle.worktree_report.specs.SetupText.{taken}
+
+pub reporting-is : (options : List SetupOption) (pruned tracked empty origins submodules outcome : Bool) (untracked : EmissionMode) (ignored : Option EmissionMode)
+    (collapsed : Option CollapsedEntriesEmissionMode) (permissions : Permissions)
+    → pruned ≡ is_set_to (codes "emit_pruned") (codes "yes") options → tracked ≡ is_set_to (codes "emit_tracked") (codes "yes") options
+    → untracked ≡ emit_untracked_of options → ignored ≡ emit_ignored_of options → collapsed ≡ emit_collapsed_of options
+    → empty ≡ is_set_to (codes "emit_empty_directories") (codes "yes") options → origins ≡ is_set_to (codes "origins") (codes "yes") options
+    → submodules ≡ is_set_to (codes "submodules") (codes "yes") options → permissions ≡ permissions_of options
+    → outcome ≡ is_set_to (codes "print_outcome") (codes "yes") options
+    → record {
+      emit_pruned = pruned;
+      emit_tracked = tracked;
+      emit_untracked = untracked;
+      emit_ignored = ignored;
+      emit_collapsed = collapsed;
+      emit_empty_directories = empty;
+      origins = origins;
+      submodules = submodules;
+      permissions = permissions;
+      print_outcome = outcome;
+    } ≡ reporting_of options
+unfolding reporting_of
+reporting-is options pruned tracked empty origins submodules outcome untracked ignored collapsed permissions a b c d e f g h i j = rw (a, b, c, d, e, f, g, h, i, j) refl
+
+configures : (draft : Said) (configs : List ConfigFile) (config : ConfigFile) → configs ≡ draft.configs ++ config ∷ [] → Some (record draft { configs = configs }) ≡ taken draft (Some (Configures config))
+configures draft configs config e =
+    rw (e, append-nil draft.options, append-nil draft.index, append-nil draft.blobs, append-nil draft.overrides, append-nil draft.globals, append-nil draft.specs, append-nil draft.worktrees) refl
+
+pub taken-configures : {view draft : Said} (line : Option SetupLine) (configs : List ConfigFile) (config : ConfigFile) → view ≡ draft → line ≡ Some (Configures config) → configs ≡ view.configs ++ config ∷ []
+    → Some (record view { configs = configs }) ≡ taken draft line
+taken-configures {view = view} {draft = draft} line configs config same is e =
+    configures view configs config e ∙ ap (λ (d : Said). taken d (Some (Configures config))) same ∙ ap (taken draft) (sym is)
+
+pub meant-is : (d : Said) (git_dir current_dir root : Option (List ℕ)) (depth : ℕ) (index : List IndexEntry) (blobs : Objects) (overrides globals : List ℕ) (specs : List PathSpec) (keys : List (List ℕ))
+    (configs : List ConfigFile) (options : SetupOptions)
+    → git_dir ≡ value_of (codes "git_dir") d.options → current_dir ≡ value_of (codes "current_dir") d.options → root ≡ value_of (codes "root") d.options → depth ≡ depth_meant d.options
+    → index ≡ d.index → blobs ≡ stored_after empty d.blobs → overrides ≡ d.overrides → globals ≡ d.globals → options ≡ options_meant d.options → specs ≡ specs_in options.ignore_case d.specs
+    → keys ≡ ordered_after [] d.worktrees → configs ≡ d.configs
+    → record {
+      git_dir = git_dir;
+      current_dir = current_dir;
+      root = root;
+      depth = depth;
+      index = index;
+      blobs = blobs;
+      overrides = overrides;
+      globals = globals;
+      specs = specs;
+      worktrees = record { keys = keys };
+      configs = configs;
+      options = options;
+    } ≡ meant d
+meant-is d git_dir current_dir root depth index blobs overrides globals specs keys configs options a b c e f g h i j k l m = rw (a, b, c, e, f, g, h, i, k, j, l, m) refl

@@ -1,0 +1,310 @@
+-- A report is made: what tells of submodules is read, and the work tree is walked.
+use Rattle.std.proofs.Common.{◌≡◌, ◌≤◌, ◌^◌, ◌-◌, min, ℕ, List, Bool, true, Option, Some, Result, Ok, Err, IfOk, inl, inr, refl, sym, ap, ◌∙◌, subst, option_map, arith}
+use Rattle.gitbase_core.specs.declared.find.Find.{Ghosts as FindOf}
+use Rattle.worktree_fs.specs.declared.interrupt.Interrupt.{Ghosts as InterruptOf}
+use Rattle.worktree_fs.specs.declared.worktree.Worktree.{Ghosts as WorktreeOf}
+use Rattle.worktree_fs.specs.Causes.{NotIncreased, Increased}
+use Rattle.worktree_fs.specs.Paths.{full_path}
+use Rattle.worktree_fs.specs.Tree.{Names}
+use Rattle.worktree_stack.specs.declared.error.AtPathError.{AtPathError}
+use Rattle.worktree_stack.specs.declared.error.AtPathError.TheVariants as inner
+use Rattle.worktree_stack.specs.declared.error.RulesWhy.TheVariants as rules
+use Rattle.worktree_stack.specs.declared.error.BlobWhy.TheVariants as blobs
+use Rattle.worktree_stack.specs.Lookups.{refused_one}
+use Rattle.worktree_stack.specs.Reading.{Sources}
+use Rattle.worktree_stack.specs.Refused as lookups
+use Rattle.worktree_stack.specs.Setup.{Made}
+use Rattle.dir_classify.specs.declared.error.Error.{Error}
+use Rattle.dir_classify.specs.declared.error.Error.TheVariants as walk
+use Rattle.dir_classify.specs.declared.error.MetadataWhy.TheVariants as metadata
+use Rattle.dir_classify.specs.declared.error.ReadWhy.TheVariants as why
+use Rattle.dir_classify.specs.Excludes.{TellsIf}
+use Rattle.dir_classify.specs.Refused.{OnFault}
+use Rattle.dir_walk.specs.declared.report.Report.{Report as WalkReport}
+use Rattle.dir_walk.specs.Kept.{KeepsTree}
+use Rattle.dir_walk.specs.Opens.{IsListed, reads_rules_alone}
+use Rattle.dir_walk.specs.Walkable.{IsValid}
+use Rattle.dir_walk.specs.Walks.{OpensDirectories, ReadsAtMost}
+use Rattle.worktree_report.specs.declared.error.ReportError.{ReportError}
+use Rattle.worktree_report.specs.declared.error.ReportError.TheVariants as errors
+use Rattle.worktree_report.specs.declared.known.Known.{Known}
+use Rattle.worktree_report.specs.declared.refusal.Misread.{Misread}
+use Rattle.worktree_report.specs.declared.refusal.Misread.TheVariants as misread
+use Rattle.worktree_report.specs.declared.report.Report.{Report}
+use Rattle.worktree_report.specs.declared.setup.Setup.{Setup}
+use Rattle.worktree_report.specs.Asked.{About, IsReportOf, IsWalkOf, ReadsFrom, Refuses, asked_of, chosen_of, described_by, report_of, walked_of}
+use Rattle.worktree_report.specs.Excluding.{excludes_of}
+use Rattle.worktree_report.specs.Loading.{files_if, known_in}
+use Rattle.worktree_report.specs.Loads.{Gives, LoadsFiles, OfKnown, of_walk}
+use Rattle.worktree_report.specs.Reported.{Describes, LoadsAndOpens, MakesReport, Misreads, OnReportFault, OnWalk, Reports}
+use Rattle.worktree_report.specs.Submodules.{described}
+use Rattle.worktree_report.proofs.Walks.{unlisted_so}
+
+-- a walk with the submodules is the report
+pub report_is : {composes : Bool} {s : Sources} {root : List ℕ} {setup : Setup} {r : Report} → IsReportOf composes s root setup r → report_of composes s root setup ≡ Some r
+report_is {composes = composes} {s = s} {root = root} {setup = setup} is =
+    ap (λ (x : Result (Option Known) Misread). described_by x (walked_of composes s root setup)) is.known_is
+    ∙ ap (option_map (described is.known)) is.walk_is.is ∙ ap (λ (x : Report). Some x) (sym is.same)
+
+-- ---- what tells of submodules is refused
+
+misreads_given : (e : ReportError) (given : Result (Option Known) Misread) → Gives (Err e) given → Misreads given e
+misreads_given (errors.Config at line) given h = h
+misreads_given (errors.Modules line) given h = h
+misreads_given (errors.ActiveSpec at) given h = h
+misreads_given errors.ReadFault given h = tt
+misreads_given (errors.Walk error) given h = tt
+misreads_given errors.OutOfMemory given h = tt
+
+no_walk : (Failed : Type 0) (Holds : Error → Type 0) (e : ReportError) → OfKnown Failed e → OnWalk Holds e
+no_walk Failed Holds (errors.Config at line) h = tt
+no_walk Failed Holds (errors.Modules line) h = tt
+no_walk Failed Holds (errors.ActiveSpec at) h = tt
+no_walk Failed Holds errors.ReadFault h = tt
+no_walk Failed Holds (errors.Walk error) h = absurd h
+no_walk Failed Holds errors.OutOfMemory h = tt
+
+failed : (Failed Stored : Type 0) (e : ReportError) → OfKnown Failed e → OnReportFault Failed Stored e
+failed Failed Stored (errors.Config at line) h = tt
+failed Failed Stored (errors.Modules line) h = tt
+failed Failed Stored (errors.ActiveSpec at) h = tt
+failed Failed Stored errors.ReadFault h = h
+failed Failed Stored (errors.Walk error) h = absurd h
+failed Failed Stored errors.OutOfMemory h = tt
+
+in_grammar : {X : Type 0} (given : Result (Option Known) Misread) (known : Option Known) (which : Misread) → given ≡ Ok known → given ≡ Err which → X
+in_grammar given known which is misread_is = absurd (let e : Ok known ≡ Err which = sym is ∙ misread_is in cc e)
+
+only_memory : (Failed : Type 0) (e : ReportError) (given : Result (Option Known) Misread) (known : Option Known)
+    → Gives (Err e) given → OfKnown Failed e → (Failed → ⊥) → given ≡ Ok known → e ≡ errors.OutOfMemory
+only_memory Failed (errors.Config at line) given known is of_it none known_is = in_grammar given known (misread.Config at line) known_is is
+only_memory Failed (errors.Modules line) given known is of_it none known_is = in_grammar given known (misread.Modules line) known_is is
+only_memory Failed (errors.ActiveSpec at) given known is of_it none known_is = in_grammar given known (misread.ActiveSpec at) known_is is
+only_memory Failed errors.ReadFault given known is of_it none known_is = absurd (none of_it)
+only_memory Failed (errors.Walk error) given known is of_it none known_is = absurd of_it
+only_memory Failed errors.OutOfMemory given known is of_it none known_is = refl
+
+-- a count that did not rise did not rise
+not_both : (before now : ℕ) → NotIncreased before now → Increased before now → ⊥
+not_both before now quiet rose = omega arith
+
+module _ {W F I : Type 0} {w : WorktreeOf W} {f : FindOf F} {i : InterruptOf I} {w0 w1 : W} {o : F} {i0 : I} {root : List ℕ} {setup : Setup} where
+  pub MakesReport-misread : (e : ReportError) → LoadsFiles w w0 w1 (files_if setup) → ((t : Names) → w.told w0 ≡ Some t → Gives (Err e) (known_in t root setup))
+      → OfKnown (Increased (w.faults w0) (w.faults w1)) e → MakesReport w f i w0 w1 o o i0 i0 root setup (Err e)
+  MakesReport-misread e loads gives of_it =
+      record {
+        gives = λ s told quiet. tt;
+        misread = λ t told. misreads_given e _ (gives t told);
+        about = no_walk _ _ e of_it;
+        cause = failed _ _ e of_it;
+        interrupted = no_walk _ _ e of_it;
+        refused = λ s told quiet stored. no_walk _ _ e of_it;
+        complete = λ s told quiet stored calm valid. only_memory _ e (known_in s.tree root setup) valid.known (gives s.tree told.tree_is) of_it (not_both _ _ quiet) valid.known_is;
+        worktree = record { tree = loads.tree; faults = loads.faults; list_faults = let same = loads.list_faults in omega (arith, same); lists = let same = loads.lists in omega (arith, same); precomposes = loads.precomposes };
+        store = record { holds = refl; faults = omega arith };
+        interrupt = record { questions = omega arith; raised = omega arith };
+        listed = tt;
+        calm = tt;
+        opens =
+            record {
+              opened = 0;
+              listed = unlisted_so setup.options.strategy (w.lists w0) (w.lists w1) loads.lists;
+              asked = omega arith;
+              counted = tt;
+              reads = λ over_itself rules_alone. record { between = w.reads w1; loaded = loads.reads; walked = inl refl };
+            };
+      }
+
+-- ---- the walk is refused
+
+on_walk : (Holds : Error → Type 0) (e : Error) → Holds e → OnWalk Holds (of_walk e)
+on_walk Holds walk.Interrupted h = h
+on_walk Holds (walk.WorktreeRootIsFile root) h = h
+on_walk Holds (walk.NormalizeRoot root) h = h
+on_walk Holds (walk.SymlinkInRoot root worktree_root index) h = h
+on_walk Holds (walk.SymlinkMetadata path c) h = h
+on_walk Holds (walk.ExcludesAccess e) h = h
+on_walk Holds (walk.ReadDir path c) h = h
+on_walk Holds (walk.DirEntry path) h = h
+on_walk Holds (walk.TooDeep path) h = h
+on_walk Holds walk.OutOfMemory h = tt
+
+failed_lookup : (Failed Failed' Stored : Type 0) (e : AtPathError) → (Failed → Failed') → lookups.OnFault Failed Stored e → lookups.OnFault Failed' Stored e
+failed_lookup Failed Failed' Stored inner.NotNormal wide h = tt
+failed_lookup Failed Failed' Stored (inner.Component c) wide h = tt
+failed_lookup Failed Failed' Stored (inner.Collision path) wide h = tt
+failed_lookup Failed Failed' Stored (inner.Directory path c) wide h = tt
+failed_lookup Failed Failed' Stored (inner.RulesFile path rules.Link) wide h = tt
+failed_lookup Failed Failed' Stored (inner.RulesFile path rules.LinkLimit) wide h = tt
+failed_lookup Failed Failed' Stored (inner.RulesFile path rules.Special) wide h = tt
+failed_lookup Failed Failed' Stored (inner.RulesFile path rules.Fault) wide h = wide h
+failed_lookup Failed Failed' Stored (inner.Blob id blobs.Missing) wide h = tt
+failed_lookup Failed Failed' Stored (inner.Blob id blobs.NotABlob) wide h = tt
+failed_lookup Failed Failed' Stored (inner.Blob id blobs.Fault) wide h = h
+failed_lookup Failed Failed' Stored inner.OutOfMemory wide h = tt
+
+failed_walk : (Failed Failed' Stored : Type 0) (e : Error) → (Failed → Failed') → OnFault Failed Stored e → OnReportFault Failed' Stored (of_walk e)
+failed_walk Failed Failed' Stored walk.Interrupted wide h = tt
+failed_walk Failed Failed' Stored (walk.WorktreeRootIsFile root) wide h = tt
+failed_walk Failed Failed' Stored (walk.NormalizeRoot root) wide h = tt
+failed_walk Failed Failed' Stored (walk.SymlinkInRoot root worktree_root index) wide h = tt
+failed_walk Failed Failed' Stored (walk.SymlinkMetadata path metadata.Absent) wide h = tt
+failed_walk Failed Failed' Stored (walk.SymlinkMetadata path metadata.Fault) wide h = wide h
+failed_walk Failed Failed' Stored (walk.ExcludesAccess e) wide h = failed_lookup Failed Failed' Stored e wide h
+failed_walk Failed Failed' Stored (walk.ReadDir path why.Absent) wide h = tt
+failed_walk Failed Failed' Stored (walk.ReadDir path why.NotADirectory) wide h = tt
+failed_walk Failed Failed' Stored (walk.ReadDir path why.Fault) wide h = wide h
+failed_walk Failed Failed' Stored (walk.DirEntry path) wide h = wide h
+failed_walk Failed Failed' Stored (walk.TooDeep path) wide h = tt
+failed_walk Failed Failed' Stored walk.OutOfMemory wide h = tt
+
+walk_is_no_misread : (given : Result (Option Known) Misread) (e : Error) → Misreads given (of_walk e)
+walk_is_no_misread given walk.Interrupted = tt
+walk_is_no_misread given (walk.WorktreeRootIsFile root) = tt
+walk_is_no_misread given (walk.NormalizeRoot root) = tt
+walk_is_no_misread given (walk.SymlinkInRoot root worktree_root index) = tt
+walk_is_no_misread given (walk.SymlinkMetadata path c) = tt
+walk_is_no_misread given (walk.ExcludesAccess e) = tt
+walk_is_no_misread given (walk.ReadDir path c) = tt
+walk_is_no_misread given (walk.DirEntry path) = tt
+walk_is_no_misread given (walk.TooDeep path) = tt
+walk_is_no_misread given walk.OutOfMemory = tt
+
+-- ---- the walk, once what tells of submodules is known
+
+quiet_later : (before later now : ℕ) → before ≤ later → NotIncreased before now → NotIncreased later now
+quiet_later before later now older quiet = omega arith
+
+rose_before : (before later now : ℕ) → before ≤ later → Increased later now → Increased before now
+rose_before before later now older rose = omega arith
+
+-- the path that an answer of the walk names is named by the report that is made of it, if there is one
+abbrev Names_too : List ℕ → Result WalkReport Error → Result Report ReportError → Type 0
+Names_too root walked result = (start : List ℕ) → IfOk walked (λ x. x.root ≡ full_path root start) → IfOk result (λ r. r.root ≡ full_path root start)
+
+-- what a walk reads is read for the report that is made of it, or for why there is none
+reads_of : (composes : Bool) (root : List ℕ) (setup : Setup) (before now opened : ℕ) (walked : Result WalkReport Error) (result : Result Report ReportError)
+    → Names_too root walked result → refused_one walked ≤ refused_one result
+    → ReadsAtMost (asked_of composes root setup) setup.root (λ (x : WalkReport). x.root) walked before now opened → ReadsFrom composes root setup result before now opened (refused_one result)
+reads_of composes root setup before now opened walked result names le reads =
+    elim reads [ inl same ↦ inl same | inr found ↦ inr (found.0, found.1.normalized, names found.0 found.1.named, let few = found.2 in omega (arith, few, le)) ]
+
+-- what is read over a worktree that composes names or not, as another did
+reads_later : (composed composes : Bool) (root : List ℕ) (setup : Setup) (before now opened : ℕ) (walked : Result WalkReport Error) → composed ≡ composes → reads_rules_alone (chosen_of composes setup) ≡ true
+    → (reads_rules_alone (chosen_of composed setup) ≡ true → ReadsAtMost (asked_of composed root setup) setup.root (λ (x : WalkReport). x.root) walked before now opened)
+    → ReadsAtMost (asked_of composes root setup) setup.root (λ (x : WalkReport). x.root) walked before now opened
+reads_later composed composes root setup before now opened walked same alone reads =
+    subst (λ (b : Bool). reads_rules_alone (chosen_of b setup) ≡ true → ReadsAtMost (asked_of b root setup) setup.root (λ (x : WalkReport). x.root) walked before now opened) same reads alone
+
+kept_later : {W : Type 0} (w : WorktreeOf W) (w0 wl w1 : W) (most : ℕ) → LoadsFiles w w0 wl most → KeepsTree w wl w1 → KeepsTree w w0 w1
+kept_later w w0 wl w1 most loads kept =
+    record {
+      tree = kept.tree ∙ loads.tree;
+      faults = let a = loads.faults in let b = kept.faults in omega (arith, a, b);
+      list_faults = let a = loads.list_faults in let b = kept.list_faults in omega (arith, a, b);
+      lists = let a = loads.lists in let b = kept.lists in omega (arith, a, b);
+      precomposes = kept.precomposes ∙ loads.precomposes;
+    }
+
+opened_later : {W I : Type 0} (w : WorktreeOf W) (i : InterruptOf I) (w0 wl w1 : W) (i0 i1 : I) (root : List ℕ) (setup : Setup) (walked : Result WalkReport Error) (result : Result Report ReportError)
+    → LoadsFiles w w0 wl (files_if setup)
+    → (opens : OpensDirectories w i wl w1 i0 i1 setup.options.strategy (asked_of (w.precomposes wl) root setup) setup.root (λ (r : WalkReport). r.outcome) (λ (r : WalkReport). r.root) walked)
+    → IfOk result (λ r. r.outcome.read_dir_calls ≡ min opens.opened (2 ^ 32 - 1)) → Names_too root walked result → refused_one walked ≤ refused_one result
+    → LoadsAndOpens w i w0 w1 i0 i1 root setup result
+opened_later w i w0 wl w1 i0 i1 root setup walked result loads opens counted names spare =
+    record {
+      opened = opens.opened;
+      listed = subst (λ (n : ℕ). IsListed setup.options.strategy n (w.lists w1) opens.opened) loads.lists opens.listed;
+      asked = opens.asked;
+      counted = counted;
+      reads = λ over_itself rules_alone.
+          record {
+            between = w.reads wl;
+            loaded = loads.reads;
+            walked = reads_of (w.precomposes w0) root setup (w.reads wl) (w.reads w1) opens.opened walked result names spare
+                (reads_later (w.precomposes wl) (w.precomposes w0) root setup (w.reads wl) (w.reads w1) opens.opened walked loads.precomposes rules_alone (opens.reads over_itself));
+          };
+    }
+
+told_later : {W F : Type 0} (w : WorktreeOf W) (f : FindOf F) (w0 wl : W) (o0 : F) (most : ℕ) (made : Option Made) (s : Sources) → LoadsFiles w w0 wl most
+    → TellsIf (w.told w0) (f.holds o0) made s → TellsIf (w.told wl) (f.holds o0) made s
+told_later w f w0 wl o0 most made s loads told = record { tree_is = loads.tree ∙ told.tree_is; objects_are = told.objects_are }
+
+module _ {W F I : Type 0} {w : WorktreeOf W} {f : FindOf F} {i : InterruptOf I} {w0 wl w1 : W} {o0 o1 : F} {i0 i1 : I} {root : List ℕ} {setup : Setup} (loads : LoadsFiles w w0 wl (files_if setup)) where
+  module _ (known : Option Known) (known_is : (t : Names) → w.told w0 ≡ Some t → known_in t root setup ≡ Ok known) where
+    -- the walk gave something, and that is described
+    MakesReport-walked : (walked : WalkReport) (r : Report) → Reports w f i wl w1 o0 o1 i0 i1 root setup (Ok walked) → r ≡ described known walked
+        → MakesReport w f i w0 w1 o0 o1 i0 i1 root setup (Ok r)
+    MakesReport-walked walked r reports same =
+        record {
+          gives = λ s told quiet.
+              record {
+                walked = walked;
+                known = known;
+                walk_is = subst (λ (b : Bool). IsWalkOf b s root setup walked) loads.precomposes (reports.gives s (told_later w f w0 wl o0 _ _ s loads told) (quiet_later _ _ _ loads.faults quiet));
+                known_is = known_is s.tree told.tree_is;
+                same = same;
+              };
+          misread = λ t told. tt;
+          about = tt;
+          cause = tt;
+          interrupted = tt;
+          refused = λ s told quiet stored. tt;
+          complete = λ s told quiet stored calm valid. tt;
+          worktree = kept_later w w0 wl w1 _ loads reports.worktree;
+          store = reports.store;
+          interrupt = reports.interrupt;
+          listed = reports.listed ∙ loads.list_faults;
+          calm = reports.calm;
+          opens = opened_later w i w0 wl w1 i0 i1 root setup (Ok walked) (Ok r) loads reports.opens (ap (λ (x : Report). x.outcome.read_dir_calls) same ∙ reports.opens.counted) (λ start named. ap (λ (x : Report). x.root) same ∙ named) (omega arith);
+        }
+
+    -- there is no memory to describe it
+    MakesReport-memory : (walked : WalkReport) → Reports w f i wl w1 o0 o1 i0 i1 root setup (Ok walked)
+        → MakesReport w f i w0 w1 o0 o1 i0 i1 root setup (Err errors.OutOfMemory)
+    MakesReport-memory walked reports =
+        record {
+          gives = λ s told quiet. tt;
+          misread = λ t told. tt;
+          about = tt;
+          cause = tt;
+          interrupted = tt;
+          refused = λ s told quiet stored. tt;
+          complete = λ s told quiet stored calm valid. refl;
+          worktree = kept_later w w0 wl w1 _ loads reports.worktree;
+          store = reports.store;
+          interrupt = reports.interrupt;
+          listed = tt;
+          calm = tt;
+          opens = opened_later w i w0 wl w1 i0 i1 root setup (Ok walked) (Err errors.OutOfMemory) loads reports.opens tt (λ start named. tt) (omega arith);
+        }
+
+    -- the walk was refused
+    MakesReport-refused : (e : Error) → Reports w f i wl w1 o0 o1 i0 i1 root setup (Err e)
+        → MakesReport w f i w0 w1 o0 o1 i0 i1 root setup (Err (of_walk e))
+    MakesReport-refused e reports =
+        record {
+          gives = λ s told quiet. tt;
+          misread = λ t told. walk_is_no_misread _ e;
+          about = on_walk _ e (subst (λ (b : Bool). About b root setup e) loads.precomposes reports.about);
+          cause = failed_walk _ _ _ e (rose_before _ _ _ loads.faults) reports.cause;
+          interrupted = on_walk _ e reports.interrupted;
+          refused = λ s told quiet stored. on_walk _ e (subst (λ (b : Bool). Refuses b s root setup e) loads.precomposes (reports.refused s (told_later w f w0 wl o0 _ _ s loads told) (quiet_later _ _ _ loads.faults quiet) stored));
+          complete = λ s told quiet stored calm valid.
+              ap of_walk
+              (reports.complete s (told_later w f w0 wl o0 _ _ s loads told) (quiet_later _ _ _ loads.faults quiet) stored calm
+              (subst (λ (b : Bool). IsValid (asked_of b root setup) (excludes_of root setup) s setup.root setup.depth) (sym loads.precomposes) valid.walkable));
+          worktree = kept_later w w0 wl w1 _ loads reports.worktree;
+          store = reports.store;
+          interrupt = reports.interrupt;
+          listed = tt;
+          calm = tt;
+          opens = opened_later w i w0 wl w1 i0 i1 root setup (Err e) (Err (of_walk e)) loads reports.opens tt (λ start named. tt) (omega arith);
+        }
+
+    pub MakesReport-described : (walked : Result WalkReport Error) (result : Result Report ReportError) → Reports w f i wl w1 o0 o1 i0 i1 root setup walked → Describes result known walked
+        → MakesReport w f i w0 w1 o0 o1 i0 i1 root setup result
+    MakesReport-described (Ok walked) (Ok r) reports is = MakesReport-walked walked r reports is
+    MakesReport-described (Ok walked) (Err error) reports is = rw is (MakesReport-memory walked reports)
+    MakesReport-described (Err e) (Ok r) reports is = absurd is
+    MakesReport-described (Err e) (Err error) reports is = rw is (MakesReport-refused e reports)

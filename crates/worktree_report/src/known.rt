@@ -1,0 +1,66 @@
+//! What is known of submodules while a report is made.
+ghost use Rattle.std.specs.Prelude.{◌≡◌, ℕ, Some, IfErr};
+ghost use Rattle.submodule.specs.Active.{platform};
+ghost use Rattle.worktree_fs.specs.Causes.{Increased};
+ghost use Rattle.worktree_fs.specs.Tree.{Names};
+ghost use Rattle.worktree_report.specs.Loading.{known_in, with_specs, files_if};
+ghost use Rattle.worktree_report.specs.Loads.{Gives, LoadsFiles, OfKnown};
+
+use crate::error::ReportError;
+use crate::modules::{Modules, load_modules};
+use crate::setup::Setup;
+use glob_rules::pathspec::Defaults;
+use std::alloc::Global;
+use submodule::IsActivePlatform;
+use submodule::is_active_platform::Error;
+use worktree_fs::Worktree;
+
+/// The submodules of a work tree, and which of them are active.
+#[derive(Drop)]
+pub struct Known {
+    pub modules: Modules,
+    pub platform: IsActivePlatform,
+}
+
+/// What is known of submodules, and which of them are active.
+///
+/// `ActiveSpec` names the first value of `submodule.active` that is refused.
+fn with_specs(
+    alloc: Global,
+    modules: Modules,
+    ignore_case: bool,
+) -> Result<Option<Known>, ReportError>
+    ensures gives { Gives result (with_specs ignore_case modules) }
+    ensures answers { IfErr result (OfKnown ⊥) }
+{
+    let found = modules
+        .file
+        .is_active_platform(alloc, &modules.config, Defaults { ignore_case });
+    match found {
+        Ok(platform) => Ok(Some(Known { modules, platform })),
+        Err(Error::ParsePattern { value, at: _ }) => Err(ReportError::ActiveSpec { at: value }),
+        Err(Error::NormalizePattern { value }) => Err(ReportError::ActiveSpec { at: value }),
+        Err(Error::OutOfMemory) => Err(ReportError::OutOfMemory),
+    }
+}
+
+/// What is known of the submodules of the work tree at `root`, where the setup asks for it.
+#[tactic(auto, unfolding(crate::specs::Loading::known_in))]
+pub fn known_in<W: Worktree>(
+    alloc: Global,
+    worktree: &mut W,
+    root: &[u8],
+    setup: &Setup,
+) -> Result<Option<Known>, ReportError>
+    ensures gives { (t : Names) → W.told worktree.old ≡ Some t
+        → Gives result (known_in t root.now setup.now) }
+    ensures answers { IfErr result (OfKnown (Increased (W.faults worktree.old)
+        (W.faults worktree.new))) }
+    ensures loads { LoadsFiles W.Worktree worktree.old worktree.new (files_if setup.now) }
+{
+    if !setup.options.submodules {
+        return Ok(None);
+    }
+    let modules = load_modules(alloc, worktree, root, setup)?;
+    with_specs(alloc, modules, setup.options.ignore_case)
+}

@@ -1,0 +1,184 @@
+//! The files that tell of submodules.
+ghost use Rattle.std.specs.Prelude.{◌≡◌, ℕ, Some, IfOk, IfErr, IsErrOf, if◌then◌else◌};
+ghost use Rattle.git_config_lite.specs.Grammar.{said};
+ghost use Rattle.worktree_fs.specs.Causes.{Increased};
+ghost use Rattle.worktree_fs.specs.Tree.{Names, look};
+ghost use Rattle.worktree_report.specs.Loading as loading;
+ghost use Rattle.worktree_report.specs.Loads.{Gives, ReadsConfig, LoadsFiles, OfConfig, OfModules};
+ghost use Rattle.worktree_report.specs.Permissions.{admits};
+
+use crate::error::ReportError;
+use crate::permissions::Permissions;
+use crate::setup::Setup;
+use git_config_lite as config;
+use git_config_lite::{Metadata, ParseError, Source};
+use gitbase_core::{Bytes, OutOfMemory, PathText};
+use std::alloc::Global;
+use submodule::init;
+use worktree_fs::{ReadAnswer, ReadError, Worktree};
+
+/// What a work tree and the configurations of a setup tell of submodules.
+#[derive(Drop)]
+pub struct Modules {
+    /// `.gitmodules` of the worktree root, with the overrides of `config` behind it.
+    pub file: submodule::File,
+    /// The configurations that the permissions admit, one behind another. Together they are of no file, and belong to the calling
+    /// program.
+    pub config: config::File,
+}
+
+/// The bytes of the file that a path leads to. What is no file counts as an empty one.
+fn bytes_at<W: Worktree>(
+    alloc: Global,
+    worktree: &mut W,
+    path: &[u8],
+    follow: bool,
+) -> Result<Bytes, ReadError>
+    ensures bytes { (t : Names) → W.told worktree.old ≡ Some t
+        → IfOk result (λ bytes. bytes ≡ loading.bytes_at (look t path.now follow)) }
+    ensures cause { IsErrOf result ReadError.Fault
+        → Increased (W.faults worktree.old) (W.faults worktree.new) }
+    ensures loads { LoadsFiles W.Worktree worktree.old worktree.new 1 }
+{
+    let mut bytes = Bytes::new(alloc);
+    match worktree.read(alloc, path, follow, &mut bytes)? {
+        ReadAnswer::Read => Ok(bytes),
+        _ => Ok(Bytes::new(alloc)),
+    }
+}
+
+/// What the text of a configuration says, by the number of its line.
+///
+/// `Config` names its first line outside the grammar of git-config(1).
+fn config_of(
+    alloc: Global,
+    at: usize,
+    named: &(Source, PathText),
+    bytes: &[u8],
+) -> Result<config::File, ReportError>
+    ensures { ReadsConfig result at (said (loading.meta_of named.now) bytes.now) }
+{
+    let meta = Metadata {
+        source: named.0,
+        path: Some(PathText::from_bytes(alloc, named.1.as_bytes())?),
+    };
+    match config::File::from_bytes(alloc, bytes, meta) {
+        Ok(file) => Ok(file),
+        Err(ParseError::Syntax { line }) => Err(ReportError::Config { at, line }),
+        Err(ParseError::OutOfMemory) => Err(ReportError::OutOfMemory),
+    }
+}
+
+/// A configuration behind others, where the permissions admit it.
+fn with_config<W: Worktree>(
+    alloc: Global,
+    worktree: &mut W,
+    permissions: &Permissions,
+    at: usize,
+    named: &(Source, PathText),
+    mut config: config::File,
+) -> Result<config::File, ReportError>
+    ensures gives { (t : Names) → W.told worktree.old ≡ Some t
+        → Gives result (loading.with_config t permissions.now at named.now config) }
+    ensures answers { IfErr result (OfConfig (Increased (W.faults worktree.old)
+        (W.faults worktree.new))) }
+    ensures loads { LoadsFiles W.Worktree worktree.old worktree.new
+        (if admits permissions.now named.now.0 then 1 else 0) }
+{
+    if !permissions.admits(named.0) {
+        return Ok(config);
+    }
+    let bytes = bytes_at(alloc, worktree, named.1.as_bytes(), true)?;
+    let file = config_of(alloc, at, named, bytes.as_bytes())?;
+    config.append(alloc, file)?;
+    Ok(config)
+}
+
+/// The configurations of a setup that its permissions admit, one behind another.
+fn with_configs<W: Worktree>(
+    alloc: Global,
+    worktree: &mut W,
+    setup: &Setup,
+) -> Result<config::File, ReportError>
+    ensures gives { (t : Names) → W.told worktree.old ≡ Some t → Gives result (loading.with_configs
+        t setup.now.options.permissions 1 setup.now.configs loading.no_config) }
+    ensures answers { IfErr result (OfConfig (Increased (W.faults worktree.old)
+        (W.faults worktree.new))) }
+    ensures loads { LoadsFiles W.Worktree worktree.old worktree.new
+        (loading.admitted setup.now.options.permissions setup.now.configs) }
+{
+    let meta = Metadata {
+        source: Source::Api,
+        path: None,
+    };
+    let mut config = config::File::new(alloc, meta);
+    for (i, named) in setup.configs.as_slice().iter().enumerate() {
+        config = with_config(
+            alloc,
+            worktree,
+            &setup.options.permissions,
+            i + 1,
+            named,
+            config,
+        )?;
+    }
+    Ok(config)
+}
+
+/// The path of `.gitmodules`.
+fn modules_path(alloc: Global, root: &[u8]) -> Result<PathText, OutOfMemory>
+    ensures { IfOk result (λ path. path ≡ loading.modules_path root.now) }
+{
+    let mut path = PathText::from_bytes(alloc, root)?;
+    path.push_component(alloc, b".gitmodules")?;
+    Ok(path)
+}
+
+/// `.gitmodules` with the overrides of a configuration behind it, beside that configuration.
+fn modules_beside<W: Worktree>(
+    alloc: Global,
+    worktree: &mut W,
+    root: &[u8],
+    config: config::File,
+) -> Result<Modules, ReportError>
+    ensures gives { (t : Names) → W.told worktree.old ≡ Some t
+        → Gives result (loading.modules_beside t root.now config) }
+    ensures answers { IfErr result (OfModules (Increased (W.faults worktree.old)
+        (W.faults worktree.new))) }
+    ensures loads { LoadsFiles W.Worktree worktree.old worktree.new 1 }
+{
+    let path = modules_path(alloc, root)?;
+    let bytes = bytes_at(alloc, worktree, path.as_bytes(), false)?;
+    match submodule::File::from_bytes(alloc, bytes.as_bytes(), Some(path), &config) {
+        Ok(file) => Ok(Modules { file, config }),
+        Err(init::Error::Parse { line }) => Err(ReportError::Modules { line }),
+        Err(init::Error::OutOfMemory) => Err(ReportError::OutOfMemory),
+    }
+}
+
+/// Reads the configurations of a setup that its permissions admit, with links followed and in order, and then `.gitmodules` in the
+/// worktree root, which is absolute and has no component `.` or `..`, a link not followed. What is no file counts as an empty one.
+/// Each is read once, and nothing else is asked of the worktree.
+///
+/// # Errors
+///
+/// - `Config` names the first configuration with a line outside the grammar of git-config(1), and that line.
+/// - `Modules` names the first such line of `.gitmodules`.
+/// - `ReadFault` comes only where the worktree failed and counted it.
+/// - `OutOfMemory` for want of memory.
+#[tactic(auto, unfolding(crate::specs::Loading::modules_in))]
+pub fn load_modules<W: Worktree>(
+    alloc: Global,
+    worktree: &mut W,
+    worktree_root: &[u8],
+    setup: &Setup,
+) -> Result<Modules, ReportError>
+    ensures gives { (t : Names) → W.told worktree.old ≡ Some t
+        → Gives result (loading.modules_in t worktree_root.now setup.now) }
+    ensures answers { IfErr result (OfModules (Increased (W.faults worktree.old)
+        (W.faults worktree.new))) }
+    ensures loads { LoadsFiles W.Worktree worktree.old worktree.new (loading.files_of setup.now) }
+{
+    let config = with_configs(alloc, worktree, setup)?;
+    modules_beside(alloc, worktree, worktree_root, config)
+}
