@@ -62,3 +62,13 @@ work_tree() {
     [ "$top" = "$root" ] || fail "$root is not the top of its git work tree, which is $top"
     echo "$root"
 }
+
+# Whether one of the words behind $1 gives the option $1 a value.
+has_option() {
+    local option=$1 word
+    shift
+    for word in "$@"; do
+        [ "${word%%=*}" != "$option" ] || return 0
+    done
+    return 1
+}

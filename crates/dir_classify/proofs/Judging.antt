@@ -22,7 +22,7 @@ use Rattle.dir_classify.specs.Faults.{IsJudged, IsReadKind, read_as}
 use Rattle.dir_classify.specs.Kinds.{first_of_kinds, is_dir}
 use Rattle.dir_classify.specs.Layers.{Setting, evidence, indexed_as, kind_at, on_disk}
 use Rattle.dir_classify.proofs.Fitting.{asks-dot_git, can_match-of, dot_git-case, in_index-of, kind-asks, kind-case, nothing-dot_git, nothing-kind, unmatched-asks, unmatched-case}
-use Rattle.dir_classify.proofs.Keeping.{asks-rules, asks-same, asks-then, at-most-later, increased-later, quiet-first, quiet-second, tells-then}
+use Rattle.dir_classify.proofs.Keeping.{asks-rules, asks-same, asks-then, at-most-later, increased-later, quiet-first, quiet-second, tells-then, unasked-later}
 use Rattle.dir_classify.proofs.Refusals.{OnAccess-weaker, OnFault-weaker}
 use Rattle.dir_classify.proofs.Upgrades.{judged-as, judged-kind, judged-unread}
 
@@ -41,6 +41,7 @@ unruled w f w0 w1 o0 old given path judge asks nothing ask_disk c kept reads is 
       class = λ s tells step quiet. is s tells.tree_is quiet;
       read = λ s tells step quiet. rw (none s) refl;
       swallowed = λ s tells step. judged s tells.tree_is;
+      unruled = λ s told quiet no. is s told quiet;
       about = tt;
       refused = λ s tells. tt;
       asked = λ s told quiet. tt;
@@ -49,6 +50,7 @@ unruled w f w0 w1 o0 old given path judge asks nothing ask_disk c kept reads is 
       store = record { holds = refl; faults = omega arith };
       rules = record { made = refl; in_step = λ s tells step. step };
       reads = inl (record { same = refl; reads = reads });
+      spared = λ s never. record { same = refl; reads = reads };
       unasked = λ s told quiet no. (refl, refl);
       untouched = λ s h. record { worktree = same s h; store = refl; rules = refl };
     }
@@ -67,6 +69,9 @@ module _ {W F : Type 0} (w : WorktreeOf W) (f : FindOf F) (w0 w1 : W) (o0 o1 : F
         swallowed = λ s tells step.
             judged-as (λ _ ev. class_dot_git given.options ev path known (dot_git_ruling given.options ev path known)) (λ k ev. class given.options ev path known k)
             (evidence given (made_with old) s) path (on_disk given s.tree path ask_disk) c (λ k read. dot_git-case given.options read path known k is) (j.swallowed s tells step);
+        unruled = λ s told quiet no.
+            j.unruled s told quiet (asks-dot_git given.options (evidence given (made_with old) s) path known (on_disk given s.tree path ask_disk) is ∙ no)
+            ∙ dot_git-case given.options (evidence given (made_with old) s) path known (on_disk given s.tree path ask_disk) is;
         about = tt;
         refused = λ s tells. tt;
         asked = λ s told quiet. tt;
@@ -75,6 +80,7 @@ module _ {W F : Type 0} (w : WorktreeOf W) (f : FindOf F) (w0 w1 : W) (o0 o1 : F
         store = j.store;
         rules = j.rules;
         reads = j.reads;
+        spared = λ s never. j.spared s (λ k. asks-dot_git given.options (evidence given (made_with old) s) path known (if ask_disk then k else None) is ∙ never k);
         unasked = λ s told quiet no.
             j.unasked s told quiet (asks-dot_git given.options (evidence given (made_with old) s) path known (on_disk given s.tree path ask_disk) is ∙ no);
         untouched = λ s h. j.untouched s (nothing-dot_git given.options (evidence given (made_with old) s) path known ask_disk is h);
@@ -89,6 +95,7 @@ module _ {W F : Type 0} (w : WorktreeOf W) (f : FindOf F) (w0 w1 : W) (o0 o1 : F
         class = λ s tells step quiet. tt;
         read = λ s tells step quiet. tt;
         swallowed = λ s tells step. tt;
+        unruled = λ s told quiet no. tt;
         about = j.about;
         refused = j.refused;
         asked = λ s told quiet.
@@ -100,6 +107,7 @@ module _ {W F : Type 0} (w : WorktreeOf W) (f : FindOf F) (w0 w1 : W) (o0 o1 : F
         store = j.store;
         rules = j.rules;
         reads = j.reads;
+        spared = λ s never. j.spared s (λ k. asks-dot_git given.options (evidence given (made_with old) s) path known (if ask_disk then k else None) is ∙ never k);
         unasked = λ s told quiet no.
             j.unasked s told quiet (asks-dot_git given.options (evidence given (made_with old) s) path known (on_disk given s.tree path ask_disk) is ∙ no);
         untouched = λ s h. j.untouched s (nothing-dot_git given.options (evidence given (made_with old) s) path known ask_disk is h);
@@ -121,6 +129,16 @@ at-unmatched w f w0 o0 old given path known ask_disk c none cannot is =
     (λ s no. refl)
 
 -- ---- once the kind is settled
+
+-- a kind that is known, or some other
+any-kind : (ask_disk : Bool) (up_to_date known kind : Option Kind) → (is_kind_known ask_disk up_to_date known ≡ true → kind ≡ first_of_kinds up_to_date known)
+    → (seen_kind : Option Kind) × (kind ≡ first_of_kinds up_to_date (first_of_kinds known (if ask_disk then seen_kind else None)))
+any-kind false (Some u) known kind is = (None, is refl)
+any-kind false None (Some k) kind is = (None, is refl)
+any-kind false None None kind is = (None, is refl)
+any-kind true (Some u) known kind is = (None, is refl)
+any-kind true None (Some k) kind is = (None, is refl)
+any-kind true None None kind is = (kind, refl)
 
 -- nothing is asked, so the worktree was not asked for the kind, and is not asked for more
 still-kind : {W : Type 0} (given : Setting) (made : Option Made) (s : Sources) (path : List ℕ) (known : Option Kind) (ask_disk : Bool) (entry : InIndex) (kind : Option Kind) (w0 w1 : W)
@@ -184,6 +202,10 @@ module _ {W F : Type 0} (w : WorktreeOf W) (f : FindOf F) (w0 w1 w2 : W) (o0 o1 
       (settled s kind (seen s.tree) (is ∙ ap (λ (d : Option Kind). first_of_kinds entry.up_to_date (first_of_kinds known d)) (disk_is s.tree))) judged
   judged-read s (inr is) judged = judged-at s None (inr refl) (settled s kind None is) judged
 
+  -- told or not, it is settled by some kind
+  seen-as : (seen_kind : Option Kind) × (kind ≡ first_of_kinds entry.up_to_date (first_of_kinds known (if ask_disk then seen_kind else None)))
+  seen-as = any-kind ask_disk entry.up_to_date known kind (λ is. (untouched is).0)
+
   pub at-kind : Judges w f w0 w2 o0 o1 old new given path (λ k ev. class given.options ev path known k) (λ k ev. asks given.options ev path known k) (λ ev. asks_nothing given.options ev path known ask_disk) ask_disk (Ok c)
   at-kind =
       record {
@@ -196,6 +218,11 @@ module _ {W F : Type 0} (w : WorktreeOf W) (f : FindOf F) (w0 w1 w2 : W) (o0 o1 
             (sym (ap (λ (x : Option Kind). asks_of_kind given.options ev path x) (exactly-settled s tells.tree_is quiet) ∙ kind-asks given.options ev path known (seen s.tree) none (can-of s)))
             ∙ later.read s (tells-now s tells) step (quiet-second _ _ _ first.faults later.keeps.faults quiet);
         swallowed = λ s tells step. judged-read s (swallowed s.tree tells.tree_is) (later.swallowed s (tells-now s tells) step);
+        unruled = λ s told quiet no. let ev = evidence given (made_with old) s in
+            later.unruled s (first.tree ∙ told) (quiet-second _ _ _ first.faults later.keeps.faults quiet)
+            (ap (λ (x : Option Kind). asks_of_kind given.options ev path x) (exactly-settled s told quiet) ∙ kind-asks given.options ev path known (seen s.tree) none (can-of s) ∙ no)
+            ∙ ap (λ (x : Option Kind). class_of_kind given.options ev path x) (exactly-settled s told quiet)
+            ∙ kind-case given.options ev path known (seen s.tree) none (can-of s);
         about = tt;
         refused = λ s tells. tt;
         asked = λ s told quiet. tt;
@@ -204,6 +231,11 @@ module _ {W F : Type 0} (w : WorktreeOf W) (f : FindOf F) (w0 w1 w2 : W) (o0 o1 
         store = later.store;
         rules = record { made = later.rules.made; in_step = λ s tells step. later.rules.in_step s (tells-now s tells) step };
         reads = at-most-later given.options.recurse_repositories path (w.reads w0) (w.reads w1) (w.reads w2) old new (Ok c) unread later.reads;
+        spared = λ s never. let ev = evidence given (made_with old) s in
+            unasked-later given.options.recurse_repositories (w.reads w0) (w.reads w1) (w.reads w2) old new unread
+            (later.spared s (λ k.
+            ap (λ (x : Option Kind). asks_of_kind given.options ev path x) (settled s kind (if ask_disk then seen-as.0 else None) seen-as.1)
+            ∙ kind-asks given.options ev path known (if ask_disk then seen-as.0 else None) none (can-of s) ∙ never seen-as.0));
         unasked = λ s told quiet no. let ev = evidence given (made_with old) s in
             later.unasked s (first.tree ∙ told) (quiet-second _ _ _ first.faults later.keeps.faults quiet)
             (ap (λ (x : Option Kind). asks_of_kind given.options ev path x) (exactly-settled s told quiet) ∙ kind-asks given.options ev path known (seen s.tree) none (can-of s) ∙ no);
@@ -235,6 +267,7 @@ at-kind-refused w f w0 w1 w2 o0 o1 old new given path full known ask_disk entry 
       class = λ s tells step quiet. tt;
       read = λ s tells step quiet. tt;
       swallowed = λ s tells step. tt;
+      unruled = λ s told quiet no. tt;
       about = later.about;
       refused = λ s tells. later.refused s (tells-then (w.told w0) (w.told w1) (f.holds o0) (made_with old) s first.tree tells);
       asked = λ s told quiet. let ev = evidence given (made_with old) s in
@@ -248,6 +281,13 @@ at-kind-refused w f w0 w1 w2 o0 o1 old new given path full known ask_disk entry 
       store = later.store;
       rules = record { made = later.rules.made; in_step = λ s tells step. later.rules.in_step s (tells-then (w.told w0) (w.told w1) (f.holds o0) (made_with old) s first.tree tells) step };
       reads = at-most-later given.options.recurse_repositories path (w.reads w0) (w.reads w1) (w.reads w2) old new (Err e) unread later.reads;
+      spared = λ s never. let ev = evidence given (made_with old) s in
+          let seen_as = any-kind ask_disk entry.up_to_date known kind (λ is. (untouched is).0) in
+          unasked-later given.options.recurse_repositories (w.reads w0) (w.reads w1) (w.reads w2) old new unread
+          (later.spared s (λ k.
+          ap (λ (x : Option Kind). asks_of_kind given.options ev path x)
+          (seen_as.1 ∙ ap (λ (i : InIndex). first_of_kinds i.up_to_date (first_of_kinds known (if ask_disk then seen_as.0 else None))) (entry_is ∙ sym (in_index-of given (made_with old) s path)))
+          ∙ kind-asks given.options ev path known (if ask_disk then seen_as.0 else None) none (can_match-of given (made_with old) s path (is_dir known) ∙ can) ∙ never seen_as.0));
       unasked = λ s told quiet no. later.unasked s (first.tree ∙ told) (quiet-second _ _ _ first.faults later.keeps.faults quiet) (asked s told quiet ∙ no);
       untouched = λ s h.
           let kept = still-kind given (made_with old) s path known ask_disk entry kind w0 w1 entry_is none can untouched h in

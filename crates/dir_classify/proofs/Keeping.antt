@@ -10,7 +10,7 @@ use Rattle.worktree_stack.specs.Reading.{Sources}
 use Rattle.worktree_stack.specs.Setup.{Made}
 use Rattle.worktree_stack.specs.Stacked.{Stacked}
 use Rattle.dir_classify.specs.Excludes.{TellsIf}
-use Rattle.dir_classify.specs.Kept.{AsksRules, AsksAtMost}
+use Rattle.dir_classify.specs.Kept.{AsksRules, AsksAtMost, Unasked}
 
 pub asks-rules : {W : Type 0} (w : WorktreeOf W) (w0 w1 : W) → Asks w w0 w1 → AsksRules w w0 w1
 asks-rules w w0 w1 asks = record { tree = asks.tree; faults = asks.faults; list_faults = asks.list_faults; lists = asks.lists; precomposes = asks.precomposes }
@@ -71,3 +71,6 @@ pub at-most-later : {T E : Type 0} (recurses : Bool) (path : List ℕ) (r0 r1 r2
 at-most-later recurses path r0 r1 r2 old new result same (inl asked) = inl (record { same = asked.same; reads = λ on. asked.reads on ∙ same })
 at-most-later recurses path r0 r1 r2 old new result same (inr asked) =
     inr (record { looked_up = asked.looked_up; on_way = asked.on_way; reads = λ on. let most = asked.reads on in omega (arith, same, most) })
+
+pub unasked-later : (recurses : Bool) (r0 r1 r2 : ℕ) (old new : Option Stacked) → r1 ≡ r0 → Unasked recurses r1 r2 old new → Unasked recurses r0 r2 old new
+unasked-later recurses r0 r1 r2 old new same asked = record { same = asked.same; reads = λ on. asked.reads on ∙ same }

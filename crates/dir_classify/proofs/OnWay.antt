@@ -18,7 +18,7 @@ use Rattle.dir_classify.specs.Evidence.{Evidence}
 use Rattle.dir_classify.specs.Excludes.{made_with, TellsIf}
 use Rattle.dir_classify.specs.Faults.{IsJudged, IsReadKind, read_as}
 use Rattle.dir_classify.specs.Layers.{Setting, evidence, kind_at, on_disk}
-use Rattle.dir_classify.proofs.Keeping.{asks-rules, asks-then, at-most-later, increased-later, quiet-first, quiet-second, tells-then}
+use Rattle.dir_classify.proofs.Keeping.{asks-rules, asks-then, at-most-later, increased-later, quiet-first, quiet-second, tells-then, unasked-later}
 use Rattle.dir_classify.proofs.Refusals.{OnAccess-weaker, OnFault-weaker}
 
 none-read : (k : Option Kind) → IsReadKind None k → k ≡ None
@@ -83,6 +83,10 @@ module _ {W F : Type 0} (w : WorktreeOf W) (f : FindOf F) (w0 w1 w2 : W) (o0 o1 
             (sym (exactly s tells.tree_is (quiet-first _ _ _ first.faults later.keeps.faults quiet)))
             ∙ later.read s (tells-now s tells) step (quiet-second _ _ _ first.faults later.keeps.faults quiet);
         swallowed = λ s tells step. judged-way s c tells.tree_is (later.swallowed s (tells-now s tells) step);
+        unruled = λ s told quiet no.
+            later.unruled s (first.tree ∙ told) (quiet-second _ _ _ first.faults later.keeps.faults quiet) (asked s told later.keeps.faults quiet ∙ no)
+            ∙ ap (λ (k : Option Kind). class given.options (evidence given (made_with old) s) path k None)
+            (exactly s told (quiet-first _ _ _ first.faults later.keeps.faults quiet));
         about = tt;
         refused = λ s tells. tt;
         asked = λ s told quiet. tt;
@@ -91,6 +95,7 @@ module _ {W F : Type 0} (w : WorktreeOf W) (f : FindOf F) (w0 w1 w2 : W) (o0 o1 
         store = later.store;
         rules = record { made = later.rules.made; in_step = λ s tells step. later.rules.in_step s (tells-now s tells) step };
         reads = at-most-later given.options.recurse_repositories path (w.reads w0) (w.reads w1) (w.reads w2) old new (Ok c) unread later.reads;
+        spared = λ s never. unasked-later given.options.recurse_repositories (w.reads w0) (w.reads w1) (w.reads w2) old new unread (later.spared s (λ k. never kind));
         unasked = λ s told quiet no. later.unasked s (first.tree ∙ told) (quiet-second _ _ _ first.faults later.keeps.faults quiet) (asked s told later.keeps.faults quiet ∙ no);
         untouched = λ s no. absurd (cc no);
       }
@@ -102,6 +107,7 @@ module _ {W F : Type 0} (w : WorktreeOf W) (f : FindOf F) (w0 w1 w2 : W) (o0 o1 
         class = λ s tells step quiet. tt;
         read = λ s tells step quiet. tt;
         swallowed = λ s tells step. tt;
+        unruled = λ s told quiet no. tt;
         about = later.about;
         refused = λ s tells. later.refused s (tells-now s tells);
         asked = λ s told quiet.
@@ -115,6 +121,7 @@ module _ {W F : Type 0} (w : WorktreeOf W) (f : FindOf F) (w0 w1 w2 : W) (o0 o1 
         store = later.store;
         rules = record { made = later.rules.made; in_step = λ s tells step. later.rules.in_step s (tells-now s tells) step };
         reads = at-most-later given.options.recurse_repositories path (w.reads w0) (w.reads w1) (w.reads w2) old new (Err e) unread later.reads;
+        spared = λ s never. unasked-later given.options.recurse_repositories (w.reads w0) (w.reads w1) (w.reads w2) old new unread (later.spared s (λ k. never kind));
         unasked = λ s told quiet no. later.unasked s (first.tree ∙ told) (quiet-second _ _ _ first.faults later.keeps.faults quiet) (asked s told later.keeps.faults quiet ∙ no);
         untouched = λ s no. absurd (cc no);
       }

@@ -1,12 +1,14 @@
 -- The way to a traversal root, one component after another.
-use Rattle.std.proofs.Common.{◌≡◌, ◌∙◌, ap, sym, ℕ, List, [], ◌∷◌, ◌++◌, Bool, true, false, ◌&&◌, ◌||◌, Option, None, Ok, Err, refl, inl, inr, subst, append_assoc, arith}
+use Rattle.std.proofs.Common.{◌≡◌, ◌∙◌, ap, sym, ℕ, List, [], ◌∷◌, ◌++◌, Bool, true, false, not, ◌&&◌, ◌||◌, Option, Some, None, Ok, Err, refl, inl, inr, subst, append_assoc, arith}
 use Rattle.std.proofs.lemmas.List.{append-nil}
-use Rattle.std.specs.Prelude.{◌⊎◌, if◌then◌else◌, is_some}
+use Rattle.std.specs.FinMap as map
+use Rattle.std.specs.Prelude.{◌⊎◌, if◌then◌else◌, is_some, Result}
 use Rattle.gitbase_core.specs.Path.{components, joined}
 use Rattle.gitbase_core.specs.declared.find.Find.{Ghosts as FindOf}
 use Rattle.worktree_fs.specs.Causes.{Increased, NotIncreased}
 use Rattle.worktree_fs.specs.Kept.{AsksStore}
 use Rattle.worktree_fs.specs.Paths.{IsComponent, is_normal, spelled}
+use Rattle.worktree_fs.specs.Tree.{none}
 use Rattle.worktree_fs.specs.declared.worktree.Worktree.{Ghosts as WorktreeOf}
 use Rattle.worktree_fs.proofs.Spelled.{grown-is, grown-components}
 use Rattle.worktree_stack.specs.Reading.{Sources}
@@ -14,23 +16,23 @@ use Rattle.worktree_stack.specs.Setup.{Made}
 use Rattle.worktree_stack.specs.Stacked.{Stacked}
 use Rattle.dir_classify.specs.declared.classify.Outcome.{Outcome}
 use Rattle.dir_classify.specs.declared.classify.RootOutcome.{RootOutcome}
-use Rattle.dir_classify.specs.Excludes.{made_with, pushed_in, TellsIf, InStepIf}
-use Rattle.dir_classify.specs.Kept.{AsksRules, KeepsRules, AsksAtMost}
+use Rattle.dir_classify.specs.Excludes.{made_with, TellsIf, InStepIf}
+use Rattle.dir_classify.specs.Kept.{AsksRules, KeepsRules, Unasked}
 use Rattle.dir_classify.specs.Layers.{Setting, evidence, is_unread_in, on_disk}
 use Rattle.dir_classify.specs.declared.error.Error.{Error}
 use Rattle.dir_classify.specs.declared.error.Error.TheVariants as errors
-use Rattle.dir_classify.specs.Class.{class as class_of, asks as asks_of}
+use Rattle.dir_classify.specs.Class.{class as class_of, asks as asks_of, asks_of_kind, is_dot_git, is_indexed, is_worktree, settled_kind}
 use Rattle.dir_classify.specs.Classes.{Judges}
 use Rattle.dir_classify.specs.Refused.{IsAbout, Refuses}
 use Rattle.dir_classify.specs.Rooted.{AsksOnWay, LeadsTo, Reaches, reached_by, way_to}
 use Rattle.dir_classify.proofs.NormalPaths.{normal-front}
 use Rattle.dir_classify.proofs.Keeping.{asks-then, increased-later, quiet-first, quiet-second}
 use Rattle.dir_classify.proofs.Refusals.{OnAccess-both, OnFault-weaker, unread-refused}
-use Rattle.dir_classify.proofs.WayAsked.{on-way-further, way-answered, way-asked, way-refused, way-root, way-stopped}
+use Rattle.dir_classify.proofs.WayAsked.{nothing-more, way-answered, way-asked, way-refused, way-root, way-stopped}
 use Rattle.dir_classify.specs.declared.entry.Kind.{Kind}
 use Rattle.dir_classify.specs.Chosen.{Chosen}
 use Rattle.dir_classify.specs.Evidence.{Evidence}
-use Rattle.dir_classify.specs.Kinds.{is_repository}
+use Rattle.dir_classify.specs.Kinds.{is_dir, is_repository}
 use Rattle.dir_classify.specs.Way.{EndsAt, IsClassOnWay, IsReached, Reached, goes_on, onward, reached, reached_at, reached_root, reached_so, way_class, way_unread}
 
 -- The way stands at a path, and from there leads where it leads from the worktree root.
@@ -44,12 +46,23 @@ pub record IsOnward {W F : Type 0} (w : WorktreeOf W) (f : FindOf F) (w0 w1 : W)
   pub leads : (s : Sources) → TellsIf (w.told w0) (f.holds o0) (made_with old) s → InStepIf s old → NotIncreased (w.faults w0) (w.faults w1)
       → onward given.options (evidence given (made_with old) s) (λ p. on_disk given s.tree p true) (reached_so path class in_repository true) (components rest)
       ≡ way_to given (made_with old) s root
+  pub top : components root ≡ [] → (s : Sources) → w.told w0 ≡ Some s.tree → NotIncreased (w.faults w0) (w.faults w1)
+      → reached_so path class in_repository true ≡ reached_root given.options (evidence given (made_with old) s) (λ p. on_disk given s.tree p true)
   pub ends : (s : Sources) → TellsIf (w.told w0) (f.holds o0) (made_with old) s → InStepIf s old → (r : Reached)
       → EndsAt given.options (evidence given (made_with old) s) (λ p. on_disk given s.tree p true) path class in_repository (components rest) r
       → IsReached given.options (evidence given (made_with old) s) (λ p. on_disk given s.tree p true) (components root) r
   pub reads : AsksOnWay {T = Unit {0}} {E = Error} given.options.recurse_repositories path (w.reads w0) (w.reads w1) old new (Ok tt)
 
 -- ---- at the worktree root
+
+pub top-init : (o : Chosen) (ev : Evidence) (kinds : List ℕ → Option Kind) (path : List ℕ) (c : Outcome) (in_repository : Bool) → path ≡ []
+    → c ≡ way_class o ev kinds [] → way_unread o ev kinds [] ≡ false → in_repository ≡ is_repository c.disk_kind
+    → reached_so path c in_repository true ≡ reached_root o ev kinds
+top-init o ev kinds path c in_repository path_is c_is read in_is =
+    ap (λ (p : List ℕ). reached_so p c in_repository true) path_is
+    ∙ ap (λ (b : Bool). reached_so [] c b true) in_is
+    ∙ ap (λ (x : Outcome). reached_so [] x (is_repository x.disk_kind) true) c_is
+    ∙ ap (λ (b : Bool). record (reached_so [] (way_class o ev kinds []) (is_repository (way_class o ev kinds []).disk_kind) true) { is_unread = b }) (sym read)
 
 pub way-init : (given : Setting) (made : Option Made) (s : Sources) (root : List ℕ) (c : Outcome) (in_repository : Bool)
     → c ≡ way_class given.options (evidence given made s) (λ p. on_disk given s.tree p true) []
@@ -71,12 +84,45 @@ pub ends-init : (o : Chosen) (ev : Evidence) (kinds : List ℕ → Option Kind) 
 ends-init o ev kinds names path c in_repository r path_is in_is judged end =
     (c, judged, subst (λ (b : Bool). EndsAt o ev kinds [] c b names r) in_is (subst (λ (p : List ℕ). EndsAt o ev kinds p c in_repository names r) path_is end))
 
--- what the rules were asked of the worktree root
-pub root-asked : {T : Type 0} (recurses : Bool) (r0 r1 : ℕ) (old new : Option Stacked) (t : T) → AsksAtMost {T = T} {E = Error} recurses [] r0 r1 old new (Ok t)
-    → AsksOnWay {T = Unit {0}} {E = Error} recurses [] r0 r1 old new (Ok tt)
-root-asked recurses r0 r1 old new t (inl asked) = inl asked
-root-asked recurses r0 r1 old new t (inr asked) =
-    inr (record { first = []; leads = record { spelled_is = refl; rest = []; components_are = refl }; on_way = asked.on_way; reads = asked.reads })
+-- the rules are not asked of the worktree root
+pub no-dot_git : (ignore_case : Bool) → is_dot_git ignore_case [] ≡ false
+no-dot_git true = refl
+no-dot_git false = refl
+
+and-no : (b : Bool) → (b && false) ≡ false
+and-no true = refl
+and-no false = refl
+
+none-of : (a b c : Bool) → (a && b && c && false) ≡ false
+none-of false b c = refl
+none-of true false c = refl
+none-of true true c = and-no c
+
+not-first : (dot can : Bool) (first rest : Bool) → dot ≡ false → rest ≡ false → (if dot then first else can && rest) ≡ false
+not-first true can first rest e f = absurd (cc e)
+not-first false true first rest e f = f
+not-first false false first rest e f = refl
+
+asks-no-root : (o : Chosen) (ev : Evidence) (kind : Option Kind) → asks_of_kind o ev [] kind ≡ false
+asks-no-root o ev kind = none-of (not (is_worktree o [])) (not (is_indexed (ev.in_index []) kind)) ev.is_ruled
+
+pub never-asked : (o : Chosen) (ev : Evidence) (known kind : Option Kind) → asks_of o ev [] known kind ≡ false
+unfolding asks_of
+never-asked o ev known kind =
+    not-first (is_dot_git o.ignore_case []) (ev.can_match [] (is_dir known)) (is_some o.for_deletion && ev.is_ruled) (asks_of_kind o ev [] (settled_kind ev [] known kind)) (no-dot_git o.ignore_case)
+    (asks-no-root o ev (settled_kind ev [] known kind))
+
+pub never-unread : (o : Chosen) (ev : Evidence) (kinds : List ℕ → Option Kind) → way_unread o ev kinds [] ≡ false
+never-unread o ev kinds = ap (λ b. b && ev.is_unread []) (never-asked o ev (kinds []) None)
+
+some-sources : Sources
+some-sources = record { tree = none; objects = map.empty }
+
+-- so they are as they were
+pub root-unasked : {W F : Type 0} {w : WorktreeOf W} {f : FindOf F} {w0 w1 : W} {o0 o1 : F} {old new : Option Stacked} {given : Setting} {result : Result Outcome Error}
+    → Judges w f w0 w1 o0 o1 old new given [] (λ kind ev. class_of given.options ev [] kind None) (λ kind ev. asks_of given.options ev [] kind None) (λ _. false) true result
+    → Unasked given.options.recurse_repositories (w.reads w0) (w.reads w1) old new
+root-unasked {old = old} {given = given} step = step.spared some-sources (λ kind. never-asked given.options (evidence given (made_with old) some-sources) kind None)
 
 -- ---- one component further
 
@@ -194,6 +240,7 @@ module _ {W F : Type 0} (w : WorktreeOf W) (f : FindOf F) (w0 w1 w2 : W) (o0 o1 
               ∙ step.read s (tells-here s tells) (at.rules.in_step s tells stepped) quiet_now)
               ∙ ap (λ (l : List (List ℕ)). onward given.options ev kinds (reached_so path c in_repository true) l) (sym rest_is)
               ∙ at.leads s tells stepped (quiet-first (w.faults w0) (w.faults w1) (w.faults w2) at.keeps.faults step.keeps.faults quiet);
+          top = λ is s told quiet. absurd (nothing-more (components path) (components left) name (sym is ∙ at.split ∙ ap (λ (l : List (List ℕ)). components path ++ l) rest_is));
           ends = λ s tells stepped r end.
               let kinds = λ (p : List ℕ). on_disk given s.tree p true in
               let judged = subst (λ (m : Option Made). IsClassOnWay given.options (evidence given m s) kinds (joined path name) next) at.rules.made
@@ -216,6 +263,7 @@ module _ {W F : Type 0} (w : WorktreeOf W) (f : FindOf F) (w0 w1 w2 : W) (o0 o1 
       let leads : LeadsTo root (joined path name) = record { spelled_is = grown-spelled; rest = components left; components_are = grown-split } in
       record {
         reached = λ s tells stepped quiet. tt;
+        top = λ is s told quiet. tt;
         swallowed = λ s tells stepped. tt;
         prefix = tt;
         whole = tt;
@@ -258,6 +306,16 @@ module _ {W F : Type 0} (w : WorktreeOf W) (f : FindOf F) (w0 w1 w2 : W) (o0 o1 
 
 -- ---- where the way ends
 
+nothing-left : (front rest : List (List ℕ)) → [] ≡ front ++ rest → rest ≡ []
+nothing-left [] rest e = sym e
+nothing-left (name ∷ front) rest e = absurd (cc e)
+
+-- at the worktree root, where no component leads further
+way-top : (given : Setting) (made : Option Made) (s : Sources) (root : List ℕ) → components root ≡ []
+    → reached_root given.options (evidence given made s) (λ p. on_disk given s.tree p true) ≡ way_to given made s root
+unfolding reached
+way-top given made s root bare = ap (λ (l : List (List ℕ)). reached given.options (evidence given made s) (λ p. on_disk given s.tree p true) l) (sym bare)
+
 module _ {W F : Type 0} (w : WorktreeOf W) (f : FindOf F) (w0 w1 : W) (o0 o1 : F) (old new : Option Stacked) (given : Setting)
     (root path rest : List ℕ) (c : Outcome) (in_repository : Bool) (at : IsOnward w f w0 w1 o0 o1 old new given root path c in_repository rest)
     (root_is : root ≡ spelled (components root)) (r : RootOutcome) (whole : Bool) (r_is : reached_by r false ≡ reached_so path c in_repository whole)
@@ -272,6 +330,15 @@ module _ {W F : Type 0} (w : WorktreeOf W) (f : FindOf F) (w0 w1 : W) (o0 o1 : F
   Reaches-ended =
       record {
         reached = λ s tells stepped quiet. r_is ∙ sym (onward_is s) ∙ at.leads s tells stepped quiet;
+        top = λ is s told quiet.
+            let ev = evidence given (made_with old) s in
+            let kinds = λ (p : List ℕ). on_disk given s.tree p true in
+            let bare : components root ≡ [] = ap components is in
+            r_is
+            ∙ sym (onward_is s)
+            ∙ ap (λ (l : List (List ℕ)). onward given.options ev kinds (reached_so path c in_repository true) l) (nothing-left (components path) (components rest) (sym bare ∙ at.split))
+            ∙ at.top bare s told quiet
+            ∙ way-top given (made_with old) s root bare;
         swallowed = λ s tells stepped. at.ends s tells stepped (reached_by r false)
             (subst (λ (x : Reached). EndsAt given.options (evidence given (made_with old) s) (λ p. on_disk given s.tree p true) path c in_repository (components rest) x) (sym r_is) (ends_at s));
         prefix = subst (LeadsTo root) (sym path_is) (record { spelled_is = at.spelled_is; rest = components rest; components_are = at.split });
@@ -289,6 +356,12 @@ module _ {W F : Type 0} (w : WorktreeOf W) (f : FindOf F) (w0 w1 : W) (o0 o1 : F
         reads = way-root given.options.recurse_repositories root path (components rest) (w.reads w0) (w.reads w1) old new (Ok r) at.split
             (way-answered given.options.recurse_repositories path (w.reads w0) (w.reads w1) old new tt r at.reads);
       }
+
+-- no component is left
+pub ended-whole : (o : Chosen) (ev : Evidence) (kinds : List ℕ → Option Kind) (path : List ℕ) (c : Outcome) (in_repository : Bool) (names : List (List ℕ)) → names ≡ []
+    → (onward o ev kinds (reached_so path c in_repository true) names ≡ reached_so path c in_repository true) × EndsAt o ev kinds path c in_repository names (reached_so path c in_repository true)
+ended-whole o ev kinds path c in_repository [] e = (refl, refl)
+ended-whole o ev kinds path c in_repository (name ∷ names) e = absurd (cc e)
 
 -- the way does not go on
 pub ended-short : (o : Chosen) (ev : Evidence) (kinds : List ℕ → Option Kind) (path name : List ℕ) (c : Outcome) (in_repository : Bool) (names left : List (List ℕ)) → names ≡ name ∷ left
@@ -311,6 +384,7 @@ pub Reaches-stopped : {W F : Type 0} (w : WorktreeOf W) (f : FindOf F) (w0 w1 : 
 Reaches-stopped w f w0 w1 o0 o1 old new given root path rest c in_repository at =
     record {
       reached = λ s tells stepped quiet. tt;
+      top = λ is s told quiet. tt;
       swallowed = λ s tells stepped. tt;
       prefix = tt;
       whole = tt;
@@ -335,17 +409,6 @@ unread-root given made s root asks unread =
     let kinds = λ (p : List ℕ). on_disk given s.tree p true in
     unread-onward given.options ev kinds (reached_root given.options ev kinds) (components root) (unread-way given made made s [] refl asks unread)
 
-root-refused : {T U : Type 0} (recurses : Bool) (root : List ℕ) (r0 r1 : ℕ) (old new : Option Stacked) (e : Error)
-    → AsksAtMost {T = T} {E = Error} recurses [] r0 r1 old new (Err e) → AsksOnWay {T = U} {E = Error} recurses root r0 r1 old new (Err e)
-root-refused recurses root r0 r1 old new e (inl asked) = inl asked
-root-refused recurses root r0 r1 old new e (inr asked) =
-    inr (record {
-      first = [];
-      leads = record { spelled_is = refl; rest = components root; components_are = refl };
-      on_way = on-way-further (pushed_in new) [] (components root) asked.on_way;
-      reads = asked.reads;
-    })
-
 pub Reaches-unrooted : {W F : Type 0} (w : WorktreeOf W) (f : FindOf F) (w0 w1 : W) (o0 o1 : F) (old new : Option Stacked) (given : Setting) (root : List ℕ) (e : Error)
     → Judges w f w0 w1 o0 o1 old new given [] (λ kind ev. class_of given.options ev [] kind None) (λ kind ev. asks_of given.options ev [] kind None) (λ _. false) true (Err e)
     → Reaches w f w0 w1 o0 o1 old new given root (Err e)
@@ -353,6 +416,7 @@ Reaches-unrooted w f w0 w1 o0 o1 old new given root e step =
     let leads : LeadsTo root [] = record { spelled_is = refl; rest = components root; components_are = refl } in
     record {
       reached = λ s tells stepped quiet. tt;
+      top = λ is s told quiet. tt;
       swallowed = λ s tells stepped. tt;
       prefix = tt;
       whole = tt;
@@ -371,5 +435,5 @@ Reaches-unrooted w f w0 w1 o0 o1 old new given root e step =
       keeps = step.keeps;
       store = step.store;
       rules = step.rules;
-      reads = root-refused given.options.recurse_repositories root (w.reads w0) (w.reads w1) old new e step.reads;
+      reads = inl (root-unasked step);
     }

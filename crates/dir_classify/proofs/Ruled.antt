@@ -1,5 +1,5 @@
 -- What the rules say of a path, and of one named `.git`.
-use Rattle.std.proofs.Common.{◌≡◌, ◌∙◌, ap, ℕ, List, Bool, true, false, ◌&&◌, Option, Some, None, refl, inl, inr}
+use Rattle.std.proofs.Common.{◌≡◌, ◌∙◌, ap, ℕ, List, Bool, true, false, not, ◌&&◌, Option, Some, None, refl, inl, inr}
 use Rattle.std.specs.Prelude.{if◌then◌else◌, is_some, is_none, ◌⊎◌}
 use Rattle.gitbase_core.specs.Path.{is_empty}
 use Rattle.glob_rules.specs.declared.ignore.Kind.{Kind as IgnoredAs}
@@ -77,11 +77,21 @@ ruled-read given made s path full kind is_dir ruling full_is some not_empty (inr
       ruling_is = ruled-as given made s path kind None is_dir ruling some not_empty is ruling_is;
     }
 
+-- where they are not asked they say nothing
+pub ruling-none : (given : Setting) (made : Option Made) (s : Sources) (path : List ℕ) (kind : Option Kind) → (is_some made && not (is_empty path)) ≡ false
+    → no_ruling ≡ ruling_of given.options (evidence given made s) path kind
+unfolding evidence
+ruling-none given made s path kind off = rw off refl
+
 -- ---- a path named `.git`
 
 pub dot_git-unasked : (o : Chosen) (ev : Evidence) (path : List ℕ) (known : Option Kind) → is_some o.for_deletion ≡ false
     → class_dot_git o ev path known no_ruling ≡ class_dot_git o ev path known (dot_git_ruling o ev path known)
 dot_git-unasked o ev path known off = ap (class_dot_git o ev path known) (rw off refl)
+
+pub dot_git-unruled : (o : Chosen) (ev : Evidence) (path : List ℕ) (known : Option Kind) → (is_some o.for_deletion && ev.is_ruled) ≡ false
+    → class_dot_git o ev path known no_ruling ≡ class_dot_git o ev path known (dot_git_ruling o ev path known)
+dot_git-unruled o ev path known off = ap (class_dot_git o ev path known) (rw off refl)
 
 -- in deletion the rules are asked, if there are any
 ruled-if : (ruled : Bool) (r : Ruling) → (ruled ≡ false → r ≡ no_ruling) → r ≡ (if ruled then r else no_ruling)

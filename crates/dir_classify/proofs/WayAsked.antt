@@ -3,7 +3,7 @@ use Rattle.std.proofs.Common.{◌≡◌, ◌∙◌, ap, sym, subst, ℕ, List, [
 use Rattle.std.specs.Prelude.{Result, if◌then◌else◌}
 use Rattle.std.specs.Str.{bytes_eq}
 use Rattle.std.proofs.lemmas.List.{append-nil}
-use Rattle.gitbase_core.specs.Path.{components}
+use Rattle.gitbase_core.specs.Path.{components, is_empty}
 use Rattle.worktree_fs.specs.Paths.{common_front, spelled, without_last}
 use Rattle.worktree_fs.specs.PathStack.{IsOnWay}
 use Rattle.worktree_fs.proofs.Grown.{same_name}
@@ -47,6 +47,15 @@ leads-further : (root path first : List ℕ) (rest : List (List ℕ)) → compon
 leads-further root path first rest split leads =
     record { spelled_is = leads.spelled_is; rest = leads.rest ++ rest; components_are = split ∙ ap (λ l. l ++ rest) leads.components_are ∙ append_assoc (components first) leads.rest rest }
 
+-- a path with a component is not empty
+pub nothing-more : (front rest : List (List ℕ)) (name : List ℕ) → [] ≡ front ++ name ∷ rest → ⊥
+nothing-more [] rest name e = cc e
+nothing-more (x ∷ front) rest name e = cc e
+
+grown-some : (next : List ℕ) (front : List (List ℕ)) (name : List ℕ) → components next ≡ front ++ name ∷ [] → is_empty next ≡ false
+grown-some [] front name e = absurd (nothing-more front [] name e)
+grown-some (b ∷ bytes) front name e = refl
+
 -- ---- one path further
 
 module _ {T E : Type 0} (recurses : Bool) (path name next : List ℕ) (r0 r1 r2 : ℕ) (old now new : Option Stacked) (result : Result T E)
@@ -60,6 +69,7 @@ module _ {T E : Type 0} (recurses : Bool) (path name next : List ℕ) (r0 r1 r2 
       inr (record {
         first = next;
         leads = record { spelled_is = next_is; rest = []; components_are = sym (append-nil (components next)) };
+        beneath = grown-some next (components path) name grown;
         on_way = b.on_way;
         reads = λ on.
             let same = a.reads on in
@@ -72,6 +82,7 @@ module _ {T E : Type 0} (recurses : Bool) (path name next : List ℕ) (r0 r1 r2 
       inr (record {
         first = a.first;
         leads = leads-further next path a.first (name ∷ []) grown a.leads;
+        beneath = a.beneath;
         on_way = subst (λ (o : Option Stacked). IsOnWay (pushed_in o) (components next)) (sym b.same) (further (pushed_in now) a.on_way);
         reads = λ on.
             let same = b.reads on in
@@ -83,6 +94,7 @@ module _ {T E : Type 0} (recurses : Bool) (path name next : List ℕ) (r0 r1 r2 
       inr (record {
         first = a.first;
         leads = leads-further next path a.first (name ∷ []) grown a.leads;
+        beneath = a.beneath;
         on_way = b.on_way;
         reads = λ on.
             let stay : length (pushed (staying (pushed_in now) (components next))) ≡ length (pushed (pushed_in now)) =
@@ -101,6 +113,7 @@ way-root recurses root path rest r0 r1 old new result split (inr a) =
     inr (record {
       first = a.first;
       leads = leads-further root path a.first rest split a.leads;
+      beneath = a.beneath;
       on_way = subst (IsOnWay (pushed_in new)) (sym split) (on-way-further (pushed_in new) (components path) rest a.on_way);
       reads = a.reads;
     })
@@ -109,16 +122,16 @@ way-root recurses root path rest r0 r1 old new result split (inr a) =
 pub way-answered : {T U : Type 0} (recurses : Bool) (path : List ℕ) (r0 r1 : ℕ) (old new : Option Stacked) (t : T) (u : U)
     → AsksOnWay {T = T} {E = Error} recurses path r0 r1 old new (Ok t) → AsksOnWay {T = U} {E = Error} recurses path r0 r1 old new (Ok u)
 way-answered recurses path r0 r1 old new t u (inl a) = inl a
-way-answered recurses path r0 r1 old new t u (inr a) = inr (record { first = a.first; leads = a.leads; on_way = a.on_way; reads = a.reads })
+way-answered recurses path r0 r1 old new t u (inr a) = inr (record { first = a.first; leads = a.leads; beneath = a.beneath; on_way = a.on_way; reads = a.reads })
 
 pub way-refused : {T U : Type 0} (recurses : Bool) (path : List ℕ) (r0 r1 : ℕ) (old new : Option Stacked) (e : Error)
     → AsksOnWay {T = T} {E = Error} recurses path r0 r1 old new (Err e) → AsksOnWay {T = U} {E = Error} recurses path r0 r1 old new (Err e)
 way-refused recurses path r0 r1 old new e (inl a) = inl a
-way-refused recurses path r0 r1 old new e (inr a) = inr (record { first = a.first; leads = a.leads; on_way = a.on_way; reads = a.reads })
+way-refused recurses path r0 r1 old new e (inr a) = inr (record { first = a.first; leads = a.leads; beneath = a.beneath; on_way = a.on_way; reads = a.reads })
 
 -- memory was refused before the next path was asked about
 pub way-stopped : (recurses : Bool) (path : List ℕ) (r0 r1 : ℕ) (old new : Option Stacked) (e : Error)
     → AsksOnWay {T = Unit {0}} {E = Error} recurses path r0 r1 old new (Ok tt) → AsksOnWay {T = RootOutcome} {E = Error} recurses path r0 r1 old new (Err e)
 way-stopped recurses path r0 r1 old new e (inl a) = inl a
 way-stopped recurses path r0 r1 old new e (inr a) =
-    inr (record { first = a.first; leads = a.leads; on_way = a.on_way; reads = λ on. let most = a.reads on in omega (arith, most) })
+    inr (record { first = a.first; leads = a.leads; beneath = a.beneath; on_way = a.on_way; reads = λ on. let most = a.reads on in omega (arith, most) })

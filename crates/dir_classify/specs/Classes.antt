@@ -1,5 +1,5 @@
 -- What a call does that gives the class of a path.
-use Rattle.std.specs.Prelude.{◌≡◌, ℕ, Bool, true, false, ◌&&◌, List, Option, Some, Result, IfOk, IfErr, OnOk}
+use Rattle.std.specs.Prelude.{◌≡◌, ℕ, Bool, true, false, ◌&&◌, if◌then◌else◌, List, Option, Some, None, Result, IfOk, IfErr, OnOk}
 use Rattle.gitbase_core.specs.declared.find.Find.{Ghosts as FindOf}
 use Rattle.worktree_fs.specs.declared.worktree.Worktree.{Ghosts as WorktreeOf}
 use Rattle.worktree_fs.specs.Causes.{NotIncreased, Increased}
@@ -13,7 +13,7 @@ use Rattle.dir_classify.specs.Class.{class as class_of, asks as asks_rules, asks
 use Rattle.dir_classify.specs.Evidence.{Evidence}
 use Rattle.dir_classify.specs.Excludes.{made_with, TellsIf, InStepIf}
 use Rattle.dir_classify.specs.Faults.{IsJudged}
-use Rattle.dir_classify.specs.Kept.{AsksRules, KeepsRules, AsksAtMost, AreUntouched}
+use Rattle.dir_classify.specs.Kept.{AsksRules, KeepsRules, AsksAtMost, AreUntouched, Unasked}
 use Rattle.dir_classify.specs.Layers.{Setting, evidence, on_disk}
 use Rattle.dir_classify.specs.Refused.{IsAbout, Refuses, OnAccess, OnFault}
 
@@ -32,6 +32,10 @@ pub record Judges {W F : Type 0} (w : WorktreeOf W) (f : FindOf F) (w0 w1 : W) (
   -- With a fault it is the class by what was read.
   pub swallowed : (s : Sources) → TellsIf (w.told w0) (f.holds o0) (made_with old) s → InStepIf s old
       → IfOk result (IsJudged judge (evidence given (made_with old) s) path (on_disk given s.tree path ask_disk))
+  -- So it is where the rules are not asked, whether or not they and the store are told and in step.
+  pub unruled : (s : Sources) → w.told w0 ≡ Some s.tree → NotIncreased (w.faults w0) (w.faults w1)
+      → asks (on_disk given s.tree path ask_disk) (evidence given (made_with old) s) ≡ false
+      → IfOk result (λ c. c ≡ judge (on_disk given s.tree path ask_disk) (evidence given (made_with old) s))
   -- Each refusal has its cause.
   pub about : IfErr result (IsAbout (made_with old) path)
   pub refused : (s : Sources) → TellsIf (w.told w0) (f.holds o0) (made_with old) s → IfErr result (Refuses s (made_with old) path)
@@ -44,6 +48,9 @@ pub record Judges {W F : Type 0} (w : WorktreeOf W) (f : FindOf F) (w0 w1 : W) (
   pub rules : KeepsRules w f w0 w1 o0 old new
   -- Told or not, the rules were asked about this path alone.
   pub reads : AsksAtMost given.options.recurse_repositories path (w.reads w0) (w.reads w1) old new result
+  -- Nor were they, where they are not asked whatever the kind on disk is.
+  pub spared : (s : Sources) → ((kind : Option Kind) → asks (if ask_disk then kind else None) (evidence given (made_with old) s) ≡ false)
+      → Unasked given.options.recurse_repositories (w.reads w0) (w.reads w1) old new
   -- Over a told tree and without a fault, they are not asked in vain.
   pub unasked : (s : Sources) → w.told w0 ≡ Some s.tree → NotIncreased (w.faults w0) (w.faults w1)
       → asks (on_disk given s.tree path ask_disk) (evidence given (made_with old) s) ≡ false → (o1 ≡ o0) × (new ≡ old)

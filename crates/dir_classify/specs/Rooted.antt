@@ -1,6 +1,6 @@
 -- What a call does that classes the paths on the way to a traversal root.
-use Rattle.std.specs.Prelude.{◌≡◌, ◌≤◌, ◌⊎◌, ℕ, ◌+◌, Bool, true, false, List, ◌++◌, length, Option, Result, IfOk, IfErr}
-use Rattle.gitbase_core.specs.Path.{components}
+use Rattle.std.specs.Prelude.{◌≡◌, ◌≤◌, ◌⊎◌, ℕ, ◌+◌, Bool, true, false, List, [], ◌++◌, length, Option, Some, Result, IfOk, IfErr}
+use Rattle.gitbase_core.specs.Path.{components, is_empty}
 use Rattle.gitbase_core.specs.declared.find.Find.{Ghosts as FindOf}
 use Rattle.worktree_fs.specs.declared.worktree.Worktree.{Ghosts as WorktreeOf}
 use Rattle.worktree_fs.specs.Causes.{NotIncreased, Increased}
@@ -37,11 +37,13 @@ pub record LeadsTo (root path : List ℕ) : Type 0 where
 abbrev pub OnWayTo : List ℕ → (List ℕ → Type 0) → Type 0
 OnWayTo root Said = (path : List ℕ) × LeadsTo root path × Said path
 
--- The rules were asked about paths on the way to one. What is pushed lies on the way there. Where repositories are walked into, the
--- worktree was read at most once for each directory that was pushed or refused from the first of these paths on.
+-- The rules were asked about paths on the way to one, and not about the worktree root. What is pushed lies on the way there. Where
+-- repositories are walked into, the worktree was read at most once for each directory that was pushed or refused from the first of
+-- these paths on.
 pub record AskedOnWay {T E : Type 0} (recurses : Bool) (root : List ℕ) (reads0 reads1 : ℕ) (old new : Option Stacked) (result : Result T E) : Type 0 where
   pub first : List ℕ
   pub leads : LeadsTo root first
+  pub beneath : is_empty first ≡ false
   pub on_way : IsOnWay (pushed_in new) (components root)
   pub reads : recurses ≡ true
       → reads1 + length (pushed (staying (pushed_in old) (components first))) ≤ reads0 + length (pushed (pushed_in new)) + refused_one result
@@ -58,6 +60,9 @@ pub record Reaches {W F : Type 0} (w : WorktreeOf W) (f : FindOf F) (w0 w1 : W) 
   -- Over a told tree and a told store with which the rules are in step, and without a fault, it is exactly where the way ends,
   -- and all rules that it needs were read.
   pub reached : (s : Sources) → TellsIf (w.told w0) (f.holds o0) (made_with old) s → InStepIf s old → NotIncreased (w.faults w0) (w.faults w1)
+      → IfOk result (λ r. reached_by r false ≡ way_to given (made_with old) s root)
+  -- So it is for the empty path, of which the rules are not asked, whether or not they and the store are told and in step.
+  pub top : root ≡ [] → (s : Sources) → w.told w0 ≡ Some s.tree → NotIncreased (w.faults w0) (w.faults w1)
       → IfOk result (λ r. reached_by r false ≡ way_to given (made_with old) s root)
   -- With faults it is where the way ends by what was read.
   pub swallowed : (s : Sources) → TellsIf (w.told w0) (f.holds o0) (made_with old) s → InStepIf s old

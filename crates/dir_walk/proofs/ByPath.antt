@@ -1,7 +1,7 @@
 -- What a walk gave, in the order of paths, is the report.
-use Rattle.std.proofs.Common.{◌≡◌, inl, inr, ◌≤◌, ℕ, List, [], Bool, true, false, cond, Option, Some, None, Result, count_by, refl, sym, ap, subst, ◌∙◌, arith}
+use Rattle.std.proofs.Common.{◌≡◌, inl, inr, ◌≤◌, ℕ, List, [], Bool, true, false, cond, Option, Some, None, Result, Ok, count_by, refl, sym, ap, subst, ◌∙◌, arith}
 use Rattle.std.specs.Str.{bytes_eq}
-use Rattle.std.specs.Prelude.{IsSomeAnd, if◌then◌else◌, option_and_then}
+use Rattle.std.specs.Prelude.{IsPermutation, IsSomeAnd, if◌then◌else◌, option_and_then}
 use Rattle.std.proofs.lemmas.List.Sorted.{sum_by-IsPermutation}
 use Rattle.gitbase_core.specs.Path.{is_path_prefix}
 use Rattle.worktree_fs.specs.Naming.{IsTree}
@@ -15,14 +15,14 @@ use Rattle.dir_walk.specs.declared.outcome.Outcome.{Outcome}
 use Rattle.dir_walk.specs.declared.report.Report.{Report as Made_Report}
 use Rattle.dir_walk.specs.Covered.{Covers, as_matching, without_folding}
 use Rattle.dir_walk.specs.Distinct.{Ascends, HasDistinctPaths}
-use Rattle.dir_walk.specs.Emissions.{Emission, by_path}
+use Rattle.dir_walk.specs.Emissions.{Emission, by_path, path_of as emission_path}
 use Rattle.dir_walk.specs.Report.{counts, is_walk_refused, out_of, report, report_from, shown}
-use Rattle.dir_walk.specs.Reports.{IsReport}
+use Rattle.dir_walk.specs.Reports.{IsFromRoot, IsReport}
 use Rattle.dir_walk.specs.Root.{Walk, walk_in}
 use Rattle.dir_walk.specs.Safe.{IsSafe}
 use Rattle.dir_walk.specs.Fold.{one_if}
-use Rattle.dir_walk.specs.Puts.{given_at}
-use Rattle.dir_walk.specs.Walks.{GivesEntries, GivesOnce, WalkGives}
+use Rattle.dir_walk.specs.Puts.{AddsAtMost, given_at, once_at, once_within}
+use Rattle.dir_walk.specs.Walks.{GivesEntries, GivesFrom, GivesOnce, WalkGives}
 use Rattle.dir_walk.proofs.Lists.{some-weaker}
 use Rattle.dir_walk.proofs.Reported.{covers-by_path}
 use Rattle.dir_walk.proofs.Safety.{safe-by_path, safe-walk}
@@ -109,11 +109,31 @@ module _ (given : Setting) (made : Option Made) (s : Sources) (explicit : Option
 pub distinct-given : {T : Type 0} (given : Setting) (explicit : Option (List ℕ)) (path_of : T → List ℕ) (result : Result T Error) (before got : List Emission) → before ≡ []
     → GivesOnce given explicit path_of result (Some before) (Some got) → HasDistinctPaths got
 distinct-given given explicit path_of result before got none (inl same) =
-    record { once = λ path. omega (arith, ap {B = ℕ} (λ (xs : List Emission). given_at path xs) (some_list same), ap {B = ℕ} (λ (xs : List Emission). given_at path xs) none) }
+    record { once = λ path. omega (arith, ap {B = ℕ} (λ (xs : List Emission). given_at path xs) (some_list same.0), ap {B = ℕ} (λ (xs : List Emission). given_at path xs) none) }
 distinct-given given explicit path_of result before got none (inr (root, is, inl adds)) =
     record { once = λ path. omega (arith, adds refl path, ap {B = ℕ} (λ (xs : List Emission). given_at path xs) none, one_if-most (is_path_prefix root path)) }
 distinct-given given explicit path_of result before got none (inr (root, is, inr (only, leads, adds))) =
     record { once = λ path. omega (arith, adds refl path, ap {B = ℕ} (λ (xs : List Emission). given_at path xs) none, one_if-most (bytes_eq path only)) }
+
+-- in whatever order they are given from the same traversal root
+adds-sorted : (room : List ℕ → ℕ) (got entries : List Emission) → IsPermutation got entries → AddsAtMost room (Some []) (Some got) → AddsAtMost room (Some []) (Some entries)
+adds-sorted room got entries same adds = λ told path.
+    omega (arith, adds told path, sum_by-IsPermutation (λ (x : Emission). cond {A = ℕ} (bytes_eq path (emission_path x)) 1 0) got entries same)
+
+gives-sorted : (root : List ℕ) (got entries : List Emission) → IsPermutation got entries → GivesFrom root (Some []) (Some got) → GivesFrom root (Some []) (Some entries)
+gives-sorted root got entries same (inl adds) = inl (adds-sorted (once_within root) got entries same adds)
+gives-sorted root got entries same (inr (path, leads, adds)) = inr (path, leads, adds-sorted (once_at path) got entries same adds)
+
+pub from-root : (given : Setting) (explicit : Option (List ℕ)) (outcome : Outcome) (root : List ℕ) (before got entries : List Emission) → before ≡ [] → IsPermutation got entries
+    → GivesOnce given explicit (λ (r : Outcome × List ℕ). r.1) (Ok (outcome, root)) (Some before) (Some got) → IsFromRoot given explicit (record { outcome = outcome; root = root; entries = entries })
+from-root given explicit outcome root before got entries none same (inl gives) = absurd gives.1
+from-root given explicit outcome root before got entries none same (inr (start, is, gives)) =
+    record {
+      root = start;
+      asked = is.normalized;
+      named = is.named;
+      once = gives-sorted start got entries same (subst (λ (xs : List Emission). GivesFrom start (Some xs) (Some got)) none gives);
+    }
 
 -- in the order of paths they ascend
 pub ascends-given : (got entries : List Emission) → HasDistinctPaths got → (HasDistinctPaths got → entries ≡ by_path got) → Ascends entries

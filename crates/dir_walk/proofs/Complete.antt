@@ -16,7 +16,7 @@ use Rattle.worktree_stack.specs.declared.error.RulesWhy.TheVariants as whys
 use Rattle.worktree_stack.specs.declared.error.BlobWhy.TheVariants as blob_whys
 use Rattle.worktree_stack.specs.Refused as lookups
 use Rattle.worktree_stack.specs.Setup.{Made}
-use Rattle.worktree_stack.specs.Reading.{Sources, Tells, Refusal, of_file, of_blob, reading}
+use Rattle.worktree_stack.specs.Reading.{Sources, Refusal, of_file, of_blob, reading}
 use Rattle.dir_classify.specs.declared.error.Error.{Error}
 use Rattle.dir_classify.specs.declared.error.Error.TheVariants as errors
 use Rattle.dir_classify.specs.declared.error.MetadataWhy.TheVariants as metadata
@@ -39,8 +39,8 @@ use Rattle.dir_walk.proofs.NormalRoots.{root-shape}
 use Rattle.dir_walk.proofs.Refusals.{broken-among as broken-at}
 use Rattle.dir_walk.proofs.Reported.{report-of}
 use Rattle.dir_walk.proofs.Starting.{walked-way}
-use Rattle.dir_walk.proofs.Unread.{unread-ancestor}
-use Rattle.dir_walk.proofs.WalkedAt.{walk-split}
+use Rattle.dir_walk.proofs.Unread.{told-so, unread-ancestor}
+use Rattle.dir_walk.proofs.WalkedAt.{same_root, walk-split}
 
 -- ---- what makes a walk refused
 
@@ -106,21 +106,18 @@ module _ (s : Sources) (rules : Made) (given : Setting) (limit before now store_
   unfolding ev
   unread path Holds refusal asked h is = asked-refused limit ev w path asked (unread-is given (Some rules) s path ∙ unread-ancestor s rules path Holds refusal h is)
 
-  told_so : Tells (Some s.tree) (Some s.objects) s
-  told_so = record { tree_is = refl; objects_are = refl }
-
   access-refused : (e : AtPathError) → lookups.OnFault (Increased before now) (Increased store_before store_now) e → IsNoAccess s rules w ⊥ e → is_refused limit (evidence given (Some rules) s) w ≡ true
   unfolding ev
   access-refused inner.NotNormal cause h = absurd h.access.on_way
   access-refused (inner.Component why) cause h = absurd h.access.on_way
   access-refused (inner.Collision path) cause h = absurd h.access.on_way
   access-refused (inner.Directory path why) cause h = absurd h.access.on_way
-  access-refused (inner.RulesFile path whys.Link) cause h = unread h.path _ (of_file path whys.Link) (not-failed h.asked) h.refused (λ d r. r.why_is.1 s told_so)
-  access-refused (inner.RulesFile path whys.LinkLimit) cause h = unread h.path _ (of_file path whys.LinkLimit) (not-failed h.asked) h.refused (λ d r. r.why_is s told_so)
-  access-refused (inner.RulesFile path whys.Special) cause h = unread h.path _ (of_file path whys.Special) (not-failed h.asked) h.refused (λ d r. r.why_is s told_so)
+  access-refused (inner.RulesFile path whys.Link) cause h = unread h.path _ (of_file path whys.Link) (not-failed h.asked) h.refused (λ d r. r.why_is.1 s (told-so s))
+  access-refused (inner.RulesFile path whys.LinkLimit) cause h = unread h.path _ (of_file path whys.LinkLimit) (not-failed h.asked) h.refused (λ d r. r.why_is s (told-so s))
+  access-refused (inner.RulesFile path whys.Special) cause h = unread h.path _ (of_file path whys.Special) (not-failed h.asked) h.refused (λ d r. r.why_is s (told-so s))
   access-refused (inner.RulesFile path whys.Fault) cause h = absurd (omega (arith, cause, quiet))
-  access-refused (inner.Blob id blob_whys.Missing) cause h = unread h.path _ (of_blob id blob_whys.Missing) (not-failed h.asked) h.refused (λ d r. r.why_is s told_so)
-  access-refused (inner.Blob id blob_whys.NotABlob) cause h = unread h.path _ (of_blob id blob_whys.NotABlob) (not-failed h.asked) h.refused (λ d r. r.why_is s told_so)
+  access-refused (inner.Blob id blob_whys.Missing) cause h = unread h.path _ (of_blob id blob_whys.Missing) (not-failed h.asked) h.refused (λ d r. r.why_is s (told-so s))
+  access-refused (inner.Blob id blob_whys.NotABlob) cause h = unread h.path _ (of_blob id blob_whys.NotABlob) (not-failed h.asked) h.refused (λ d r. r.why_is s (told-so s))
   access-refused (inner.Blob id blob_whys.Fault) cause h = absurd (omega (arith, cause, store_quiet))
   access-refused inner.OutOfMemory cause h = absurd (h.access.some_memory refl)
 
@@ -128,9 +125,6 @@ no-access : (s : Sources) (made : Option Made) (given : Setting) (limit before n
     → lookups.OnFault (Increased before now) (Increased store_before store_now) e → IsSomeAnd made (λ rules. IsNoAccess s rules w ⊥ e) → is_refused limit (evidence given made s) w ≡ true
 no-access s None given limit before now store_before store_now w e quiet store_quiet cause h = absurd h
 no-access s (Some rules) given limit before now store_before store_now w e quiet store_quiet cause h = access-refused s rules given limit before now store_before store_now w quiet store_quiet e cause h
-
-same_root : {a b : List ℕ} → rooted a ≡ rooted b → a ≡ b
-same_root e = cc
 
 -- ---- what is walked from a traversal root
 

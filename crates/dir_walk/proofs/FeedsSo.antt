@@ -39,7 +39,7 @@ feeds-nothing w f d {d0 = d0} given explicit limit e =
       heeded = inl refl;
       unbroken = refl;
       delegate = KeepsDelegate-same;
-      once = inl refl;
+      once = inl (refl, tt);
       returned = tt;
       seen = tt;
     }

@@ -1,12 +1,13 @@
 -- What is opened, read and given from a traversal root on.
-use Rattle.std.proofs.Common.{◌≡◌, ℕ, ◌+◌, ◌-◌, ◌≤◌, max, List, [], ◌∷◌, ◌++◌, Bool, true, Option, Some, None, Result, Err, inl, inr, length, append_assoc, refl, ap, ◌∙◌, arith}
+use Rattle.std.proofs.Common.{◌≡◌, ℕ, ◌+◌, ◌-◌, ◌≤◌, max, List, [], ◌∷◌, ◌++◌, Bool, true, false, Option, Some, None, Result, Err, inl, inr, length, append_assoc, refl, sym, ap, ◌∙◌, arith}
 use Rattle.std.proofs.lemmas.List.{length-append}
-use Rattle.gitbase_core.specs.Path.{components}
+use Rattle.gitbase_core.specs.Path.{components, is_empty}
 use Rattle.worktree_fs.specs.declared.interrupt.Interrupt.{Ghosts as InterruptOf}
 use Rattle.worktree_fs.specs.declared.worktree.Worktree.{Ghosts as WorktreeOf}
 use Rattle.worktree_fs.specs.Causes.{with_more}
-use Rattle.worktree_fs.specs.Paths.{common_front, without_last}
+use Rattle.worktree_fs.specs.Paths.{common_front, spelled, without_last}
 use Rattle.worktree_fs.specs.PathStack.{IsOnWay}
+use Rattle.worktree_stack.proofs.Looking.{length-fronts}
 use Rattle.worktree_stack.specs.Lookups.{refused_one}
 use Rattle.worktree_stack.specs.Stacked.{Stacked, pushed}
 use Rattle.dir_classify.specs.declared.entry.Entry.{Entry}
@@ -22,7 +23,7 @@ use Rattle.dir_walk.specs.Emissions.{Emission}
 use Rattle.dir_walk.specs.Opens.{IsListed, OpensFrom, OpensRoot, pushed_to, refused_walk}
 use Rattle.dir_walk.specs.Puts.{Puts, held_at}
 use Rattle.dir_walk.proofs.Lists.{and_left}
-use Rattle.dir_walk.proofs.Opening.{front-all, length-fronts, opens-refused, pushed-most}
+use Rattle.dir_walk.proofs.Opening.{front-all, opens-refused, pushed-most}
 use Rattle.dir_walk.proofs.Putting.{Puts-as, Puts-over}
 
 -- ---- the way to the traversal root
@@ -57,11 +58,19 @@ pushed-above : (at : Option (List (List ℕ))) (names : List (List ℕ)) → IsO
 pushed-above None names way = omega arith
 pushed-above (Some held) names way = omega (arith, length-fronts held, above-last names, ap {B = ℕ} (λ (l : List (List ℕ)). length l) way.joined, length-append held way.rest)
 
+-- no rules are asked of the worktree root, so where some are there is a component
+some-names : (names rest : List (List ℕ)) (first : List ℕ) → first ≡ spelled names → is_empty first ≡ false → 1 ≤ length (names ++ rest)
+some-names [] rest first is some = absurd (let e : is_empty first ≡ true = ap is_empty is in let f : false ≡ true = sym some ∙ e in cc f)
+some-names (name ∷ names) rest first is some = omega arith
+
 -- so the classes on the way read at most once for each component
 asks-above : {T E : Type 0} (recurses : Bool) (root : List ℕ) (reads0 reads1 : ℕ) (old new : Option Stacked) (result : Result T E) → recurses ≡ true → AsksOnWay recurses root reads0 reads1 old new result
-    → reads1 ≤ reads0 + max (length (components root)) 1 + refused_one result
+    → reads1 ≤ reads0 + length (components root) + refused_one result
 asks-above recurses root reads0 reads1 old new result on (inl unasked) = omega (arith, unasked.reads on)
-asks-above recurses root reads0 reads1 old new result on (inr asked) = omega (arith, asked.reads on, pushed-above (pushed_in new) (components root) asked.on_way)
+asks-above recurses root reads0 reads1 old new result on (inr asked) =
+    let some : 1 ≤ length (components asked.first ++ asked.leads.rest) = some-names (components asked.first) asked.leads.rest asked.first asked.leads.spelled_is asked.beneath in
+    let same : length (components root) ≡ length (components asked.first ++ asked.leads.rest) = ap {B = ℕ} (λ (l : List (List ℕ)). length l) asked.leads.components_are in
+    omega (arith, asked.reads on, pushed-above (pushed_in new) (components root) asked.on_way, some, same)
 
 -- ---- what is opened
 

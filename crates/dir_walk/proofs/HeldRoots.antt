@@ -19,6 +19,7 @@ use Rattle.dir_classify.specs.Enters.{is_open, is_ignored_status}
 use Rattle.dir_classify.specs.Evidence.{Evidence}
 use Rattle.dir_classify.specs.Kinds.{from_node, first_of_kinds, is_directory, is_symlink, is_repository, is_dir, holds_names}
 use Rattle.dir_classify.specs.Layers.{kind_at}
+use Rattle.dir_classify.proofs.Onward.{no-dot_git}
 use Rattle.dir_walk.specs.WalkRefused.{IsHeldDirectory}
 
 directory-holds : (kind : Option Kind) → is_directory kind ≡ true → holds_names kind ≡ true
@@ -98,10 +99,6 @@ upgraded-holds true = refl
 upgraded-holds false = refl
 
 module _ (o : Chosen) (ev : Evidence) (none : (ev.in_index []).up_to_date ≡ None) where
-  root-dot_git : (ignore_case : Bool) → is_dot_git ignore_case [] ≡ false
-  root-dot_git true = refl
-  root-dot_git false = refl
-
   holds-indexed : (b : Bool) → holds_names (if b then upgrade o ev (Some Directory) [] false else Some Directory) ≡ true
   holds-indexed true = upgraded-holds _
   holds-indexed false = refl
@@ -124,7 +121,7 @@ module _ (o : Chosen) (ev : Evidence) (none : (ev.in_index []).up_to_date ≡ No
   holds-root : holds_names (class o ev [] (Some Directory) None).disk_kind ≡ true
   unfolding class
   holds-root =
-      ap (λ (dot : Bool). holds_names (if dot then class_dot_git o ev [] (Some Directory) (dot_git_ruling o ev [] (Some Directory)) else if not (ev.can_match [] (Some true)) then class_unmatched (Some Directory) else class_of_kind o ev [] (settled_kind ev [] (Some Directory) None)).disk_kind) (root-dot_git o.ignore_case)
+      ap (λ (dot : Bool). holds_names (if dot then class_dot_git o ev [] (Some Directory) (dot_git_ruling o ev [] (Some Directory)) else if not (ev.can_match [] (Some true)) then class_unmatched (Some Directory) else class_of_kind o ev [] (settled_kind ev [] (Some Directory) None)).disk_kind) (no-dot_git o.ignore_case)
       ∙ ap (λ (u : Option Kind). holds_names (if not (ev.can_match [] (Some true)) then class_unmatched (Some Directory) else class_of_kind o ev [] (first_of_kinds u (Some Directory))).disk_kind) none
       ∙ holds-cases (ev.can_match [] (Some true)) (is_worktree o []) (is_indexed (ev.in_index []) (Some Directory)) (ruling_of o ev [] (Some Directory))
 
@@ -137,7 +134,7 @@ module _ (o : Chosen) (ev : Evidence) (none : (ev.in_index []).up_to_date ≡ No
 
 -- ---- a traversal root that is entered and cannot be listed
 
-named-directory : (at : Look) → holds_names (option_map from_node (kind_of at)) ≡ true → (names : Names) × (at ≡ found (directory names))
+pub named-directory : (at : Look) → holds_names (option_map from_node (kind_of at)) ≡ true → (names : Names) × (at ≡ found (directory names))
 named-directory (found (directory names)) e = (names, refl)
 named-directory (found (link target)) e = absurd (cc e)
 named-directory (found (file bytes)) e = absurd (cc e)

@@ -2,15 +2,15 @@
 use Rattle.std.proofs.Common.{◌≡◌, ℕ, ◌+◌, ◌≤◌, not, List, [], ◌∷◌, ◌++◌, Bool, true, false, cond, Option, Some, None, Result, inl, inr, length, refl, sym, ap, ◌∙◌, arith}
 use Rattle.std.specs.Str.{bytes_eq}
 use Rattle.std.proofs.lemmas.Cmp.{nat_list_eq_equiv}
-use Rattle.std.proofs.lemmas.List.{length-map}
 use Rattle.gitbase_core.specs.Path.{components, joined}
 use Rattle.worktree_fs.specs.declared.interrupt.Interrupt.{Ghosts as InterruptOf}
 use Rattle.worktree_fs.specs.declared.worktree.Worktree.{Ghosts as WorktreeOf}
 use Rattle.worktree_fs.specs.Causes.{with_more}
 use Rattle.worktree_fs.specs.Naming.{IsName}
-use Rattle.worktree_fs.specs.Paths.{common_front, fronts, without_last}
+use Rattle.worktree_fs.specs.Paths.{common_front, without_last}
 use Rattle.worktree_fs.specs.PathStack.{IsOnWay, kept}
 use Rattle.worktree_fs.proofs.Spelled.{without_last-snoc}
+use Rattle.worktree_stack.proofs.Looking.{length-fronts}
 use Rattle.worktree_stack.specs.Lookups.{staying, refused_one}
 use Rattle.worktree_stack.specs.Stacked.{Stacked, pushed}
 use Rattle.dir_classify.specs.Chosen.{Chosen, may_hide_repositories}
@@ -22,10 +22,6 @@ use Rattle.dir_walk.proofs.Lists.{and_left, and_right}
 use Rattle.dir_walk.proofs.Placed.{components-child}
 
 -- ---- directories on the way to one
-
-pub length-fronts : (names : List (List ℕ)) → length (fronts names) ≡ length names + 1
-length-fronts [] = refl
-length-fronts (name ∷ names) = omega (arith, length-map (fronts names) (λ (front : List (List ℕ)). name ∷ front), length-fronts names)
 
 pub front-all : (names rest : List (List ℕ)) → common_front names (names ++ rest) ≡ names
 front-all [] rest = refl

@@ -5,9 +5,13 @@ use Rattle.gitbase_core.specs.Path.{components}
 use Rattle.worktree_fs.specs.Paths.{spelled, fronts, without_last}
 use Rattle.std.specs.Prelude.{Err}
 use Rattle.worktree_stack.specs.Setup.{Made}
-use Rattle.worktree_stack.specs.Reading.{Sources, Refusal, reading, is_read}
+use Rattle.worktree_stack.specs.Reading.{Sources, Tells, Refusal, reading, is_read}
 use Rattle.worktree_stack.specs.Refused.{OfAncestor}
 use Rattle.dir_classify.specs.Layers.{is_unread_in}
+
+-- a tree and objects are told as what they are
+pub told-so : (s : Sources) → Tells (Some s.tree) (Some s.objects) s
+told-so s = record { tree_is = refl; objects_are = refl }
 
 all-map : {X Y : Type 0} (p : Y → Bool) (f : X → Y) (xs : List X) → list_all p (map f xs) ≡ list_all (λ x. p (f x)) xs
 all-map p f [] = refl

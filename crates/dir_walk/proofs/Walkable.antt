@@ -1,11 +1,12 @@
 -- What can be walked is walked, unless something fails, is raised, or wants memory.
-use Rattle.std.proofs.Common.{◌≡◌, ◌⊎◌, inl, inr, ℕ, ◌≤◌, ◌&&◌, List, [], ◌∷◌, Bool, true, false, Option, Some, None, Result, Ok, Err, refl, sym, ap, subst, ◌∙◌, arith}
-use Rattle.std.specs.Prelude.{IsSomeAnd, IfSome}
+use Rattle.std.proofs.Common.{◌≡◌, ◌⊎◌, inl, inr, ℕ, ◌≤◌, List, [], ◌∷◌, Bool, true, false, Option, Some, None, Result, Ok, Err, refl, sym, ap, subst, ◌∙◌, arith}
+use Rattle.std.specs.Prelude.{IsSomeAnd, IfSome, option_map}
 use Rattle.std.specs.List.{list_all}
 use Rattle.gitbase_core.specs.Objects.{Object, object_at, blob, other as other_object}
 use Rattle.gitbase_core.specs.Path.{components, is_empty}
 use Rattle.worktree_fs.specs.declared.answers.ListError.{ListError}
 use Rattle.worktree_fs.specs.declared.answers.ListError.TheVariants as lists
+use Rattle.worktree_fs.specs.declared.answers.NodeKind.{NodeKind}
 use Rattle.worktree_fs.specs.declared.answers.NodeKind.TheVariants as nodes
 use Rattle.worktree_fs.specs.Answers.{kind_of, list_of}
 use Rattle.worktree_fs.specs.Causes.{NotIncreased, Increased}
@@ -16,7 +17,7 @@ use Rattle.worktree_stack.specs.declared.error.AtPathError.{AtPathError}
 use Rattle.worktree_stack.specs.declared.error.AtPathError.TheVariants as inner
 use Rattle.worktree_stack.specs.declared.error.RulesWhy.TheVariants as whys
 use Rattle.worktree_stack.specs.declared.error.BlobWhy.TheVariants as blob_whys
-use Rattle.worktree_stack.specs.Reading.{Place, Refusal, Sources, Tells, blob_at, file_at, first_rules, in_store, in_tree, is_read, list_at, of_blob, of_file, or_next, path_of, places_of, reading, reading_if, rules_at}
+use Rattle.worktree_stack.specs.Reading.{Place, Refusal, Sources, blob_at, file_at, first_rules, in_store, in_tree, is_read, list_at, of_blob, of_file, or_next, path_of, places_of, reading, reading_if, rules_at}
 use Rattle.worktree_stack.specs.Refused as lookups
 use Rattle.worktree_stack.specs.Setup.{Made, Setup}
 use Rattle.glob_rules.specs.Ignore.{Rules}
@@ -25,24 +26,25 @@ use Rattle.dir_classify.specs.declared.error.Error.TheVariants as errors
 use Rattle.dir_classify.specs.declared.error.MetadataWhy.TheVariants as metadata
 use Rattle.dir_classify.specs.declared.error.ReadWhy.TheVariants as reads
 use Rattle.dir_classify.specs.Evidence.{Evidence}
+use Rattle.dir_classify.specs.Kinds.{from_node, holds_names}
 use Rattle.dir_classify.specs.Layers.{Setting, evidence}
 use Rattle.dir_classify.specs.Refused.{OnFault}
 use Rattle.dir_classify.specs.Rooted.{LeadsTo, way_to}
 use Rattle.dir_walk.specs.Kept.{OnInterrupt}
 use Rattle.dir_walk.specs.Refused.{IsBroken, IsNoAccess, is_among}
-use Rattle.dir_walk.specs.Root.{rooted, traversal_root}
+use Rattle.dir_walk.specs.Root.{traversal_root}
 use Rattle.dir_walk.specs.Rooting.{EndsIn}
 use Rattle.dir_walk.specs.Walked.{Walked}
 use Rattle.dir_walk.specs.WalkRefused.{IsBrokenRoot, IsHeldDirectory, IsNoWay, StartRefuses, WalkRefuses}
-use Rattle.dir_walk.specs.Walkable.{AreFitAbove, IsDirectory, IsValid, IsWalkable, is_fit, is_fit_file, is_fit_object, walked_from}
+use Rattle.dir_walk.specs.Walkable.{AreFitAbove, IsDirectory, IsValid, IsWalkable, is_fit, is_fit_file, is_fit_object, walked_if_any}
 use Rattle.dir_walk.proofs.Complete.{not-failed, only-memory}
 use Rattle.dir_walk.proofs.Counts.{or-right}
+use Rattle.dir_walk.proofs.HeldRoots.{named-directory}
+use Rattle.dir_walk.proofs.Starting.{and-split}
+use Rattle.dir_walk.proofs.Unread.{told-so}
+use Rattle.dir_walk.proofs.WalkedAt.{same_root}
 
 -- ---- rules that are fit to be read are read
-
-and-parts : (a b : Bool) → (a && b) ≡ true → (a ≡ true) × (b ≡ true)
-and-parts true b e = (refl, e)
-and-parts false b e = absurd (cc e)
 
 fit-file : (s : Sources) (path : List ℕ) (at : Look) → is_fit_file at ≡ true → (l : Option (List ℕ)) × (file_at path at ≡ Ok l)
 fit-file s path absent e = (None, refl)
@@ -68,7 +70,7 @@ list-read precious d path (Some bytes) rest e = refl
 places-read : (precious : Bool) (d : List ℕ) (s : Sources) (places : List Place) → list_all (is_fit s) places ≡ true → is_read (first_rules precious d s places) ≡ true
 places-read precious d s [] e = refl
 places-read precious d s (place ∷ places) e =
-    let parts = and-parts (is_fit s place) (list_all (is_fit s) places) e in
+    let parts = and-split (is_fit s place) (list_all (is_fit s) places) e in
     let fit = fit-list s place parts.0 in
     ap (λ (l : Result (Option (List ℕ)) Refusal). is_read (or_next (rules_at precious d (path_of place) l) (first_rules precious d s places))) fit.1
     ∙ list-read precious d (path_of place) fit.0 (first_rules precious d s places) (places-read precious d s places parts.1)
@@ -87,9 +89,6 @@ module _ (s : Sources) (rules : Made) (path : List ℕ) (fits : AreFitAbove s ru
       absurd
       (let f : true ≡ false = sym (fit-read s rules (spelled h.ancestor) (fits h.ancestor h.rest h.above)) ∙ ap is_read (is (spelled h.ancestor) h.holds) in cc f)
 
-  told_so : Tells (Some s.tree) (Some s.objects) s
-  told_so = record { tree_is = refl; objects_are = refl }
-
   -- the lookup of a path above which they are fit is not refused
   no-refusal : {X : Type 0} (before now store_before store_now : ℕ) (e : AtPathError) → NotIncreased before now → NotIncreased store_before store_now
       → lookups.OnFault (Increased before now) (Increased store_before store_now) e → ((e ≡ inner.OutOfMemory) → ⊥) → lookups.RefusesIn s rules (components path) e → X
@@ -97,24 +96,19 @@ module _ (s : Sources) (rules : Made) (path : List ℕ) (fits : AreFitAbove s ru
   no-refusal before now store_before store_now (inner.Component why) quiet store_quiet cause some h = absurd h
   no-refusal before now store_before store_now (inner.Collision at) quiet store_quiet cause some h = absurd h
   no-refusal before now store_before store_now (inner.Directory at why) quiet store_quiet cause some h = absurd h
-  no-refusal before now store_before store_now (inner.RulesFile at whys.Link) quiet store_quiet cause some h = no-ancestor _ (of_file at whys.Link) h (λ d r. r.why_is.1 s told_so)
-  no-refusal before now store_before store_now (inner.RulesFile at whys.LinkLimit) quiet store_quiet cause some h = no-ancestor _ (of_file at whys.LinkLimit) h (λ d r. r.why_is s told_so)
-  no-refusal before now store_before store_now (inner.RulesFile at whys.Special) quiet store_quiet cause some h = no-ancestor _ (of_file at whys.Special) h (λ d r. r.why_is s told_so)
+  no-refusal before now store_before store_now (inner.RulesFile at whys.Link) quiet store_quiet cause some h = no-ancestor _ (of_file at whys.Link) h (λ d r. r.why_is.1 s (told-so s))
+  no-refusal before now store_before store_now (inner.RulesFile at whys.LinkLimit) quiet store_quiet cause some h = no-ancestor _ (of_file at whys.LinkLimit) h (λ d r. r.why_is s (told-so s))
+  no-refusal before now store_before store_now (inner.RulesFile at whys.Special) quiet store_quiet cause some h = no-ancestor _ (of_file at whys.Special) h (λ d r. r.why_is s (told-so s))
   no-refusal before now store_before store_now (inner.RulesFile at whys.Fault) quiet store_quiet cause some h = absurd (omega (arith, cause, quiet))
-  no-refusal before now store_before store_now (inner.Blob id blob_whys.Missing) quiet store_quiet cause some h = no-ancestor _ (of_blob id blob_whys.Missing) h (λ d r. r.why_is s told_so)
-  no-refusal before now store_before store_now (inner.Blob id blob_whys.NotABlob) quiet store_quiet cause some h = no-ancestor _ (of_blob id blob_whys.NotABlob) h (λ d r. r.why_is s told_so)
+  no-refusal before now store_before store_now (inner.Blob id blob_whys.Missing) quiet store_quiet cause some h = no-ancestor _ (of_blob id blob_whys.Missing) h (λ d r. r.why_is s (told-so s))
+  no-refusal before now store_before store_now (inner.Blob id blob_whys.NotABlob) quiet store_quiet cause some h = no-ancestor _ (of_blob id blob_whys.NotABlob) h (λ d r. r.why_is s (told-so s))
   no-refusal before now store_before store_now (inner.Blob id blob_whys.Fault) quiet store_quiet cause some h = absurd (omega (arith, cause, store_quiet))
   no-refusal before now store_before store_now inner.OutOfMemory quiet store_quiet cause some h = absurd (some refl)
 
 -- ---- a directory can be listed
 
 directory-names : (at : Look) → kind_of at ≡ Some nodes.Directory → (names : Names) × (at ≡ found (directory names))
-directory-names (found (directory names)) e = (names, refl)
-directory-names (found (link target)) e = absurd (cc e)
-directory-names (found (file bytes)) e = absurd (cc e)
-directory-names (found other) e = absurd (cc e)
-directory-names absent e = absurd (cc e)
-directory-names too_many_links e = absurd (cc e)
+directory-names at is = named-directory at (ap (λ (n : Option NodeKind). holds_names (option_map from_node n)) is)
 
 is-listed : {X : Type 0} (t : Names) (full : List ℕ) (follow : Bool) (why : ListError) → IsDirectory t full → list_of (look t full follow) ≡ Err why → X
 is-listed t full false why is e =
@@ -122,9 +116,6 @@ is-listed t full false why is e =
 is-listed t full true why is e =
     let at = directory-names (look t full false) is in
     absurd (let f : list_of (found (directory at.0)) ≡ Err why = ap list_of (sym (look-follow at.0 t full at.1)) ∙ e in cc f)
-
-same_root : {a b : List ℕ} → rooted a ≡ rooted b → a ≡ b
-same_root e = cc
 
 some-rules : {X : Type 0} (made : Option Made) {P Q : Made → Type 0} → IfSome made P → IsSomeAnd made Q → ((rules : Made) → P rules → Q rules → X) → X
 some-rules None all h so = absurd h
@@ -138,7 +129,7 @@ module _ (s : Sources) (made : Option Made) (given : Setting) (explicit : Option
   Cause e = OnFault (Increased before now) (Increased store_before store_now) e
 
   abbrev w : Walked
-  w = walked_from given made s v.start
+  w = walked_if_any given made s v.start
 
   abbrev all : Evidence
   all = evidence given made s

@@ -9,6 +9,9 @@ use Rattle.dir_walk.specs.Root.{Rooted, Walk, missing, outside, rooted, through_
 use Rattle.dir_walk.specs.Walked.{Walked}
 use Rattle.dir_walk.proofs.Lists.{same_some}
 
+pub same_root : {a b : List ℕ} → rooted a ≡ rooted b → a ≡ b
+same_root e = cc
+
 module _ (given : Setting) (made : Option Made) (s : Sources) (explicit : Option (List ℕ)) where
   abbrev pub walk_made : List ℕ → Walked → Walk
   walk_made root w = record { root = root; is_way_unread = (way_to given made s root).is_unread; gives = w }

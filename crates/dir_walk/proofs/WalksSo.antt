@@ -67,7 +67,7 @@ module _ {W F I T : Type 0} (w : WorktreeOf W) (f : FindOf F) (i : InterruptOf I
         interrupted = interrupt-outside (Increased (i.raised i0) (i.raised i0)) given explicit e about;
         found = λ s told. inl (ends s.tree told);
         refused = λ s tells by quiet store_quiet. inl (ends s.tree tells.tells.tree_is);
-        no_root = λ s tells quiet. no_root-outside ((traversal_root given s.tree explicit ≡ rooted []) × IsNoDirectory given s) given explicit e about;
+        no_root = λ s told quiet. no_root-outside ((traversal_root given s.tree explicit ≡ rooted []) × IsNoDirectory given s) given explicit e about;
         complete = λ s tells by quiet store_quiet calm is.
             valid-memory s (made_with r0) given explicit limit (w.faults w0) (w.faults w1) (f.faults o0) (f.faults o0) (i.raised i0) (i.raised i0) e (fault (f.faults o0) (f.faults o0))
             (interrupt-outside (Increased (i.raised i0) (i.raised i0)) given explicit e about) (inl (ends s.tree tells.tells.tree_is)) quiet store_quiet calm is;
@@ -100,7 +100,7 @@ module _ {W F I D T : Type 0} (w : WorktreeOf W) (f : FindOf F) (i : InterruptOf
   pub walks-refused : (e : Error) → Ends {T = Unit {0}} w f i d w1 w2 o0 o2 i0 i2 r0 r2 d0 d2 (Err (Refused e)) → StartAbout (made_with r0) given.root root limit e
       → ((s : Sources) → w.told w1 ≡ Some s.tree → StartFound (f.holds o0) s (made_with r0) e)
       → ((s : Sources) → Tells w f w1 o0 r0 s → default ≡ true → NotIncreased (w.faults w1) (w.faults w2) → NotIncreased (f.faults o0) (f.faults o2) → StartRefuses given (made_with r0) s root limit e)
-      → ((s : Sources) → Tells w f w1 o0 r0 s → NotIncreased (w.faults w1) (w.faults w2) → OnNoRoot (IsNoDirectory given s) e)
+      → ((s : Sources) → w.told w1 ≡ Some s.tree → NotIncreased (w.faults w1) (w.faults w2) → OnNoRoot (IsNoDirectory given s) e)
       → OpensDirectories w i w0 w2 i0 i2 strategy given explicit outcome_of path_of (Err e)
       → WalksWorktree w f i w0 w2 o0 o2 i0 i2 r0 r2 strategy given explicit limit default outcome_of path_of (Err e)
   walks-refused e here about found refused no_root opens =
@@ -115,9 +115,9 @@ module _ {W F I D T : Type 0} (w : WorktreeOf W) (f : FindOf F) (i : InterruptOf
         interrupted = ends.caused.interrupt;
         found = λ s told. inr (found s (keeps.tree ∙ told));
         refused = λ s tells by quiet store_quiet. inr (root, rooted_is s.tree tells.tells.tree_is (first quiet), refused s (later s tells) by (second quiet) store_quiet);
-        no_root = λ s tells quiet.
+        no_root = λ s told quiet.
             no_root-start (IsNoDirectory given s) ((traversal_root given s.tree explicit ≡ rooted []) × IsNoDirectory given s) (made_with r0) given.root root limit e about
-            (λ top node. (rooted_is s.tree tells.tells.tree_is (first quiet) ∙ ap rooted top, node)) (no_root s (later s tells) (second quiet));
+            (λ top node. (rooted_is s.tree told (first quiet) ∙ ap rooted top, node)) (no_root s (keeps.tree ∙ told) (second quiet));
         complete = λ s tells by quiet store_quiet calm is.
             valid-memory s (made_with r0) given explicit limit (w.faults w0) (w.faults w2) (f.faults o0) (f.faults o2) (i.raised i0) (i.raised i2) e ends.caused.fault ends.caused.interrupt
             (inr (root, rooted_is s.tree tells.tells.tree_is (first quiet), refused s (later s tells) by (second quiet) store_quiet)) quiet store_quiet calm is;
@@ -141,7 +141,7 @@ module _ {W F I D T : Type 0} (w : WorktreeOf W) (f : FindOf F) (i : InterruptOf
         interrupted = tt;
         found = λ s told. tt;
         refused = λ s tells by quiet store_quiet. tt;
-        no_root = λ s tells quiet. tt;
+        no_root = λ s told quiet. tt;
         complete = λ s tells by quiet store_quiet raised is. tt;
         worktree = ends.worktree;
         store = ends.store;
@@ -204,7 +204,7 @@ module _ {W F I S T : Type 0} (w : WorktreeOf W) (f : FindOf F) (i : InterruptOf
         interrupted = tt;
         found = λ s told. tt;
         refused = λ s tells by quiet store_quiet. tt;
-        no_root = λ s tells quiet. tt;
+        no_root = λ s told quiet. tt;
         complete = λ s tells by quiet store_quiet calm is. tt;
         worktree = h.worktree;
         store = h.store;
@@ -231,7 +231,7 @@ module _ {W F I S T : Type 0} (w : WorktreeOf W) (f : FindOf F) (i : InterruptOf
         interrupted = tt;
         found = λ s told. inl tt;
         refused = λ s tells by quiet store_quiet. inl tt;
-        no_root = λ s tells quiet. tt;
+        no_root = λ s told quiet. tt;
         complete = λ s tells by quiet store_quiet calm is. refl;
         worktree = h.worktree;
         store = h.store;

@@ -25,7 +25,7 @@ use Rattle.dir_walk.proofs.Permuted.{permuted}
 use Rattle.dir_walk.proofs.Reported.{covers-same}
 use Rattle.dir_walk.proofs.Safety.{safe-same, safe-walk}
 use Rattle.dir_walk.proofs.Same.{emission_is, emission_same, same_emission}
-use Rattle.dir_walk.proofs.WalkedAt.{walk-at, walk-split, walk_made}
+use Rattle.dir_walk.proofs.WalkedAt.{same_root, walk-at, walk-split, walk_made}
 
 -- ---- what it gives
 
@@ -34,9 +34,6 @@ same-counts s a b d e f g =
     ap (λ (n : ℕ). record { read_dir_calls = n; returned_entries = s.returned_entries; seen_entries = s.seen_entries }) e
     ∙ ap (λ (n : ℕ). record { read_dir_calls = a; returned_entries = n; seen_entries = s.seen_entries }) f
     ∙ ap (λ (n : ℕ). record { read_dir_calls = a; returned_entries = b; seen_entries = n }) g
-
-same_root : {a b : List ℕ} → rooted a ≡ rooted b → a ≡ b
-same_root e = cc
 
 -- all that is given is a part of what is walked
 pub part-gives : (given : Setting) (made : Option Made) (s : Sources) (limit : ℕ) (root : List ℕ) (before after : Option (List Emission)) (start stop : Outcome) → StartGives given made s root limit before after start stop

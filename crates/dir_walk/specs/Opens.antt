@@ -1,5 +1,5 @@
 -- Directories that are opened, over any worktree: what is counted of them, how often the interrupt is asked, and what is read.
-use Rattle.std.specs.Prelude.{◌≡◌, ◌≤◌, ◌<◌, ◌+◌, ◌-◌, ◌^◌, ◌&&◌, min, max, not, Bool, true, ℕ, List, length, Option, Some, None, Result, Ok, Err}
+use Rattle.std.specs.Prelude.{◌≡◌, ◌≤◌, ◌<◌, ◌+◌, ◌-◌, ◌^◌, ◌&&◌, min, not, Bool, true, ℕ, List, length, Option, Some, None, Result, Ok, Err}
 use Rattle.gitbase_core.specs.Path.{components}
 use Rattle.worktree_fs.specs.declared.interrupt.Interrupt.{Ghosts as InterruptOf}
 use Rattle.worktree_fs.specs.declared.worktree.Worktree.{Ghosts as WorktreeOf}
@@ -70,12 +70,12 @@ IsListed Held before now opened = before < 2 ^ 64 → now ≡ with_more before o
 IsListed AtOnce before now opened = now ≤ before + 1
 
 -- What a walk opens from a traversal root on, in the same words. Where files are read for their rules alone, the worktree
--- was read at most once for each directory opened and once for each component of the traversal root, or once where there
--- is neither; a refusal may come with one more. Where subtrees are walked over forks nothing is said of what is read.
+-- was read at most once for each directory opened and once for each component of the traversal root; a refusal may come
+-- with one more. Where subtrees are walked over forks nothing is said of what is read.
 pub record OpensFrom {W I T : Type 0} (w : WorktreeOf W) (i : InterruptOf I) (w0 w1 : W) (i0 i1 : I) (start stop : Outcome) (strategy : Strategy) (o : Chosen) (root : List ℕ)
     (result : Result T Stop) : Type 0 where
   pub opened : ℕ
   pub listed : IsListed strategy (w.lists w0) (w.lists w1) opened
   pub counted : start.read_dir_calls < 2 ^ 32 → stop.read_dir_calls ≡ min (start.read_dir_calls + opened) (2 ^ 32 - 1)
   pub asked : with_more (i.questions i0) opened ≤ i.questions i1
-  pub reads : strategy ≡ Held → reads_rules_alone o ≡ true → w.reads w1 ≤ w.reads w0 + max (opened + length (components root)) 1 + refused_walk result
+  pub reads : strategy ≡ Held → reads_rules_alone o ≡ true → w.reads w1 ≤ w.reads w0 + opened + length (components root) + refused_walk result

@@ -62,8 +62,8 @@ IsHeldAs o ev path = ((ev.in_index path).up_to_date ≡ Some Directory) ⊎ ((ev
 -- ---- the whole
 
 -- what is walked from a traversal root, if something is
-abbrev pub walked_from : Setting → Option Made → Sources → List ℕ → Walked
-walked_from given made s start = walked_or_nothing (walked_at given made s start)
+abbrev pub walked_if_any : Setting → Option Made → Sources → List ℕ → Walked
+walked_if_any given made s start = walked_or_nothing (walked_at given made s start)
 
 -- A work tree, an index, rules and a limit over which a walk is not refused, as long as nothing fails.
 pub record IsWalkable (given : Setting) (made : Option Made) (s : Sources) (explicit : Option (List ℕ)) (limit : ℕ) : Type 0 where
@@ -76,12 +76,12 @@ pub record IsWalkable (given : Setting) (made : Option Made) (s : Sources) (expl
   pub start_repository : is_repository (way_to given made s start).class.disk_kind ≡ true → IsDirectory s.tree (full_path given.root start)
   -- So is the traversal root, and each path that is to be entered, where the index has it as an up-to-date directory or repository,
   -- or it is a worktree of its own.
-  pub held : (path : List ℕ) → (path ≡ start) ⊎ (is_to_enter path (walked_from given made s start) ≡ true) → IsHeldAs given.options (evidence given made s) path
+  pub held : (path : List ℕ) → (path ≡ start) ⊎ (is_to_enter path (walked_if_any given made s start) ≡ true) → IsHeldAs given.options (evidence given made s) path
       → IsDirectory s.tree (full_path given.root path)
   -- The rules above each path on the way to the traversal root, and above each path that is walked and asks them, are fit to be read.
-  pub rules : IfSome made (λ rules. (path : List ℕ) → LeadsTo start path ⊎ (is_among path (walked_from given made s start).asked ≡ true) → AreFitAbove s rules path)
+  pub rules : IfSome made (λ rules. (path : List ℕ) → LeadsTo start path ⊎ (is_among path (walked_if_any given made s start).asked ≡ true) → AreFitAbove s rules path)
   -- No path that is to be entered has more components than the limit.
-  pub depth : (path : List ℕ) → is_to_enter path (walked_from given made s start) ≡ true → depth_of path ≤ limit
+  pub depth : (path : List ℕ) → is_to_enter path (walked_if_any given made s start) ≡ true → depth_of path ≤ limit
 
 -- What may be handed in so that a walk is not refused as long as nothing fails: there is a report, or each of these items holds.
 abbrev pub IsValid : Setting → Option Made → Sources → Option (List ℕ) → ℕ → Type 0

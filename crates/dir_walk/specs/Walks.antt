@@ -1,5 +1,5 @@
 -- What every walk of a worktree says, and what it gives to a delegate.
-use Rattle.std.specs.Prelude.{◌≡◌, ◌⊎◌, ◌≤◌, ◌+◌, ◌-◌, ◌^◌, min, max, ℕ, Bool, true, false, List, [], ◌++◌, length, Option, Some, Result, IfOk, IfErr, OnOk, IsPermutation, IsSomeAnd, is_some}
+use Rattle.std.specs.Prelude.{◌≡◌, ◌⊎◌, ◌≤◌, ◌+◌, ◌-◌, ◌^◌, min, ℕ, Bool, true, false, List, [], ◌++◌, length, Option, Some, Result, IfOk, IfErr, OnOk, IsPermutation, IsSomeAnd, is_some}
 use Rattle.gitbase_core.specs.Path.{components}
 use Rattle.gitbase_core.specs.declared.find.Find.{Ghosts as FindOf}
 use Rattle.worktree_fs.specs.declared.interrupt.Interrupt.{Ghosts as InterruptOf}
@@ -49,16 +49,16 @@ pub record IsRootOf {T : Type 0} (given : Setting) (explicit : Option (List ℕ)
   pub normalized : IsNormalized given explicit root
   pub named : IfOk result (λ r. path_of r ≡ full_path given.root root)
 
--- The worktree is not read, or no more often than this, from its traversal root on; `opened` directories were opened,
--- and a refusal spares one.
+-- The worktree is not read, or at most once for each directory that was opened and each component of its traversal root; a
+-- refusal spares one.
 abbrev pub ReadsAtMost : {T : Type 0} → Setting → Option (List ℕ) → (T → List ℕ) → Result T Error → ℕ → ℕ → ℕ → Type 0
 ReadsAtMost given explicit path_of result before now opened =
-    (now ≡ before) ⊎ ((root : List ℕ) × IsRootOf given explicit path_of result root × (now ≤ before + max (opened + length (components root)) 1 + refused_one result))
+    (now ≡ before) ⊎ ((root : List ℕ) × IsRootOf given explicit path_of result root × (now ≤ before + opened + length (components root) + refused_one result))
 
 -- So many directories were opened: they were listed, or that was refused. The walk counted each as entered, and before
 -- each the interrupt was asked. The worktree counted each as listed, or where subtrees are walked at once, over forks, at
 -- most one. Where files are read for their rules alone, and all over this worktree, it was read at most once for each and
--- once for each component of the traversal root, or once where there is neither; a refusal may come with one more.
+-- once for each component of the traversal root; a refusal may come with one more.
 pub record OpensDirectories {W I T : Type 0} (w : WorktreeOf W) (i : InterruptOf I) (w0 w1 : W) (i0 i1 : I) (strategy : Strategy) (given : Setting) (explicit : Option (List ℕ))
     (outcome_of : T → Outcome) (path_of : T → List ℕ) (result : Result T Error) : Type 0 where
   pub opened : ℕ
@@ -79,7 +79,7 @@ pub record WalksWorktree {W F I T : Type 0} (w : WorktreeOf W) (f : FindOf F) (i
   pub found : (s : Sources) → w.told w0 ≡ Some s.tree → IfErr result (WalkFound given (made_with old) explicit (f.holds o0) s)
   pub refused : (s : Sources) → Tells w f w0 o0 old s → default ≡ true → NotIncreased (w.faults w0) (w.faults w1) → NotIncreased (f.faults o0) (f.faults o1)
       → IfErr result (WalkRefuses given (made_with old) s explicit limit)
-  pub no_root : (s : Sources) → Tells w f w0 o0 old s → NotIncreased (w.faults w0) (w.faults w1)
+  pub no_root : (s : Sources) → w.told w0 ≡ Some s.tree → NotIncreased (w.faults w0) (w.faults w1)
       → IfErr result (OnNoRoot ((traversal_root given s.tree explicit ≡ rooted []) × IsNoDirectory given s))
   -- For valid input, and where nothing failed or was raised, only memory may be wanted.
   pub complete : (s : Sources) → Tells w f w0 o0 old s → default ≡ true
@@ -128,13 +128,16 @@ pub record WalkGives (given : Setting) (made : Option Made) (s : Sources) (expli
   pub outcome_is : r.0 ≡ counts given.options walk.gives
   pub root_is : r.1 ≡ full_path given.root walk.root
 
--- A delegate is given nothing; or each path at or beneath the traversal root at most once; or the one path on the way to
--- it where the way ended.
+-- What is given from a traversal root on: each path at or beneath it at most once; or the one path on the way to it where
+-- the way ended.
+abbrev pub GivesFrom : List ℕ → Option (List Emission) → Option (List Emission) → Type 0
+GivesFrom root before after = AddsAtMost (once_within root) before after ⊎ ((path : List ℕ) × LeadsTo root path × AddsAtMost (once_at path) before after)
+
+-- A walk that is refused gives nothing; or it gives what it does from a traversal root that was asked for, and that the
+-- answer names, if there is one.
 abbrev pub GivesOnce : {T : Type 0} → Setting → Option (List ℕ) → (T → List ℕ) → Result T Error → Option (List Emission) → Option (List Emission) → Type 0
 GivesOnce given explicit path_of result before after =
-    (after ≡ before)
-    ⊎ ((root : List ℕ) × IsRootOf given explicit path_of result root
-    × (AddsAtMost (once_within root) before after ⊎ ((path : List ℕ) × LeadsTo root path × AddsAtMost (once_at path) before after)))
+    ((after ≡ before) × IfOk result (λ _. ⊥)) ⊎ ((root : List ℕ) × IsRootOf given explicit path_of result root × GivesFrom root before after)
 
 -- What a delegate was given that was `d0` and is `d1`.
 pub record Feeds {W F D : Type 0} (w : WorktreeOf W) (f : FindOf F) (d : DelegateOf D) (w0 w1 : W) (o0 : F) (old : Option Stacked) (d0 d1 : D)
@@ -153,6 +156,17 @@ pub record Feeds {W F D : Type 0} (w : WorktreeOf W) (f : FindOf F) (d : Delegat
   pub once : GivesOnce given explicit (λ (r : Outcome × List ℕ). r.1) result (d.given d0) (d.given d1)
   pub returned : IfOk result (λ r. is_some (d.given d0) ≡ true → r.0.returned_entries ≡ min (length (listed (d.given d1)) - length (listed (d.given d0))) (2 ^ 64 - 1))
   pub seen : IfOk result (λ r. min r.0.returned_entries (2 ^ 32 - 1) ≤ r.0.seen_entries)
+
+-- ---- both
+
+-- A walk over a worktree that was `w0` and is `w1`, with a store, an interrupt and rules likewise, and with a delegate that was
+-- `d0` and is `d1`.
+pub record WalksFor {W F I D : Type 0} (w : WorktreeOf W) (f : FindOf F) (i : InterruptOf I) (d : DelegateOf D) (w0 w1 : W) (o0 o1 : F) (i0 i1 : I) (old new : Option Stacked) (d0 d1 : D)
+    (strategy : Strategy) (given : Setting) (explicit : Option (List ℕ)) (limit : ℕ) (result : Result (Outcome × List ℕ) Error) : Type 0 where
+  -- Why it is refused, and what it leaves.
+  pub walks_worktree : WalksWorktree w f i w0 w1 o0 o1 i0 i1 old new strategy given explicit limit (d.is_default d0) (λ (r : Outcome × List ℕ). r.0) (λ (r : Outcome × List ℕ). r.1) result
+  -- What the delegate was given.
+  pub feeds : Feeds w f d w0 w1 o0 old d0 d1 given explicit limit result
 
 -- ---- what is collected
 

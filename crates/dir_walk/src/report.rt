@@ -5,7 +5,7 @@ ghost use Rattle.worktree_fs.specs.Causes.{NotIncreased};
 ghost use Rattle.worktree_stack.specs.Reading.{Sources};
 ghost use Rattle.dir_classify.specs.Excludes.{made_with, tells_excludes};
 ghost use Rattle.dir_classify.specs.Layers.{setting_in, IsLookupIf};
-ghost use Rattle.dir_walk.specs.Reports.{IsReport};
+ghost use Rattle.dir_walk.specs.Reports.{IsFromRoot, IsReport};
 ghost use Rattle.dir_walk.specs.Walks.{Tells, WalksWorktree};
 
 use crate::collect::{Collect, EmittedEntries};
@@ -55,6 +55,10 @@ pub fn walk_by_path<W: Worktree, F: Find, I: Interrupt, M: Matcher>(
     ensures ordered { IfOk result (λ r. Ascends r.entries) }
     ensures counted { IfOk result
         (λ r. r.outcome.returned_entries ≡ min (length r.entries) (2 ^ 64 - 1)) }
+    // They are from the traversal root on that is named, which was asked for.
+    ensures once { IfOk result
+        (IsFromRoot (setting_in M.Matcher worktree_root.now options.entry ctx.entry)
+        ctx.entry.explicit_traversal_root.now) }
     // Each refusal has its cause, a tree that has a report is walked, and what stays.
     ensures walks_worktree { WalksWorktree W.Worktree F.Find I.Interrupt
         ctx.entry.worktree.now ctx.exit.0.now ctx.entry.objects.now ctx.exit.1.0.now

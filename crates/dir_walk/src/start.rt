@@ -203,8 +203,7 @@ pub(crate) fn walk_from<W: Worktree, F: Find, I: Interrupt, M: Matcher, D: Deleg
         → D.is_default delegate.old ≡ true
         → IfErr result (OnRefused (StartRefuses (setting_of M.Matcher shared.now)
         (made_with excludes.old) s root.now depth_limit)) }
-    ensures no_root { (s : Sources)
-        → Tells W.Worktree F.Find worktree.old objects.old excludes.old s
+    ensures no_root { (s : Sources) → W.told worktree.old ≡ Some s.tree
         → NotIncreased (W.faults worktree.old) (W.faults worktree.new)
         → IfErr result (OnRefused (OnNoRoot (IsNoDirectory (setting_of M.Matcher shared.now) s))) }
     ensures about { IfErr result (OnRefused (StartAbout (made_with excludes.old)

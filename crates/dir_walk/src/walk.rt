@@ -3,7 +3,7 @@ ghost use Rattle.std.specs.Prelude.{◌≡◌, true};
 ghost use Rattle.dir_classify.specs.Excludes.{made_with, tells_excludes};
 ghost use Rattle.dir_classify.specs.Layers.{setting_in, setting_of, IsLookupIf};
 ghost use Rattle.dir_walk.specs.declared.strategy.Strategy.TheVariants.{Held};
-ghost use Rattle.dir_walk.specs.Walks.{Feeds, WalksWorktree};
+ghost use Rattle.dir_walk.specs.Walks.{WalksFor};
 
 use crate::delegate::Delegate;
 use crate::handed::Stop;
@@ -31,8 +31,8 @@ use worktree_stack::Stack;
 /// precious paths among others is folded nor the current one.
 ///
 /// Each directory that is entered is listed once; where files are read for their rules alone, the worktree is read at
-/// most once for each of them and for each component of the traversal root, and once where there is neither. Each level
-/// below the traversal root takes room on the stack, up to `depth_limit` of the context.
+/// most once for each of them and for each component of the traversal root. Each level below the traversal root takes
+/// room on the stack, up to `depth_limit` of the context.
 ///
 /// Three faults of the worktree are no refusal, but are counted: of the question for the kind of a name, of a look for a
 /// repository, and of the real path of the worktree root. The name has no kind then, is seen as no repository or as
@@ -66,15 +66,10 @@ pub fn walk<W: Worktree, F: Find, I: Interrupt, M: Matcher, D: Delegate>(
 ) -> Result<(Outcome, PathText), Error>
     requires excludes { tells_excludes (made_with ctx.excludes.now) ≡ true }
     requires lookup { IsLookupIf ctx.index.now ctx.ignore_case_index_lookup.now }
-    ensures walks_worktree { WalksWorktree W.Worktree F.Find I.Interrupt
-        ctx.entry.worktree.now ctx.exit.0.now ctx.entry.objects.now ctx.exit.1.0.now
-        ctx.entry.interrupt.now ctx.exit.1.1.0.now ctx.entry.excludes.now ctx.exit.1.1.1.1.0.now
+    ensures { WalksFor W.Worktree F.Find I.Interrupt D.Delegate ctx.entry.worktree.now
+        ctx.exit.0.now ctx.entry.objects.now ctx.exit.1.0.now ctx.entry.interrupt.now
+        ctx.exit.1.1.0.now ctx.entry.excludes.now ctx.exit.1.1.1.1.0.now delegate.old delegate.new
         Held (setting_in M.Matcher worktree_root.now options.entry ctx.entry)
-        ctx.entry.explicit_traversal_root.now ctx.entry.depth_limit
-        (D.is_default delegate.old) (λ r. r.0) (λ r. r.1) result }
-    ensures feeds { Feeds W.Worktree F.Find D.Delegate ctx.entry.worktree.now ctx.exit.0.now
-        ctx.entry.objects.now ctx.entry.excludes.now delegate.old delegate.new
-        (setting_in M.Matcher worktree_root.now options.entry ctx.entry)
         ctx.entry.explicit_traversal_root.now ctx.entry.depth_limit result }
 {
     walk_as(alloc, worktree_root, ctx, options, Strategy::Held, delegate)
@@ -91,15 +86,10 @@ pub(crate) fn walk_as<W: Worktree, F: Find, I: Interrupt, M: Matcher, D: Delegat
 ) -> Result<(Outcome, PathText), Error>
     requires excludes { tells_excludes (made_with ctx.excludes.now) ≡ true }
     requires lookup { IsLookupIf ctx.index.now ctx.ignore_case_index_lookup.now }
-    ensures walks_worktree { WalksWorktree W.Worktree F.Find I.Interrupt
-        ctx.entry.worktree.now ctx.exit.0.now ctx.entry.objects.now ctx.exit.1.0.now
-        ctx.entry.interrupt.now ctx.exit.1.1.0.now ctx.entry.excludes.now ctx.exit.1.1.1.1.0.now
+    ensures { WalksFor W.Worktree F.Find I.Interrupt D.Delegate ctx.entry.worktree.now
+        ctx.exit.0.now ctx.entry.objects.now ctx.exit.1.0.now ctx.entry.interrupt.now
+        ctx.exit.1.1.0.now ctx.entry.excludes.now ctx.exit.1.1.1.1.0.now delegate.old delegate.new
         strategy (setting_in M.Matcher worktree_root.now options.entry ctx.entry)
-        ctx.entry.explicit_traversal_root.now ctx.entry.depth_limit
-        (D.is_default delegate.old) (λ r. r.0) (λ r. r.1) result }
-    ensures feeds { Feeds W.Worktree F.Find D.Delegate ctx.entry.worktree.now ctx.exit.0.now
-        ctx.entry.objects.now ctx.entry.excludes.now delegate.old delegate.new
-        (setting_in M.Matcher worktree_root.now options.entry ctx.entry)
         ctx.entry.explicit_traversal_root.now ctx.entry.depth_limit result }
 {
     let Context {
@@ -153,13 +143,9 @@ pub(crate) fn walk_parts<W: Worktree, F: Find, I: Interrupt, M: Matcher, D: Dele
 ) -> Result<(Outcome, PathText), Error>
     requires excludes { tells_excludes (made_with excludes.old) ≡ true }
     requires lookup { IsLookupIf shared.now.index.now shared.now.ignore_case_index_lookup.now }
-    ensures walks_worktree { WalksWorktree W.Worktree F.Find I.Interrupt worktree.old worktree.new
-        objects.old objects.new interrupt.old interrupt.new excludes.old excludes.new
-        strategy (setting_of M.Matcher shared.now) explicit.now depth_limit
-        (D.is_default delegate.old) (λ r. r.0) (λ r. r.1) result }
-    ensures feeds { Feeds W.Worktree F.Find D.Delegate worktree.old worktree.new objects.old
-        excludes.old delegate.old delegate.new (setting_of M.Matcher shared.now) explicit.now
-        depth_limit result }
+    ensures { WalksFor W.Worktree F.Find I.Interrupt D.Delegate worktree.old worktree.new
+        objects.old objects.new interrupt.old interrupt.new excludes.old excludes.new delegate.old
+        delegate.new strategy (setting_of M.Matcher shared.now) explicit.now depth_limit result }
 {
     let root = traversal_root(alloc, shared, explicit, worktree)?;
     let full = full_path(alloc, shared.worktree_root, root.as_bytes())?;

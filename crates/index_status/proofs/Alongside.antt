@@ -5,7 +5,6 @@ use Rattle.std.specs.Bool.{MatchBool}
 use Rattle.std.specs.List.{Contains}
 use Rattle.std.proofs.lemmas.List.{append-nil}
 use Rattle.std.proofs.lemmas.List.Elements.{Contains-append_right}
-use Rattle.gitbase_core.specs.Path.{components}
 use Rattle.gitbase_core.specs.declared.entry.IndexEntry.{IndexEntry}
 use Rattle.worktree_fs.specs.Kept.{Asks}
 use Rattle.worktree_fs.specs.Tree.{Names}
@@ -14,8 +13,8 @@ use Rattle.index_status.specs.declared.error.StatesError.{StatesError}
 use Rattle.index_status.specs.declared.error.StatesError.TheVariants as errors
 use Rattle.index_status.specs.declared.path_state.PathState.{PathState}
 use Rattle.index_status.specs.Rows.{ArePaired, ArePossible, IsMore, IsWithEntry, Refuses, Row, firsts, firsts_after, is_last, is_path, last_path, path_of, row}
-use Rattle.index_status.specs.States.{IsPossible, IsState}
-use Rattle.index_status.specs.Ways.{IsOnWay, StopsLook}
+use Rattle.index_status.specs.States.{IsAskedBy, IsPossible, IsState}
+use Rattle.index_status.specs.Ways.{StopsLook}
 
 paired-snoc : (Has : IndexEntry → PathState → Type 0) (entries : List IndexEntry) (made : List Row) (e : IndexEntry) (s : PathState) → ArePaired Has entries made → Has e s
     → ArePaired Has (entries ++ e ∷ []) (made ++ (e.path, s) ∷ [])
@@ -100,13 +99,13 @@ module _ {W : Type 0} (w : WorktreeOf W) (w0 w1 w2 : W) (root : List ℕ) (entri
   contained : (before : List IndexEntry) → Contains (before ++ e ∷ rest) e
   contained before = Contains-append_right before (e ∷ rest) e (0, omega arith, refl)
 
-  pub along-stops : (Rose Rose' : Type 0) (error : StatesError) → (Rose → Rose') → StopsLook (IsOnWay root (components e.path)) Rose error → Refuses root entries Rose' error
+  pub along-stops : (Rose Rose' : Type 0) (error : StatesError) → (Rose → Rose') → StopsLook (IsAskedBy (w.told w1) root e) Rose error → Refuses (w.told w0) root entries Rose' error
   along-stops Rose Rose' (errors.Fault path) more h = (
     more h.0,
     record {
       entry = e;
       is_entry = subst (λ (l : List IndexEntry). Contains l e) (sym (at.whole ∙ ap (λ (l : List IndexEntry). at.before ++ l) left_is)) (contained at.before);
-      on_way = h.1;
+      asks = subst (λ (told : Option Names). IsAskedBy told root e path) at.keeps.tree h.1;
     },
   )
   along-stops Rose Rose' errors.OutOfMemory more h = tt

@@ -2,3 +2,5 @@ mod Alongside
 mod Ordered
 mod Settled
 mod Wayside
+mod Statuses
+mod Runs

@@ -1,10 +1,9 @@
 -- The state of an entry, by what was learnt of it.
-use Rattle.std.proofs.Common.{◌≡◌, inr, ℕ, List, Bool, false, Option, Some, Result, Ok, Err, sym, ap, ◌∙◌}
-use Rattle.std.specs.Prelude.{IfOk, if◌then◌else◌}
+use Rattle.std.proofs.Common.{◌≡◌, inr, ℕ, List, Bool, false, Option, Some, sym, ap, ◌∙◌}
+use Rattle.std.specs.Prelude.{if◌then◌else◌}
 use Rattle.gitbase_core.specs.Path.{components}
 use Rattle.gitbase_core.specs.declared.entry.IndexEntry.{IndexEntry}
 use Rattle.worktree_fs.specs.Tree.{Names, look}
-use Rattle.index_status.specs.declared.error.StatesError.{StatesError}
 use Rattle.index_status.specs.declared.path_state.PathState.{PathState}
 use Rattle.index_status.specs.declared.path_state.PathState.TheVariants as states
 use Rattle.index_status.specs.States.{IsAbsentOrSeen, IsPossible, IsSeen, IsState, at_end, by_mode, is_left_out, is_unmerged, state}
@@ -18,13 +17,12 @@ looked-at e t root merged kept =
 may-be : (e : IndexEntry) (s : PathState) → is_unmerged e ≡ false → is_left_out e ≡ false → IsAbsentOrSeen e s → IsPossible e s
 may-be e s merged kept h = rw (merged, kept) h
 
-pub seen-state : (told : Option Names) (root full : List ℕ) (e : IndexEntry) (r : Result PathState StatesError) → is_unmerged e ≡ false → is_left_out e ≡ false
+pub seen-state : (told : Option Names) (root full : List ℕ) (e : IndexEntry) (s : PathState) → is_unmerged e ≡ false → is_left_out e ≡ false
     → ((t : Names) → told ≡ Some t → Some full ≡ way t root (components e.path))
-    → ((t : Names) → told ≡ Some t → IfOk r (λ s. s ≡ by_mode e (look t full false)))
-    → IfOk r (IsSeen e)
-    → IfOk r (IsState told root e)
-seen-state told root full e (Err x) merged kept leads is seen = tt
-seen-state told root full e (Ok s) merged kept leads is seen =
+    → ((t : Names) → told ≡ Some t → s ≡ by_mode e (look t full false))
+    → IsSeen e s
+    → IsState told root e s
+seen-state told root full e s merged kept leads is seen =
     record {
       possible = may-be e s merged kept (inr seen);
       exact = λ t tells. is t tells ∙ ap (at_end t e) (leads t tells) ∙ sym (looked-at e t root merged kept);

@@ -5,14 +5,12 @@ use Rattle.std.specs.Cmp.Lexicographic.{slice_cmp}
 use Rattle.std.specs.List.{Contains}
 use Rattle.std.specs.List.Sorted.{IsStrictlySortedBy}
 use Rattle.std.specs.Ordering.{nat_cmp}
-use Rattle.gitbase_core.specs.Path.{components}
 use Rattle.gitbase_core.specs.declared.entry.IndexEntry.{IndexEntry}
 use Rattle.worktree_fs.specs.Tree.{Names}
 use Rattle.index_status.specs.declared.error.StatesError.{StatesError}
 use Rattle.index_status.specs.declared.error.StatesError.TheVariants as errors
 use Rattle.index_status.specs.declared.path_state.PathState.{PathState}
-use Rattle.index_status.specs.States.{IsPossible, IsState, state}
-use Rattle.index_status.specs.Ways.{IsOnWay}
+use Rattle.index_status.specs.States.{IsAskedBy, IsPossible, IsState, state}
 
 -- a path and its state
 abbrev pub Row : Type 0
@@ -72,13 +70,13 @@ ArePossible entries made = ArePaired IsPossible (firsts entries) made
 abbrev pub Ascends : List Row → Type 0
 Ascends made = IsStrictlySortedBy (slice_cmp nat_cmp) (map path_of made)
 
--- a path is one of those on the way to the paths of some entries
-pub record IsAskedFor (root : List ℕ) (entries : List IndexEntry) (path : List ℕ) : Type 0 where
+-- a path is looked at for the state of one of some entries
+pub record IsAskedFor (told : Option Names) (root : List ℕ) (entries : List IndexEntry) (path : List ℕ) : Type 0 where
   pub entry : IndexEntry
   pub is_entry : Contains entries entry
-  pub on_way : IsOnWay root (components entry.path) path
+  pub asks : IsAskedBy told root entry path
 
--- why there are no states: the worktree failed at a path that was asked for
-abbrev pub Refuses : List ℕ → List IndexEntry → Type 0 → StatesError → Type 0
-Refuses root entries Rose (errors.Fault path) = Rose × IsAskedFor root entries path
-Refuses root entries Rose errors.OutOfMemory = Unit {0}
+-- why there are no states: the worktree failed at a path that is looked at
+abbrev pub Refuses : Option Names → List ℕ → List IndexEntry → Type 0 → StatesError → Type 0
+Refuses told root entries Rose (errors.Fault path) = Rose × IsAskedFor told root entries path
+Refuses told root entries Rose errors.OutOfMemory = Unit {0}

@@ -10,6 +10,7 @@ use Rattle.worktree_fs.specs.Tree.{Names, Look, absent, directory, file, found, 
 use Rattle.index_status.specs.declared.path_state.PathState.{PathState}
 use Rattle.index_status.specs.declared.path_state.PathState.TheVariants as states
 use Rattle.index_status.specs.Blobs.{blob_id}
+use Rattle.worktree_report.specs.Looks.{IsLookedAt}
 use Rattle.index_status.specs.Ways.{way}
 
 -- the path is not merged; an entry of stage 0 is the only one of its path
@@ -97,3 +98,7 @@ IsPossible e s = MatchBool (is_unmerged e) (s ≡ states.Conflicted) (MatchBool 
 pub record IsState (told : Option Names) (root : List ℕ) (e : IndexEntry) (s : PathState) : Type 0 where
   pub possible : IsPossible e s
   pub exact : (t : Names) → told ≡ Some t → s ≡ state t root e
+
+-- a path that is looked at for the state of an entry: of one that is merged and not left out, on the way to its path or there
+abbrev pub IsAskedBy : Option Names → List ℕ → IndexEntry → List ℕ → Type 0
+IsAskedBy told root e path = (is_unmerged e ≡ false) × (is_left_out e ≡ false) × IsLookedAt told root (components e.path) path

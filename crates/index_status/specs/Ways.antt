@@ -3,18 +3,9 @@ use Rattle.std.specs.Prelude.{◌≡◌, ◌⊎◌, ℕ, List, [], ◌∷◌, Bo
 use Rattle.gitbase_core.specs.Path.{joined}
 use Rattle.worktree_fs.specs.Answers.{kind_of}
 use Rattle.worktree_fs.specs.Tree.{Names, look}
-use Rattle.worktree_fs.specs.declared.answers.NodeKind.{NodeKind}
-use Rattle.worktree_fs.specs.declared.answers.NodeKind.TheVariants as nodes
 use Rattle.index_status.specs.declared.error.StatesError.{StatesError}
 use Rattle.index_status.specs.declared.error.StatesError.TheVariants as errors
-
--- a directory; a link is none
-abbrev pub is_directory : Option NodeKind → Bool
-is_directory None = false
-is_directory (Some nodes.Directory) = true
-is_directory (Some nodes.File) = false
-is_directory (Some nodes.Symlink) = false
-is_directory (Some nodes.Untrackable) = false
+use Rattle.worktree_report.specs.Looks.{IsDirectoryAt, is_directory}
 
 -- The whole path to which some names lead from a directory, if each of them but the last is that of a directory.
 abbrev pub way : Names → List ℕ → List (List ℕ) → Option (List ℕ)
@@ -23,10 +14,20 @@ way t directory (name ∷ []) = Some (joined directory name)
 way t directory (name ∷ next ∷ names) =
     if is_directory (kind_of (look t (joined directory name) false)) then way t (joined directory name) (next ∷ names) else None
 
--- a path is one of those on the way from a directory along some names
-abbrev pub IsOnWay : List ℕ → List (List ℕ) → List ℕ → Type 0
-IsOnWay directory [] path = path ≡ directory
-IsOnWay directory (name ∷ names) path = (path ≡ directory) ⊎ IsOnWay (joined directory name) names path
+-- each name but the last of those on the way from a directory leads to one, where the worktree tells
+abbrev pub IsLed : Option Names → List ℕ → List (List ℕ) → Type 0
+IsLed told directory [] = Unit {0}
+IsLed told directory (name ∷ []) = Unit {0}
+IsLed told directory (name ∷ next ∷ names) = IsDirectoryAt told (joined directory name) × IsLed told (joined directory name) (next ∷ names)
+
+-- there are names
+abbrev pub has_names : List (List ℕ) → Bool
+has_names [] = false
+has_names (name ∷ names) = true
+
+-- what is left of some names behind a name: nothing, or all but the first, which is that name
+abbrev pub IsBehind : List (List ℕ) → List ℕ → List (List ℕ) → Type 0
+IsBehind names name left = (left ≡ []) ⊎ (names ≡ name ∷ left)
 
 -- why what stands at a path was not learnt: the worktree failed there
 abbrev pub StopsAt : List ℕ → Type 0 → StatesError → Type 0

@@ -25,12 +25,13 @@ use worktree_fs::Worktree;
 /// - `Unchecked` and `TypeChanged`: for a submodule, whether there is a directory; for a link, whether there is one.
 /// - `TypeChanged`, `Same` and `Modified`: for a file, no file; one whose bytes have the id of the entry; any other.
 ///
-/// Bytes are compared as they are on disk, without filters. Each file is read once; a mark that an entry was up to date saves
-/// no reading.
+/// Bytes are compared as they are on disk, without filters. Each file is read once, and a directory that leads to several paths
+/// beside one another, all of which are there, is looked at once; a mark that an entry was up to date saves no reading.
 ///
 /// # Errors
 ///
-/// - `Fault`: the worktree failed at this path, on the way to that of an entry or there, which it counted.
+/// - `Fault`: the worktree failed at this path, which it counted. It is on the way to that of an entry whose state is neither
+///   `Conflicted` nor `Skipped`, or there, and everything before it on that way is a directory.
 /// - `OutOfMemory`: memory was refused.
 pub fn states<W: Worktree>(
     alloc: Global,
@@ -42,37 +43,44 @@ pub fn states<W: Worktree>(
         → IfOk result (λ made. made.items ≡ rows.rows t worktree_root.now index.now) }
     ensures possible { IfOk result (λ made. rows.ArePossible index.now made.items) }
     ensures ascends { IfOk result (λ made. rows.Ascends made.items) }
-    ensures refused { IfErr result (rows.Refuses worktree_root.now index.now
+    ensures refused { IfErr result (rows.Refuses (W.told worktree.old) worktree_root.now index.now
         (Increased (W.faults worktree.old) (W.faults worktree.new))) }
     ensures keeps { Asks W.Worktree worktree.old worktree.new }
 {
     let mut made = Vec::new(alloc);
+    let mut known: &[u8] = b"";
     for entry in index.entries() {
-        made = with_entry(alloc, worktree, worktree_root, made, entry)?;
+        let (more, led) = with_entry(alloc, worktree, worktree_root, known, made, entry)?;
+        made = more;
+        known = led;
     }
     Ok(made)
 }
 
-/// Rows with that of an entry, unless the last one is of its path.
-fn with_entry<W: Worktree>(
+/// Rows with that of an entry, unless the last one is of its path; and a path to which directories alone are known to lead.
+fn with_entry<'a, W: Worktree>(
     alloc: Global,
     worktree: &mut W,
     root: &[u8],
+    known: &'a [u8],
     made: Vec<(PathText, PathState)>,
-    entry: &IndexEntry,
-) -> Result<Vec<(PathText, PathState)>, StatesError>
+    entry: &'a IndexEntry,
+) -> Result<(Vec<(PathText, PathState)>, &'a [u8]), StatesError>
+    requires known { ways.IsLed (W.told worktree.old) root.now (components known.now) }
     ensures more { IfOk result (λ more. rows.IsWithEntry (W.told worktree.old) root.now entry.now
-        made.items more.items) }
+        made.items more.0.items) }
+    ensures led { IfOk result (λ more. ways.IsLed (W.told worktree.old) root.now
+        (components more.1.now)) }
     ensures refused { IfErr result (ways.StopsLook
-        (ways.IsOnWay root.now (components entry.now.path))
+        (states.IsAskedBy (W.told worktree.old) root.now entry.now)
         (Increased (W.faults worktree.old) (W.faults worktree.new))) }
     ensures keeps { Asks W.Worktree worktree.old worktree.new }
 {
     if is_last(&made, &entry.path) {
-        return Ok(made);
+        return Ok((made, known));
     }
-    let state = state_of(alloc, worktree, root, entry)?;
-    Ok(with_row(alloc, made, &entry.path, state)?)
+    let (state, led) = state_of(alloc, worktree, root, known, entry)?;
+    Ok((with_row(alloc, made, &entry.path, state)?, led))
 }
 
 /// Whether the last row has this path.
@@ -99,28 +107,37 @@ fn with_row(
     Ok(made)
 }
 
-/// The state of an entry, the first of its path.
-fn state_of<W: Worktree>(
+/// The state of an entry, the first of its path; and a path to which directories alone are known to lead, its own or the one
+/// before.
+fn state_of<'a, W: Worktree>(
     alloc: Global,
     worktree: &mut W,
     root: &[u8],
-    entry: &IndexEntry,
-) -> Result<PathState, StatesError>
-    ensures state { IfOk result (states.IsState (W.told worktree.old) root.now entry.now) }
+    known: &'a [u8],
+    entry: &'a IndexEntry,
+) -> Result<(PathState, &'a [u8]), StatesError>
+    requires known { ways.IsLed (W.told worktree.old) root.now (components known.now) }
+    ensures state { IfOk result (λ found. states.IsState (W.told worktree.old) root.now entry.now
+        found.0) }
+    ensures led { IfOk result (λ found. ways.IsLed (W.told worktree.old) root.now
+        (components found.1.now)) }
     ensures refused { IfErr result (ways.StopsLook
-        (ways.IsOnWay root.now (components entry.now.path))
+        (states.IsAskedBy (W.told worktree.old) root.now entry.now)
         (Increased (W.faults worktree.old) (W.faults worktree.new))) }
     ensures keeps { Asks W.Worktree worktree.old worktree.new }
 {
     if entry.stage != 0 {
-        return Ok(PathState::Conflicted);
+        return Ok((PathState::Conflicted, known));
     }
     if is_left_out(entry) {
-        return Ok(PathState::Skipped);
+        return Ok((PathState::Skipped, known));
     }
-    match way_to(alloc, worktree, root, &entry.path)? {
-        Some(full) => state_at(alloc, worktree, full, entry),
-        None => Ok(PathState::Deleted),
+    match way_to(alloc, worktree, root, known, &entry.path)? {
+        Some(full) => {
+            let state = state_at(alloc, worktree, full, entry)?;
+            Ok((state, entry.path.as_bytes()))
+        }
+        None => Ok((PathState::Deleted, known)),
     }
 }
 

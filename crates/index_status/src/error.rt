@@ -2,6 +2,7 @@
 use bstr::BStr;
 use gitbase_core::{OutOfMemory, PathText};
 use thiserror::Error;
+use worktree_report::ReportError;
 
 /// Why the states of the index paths are not known.
 #[derive(Debug, Drop, PartialEq, Eq, Error)]
@@ -27,5 +28,47 @@ impl From<OutOfMemory> for StatesError {
 
     fn from(_refused: OutOfMemory) -> StatesError {
         StatesError::OutOfMemory
+    }
+}
+
+/// Why there is no status of a work tree.
+#[derive(Debug, Drop, Error)]
+pub enum StatusError {
+    /// The report was refused, not for want of memory.
+    #[error("Failed to make the report")]
+    Report(ReportError),
+    /// The worktree failed at this path, which begins with the root, while index paths were looked at.
+    #[error("Could not learn what stands at '{}'", shown(.path))]
+    Fault { path: PathText },
+    /// Want of memory.
+    #[error("Out of memory: the allocator refused to make room")]
+    OutOfMemory,
+}
+
+impl From<ReportError> for StatusError {
+    ghost use Rattle.std.specs.Prelude.{◌≡◌};
+    ghost use Rattle.index_status.specs.Status.{of_report};
+
+    ghost from_gives = { λ refused error. error ≡ of_report refused };
+
+    fn from(refused: ReportError) -> StatusError {
+        match refused {
+            ReportError::OutOfMemory => StatusError::OutOfMemory,
+            refused => StatusError::Report(refused),
+        }
+    }
+}
+
+impl From<StatesError> for StatusError {
+    ghost use Rattle.std.specs.Prelude.{◌≡◌};
+    ghost use Rattle.index_status.specs.Status.{of_states};
+
+    ghost from_gives = { λ refused error. error ≡ of_states refused };
+
+    fn from(refused: StatesError) -> StatusError {
+        match refused {
+            StatesError::Fault { path } => StatusError::Fault { path },
+            StatesError::OutOfMemory => StatusError::OutOfMemory,
+        }
     }
 }

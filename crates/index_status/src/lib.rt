@@ -4,11 +4,16 @@
 mod blob;
 mod compare;
 mod error;
+mod lines;
 mod look;
 mod path_state;
+mod program;
+mod report_beside;
 mod way;
 
 pub use blob::blob_id;
 pub use compare::states;
-pub use error::StatesError;
+pub use error::{StatesError, StatusError};
 pub use path_state::PathState;
+pub use program::run_status;
+pub use report_beside::{IndexStatus, status};

@@ -1,6 +1,5 @@
 -- Verdicts name by name.
-use Rattle.std.proofs.Common.{rules, ◌≡◌, ℕ, List, [], ◌∷◌, ◌++◌, Bool, true, false, ◌||◌, bytes_eq, Option, Result, Ok, Err, refl, sym, ap, ◌∙◌, subst, append_assoc}
-use Rattle.std.proofs.lemmas.Cmp.{nat_list_eq_equiv}
+use Rattle.std.proofs.Common.{rules, ◌≡◌, ℕ, List, [], ◌∷◌, ◌++◌, Bool, true, false, ◌||◌, Option, Result, Ok, Err, refl, sym, ap, ◌∙◌, subst, append_assoc}
 use Rattle.std.proofs.lemmas.List.{append-nil}
 use Rattle.std.proofs.lemmas.List.Folds.{list_any-append}
 use Rattle.worktree_fs.specs.Kept.{Asks}
@@ -19,6 +18,7 @@ use Rattle.module_plan.specs.declared.wanted.Wanted.{Wanted}
 use Rattle.module_plan.specs.Judged.{Adds, AreJudged, Holds, StopsModule, StopsPlan}
 use Rattle.module_plan.specs.Verdicts.{AreVerdicts, IsJudged, IsPlaced, is_taken, skipped_of, steps_of, wants}
 use Rattle.module_plan.specs.Wanted.{Asked, wanted}
+use Rattle.module_plan.specs.Ways.{IsLookedFor}
 
 verdicts-snoc : (told : Option Names) (root : List ℕ) (asked : Asked) (earlier names : List (List ℕ)) (name : List ℕ) (vs : List Verdict) (v : Verdict)
     → AreVerdicts told root asked earlier names vs
@@ -103,21 +103,23 @@ module _ {W : Type 0} (w : WorktreeOf W) (w0 w1 w2 : W) (root : List ℕ) (asked
             ∙ sym (list_any-append (λ n. wants path (wanted asked n)) at.done (name ∷ []));
       }
 
-  is-name : is_among name (module_names asked.modules) ≡ true
-  is-name =
-      ap (is_among name) (at.all ∙ ap (λ (l : List (List ℕ)). at.done ++ l) left_is)
-      ∙ list_any-append (bytes_eq name) at.done (name ∷ rest)
-      ∙ ap (λ (b : Bool). is_among name at.done || (b || is_among name rest)) (nat_list_eq_equiv.refl name)
-      ∙ or-true (is_among name at.done)
-    where
-      or-true : (a : Bool) → (a || true) ≡ true
-      or-true true = refl
-      or-true false = refl
-
-  pub judging-stops : (Rose Rose' : Type 0) (e : ModuleError) → (Rose → Rose') → StopsModule root (wanted seen name) Rose e → StopsPlan root asked Rose' e
+  pub judging-stops : (Rose Rose' : Type 0) (e : ModuleError) → (Rose → Rose')
+      → StopsModule (w.told w1) root (wanted seen name) (λ path. is_among path taken) Rose e → StopsPlan (w.told w0) root asked Rose' e
   judging-stops Rose Rose' (errors.ActiveSpec value) more h = absurd h
-  judging-stops Rose Rose' (errors.Fault path) more h =
-      (more h.0, record { name = name; is_name = is-name; w = h.1.0; wants_it = ap (λ (a : Asked). wanted a name) (sym same) ∙ h.1.1; on_way = h.1.2 })
+  judging-stops Rose Rose' (errors.Fault path) more h = (
+    more h.0,
+    record {
+      earlier = at.done;
+      name = name;
+      later = rest;
+      is_name = at.all ∙ ap (λ (l : List (List ℕ)). at.done ++ l) left_is;
+      w = h.1.0;
+      wants_it = ap (λ (a : Asked). wanted a name) (sym same) ∙ h.1.1;
+      looks =
+          subst (λ (told : Option Names). IsLookedFor told root h.1.0 (is_taken asked at.done h.1.0.path) path) told-same
+          (subst (λ (b : Bool). IsLookedFor (w.told w1) root h.1.0 b path) (at.taken_is h.1.0.path) h.1.2);
+    },
+  )
   judging-stops Rose Rose' errors.OutOfMemory more h = tt
 
 pub judging-done : {W : Type 0} (w : WorktreeOf W) (w0 w1 : W) (root : List ℕ) (asked : Asked) (left taken : List (List ℕ)) (plan : ModulePlan)

@@ -5,3 +5,6 @@ mod Ascending
 mod Safe
 mod Onward
 mod Sorted
+mod Lined
+mod Loaded
+mod Runs

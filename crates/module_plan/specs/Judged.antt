@@ -1,8 +1,7 @@
 -- The submodules once each has its verdict, in the order of their names.
-use Rattle.std.specs.Prelude.{◌≡◌, ℕ, List, [], ◌∷◌, ◌++◌, true, Option, Result, Ok}
-use Rattle.gitbase_core.specs.Path.{components}
+use Rattle.std.specs.Prelude.{◌≡◌, ℕ, List, [], ◌∷◌, ◌++◌, Bool, Option, Result, Ok}
 use Rattle.worktree_fs.specs.Tree.{Names}
-use Rattle.submodule.specs.Names.{is_among, module_names}
+use Rattle.submodule.specs.Names.{module_names}
 use Rattle.module_plan.specs.declared.error.ModuleError.{ModuleError}
 use Rattle.module_plan.specs.declared.error.ModuleError.TheVariants as errors
 use Rattle.module_plan.specs.declared.step.ModulePlan.{ModulePlan}
@@ -10,8 +9,8 @@ use Rattle.module_plan.specs.declared.step.Verdict.{Verdict}
 use Rattle.module_plan.specs.declared.step.Why.{Why}
 use Rattle.module_plan.specs.declared.wanted.Wanted.{Wanted}
 use Rattle.module_plan.specs.Wanted.{Asked, wanted}
-use Rattle.module_plan.specs.Ways.{IsOnWay}
-use Rattle.module_plan.specs.Verdicts.{AreVerdicts, steps_of, skipped_of}
+use Rattle.module_plan.specs.Ways.{IsLookedFor}
+use Rattle.module_plan.specs.Verdicts.{AreVerdicts, is_taken, steps_of, skipped_of}
 
 -- a plan with a verdict more
 pub record Adds (plan : ModulePlan) (v : Verdict) (more : ModulePlan) : Type 0 where
@@ -29,22 +28,26 @@ pub record AreJudged (told : Option Names) (root : List ℕ) (asked : Asked) (pl
   pub are : AreVerdicts told root asked [] (module_names asked.modules) verdicts
   pub holds : Holds verdicts plan
 
--- why a submodule has no verdict: the worktree failed on the way to its path
-abbrev pub StopsModule : List ℕ → Result Wanted Why → Type 0 → ModuleError → Type 0
-StopsModule root given Rose (errors.ActiveSpec value) = ⊥
-StopsModule root given Rose (errors.Fault path) = Rose × ((w : Wanted) × (given ≡ Ok w) × IsOnWay root (components w.path) path)
-StopsModule root given Rose errors.OutOfMemory = Unit {0}
+-- why a submodule has no verdict: the worktree failed at a path that is looked at for its step
+abbrev pub StopsModule : Option Names → List ℕ → Result Wanted Why → (List ℕ → Bool) → Type 0 → ModuleError → Type 0
+StopsModule told root given is_taken Rose (errors.ActiveSpec value) = ⊥
+StopsModule told root given is_taken Rose (errors.Fault path) =
+    Rose × ((w : Wanted) × (given ≡ Ok w) × IsLookedFor told root w (is_taken w.path) path)
+StopsModule told root given is_taken Rose errors.OutOfMemory = Unit {0}
 
--- a path that was asked for, on the way to that of a submodule
-pub record IsAskedFor (root : List ℕ) (asked : Asked) (path : List ℕ) : Type 0 where
+-- A path that is looked at for the step that a submodule asks for: on the way to its path, where no submodule of an
+-- earlier name asks for a step there too.
+pub record IsAskedFor (told : Option Names) (root : List ℕ) (asked : Asked) (path : List ℕ) : Type 0 where
+  pub earlier : List (List ℕ)
   pub name : List ℕ
-  pub is_name : is_among name (module_names asked.modules) ≡ true
+  pub later : List (List ℕ)
+  pub is_name : module_names asked.modules ≡ earlier ++ name ∷ later
   pub w : Wanted
   pub wants_it : wanted asked name ≡ Ok w
-  pub on_way : IsOnWay root (components w.path) path
+  pub looks : IsLookedFor told root w (is_taken asked earlier w.path) path
 
 -- why some module has none
-abbrev pub StopsPlan : List ℕ → Asked → Type 0 → ModuleError → Type 0
-StopsPlan root asked Rose (errors.ActiveSpec value) = ⊥
-StopsPlan root asked Rose (errors.Fault path) = Rose × IsAskedFor root asked path
-StopsPlan root asked Rose errors.OutOfMemory = Unit {0}
+abbrev pub StopsPlan : Option Names → List ℕ → Asked → Type 0 → ModuleError → Type 0
+StopsPlan told root asked Rose (errors.ActiveSpec value) = ⊥
+StopsPlan told root asked Rose (errors.Fault path) = Rose × IsAskedFor told root asked path
+StopsPlan told root asked Rose errors.OutOfMemory = Unit {0}

@@ -4,3 +4,6 @@ pub mod Ways
 pub mod Verdicts
 pub mod Judged
 pub mod Plans
+pub mod Order
+pub mod Lines
+pub mod Run

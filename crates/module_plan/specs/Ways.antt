@@ -1,7 +1,6 @@
 -- What stands on the way from a root to a path below it.
-use Rattle.std.specs.Prelude.{◌≡◌, ◌⊎◌, ℕ, List, [], ◌∷◌, Option, Some, None, false}
-use Rattle.std.specs.Option.{option_or}
-use Rattle.gitbase_core.specs.Path.{joined}
+use Rattle.std.specs.Prelude.{◌≡◌, ◌⊎◌, ℕ, List, [], ◌∷◌, Bool, false, Option, Some, None, if◌then◌else◌}
+use Rattle.gitbase_core.specs.Path.{components, joined}
 use Rattle.worktree_fs.specs.Answers.{kind_of}
 use Rattle.worktree_fs.specs.Tree.{Names, look}
 use Rattle.worktree_fs.specs.declared.answers.NodeKind.{NodeKind}
@@ -10,6 +9,8 @@ use Rattle.module_plan.specs.declared.error.ModuleError.{ModuleError}
 use Rattle.module_plan.specs.declared.error.ModuleError.TheVariants as errors
 use Rattle.module_plan.specs.declared.step.Why.{Why}
 use Rattle.module_plan.specs.declared.step.Why.TheVariants as whys
+use Rattle.module_plan.specs.declared.wanted.Wanted.{Wanted}
+use Rattle.worktree_report.specs.Looks.{IsLookedAt, is_directory}
 
 -- a directory bars no way, and nor does what is not there
 abbrev pub obstacle_of : Option NodeKind → Option Why
@@ -19,25 +20,34 @@ obstacle_of (Some nodes.Symlink) = Some whys.Link
 obstacle_of (Some nodes.File) = Some whys.NotADirectory
 obstacle_of (Some nodes.Untrackable) = Some whys.NotADirectory
 
+-- by what stands at a name, and by what bars the way behind it: behind what is no directory there is nothing
+abbrev pub onward : Option NodeKind → Option Why → Option Why
+onward kind behind = if is_directory kind then behind else obstacle_of kind
+
 -- The first node that is there and is no directory, going down from a directory along some names; a link counts as one
--- and is not followed.
+-- and is not followed. Below a name that is not there nothing is.
 abbrev pub obstacle : Names → List ℕ → List (List ℕ) → Option Why
 obstacle t directory [] = None
 obstacle t directory (name ∷ names) =
-    option_or (obstacle_of (kind_of (look t (joined directory name) false))) (obstacle t (joined directory name) names)
+    onward (kind_of (look t (joined directory name) false)) (obstacle t (joined directory name) names)
 
 -- nothing, a link, or another node
 abbrev pub IsObstacle : Option Why → Type 0
 IsObstacle None = Unit {0}
 IsObstacle (Some why) = (why ≡ whys.Link) ⊎ (why ≡ whys.NotADirectory)
 
--- a path is one of those on the way from a directory along some names
-abbrev pub IsOnWay : List ℕ → List (List ℕ) → List ℕ → Type 0
-IsOnWay directory [] path = ⊥
-IsOnWay directory (name ∷ names) path = (path ≡ joined directory name) ⊎ IsOnWay (joined directory name) names path
+-- why what stands at a path was not learnt: the worktree failed there
+abbrev pub StopsAt : List ℕ → Type 0 → ModuleError → Type 0
+StopsAt full Rose (errors.ActiveSpec value) = ⊥
+StopsAt full Rose (errors.Fault path) = Rose × (path ≡ full)
+StopsAt full Rose errors.OutOfMemory = Unit {0}
 
--- why the way was not learnt: the worktree failed at a path on it
-abbrev pub StopsLook : List ℕ → List (List ℕ) → Type 0 → ModuleError → Type 0
-StopsLook root names Rose (errors.ActiveSpec value) = ⊥
-StopsLook root names Rose (errors.Fault path) = Rose × IsOnWay root names path
-StopsLook root names Rose errors.OutOfMemory = Unit {0}
+-- the worktree failed at one of some paths
+abbrev pub StopsLook : (List ℕ → Type 0) → Type 0 → ModuleError → Type 0
+StopsLook IsOne Rose (errors.ActiveSpec value) = ⊥
+StopsLook IsOne Rose (errors.Fault path) = Rose × IsOne path
+StopsLook IsOne Rose errors.OutOfMemory = Unit {0}
+
+-- a path that is looked at for a step that a submodule asks for, where no earlier one asks for one at its path
+abbrev pub IsLookedFor : Option Names → List ℕ → Wanted → Bool → List ℕ → Type 0
+IsLookedFor told root w is_taken path = (is_taken ≡ false) × IsLookedAt told root (components w.path) path

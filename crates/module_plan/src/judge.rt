@@ -1,6 +1,5 @@
 //! What becomes of each submodule.
 ghost use Rattle.std.specs.Prelude.{◌≡◌, ◌++◌, ◌∷◌, [], ℕ, List, ◌||◌, Some, Ok, IfOk, IfErr, OnOk, bytes_eq};
-ghost use Rattle.gitbase_core.specs.Path.{components};
 ghost use Rattle.worktree_fs.specs.Causes.{Increased};
 ghost use Rattle.worktree_fs.specs.Kept.{Asks};
 ghost use Rattle.submodule.specs.Names.{is_among};
@@ -29,7 +28,7 @@ pub(crate) fn judged<W: Worktree>(
 ) -> Result<ModulePlan, ModuleError>
     ensures judged { IfOk result (judged.AreJudged (W.told worktree.old) asking.now.root.now
         (asked_by asking.now platform.old)) }
-    ensures refused { IfErr result (judged.StopsPlan asking.now.root.now
+    ensures refused { IfErr result (judged.StopsPlan (W.told worktree.old) asking.now.root.now
         (asked_by asking.now platform.old)
         (Increased (W.faults worktree.old) (W.faults worktree.new))) }
     ensures keeps { Asks W.Worktree worktree.old worktree.new }
@@ -82,8 +81,8 @@ fn verdict<W: Worktree>(
     ensures taken { (other : List ℕ) → OnOk result (is_among other taken.new
         ≡ (verdicts.wants other (wanted (asked_by asking.now platform.old) name.now)
         || is_among other taken.old)) }
-    ensures refused { IfErr result (judged.StopsModule asking.now.root.now
-        (wanted (asked_by asking.now platform.old) name.now)
+    ensures refused { IfErr result (judged.StopsModule (W.told worktree.old) asking.now.root.now
+        (wanted (asked_by asking.now platform.old) name.now) (λ path. is_among path taken.old)
         (Increased (W.faults worktree.old) (W.faults worktree.new))) }
     ensures same { platform.new ≡ platform.old }
     ensures keeps { Asks W.Worktree worktree.old worktree.new }
@@ -109,7 +108,8 @@ fn placed<W: Worktree>(
         name.now wanted (is_among wanted.path taken.old)) }
     ensures taken { (other : List ℕ) → OnOk result (is_among other taken.new
         ≡ (bytes_eq other wanted.path || is_among other taken.old)) }
-    ensures refused { IfErr result (ways.StopsLook root.now (components wanted.path)
+    ensures refused { IfErr result (ways.StopsLook (ways.IsLookedFor (W.told worktree.old) root.now
+        wanted (is_among wanted.path taken.old))
         (Increased (W.faults worktree.old) (W.faults worktree.new))) }
     ensures keeps { Asks W.Worktree worktree.old worktree.new }
     ensures reads { W.reads worktree.new ≡ W.reads worktree.old }

@@ -4,7 +4,9 @@
 mod asking;
 mod error;
 mod judge;
+mod lines;
 mod planned;
+mod program;
 mod step;
 mod taken;
 mod wanted;
@@ -12,4 +14,5 @@ mod way;
 
 pub use error::ModuleError;
 pub use planned::plan;
+pub use program::run_modules;
 pub use step::{ModulePlan, Skipped, Step, StepKind, Why};

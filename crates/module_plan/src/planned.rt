@@ -20,7 +20,7 @@ use std::alloc::Global;
 use submodule::{IsActivePlatform, is_active_platform};
 use worktree_fs::Worktree;
 
-/// The steps that an update of the active submodules would take, as `git submodule update --init`; it takes none of them.
+/// The steps that an update of the active submodules would take, as `git submodule update`; it takes none of them.
 ///
 /// Each submodule that `.gitmodules` names is updated, or left out for the first reason of `Why` that holds. Which are active
 /// says the configuration, by `IsActivePlatform::is_active`; in the path specs of `submodule.active` letters fold if
@@ -30,7 +30,8 @@ use worktree_fs::Worktree;
 /// # Errors
 ///
 /// - `ActiveSpec`: `modules.is_active_platform` refuses this value.
-/// - `Fault`: the worktree failed at a path on the way to that of a submodule, which it counted; no value is refused.
+/// - `Fault`: the worktree failed at this path, which it counted; no value is refused. It is on the way to that of a submodule
+///   that is left out for none of the reasons before `Link`, or there, and everything before it on that way is a directory.
 /// - `OutOfMemory`: memory was refused.
 pub fn plan<W: Worktree>(
     alloc: Global,
@@ -52,7 +53,7 @@ pub fn plan<W: Worktree>(
         → IfOk result (plans.AreOpen t worktree_root.now) }
     ensures active { OnOk result (plans.refused_value
         (platform defaults.ignore_case config.now.sections) ≡ None) }
-    ensures refused { IfErr result (plans.Refuses worktree_root.now
+    ensures refused { IfErr result (plans.Refuses (W.told worktree.old) worktree_root.now
         (asked_of defaults.ignore_case modules.now config.now)
         (plans.refused_value (platform defaults.ignore_case config.now.sections))
         (Increased (W.faults worktree.old) (W.faults worktree.new))) }

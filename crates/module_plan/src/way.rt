@@ -1,10 +1,11 @@
 //! What stands on the way to a path.
-ghost use Rattle.std.specs.Prelude.{◌≡◌, Some, IfOk, IfErr};
+ghost use Rattle.std.specs.Prelude.{◌≡◌, false, Some, IfOk, IfErr};
 ghost use Rattle.gitbase_core.specs.Path.{components};
 ghost use Rattle.worktree_fs.specs.Causes.{Increased};
 ghost use Rattle.worktree_fs.specs.Kept.{Asks};
 ghost use Rattle.worktree_fs.specs.Answers.{kind_of};
 ghost use Rattle.worktree_fs.specs.Tree.{Names, look};
+ghost use Rattle.worktree_report.specs.Looks.{IsLookedAt, is_directory};
 ghost use Rattle.module_plan.specs.Ways as ways;
 
 use crate::error::ModuleError;
@@ -23,7 +24,8 @@ pub(crate) fn obstacle<W: Worktree>(
     ensures obstacle { (t : Names) → W.told worktree.old ≡ Some t
         → IfOk result (λ why. why ≡ ways.obstacle t root.now (components path.now)) }
     ensures is { IfOk result ways.IsObstacle }
-    ensures refused { IfErr result (ways.StopsLook root.now (components path.now)
+    ensures refused { IfErr result (ways.StopsLook
+        (IsLookedAt (W.told worktree.old) root.now (components path.now))
         (Increased (W.faults worktree.old) (W.faults worktree.new))) }
     ensures keeps { Asks W.Worktree worktree.old worktree.new }
     ensures reads { W.reads worktree.new ≡ W.reads worktree.old }
@@ -31,17 +33,55 @@ pub(crate) fn obstacle<W: Worktree>(
     let mut full = PathText::from_bytes(alloc, root)?;
     for name in path.components() {
         full.push_component(alloc, name)?;
-        match worktree.kind(alloc, full.as_bytes()) {
-            Ok(kind) => {
-                if let Some(why) = obstacle_of(kind) {
-                    return Ok(Some(why));
-                }
-            }
-            Err(ReadError::Fault) => return Err(ModuleError::Fault { path: full }),
-            Err(ReadError::OutOfMemory) => return Err(ModuleError::OutOfMemory),
+        let kind = kind_at(alloc, worktree, &full)?;
+        if !is_directory(kind) {
+            return Ok(obstacle_of(kind));
         }
     }
     Ok(None)
+}
+
+/// The kind of the node at a whole path.
+fn kind_at<W: Worktree>(
+    alloc: Global,
+    worktree: &mut W,
+    full: &PathText,
+) -> Result<Option<NodeKind>, ModuleError>
+    ensures kind { (t : Names) → W.told worktree.old ≡ Some t
+        → IfOk result (λ kind. kind ≡ kind_of (look t full.now false)) }
+    ensures refused { IfErr result (ways.StopsAt full.now
+        (Increased (W.faults worktree.old) (W.faults worktree.new))) }
+    ensures keeps { Asks W.Worktree worktree.old worktree.new }
+    ensures reads { W.reads worktree.new ≡ W.reads worktree.old }
+{
+    match worktree.kind(alloc, full.as_bytes()) {
+        Ok(kind) => Ok(kind),
+        Err(ReadError::Fault) => Err(fault_at(alloc, full)?),
+        Err(ReadError::OutOfMemory) => Err(ModuleError::OutOfMemory),
+    }
+}
+
+/// The refusal that names a path.
+fn fault_at(alloc: Global, full: &PathText) -> Result<ModuleError, ModuleError>
+    ensures fault { IfOk result (λ error. error ≡ ModuleError.Fault full.now) }
+    ensures refused { IfErr result (λ error. error ≡ ModuleError.OutOfMemory) }
+{
+    Ok(ModuleError::Fault {
+        path: PathText::from_bytes(alloc, full.as_bytes())?,
+    })
+}
+
+/// Whether a node of this kind is a directory; a link is none.
+fn is_directory(kind: Option<NodeKind>) -> bool
+    ensures { result ≡ is_directory kind }
+{
+    match kind {
+        Some(NodeKind::Directory) => true,
+        Some(NodeKind::File) => false,
+        Some(NodeKind::Symlink) => false,
+        Some(NodeKind::Untrackable) => false,
+        None => false,
+    }
 }
 
 /// Why nothing below a node of this kind is updated.

@@ -41,6 +41,7 @@ link`/w/a`b^[submodule \"z\"]\npath = a\nurl = u\n[submodule \"y\"]\npath = a\nu
 directory`/w^[submodule \"z\"]\npath = a\n[submodule \"y\"]\npath = a\nurl = u\n\
 ^[submodule]\nactive = .\n^checkout`a`y;skip bad-url`z|\
 directory`/w/a;fail kind`2^[submodule \"m\"]\npath = a/b\nurl = u\n^[submodule \"m\"]\nactive\n^fault`/w/a/b|\
+directory`/w;fail kind`2^[submodule \"m\"]\npath = a/b/c\nurl = u\n^[submodule \"m\"]\nactive\n^checkout`a/b/c`m|\
 directory`/w^^^";
 
 fn configuration(alloc: Global, text: &[u8]) -> Option<config::File> {

@@ -27,6 +27,9 @@ file`/w/a`^a/b`file`0``E;c/d/e`file`0``E^deleted`a/b;deleted`c/d/e|\
 file`/w/a/b/c`;file`/w/a/b/d`^a/b/c`file`0``E;a/b/d`file`0``F^same`a/b/c;modified`a/b/d|\
 file`/w/a/b`;fail kind`1^a/b`file`0``E^fault`/w/a|\
 file`/w/a/b`;fail read`1^a/b`file`0``E^fault`/w/a/b|\
+file`/w/a/b/c`;file`/w/a/b/d`;file`/w/a/e`;fail kind`3^a/b/c`file`0``E;a/b/d`file`0``E;a/e`file`0``E^same`a/b/c;same`a/b/d;same`a/e|\
+directory`/w;fail kind`2^a/b/c/d`file`0``E^deleted`a/b/c/d|\
+file`/w/a/b`;fail kind`1^a/b`file`1``E;a/c`file`0`skipped`E^conflicted`a/b;skipped`a/c|\
 directory`/w^^";
 
 fn mode_of(word: &[u8]) -> Mode {

@@ -1,15 +1,16 @@
 //! The program: the words of its command line, answered over the real disk and the standard streams.
 #![tactic(auto)]
 
+mod dispatch;
 #[cfg(test)]
 mod tests;
 
+use dispatch::dispatch;
 use gitbase_core::{Bytes, OutOfMemory};
 use std::alloc::Global;
 use std::env::{Env, FillError};
 use std::process::ExitCode;
 use worktree_fs::{DiskWorktree, PlannedInterrupt, StdSink};
-use worktree_report::run;
 
 /// The most bytes that Linux hands on in one word.
 const WORD_LIMIT: usize = 131_072;
@@ -45,7 +46,7 @@ fn main(rt: HostRuntime) -> ExitCode {
     let mut interrupt = PlannedInterrupt::never();
     let mut out = StdSink::out(&rt);
     let mut err = StdSink::err(&rt);
-    ExitCode::from(run(
+    ExitCode::from(dispatch(
         alloc,
         &words,
         &mut worktree,

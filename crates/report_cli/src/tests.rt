@@ -3,9 +3,11 @@ mod calls;
 mod faults;
 mod mapped;
 mod modules;
+mod plans;
 mod rows;
 mod walks;
 
+use crate::dispatch::dispatch;
 use faults::{
     AT_ONCE, COLLAPSE, EACH_CALL, EACH_CALL_AT_ONCE, EACH_LOOK, Failing, IGNORING, NESTED,
 };
@@ -13,11 +15,12 @@ use git_config_lite::Source;
 use gitbase_core::{Bytes, OutOfMemory};
 use mapped::MAPPED;
 use modules::{MISREAD, MODULED};
+use plans::{CHANGED, CLEANED, UPDATED};
 use rows::{A_FILE, IGNORED, OPTIONS, REFUSALS, REPORTS, REQUIRED, Row, WITHOUT_RULES};
 use std::alloc::Global;
 use walks::{DELETED, FOLDED, ROOTED, RULED, SPECIFIED};
 use worktree_fs::{AddError, CallKind, MemorySink, MemoryWorktree, NewNode, PlannedInterrupt};
-use worktree_report::{Permissions, run};
+use worktree_report::Permissions;
 
 const REPORT: &[&[u8]] = &[b"report", b"/w", b"/s"];
 
@@ -87,7 +90,7 @@ fn interrupted_answer_of(
     let mut out = MemorySink::new(alloc, room)?;
     out.fail_from(nth);
     let mut err = MemorySink::new(alloc, ROOM)?;
-    let status = run(alloc, &words, tree, interrupt, &mut out, &mut err);
+    let status = dispatch(alloc, &words, tree, interrupt, &mut out, &mut err);
     Ok(Answer { status, out, err })
 }
 
@@ -127,8 +130,8 @@ fn first_lie(alloc: Global, rows: &[Row]) -> Option<&'static str> {
 
 /// A setup by which subtrees are walked at once.
 fn at_once(alloc: Global, setup: &[u8]) -> Result<Vec<u8>, OutOfMemory> {
-    let mut text = b"option strategy at_once\n".to_vec(alloc)?;
-    text.extend_from_slice(setup)?;
+    let mut text = setup.to_vec(alloc)?;
+    text.extend_from_slice(b"\noption strategy at_once\n")?;
     Ok(text)
 }
 
@@ -232,6 +235,12 @@ fn reports_the_same_where_subtrees_are_walked_at_once(rt: HostRuntime) {
     assert_eq!(rt; first_lie_at_once(alloc, &IGNORED), None);
     assert_eq!(rt; first_lie_at_once(alloc, &FOLDED), None);
     assert_eq!(rt; first_lie_at_once(alloc, &DELETED), None);
+    assert_eq!(rt; first_lie_at_once(alloc, &OPTIONS), None);
+    assert_eq!(rt; first_lie_at_once(alloc, &ROOTED), None);
+    assert_eq!(rt; first_lie_at_once(alloc, &SPECIFIED), None);
+    assert_eq!(rt; first_lie_at_once(alloc, &MAPPED), None);
+    assert_eq!(rt; first_lie_at_once(alloc, &RULED), None);
+    assert_eq!(rt; first_lie_at_once(alloc, &MODULED), None);
 }
 
 /// Whether a report of two directories is stopped at this question.
@@ -262,12 +271,11 @@ fn refuses_what_it_must(rt: HostRuntime) {
 }
 
 /// Words that are no command.
-static NO_COMMANDS: [&[&[u8]]; 12] = [
+static NO_COMMANDS: [&[&[u8]]; 11] = [
     &[],
     &[b"report", b"/w"],
     &[b"report", b"w", b"/s"],
     &[b"report", b"/w/..", b"/s"],
-    &[b"status", b"/w", b"/s"],
     &[b"composed", b"report", b"/w", b"/s"],
     &[b"composed", b"generate", b"1"],
     &[b"generate"],
@@ -336,6 +344,26 @@ fn says_how_it_is_used(rt: HostRuntime) {
         );
     }
     assert!(rt; answers(alloc, REPORT, &mut tree, (3, b"", b"setup: line 0\n")));
+}
+
+#[test]
+fn says_how_each_planner_is_used(rt: HostRuntime) {
+    assert!(rt; plans::says_usages(rt.alloc()));
+}
+
+#[test]
+fn plans_what_may_be_removed(rt: HostRuntime) {
+    assert_eq!(rt; plans::first_lie(rt.alloc(), &CLEANED), None);
+}
+
+#[test]
+fn plans_an_update_of_the_submodules(rt: HostRuntime) {
+    assert_eq!(rt; plans::first_lie(rt.alloc(), &UPDATED), None);
+}
+
+#[test]
+fn tells_the_states_of_the_index(rt: HostRuntime) {
+    assert_eq!(rt; plans::first_lie(rt.alloc(), &CHANGED), None);
 }
 
 /// `/w/d/d/..`, so many directories one in another below `/w`.

@@ -1,5 +1,5 @@
 -- The text of a report, or the refusal of the program that stands for that of a report.
-use Rattle.std.proofs.Common.{◌≡◌, ℕ, List, Option, Bool, Some, Result, Ok, Err, IsErrOf, refl, sym, ap, ◌∙◌, subst, option_map, arith}
+use Rattle.std.proofs.Common.{◌≡◌, ◌⊎◌, inl, inr, ℕ, List, Option, Bool, Some, Result, Ok, Err, IsErrOf, refl, sym, ap, ◌∙◌, subst, option_map, arith}
 use Rattle.gitbase_core.specs.Objects.{Objects}
 use Rattle.gitbase_core.specs.declared.find.Find.{Ghosts as FindOf}
 use Rattle.worktree_fs.specs.declared.interrupt.Interrupt.{Ghosts as InterruptOf}
@@ -30,9 +30,10 @@ use Rattle.worktree_report.specs.declared.report.Report.{Report}
 use Rattle.worktree_report.specs.declared.setup.Setup.{Setup}
 use Rattle.worktree_report.specs.declared.refusal.Refusal.{Refusal}
 use Rattle.worktree_report.specs.declared.refusal.Refusal.TheVariants as refusals
-use Rattle.worktree_report.specs.Asked.{read_in, About, IsAboutWalkAt, ReadsWithin, Refuses, RefusesWalkAt}
+use Rattle.worktree_report.specs.Asked.{read_in, About, Found, IsAboutWalkAt, ReadsWithin, Refuses, RefusesWalkAt}
 use Rattle.worktree_report.specs.Converted.{of_lookup, of_report, of_walk, IsOfWalking}
-use Rattle.worktree_report.specs.Loading.{known_in}
+use Rattle.worktree_report.specs.Loading.{known_in, IsKnown}
+use Rattle.worktree_report.specs.Outside.{IsOutside, LoadsAlone, MisreadsAt, OnMisread, OnReading}
 use Rattle.worktree_report.specs.Lines.{text_with}
 use Rattle.worktree_report.specs.Reported.{MakesReport, Misreads, OnReportFault, OnWalk, Texts}
 use Rattle.worktree_report.proofs.ReportMade.{report_is}
@@ -160,6 +161,12 @@ of_walking walk.OutOfMemory = tt
 
 -- ---- those of a report
 
+misreads_at : {W F I : Type 0} (w : WorktreeOf W) (w0 w1 : W) (o0 o1 : F) (i0 i1 : I) (root : List ℕ) (setup : Setup) (which from : Misread)
+    → IsOutside root setup from → LoadsAlone w w0 w1 o0 o1 i0 i1 setup → refusals.Misread from ≡ refusals.Misread which → MisreadsAt w w0 w1 i0 i1 root setup which
+misreads_at w w0 w1 o0 o1 i0 i1 root setup which from outside alone is =
+    let same : from ≡ which = cc is in
+    record { about = record { asked = alone.asked; outside = subst (IsOutside root setup) same outside }; loads = alone.loads; interrupt = alone.interrupt }
+
 fault-of_report : (Failed Stored : Type 0) → (Stored → ⊥) → (e : ReportError) → OnReportFault Failed Stored e → of_report e ≡ refusals.Fault → Failed
 fault-of_report Failed Stored never (errors.Config at line) h is = absurd cc
 fault-of_report Failed Stored never (errors.Modules line) h is = absurd cc
@@ -184,6 +191,25 @@ of_reporting errors.ReadFault = tt
 of_reporting (errors.Walk e) = of_walking e
 of_reporting errors.OutOfMemory = tt
 
+-- what is outside its grammar is said of the same
+outside-of_report : {W F I : Type 0} (w : WorktreeOf W) (w0 w1 : W) (o0 o1 : F) (i0 i1 : I) (root : List ℕ) (setup : Setup) (which : Misread) (e : ReportError)
+    → OnMisread (IsOutside root setup) e → OnReading (LoadsAlone w w0 w1 o0 o1 i0 i1 setup) e → of_report e ≡ refusals.Misread which → MisreadsAt w w0 w1 i0 i1 root setup which
+outside-of_report w w0 w1 o0 o1 i0 i1 root setup which (errors.Config at line) outside alone is = misreads_at w w0 w1 o0 o1 i0 i1 root setup which _ outside alone is
+outside-of_report w w0 w1 o0 o1 i0 i1 root setup which (errors.Modules line) outside alone is = misreads_at w w0 w1 o0 o1 i0 i1 root setup which _ outside alone is
+outside-of_report w w0 w1 o0 o1 i0 i1 root setup which (errors.ActiveSpec at) outside alone is = misreads_at w w0 w1 o0 o1 i0 i1 root setup which _ outside alone is
+outside-of_report w w0 w1 o0 o1 i0 i1 root setup which errors.ReadFault outside alone is = absurd cc
+outside-of_report w w0 w1 o0 o1 i0 i1 root setup which (errors.Walk e) outside alone is = absurd (is_no_misread which e is)
+outside-of_report w w0 w1 o0 o1 i0 i1 root setup which errors.OutOfMemory outside alone is = absurd cc
+
+-- the interrupt is asked once all that tells of submodules is known
+known-of_report : (given : Result (Option Known) Misread) (e : ReportError) → Misreads given e → of_report e ≡ refusals.Interrupted → IsKnown given
+known-of_report given (errors.Config at line) h is = absurd cc
+known-of_report given (errors.Modules line) h is = absurd cc
+known-of_report given (errors.ActiveSpec at) h is = absurd cc
+known-of_report given errors.ReadFault h is = absurd cc
+known-of_report given (errors.Walk e) h is = h
+known-of_report given errors.OutOfMemory h is = absurd cc
+
 misread-of_report : (given : Result (Option Known) Misread) (which : Misread) (e : ReportError) → Misreads given e → of_report e ≡ refusals.Misread which → given ≡ Err which
 misread-of_report given which (errors.Config at line) h is = cc
 misread-of_report given which (errors.Modules line) h is = cc
@@ -193,21 +219,35 @@ misread-of_report given which (errors.Walk e) h is = absurd (is_no_misread which
 misread-of_report given which errors.OutOfMemory h is = absurd cc
 
 refused-of_report : (composes : Bool) (t : Names) (root : List ℕ) (setup : Setup) (word : WalkWord) (path : List ℕ) (e : ReportError)
-    → OnWalk (About composes root setup) e → OnWalk (Refuses composes (read_in t setup) root setup) e → of_report e ≡ refusals.Walk word path → RefusesWalkAt composes t root setup word path
-refused-of_report composes t root setup word path (errors.Config at line) about cause is = absurd cc
-refused-of_report composes t root setup word path (errors.Modules line) about cause is = absurd cc
-refused-of_report composes t root setup word path (errors.ActiveSpec at) about cause is = absurd cc
-refused-of_report composes t root setup word path errors.ReadFault about cause is = absurd cc
-refused-of_report composes t root setup word path (errors.Walk e) about cause is = record { error = e; is = is; about = about; cause = cause }
-refused-of_report composes t root setup word path errors.OutOfMemory about cause is = absurd cc
+    → OnWalk (About composes root setup) e → OnWalk (Refuses composes (read_in t setup) root setup) e → Misreads (known_in t root setup) e
+    → of_report e ≡ refusals.Walk word path → RefusesWalkAt composes t root setup word path
+refused-of_report composes t root setup word path (errors.Config at line) about cause known is = absurd cc
+refused-of_report composes t root setup word path (errors.Modules line) about cause known is = absurd cc
+refused-of_report composes t root setup word path (errors.ActiveSpec at) about cause known is = absurd cc
+refused-of_report composes t root setup word path errors.ReadFault about cause known is = absurd cc
+refused-of_report composes t root setup word path (errors.Walk e) about cause known is = record { error = e; is = is; about = about; cause = cause; known = known }
+refused-of_report composes t root setup word path errors.OutOfMemory about cause known is = absurd cc
 
-about-of_report : (composes : Bool) (root : List ℕ) (setup : Setup) (word : WalkWord) (path : List ℕ) (e : ReportError) → OnWalk (About composes root setup) e → of_report e ≡ refusals.Walk word path → IsAboutWalkAt composes root setup word path
-about-of_report composes root setup word path (errors.Config at line) about is = absurd cc
-about-of_report composes root setup word path (errors.Modules line) about is = absurd cc
-about-of_report composes root setup word path (errors.ActiveSpec at) about is = absurd cc
-about-of_report composes root setup word path errors.ReadFault about is = absurd cc
-about-of_report composes root setup word path (errors.Walk e) about is = record { error = e; is = is; about = about }
-about-of_report composes root setup word path errors.OutOfMemory about is = absurd cc
+about-of_report : (composes : Bool) (told : Option Names) (root : List ℕ) (setup : Setup) (word : WalkWord) (path : List ℕ) (e : ReportError)
+    → OnWalk (About composes root setup) e → ((t : Names) → told ≡ Some t → OnWalk (Found composes root setup (Some setup.blobs) (read_in t setup)) e)
+    → ((t : Names) → told ≡ Some t → Misreads (known_in t root setup) e) → of_report e ≡ refusals.Walk word path → IsAboutWalkAt composes told root setup word path
+about-of_report composes told root setup word path (errors.Config at line) about found known is = absurd cc
+about-of_report composes told root setup word path (errors.Modules line) about found known is = absurd cc
+about-of_report composes told root setup word path (errors.ActiveSpec at) about found known is = absurd cc
+about-of_report composes told root setup word path errors.ReadFault about found known is = absurd cc
+about-of_report composes told root setup word path (errors.Walk e) about found known is = record { error = e; is = is; about = about; known = known; found = found }
+about-of_report composes told root setup word path errors.OutOfMemory about found known is = absurd cc
+
+-- a fault comes before the walk, or where all that tells of submodules is in its grammar
+late-of_report : (Alone : Type 0) (told : Option Names) (root : List ℕ) (setup : Setup) (e : ReportError) → OnReading Alone e
+    → ((t : Names) → told ≡ Some t → Misreads (known_in t root setup) e) → of_report e ≡ refusals.Fault
+    → Alone ⊎ ((t : Names) → told ≡ Some t → IsKnown (known_in t root setup))
+late-of_report Alone told root setup (errors.Config at line) alone known is = absurd cc
+late-of_report Alone told root setup (errors.Modules line) alone known is = absurd cc
+late-of_report Alone told root setup (errors.ActiveSpec at) alone known is = absurd cc
+late-of_report Alone told root setup errors.ReadFault alone known is = inl alone
+late-of_report Alone told root setup (errors.Walk e) alone known is = inr known
+late-of_report Alone told root setup errors.OutOfMemory alone known is = absurd cc
 
 -- ---- texts
 
@@ -226,6 +266,7 @@ module _ {W F I : Type 0} {w : WorktreeOf W} {f : FindOf F} {i : InterruptOf I} 
   Texts-ok r text reports held lines =
       record {
         gives = λ t told quiet. ap (option_map (text_with setup.options)) (report_is (reports.gives (read_in t setup) (told-blobs setup held told) quiet)) ∙ ap (λ (x : List ℕ). Some x) (sym lines);
+        orderly = record { made = r; orderly = reports.orderly; text_is = lines };
         safe = λ t told quiet. record { made = r; is = reports.gives (read_in t setup) (told-blobs setup held told) quiet };
         works = λ t told quiet.
             record {
@@ -238,9 +279,12 @@ module _ {W F I : Type 0} {w : WorktreeOf W} {f : FindOf F} {i : InterruptOf I} 
             };
         refused = λ t told quiet word path is. absurd cc;
         misread = λ t told which is. absurd cc;
+        outside = λ which is. absurd cc;
         about = λ word path is. absurd cc;
         cause = λ is. absurd cc;
+        fault_late = λ is. absurd cc;
         interrupted = λ is. absurd cc;
+        interrupted_late = λ t told is. absurd cc;
         answers = tt;
         complete = λ t told quiet calm valid. tt;
         worktree = reports.worktree;
@@ -255,13 +299,17 @@ module _ {W F I : Type 0} {w : WorktreeOf W} {f : FindOf F} {i : InterruptOf I} 
   Texts-memory reports =
       record {
         gives = λ t told quiet. tt;
+        orderly = tt;
         safe = λ t told quiet. tt;
         works = λ t told quiet. tt;
         refused = λ t told quiet word path is. absurd cc;
         misread = λ t told which is. absurd cc;
+        outside = λ which is. absurd cc;
         about = λ word path is. absurd cc;
         cause = λ is. absurd cc;
+        fault_late = λ is. absurd cc;
         interrupted = λ is. absurd cc;
+        interrupted_late = λ t told is. absurd cc;
         answers = tt;
         complete = λ t told quiet calm valid. refl;
         worktree = reports.worktree;
@@ -278,13 +326,24 @@ module _ {W F I : Type 0} {w : WorktreeOf W} {f : FindOf F} {i : InterruptOf I} 
       rw same
       (record {
         gives = λ t told quiet. tt;
+        orderly = tt;
         safe = λ t told quiet. tt;
         works = λ t told quiet. tt;
-        refused = λ t told quiet word path is. refused-of_report (w.precomposes w0) t root setup word path e reports.about (reports.refused (read_in t setup) (told-blobs setup held told) quiet kept) (answered is);
+        refused = λ t told quiet word path is.
+            refused-of_report (w.precomposes w0) t root setup word path e reports.about (reports.refused (read_in t setup) (told-blobs setup held told) quiet kept) (reports.misread t told) (answered is);
         misread = λ t told which is. misread-of_report (known_in t root setup) which e (reports.misread t told) (answered is);
-        about = λ word path is. about-of_report (w.precomposes w0) root setup word path e reports.about (answered is);
+        outside = λ which is. outside-of_report w w0 w1 o0 o1 i0 i1 root setup which e reports.outside reports.alone (answered is);
+        about = λ word path is.
+            about-of_report (w.precomposes w0) (w.told w0) root setup word path e reports.about
+            (λ t told. subst (λ (holds : Option Objects). OnWalk (Found (w.precomposes w0) root setup holds (read_in t setup)) e) held (reports.found (read_in t setup) told)) reports.misread (answered is);
         cause = λ is. fault-of_report _ _ (λ stored. omega (arith, stored, kept)) e reports.cause (answered is);
+        fault_late = λ is.
+            elim (late-of_report (LoadsAlone w w0 w1 o0 o1 i0 i1 setup) (w.told w0) root setup e reports.alone reports.misread (answered is)) [
+              | inl alone ↦ inl (alone.loads.lists, alone.interrupt)
+              | inr known ↦ inr known
+            ];
         interrupted = λ is. interrupt-of_report _ e reports.interrupted (answered is);
+        interrupted_late = λ t told is. known-of_report _ e (reports.misread t told) (answered is);
         answers = of_reporting e;
         complete = λ t told quiet calm valid. ap of_report (reports.complete (read_in t setup) (told-blobs setup held told) quiet kept calm valid);
         worktree = reports.worktree;

@@ -2,9 +2,8 @@ pub mod Unescaping
 pub mod Writes
 pub mod Fronts
 pub mod SetupLines
-pub mod Statuses
+pub mod Endings
 pub mod Runs
-pub mod Generating
 pub mod Generated
 pub mod Numbers
 pub mod Walks

@@ -1,5 +1,8 @@
 -- A report is made: what tells of submodules is read, and the work tree is walked.
-use Rattle.std.proofs.Common.{◌≡◌, ◌≤◌, ◌^◌, ◌-◌, min, ℕ, List, Bool, true, Option, Some, Result, Ok, Err, IfOk, inl, inr, refl, sym, ap, ◌∙◌, subst, option_map, arith}
+use Rattle.std.proofs.Common.{◌≡◌, ◌≤◌, ◌^◌, ◌-◌, min, ℕ, List, [], ◌∷◌, map, length, Bool, true, false, Option, Some, None, Result, Ok, Err, IfOk, inl, inr, refl, sym, ap, ◌∙◌, subst, option_map, arith}
+use Rattle.std.specs.Prelude.{is_some}
+use Rattle.std.specs.List.{AllByRecursion}
+use Rattle.std.proofs.lemmas.List.{length-map}
 use Rattle.gitbase_core.specs.declared.find.Find.{Ghosts as FindOf}
 use Rattle.worktree_fs.specs.declared.interrupt.Interrupt.{Ghosts as InterruptOf}
 use Rattle.worktree_fs.specs.declared.worktree.Worktree.{Ghosts as WorktreeOf}
@@ -21,23 +24,29 @@ use Rattle.dir_classify.specs.declared.error.ReadWhy.TheVariants as why
 use Rattle.dir_classify.specs.Excludes.{TellsIf}
 use Rattle.dir_classify.specs.Refused.{OnFault}
 use Rattle.dir_walk.specs.declared.report.Report.{Report as WalkReport}
+use Rattle.dir_walk.specs.Distinct.{Ascends}
+use Rattle.dir_walk.specs.Emissions.{Emission}
 use Rattle.dir_walk.specs.Kept.{KeepsTree}
 use Rattle.dir_walk.specs.Opens.{IsListed, reads_rules_alone}
+use Rattle.dir_walk.specs.Reports.{IsFromRoot}
 use Rattle.dir_walk.specs.Walkable.{IsValid}
-use Rattle.dir_walk.specs.Walks.{OpensDirectories, ReadsAtMost}
+use Rattle.dir_walk.specs.Walks.{GivesFrom, OpensDirectories, ReadsAtMost}
 use Rattle.worktree_report.specs.declared.error.ReportError.{ReportError}
 use Rattle.worktree_report.specs.declared.error.ReportError.TheVariants as errors
 use Rattle.worktree_report.specs.declared.known.Known.{Known}
 use Rattle.worktree_report.specs.declared.refusal.Misread.{Misread}
 use Rattle.worktree_report.specs.declared.refusal.Misread.TheVariants as misread
 use Rattle.worktree_report.specs.declared.report.Report.{Report}
+use Rattle.worktree_report.specs.declared.report.ReportEntry.{ReportEntry}
 use Rattle.worktree_report.specs.declared.setup.Setup.{Setup}
-use Rattle.worktree_report.specs.Asked.{About, IsReportOf, IsWalkOf, ReadsFrom, Refuses, asked_of, chosen_of, described_by, report_of, walked_of}
+use Rattle.worktree_report.specs.Asked.{About, Found, IsReportOf, IsWalkOf, NoRoot, ReadsFrom, Refuses, asked_of, chosen_of, described_by, report_of, walked_of}
 use Rattle.worktree_report.specs.Excluding.{excludes_of}
 use Rattle.worktree_report.specs.Loading.{files_if, known_in}
 use Rattle.worktree_report.specs.Loads.{Gives, LoadsFiles, OfKnown, of_walk}
+use Rattle.worktree_report.specs.Orderly.{IsOrderly}
+use Rattle.worktree_report.specs.Outside.{IsOutside, LoadsAlone, OnMisread, OnReading}
 use Rattle.worktree_report.specs.Reported.{Describes, LoadsAndOpens, MakesReport, Misreads, OnReportFault, OnWalk, Reports}
-use Rattle.worktree_report.specs.Submodules.{described}
+use Rattle.worktree_report.specs.Submodules.{described, emission_in, entry_in, facts_in}
 use Rattle.worktree_report.proofs.Walks.{unlisted_so}
 
 -- a walk with the submodules is the report
@@ -53,8 +62,17 @@ misreads_given (errors.Config at line) given h = h
 misreads_given (errors.Modules line) given h = h
 misreads_given (errors.ActiveSpec at) given h = h
 misreads_given errors.ReadFault given h = tt
-misreads_given (errors.Walk error) given h = tt
+misreads_given (errors.Walk error) given h = absurd h
 misreads_given errors.OutOfMemory given h = tt
+
+-- what holds of each refusal of reading
+on_reading : (Holds Kept : Type 0) (e : ReportError) → (Holds → Kept) → OnReading Holds e → OnReading Kept e
+on_reading Holds Kept (errors.Config at line) more h = more h
+on_reading Holds Kept (errors.Modules line) more h = more h
+on_reading Holds Kept (errors.ActiveSpec at) more h = more h
+on_reading Holds Kept errors.ReadFault more h = more h
+on_reading Holds Kept (errors.Walk error) more h = tt
+on_reading Holds Kept errors.OutOfMemory more h = tt
 
 no_walk : (Failed : Type 0) (Holds : Error → Type 0) (e : ReportError) → OfKnown Failed e → OnWalk Holds e
 no_walk Failed Holds (errors.Config at line) h = tt
@@ -90,14 +108,20 @@ not_both before now quiet rose = omega arith
 
 module _ {W F I : Type 0} {w : WorktreeOf W} {f : FindOf F} {i : InterruptOf I} {w0 w1 : W} {o : F} {i0 : I} {root : List ℕ} {setup : Setup} where
   pub MakesReport-misread : (e : ReportError) → LoadsFiles w w0 w1 (files_if setup) → ((t : Names) → w.told w0 ≡ Some t → Gives (Err e) (known_in t root setup))
-      → OfKnown (Increased (w.faults w0) (w.faults w1)) e → MakesReport w f i w0 w1 o o i0 i0 root setup (Err e)
-  MakesReport-misread e loads gives of_it =
+      → OfKnown (Increased (w.faults w0) (w.faults w1)) e → OnMisread (IsOutside root setup) e → OnReading (setup.options.submodules ≡ true) e
+      → MakesReport w f i w0 w1 o o i0 i0 root setup (Err e)
+  MakesReport-misread e loads gives of_it outside asked =
       record {
         gives = λ s told quiet. tt;
+        orderly = tt;
         misread = λ t told. misreads_given e _ (gives t told);
+        outside = outside;
+        alone = on_reading _ _ e (λ is. record { asked = is; loads = loads; store = refl; interrupt = refl }) asked;
         about = no_walk _ _ e of_it;
+        found = λ s told. no_walk _ _ e of_it;
         cause = failed _ _ e of_it;
         interrupted = no_walk _ _ e of_it;
+        no_root = λ t told quiet. no_walk _ _ e of_it;
         refused = λ s told quiet stored. no_walk _ _ e of_it;
         complete = λ s told quiet stored calm valid. only_memory _ e (known_in s.tree root setup) valid.known (gives s.tree told.tree_is) of_it (not_both _ _ quiet) valid.known_is;
         worktree = record { tree = loads.tree; faults = loads.faults; list_faults = let same = loads.list_faults in omega (arith, same); lists = let same = loads.lists in omega (arith, same); precomposes = loads.precomposes };
@@ -158,17 +182,70 @@ failed_walk Failed Failed' Stored (walk.DirEntry path) wide h = wide h
 failed_walk Failed Failed' Stored (walk.TooDeep path) wide h = tt
 failed_walk Failed Failed' Stored walk.OutOfMemory wide h = tt
 
-walk_is_no_misread : (given : Result (Option Known) Misread) (e : Error) → Misreads given (of_walk e)
-walk_is_no_misread given walk.Interrupted = tt
-walk_is_no_misread given (walk.WorktreeRootIsFile root) = tt
-walk_is_no_misread given (walk.NormalizeRoot root) = tt
-walk_is_no_misread given (walk.SymlinkInRoot root worktree_root index) = tt
-walk_is_no_misread given (walk.SymlinkMetadata path c) = tt
-walk_is_no_misread given (walk.ExcludesAccess e) = tt
-walk_is_no_misread given (walk.ReadDir path c) = tt
-walk_is_no_misread given (walk.DirEntry path) = tt
-walk_is_no_misread given (walk.TooDeep path) = tt
-walk_is_no_misread given walk.OutOfMemory = tt
+walk_is_later : (given : Result (Option Known) Misread) (known : Option Known) → given ≡ Ok known → (e : Error) → Misreads given (of_walk e)
+walk_is_later given known is walk.Interrupted = (known, is)
+walk_is_later given known is (walk.WorktreeRootIsFile root) = (known, is)
+walk_is_later given known is (walk.NormalizeRoot root) = (known, is)
+walk_is_later given known is (walk.SymlinkInRoot root worktree_root index) = (known, is)
+walk_is_later given known is (walk.SymlinkMetadata path c) = (known, is)
+walk_is_later given known is (walk.ExcludesAccess e) = (known, is)
+walk_is_later given known is (walk.ReadDir path c) = (known, is)
+walk_is_later given known is (walk.DirEntry path) = (known, is)
+walk_is_later given known is (walk.TooDeep path) = (known, is)
+walk_is_later given known is walk.OutOfMemory = tt
+
+walk_is_inside : (Holds : Misread → Type 0) (e : Error) → OnMisread Holds (of_walk e)
+walk_is_inside Holds walk.Interrupted = tt
+walk_is_inside Holds (walk.WorktreeRootIsFile root) = tt
+walk_is_inside Holds (walk.NormalizeRoot root) = tt
+walk_is_inside Holds (walk.SymlinkInRoot root worktree_root index) = tt
+walk_is_inside Holds (walk.SymlinkMetadata path c) = tt
+walk_is_inside Holds (walk.ExcludesAccess e) = tt
+walk_is_inside Holds (walk.ReadDir path c) = tt
+walk_is_inside Holds (walk.DirEntry path) = tt
+walk_is_inside Holds (walk.TooDeep path) = tt
+walk_is_inside Holds walk.OutOfMemory = tt
+
+walk_is_no_reading : (Holds : Type 0) (e : Error) → OnReading Holds (of_walk e)
+walk_is_no_reading Holds walk.Interrupted = tt
+walk_is_no_reading Holds (walk.WorktreeRootIsFile root) = tt
+walk_is_no_reading Holds (walk.NormalizeRoot root) = tt
+walk_is_no_reading Holds (walk.SymlinkInRoot root worktree_root index) = tt
+walk_is_no_reading Holds (walk.SymlinkMetadata path c) = tt
+walk_is_no_reading Holds (walk.ExcludesAccess e) = tt
+walk_is_no_reading Holds (walk.ReadDir path c) = tt
+walk_is_no_reading Holds (walk.DirEntry path) = tt
+walk_is_no_reading Holds (walk.TooDeep path) = tt
+walk_is_no_reading Holds walk.OutOfMemory = tt
+
+-- ---- the entries, with the submodules
+
+emissions-described : (known : Option Known) (xs : List Emission) → map emission_in (map (entry_in known) xs) ≡ xs
+emissions-described known [] = refl
+emissions-described known (x ∷ xs) = ap (λ (ys : List Emission). x ∷ ys) (emissions-described known xs)
+
+facts-described : (known : Option Known) (xs : List Emission) → AllByRecursion (λ (entry : ReportEntry). entry.facts ≡ facts_in known entry.entry.rela_path) (map (entry_in known) xs)
+facts-described known [] = tt
+facts-described known (x ∷ xs) = (refl, facts-described known xs)
+
+described-orderly : (composes : Bool) (told : Option Names) (root : List ℕ) (setup : Setup) (known : Option Known) (walked : WalkReport)
+    → ((t : Names) → told ≡ Some t → known_in t root setup ≡ Ok known) → (setup.options.submodules ≡ true → is_some known ≡ true) → (setup.options.submodules ≡ false → known ≡ None)
+    → Ascends walked.entries → walked.outcome.returned_entries ≡ min (length walked.entries) (2 ^ 64 - 1)
+    → IsFromRoot (asked_of composes root setup) setup.root walked → IsOrderly composes told root setup (described known walked)
+described-orderly composes told root setup known walked known_is asked_for unasked ordered counted once =
+    record {
+      ascends = subst Ascends (sym (emissions-described known walked.entries)) ordered;
+      counted = counted ∙ ap (λ (n : ℕ). min n (2 ^ 64 - 1)) (sym (length-map walked.entries (entry_in known)));
+      start = once.root;
+      asked = once.asked;
+      named = once.named;
+      once = subst (λ (xs : List Emission). GivesFrom once.root (Some []) (Some xs)) (sym (emissions-described known walked.entries)) once.once;
+      known = known;
+      known_is = known_is;
+      asked_for = asked_for;
+      unasked = unasked;
+      facts = facts-described known walked.entries;
+    }
 
 -- ---- the walk, once what tells of submodules is known
 
@@ -231,7 +308,8 @@ told_later : {W F : Type 0} (w : WorktreeOf W) (f : FindOf F) (w0 wl : W) (o0 : 
 told_later w f w0 wl o0 most made s loads told = record { tree_is = loads.tree ∙ told.tree_is; objects_are = told.objects_are }
 
 module _ {W F I : Type 0} {w : WorktreeOf W} {f : FindOf F} {i : InterruptOf I} {w0 wl w1 : W} {o0 o1 : F} {i0 i1 : I} {root : List ℕ} {setup : Setup} (loads : LoadsFiles w w0 wl (files_if setup)) where
-  module _ (known : Option Known) (known_is : (t : Names) → w.told w0 ≡ Some t → known_in t root setup ≡ Ok known) where
+  module _ (known : Option Known) (known_is : (t : Names) → w.told w0 ≡ Some t → known_in t root setup ≡ Ok known)
+      (asked_for : setup.options.submodules ≡ true → is_some known ≡ true) (unasked : setup.options.submodules ≡ false → known ≡ None) where
     -- the walk gave something, and that is described
     MakesReport-walked : (walked : WalkReport) (r : Report) → Reports w f i wl w1 o0 o1 i0 i1 root setup (Ok walked) → r ≡ described known walked
         → MakesReport w f i w0 w1 o0 o1 i0 i1 root setup (Ok r)
@@ -245,10 +323,17 @@ module _ {W F I : Type 0} {w : WorktreeOf W} {f : FindOf F} {i : InterruptOf I} 
                 known_is = known_is s.tree told.tree_is;
                 same = same;
               };
+          orderly = subst (IsOrderly (w.precomposes w0) (w.told w0) root setup) (sym same)
+              (described-orderly (w.precomposes w0) (w.told w0) root setup known walked known_is asked_for unasked reports.ordered reports.counted
+              (subst (λ (b : Bool). IsFromRoot (asked_of b root setup) setup.root walked) loads.precomposes reports.once));
           misread = λ t told. tt;
+          outside = tt;
+          alone = tt;
           about = tt;
+          found = λ s told. tt;
           cause = tt;
           interrupted = tt;
+          no_root = λ t told quiet. tt;
           refused = λ s told quiet stored. tt;
           complete = λ s told quiet stored calm valid. tt;
           worktree = kept_later w w0 wl w1 _ loads reports.worktree;
@@ -265,10 +350,15 @@ module _ {W F I : Type 0} {w : WorktreeOf W} {f : FindOf F} {i : InterruptOf I} 
     MakesReport-memory walked reports =
         record {
           gives = λ s told quiet. tt;
+          orderly = tt;
           misread = λ t told. tt;
+          outside = tt;
+          alone = tt;
           about = tt;
+          found = λ s told. tt;
           cause = tt;
           interrupted = tt;
+          no_root = λ t told quiet. tt;
           refused = λ s told quiet stored. tt;
           complete = λ s told quiet stored calm valid. refl;
           worktree = kept_later w w0 wl w1 _ loads reports.worktree;
@@ -285,10 +375,15 @@ module _ {W F I : Type 0} {w : WorktreeOf W} {f : FindOf F} {i : InterruptOf I} 
     MakesReport-refused e reports =
         record {
           gives = λ s told quiet. tt;
-          misread = λ t told. walk_is_no_misread _ e;
+          orderly = tt;
+          misread = λ t told. walk_is_later _ known (known_is t told) e;
+          outside = walk_is_inside (IsOutside root setup) e;
+          alone = walk_is_no_reading (LoadsAlone w w0 w1 o0 o1 i0 i1 setup) e;
           about = on_walk _ e (subst (λ (b : Bool). About b root setup e) loads.precomposes reports.about);
+          found = λ s told. on_walk _ e (subst (λ (b : Bool). Found b root setup (f.holds o0) s e) loads.precomposes (reports.found s (loads.tree ∙ told)));
           cause = failed_walk _ _ _ e (rose_before _ _ _ loads.faults) reports.cause;
           interrupted = on_walk _ e reports.interrupted;
+          no_root = λ t told quiet. on_walk _ e (subst (λ (b : Bool). NoRoot b t root setup e) loads.precomposes (reports.no_root t (loads.tree ∙ told) (quiet_later _ _ _ loads.faults quiet)));
           refused = λ s told quiet stored. on_walk _ e (subst (λ (b : Bool). Refuses b s root setup e) loads.precomposes (reports.refused s (told_later w f w0 wl o0 _ _ s loads told) (quiet_later _ _ _ loads.faults quiet) stored));
           complete = λ s told quiet stored calm valid.
               ap of_walk

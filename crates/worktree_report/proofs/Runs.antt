@@ -1,7 +1,8 @@
--- The parts of a run, put together.
-use Rattle.std.proofs.Common.{◌≡◌, ◌≤◌, ◌+◌, ℕ, List, Bool, true, Option, Some, None, Result, Ok, Err, IfOk, IfErr, OnOk, IsErrOf, ap, refl, sym, ◌∙◌, subst, arith}
+-- The parts of a top call, put together.
+use Rattle.std.proofs.Common.{◌≡◌, ◌⊎◌, ◌↔◌, ◌≤◌, ◌+◌, ℕ, List, Bool, true, inl, inr, Option, Some, None, Result, Ok, Err, IfOk, IfErr, OnOk, IsErrOf, ap, refl, sym, ◌∙◌, subst, arith}
 use Rattle.std.specs.Prelude.{option_map}
 use Rattle.worktree_fs.specs.declared.interrupt.Interrupt.{Ghosts as InterruptOf}
+use Rattle.worktree_fs.specs.declared.sink.Sink.{Ghosts as SinkOf}
 use Rattle.worktree_fs.specs.declared.worktree.Worktree.{Ghosts as WorktreeOf}
 use Rattle.worktree_fs.specs.Tree.{Names, look}
 use Rattle.worktree_fs.specs.Causes.{Increased, Incremented, NotIncreased}
@@ -9,49 +10,17 @@ use Rattle.dir_walk.specs.declared.strategy.Strategy.TheVariants.{AtOnce}
 use Rattle.worktree_report.specs.declared.setup.Setup.{Setup}
 use Rattle.worktree_report.specs.declared.refusal.Refusal.{Refusal}
 use Rattle.worktree_report.specs.declared.refusal.Refusal.TheVariants as refusals
-use Rattle.worktree_report.specs.Words.{Command, report, generate, command_of}
+use Rattle.worktree_report.specs.Words.{Command, Places, report, generate, command_of}
 use Rattle.worktree_report.specs.SetupAt.{setup_at}
-use Rattle.worktree_report.specs.Asked.{read_in, text_of, IsSafeAt, IsValidAt, WorksAt}
+use Rattle.worktree_report.specs.Asked.{read_in, text_of, IsAboutWalkAt, IsSafeAt, IsValidAt, WorksAt}
 use Rattle.worktree_report.specs.Converted.{IsOfReading, IsOfWalking}
+use Rattle.worktree_report.specs.Orderly.{IsOrderlyText}
 use Rattle.worktree_report.specs.Reported.{Texts}
+use Rattle.worktree_report.specs.Refusals.{status_of}
+use Rattle.worktree_report.specs.Written.{Appends}
 use Rattle.worktree_report.specs.Generate.{Generated, IsOfGenerating, generated_lines, generated_text}
-use Rattle.worktree_report.specs.Run.{output_at, IsSafeReport, ReportWorks, IsReadyAt, ListsOnce, Answers}
-
-output_is : (composes : Bool) (t : Names) (root path : List ℕ) (setup : Setup) (text : List ℕ)
-    → setup_at (look t path true) ≡ Ok setup → text_of composes t root setup ≡ Some text → output_at composes t root path ≡ Some text
-unfolding output_at
-output_is composes t root path setup text read walked = rw read walked
-
--- a text of the report by the setup that was read is the one that is asked for
-output_at-walked : (composes : Bool) (t : Names) (root path : List ℕ) (setup : Setup) (answer : Result (List ℕ) Refusal)
-    → setup_at (look t path true) ≡ Ok setup → IfOk answer (λ text. text_of composes t root setup ≡ Some text)
-    → IfOk answer (λ text. output_at composes t root path ≡ Some text)
-output_at-walked composes t root path setup (Ok text) read walked = output_is composes t root path setup text read walked
-output_at-walked composes t root path setup (Err refusal) read walked = tt
-
--- a safe report by that setup is safe
-safe-walked : (composes : Bool) (t : Names) (root path : List ℕ) (setup : Setup) (answer : Result (List ℕ) Refusal)
-    → setup_at (look t path true) ≡ Ok setup → OnOk answer (IsSafeAt composes t root setup) → OnOk answer (IsSafeReport composes t root path)
-safe-walked composes t root path setup (Ok text) read safe = record { setup = setup; read = read; safe = safe }
-safe-walked composes t root path setup (Err refusal) read safe = tt
-
--- what the report takes is what is asked for, with the setup
-works-walked : (composes : Bool) (t : Names) (root path : List ℕ) (setup : Setup) (answer : Result (List ℕ) Refusal) (questions0 questions1 reads0 reads reads1 : ℕ)
-    → setup_at (look t path true) ≡ Ok setup → Incremented reads0 reads
-    → OnOk answer (WorksAt composes t root setup questions0 questions1 reads reads1) → OnOk answer (ReportWorks composes t questions0 questions1 reads0 reads1 root path)
-works-walked composes t root path setup (Ok text) questions0 questions1 reads0 reads reads1 read once works =
-    record { setup = setup; read = read; works = subst (λ (n : ℕ). WorksAt composes t root setup questions0 questions1 n reads1) once works }
-works-walked composes t root path setup (Err refusal) questions0 questions1 reads0 reads reads1 read once works = tt
-
-same_setup : {a b : Setup} (r : Result Setup ℕ) → r ≡ Ok a → r ≡ Ok b → a ≡ b
-same_setup r e f = cc
-
--- the one directory that is listed at most
-lists-walked : (t : Names) (root path : List ℕ) (setup : Setup) (answer : Result (List ℕ) Refusal) (lists0 lists lists1 : ℕ)
-    → setup_at (look t path true) ≡ Ok setup → lists ≡ lists0 → OnOk answer (setup.options.strategy ≡ AtOnce → lists1 ≤ lists + 1) → OnOk answer (ListsOnce t lists0 lists1 root path)
-lists-walked t root path setup (Ok text) lists0 lists lists1 read same once =
-    λ other read_so at_once. let most = once (ap (λ (s : Setup). s.options.strategy) (same_setup _ read read_so) ∙ at_once) in omega (arith, same, most)
-lists-walked t root path setup (Err refusal) lists0 lists lists1 read same once = tt
+use Rattle.worktree_report.specs.Ends.{Ends}
+use Rattle.worktree_report.specs.Run as top
 
 -- a count that rose from later on rose from before
 pub Rose-before : (before later now : ℕ) → before ≤ later → Increased later now → Increased before now
@@ -60,20 +29,85 @@ Rose-before before later now older rose = omega arith
 pub Quiet-later : (before later now : ℕ) → before ≤ later → NotIncreased before now → NotIncreased later now
 Quiet-later before later now older quiet = omega arith
 
--- ---- what is answered
-
 -- which refusal is answered
 which : {T : Type 0} {from to : Refusal} → IsErrOf {T = T} (Err from) to → from ≡ to
 which is = cc
 
+same_setup : {a b : Setup} (r : Result Setup ℕ) → r ≡ Ok a → r ≡ Ok b → a ≡ b
+same_setup r e f = cc
+
 is_read : {a : Setup} {line : ℕ} → Ok a ≡ Err line → ⊥
 is_read e = absurd cc
 
-module _ {W : Type 0} (w : WorktreeOf W) (w0 w1 : W) (root path : List ℕ) where
+-- ---- causes, for any command over a work tree
+
+module _ {W I : Type 0} (w : WorktreeOf W) (i : InterruptOf I) (w0 w1 : W) (i0 i1 : I) (made : Setup → Setup) (places : Places) where
+  -- there is a text
+  pub HasCauses-given : (text : List ℕ) → top.HasCauses w i w0 w1 i0 i1 made places (Ok text)
+  HasCauses-given text =
+      record {
+        no_usage = λ is. absurd cc;
+        setup = λ t told line is. absurd cc;
+        setup_unasked = λ line is. absurd cc;
+        misread = λ t told misread is. absurd cc;
+        misread_about = λ misread is. absurd cc;
+        misread_unasked = λ misread is. absurd cc;
+        walk = λ t told quiet word p is. absurd cc;
+        about = λ word p is. absurd cc;
+        cause = λ is. absurd cc;
+        fault_late = λ is. absurd cc;
+        interrupted = λ is. absurd cc;
+        interrupted_late = λ t told is. absurd cc;
+        no_output = λ is. absurd cc;
+        complete = λ t told quiet calm valid. tt;
+      }
+
+  -- memory is wanted
+  pub HasCauses-memory : top.HasCauses w i w0 w1 i0 i1 made places (Err refusals.OutOfMemory)
+  HasCauses-memory =
+      record {
+        no_usage = λ is. absurd cc;
+        setup = λ t told line is. absurd cc;
+        setup_unasked = λ line is. absurd cc;
+        misread = λ t told misread is. absurd cc;
+        misread_about = λ misread is. absurd cc;
+        misread_unasked = λ misread is. absurd cc;
+        walk = λ t told quiet word p is. absurd cc;
+        about = λ word p is. absurd cc;
+        cause = λ is. absurd cc;
+        fault_late = λ is. absurd cc;
+        interrupted = λ is. absurd cc;
+        interrupted_late = λ t told is. absurd cc;
+        no_output = λ is. absurd cc;
+        complete = λ t told quiet calm valid. refl;
+      }
+
+  -- the worktree failed
+  pub HasCauses-fault : Increased (w.faults w0) (w.faults w1)
+      → ((w.lists w1 ≡ w.lists w0) × (i1 ≡ i0)) ⊎ ((t : Names) → w.told w0 ≡ Some t → top.IsKnownReport made t places)
+      → top.HasCauses w i w0 w1 i0 i1 made places (Err refusals.Fault)
+  HasCauses-fault rose late =
+      record {
+        no_usage = λ is. absurd cc;
+        setup = λ t told line is. absurd cc;
+        setup_unasked = λ line is. absurd cc;
+        misread = λ t told misread is. absurd cc;
+        misread_about = λ misread is. absurd cc;
+        misread_unasked = λ misread is. absurd cc;
+        walk = λ t told quiet word p is. absurd cc;
+        about = λ word p is. absurd cc;
+        cause = λ is. rose;
+        fault_late = λ is. late;
+        interrupted = λ is. absurd cc;
+        interrupted_late = λ t told is. absurd cc;
+        no_output = λ is. absurd cc;
+        complete = λ t told quiet calm valid. absurd (omega (arith, rose, quiet));
+      }
+
   wants_memory : (refusal : Refusal) → IsOfReading refusal
-      → ((t : Names) → w.told w0 ≡ Some t → (line : ℕ) → refusal ≡ refusals.Setup line → setup_at (look t path true) ≡ Err line)
+      → ((t : Names) → w.told w0 ≡ Some t → (line : ℕ) → refusal ≡ refusals.Setup line → top.SetupRefuses t places line)
       → (refusal ≡ refusals.Fault → Increased (w.faults w0) (w.faults w1))
-      → (t : Names) → w.told w0 ≡ Some t → NotIncreased (w.faults w0) (w.faults w1) → IsReadyAt (w.precomposes w0) t root path → refusal ≡ refusals.OutOfMemory
+      → (t : Names) → w.told w0 ≡ Some t → NotIncreased (w.faults w0) (w.faults w1) → top.IsReadyAt made (w.precomposes w0) t places → refusal ≡ refusals.OutOfMemory
   wants_memory refusals.Interrupted of outside fault t told quiet valid = absurd of
   wants_memory refusals.Usage of outside fault t told quiet valid = absurd of
   wants_memory (refusals.Setup line) of outside fault t told quiet valid = absurd (is_read (sym valid.read ∙ outside t told line refl))
@@ -83,165 +117,274 @@ module _ {W : Type 0} (w : WorktreeOf W) (w0 w1 : W) (root path : List ℕ) wher
   wants_memory refusals.Output of outside fault t told quiet valid = absurd of
   wants_memory refusals.OutOfMemory of outside fault t told quiet valid = refl
 
-module _ {W I : Type 0} {w : WorktreeOf W} {i : InterruptOf I} {w0 w1 : W} {i0 i1 : I} where
-  -- the same of what is asked for by another name
-  pub Answers-named : {command asked : Option Command} {result : Result (List ℕ) Refusal} → command ≡ asked → Answers w i w0 w1 i0 i1 command result → Answers w i w0 w1 i0 i1 asked result
-  Answers-named {result = result} e answers = subst (λ (x : Option Command). Answers w i w0 w1 i0 i1 x result) e answers
-
-module _ {W I : Type 0} {w : WorktreeOf W} {i : InterruptOf I} {w0 w1 : W} {i0 : I} {root path : List ℕ} where
   -- the setup is not read
-  pub Answers-unread : (refusal : Refusal) → IsOfReading refusal
-      → ((t : Names) → w.told w0 ≡ Some t → (line : ℕ) → refusal ≡ refusals.Setup line → setup_at (look t path true) ≡ Err line)
-      → (refusal ≡ refusals.Fault → Increased (w.faults w0) (w.faults w1))
-      → w.told w1 ≡ w.told w0 → w.faults w0 ≤ w.faults w1 → w.list_faults w1 ≡ w.list_faults w0 → w.precomposes w1 ≡ w.precomposes w0
-      → Answers w i w0 w1 i0 i0 (Some (report root path)) (Err refusal)
-  Answers-unread refusal of outside fault tree faults listed composes =
+  pub HasCauses-unread : (refusal : Refusal) → IsOfReading refusal
+      → ((t : Names) → w.told w0 ≡ Some t → (line : ℕ) → refusal ≡ refusals.Setup line → top.SetupRefuses t places line)
+      → (refusal ≡ refusals.Fault → Increased (w.faults w0) (w.faults w1)) → w.lists w1 ≡ w.lists w0 → i1 ≡ i0 → top.HasCauses w i w0 w1 i0 i1 made places (Err refusal)
+  HasCauses-unread refusal of outside fault listed unasked =
       record {
-        gives = λ t told quiet. tt;
-        safe = λ t told quiet. tt;
-        works = λ t told quiet. tt;
-        lists = λ t told. tt;
-        generated = tt;
-        generating = tt;
-        unasked = tt;
-        usage = (λ is. absurd (subst IsOfReading (which is) of), λ e. absurd cc);
+        no_usage = λ is. absurd (subst IsOfReading (which is) of);
         setup = λ t told line is. outside t told line (which is);
+        setup_unasked = λ line is. (listed, unasked);
         misread = λ t told misread is. absurd (subst IsOfReading (which is) of);
+        misread_about = λ misread is. absurd (subst IsOfReading (which is) of);
+        misread_unasked = λ misread is. absurd (subst IsOfReading (which is) of);
         walk = λ t told quiet word p is. absurd (subst IsOfReading (which is) of);
         about = λ word p is. absurd (subst IsOfReading (which is) of);
         cause = λ is. fault (which is);
+        fault_late = λ is. inl (listed, unasked);
         interrupted = λ is. absurd (subst IsOfReading (which is) of);
+        interrupted_late = λ t told is. absurd (subst IsOfReading (which is) of);
         no_output = λ is. subst IsOfReading (which is) of;
-        complete = λ t told quiet calm valid. wants_memory w w0 w1 root path refusal of outside fault t told quiet valid;
-        tree = tree;
-        faults = faults;
-        list_faults = omega (arith, listed);
-        list_faults_kept = tt;
-        precomposes = composes;
-        raised = omega arith;
-        calm = tt;
+        complete = λ t told quiet calm valid. wants_memory refusal of outside fault t told quiet valid;
       }
 
-module _ {W I : Type 0} {w : WorktreeOf W} {i : InterruptOf I} {w0 w1 w2 : W} {i0 i1 : I} {root path : List ℕ} where
-  -- the work tree is walked by the setup that was read
-  pub Answers-walked : (setup : Setup) (result : Result (List ℕ) Refusal)
-      → ((t : Names) → w.told w0 ≡ Some t → setup_at (look t path true) ≡ Ok setup) → Incremented (w.reads w0) (w.reads w1) → w.lists w1 ≡ w.lists w0
-      → w.told w1 ≡ w.told w0 → w.faults w0 ≤ w.faults w1 → w.list_faults w1 ≡ w.list_faults w0 → w.precomposes w1 ≡ w.precomposes w0
-      → Texts w i (w.precomposes w1) w1 w2 i0 i1 root setup result → Answers w i w0 w2 i0 i1 (Some (report root path)) result
-  Answers-walked setup result read once none_listed tree faults listed composes told_of =
-      let texts : Texts w i (w.precomposes w0) w1 w2 i0 i1 root setup result = subst (λ b. Texts w i b w1 w2 i0 i1 root setup result) composes told_of in
-      let unless : (refusal : Refusal) → IsErrOf result refusal → IsOfWalking refusal = λ refusal is. subst (λ r. IfErr r IsOfWalking) is texts.answers in
+module _ {W I : Type 0} (w : WorktreeOf W) (i : InterruptOf I) (w0 w1 w2 : W) (i0 i1 : I) (made : Setup → Setup) (places : Places) where
+  -- the report is made by the setup that was read
+  pub HasCauses-walked : (setup : Setup) (answer : Result (List ℕ) Refusal)
+      → ((t : Names) → w.told w0 ≡ Some t → setup_at (look t places.setup true) ≡ Ok setup)
+      → w.told w1 ≡ w.told w0 → w.faults w0 ≤ w.faults w1 → w.lists w1 ≡ w.lists w0
+      → Texts w i (w.precomposes w0) w1 w2 i0 i1 places.root (made setup) answer → top.HasCauses w i w0 w2 i0 i1 made places answer
+  HasCauses-walked setup answer read tree faults listed texts =
+      let unless : (refusal : Refusal) → IsErrOf answer refusal → IsOfWalking refusal = λ refusal is. subst (λ r. IfErr r IsOfWalking) is texts.answers in
       record {
-        gives = λ t told quiet. output_at-walked _ t root path setup result (read t told) (texts.gives t (tree ∙ told) (Quiet-later _ _ _ faults quiet));
-        safe = λ t told quiet. safe-walked _ t root path setup result (read t told) (texts.safe t (tree ∙ told) (Quiet-later _ _ _ faults quiet));
-        works = λ t told quiet. works-walked _ t root path setup result _ _ _ _ _ (read t told) once (texts.works t (tree ∙ told) (Quiet-later _ _ _ faults quiet));
-        lists = λ t told. lists-walked t root path setup result _ _ _ (read t told) none_listed texts.lists;
-        generated = tt;
-        generating = tt;
-        unasked = tt;
-        usage = (λ is. absurd (unless refusals.Usage is), λ e. absurd cc);
+        no_usage = λ is. unless refusals.Usage is;
         setup = λ t told line is. absurd (unless (refusals.Setup line) is);
+        setup_unasked = λ line is. absurd (unless (refusals.Setup line) is);
         misread = λ t told misread is. record { setup = setup; read = read t told; misread = texts.misread t (tree ∙ told) misread is };
+        misread_about = λ misread is. record { setup = setup; read = read; about = (texts.outside misread is).about };
+        misread_unasked = λ misread is. let only = texts.outside misread is in (only.loads.lists ∙ listed, only.interrupt);
         walk = λ t told quiet word p is. record { setup = setup; read = read t told; refused = texts.refused t (tree ∙ told) (Quiet-later _ _ _ faults quiet) word p is };
-        about = λ word p is. record { setup = setup; read = read; about = texts.about word p is };
+        about = λ word p is. record { setup = setup; read = read; about = subst (λ (told : Option Names). IsAboutWalkAt (w.precomposes w0) told places.root (made setup) word p) tree (texts.about word p is) };
         cause = λ is. Rose-before _ _ _ faults (texts.cause is);
+        fault_late = λ is.
+            elim (texts.fault_late is) [
+              | inl early ↦ inl (early.0 ∙ listed, early.1)
+              | inr known ↦ inr (λ t told. record { setup = setup; read = read t told; known = known t (tree ∙ told) })
+            ];
         interrupted = texts.interrupted;
+        interrupted_late = λ t told is. record { setup = setup; read = read t told; known = texts.interrupted_late t (tree ∙ told) is };
         no_output = λ is. unless refusals.Output is;
         complete = λ t told quiet calm valid.
             texts.complete t (tree ∙ told) (Quiet-later _ _ _ faults quiet) calm
-            (subst (λ (s : Setup). IsValidAt (w.precomposes w0) (read_in t s) root s) (same_setup _ valid.read (read t told)) valid.valid);
-        tree = texts.worktree.tree ∙ tree;
-        faults = omega (arith, faults, texts.worktree.faults);
-        list_faults = omega (arith, listed, texts.worktree.list_faults);
-        list_faults_kept = subst (λ (n : ℕ). OnOk result (w.list_faults w2 ≡ n)) listed texts.listed;
-        precomposes = texts.worktree.precomposes ∙ composes;
-        raised = texts.interrupt.raised;
-        calm = texts.calm;
+            (subst (λ (s : Setup). IsValidAt (w.precomposes w0) (read_in t (made s)) places.root (made s)) (same_setup _ valid.read (read t told)) valid.valid);
       }
 
-module _ {W I : Type 0} {w : WorktreeOf W} {i : InterruptOf I} {w0 : W} {i0 : I} where
-  -- the words ask for nothing
-  pub Answers-nothing : Answers w i w0 w0 i0 i0 None (Err refusals.Usage)
-  Answers-nothing =
+-- ---- the report of a work tree
+
+output_is : (composes : Bool) (t : Names) (places : Places) (setup : Setup) (text : List ℕ)
+    → setup_at (look t places.setup true) ≡ Ok setup → text_of composes t places.root setup ≡ Some text → top.output_at composes t places ≡ Some text
+unfolding top.output_at
+output_is composes t places setup text read walked = rw read walked
+
+-- a text of the report by the setup that was read is the one that is asked for
+output_at-walked : (composes : Bool) (t : Names) (places : Places) (setup : Setup) (answer : Result (List ℕ) Refusal)
+    → setup_at (look t places.setup true) ≡ Ok setup → IfOk answer (λ text. text_of composes t places.root setup ≡ Some text)
+    → IfOk answer (λ text. top.output_at composes t places ≡ Some text)
+output_at-walked composes t places setup (Ok text) read walked = output_is composes t places setup text read walked
+output_at-walked composes t places setup (Err refusal) read walked = tt
+
+-- a safe report by that setup is safe
+safe-walked : (composes : Bool) (t : Names) (places : Places) (setup : Setup) (answer : Result (List ℕ) Refusal)
+    → setup_at (look t places.setup true) ≡ Ok setup → OnOk answer (IsSafeAt composes t places.root setup) → OnOk answer (top.IsSafeReport composes t places)
+safe-walked composes t places setup (Ok text) read safe = record { setup = setup; read = read; safe = safe }
+safe-walked composes t places setup (Err refusal) read safe = tt
+
+-- a report in order by that setup is in order
+orderly-walked : (composes : Bool) (told told_now : Option Names) (places : Places) (setup : Setup) (answer : Result (List ℕ) Refusal)
+    → ((t : Names) → told ≡ Some t → setup_at (look t places.setup true) ≡ Ok setup) → told_now ≡ told
+    → IfOk answer (IsOrderlyText composes told_now places.root setup) → IfOk answer (top.IsOrderlyReport composes told places)
+orderly-walked composes told told_now places setup (Ok text) read same is =
+    record { setup = setup; read = read; orderly = subst (λ (x : Option Names). IsOrderlyText composes x places.root setup text) same is }
+orderly-walked composes told told_now places setup (Err refusal) read same is = tt
+
+-- what the report takes is what is asked for, with the setup
+works-walked : (composes : Bool) (t : Names) (places : Places) (setup : Setup) (answer : Result (List ℕ) Refusal) (questions0 questions1 reads0 reads reads1 : ℕ)
+    → setup_at (look t places.setup true) ≡ Ok setup → Incremented reads0 reads
+    → OnOk answer (WorksAt composes t places.root setup questions0 questions1 reads reads1) → OnOk answer (top.ReportWorks composes t questions0 questions1 reads0 reads1 places)
+works-walked composes t places setup (Ok text) questions0 questions1 reads0 reads reads1 read once works =
+    record { setup = setup; read = read; works = subst (λ (n : ℕ). WorksAt composes t places.root setup questions0 questions1 n reads1) once works }
+works-walked composes t places setup (Err refusal) questions0 questions1 reads0 reads reads1 read once works = tt
+
+-- the one directory that is listed at most
+lists-walked : (t : Names) (places : Places) (setup : Setup) (answer : Result (List ℕ) Refusal) (lists0 lists lists1 : ℕ)
+    → setup_at (look t places.setup true) ≡ Ok setup → lists ≡ lists0 → OnOk answer (setup.options.strategy ≡ AtOnce → lists1 ≤ lists + 1) → OnOk answer (top.ListsOnce t places lists0 lists1)
+lists-walked t places setup (Ok text) lists0 lists lists1 read same once =
+    λ other read_so at_once. let most = once (ap (λ (s : Setup). s.options.strategy) (same_setup _ read read_so) ∙ at_once) in omega (arith, same, most)
+lists-walked t places setup (Err refusal) lists0 lists lists1 read same once = tt
+
+module _ {W I : Type 0} {w : WorktreeOf W} {i : InterruptOf I} {w0 w1 : W} {i0 : I} {places : Places} where
+  -- the setup is not read
+  pub AnswersReport-unread : (refusal : Refusal) → IsOfReading refusal
+      → ((t : Names) → w.told w0 ≡ Some t → (line : ℕ) → refusal ≡ refusals.Setup line → top.SetupRefuses t places line)
+      → (refusal ≡ refusals.Fault → Increased (w.faults w0) (w.faults w1))
+      → w.told w1 ≡ w.told w0 → w.faults w0 ≤ w.faults w1 → w.list_faults w1 ≡ w.list_faults w0 → w.lists w1 ≡ w.lists w0 → w.precomposes w1 ≡ w.precomposes w0
+      → top.AnswersReport w i w0 w1 i0 i0 places (Err refusal)
+  AnswersReport-unread refusal of outside fault tree faults listed none_listed composes =
       record {
         gives = λ t told quiet. tt;
+        orderly = tt;
         safe = λ t told quiet. tt;
         works = λ t told quiet. tt;
         lists = λ t told. tt;
-        generated = tt;
-        generating = tt;
-        unasked = tt;
-        usage = (λ is. refl, λ e. refl);
-        setup = λ t told line is. absurd cc;
-        misread = λ t told misread is. absurd cc;
-        walk = λ t told quiet word p is. absurd cc;
-        about = λ word p is. absurd cc;
-        cause = λ is. absurd cc;
-        interrupted = λ is. absurd cc;
-        no_output = λ is. absurd cc;
-        complete = λ t told quiet calm valid. absurd valid;
-        tree = refl;
-        faults = omega arith;
-        list_faults = omega arith;
-        list_faults_kept = tt;
-        precomposes = refl;
-        raised = omega arith;
-        calm = tt;
+        causes = HasCauses-unread w i w0 w1 i0 i0 top.as_read places refusal of outside fault none_listed refl;
+        keeps = record { tree = tree; faults = faults; list_faults = omega (arith, listed); list_faults_kept = tt; lists = omega (arith, none_listed); precomposes = composes; questions = omega arith; raised = omega arith; calm = tt };
       }
 
-text_is : (n questions0 questions1 : ℕ) (result : Result (List ℕ) Refusal) → IfOk result (Generated n questions0 questions1) → IfOk result (λ text. generated_text n ≡ Some text)
-text_is n questions0 questions1 (Ok text) made = ap (option_map (generated_lines n)) made.is ∙ ap (λ (x : List ℕ). Some x) (sym made.text_is)
-text_is n questions0 questions1 (Err refusal) made = tt
-
-unless_ok : (result : Result (List ℕ) Refusal) (P : Type 0) → P → OnOk result P
-unless_ok (Ok text) P holds = holds
-unless_ok (Err refusal) P holds = tt
-
-only_memory : (n : ℕ) (result : Result (List ℕ) Refusal) → IfErr result IsOfGenerating → ¬ IsErrOf result refusals.Interrupted → IfErr result (λ refusal. refusal ≡ refusals.OutOfMemory)
-only_memory n (Ok text) of calm = tt
-only_memory n (Err refusals.Interrupted) of calm = absurd (calm refl)
-only_memory n (Err refusals.Usage) of calm = absurd of
-only_memory n (Err (refusals.Setup line)) of calm = absurd of
-only_memory n (Err (refusals.Misread misread)) of calm = absurd of
-only_memory n (Err (refusals.Walk word p)) of calm = absurd of
-only_memory n (Err refusals.Fault) of calm = absurd of
-only_memory n (Err refusals.Output) of calm = absurd of
-only_memory n (Err refusals.OutOfMemory) of calm = refl
-
-module _ {W I : Type 0} {w : WorktreeOf W} {i : InterruptOf I} {w0 : W} {i0 i1 : I} where
-  -- a tree of files in memory is reported
-  pub Answers-generated : (n : ℕ) (result : Result (List ℕ) Refusal) → IfOk result (Generated n (i.questions i0) (i.questions i1)) → IfErr result IsOfGenerating
-      → (IsErrOf result refusals.Interrupted → Increased (i.raised i0) (i.raised i1)) → i.raised i0 ≤ i.raised i1 → OnOk result (i.raised i1 ≡ i.raised i0)
-      → Answers w i w0 w0 i0 i1 (Some (generate n)) result
-  Answers-generated n result made of interrupted later calm =
-      let unless : (refusal : Refusal) → IsErrOf result refusal → IsOfGenerating refusal = λ refusal is. subst (λ r. IfErr r IsOfGenerating) is of in
+module _ {W I : Type 0} {w : WorktreeOf W} {i : InterruptOf I} {w0 w1 w2 : W} {i0 i1 : I} {places : Places} where
+  -- the work tree is walked by the setup that was read
+  pub AnswersReport-walked : (setup : Setup) (answer : Result (List ℕ) Refusal)
+      → ((t : Names) → w.told w0 ≡ Some t → setup_at (look t places.setup true) ≡ Ok setup) → Incremented (w.reads w0) (w.reads w1) → w.lists w1 ≡ w.lists w0
+      → w.told w1 ≡ w.told w0 → w.faults w0 ≤ w.faults w1 → w.list_faults w1 ≡ w.list_faults w0 → w.precomposes w1 ≡ w.precomposes w0
+      → Texts w i (w.precomposes w1) w1 w2 i0 i1 places.root setup answer → top.AnswersReport w i w0 w2 i0 i1 places answer
+  AnswersReport-walked setup answer read once none_listed tree faults listed composes told_of =
+      let texts : Texts w i (w.precomposes w0) w1 w2 i0 i1 places.root setup answer = subst (λ b. Texts w i b w1 w2 i0 i1 places.root setup answer) composes told_of in
       record {
-        gives = λ t told quiet. text_is n _ _ result made;
-        safe = λ t told quiet. unless_ok result _ tt;
-        works = λ t told quiet. unless_ok result _ tt;
-        lists = λ t told. unless_ok result _ tt;
-        generated = made;
-        generating = of;
-        unasked = refl;
-        usage = (λ is. absurd (unless refusals.Usage is), λ e. absurd cc);
-        setup = λ t told line is. absurd (unless (refusals.Setup line) is);
-        misread = λ t told misread is. absurd (unless (refusals.Misread misread) is);
-        walk = λ t told quiet word p is. absurd (unless (refusals.Walk word p) is);
-        about = λ word p is. absurd (unless (refusals.Walk word p) is);
-        cause = λ is. absurd (unless refusals.Fault is);
-        interrupted = interrupted;
-        no_output = λ is. unless refusals.Output is;
-        complete = λ t told quiet quiet_interrupt valid. only_memory n result of (λ is. absurd (omega (arith, interrupted is, quiet_interrupt)));
-        tree = refl;
-        faults = omega arith;
-        list_faults = omega arith;
-        list_faults_kept = unless_ok result _ refl;
-        precomposes = refl;
-        raised = later;
-        calm = calm;
+        gives = λ t told quiet. output_at-walked _ t places setup answer (read t told) (texts.gives t (tree ∙ told) (Quiet-later _ _ _ faults quiet));
+        orderly = orderly-walked _ (w.told w0) (w.told w1) places setup answer read tree texts.orderly;
+        safe = λ t told quiet. safe-walked _ t places setup answer (read t told) (texts.safe t (tree ∙ told) (Quiet-later _ _ _ faults quiet));
+        works = λ t told quiet. works-walked _ t places setup answer _ _ _ _ _ (read t told) once (texts.works t (tree ∙ told) (Quiet-later _ _ _ faults quiet));
+        lists = λ t told. lists-walked t places setup answer _ _ _ (read t told) none_listed texts.lists;
+        causes = HasCauses-walked w i w0 w1 w2 i0 i1 top.as_read places setup answer read tree faults none_listed texts;
+        keeps =
+            record {
+              tree = texts.worktree.tree ∙ tree;
+              faults = omega (arith, faults, texts.worktree.faults);
+              list_faults = omega (arith, listed, texts.worktree.list_faults);
+              list_faults_kept = subst (λ (n : ℕ). OnOk answer (w.list_faults w2 ≡ n)) listed texts.listed;
+              lists = omega (arith, none_listed, texts.worktree.lists);
+              questions = texts.interrupt.questions;
+              precomposes = texts.worktree.precomposes ∙ composes;
+              raised = texts.interrupt.raised;
+              calm = texts.calm;
+            };
       }
+
+-- ---- what the words ask for
+
+-- the same of what is asked for by another name
+pub Answers-named : {W I : Type 0} (w : WorktreeOf W) (i : InterruptOf I) (w0 w1 : W) (i0 i1 : I) (command asked : Option Command) (answer : Result (List ℕ) Refusal) → command ≡ asked
+    → top.Answers w i w0 w1 i0 i1 command answer → top.Answers w i w0 w1 i0 i1 asked answer
+Answers-named w i w0 w1 i0 i1 command asked answer e answers = subst (λ (x : Option Command). top.Answers w i w0 w1 i0 i1 x answer) e answers
 
 -- what is asked for, where it is known what was found
 pub asked-is : {C : Type 0} (f : C → Command) (words : List (List ℕ)) (before now : Bool) (found asked : Option C) → option_map f found ≡ command_of now words → now ≡ before → found ≡ asked
     → option_map f asked ≡ command_of before words
 asked-is f words before now found asked e same is = ap (option_map f) (sym is) ∙ e ∙ ap (λ (x : Bool). command_of x words) same
+
+-- ---- what follows from the status
+
+text_is : (n questions0 questions1 : ℕ) (text : List ℕ) → Generated n questions0 questions1 text → generated_text n ≡ Some text
+text_is n questions0 questions1 text made = ap (option_map (generated_lines n)) made.is ∙ ap (λ (x : List ℕ). Some x) (sym made.text_is)
+
+no_zero : (refusal : Refusal) → status_of refusal ≡ 0 → ⊥
+no_zero refusals.Interrupted is = omega arith
+no_zero refusals.Usage is = omega arith
+no_zero (refusals.Setup line) is = omega arith
+no_zero (refusals.Walk word path) is = omega arith
+no_zero (refusals.Misread misread) is = omega arith
+no_zero refusals.Fault is = omega arith
+no_zero refusals.Output is = omega arith
+no_zero refusals.OutOfMemory is = omega arith
+
+-- two is the status of words that ask for nothing alone
+two_is : (refusal : Refusal) → status_of refusal ≡ 2 → refusal ≡ refusals.Usage
+two_is refusals.Interrupted is = absurd (omega arith)
+two_is refusals.Usage is = refl
+two_is (refusals.Setup line) is = absurd (omega arith)
+two_is (refusals.Walk word path) is = absurd (omega arith)
+two_is (refusals.Misread misread) is = absurd (omega arith)
+two_is refusals.Fault is = absurd (omega arith)
+two_is refusals.Output is = absurd (omega arith)
+two_is refusals.OutOfMemory is = absurd (omega arith)
+
+module _ {S E : Type 0} (s : SinkOf S) (e : SinkOf E) (s0 s1 : S) (e0 e1 : E) (usage : List ℕ) (status : ℕ) where
+  -- with 0 there is a text, and it is written
+  pub ends_in_zero : (answer : Result (List ℕ) Refusal) → Ends s e s0 s1 e0 e1 usage answer status → status ≡ 0
+      → (text : List ℕ) × (answer ≡ Ok text) × Appends (s.written s0) (s.written s1) text
+  ends_in_zero (Ok text) ends zero = elim ends.by [ inl whole ↦ (text, refl, whole.written) | inr cut ↦ absurd (let is = cut.status_is in omega (arith, is, zero)) ]
+  ends_in_zero (Err refusal) ends zero =
+      elim ends.by.1 [
+        | inl told ↦ absurd (no_zero refusal (sym told.status_is ∙ zero))
+        | inr untold ↦ absurd (let is = untold.wants.status_is in omega (arith, is, zero))
+      ]
+
+  -- with 2 the words ask for nothing
+  pub ends_in_two : (answer : Result (List ℕ) Refusal) → Ends s e s0 s1 e0 e1 usage answer status → status ≡ 2 → IsErrOf answer refusals.Usage
+  ends_in_two (Ok text) ends two =
+      elim ends.by [ inl whole ↦ absurd (let is = whole.status_is in omega (arith, is, two)) | inr cut ↦ absurd (let is = cut.status_is in omega (arith, is, two)) ]
+  ends_in_two (Err refusal) ends two =
+      elim ends.by.1 [
+        | inl told ↦ ap Err (two_is refusal (sym told.status_is ∙ two))
+        | inr untold ↦ absurd (let is = untold.wants.status_is in omega (arith, is, two))
+      ]
+
+  -- where they do it ends with 2
+  pub ends_of_usage : Ends s e s0 s1 e0 e1 usage (Err refusals.Usage) status → status ≡ 2
+  ends_of_usage ends = elim ends.by.1 [ inl told ↦ told.status_is | inr untold ↦ absurd (let made = untold.made in cc) ]
+
+  -- where only memory may be wanted and the output takes all it ends with 0 or 8
+  pub ends_well : (answer : Result (List ℕ) Refusal) → Ends s e s0 s1 e0 e1 usage answer status → NotIncreased (s.refusals s0) (s.refusals s1)
+      → IfErr answer (λ refusal. refusal ≡ refusals.OutOfMemory) → (status ≡ 0) ⊎ (status ≡ 8)
+  ends_well (Ok text) ends quiet memory = elim ends.by [ inl whole ↦ inl whole.status_is | inr cut ↦ absurd (let cause = cut.cause in omega (arith, cause, quiet)) ]
+  ends_well (Err refusal) ends quiet memory = elim ends.by.1 [ inl told ↦ inr (told.status_is ∙ ap status_of memory) | inr untold ↦ inr untold.wants.status_is ]
+
+only_memory : (refusal : Refusal) → IsOfGenerating refusal → ¬ (refusal ≡ refusals.Interrupted) → refusal ≡ refusals.OutOfMemory
+only_memory refusals.Interrupted of calm = absurd (calm refl)
+only_memory refusals.Usage of calm = absurd of
+only_memory (refusals.Setup line) of calm = absurd of
+only_memory (refusals.Misread misread) of calm = absurd of
+only_memory (refusals.Walk word p) of calm = absurd of
+only_memory refusals.Fault of calm = absurd of
+only_memory refusals.Output of calm = absurd of
+only_memory refusals.OutOfMemory of calm = refl
+
+module _ {W I : Type 0} (w : WorktreeOf W) (i : InterruptOf I) (w0 w1 : W) (i0 i1 : I) where
+  -- a text is the one that is asked for
+  pub text_asked-is : (command : Option Command) (text : List ℕ) → top.Answers w i w0 w1 i0 i1 command (Ok text)
+      → (t : Names) → w.told w0 ≡ Some t → NotIncreased (w.faults w0) (w.faults w1) → top.text_asked (w.precomposes w0) t command ≡ Some text
+  text_asked-is None text answers t told quiet = absurd (let is = answers.usage in cc)
+  text_asked-is (Some (report places)) text answers t told quiet = answers.gives t told quiet
+  text_asked-is (Some (generate n)) text answers t told quiet = text_is n _ _ text answers.gives
+
+  -- words are refused where they ask for nothing, and there alone
+  pub asks_nothing : (command : Option Command) (answer : Result (List ℕ) Refusal) → top.Answers w i w0 w1 i0 i1 command answer → IsErrOf answer refusals.Usage → command ≡ None
+  asks_nothing None answer answers is = refl
+  asks_nothing (Some (report places)) answer answers is = absurd (answers.causes.no_usage is)
+  asks_nothing (Some (generate n)) answer answers is = absurd (subst (λ r. IfErr r IsOfGenerating) is answers.refused)
+
+  -- for what can be had, where nothing failed or was raised, only memory may be wanted
+  pub wants_memory_alone : (command : Option Command) (answer : Result (List ℕ) Refusal) → top.Answers w i w0 w1 i0 i1 command answer
+      → (t : Names) → w.told w0 ≡ Some t → NotIncreased (w.faults w0) (w.faults w1) → NotIncreased (i.raised i0) (i.raised i1)
+      → top.CanBeHad (w.precomposes w0) t command → IfErr answer (λ refusal. refusal ≡ refusals.OutOfMemory)
+  wants_memory_alone None answer answers t told quiet calm valid = absurd valid
+  wants_memory_alone (Some (report places)) answer answers t told quiet calm valid = answers.causes.complete t told quiet calm valid
+  wants_memory_alone (Some (generate n)) (Ok text) answers t told quiet calm valid = tt
+  wants_memory_alone (Some (generate n)) (Err refusal) answers t told quiet calm valid =
+      only_memory refusal answers.refused (λ is. omega (arith, answers.interrupted (ap Err is), calm))
+
+module _ {W I S E : Type 0} (w : WorktreeOf W) (i : InterruptOf I) (s : SinkOf S) (e : SinkOf E) (w0 w1 : W) (i0 i1 : I) (s0 s1 : S) (e0 e1 : E) (usage : List ℕ) (command : Option Command) (status : ℕ) where
+  -- what is written with 0 is what is asked for
+  pub run_report : (answer : Result (List ℕ) Refusal) → top.Answers w i w0 w1 i0 i1 command answer → Ends s e s0 s1 e0 e1 usage answer status
+      → (t : Names) → w.told w0 ≡ Some t → NotIncreased (w.faults w0) (w.faults w1) → status ≡ 0
+      → (text : List ℕ) × (top.text_asked (w.precomposes w0) t command ≡ Some text) × Appends (s.written s0) (s.written s1) text
+  run_report answer answers ends t told quiet zero =
+      let wrote = ends_in_zero s e s0 s1 e0 e1 usage status answer ends zero in (
+        wrote.0,
+        text_asked-is w i w0 w1 i0 i1 command wrote.0 (subst (λ a. top.Answers w i w0 w1 i0 i1 command a) wrote.1 answers) t told quiet,
+        wrote.2,
+      )
+
+  -- the status is 2 exactly where the words ask for nothing
+  pub run_usage : (answer : Result (List ℕ) Refusal) → top.Answers w i w0 w1 i0 i1 command answer → Ends s e s0 s1 e0 e1 usage answer status
+      → (status ≡ 2) ↔ (command ≡ None)
+  run_usage answer answers ends = (
+    λ two. asks_nothing w i w0 w1 i0 i1 command answer answers (ends_in_two s e s0 s1 e0 e1 usage status answer ends two),
+    λ none. ends_in_usage answer (nothing_is (subst (λ c. top.Answers w i w0 w1 i0 i1 c answer) none answers)) ends,
+  )
+    where
+      nothing_is : top.AsksNothing w0 w1 i0 i1 answer → answer ≡ Err refusals.Usage
+      nothing_is nothing = nothing.usage
+
+      ends_in_usage : (answer : Result (List ℕ) Refusal) → answer ≡ Err refusals.Usage → Ends s e s0 s1 e0 e1 usage answer status → status ≡ 2
+      ends_in_usage answer is ends = ends_of_usage s e s0 s1 e0 e1 usage status (subst (λ a. Ends s e s0 s1 e0 e1 usage a status) is ends)

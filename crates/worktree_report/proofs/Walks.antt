@@ -1,5 +1,5 @@
 -- What a walk answers, with what a setup asks for.
-use Rattle.std.proofs.Common.{◌≡◌, ℕ, List, Bool, true, Option, Result, IfOk, IfErr, refl, sym, ap, ◌∙◌, subst, Err, inl, arith}
+use Rattle.std.proofs.Common.{◌≡◌, ◌-◌, ◌^◌, min, ℕ, List, length, Bool, true, Option, Result, IfOk, IfErr, refl, sym, ap, ◌∙◌, subst, Err, inl, inr, arith}
 use Rattle.gitbase_core.specs.declared.find.Find.{Ghosts as FindOf}
 use Rattle.worktree_fs.specs.declared.interrupt.Interrupt.{Ghosts as InterruptOf}
 use Rattle.worktree_fs.specs.declared.worktree.Worktree.{Ghosts as WorktreeOf}
@@ -16,13 +16,14 @@ use Rattle.dir_walk.specs.declared.outcome.Outcome.{Outcome}
 use Rattle.dir_walk.specs.declared.report.Report.{Report}
 use Rattle.dir_walk.specs.declared.strategy.Strategy.{Strategy}
 use Rattle.dir_walk.specs.declared.strategy.Strategy.TheVariants.{AtOnce, Held}
+use Rattle.dir_walk.specs.Distinct.{Ascends}
 use Rattle.dir_walk.specs.Opens.{IsListed}
-use Rattle.dir_walk.specs.Reports.{IsReport}
-use Rattle.dir_walk.specs.WalkRefused.{WalkAbout, WalkRefuses}
+use Rattle.dir_walk.specs.Reports.{IsFromRoot, IsReport}
+use Rattle.dir_walk.specs.WalkRefused.{WalkAbout, WalkFound, WalkRefuses}
 use Rattle.dir_walk.specs.Walkable.{IsValid}
 use Rattle.dir_walk.specs.Walks.{Tells, WalksWorktree}
 use Rattle.worktree_report.specs.declared.setup.Setup.{Setup}
-use Rattle.worktree_report.specs.Asked.{asked_of, chosen_of, current_dir_or, git_dir_or, setting_with}
+use Rattle.worktree_report.specs.Asked.{asked_of, chosen_of, current_dir_or, git_dir_or, read_in, setting_with}
 use Rattle.worktree_report.specs.Excluding.{excludes_of}
 use Rattle.worktree_report.specs.Reported.{Reports}
 
@@ -51,14 +52,21 @@ tells_of {w = w} {f = f} {w0 = w0} {o0 = o0} made step s told = record { tells =
 pub Reports-walked : {W F I : Type 0} {w : WorktreeOf W} {f : FindOf F} {i : InterruptOf I} {w0 w1 : W} {o0 o1 : F} {i0 i1 : I} {old new : Option Stacked} {root : List ℕ} {setup : Setup} {result : Result Report Error}
     → made_with old ≡ excludes_of root setup → ((s : Sources) → InStepIf s old)
     → ((s : Sources) → Tells w f w0 o0 old s → NotIncreased (w.faults w0) (w.faults w1) → IfOk result (IsReport (asked_of (w.precomposes w0) root setup) (made_with old) s setup.root setup.depth))
+    → IfOk result (λ r. Ascends r.entries) → IfOk result (λ r. r.outcome.returned_entries ≡ min (length r.entries) (2 ^ 64 - 1))
+    → IfOk result (IsFromRoot (asked_of (w.precomposes w0) root setup) setup.root)
     → WalksWorktree w f i w0 w1 o0 o1 i0 i1 old new setup.options.strategy (asked_of (w.precomposes w0) root setup) setup.root setup.depth true (λ (r : Report). r.outcome) (λ (r : Report). r.root) result
     → Reports w f i w0 w1 o0 o1 i0 i1 root setup result
-Reports-walked {w = w} {f = f} {w0 = w0} {root = root} {setup = setup} {result = result} made step gives walks =
+Reports-walked {w = w} {f = f} {w0 = w0} {o0 = o0} {root = root} {setup = setup} {result = result} made step gives ordered counted once walks =
     record {
       gives = λ s told quiet. subst (λ m. IfOk result (IsReport (asked_of (w.precomposes w0) root setup) m s setup.root setup.depth)) made (gives s (tells_of {w = w} {f = f} made step s told) quiet);
+      ordered = ordered;
+      counted = counted;
+      once = once;
       about = subst (λ m. IfErr result (WalkAbout (asked_of (w.precomposes w0) root setup) m setup.root setup.depth)) made walks.about;
+      found = λ s told. subst (λ m. IfErr result (WalkFound (asked_of (w.precomposes w0) root setup) m setup.root (f.holds o0) s)) made (walks.found s told);
       cause = walks.cause;
       interrupted = walks.interrupted;
+      no_root = λ t told quiet. walks.no_root (read_in t setup) told quiet;
       refused = λ s told quiet stored. subst (λ m. IfErr result (WalkRefuses (asked_of (w.precomposes w0) root setup) m s setup.root setup.depth)) made (walks.refused s (tells_of {w = w} {f = f} made step s told) refl quiet stored);
       complete = λ s told quiet stored calm valid.
           walks.complete s (tells_of {w = w} {f = f} made step s told) refl quiet stored calm (subst (λ m. IsValid (asked_of (w.precomposes w0) root setup) m s setup.root setup.depth) (sym made) valid);
@@ -81,9 +89,14 @@ pub Reports-memory : {W F I : Type 0} (w : WorktreeOf W) (f : FindOf F) (i : Int
 Reports-memory w f i w0 o0 i0 root setup =
     record {
       gives = λ s told quiet. tt;
+      ordered = tt;
+      counted = tt;
+      once = tt;
       about = inl tt;
+      found = λ s told. inr tt;
       cause = tt;
       interrupted = tt;
+      no_root = λ t told quiet. tt;
       refused = λ s told quiet stored. inl tt;
       complete = λ s told quiet stored calm valid. refl;
       worktree = record { tree = refl; faults = omega arith; list_faults = omega arith; lists = omega arith; precomposes = refl };

@@ -1,6 +1,7 @@
 -- The report of a work tree that a setup asks for.
-use Rattle.std.specs.Prelude.{◌≡◌, ◌⊎◌, ◌≤◌, ◌<◌, ◌-◌, ◌^◌, max, ℕ, List, Bool, codes, length, Option, Some, None, option_map, true, false, ◌+◌, Result, Ok, Err, IfOk}
+use Rattle.std.specs.Prelude.{◌≡◌, ◌⊎◌, ◌≤◌, ◌<◌, ◌-◌, ◌^◌, ℕ, List, [], Bool, codes, length, Option, Some, None, option_map, true, false, ◌+◌, Result, Ok, Err, IfOk}
 use Rattle.gitbase_core.specs.declared.entry.IndexEntry.{IndexEntry}
+use Rattle.gitbase_core.specs.Objects.{Objects}
 use Rattle.gitbase_core.specs.Path.{components, joined}
 use Rattle.glob_rules.specs.PathSpec.{PathSpec}
 use Rattle.glob_rules.specs.PathSpecs.{can_match, list_match, covers, common_directory}
@@ -16,8 +17,9 @@ use Rattle.dir_walk.specs.declared.report.Report.{Report as WalkReport}
 use Rattle.dir_walk.specs.Opens.{reads_rules_alone}
 use Rattle.dir_walk.specs.Report.{report}
 use Rattle.dir_walk.specs.Reports.{IsReport}
-use Rattle.dir_walk.specs.WalkRefused.{WalkAbout, WalkRefuses}
+use Rattle.dir_walk.specs.WalkRefused.{IsNoDirectory, OnNoRoot, WalkAbout, WalkFound, WalkRefuses}
 use Rattle.dir_walk.specs.Rooting.{IsNormalized}
+use Rattle.dir_walk.specs.Root.{rooted, traversal_root}
 use Rattle.dir_walk.specs.Walkable.{IsValid}
 use Rattle.worktree_report.specs.declared.known.Known.{Known}
 use Rattle.worktree_report.specs.declared.report.Report.{Report}
@@ -28,7 +30,7 @@ use Rattle.worktree_report.specs.declared.refusal.WalkWord.{WalkWord}
 use Rattle.worktree_report.specs.declared.refusal.Refusal.TheVariants as refusals
 use Rattle.worktree_report.specs.Excluding.{excludes_of}
 use Rattle.worktree_report.specs.Lines.{text_with}
-use Rattle.worktree_report.specs.Loading.{files_if, known_in}
+use Rattle.worktree_report.specs.Loading.{files_if, known_in, IsKnown}
 use Rattle.worktree_report.specs.Submodules.{described}
 use Rattle.worktree_report.specs.Converted.{of_walk}
 
@@ -130,12 +132,13 @@ pub record IsSafeAt (composes : Bool) (t : Names) (root : List ℕ) (setup : Set
   pub is : IsReportOf composes (read_in t setup) root setup made
 
 -- The worktree is not read any more, or no more often than a walk reads it from its traversal root on, which the report names, if
--- there is one; `opened` directories were opened, and a refusal may come with `spare` more.
+-- there is one: at most once for each directory that was opened, of which there are `opened`, and for each component of that root.
+-- A refusal may come with `spare` more.
 abbrev pub ReadsFrom : {E : Type 0} → Bool → List ℕ → Setup → Result Report E → ℕ → ℕ → ℕ → ℕ → Type 0
 ReadsFrom composes root setup result before now opened spare =
     (now ≡ before)
     ⊎ ((start : List ℕ) × IsNormalized (asked_of composes root setup) setup.root start × IfOk result (λ r. r.root ≡ full_path root start)
-    × (now ≤ before + max (opened + length (components start)) 1 + spare))
+    × (now ≤ before + opened + length (components start) + spare))
 
 -- The worktree is read no more often than a walk reads it, and once for each file that tells of submodules before.
 pub record ReadsWithin {E : Type 0} (composes : Bool) (root : List ℕ) (setup : Setup) (result : Result Report E) (before now opened spare : ℕ) : Type 0 where
@@ -145,8 +148,7 @@ pub record ReadsWithin {E : Type 0} (composes : Bool) (root : List ℕ) (setup :
 
 -- Of the report over a tree: the interrupt was asked at least as often as directories are counted, or stands at its last value;
 -- and where files are read for their rules alone, and all over the worktree itself, it was read at most once for each of these and
--- once for each component of the traversal root, or once where there is neither, besides what tells of submodules. The count is to
--- be below its last value.
+-- once for each component of the traversal root, besides what tells of submodules. The count is to be below its last value.
 pub record WorksAt (composes : Bool) (t : Names) (root : List ℕ) (setup : Setup) (questions0 questions1 reads0 reads1 : ℕ) : Type 0 where
   pub made : Report
   pub is : report_of composes (read_in t setup) root setup ≡ Some made
@@ -160,20 +162,33 @@ pub record WorksAt (composes : Bool) (t : Names) (root : List ℕ) (setup : Setu
 abbrev pub Refuses : Bool → Sources → List ℕ → Setup → Error → Type 0
 Refuses composes s root setup error = WalkRefuses (asked_of composes root setup) (excludes_of root setup) s setup.root setup.depth error
 
+-- the same of a told tree alone, and, where the store holds these objects, of the rules, whatever failed
+abbrev pub Found : Bool → List ℕ → Setup → Option Objects → Sources → Error → Type 0
+Found composes root setup holds s error = WalkFound (asked_of composes root setup) (excludes_of root setup) setup.root holds s error
+
+-- that the worktree root is the traversal root and no directory, where it is refused, without a fault
+abbrev pub NoRoot : Bool → Names → List ℕ → Setup → Error → Type 0
+NoRoot composes t root setup error =
+    OnNoRoot ((traversal_root (asked_of composes root setup) t setup.root ≡ rooted []) × IsNoDirectory (asked_of composes root setup) (read_in t setup)) error
+
 -- and of what was handed in
 abbrev pub About : Bool → List ℕ → Setup → Error → Type 0
 About composes root setup error = WalkAbout (asked_of composes root setup) (excludes_of root setup) setup.root setup.depth error
 
--- The walk of the work tree at `root` is refused with a word and a path: the error that they stand for is about what was handed
--- in, and has its cause in the tree.
+-- The walk of the work tree at `root` is refused with a word and a path: all that tells of submodules is in its grammar, and the
+-- error that they stand for is about what was handed in, and has its cause in the tree.
 pub record RefusesWalkAt (composes : Bool) (t : Names) (root : List ℕ) (setup : Setup) (word : WalkWord) (path : List ℕ) : Type 0 where
   pub error : Error
   pub is : of_walk error ≡ refusals.Walk word path
   pub about : About composes root setup error
   pub cause : Refuses composes (read_in t setup) root setup error
+  pub known : IsKnown (known_in t root setup)
 
--- the word and the path of a refused walk are about the root, the rules and the limit that were handed in, told tree or not
-pub record IsAboutWalkAt (composes : Bool) (root : List ℕ) (setup : Setup) (word : WalkWord) (path : List ℕ) : Type 0 where
+-- The word and the path of a refused walk are about the root, the rules and the limit that were handed in, told tree or not.
+-- Where a tree is told all that tells of submodules is in its grammar, and the error is found in the tree, whatever failed.
+pub record IsAboutWalkAt (composes : Bool) (told : Option Names) (root : List ℕ) (setup : Setup) (word : WalkWord) (path : List ℕ) : Type 0 where
   pub error : Error
   pub is : of_walk error ≡ refusals.Walk word path
   pub about : About composes root setup error
+  pub known : (t : Names) → told ≡ Some t → IsKnown (known_in t root setup)
+  pub found : (t : Names) → told ≡ Some t → Found composes root setup (Some setup.blobs) (read_in t setup) error

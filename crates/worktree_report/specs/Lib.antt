@@ -23,11 +23,15 @@ pub mod Converted
 pub mod SetupAt
 pub mod Loading
 pub mod Loads
+pub mod Outside
 pub mod Submodules
 pub mod Excluding
 pub mod Steps
 pub mod SetupIndex
 pub mod Asked
+pub mod Orderly
 pub mod Reported
 pub mod Generate
+pub mod Ends
 pub mod Run
+pub mod Looks

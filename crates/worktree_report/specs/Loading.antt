@@ -1,5 +1,5 @@
 -- What is known of the submodules of a work tree: the configurations that a setup names, and `.gitmodules`.
-use Rattle.std.specs.Prelude.{◌+◌, ℕ, List, [], ◌∷◌, ◌++◌, Bool, true, false, codes, count_by, Option, Some, None, Result, Ok, Err, if◌then◌else◌}
+use Rattle.std.specs.Prelude.{◌≡◌, ◌+◌, ℕ, List, [], ◌∷◌, ◌++◌, Bool, true, false, codes, count_by, Option, Some, None, Result, Ok, Err, if◌then◌else◌}
 use Rattle.gitbase_core.specs.Path.{joined}
 use Rattle.git_config_lite.specs.declared.metadata.Metadata.{Metadata}
 use Rattle.git_config_lite.specs.declared.metadata.Source.TheVariants.{Api}
@@ -103,6 +103,10 @@ unfoldable pub known_in : Names → List ℕ → Setup → Result (Option Known)
 known_in t root setup =
     if setup.options.submodules then and_then (with_specs setup.options.ignore_case) (modules_in t root setup)
     else Ok None
+
+-- all that tells of submodules is in its grammar
+abbrev pub IsKnown : Result (Option Known) Misread → Type 0
+IsKnown given = (known : Option Known) × (given ≡ Ok known)
 
 -- ---- reading them
 

@@ -1,5 +1,5 @@
 -- Why there is no report: the status and the line of each refusal.
-use Rattle.std.specs.Prelude.{◌≡◌, ◌⊎◌, ℕ, List, [], ◌∷◌, ◌++◌, Bool, true, false, codes, decimal, Option, Some, None}
+use Rattle.std.specs.Prelude.{◌≡◌, ℕ, List, [], ◌∷◌, ◌++◌, Bool, true, false, codes, decimal, Option, Some, None}
 use Rattle.worktree_fs.specs.Causes.{NotIncreased}
 use Rattle.worktree_report.specs.declared.refusal.WalkWord.{WalkWord}
 use Rattle.worktree_report.specs.declared.refusal.WalkWord.TheVariants as words
@@ -39,16 +39,16 @@ misread_line (misread.Config at line) = codes "config " ++ decimal at ++ codes "
 misread_line (misread.Modules line) = codes "modules: line " ++ decimal line ++ 10 ∷ []
 misread_line (misread.ActiveSpec at) = codes "active: value " ++ decimal at ++ 10 ∷ []
 
--- the line on standard error, its line feed included
-abbrev pub line_of : Refusal → List ℕ
-line_of refusals.Interrupted = codes "interrupted\n"
-line_of refusals.Usage = codes "usage: report ROOT SETUP or generate N\n"
-line_of (refusals.Setup line) = codes "setup: line " ++ decimal line ++ 10 ∷ []
-line_of (refusals.Misread which) = misread_line which
-line_of (refusals.Walk word path) = codes "walk: " ++ word_of word ++ 32 ∷ [] ++ escaped path ++ 10 ∷ []
-line_of refusals.Fault = codes "worktree fault\n"
-line_of refusals.Output = codes "output fault\n"
-line_of refusals.OutOfMemory = codes "out of memory\n"
+-- the line on standard error, its line feed included; that of words that ask for nothing is the command's own
+abbrev pub line_of : List ℕ → Refusal → List ℕ
+line_of usage refusals.Interrupted = codes "interrupted\n"
+line_of usage refusals.Usage = usage
+line_of usage (refusals.Setup line) = codes "setup: line " ++ decimal line ++ 10 ∷ []
+line_of usage (refusals.Misread which) = misread_line which
+line_of usage (refusals.Walk word path) = codes "walk: " ++ word_of word ++ 32 ∷ [] ++ escaped path ++ 10 ∷ []
+line_of usage refusals.Fault = codes "worktree fault\n"
+line_of usage refusals.Output = codes "output fault\n"
+line_of usage refusals.OutOfMemory = codes "out of memory\n"
 
 -- the line stands behind what was written before, where that is told and nothing was refused
 abbrev pub Says : Option (List ℕ) → Option (List ℕ) → ℕ → ℕ → List ℕ → Type 0
@@ -68,8 +68,4 @@ is_made refusals.OutOfMemory = false
 -- the line, where it has to be made
 abbrev pub IsLineIfMade : Option (List ℕ) → Refusal → Type 0
 IsLineIfMade None refusal = is_made refusal ≡ false
-IsLineIfMade (Some line) refusal = (line ≡ line_of refusal) × (is_made refusal ≡ true)
-
--- a status that the program ends with
-abbrev pub IsStatus : ℕ → Type 0
-IsStatus status = (status ≡ 0) ⊎ (refusal : Refusal) × (status_of refusal ≡ status)
+IsLineIfMade (Some line) refusal = (line ≡ line_of [] refusal) × (is_made refusal ≡ true)

@@ -1,5 +1,5 @@
 -- What making a report says: of the report or the refusal, and of what stays.
-use Rattle.std.specs.Prelude.{◌≡◌, ◌≤◌, ◌-◌, ◌+◌, ◌^◌, min, ℕ, List, true, Bool, Option, Some, Result, Ok, Err, IfOk, IfErr, OnOk, IsErrOf}
+use Rattle.std.specs.Prelude.{◌≡◌, ◌⊎◌, ◌≤◌, ◌-◌, ◌+◌, ◌^◌, min, ℕ, List, length, true, Bool, Option, Some, Result, Ok, Err, IfOk, IfErr, OnOk, IsErrOf}
 use Rattle.gitbase_core.specs.declared.find.Find.{Ghosts as FindOf}
 use Rattle.worktree_fs.specs.declared.interrupt.Interrupt.{Ghosts as InterruptOf}
 use Rattle.worktree_fs.specs.declared.worktree.Worktree.{Ghosts as WorktreeOf}
@@ -14,8 +14,10 @@ use Rattle.dir_classify.specs.Excludes.{TellsIf}
 use Rattle.dir_classify.specs.Refused.{OnFault}
 use Rattle.dir_walk.specs.declared.report.Report.{Report as WalkReport}
 use Rattle.dir_walk.specs.declared.strategy.Strategy.TheVariants.{Held, AtOnce}
+use Rattle.dir_walk.specs.Distinct.{Ascends}
 use Rattle.dir_walk.specs.Kept.{AsksInterrupt, KeepsTree, OnInterrupt}
 use Rattle.dir_walk.specs.Opens.{IsListed, reads_rules_alone}
+use Rattle.dir_walk.specs.Reports.{IsFromRoot}
 use Rattle.dir_walk.specs.Walkable.{IsValid}
 use Rattle.dir_walk.specs.Walks.{OpensDirectories}
 use Rattle.worktree_report.specs.declared.error.ReportError.{ReportError}
@@ -28,11 +30,13 @@ use Rattle.worktree_report.specs.declared.setup.Setup.{Setup}
 use Rattle.worktree_report.specs.declared.refusal.Refusal.{Refusal}
 use Rattle.worktree_report.specs.declared.refusal.Refusal.TheVariants as refusals
 use Rattle.worktree_report.specs.declared.refusal.WalkWord.{WalkWord}
-use Rattle.worktree_report.specs.Asked.{asked_of, chosen_of, read_in, text_of, About, Refuses, IsReportOf, IsWalkOf, ReadsWithin, IsSafeAt, IsValidAt, WorksAt, RefusesWalkAt, IsAboutWalkAt}
+use Rattle.worktree_report.specs.Asked.{asked_of, chosen_of, read_in, text_of, About, Found, NoRoot, Refuses, IsReportOf, IsWalkOf, ReadsWithin, IsSafeAt, IsValidAt, WorksAt, RefusesWalkAt, IsAboutWalkAt}
 use Rattle.worktree_report.specs.Converted.{IsOfWalking}
 use Rattle.worktree_report.specs.Excluding.{excludes_of}
-use Rattle.worktree_report.specs.Loading.{known_in}
+use Rattle.worktree_report.specs.Loading.{known_in, IsKnown}
 use Rattle.worktree_report.specs.Loads.{of_walk}
+use Rattle.worktree_report.specs.Orderly.{IsOrderly, IsOrderlyText}
+use Rattle.worktree_report.specs.Outside.{IsOutside, LoadsAlone, MisreadsAt, OnMisread, OnReading}
 use Rattle.worktree_report.specs.Submodules.{described}
 
 -- What the walk of the work tree at `root` gives, where a worktree was `w0` and is `w1`, a store was `o0` and is `o1`, and an interrupt
@@ -42,10 +46,16 @@ pub record Reports {W F I : Type 0} (w : WorktreeOf W) (f : FindOf F) (i : Inter
   -- Over a told tree and a store that tells what it holds, and without a fault, it is exactly the one that the setup asks for.
   pub gives : (s : Sources) → TellsIf (w.told w0) (f.holds o0) (excludes_of root setup) s → NotIncreased (w.faults w0) (w.faults w1)
       → IfOk result (IsWalkOf (w.precomposes w0) s root setup)
-  -- Each refusal has its cause.
+  -- Over any worktree the entries ascend strictly by path, are counted, and are from a traversal root that was asked for.
+  pub ordered : IfOk result (λ r. Ascends r.entries)
+  pub counted : IfOk result (λ r. r.outcome.returned_entries ≡ min (length r.entries) (2 ^ 64 - 1))
+  pub once : IfOk result (IsFromRoot (asked_of (w.precomposes w0) root setup) setup.root)
+  -- Each refusal has its cause; over a told tree it is found there, whatever failed.
   pub about : IfErr result (About (w.precomposes w0) root setup)
+  pub found : (s : Sources) → w.told w0 ≡ Some s.tree → IfErr result (Found (w.precomposes w0) root setup (f.holds o0) s)
   pub cause : IfErr result (OnFault (Increased (w.faults w0) (w.faults w1)) (Increased (f.faults o0) (f.faults o1)))
   pub interrupted : IfErr result (OnInterrupt (Increased (i.raised i0) (i.raised i1)))
+  pub no_root : (t : Names) → w.told w0 ≡ Some t → NotIncreased (w.faults w0) (w.faults w1) → IfErr result (NoRoot (w.precomposes w0) t root setup)
   pub refused : (s : Sources) → TellsIf (w.told w0) (f.holds o0) (excludes_of root setup) s → NotIncreased (w.faults w0) (w.faults w1)
       → NotIncreased (f.faults o0) (f.faults o1) → IfErr result (Refuses (w.precomposes w0) s root setup)
   -- For valid input, and where nothing failed or was raised, only memory may be wanted.
@@ -79,13 +89,14 @@ OnReportFault TreeFailed StoreFailed (errors.ActiveSpec at) = Unit {0}
 OnReportFault TreeFailed StoreFailed errors.ReadFault = TreeFailed
 OnReportFault TreeFailed StoreFailed errors.OutOfMemory = Unit {0}
 
--- what tells of submodules is outside its grammar just there where a refusal says so
+-- What tells of submodules is outside its grammar just there where a refusal says so, and all of it is in its grammar where the
+-- walk was refused, which comes later.
 abbrev pub Misreads : Result (Option Known) Misread → ReportError → Type 0
 Misreads given (errors.Config at line) = given ≡ Err (misread.Config at line)
 Misreads given (errors.Modules line) = given ≡ Err (misread.Modules line)
 Misreads given (errors.ActiveSpec at) = given ≡ Err (misread.ActiveSpec at)
 Misreads given errors.ReadFault = Unit {0}
-Misreads given (errors.Walk e) = Unit {0}
+Misreads given (errors.Walk e) = IsKnown given
 Misreads given errors.OutOfMemory = Unit {0}
 
 -- a report is that of a walk with the submodules, and is refused for want of memory or as the walk is
@@ -111,11 +122,17 @@ pub record MakesReport {W F I : Type 0} (w : WorktreeOf W) (f : FindOf F) (i : I
   -- Over a told tree and a store that tells what it holds, and without a fault, it is exactly the one that the setup asks for.
   pub gives : (s : Sources) → TellsIf (w.told w0) (f.holds o0) (excludes_of root setup) s → NotIncreased (w.faults w0) (w.faults w1)
       → IfOk result (IsReportOf (w.precomposes w0) s root setup)
-  -- Each refusal has its cause.
+  -- Over any worktree the entries are in order, are counted, and have the submodules that are known.
+  pub orderly : IfOk result (IsOrderly (w.precomposes w0) (w.told w0) root setup)
+  -- Each refusal has its cause. What tells of submodules is read before the walk: where that is refused nothing else was asked.
   pub misread : (t : Names) → w.told w0 ≡ Some t → IfErr result (Misreads (known_in t root setup))
+  pub outside : IfErr result (OnMisread (IsOutside root setup))
+  pub alone : IfErr result (OnReading (LoadsAlone w w0 w1 o0 o1 i0 i1 setup))
   pub about : IfErr result (OnWalk (About (w.precomposes w0) root setup))
+  pub found : (s : Sources) → w.told w0 ≡ Some s.tree → IfErr result (OnWalk (Found (w.precomposes w0) root setup (f.holds o0) s))
   pub cause : IfErr result (OnReportFault (Increased (w.faults w0) (w.faults w1)) (Increased (f.faults o0) (f.faults o1)))
   pub interrupted : IfErr result (OnWalk (OnInterrupt (Increased (i.raised i0) (i.raised i1))))
+  pub no_root : (t : Names) → w.told w0 ≡ Some t → NotIncreased (w.faults w0) (w.faults w1) → IfErr result (OnWalk (NoRoot (w.precomposes w0) t root setup))
   pub refused : (s : Sources) → TellsIf (w.told w0) (f.holds o0) (excludes_of root setup) s → NotIncreased (w.faults w0) (w.faults w1)
       → NotIncreased (f.faults o0) (f.faults o1) → IfErr result (OnWalk (Refuses (w.precomposes w0) s root setup))
   -- For valid input, and where nothing failed or was raised, only memory may be wanted.
@@ -134,15 +151,20 @@ pub record MakesReport {W F I : Type 0} (w : WorktreeOf W) (f : FindOf F) (i : I
 -- The same of its text over a tree alone, with the refusals of the program. `composes` says whether the worktree composes names.
 pub record Texts {W I : Type 0} (w : WorktreeOf W) (i : InterruptOf I) (composes : Bool) (w0 w1 : W) (i0 i1 : I) (root : List ℕ) (setup : Setup) (result : Result (List ℕ) Refusal) : Type 0 where
   pub gives : (t : Names) → w.told w0 ≡ Some t → NotIncreased (w.faults w0) (w.faults w1) → IfOk result (λ text. text_of composes t root setup ≡ Some text)
+  pub orderly : IfOk result (IsOrderlyText composes (w.told w0) root setup)
   pub safe : (t : Names) → w.told w0 ≡ Some t → NotIncreased (w.faults w0) (w.faults w1) → OnOk result (IsSafeAt composes t root setup)
   pub works : (t : Names) → w.told w0 ≡ Some t → NotIncreased (w.faults w0) (w.faults w1)
       → OnOk result (WorksAt composes t root setup (i.questions i0) (i.questions i1) (w.reads w0) (w.reads w1))
   pub refused : (t : Names) → w.told w0 ≡ Some t → NotIncreased (w.faults w0) (w.faults w1)
       → (word : WalkWord) (path : List ℕ) → IsErrOf result (refusals.Walk word path) → RefusesWalkAt composes t root setup word path
   pub misread : (t : Names) → w.told w0 ≡ Some t → (which : Misread) → IsErrOf result (refusals.Misread which) → known_in t root setup ≡ Err which
-  pub about : (word : WalkWord) (path : List ℕ) → IsErrOf result (refusals.Walk word path) → IsAboutWalkAt composes root setup word path
+  pub outside : (which : Misread) → IsErrOf result (refusals.Misread which) → MisreadsAt w w0 w1 i0 i1 root setup which
+  pub about : (word : WalkWord) (path : List ℕ) → IsErrOf result (refusals.Walk word path) → IsAboutWalkAt composes (w.told w0) root setup word path
   pub cause : IsErrOf result refusals.Fault → Increased (w.faults w0) (w.faults w1)
+  pub fault_late : IsErrOf result refusals.Fault
+      → ((w.lists w1 ≡ w.lists w0) × (i1 ≡ i0)) ⊎ ((t : Names) → w.told w0 ≡ Some t → IsKnown (known_in t root setup))
   pub interrupted : IsErrOf result refusals.Interrupted → Increased (i.raised i0) (i.raised i1)
+  pub interrupted_late : (t : Names) → w.told w0 ≡ Some t → IsErrOf result refusals.Interrupted → IsKnown (known_in t root setup)
   pub answers : IfErr result IsOfWalking
   pub complete : (t : Names) → w.told w0 ≡ Some t → NotIncreased (w.faults w0) (w.faults w1) → NotIncreased (i.raised i0) (i.raised i1)
       → IsValidAt composes (read_in t setup) root setup → IfErr result (λ refusal. refusal ≡ refusals.OutOfMemory)

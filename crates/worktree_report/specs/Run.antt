@@ -1,10 +1,9 @@
--- What the top call writes, and why it is refused.
-use Rattle.std.specs.Prelude.{◌≡◌, ◌⊎◌, ◌↔◌, ◌≤◌, ◌+◌, ℕ, List, Bool, true, Option, Some, None, Ok, Err, Result, IfOk, IfErr, OnOk, IsErrOf}
+-- What the top call gives, and why it gives nothing.
+use Rattle.std.specs.Prelude.{◌≡◌, ◌⊎◌, ◌≤◌, ◌+◌, ℕ, List, Bool, true, codes, Option, Some, None, Ok, Err, Result, IfOk, IfErr, OnOk, IsErrOf}
 use Rattle.std.specs.Result.{result_ok}
 use Rattle.worktree_fs.specs.declared.interrupt.Interrupt.{Ghosts as InterruptOf}
-use Rattle.worktree_fs.specs.declared.sink.Sink.{Ghosts as SinkOf}
 use Rattle.worktree_fs.specs.declared.worktree.Worktree.{Ghosts as WorktreeOf}
-use Rattle.worktree_fs.specs.Causes.{NotIncreased, Increased, next}
+use Rattle.worktree_fs.specs.Causes.{NotIncreased, Increased, next, with_more}
 use Rattle.worktree_fs.specs.Tree.{Names, look}
 use Rattle.dir_walk.specs.declared.strategy.Strategy.TheVariants.{AtOnce}
 use Rattle.worktree_report.specs.declared.setup.Setup.{Setup}
@@ -13,160 +12,191 @@ use Rattle.worktree_report.specs.declared.refusal.Refusal.{Refusal}
 use Rattle.worktree_report.specs.declared.refusal.Refusal.TheVariants as refusals
 use Rattle.worktree_report.specs.declared.refusal.WalkWord.{WalkWord}
 use Rattle.worktree_report.specs.Steps.{◌>>=◌}
-use Rattle.worktree_report.specs.Words.{Command, report, generate, command_of, IsReport, IfReport, IfGenerate}
-use Rattle.worktree_report.specs.Written.{Appends, AppendsPart}
+use Rattle.worktree_report.specs.Words.{Command, Places, report, generate, command_of}
 use Rattle.worktree_report.specs.SetupAt.{setup_at}
-use Rattle.worktree_report.specs.Loading.{known_in}
+use Rattle.worktree_report.specs.Loading.{known_in, IsKnown}
+use Rattle.worktree_report.specs.Orderly.{IsOrderlyText}
+use Rattle.worktree_report.specs.Outside.{IsAboutMisreadAt}
 use Rattle.worktree_report.specs.Asked.{read_in, text_of, IsSafeAt, IsValidAt, WorksAt, RefusesWalkAt, IsAboutWalkAt}
 use Rattle.worktree_report.specs.Generate.{generated_text, Generated, IsOfGenerating}
 
--- ---- the report of the work tree at a root, by the setup at a path, where the worktree composes names or not
+-- the line for words that ask for nothing
+abbrev pub usage : List ℕ
+usage = codes "usage: report ROOT SETUP or generate N\n"
 
--- Its bytes over the tree `t`. None where the setup is no file or has a line outside the grammar, and where there is no
--- report of that work tree.
-unfoldable pub output_at : Bool → Names → List ℕ → List ℕ → Option (List ℕ)
-output_at composes t root path = do
-  setup ← result_ok (setup_at (look t path true))
-  text_of composes t root setup
+-- ---- why a command over a work tree is refused; a command may make another setup of the one that it reads
 
--- it is safe to act on
-pub record IsSafeReport (composes : Bool) (t : Names) (root path : List ℕ) : Type 0 where
-  pub setup : Setup
-  pub read : setup_at (look t path true) ≡ Ok setup
-  pub safe : IsSafeAt composes t root setup
-
--- what making it takes: the setup is read once, and the rest is as said of the report
-pub record ReportWorks (composes : Bool) (t : Names) (questions0 questions1 reads0 reads1 : ℕ) (root path : List ℕ) : Type 0 where
-  pub setup : Setup
-  pub read : setup_at (look t path true) ≡ Ok setup
-  pub works : WorksAt composes t root setup questions0 questions1 (next reads0) reads1
+-- the setup is no file, and the line is 0; or this is its first line outside the grammar
+abbrev pub SetupRefuses : Names → Places → ℕ → Type 0
+SetupRefuses t places line = setup_at (look t places.setup true) ≡ Err line
 
 -- what tells of submodules is outside its grammar
-pub record MisreadsReport (t : Names) (which : Misread) (root path : List ℕ) : Type 0 where
+pub record MisreadsReport (made : Setup → Setup) (t : Names) (places : Places) (which : Misread) : Type 0 where
   pub setup : Setup
-  pub read : setup_at (look t path true) ≡ Ok setup
-  pub misread : known_in t root setup ≡ Err which
+  pub read : setup_at (look t places.setup true) ≡ Ok setup
+  pub misread : known_in t places.root (made setup) ≡ Err which
+
+-- It is about what the setup asks for: a configuration of it that is admitted, `.gitmodules` or a value of `submodule.active`. Where
+-- the tree is told the setup is the one that was read in it.
+pub record IsAboutMisread (made : Setup → Setup) (told : Option Names) (places : Places) (which : Misread) : Type 0 where
+  pub setup : Setup
+  pub read : (t : Names) → told ≡ Some t → setup_at (look t places.setup true) ≡ Ok setup
+  pub about : IsAboutMisreadAt places.root (made setup) which
+
+-- all that tells of submodules is in its grammar: the walk comes after that is read
+pub record IsKnownReport (made : Setup → Setup) (t : Names) (places : Places) : Type 0 where
+  pub setup : Setup
+  pub read : setup_at (look t places.setup true) ≡ Ok setup
+  pub known : IsKnown (known_in t places.root (made setup))
 
 -- the walk is refused with a word and a path
-pub record RefusesReport (composes : Bool) (t : Names) (word : WalkWord) (refused_path root path : List ℕ) : Type 0 where
+pub record RefusesReport (made : Setup → Setup) (composes : Bool) (t : Names) (places : Places) (word : WalkWord) (path : List ℕ) : Type 0 where
   pub setup : Setup
-  pub read : setup_at (look t path true) ≡ Ok setup
-  pub refused : RefusesWalkAt composes t root setup word refused_path
+  pub read : setup_at (look t places.setup true) ≡ Ok setup
+  pub refused : RefusesWalkAt composes t places.root (made setup) word path
 
 -- The word and the path are about what is handed in. Where the tree is told the setup is the one that was read in it, so
 -- that the traversal root, the rules and the limit are its own.
-pub record IsAboutReport (composes : Bool) (told : Option Names) (word : WalkWord) (refused_path root path : List ℕ) : Type 0 where
+pub record IsAboutReport (made : Setup → Setup) (composes : Bool) (told : Option Names) (places : Places) (word : WalkWord) (path : List ℕ) : Type 0 where
   pub setup : Setup
-  pub read : (t : Names) → told ≡ Some t → setup_at (look t path true) ≡ Ok setup
-  pub about : IsAboutWalkAt composes root setup word refused_path
+  pub read : (t : Names) → told ≡ Some t → setup_at (look t places.setup true) ≡ Ok setup
+  pub about : IsAboutWalkAt composes told places.root (made setup) word path
 
 -- the setup is a file in its grammar, so is what tells of submodules where that is asked for, and the work tree can be walked
-pub record IsReadyAt (composes : Bool) (t : Names) (root path : List ℕ) : Type 0 where
+pub record IsReadyAt (made : Setup → Setup) (composes : Bool) (t : Names) (places : Places) : Type 0 where
   pub setup : Setup
-  pub read : setup_at (look t path true) ≡ Ok setup
-  pub valid : IsValidAt composes (read_in t setup) root setup
+  pub read : setup_at (look t places.setup true) ≡ Ok setup
+  pub valid : IsValidAt composes (read_in t (made setup)) places.root (made setup)
+
+-- What an answer says of the report that a command makes at some places: each refusal has its cause, and for valid input, where nothing
+-- failed or was raised, only memory may be wanted. A worktree was `w0` and is `w1`, and an interrupt was `i0` and is `i1`.
+pub record HasCauses {W I : Type 0} (w : WorktreeOf W) (i : InterruptOf I) (w0 w1 : W) (i0 i1 : I) (made : Setup → Setup) (places : Places) (answer : Result (List ℕ) Refusal) : Type 0 where
+  pub no_usage : ¬ IsErrOf answer refusals.Usage
+  pub setup : (t : Names) → w.told w0 ≡ Some t → (line : ℕ) → IsErrOf answer (refusals.Setup line) → SetupRefuses t places line
+  pub setup_unasked : (line : ℕ) → IsErrOf answer (refusals.Setup line) → (w.lists w1 ≡ w.lists w0) × (i1 ≡ i0)
+  pub misread : (t : Names) → w.told w0 ≡ Some t → (which : Misread) → IsErrOf answer (refusals.Misread which) → MisreadsReport made t places which
+  pub misread_about : (which : Misread) → IsErrOf answer (refusals.Misread which) → IsAboutMisread made (w.told w0) places which
+  pub misread_unasked : (which : Misread) → IsErrOf answer (refusals.Misread which) → (w.lists w1 ≡ w.lists w0) × (i1 ≡ i0)
+  pub walk : (t : Names) → w.told w0 ≡ Some t → NotIncreased (w.faults w0) (w.faults w1)
+      → (word : WalkWord) (path : List ℕ) → IsErrOf answer (refusals.Walk word path) → RefusesReport made (w.precomposes w0) t places word path
+  pub about : (word : WalkWord) (path : List ℕ) → IsErrOf answer (refusals.Walk word path)
+      → IsAboutReport made (w.precomposes w0) (w.told w0) places word path
+  pub cause : IsErrOf answer refusals.Fault → Increased (w.faults w0) (w.faults w1)
+  -- Nothing was walked yet, or all that tells of submodules is in its grammar.
+  pub fault_late : IsErrOf answer refusals.Fault
+      → ((w.lists w1 ≡ w.lists w0) × (i1 ≡ i0)) ⊎ ((t : Names) → w.told w0 ≡ Some t → IsKnownReport made t places)
+  pub interrupted : IsErrOf answer refusals.Interrupted → Increased (i.raised i0) (i.raised i1)
+  pub interrupted_late : (t : Names) → w.told w0 ≡ Some t → IsErrOf answer refusals.Interrupted → IsKnownReport made t places
+  pub no_output : ¬ IsErrOf answer refusals.Output
+  pub complete : (t : Names) → w.told w0 ≡ Some t → NotIncreased (w.faults w0) (w.faults w1) → NotIncreased (i.raised i0) (i.raised i1)
+      → IsReadyAt made (w.precomposes w0) t places → IfErr answer (λ refusal. refusal ≡ refusals.OutOfMemory)
+
+-- what stays of a worktree and an interrupt, whatever is answered
+pub record Keeps {W I : Type 0} (w : WorktreeOf W) (i : InterruptOf I) (w0 w1 : W) (i0 i1 : I) (answer : Result (List ℕ) Refusal) : Type 0 where
+  pub tree : w.told w1 ≡ w.told w0
+  pub faults : w.faults w0 ≤ w.faults w1
+  pub list_faults : w.list_faults w0 ≤ w.list_faults w1
+  pub list_faults_kept : OnOk answer (w.list_faults w1 ≡ w.list_faults w0)
+  pub lists : w.lists w0 ≤ w.lists w1
+  pub precomposes : w.precomposes w1 ≡ w.precomposes w0
+  pub questions : with_more (i.questions i0) 0 ≤ i.questions i1
+  pub raised : i.raised i0 ≤ i.raised i1
+  pub calm : OnOk answer (i.raised i1 ≡ i.raised i0)
+
+-- a command whose words ask for nothing has asked nothing
+pub record AsksNothing {W I : Type 0} (w0 w1 : W) (i0 i1 : I) (answer : Result (List ℕ) Refusal) : Type 0 where
+  pub usage : IsErrOf answer refusals.Usage
+  pub worktree : w1 ≡ w0
+  pub interrupt : i1 ≡ i0
+
+-- ---- the report of a work tree, where the worktree composes names or not
+
+-- the setup as it is read
+abbrev pub as_read : Setup → Setup
+as_read setup = setup
+
+-- Its bytes over the tree `t`. None where the setup is no file or has a line outside the grammar, and where there is no
+-- report of that work tree.
+unfoldable pub output_at : Bool → Names → Places → Option (List ℕ)
+output_at composes t places = do
+  setup ← result_ok (setup_at (look t places.setup true))
+  text_of composes t places.root setup
+
+-- it is safe to act on
+pub record IsSafeReport (composes : Bool) (t : Names) (places : Places) : Type 0 where
+  pub setup : Setup
+  pub read : setup_at (look t places.setup true) ≡ Ok setup
+  pub safe : IsSafeAt composes t places.root setup
+
+-- It is in order, whatever the worktree tells: the text of a report of which the entries ascend strictly by path, are counted, are from
+-- a traversal root that was asked for, and have the submodules that are known. Where the tree is told the setup is the one that was
+-- read in it.
+pub record IsOrderlyReport (composes : Bool) (told : Option Names) (places : Places) (text : List ℕ) : Type 0 where
+  pub setup : Setup
+  pub read : (t : Names) → told ≡ Some t → setup_at (look t places.setup true) ≡ Ok setup
+  pub orderly : IsOrderlyText composes told places.root setup text
+
+-- what making it takes: the setup is read once, and the rest is as said of the report
+pub record ReportWorks (composes : Bool) (t : Names) (questions0 questions1 reads0 reads1 : ℕ) (places : Places) : Type 0 where
+  pub setup : Setup
+  pub read : setup_at (look t places.setup true) ≡ Ok setup
+  pub works : WorksAt composes t places.root setup questions0 questions1 (next reads0) reads1
 
 -- where subtrees are walked at once, over forks, the worktree counts one directory as listed at most
-abbrev pub ListsOnce : Names → ℕ → ℕ → List ℕ → List ℕ → Type 0
-ListsOnce t lists0 lists1 root path = (setup : Setup) → setup_at (look t path true) ≡ Ok setup → setup.options.strategy ≡ AtOnce → lists1 ≤ lists0 + 1
+abbrev pub ListsOnce : Names → Places → ℕ → ℕ → Type 0
+ListsOnce t places lists0 lists1 =
+    (setup : Setup) → setup_at (look t places.setup true) ≡ Ok setup → setup.options.strategy ≡ AtOnce → lists1 ≤ lists0 + 1
+
+-- The text of the report at some places, or why there is none.
+pub record AnswersReport {W I : Type 0} (w : WorktreeOf W) (i : InterruptOf I) (w0 w1 : W) (i0 i1 : I) (places : Places) (answer : Result (List ℕ) Refusal) : Type 0 where
+  -- Over a told tree and with no fault counted it is exactly the one that the setup asks for.
+  pub gives : (t : Names) → w.told w0 ≡ Some t → NotIncreased (w.faults w0) (w.faults w1) → IfOk answer (λ text. output_at (w.precomposes w0) t places ≡ Some text)
+  pub orderly : IfOk answer (IsOrderlyReport (w.precomposes w0) (w.told w0) places)
+  pub safe : (t : Names) → w.told w0 ≡ Some t → NotIncreased (w.faults w0) (w.faults w1) → OnOk answer (IsSafeReport (w.precomposes w0) t places)
+  pub works : (t : Names) → w.told w0 ≡ Some t → NotIncreased (w.faults w0) (w.faults w1)
+      → OnOk answer (ReportWorks (w.precomposes w0) t (i.questions i0) (i.questions i1) (w.reads w0) (w.reads w1) places)
+  pub lists : (t : Names) → w.told w0 ≡ Some t → OnOk answer (ListsOnce t places (w.lists w0) (w.lists w1))
+  pub causes : HasCauses w i w0 w1 i0 i1 as_read places answer
+  pub keeps : Keeps w i w0 w1 i0 i1 answer
+
+-- ---- a tree of files in memory
+
+-- The text for so many files, whatever the worktree tells, which is not asked; want of memory alone may be answered where the interrupt
+-- was not raised.
+pub record AnswersGenerate {W I : Type 0} (i : InterruptOf I) (w0 w1 : W) (i0 i1 : I) (n : ℕ) (answer : Result (List ℕ) Refusal) : Type 0 where
+  pub gives : IfOk answer (Generated n (i.questions i0) (i.questions i1))
+  pub refused : IfErr answer IsOfGenerating
+  pub interrupted : IsErrOf answer refusals.Interrupted → Increased (i.raised i0) (i.raised i1)
+  pub worktree : w1 ≡ w0
+  pub raised : i.raised i0 ≤ i.raised i1
+  pub calm : OnOk answer (i.raised i1 ≡ i.raised i0)
 
 -- ---- what the words ask for
+
+-- the text that is asked for, or why there is none
+abbrev pub Answers : {W I : Type 0} → WorktreeOf W → InterruptOf I → W → W → I → I → Option Command → Result (List ℕ) Refusal → Type 0
+Answers w i w0 w1 i0 i1 None answer = AsksNothing w0 w1 i0 i1 answer
+Answers w i w0 w1 i0 i1 (Some (report places)) answer = AnswersReport w i w0 w1 i0 i1 places answer
+Answers w i w0 w1 i0 i1 (Some (generate n)) answer = AnswersGenerate i w0 w1 i0 i1 n answer
 
 -- the bytes that are asked for, over the tree `t`; for a tree of files in memory that is no matter
 abbrev pub text_asked : Bool → Names → Option Command → Option (List ℕ)
 text_asked composes t None = None
-text_asked composes t (Some (report root path)) = output_at composes t root path
+text_asked composes t (Some (report places)) = output_at composes t places
 text_asked composes t (Some (generate n)) = generated_text n
-
--- what is asked for can be had: there is a report
-abbrev pub CanBeHad : Bool → Names → Option Command → Type 0
-CanBeHad composes t None = ⊥
-CanBeHad composes t (Some (report root path)) = IsReadyAt composes t root path
-CanBeHad composes t (Some (generate n)) = Unit {0}
 
 -- The bytes that the words ask for, over the tree `t`. None where they ask for nothing, where the setup they name is no
 -- file or has a line outside the grammar, and where there is no report of the worktree they name.
 abbrev pub output_of : Bool → Names → List (List ℕ) → Option (List ℕ)
 output_of composes t words = text_asked composes t (command_of composes words)
 
--- a report that the words ask for is safe to act on
-abbrev pub IsSafe : Bool → Names → List (List ℕ) → Type 0
-IsSafe composes t words = IfReport (command_of composes words) (IsSafeReport composes t)
-
--- what making a report that the words ask for takes
-abbrev pub Works : Bool → Names → List (List ℕ) → ℕ → ℕ → ℕ → ℕ → Type 0
-Works composes t words questions0 questions1 reads0 reads1 =
-    IfReport (command_of composes words) (ReportWorks composes t questions0 questions1 reads0 reads1)
-
--- what a report that the words ask for lists of the worktree itself, where subtrees are walked at once
-abbrev pub Lists : Bool → Names → List (List ℕ) → ℕ → ℕ → Type 0
-Lists composes t words lists0 lists1 = IfReport (command_of composes words) (ListsOnce t lists0 lists1)
-
--- the setup at a path is no file, and the line is 0; or this is its first line outside the grammar
-abbrev pub SetupRefuses : Names → ℕ → List ℕ → List ℕ → Type 0
-SetupRefuses t line root path = setup_at (look t path true) ≡ Err line
-
--- the same of the setup that the words name
-abbrev pub RefusesSetup : Bool → Names → List (List ℕ) → ℕ → Type 0
-RefusesSetup composes t words line = IsReport (command_of composes words) (SetupRefuses t line)
-
--- what tells of submodules is outside its grammar, for the report that the words ask for
-abbrev pub RefusesReading : Bool → Names → List (List ℕ) → Misread → Type 0
-RefusesReading composes t words which = IsReport (command_of composes words) (MisreadsReport t which)
-
--- the walk that the words ask for is refused with a word and a path
-abbrev pub RefusesWalk : Bool → Names → List (List ℕ) → WalkWord → List ℕ → Type 0
-RefusesWalk composes t words word path = IsReport (command_of composes words) (RefusesReport composes t word path)
-
--- the word and the path are about what the words hand in
-abbrev pub IsAboutWalk : Bool → Option Names → List (List ℕ) → WalkWord → List ℕ → Type 0
-IsAboutWalk composes told words word path = IsReport (command_of composes words) (IsAboutReport composes told word path)
+-- what is asked for can be had: there is a report
+abbrev pub CanBeHad : Bool → Names → Option Command → Type 0
+CanBeHad composes t None = ⊥
+CanBeHad composes t (Some (report places)) = IsReadyAt as_read composes t places
+CanBeHad composes t (Some (generate n)) = Unit {0}
 
 -- The words, the setup and the worktree are as they should be: the words are in the grammar, and, where they ask for a report, the
 -- setup is a file in its grammar, so is what tells of submodules where the setup asks for it, and the work tree has a report.
 abbrev pub IsValid : Bool → Names → List (List ℕ) → Type 0
 IsValid composes t words = CanBeHad composes t (command_of composes words)
-
--- ---- the text that is asked for, or why there is none
-
--- The text of what is asked for, where a worktree was `w0` and is `w1`, and an interrupt was `i0` and is `i1`.
-pub record Answers {W I : Type 0} (w : WorktreeOf W) (i : InterruptOf I) (w0 w1 : W) (i0 i1 : I) (command : Option Command) (result : Result (List ℕ) Refusal) : Type 0 where
-  pub gives : (t : Names) → w.told w0 ≡ Some t → NotIncreased (w.faults w0) (w.faults w1) → IfOk result (λ text. text_asked (w.precomposes w0) t command ≡ Some text)
-  pub safe : (t : Names) → w.told w0 ≡ Some t → NotIncreased (w.faults w0) (w.faults w1) → OnOk result (IfReport command (IsSafeReport (w.precomposes w0) t))
-  pub works : (t : Names) → w.told w0 ≡ Some t → NotIncreased (w.faults w0) (w.faults w1)
-      → OnOk result (IfReport command (ReportWorks (w.precomposes w0) t (i.questions i0) (i.questions i1) (w.reads w0) (w.reads w1)))
-  pub lists : (t : Names) → w.told w0 ≡ Some t → OnOk result (IfReport command (ListsOnce t (w.lists w0) (w.lists w1)))
-  -- Of a tree of files in memory, whatever the worktree tells, which is not asked.
-  pub generated : IfGenerate command (λ n. IfOk result (Generated n (i.questions i0) (i.questions i1)))
-  pub generating : IfGenerate command (λ n. IfErr result IsOfGenerating)
-  pub unasked : IfGenerate command (λ n. w1 ≡ w0)
-  -- Each refusal has its cause.
-  pub usage : IsErrOf result refusals.Usage ↔ (command ≡ None)
-  pub setup : (t : Names) → w.told w0 ≡ Some t → (line : ℕ) → IsErrOf result (refusals.Setup line) → IsReport command (SetupRefuses t line)
-  pub misread : (t : Names) → w.told w0 ≡ Some t → (which : Misread) → IsErrOf result (refusals.Misread which) → IsReport command (MisreadsReport t which)
-  pub walk : (t : Names) → w.told w0 ≡ Some t → NotIncreased (w.faults w0) (w.faults w1)
-      → (word : WalkWord) (path : List ℕ) → IsErrOf result (refusals.Walk word path) → IsReport command (RefusesReport (w.precomposes w0) t word path)
-  pub about : (word : WalkWord) (path : List ℕ) → IsErrOf result (refusals.Walk word path)
-      → IsReport command (IsAboutReport (w.precomposes w0) (w.told w0) word path)
-  pub cause : IsErrOf result refusals.Fault → Increased (w.faults w0) (w.faults w1)
-  pub interrupted : IsErrOf result refusals.Interrupted → Increased (i.raised i0) (i.raised i1)
-  pub no_output : ¬ IsErrOf result refusals.Output
-  pub complete : (t : Names) → w.told w0 ≡ Some t → NotIncreased (w.faults w0) (w.faults w1) → NotIncreased (i.raised i0) (i.raised i1)
-      → CanBeHad (w.precomposes w0) t command → IfErr result (λ refusal. refusal ≡ refusals.OutOfMemory)
-  -- What stays.
-  pub tree : w.told w1 ≡ w.told w0
-  pub faults : w.faults w0 ≤ w.faults w1
-  pub list_faults : w.list_faults w0 ≤ w.list_faults w1
-  pub list_faults_kept : OnOk result (w.list_faults w1 ≡ w.list_faults w0)
-  pub precomposes : w.precomposes w1 ≡ w.precomposes w0
-  pub raised : i.raised i0 ≤ i.raised i1
-  pub calm : OnOk result (i.raised i1 ≡ i.raised i0)
-
--- What the words `generate N` end in, over any worktree. With 0 `out` has what it had, and the text of a tree of so many
--- files; with 7 a front of that. Where nothing was raised or refused they end with 0, or for want of memory. The worktree
--- is as it was.
-pub record Generates {W I S : Type 0} (i : InterruptOf I) (s : SinkOf S) (w0 w1 : W) (i0 i1 : I) (s0 s1 : S) (status n : ℕ) : Type 0 where
-  pub whole : status ≡ 0 → (text : List ℕ) × Generated n (i.questions i0) (i.questions i1) text × Appends (s.written s0) (s.written s1) text
-  pub part : status ≡ 7 → (text : List ℕ) × Generated n (i.questions i0) (i.questions i1) text × AppendsPart (s.written s0) (s.written s1) text
-  pub complete : NotIncreased (i.raised i0) (i.raised i1) → NotIncreased (s.refusals s0) (s.refusals s1) → (status ≡ 0) ⊎ (status ≡ 8)
-  pub worktree : w1 ≡ w0

@@ -37,6 +37,10 @@ facts_in (Some known) path = facts_at known.platform known.modules path
 abbrev pub entry_in : Option Known → Emission → ReportEntry
 entry_in known emission = record { entry = emission.0; collapsed = emission.1; facts = facts_in known emission.0.rela_path }
 
+-- such an entry without what is said of submodules
+abbrev pub emission_in : ReportEntry → Emission
+emission_in entry = (entry.entry, entry.collapsed)
+
 -- what a walk gave, with the submodules
 abbrev pub described : Option Known → WalkReport → Report
 described known walked = record { entries = map (entry_in known) walked.entries; outcome = walked.outcome; root = walked.root }

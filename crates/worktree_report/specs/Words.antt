@@ -1,5 +1,5 @@
 -- The words of the command line.
-use Rattle.std.specs.Prelude.{ℕ, ◌+◌, ◌*◌, List, [], ◌∷◌, Bool, not, nat_le, ◌==◌, ◌&&◌, if◌then◌else◌, codes, Option, Some, None, option_and_then}
+use Rattle.std.specs.Prelude.{ℕ, ◌+◌, ◌*◌, List, [], ◌∷◌, Bool, not, nat_le, ◌==◌, ◌&&◌, if◌then◌else◌, codes, Option, Some, None, option_and_then, option_map}
 use Rattle.std.specs.Str.{bytes_eq}
 use Rattle.worktree_fs.specs.Tree.{is_absolute}
 use Rattle.worktree_fs.specs.Paths.{is_dots}
@@ -32,53 +32,46 @@ count_of (b ∷ bytes) = if b == 48 then None else option_and_then if_few (numbe
 
 -- ---- what is asked for
 
+-- where a command looks: the root of the work tree, and the path of the setup text
+pub record Places : Type 0 where
+  pub root : List ℕ
+  pub setup : List ℕ
+
 -- the report of the work tree at a root, by the setup at a path; or how much there is to report of so
 -- many files in memory
 pub data Command : Type 0 where
-  report : List ℕ → List ℕ → Command
+  report : Places → Command
   generate : ℕ → Command
 
--- `report ROOT SETUP`, with two plain paths
-abbrev pub report_words : List (List ℕ) → Option Command
-report_words (word ∷ root ∷ setup ∷ []) =
-    if bytes_eq word (codes "report") && (is_plain_path root && is_plain_path setup) then Some (report root setup) else None
-report_words _ = None
+-- the words behind this first one
+abbrev pub behind : List ℕ → List (List ℕ) → Option (List (List ℕ))
+behind name [] = None
+behind name (word ∷ words) = if bytes_eq word name then Some words else None
 
--- the same behind the word `composed`
-abbrev pub composed_words : List (List ℕ) → Option Command
-composed_words [] = None
-composed_words (word ∷ words) = if bytes_eq word (codes "composed") then report_words words else None
+-- the words of a command: `composed` stands before them exactly where the worktree composes names
+abbrev pub command_words : Bool → List (List ℕ) → Option (List (List ℕ))
+command_words composes words = if composes then behind (codes "composed") words else Some words
+
+-- ROOT and SETUP, two plain paths
+abbrev pub places_of : List (List ℕ) → Option Places
+places_of (root ∷ setup ∷ []) =
+    if is_plain_path root && is_plain_path setup then Some (record { root = root; setup = setup }) else None
+places_of _ = None
+
+-- the name of a command, ROOT and SETUP
+unfoldable pub places_behind : List ℕ → Bool → List (List ℕ) → Option Places
+places_behind name composes words = option_and_then places_of (option_and_then (behind name) (command_words composes words))
 
 -- `generate N`
 abbrev pub generate_words : List (List ℕ) → Option ℕ
 generate_words (word ∷ number ∷ []) = if bytes_eq word (codes "generate") then count_of number else None
 generate_words _ = None
 
-abbrev unless_generate : Option ℕ → Option Command → Option Command
-unless_generate (Some n) asked = Some (generate n)
-unless_generate None asked = asked
+abbrev unless_generate : Option ℕ → Option Places → Option Command
+unless_generate (Some n) places = Some (generate n)
+unless_generate None places = option_map report places
 
--- The words are `generate N`, or those of a report, with `composed` before them exactly where the worktree composes names.
+-- The words are `generate N`, or `report ROOT SETUP`, with `composed` before it exactly where the worktree composes names.
 -- Any other words ask for nothing.
 unfoldable pub command_of : Bool → List (List ℕ) → Option Command
-command_of composes words = unless_generate (generate_words words) (if composes then composed_words words else report_words words)
-
--- ---- of what is asked for
-
--- a report is asked for, and this holds of its root and of the path of its setup
-abbrev pub IsReport : Option Command → (List ℕ → List ℕ → Type 0) → Type 0
-IsReport None P = ⊥
-IsReport (Some (report root setup)) P = P root setup
-IsReport (Some (generate n)) P = ⊥
-
--- this holds of the root and of the path of the setup, where a report is asked for
-abbrev pub IfReport : Option Command → (List ℕ → List ℕ → Type 0) → Type 0
-IfReport None P = Unit {0}
-IfReport (Some (report root setup)) P = P root setup
-IfReport (Some (generate n)) P = Unit {0}
-
--- this holds of the number of files, where a tree of files in memory is asked for
-abbrev pub IfGenerate : Option Command → (ℕ → Type 0) → Type 0
-IfGenerate None P = Unit {0}
-IfGenerate (Some (report root setup)) P = Unit {0}
-IfGenerate (Some (generate n)) P = P n
+command_of composes words = unless_generate (generate_words words) (places_behind (codes "report") composes words)

@@ -6,7 +6,8 @@ ghost use Rattle.worktree_report.specs.Below.{below, through};
 use gitbase_core::{OutOfMemory, PathText, split_component};
 use std::alloc::Global;
 
-/// A directory and the first components of a path below it, so many of them, or all where there are no more.
+/// A directory and the first components of a path below it, so many of them, or all where there are
+/// no more.
 pub fn below(
     alloc: Global,
     directory: &[u8],

@@ -1,8 +1,8 @@
 //! The ignore rules that a setup asks for.
-ghost use Rattle.std.specs.Prelude.{◌≡◌, ◌∷◌, [], None, IfOk};
+ghost use Rattle.std.specs.Prelude.{◌≡◌, ◌∷◌, [], IfOk};
 ghost use Rattle.worktree_stack.specs.Reading.{Sources};
 ghost use Rattle.worktree_stack.specs.Stacked.{IsInStep, made_of};
-ghost use Rattle.dir_classify.specs.Excludes.{made_with, pushed_in, InStepIf};
+ghost use Rattle.dir_classify.specs.Excludes.{made_with, InStepIf};
 ghost use Rattle.worktree_report.specs.Excluding.{rules_in, rules_given, rules_of, excludes_of};
 
 use crate::setup::Setup;
@@ -37,12 +37,11 @@ fn ignore_of(alloc: Global, setup: &Setup) -> Result<Ignore, OutOfMemory>
     Ok(ignore.with_strict_parents(setup.options.strict_parents))
 }
 
-/// The rules of a setup below a worktree root, with no directory pushed. Rules files are mapped to the blobs that the index
-/// has for them.
+/// The rules of a setup below a worktree root, with no directory pushed. Rules files are mapped to
+/// the blobs that the index has for them.
 fn stack_of(alloc: Global, root: &[u8], setup: &Setup) -> Result<Stack, OutOfMemory>
     ensures made { IfOk result (λ stack. made_of stack ≡ rules_of root.now setup.now) }
     ensures in_step { (s : Sources) → IfOk result (IsInStep s) }
-    ensures unpushed { IfOk result (λ stack. stack.at ≡ None) }
 {
     let ignore = ignore_of(alloc, setup)?;
     let root = PathText::from_bytes(alloc, root)?;
@@ -50,14 +49,13 @@ fn stack_of(alloc: Global, root: &[u8], setup: &Setup) -> Result<Stack, OutOfMem
     Stack::from_state_and_ignore_case(alloc, root, setup.options.ignore_case, state, &setup.index)
 }
 
-/// The ignore rules of the work tree at `root`, where the options ask for them. They are made from the setup alone, and read
-/// no rules file yet: so they are in step with any tree and store.
+/// The ignore rules of the work tree at `root`, where the options ask for them. They are made from
+/// the setup alone, and read no rules file yet: so they are in step with any tree and store.
 ///
 /// Fails only where memory is refused.
 pub fn excludes_of(alloc: Global, root: &[u8], setup: &Setup) -> Result<Option<Stack>, OutOfMemory>
     ensures made { IfOk result (λ excludes. made_with excludes ≡ excludes_of root.now setup.now) }
     ensures in_step { (s : Sources) → IfOk result (InStepIf s) }
-    ensures unpushed { IfOk result (λ excludes. pushed_in excludes ≡ None) }
 {
     if !setup.options.excludes {
         return Ok(None);

@@ -10,7 +10,8 @@ use gitbase_core::{Bytes, OutOfMemory};
 use std::alloc::Global;
 use submodule::IsActivePlatform;
 
-/// Whether a submodule is active, as gitsubmodules(7) says under "Active submodules", by its name in place of its path.
+/// Whether a submodule is active, as gitsubmodules(7) says under "Active submodules", by its name
+/// in place of its path.
 #[derive(Debug, Drop, PartialEq, Eq)]
 pub enum Activity {
     /// It is.
@@ -34,7 +35,8 @@ pub struct Facts {
 }
 
 fn activity_of(alloc: Global, answer: Result<bool, ValueError<'_>>) -> Result<Activity, OutOfMemory>
-    ensures { IfOk result (λ activity. activity ≡ submodules.activity_of (active_seen answer.entry)) }
+    ensures { IfOk result (λ activity. activity
+        ≡ submodules.activity_of (active_seen answer.entry)) }
 {
     match answer {
         Ok(true) => Ok(Activity::Active),
@@ -70,7 +72,8 @@ fn facts_at(
     modules: &Modules,
     path: &[u8],
 ) -> Result<Option<Facts>, OutOfMemory>
-    ensures facts { IfOk result (λ facts. facts ≡ submodules.facts_at platform.old modules.now path.now) }
+    ensures facts { IfOk result (λ facts. facts
+        ≡ submodules.facts_at platform.old modules.now path.now) }
     ensures same { platform.new ≡ platform.old }
 {
     match modules.file.name_by_path(alloc, path)? {

@@ -18,12 +18,13 @@ use worktree_fs::{Interrupt, MemoryWorktree, NewNode};
 /// The worktree root.
 const ROOT: &[u8] = b"/w";
 
-/// The git directory lies elsewhere, files whose number ends in 7 are ignored, and directories of untracked files and of
-/// ignored ones are folded.
+/// The git directory lies elsewhere, files whose number ends in 7 are ignored, and directories of
+/// untracked files and of ignored ones are folded.
 const SETUP: &[u8] =
     b"git_dir /g\nglobal f*7\noption emit_untracked collapse\noption emit_ignored collapse\n";
 
-/// The path of the file with a number, from 0, relative to the worktree root: there are a hundred files to a directory.
+/// The path of the file with a number, from 0, relative to the worktree root: there are a hundred
+/// files to a directory.
 fn file_below(alloc: Global, number: usize) -> Result<PathText, OutOfMemory>
     ensures { IfOk result (λ path. path ≡ file_below number) }
 {
@@ -41,8 +42,8 @@ fn file_path(alloc: Global, number: usize) -> Result<PathText, OutOfMemory>
     Ok(PathText::from_bytes(alloc, text.as_bytes())?)
 }
 
-/// A tree of so many files without bytes. What else `add` may answer does not come, as no path is added twice or lies below
-/// that of a file, and would be answered as want of memory.
+/// A tree of so many files without bytes. What else `add` may answer does not come, as no path is
+/// added twice or lies below that of a file, and would be answered as want of memory.
 fn tree_of(alloc: Global, count: usize) -> Result<MemoryWorktree, OutOfMemory>
     ensures tree { IfOk result (λ tree. tree.tree ≡ tree_of count) }
     ensures composes { IfOk result (λ tree. tree.composes ≡ false) }
@@ -105,8 +106,8 @@ fn entry_at(path: PathText) -> IndexEntry
     }
 }
 
-/// The index of so many files. That its entries ascend and have paths that an index takes is not said; where they did not,
-/// want of memory would be answered.
+/// The index of so many files. That its entries ascend and have paths that an index takes is not
+/// said; where they did not, want of memory would be answered.
 fn index_of(alloc: Global, count: usize) -> Result<State, OutOfMemory>
     ensures { IfOk result (λ index. index ≡ entries_of count) }
 {
@@ -139,8 +140,8 @@ fn setup_of(alloc: Global, count: usize) -> Result<Setup, OutOfMemory>
     }
 }
 
-/// Why there is no report of a tree in memory, of which no call is planned to fail: the interrupt was raised, or memory is
-/// wanted, which would be answered for any other refusal too.
+/// Why there is no report of a tree in memory, of which no call is planned to fail: the interrupt
+/// was raised, or memory is wanted, which would be answered for any other refusal too.
 fn of_own(error: Error) -> Refusal
     ensures answers { IsOfGenerating result }
     ensures interrupted { result ≡ Refusal.Interrupted → error ≡ Error.Interrupted }
@@ -196,11 +197,11 @@ fn lines_of(alloc: Global, count: usize, report: &Report) -> Result<Bytes, OutOf
     Ok(Bytes::from_vec(text))
 }
 
-/// How much there is to report of a tree of so many files in memory: how many lines, how many directories were read, and
-/// how many entries were returned and seen.
+/// How much there is to report of a tree of so many files in memory: how many lines, how many
+/// directories were read, and how many entries were returned and seen.
 ///
-/// `Interrupted` comes only where the interrupt was raised, which is asked before each directory is read. No other worktree is
-/// asked.
+/// `Interrupted` comes only where the interrupt was raised, which is asked before each directory is
+/// read. No other worktree is asked.
 pub fn generated_text<I: Interrupt>(
     alloc: Global,
     count: usize,

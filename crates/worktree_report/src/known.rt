@@ -1,10 +1,11 @@
 //! What is known of submodules while a report is made.
-ghost use Rattle.std.specs.Prelude.{◌≡◌, ℕ, Some, IfErr};
+ghost use Rattle.std.specs.Prelude.{◌≡◌, ℕ, true, false, Some, None, IfOk, IfErr, is_some};
 ghost use Rattle.submodule.specs.Active.{platform};
 ghost use Rattle.worktree_fs.specs.Causes.{Increased};
 ghost use Rattle.worktree_fs.specs.Tree.{Names};
 ghost use Rattle.worktree_report.specs.Loading.{known_in, with_specs, files_if};
 ghost use Rattle.worktree_report.specs.Loads.{Gives, LoadsFiles, OfKnown};
+ghost use Rattle.worktree_report.specs.Outside.{IsActiveOf, IsOutside, OnMisread, OnReading};
 
 use crate::error::ReportError;
 use crate::modules::{Modules, load_modules};
@@ -31,7 +32,9 @@ fn with_specs(
     ignore_case: bool,
 ) -> Result<Option<Known>, ReportError>
     ensures gives { Gives result (with_specs ignore_case modules) }
+    ensures known { IfOk result (λ known. is_some known ≡ true) }
     ensures answers { IfErr result (OfKnown ⊥) }
+    ensures outside { IfErr result (OnMisread (IsActiveOf ignore_case)) }
 {
     let found = modules
         .file
@@ -56,6 +59,12 @@ pub fn known_in<W: Worktree>(
         → Gives result (known_in t root.now setup.now) }
     ensures answers { IfErr result (OfKnown (Increased (W.faults worktree.old)
         (W.faults worktree.new))) }
+    ensures outside { IfErr result (OnMisread (IsOutside root.now setup.now)) }
+    ensures asked { IfErr result (OnReading (setup.now.options.submodules ≡ true)) }
+    ensures known { setup.now.options.submodules ≡ true
+        → IfOk result (λ known. is_some known ≡ true) }
+    ensures unasked { setup.now.options.submodules ≡ false
+        → IfOk result (λ known. known ≡ None) }
     ensures loads { LoadsFiles W.Worktree worktree.old worktree.new (files_if setup.now) }
 {
     if !setup.options.submodules {

@@ -3,6 +3,7 @@
 
 mod below;
 mod converted;
+mod ending;
 mod error;
 mod escape;
 mod excludes;
@@ -22,14 +23,19 @@ mod walking;
 mod words;
 mod writing;
 
-pub use converted::status_of;
+pub use converted::{of_report, status_of};
+pub use ending::finish;
 pub use error::ReportError;
+pub use escape::{add_escaped, add_escaped_in_word};
 pub use facts::{Activity, Facts};
 pub use lines::report_bytes;
 pub use making::worktree_report;
 pub use modules::{Modules, load_modules};
 pub use permissions::{Attributes, Config, Environment, Permission, Permissions, Trust};
 pub use program::run;
+pub use reading::read_setup;
+pub use refusal::{Misread, Refusal, WalkWord};
 pub use report::{Report, ReportEntries, ReportEntry};
 pub use setup::configs::Configs;
 pub use setup::{Setup, SetupError, SetupOptions};
+pub use words::{Places, behind, command_words, places_behind, places_of};

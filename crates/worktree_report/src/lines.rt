@@ -190,7 +190,8 @@ fn add_origin_if(
     add_origin(alloc, text, entry.rela_path.as_bytes(), entry.origin)
 }
 
-/// Adds what each line has: the class of an entry, and the status of the directory that it was folded into.
+/// Adds what each line has: the class of an entry, and the status of the directory that it was
+/// folded into.
 fn add_class(
     text: &mut Vec<u8>,
     entry: &Entry,
@@ -265,8 +266,8 @@ pub fn add_outcome(alloc: Global, text: &mut Vec<u8>, outcome: &Outcome) -> Resu
     Ok(())
 }
 
-/// The text of a report: a line for each entry, with the words that the options ask for, and a last line that says how much was
-/// walked where they ask for it.
+/// The text of a report: a line for each entry, with the words that the options ask for, and a last
+/// line that says how much was walked where they ask for it.
 pub fn report_bytes(
     alloc: Global,
     report: &Report,

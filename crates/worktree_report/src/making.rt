@@ -26,16 +26,21 @@ fn report_by(
     }
 }
 
-/// The report of the work tree at `worktree_root`, which is absolute and has no component `.` or `..`, as a setup asks for it.
+/// The report of the work tree at `worktree_root`, which is absolute and has no component `.` or
+/// `..`, as a setup asks for it.
 ///
-/// Where the setup asks for submodules, the configurations that its permissions admit are read first, and then `.gitmodules`, as
-/// [`load_modules`](crate::load_modules) does. The walk enters directories as a delegate of default recursion does. Blobs that ignore
-/// rules are mapped to are looked up in `objects`, and not in the setup. The interrupt is asked before each directory is read.
+/// Where the setup asks for submodules, the configurations that its permissions admit are read
+/// first, and then `.gitmodules`, as [`load_modules`](crate::load_modules) does; the walk comes
+/// after that. It enters directories as a delegate of default recursion does. Blobs that ignore
+/// rules are mapped to are looked up in `objects`, and not in the setup. The interrupt is asked
+/// before each directory is read.
 ///
 /// # Errors
 ///
-/// - `Config`, `Modules` and `ActiveSpec` name the first place that is outside its grammar in what was read, in this order.
-/// - `ReadFault` comes only where the worktree failed while these were read, and counted it.
+/// - `Config`, `Modules` and `ActiveSpec` name the first place that is outside its grammar in what
+///   was read, in this order.
+/// - `ReadFault` comes only where the worktree failed while these were read, and counted it. Where
+///   one of these four comes nothing was walked: store and interrupt are as they were.
 /// - `Walk` has the error of [`dir_walk::walk::walk`], for the same causes.
 /// - `OutOfMemory` for want of memory.
 pub fn worktree_report<W: Worktree, F: Find, I: Interrupt>(

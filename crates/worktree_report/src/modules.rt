@@ -5,6 +5,7 @@ ghost use Rattle.worktree_fs.specs.Causes.{Increased};
 ghost use Rattle.worktree_fs.specs.Tree.{Names, look};
 ghost use Rattle.worktree_report.specs.Loading as loading;
 ghost use Rattle.worktree_report.specs.Loads.{Gives, ReadsConfig, LoadsFiles, OfConfig, OfModules};
+ghost use Rattle.worktree_report.specs.Outside.{IsConfigAt, IsConfigOf, IsModulesOf, IsOutside, OnMisread};
 ghost use Rattle.worktree_report.specs.Permissions.{admits};
 
 use crate::error::ReportError;
@@ -22,8 +23,8 @@ use worktree_fs::{ReadAnswer, ReadError, Worktree};
 pub struct Modules {
     /// `.gitmodules` of the worktree root, with the overrides of `config` behind it.
     pub file: submodule::File,
-    /// The configurations that the permissions admit, one behind another. Together they are of no file, and belong to the calling
-    /// program.
+    /// The configurations that the permissions admit, one behind another. Together they are of no
+    /// file, and belong to the calling program.
     pub config: config::File,
 }
 
@@ -82,6 +83,7 @@ fn with_config<W: Worktree>(
         → Gives result (loading.with_config t permissions.now at named.now config) }
     ensures answers { IfErr result (OfConfig (Increased (W.faults worktree.old)
         (W.faults worktree.new))) }
+    ensures outside { IfErr result (OnMisread (IsConfigAt permissions.now at named.now)) }
     ensures loads { LoadsFiles W.Worktree worktree.old worktree.new
         (if admits permissions.now named.now.0 then 1 else 0) }
 {
@@ -104,6 +106,7 @@ fn with_configs<W: Worktree>(
         t setup.now.options.permissions 1 setup.now.configs loading.no_config) }
     ensures answers { IfErr result (OfConfig (Increased (W.faults worktree.old)
         (W.faults worktree.new))) }
+    ensures outside { IfErr result (OnMisread (IsConfigOf setup.now)) }
     ensures loads { LoadsFiles W.Worktree worktree.old worktree.new
         (loading.admitted setup.now.options.permissions setup.now.configs) }
 {
@@ -145,6 +148,7 @@ fn modules_beside<W: Worktree>(
         → Gives result (loading.modules_beside t root.now config) }
     ensures answers { IfErr result (OfModules (Increased (W.faults worktree.old)
         (W.faults worktree.new))) }
+    ensures outside { IfErr result (OnMisread (IsModulesOf root.now)) }
     ensures loads { LoadsFiles W.Worktree worktree.old worktree.new 1 }
 {
     let path = modules_path(alloc, root)?;
@@ -156,13 +160,15 @@ fn modules_beside<W: Worktree>(
     }
 }
 
-/// Reads the configurations of a setup that its permissions admit, with links followed and in order, and then `.gitmodules` in the
-/// worktree root, which is absolute and has no component `.` or `..`, a link not followed. What is no file counts as an empty one.
-/// Each is read once, and nothing else is asked of the worktree.
+/// Reads the configurations of a setup that its permissions admit, with links followed and in
+/// order, and then `.gitmodules` in the worktree root, which is absolute and has no component `.`
+/// or `..`, a link not followed. What is no file counts as an empty one. Each is read at most once, and
+/// nothing else is asked of the worktree.
 ///
 /// # Errors
 ///
-/// - `Config` names the first configuration with a line outside the grammar of git-config(1), and that line.
+/// - `Config` names the first configuration with a line outside the grammar of git-config(1), and
+///   that line.
 /// - `Modules` names the first such line of `.gitmodules`.
 /// - `ReadFault` comes only where the worktree failed and counted it.
 /// - `OutOfMemory` for want of memory.
@@ -177,6 +183,7 @@ pub fn load_modules<W: Worktree>(
         → Gives result (loading.modules_in t worktree_root.now setup.now) }
     ensures answers { IfErr result (OfModules (Increased (W.faults worktree.old)
         (W.faults worktree.new))) }
+    ensures outside { IfErr result (OnMisread (IsOutside worktree_root.now setup.now)) }
     ensures loads { LoadsFiles W.Worktree worktree.old worktree.new (loading.files_of setup.now) }
 {
     let config = with_configs(alloc, worktree, setup)?;

@@ -24,7 +24,8 @@ pub enum Trust {
     Full,
 }
 
-/// Which configurations may be read besides that of the repository; after `gix::open::permissions::Config` of gitoxide.
+/// Which configurations may be read besides that of the repository; after
+/// `gix::open::permissions::Config` of gitoxide.
 #[derive(Clone, Copy, Debug, PartialEq, Eq, PartialOrd, Ord, Hash)]
 pub struct Config {
     /// That of git's installation, which git itself would have to be asked for.
@@ -79,8 +80,8 @@ impl Default for Config {
     }
 }
 
-/// Which files of attributes may be read besides those of the repository; after `gix::open::permissions::Attributes` of
-/// gitoxide.
+/// Which files of attributes may be read besides those of the repository; after
+/// `gix::open::permissions::Attributes` of gitoxide.
 #[derive(Clone, Copy, Debug, PartialEq, Eq, PartialOrd, Ord, Hash)]
 pub struct Attributes {
     /// That of git's installation, which git itself would have to be asked for.
@@ -123,8 +124,8 @@ impl Default for Attributes {
     }
 }
 
-/// What may be done with variables of the environment; after `gix::open::permissions::Environment` of gitoxide. None is read
-/// here, whatever this says.
+/// What may be done with variables of the environment; after `gix::open::permissions::Environment`
+/// of gitoxide. None is read here, whatever this says.
 #[derive(Clone, Copy, Debug, PartialEq, Eq)]
 pub struct Environment {
     /// `XDG_CONFIG_HOME`, which says where the configurations of the user are.
@@ -226,8 +227,8 @@ impl Permissions {
         }
     }
 
-    /// Whether a configuration may be read, by what it belongs to. That of the repository and what the calling program gives
-    /// always may, and `.gitmodules` never, as it is no configuration.
+    /// Whether a configuration may be read, by what it belongs to. That of the repository and what
+    /// the calling program gives always may, and `.gitmodules` never, as it is no configuration.
     pub fn admits(&self, source: config::Source) -> bool
         ensures { result ≡ admits self.now source }
     {

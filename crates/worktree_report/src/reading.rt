@@ -41,8 +41,8 @@ impl From<SetupError> for Refusal {
 
 /// The setup at a path, links followed.
 ///
-/// `Setup` names its first line outside the grammar, 0 where there is no file; `Fault` comes only where the worktree
-/// counted one.
+/// `Setup` names its first line outside the grammar, 0 where there is no file; `Fault` comes only
+/// where the worktree counted one.
 pub fn read_setup<W: Worktree>(
     alloc: Global,
     worktree: &mut W,

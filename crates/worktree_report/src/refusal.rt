@@ -1,5 +1,6 @@
 //! Why there is no report: the status and the line of each refusal.
-ghost use Rattle.std.specs.Prelude.{◌≡◌, ◌⊎◌, ◌≤◌, true, false, IfOk, OnErr};
+ghost use Rattle.std.specs.Prelude.{◌≡◌, ◌≤◌, [], true, false, IfOk, OnErr};
+ghost use Rattle.worktree_report.specs.Ends.{IsTold, IsToldOf};
 ghost use Rattle.worktree_report.specs.Refusals.{status_of, word_of, line_of, Says, is_made, IsLineIfMade};
 
 use crate::escape::add_escaped;
@@ -46,7 +47,7 @@ pub enum Misread {
     ActiveSpec { at: usize },
 }
 
-/// Why there is no report.
+/// Why a top call gives no text.
 #[derive(Debug, Drop)]
 pub enum Refusal {
     /// The interrupt was raised.
@@ -112,14 +113,14 @@ fn word_of(word: WalkWord) -> &'static [u8]
 }
 
 fn setup_line(alloc: Global, line: usize) -> Result<Bytes, OutOfMemory>
-    ensures { IfOk result (λ text. text ≡ line_of (Refusal.Setup line)) }
+    ensures { IfOk result (λ text. text ≡ line_of [] (Refusal.Setup line)) }
 {
     let text = format!(in alloc; "setup: line {line}\n")?;
     Ok(Bytes::from_slice(alloc, text.as_bytes())?)
 }
 
 fn misread_line(alloc: Global, misread: Misread) -> Result<Bytes, OutOfMemory>
-    ensures { IfOk result (λ text. text ≡ line_of (Refusal.Misread misread)) }
+    ensures { IfOk result (λ text. text ≡ line_of [] (Refusal.Misread misread)) }
 {
     let text = match misread {
         Misread::Config { at, line } => format!(in alloc; "config {at}: line {line}\n")?,
@@ -130,7 +131,7 @@ fn misread_line(alloc: Global, misread: Misread) -> Result<Bytes, OutOfMemory>
 }
 
 fn walk_line(alloc: Global, word: WalkWord, path: &[u8]) -> Result<Bytes, OutOfMemory>
-    ensures { IfOk result (λ text. text ≡ line_of (Refusal.Walk word path.now)) }
+    ensures { IfOk result (λ text. text ≡ line_of [] (Refusal.Walk word path.now)) }
 {
     let mut text = Vec::new(alloc);
     text.extend_from_slice(b"walk: ")?;
@@ -151,12 +152,12 @@ pub fn say<E: Sink>(err: &mut E, line: &[u8])
 }
 
 /// The line of a refusal that needs no memory for it.
-fn fixed_line(refusal: &Refusal) -> &'static [u8]
-    ensures { is_made refusal.now ≡ false → result.now ≡ line_of refusal.now }
+fn fixed_line<'a>(usage: &'a [u8], refusal: &Refusal) -> &'a [u8]
+    ensures { is_made refusal.now ≡ false → result.now ≡ line_of usage.now refusal.now }
 {
     match refusal {
         Refusal::Interrupted => b"interrupted\n",
-        Refusal::Usage => b"usage: report ROOT SETUP or generate N\n",
+        Refusal::Usage => usage,
         Refusal::Fault => b"worktree fault\n",
         Refusal::Output => b"output fault\n",
         Refusal::OutOfMemory => b"out of memory\n",
@@ -183,16 +184,19 @@ fn made_line(alloc: Global, refusal: &Refusal) -> Result<Option<Bytes>, OutOfMem
     }
 }
 
-/// Says why there is no report, and answers the status; where there is no memory for the line, that want instead.
-pub fn refuse<E: Sink>(alloc: Global, refusal: &Refusal, err: &mut E) -> u8
-    ensures status { (result ≡ status_of refusal.now) ⊎ (result ≡ 8) }
-    ensures exact { is_made refusal.now ≡ false → result ≡ status_of refusal.now }
-    ensures line { result ≡ status_of refusal.now
-        → Says (E.written err.old) (E.written err.new) (E.refusals err.old) (E.refusals err.new)
-        (line_of refusal.now) }
-    ensures memory { result ≡ 8
-        → Says (E.written err.old) (E.written err.new) (E.refusals err.old) (E.refusals err.new)
-        (line_of Refusal.OutOfMemory) }
+/// Says why there is no text, where the line needs no memory, and answers the status.
+pub fn say_fixed<E: Sink>(usage: &[u8], refusal: &Refusal, err: &mut E) -> u8
+    requires { is_made refusal.now ≡ false }
+    ensures told { IsToldOf E.Sink err.old err.new usage.now refusal.now result }
+    ensures later { E.refusals err.old ≤ E.refusals err.new }
+{
+    say(err, fixed_line(usage, refusal));
+    status_of(refusal)
+}
+
+/// Says why there is no text, and answers the status; where there is no memory for the line, that want instead.
+pub fn refuse<E: Sink>(alloc: Global, usage: &[u8], refusal: &Refusal, err: &mut E) -> u8
+    ensures told { IsTold E.Sink err.old err.new usage.now refusal.now result }
     ensures later { E.refusals err.old ≤ E.refusals err.new }
 {
     match made_line(alloc, refusal) {
@@ -200,13 +204,7 @@ pub fn refuse<E: Sink>(alloc: Global, refusal: &Refusal, err: &mut E) -> u8
             say(err, line.as_bytes());
             status_of(refusal)
         }
-        Ok(None) => {
-            say(err, fixed_line(refusal));
-            status_of(refusal)
-        }
-        Err(OutOfMemory) => {
-            say(err, b"out of memory\n");
-            8
-        }
+        Ok(None) => say_fixed(usage, refusal, err),
+        Err(OutOfMemory) => say_fixed(usage, &Refusal::OutOfMemory, err),
     }
 }

@@ -73,7 +73,8 @@ impl ReportEntries {
 /// The report of a work tree.
 #[derive(Debug, Drop)]
 pub struct Report {
-    /// The entries that are not hidden, in ascending order of their paths, of which none stands twice.
+    /// The entries that are not hidden, in ascending order of their paths, of which none stands
+    /// twice.
     pub entries: ReportEntries,
     /// What the walk did, in numbers.
     pub outcome: walk::Outcome,
@@ -105,7 +106,8 @@ fn entries_in(
     known: &mut Option<Known>,
     emissions: Vec<(Entry, Option<Status>)>,
 ) -> Result<Vec<ReportEntry>, OutOfMemory>
-    ensures { IfOk result (λ entries. entries.items ≡ map (submodules.entry_in known.old) emissions.items) }
+    ensures { IfOk result (λ entries. entries.items
+        ≡ map (submodules.entry_in known.old) emissions.items) }
 {
     let mut entries = Vec::with_capacity(alloc, emissions.len())?;
     for emission in emissions {

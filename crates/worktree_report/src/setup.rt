@@ -45,7 +45,8 @@ pub struct SetupOptions {
     pub emit_collapsed: Option<CollapsedEntriesEmissionMode>,
     /// Whether directories without names are reported.
     pub emit_empty_directories: bool,
-    /// Whether the paths are to be deleted, and how ignored directories are looked into for repositories.
+    /// Whether the paths are to be deleted, and how ignored directories are looked into for
+    /// repositories.
     pub for_deletion: Option<ForDeletionMode>,
     /// Whether untracked directories are tested for being bare repositories.
     pub classify_untracked_bare_repositories: bool,
@@ -74,11 +75,13 @@ pub struct SetupOptions {
 /// What a report is made from, beside the worktree.
 #[derive(Debug, Drop)]
 pub struct Setup {
-    /// The real path of the git directory of the worktree; `.git` in the worktree root where none is given.
+    /// The real path of the git directory of the worktree; `.git` in the worktree root where none
+    /// is given.
     pub git_dir: Option<PathText>,
     /// The real path of the current directory; the worktree root where none is given.
     pub current_dir: Option<PathText>,
-    /// The directory or file to walk, relative to the worktree root; where none is given it follows from the path specs.
+    /// The directory or file to walk, relative to the worktree root; where none is given it follows
+    /// from the path specs.
     pub root: Option<Bytes>,
     /// How many components a directory that is entered may have below the worktree root.
     pub depth: usize,
@@ -94,7 +97,8 @@ pub struct Setup {
     pub specs: Search,
     /// The directories that are worktrees of their own, relative to the worktree root.
     pub worktrees: BTreeSet<PathText>,
-    /// The configurations that are read for submodules, in this order, as far as the permissions admit them.
+    /// The configurations that are read for submodules, in this order, as far as the permissions
+    /// admit them.
     pub configs: Configs,
     /// The options, those that no line sets at their defaults.
     pub options: SetupOptions,

@@ -1,11 +1,12 @@
 //! The report of a work tree, and its text.
-ghost use Rattle.std.specs.Prelude.{◌≡◌, true, IfOk, is_some};
+ghost use Rattle.std.specs.Prelude.{◌≡◌, ◌-◌, ◌^◌, min, length, true, IfOk, is_some};
 ghost use Rattle.worktree_fs.specs.Causes.{NotIncreased};
 ghost use Rattle.worktree_stack.specs.Reading.{Sources};
 ghost use Rattle.dir_classify.specs.Chosen.{chosen};
 ghost use Rattle.dir_classify.specs.Excludes.{made_with, tells_excludes};
 ghost use Rattle.dir_classify.specs.Layers.{IsLookupIf};
-ghost use Rattle.dir_walk.specs.Reports.{IsReport};
+ghost use Rattle.dir_walk.specs.Distinct.{Ascends};
+ghost use Rattle.dir_walk.specs.Reports.{IsFromRoot, IsReport};
 ghost use Rattle.dir_walk.specs.Walks.{Tells, WalksWorktree};
 ghost use Rattle.worktree_report.specs.Asked.{chosen_of, git_dir_or, current_dir_or, asked_of};
 ghost use Rattle.worktree_report.specs.Reported.{Reports, Texts};
@@ -24,7 +25,8 @@ use std::alloc::Global;
 use worktree_fs::{Interrupt, Worktree};
 use worktree_stack::Stack;
 
-/// What a walk over a worktree that composes names or not is asked to emit, and how it looks at paths.
+/// What a walk over a worktree that composes names or not is asked to emit, and how it looks at
+/// paths.
 #[tactic(auto, unfolding(dir_classify::specs::Chosen::chosen))]
 fn options_of(composes: bool, setup: &Setup) -> Options<'_>
     ensures { chosen result ≡ chosen_of composes setup.now }
@@ -80,8 +82,8 @@ fn current_dir_of<'a>(root: &'a [u8], setup: &'a Setup) -> &'a [u8]
     }
 }
 
-/// Walks the work tree at `root` as the setup asks for it, with ignore rules, a look-up of the index and a git directory that
-/// are made for it.
+/// Walks the work tree at `root` as the setup asks for it, with ignore rules, a look-up of the
+/// index and a git directory that are made for it.
 fn walk_with<'a, W: Worktree, F: Find, I: Interrupt>(
     alloc: Global,
     worktree: &'a mut W,
@@ -101,6 +103,11 @@ fn walk_with<'a, W: Worktree, F: Find, I: Interrupt>(
         → NotIncreased (W.faults worktree.old) (W.faults worktree.new)
         → IfOk result (IsReport (asked_of (W.precomposes worktree.old) root.now setup.now)
         (made_with excludes.old) s setup.now.root setup.now.depth) }
+    ensures ordered { IfOk result (λ r. Ascends r.entries) }
+    ensures counted { IfOk result
+        (λ r. r.outcome.returned_entries ≡ min (length r.entries) (2 ^ 64 - 1)) }
+    ensures once { IfOk result (IsFromRoot
+        (asked_of (W.precomposes worktree.old) root.now setup.now) setup.now.root) }
     ensures walks_worktree { WalksWorktree W.Worktree F.Find I.Interrupt worktree.old worktree.new
         objects.old objects.new interrupt.old interrupt.new excludes.old excludes.new
         setup.now.options.strategy (asked_of (W.precomposes worktree.old) root.now setup.now)
@@ -123,8 +130,8 @@ fn walk_with<'a, W: Worktree, F: Find, I: Interrupt>(
     walk_by_path(alloc, root, ctx, options, setup.options.strategy)
 }
 
-/// Walks the work tree at `root` as the setup asks for it. Blobs that ignore rules are mapped to are looked up in `objects`. It is
-/// refused as [`dir_walk::walk::walk`] is.
+/// Walks the work tree at `root` as the setup asks for it. Blobs that ignore rules are mapped to
+/// are looked up in `objects`. It is refused as [`dir_walk::walk::walk`] is.
 pub fn walk_by_setup<W: Worktree, F: Find, I: Interrupt>(
     alloc: Global,
     worktree: &mut W,
@@ -152,10 +159,12 @@ pub fn walk_by_setup<W: Worktree, F: Find, I: Interrupt>(
     )
 }
 
-/// The lines of the report of the work tree at `root`. Blobs that ignore rules are mapped to are those of the setup.
+/// The lines of the report of the work tree at `root`. Blobs that ignore rules are mapped to are
+/// those of the setup.
 ///
-/// `Misread` names what tells of submodules and is outside its grammar, `Walk` has the cause that the walk names, `Fault` comes only where the worktree counted one, and `Interrupted` where the
-/// interrupt counted that it was raised.
+/// `Misread` names what tells of submodules and is outside its grammar, and comes before the walk;
+/// `Walk` has the cause that the walk names; `Fault` comes only where the worktree counted one, and
+/// `Interrupted` where the interrupt counted that it was raised.
 pub fn walked_text<W: Worktree, I: Interrupt>(
     alloc: Global,
     worktree: &mut W,

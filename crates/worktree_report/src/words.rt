@@ -3,8 +3,8 @@ ghost use Rattle.std.specs.Prelude.{◌≡◌, ◌==◌, not, option_map, option
 ghost use Rattle.std.specs.List.{slice_split, list_all, list_any};
 ghost use Rattle.worktree_fs.specs.Tree.{is_absolute};
 ghost use Rattle.worktree_fs.specs.Paths.{is_dots};
-ghost use Rattle.worktree_report.specs.Words.{is_whole_path, is_plain_path, number_behind, if_few, count_of, report_words, composed_words, generate_words, command_of};
-ghost use Rattle.worktree_report.specs.Named.{asked_by};
+ghost use Rattle.worktree_report.specs.Words.{is_whole_path, is_plain_path, number_behind, if_few, count_of, behind, command_words, generate_words, places_of, places_behind, command_of};
+ghost use Rattle.worktree_report.specs.Named.{asked_by, named_by};
 
 use crate::setup::depth::digit_of;
 use gitbase_core::Bytes;
@@ -12,11 +12,20 @@ use gitbase_core::Bytes;
 /// The most files that a tree in memory is asked to have.
 const FILE_LIMIT: usize = 100_000;
 
-/// What the words ask for.
+/// Where a command looks: both paths are absolute, and have no `.`, `..` and NUL.
+#[derive(Clone, Copy, Debug)]
+pub struct Places<'a> {
+    /// The root of the work tree.
+    pub root: &'a [u8],
+    /// The path of the setup text.
+    pub setup: &'a [u8],
+}
+
+/// What the words of the report ask for.
 #[derive(Clone, Copy, Debug)]
 pub enum Command<'a> {
-    /// The report of the work tree at a root, by the setup text at a path.
-    Report { root: &'a [u8], setup: &'a [u8] },
+    /// The report of a work tree, by a setup.
+    Report(Places<'a>),
     /// How much there is to report of a tree of so many files in memory.
     Generate { count: usize },
 }
@@ -90,35 +99,53 @@ fn count_of(word: &[u8]) -> Option<usize>
     }
 }
 
-/// What is asked for by `report ROOT SETUP`, with two plain paths.
-fn report_words(words: &[Bytes]) -> Option<Command<'_>>
-    ensures { option_map asked_by result ≡ report_words words.now }
-{
-    if words.len() != 3 {
-        return None;
-    }
-    let root = words[1].as_bytes();
-    let setup = words[2].as_bytes();
-    if words[0].as_bytes() != b"report".as_slice()
-        || !is_plain_path(root)
-        || !is_plain_path(setup)
-    {
-        return None;
-    }
-    Some(Command::Report { root, setup })
-}
-
-/// The same behind the word `composed`.
-fn composed_words(words: &[Bytes]) -> Option<Command<'_>>
-    ensures { option_map asked_by result ≡ composed_words words.now }
+/// The words behind a first word. None where that is another one, or where there is none.
+pub fn behind<'a>(name: &[u8], words: &'a [Bytes]) -> Option<&'a [Bytes]>
+    ensures { option_map (λ rest. rest.now) result ≡ behind name.now words.now }
 {
     let Some((word, rest)) = words.split_first() else {
         return None;
     };
-    if word.as_bytes() != b"composed".as_slice() {
+    if word.as_bytes() != name {
         return None;
     }
-    report_words(rest)
+    Some(rest)
+}
+
+/// The words of a command, over a worktree that composes names or not: those behind `composed` where it does, else all. None where
+/// it does and the first word is not `composed`.
+pub fn command_words(composes: bool, words: &[Bytes]) -> Option<&[Bytes]>
+    ensures { option_map (λ rest. rest.now) result ≡ command_words composes words.now }
+{
+    if composes {
+        behind(b"composed", words)
+    } else {
+        Some(words)
+    }
+}
+
+/// ROOT and SETUP: two absolute paths without `.`, `..` and NUL. None for any other words.
+pub fn places_of(words: &[Bytes]) -> Option<Places<'_>>
+    ensures { option_map named_by result ≡ places_of words.now }
+{
+    if words.len() != 2 {
+        return None;
+    }
+    let root = words[0].as_bytes();
+    let setup = words[1].as_bytes();
+    if !is_plain_path(root) || !is_plain_path(setup) {
+        return None;
+    }
+    Some(Places { root, setup })
+}
+
+/// The places that a command of this name is to look at, over a worktree that composes names or not: its words are the name, ROOT
+/// and SETUP, with `composed` before them exactly where the worktree composes names. None for any other words.
+#[tactic(auto, unfolding(crate::specs::Words::places_behind))]
+pub fn places_behind<'a>(name: &[u8], composes: bool, words: &'a [Bytes]) -> Option<Places<'a>>
+    ensures { option_map named_by result ≡ places_behind name.now composes words.now }
+{
+    places_of(behind(name, command_words(composes, words)?)?)
 }
 
 /// The number of files that is asked for by `generate N`.
@@ -140,9 +167,5 @@ pub fn command_of(composes: bool, words: &[Bytes]) -> Option<Command<'_>>
     if let Some(count) = generate_words(words) {
         return Some(Command::Generate { count });
     }
-    if composes {
-        composed_words(words)
-    } else {
-        report_words(words)
-    }
+    Some(Command::Report(places_behind(b"report", composes, words)?))
 }

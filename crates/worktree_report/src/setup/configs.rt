@@ -6,7 +6,8 @@ use gitbase_core::PathText;
 use std::alloc::Global;
 use std::marker::Model;
 
-/// Configurations in the order in which they are read: what each belongs to, and the path of its file.
+/// Configurations in the order in which they are read: what each belongs to, and the path of its
+/// file.
 ///
 /// Contracts see the list of the pairs.
 #[derive(Debug, Drop)]

@@ -37,7 +37,16 @@ impl Model for Draft {
 
     ghost Value = { Said };
 
-    ghost view = { λ draft. record { options = draft.options.items; index = draft.index; blobs = draft.blobs.items; overrides = draft.overrides.items; globals = draft.globals.items; specs = draft.specs.items; worktrees = draft.worktrees.items; configs = draft.configs.items } };
+    ghost view = { λ draft. record {
+      options = draft.options.items;
+      index = draft.index;
+      blobs = draft.blobs.items;
+      overrides = draft.overrides.items;
+      globals = draft.globals.items;
+      specs = draft.specs.items;
+      worktrees = draft.worktrees.items;
+      configs = draft.configs.items;
+    } };
 }
 
 /// Adds an ignore rule and a line feed.

@@ -17,7 +17,8 @@ pub struct SetupBlob {
     pub bytes: Bytes,
 }
 
-/// The blob that a line gives behind its keyword, which is `ID BYTES`. None where a word is missing or says nothing.
+/// The blob that a line gives behind its keyword, which is `ID BYTES`. None where a word is missing
+/// or says nothing.
 pub fn blob_of(alloc: Global, rest: &[u8]) -> Result<Option<SetupBlob>, OutOfMemory>
     ensures { IfOk result (λ given. given ≡ blob_of rest.now) }
 {
@@ -70,8 +71,8 @@ fn source_of(word: &[u8]) -> Option<Source>
     }
 }
 
-/// The configuration that a line names behind its keyword, which is `SOURCE PATH` with an absolute path. None where a word is
-/// missing or says nothing.
+/// The configuration that a line names behind its keyword, which is `SOURCE PATH` with an absolute
+/// path. None where a word is missing or says nothing.
 pub fn config_of(alloc: Global, rest: &[u8]) -> Result<Option<(Source, PathText)>, OutOfMemory>
     ensures { IfOk result (λ named. named ≡ config_of rest.now) }
 {

@@ -78,7 +78,8 @@ fn several_flags_of(word: &[u8]) -> Option<Flags>
     }
 }
 
-/// The id of a word: a dash for that of no object, or 40 hexadecimal digits. None for any other word.
+/// The id of a word: a dash for that of no object, or 40 hexadecimal digits. None for any other
+/// word.
 pub fn id_of(word: &[u8]) -> Option<ObjectId>
     ensures { result ≡ id_of word.now }
 {
@@ -112,8 +113,8 @@ fn index_words(rest: &[u8]) -> Option<IndexWords<'_>>
     })
 }
 
-/// The entry that a line gives behind its keyword, which is `MODE STAGE FLAGS ID PATH`. None where a word is missing,
-/// or says nothing.
+/// The entry that a line gives behind its keyword, which is `MODE STAGE FLAGS ID PATH`. None where
+/// a word is missing, or says nothing.
 pub fn index_entry(alloc: Global, rest: &[u8]) -> Result<Option<IndexEntry>, OutOfMemory>
     ensures { IfOk result (λ entry. entry ≡ index_entry rest.now) }
 {

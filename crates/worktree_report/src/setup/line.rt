@@ -79,8 +79,8 @@ fn is_once(fields: &Field<'_>) -> bool
     false
 }
 
-/// A line that gives the depth limit, the traversal root or the place of a directory. What it gives is kept as an option under
-/// its keyword.
+/// A line that gives the depth limit, the traversal root or the place of a directory. What it gives
+/// is kept as an option under its keyword.
 fn once_line(alloc: Global, fields: Field<'_>) -> Result<Option<SetupLine>, OutOfMemory>
     ensures { IfOk result (λ line. line ≡ once_line (seen fields.entry)) }
 {

@@ -17,7 +17,8 @@ use std::alloc::Global;
 use std::collections::BTreeSet;
 use worktree_stack::ignore_source;
 
-/// How many components a directory that is entered may have below the worktree root, where no line says that.
+/// How many components a directory that is entered may have below the worktree root, where no line
+/// says that.
 const DEPTH_LIMIT: usize = 256;
 
 /// How untracked paths are reported.

@@ -1,11 +1,11 @@
-use Rattle.std.proofs.Common.{◌≡◌, ◌∙◌, sym, true, false, [], rules}
+use Rattle.std.proofs.Common.{◌≡◌, ◌∙◌, sym, true, false, ℕ, List, [], Option, None, inl, rules}
 use Rattle.std.proofs.lemmas.Result.{err_from_is_err_and}
+use Rattle.dir_classify.specs.declared.entry.Kind.{Kind}
 use Rattle.dir_classify.specs.Excludes.{made_with}
 use Rattle.gitbase_core.specs.Path.{components}
 use Rattle.worktree_stack.specs.Reading.{Sources}
-use Rattle.dir_classify.specs.Chosen.{chosen}
 use Rattle.dir_classify.specs.Layers.{setting_of, evidence, on_disk}
-use Rattle.dir_classify.proofs.Onward.{way-init, ends-init, root-asked, grown-normal, grown-spelled, onward-grown, Reaches-refused, Reaches-ended, Reaches-stopped, Reaches-unrooted, ended-short}
+use Rattle.dir_classify.proofs.Onward.{way-init, top-init, never-asked, never-unread, ends-init, root-unasked, grown-normal, grown-spelled, onward-grown, Reaches-refused, Reaches-ended, Reaches-stopped, Reaches-unrooted, ended-short, ended-whole}
 use Rattle.dir_classify.proofs.classify.root_at.Goals as goal
 
 pub loop-next-init : goal.loop-next-init
@@ -21,11 +21,17 @@ loop-next-init g c =
       leads = λ s tells step quiet.
           let way = way-init (setting_of g.M.Matcher c.args.shared.now) (made_with c.args.excludes.now) s c.args.worktree_relative_root.now c.in_ok-class.class c.is_repository-in_repository.result
           (first.class s tells step quiet) (first.read s tells step quiet) c.is_repository-in_repository.ensures in search rules;
+      top = λ bare s told quiet.
+          let given = setting_of g.M.Matcher c.args.shared.now in
+          let ev = evidence given (made_with c.args.excludes.now) s in
+          let kinds : List ℕ → Option Kind = λ p. on_disk given s.tree p true in
+          top-init given.options ev kinds c.in_ok-path.path c.in_ok-class.class c.is_repository-in_repository.result path_is
+          (first.unruled s told quiet (never-asked given.options ev (kinds []) None)) (never-unread given.options ev kinds) c.is_repository-in_repository.ensures;
       ends = λ s tells step r end.
           let given = setting_of g.M.Matcher c.args.shared.now in
           ends-init given.options (evidence given (made_with c.args.excludes.now) s) (λ p. on_disk given s.tree p true) (components c.args.worktree_relative_root.now) c.in_ok-path.path c.in_ok-class.class
           c.is_repository-in_repository.result r path_is c.is_repository-in_repository.ensures (first.swallowed s tells step) end;
-      reads = rw path_is (root-asked (chosen c.args.shared.now.options).recurse_repositories _ _ _ _ c.in_ok-class.class first.reads);
+      reads = inl (root-unasked first);
     }
 
 pub class_on_way-requires-in-Some-clause-normal : goal.class_on_way-requires-in-Some-clause-normal
@@ -81,3 +87,13 @@ returns-in_err-push_component g c =
     rw (p.1, p.2)
     (Reaches-stopped g.W.Worktree g.F.Find c.args.worktree.now c.loop-next.worktree c.args.objects.now c.loop-next.objects c.args.excludes.now c.loop-next.excludes
     (setting_of g.M.Matcher c.args.shared.now) c.args.worktree_relative_root.now c.loop-next.path c.loop-next.rest.now c.loop-next.class c.is_repository-in_repository.result c.loop-next.invariant)
+
+pub returns : goal.returns
+returns g c =
+    let given = setting_of g.M.Matcher c.args.shared.now in
+    let none : components c.loop-next.rest.now ≡ [] = search rules in
+    let whole = λ (s : Sources). ended-whole given.options (evidence given (made_with c.args.excludes.now) s) (λ p. on_disk given s.tree p true) c.loop-next.path c.loop-next.class
+    c.is_repository-in_repository.result (components c.loop-next.rest.now) none in
+    Reaches-ended g.W.Worktree g.F.Find c.args.worktree.now c.loop-next.worktree c.args.objects.now c.loop-next.objects c.args.excludes.now c.loop-next.excludes given
+    c.args.worktree_relative_root.now c.loop-next.path c.loop-next.rest.now c.loop-next.class c.is_repository-in_repository.result c.loop-next.invariant c.requires.spelled
+    c.reached-2.result true c.reached-2.ensures (λ on. none) (λ s. (whole s).0) (λ s. (whole s).1)

@@ -1,4 +1,4 @@
-use Rattle.std.proofs.Common.{◌∙◌, sym, refl, not, ◌&&◌, rules}
+use Rattle.std.proofs.Common.{◌∙◌, ap, sym, refl, None, not, ◌&&◌, rules}
 use Rattle.std.specs.Prelude.{is_some}
 use Rattle.std.proofs.lemmas.Result.{err_from_is_err_and}
 use Rattle.dir_classify.specs.Chosen.{chosen}
@@ -10,7 +10,7 @@ use Rattle.dir_classify.proofs.Fitting.{dot_git-none, dot_git-nothing}
 use Rattle.dir_classify.proofs.Judging.{unruled}
 use Rattle.dir_classify.proofs.Keeping.{asks-same, at-most, at-most-refused}
 use Rattle.dir_classify.proofs.Refusals.{on-access-by}
-use Rattle.dir_classify.proofs.Ruled.{dot_git-unasked, dot_git-asked, dot_git-read, dot_git-asks}
+use Rattle.dir_classify.proofs.Ruled.{dot_git-unasked, dot_git-unruled, dot_git-asked, dot_git-read, dot_git-asks}
 use Rattle.dir_classify.proofs.Upgrades.{judged-unread}
 use Rattle.dir_classify.proofs.steps.of_dot_git.Goals as goal
 
@@ -36,6 +36,7 @@ returns-in_err-ruling g c = λ ask_disk.
       class = search rules;
       read = search rules;
       swallowed = search rules;
+      unruled = search rules;
       about = search rules;
       refused = search rules;
       asked = λ s told quiet.
@@ -50,6 +51,10 @@ returns-in_err-ruling g c = λ ask_disk.
       reads =
           let p = err_from_is_err_and c.from_residual.result c.from_residual.ensures.1 in
           rw (p.1, p.2) (at-most-refused (chosen c.args.shared.now.options).recurse_repositories c.args.rela_path.now _ _ _ _ c.in_err-ruling.field-0.0 c.in_err-ruling.ensures.reads);
+      spared = λ s never.
+          let kept = c.in_err-ruling.ensures.untouched
+          (dot_git-none (chosen c.args.shared.now.options) (setting_of g.M.Matcher c.args.shared.now) (made_with c.args.excludes.now) s (sym c.is_deleting.ensures ∙ c.if-not-is_deleting.false) (never None)) in
+          record { same = kept.rules; reads = λ on. ap g.W.Worktree.reads kept.worktree };
       unasked = λ s told quiet no.
           let kept = c.in_err-ruling.ensures.untouched
           (dot_git-none (chosen c.args.shared.now.options) (setting_of g.M.Matcher c.args.shared.now) (made_with c.args.excludes.now) s (sym c.is_deleting.ensures ∙ c.if-not-is_deleting.false) no) in
@@ -74,6 +79,11 @@ returns g c = λ ask_disk.
           judged-unread (λ _ read. class_dot_git (chosen c.args.shared.now.options) read path c.args.disk_kind (dot_git_ruling (chosen c.args.shared.now.options) read path c.args.disk_kind)) ev path (on_disk (setting_of g.M.Matcher c.args.shared.now) s.tree path ask_disk) c.class_dot_git-2.result
           (c.class_dot_git-2.ensures made s
           ∙ dot_git-asked (chosen c.args.shared.now.options) (setting_of g.M.Matcher c.args.shared.now) made s path c.args.disk_kind c.in_ok-ruling.ruling c.is_dir-is_dir.result on c.is_dir-is_dir.ensures (asked.ruling s tells step));
+      unruled = λ s told quiet no.
+          c.class_dot_git-2.ensures made s
+          ∙ ap (class_dot_git (chosen c.args.shared.now.options) (evidence (setting_of g.M.Matcher c.args.shared.now) made s) path c.args.disk_kind)
+          (asked.no_rules (dot_git-none (chosen c.args.shared.now.options) (setting_of g.M.Matcher c.args.shared.now) made s on no))
+          ∙ dot_git-unruled (chosen c.args.shared.now.options) (evidence (setting_of g.M.Matcher c.args.shared.now) made s) path c.args.disk_kind no;
       about = tt;
       refused = λ s tells. tt;
       asked = λ s told quiet. tt;
@@ -82,6 +92,9 @@ returns g c = λ ask_disk.
       store = asked.store;
       rules = asked.rules;
       reads = at-most (chosen c.args.shared.now.options).recurse_repositories path _ _ _ _ _ c.in_ok-ruling.ruling c.class_dot_git-2.result (λ on. refl) asked.reads;
+      spared = λ s never.
+          let kept = asked.untouched (dot_git-none (chosen c.args.shared.now.options) (setting_of g.M.Matcher c.args.shared.now) made s on (never None)) in
+          record { same = kept.rules; reads = λ on. ap g.W.Worktree.reads kept.worktree };
       unasked = λ s told quiet no.
           let kept = asked.untouched (dot_git-none (chosen c.args.shared.now.options) (setting_of g.M.Matcher c.args.shared.now) made s on no) in
           (kept.store, kept.rules);

@@ -1,4 +1,4 @@
-use Rattle.std.proofs.Common.{◌∙◌, ap, sym, refl, false, true, inl}
+use Rattle.std.proofs.Common.{◌∙◌, ap, sym, refl, false, true, None, inl, rules}
 use Rattle.dir_classify.specs.declared.excludes.Ruling.{Ruling}
 use Rattle.dir_classify.specs.Chosen.{chosen}
 use Rattle.dir_classify.specs.declared.index.InIndex.{InIndex}
@@ -9,7 +9,7 @@ use Rattle.dir_classify.specs.Layers.{setting_of, evidence, on_disk}
 use Rattle.dir_classify.proofs.Fitting.{worktree-case, indexed-case, unindexed-case, unasked-worktree, unasked-indexed, indexed-as, read-case, in_index-of, none-asked, idle-indexed, idle-unindexed}
 use Rattle.dir_classify.proofs.Judging.{unruled}
 use Rattle.dir_classify.proofs.Keeping.{asks-same, asks-then, asks-rules, quiet-first, quiet-second, at-most}
-use Rattle.dir_classify.proofs.Ruled.{judged-unindexed}
+use Rattle.dir_classify.proofs.Ruled.{judged-unindexed, ruling-none}
 use Rattle.dir_classify.proofs.Upgrades.{judged-kind, judged-unread}
 use Rattle.dir_classify.proofs.steps.of_kind.Goals as goal
 
@@ -68,6 +68,12 @@ returns g c = λ ask_disk.
       swallowed = λ s tells step. let od = on_disk (setting_of g.M.Matcher c.args.shared.now) s.tree path ask_disk in
           judged-unindexed (chosen c.args.shared.now.options) (evidence (setting_of g.M.Matcher c.args.shared.now) made s) path c.args.kind od c.in_ok-ruling.ruling c.in_ok-class-2.class none
           (indexed-as (setting_of g.M.Matcher c.args.shared.now) made s path c.args.entry c.args.kind false c.requires.entry not_indexed) (first.swallowed s tells step) (then.swallowed s (first.keeps.tree ∙ tells.tree_is) made od);
+      unruled = λ s told quiet no.
+          let off = none-asked (setting_of g.M.Matcher c.args.shared.now) made s path c.args.kind none (ap (λ e. is_indexed e c.args.kind) (sym c.requires.entry) ∙ not_indexed) no in
+          then.class s (first.keeps.tree ∙ told) (quiet-second _ _ _ first.keeps.faults then.keeps.faults quiet) made
+          ∙ ap (λ (r : Ruling). class_unindexed (chosen c.args.shared.now.options) (evidence (setting_of g.M.Matcher c.args.shared.now) made s) path c.args.kind r)
+          (first.no_rules off ∙ ruling-none (setting_of g.M.Matcher c.args.shared.now) made s path c.args.kind off)
+          ∙ unindexed-case (chosen c.args.shared.now.options) (evidence (setting_of g.M.Matcher c.args.shared.now) made s) path c.args.kind none (indexed-as (setting_of g.M.Matcher c.args.shared.now) made s path c.args.entry c.args.kind false c.requires.entry not_indexed);
       about = tt;
       refused = λ s tells. tt;
       asked = λ s told quiet. tt;
@@ -77,6 +83,9 @@ returns g c = λ ask_disk.
       rules = record { made = first.rules.made; in_step = first.rules.in_step };
       reads = at-most (chosen c.args.shared.now.options).recurse_repositories path _ _ _ _ _ c.in_ok-ruling.ruling c.in_ok-class-2.class
           (λ on. ap g.W.Worktree.reads (then.unasked (rw on refl))) first.reads;
+      spared = λ s never.
+          let kept = first.untouched (none-asked (setting_of g.M.Matcher c.args.shared.now) made s path c.args.kind none (ap (λ e. is_indexed e c.args.kind) (sym c.requires.entry) ∙ not_indexed) (never None)) in
+          record { same = kept.rules; reads = λ on. ap g.W.Worktree.reads (then.unasked (rw on refl) ∙ kept.worktree) };
       unasked = λ s told quiet no.
           let kept = first.untouched (none-asked (setting_of g.M.Matcher c.args.shared.now) made s path c.args.kind none (ap (λ e. is_indexed e c.args.kind) (sym c.requires.entry) ∙ not_indexed) no) in
           (kept.store, kept.rules);
@@ -86,4 +95,60 @@ returns g c = λ ask_disk.
           let same = then.unasked
           (ap (λ (r : Ruling). is_idle (chosen c.args.shared.now.options) (seeks_by_rules (chosen c.args.shared.now.options) c.args.kind r.kind)) (first.no_rules parts.0) ∙ parts.1) in
           record { worktree = same ∙ kept.worktree; store = kept.store; rules = kept.rules };
+    }
+
+pub returns-in_err-ruling : goal.returns-in_err-ruling
+unfolding evidence
+returns-in_err-ruling g c = λ ask_disk.
+    let made = made_with c.args.excludes.now in
+    let path = c.args.rela_path.now in
+    let none = sym c.is_worktree.ensures ∙ c.if-is_worktree.false in
+    let not_indexed = sym c.is_indexed.ensures ∙ c.if-is_indexed.false in
+    record {
+      class = search rules;
+      read = search rules;
+      swallowed = search rules;
+      unruled = search rules;
+      about = search rules;
+      refused = search rules;
+      asked = search rules;
+      cause = search rules;
+      keeps = search rules;
+      store = search rules;
+      rules = search rules;
+      reads = search rules;
+      spared = λ s never.
+          let kept = c.in_err-ruling.ensures.untouched
+          (none-asked (setting_of g.M.Matcher c.args.shared.now) made s path c.args.kind none (ap (λ e. is_indexed e c.args.kind) (sym c.requires.entry) ∙ not_indexed) (never None)) in
+          record { same = kept.rules; reads = λ on. ap g.W.Worktree.reads kept.worktree };
+      unasked = search rules;
+      untouched = search rules;
+    }
+
+pub returns-in_err-class-2 : goal.returns-in_err-class-2
+unfolding evidence
+returns-in_err-class-2 g c = λ ask_disk.
+    let made = made_with c.args.excludes.now in
+    let path = c.args.rela_path.now in
+    let none = sym c.is_worktree.ensures ∙ c.if-is_worktree.false in
+    let not_indexed = sym c.is_indexed.ensures ∙ c.if-is_indexed.false in
+    record {
+      class = search rules;
+      read = search rules;
+      swallowed = search rules;
+      unruled = search rules;
+      about = search rules;
+      refused = search rules;
+      asked = search rules;
+      cause = search rules;
+      keeps = search rules;
+      store = search rules;
+      rules = search rules;
+      reads = search rules;
+      spared = λ s never.
+          let kept = c.in_ok-ruling.ensures.untouched
+          (none-asked (setting_of g.M.Matcher c.args.shared.now) made s path c.args.kind none (ap (λ e. is_indexed e c.args.kind) (sym c.requires.entry) ∙ not_indexed) (never None)) in
+          record { same = kept.rules; reads = λ on. ap g.W.Worktree.reads (c.in_err-class-2.ensures.unasked (rw on refl) ∙ kept.worktree) };
+      unasked = search rules;
+      untouched = search rules;
     }

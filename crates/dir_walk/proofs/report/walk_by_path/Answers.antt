@@ -6,7 +6,7 @@ use Rattle.dir_classify.specs.Layers.{setting_in}
 use Rattle.dir_walk.specs.declared.report.Report.{Report}
 use Rattle.dir_walk.specs.Emissions.{Emission}
 use Rattle.dir_walk.specs.Walks.{WalkGives}
-use Rattle.dir_walk.proofs.ByPath.{ascends-given, distinct-given, is-report}
+use Rattle.dir_walk.proofs.ByPath.{ascends-given, distinct-given, from-root, is-report}
 use Rattle.dir_walk.proofs.WalksSo.{walks-memory, walks-more, walks-other}
 use Rattle.dir_walk.proofs.report.walk_by_path.Goals as goal
 
@@ -62,3 +62,9 @@ returns-clause-counted g c =
       ap {B = ℕ} (λ (xs : List Emission). length xs) c.new-delegate.ensures,
       length_permutation got c.in_ok-entries.entries c.in_ok-entries.ensures.same,
     )
+
+pub returns-clause-once : goal.returns-clause-once
+returns-clause-once g c =
+    let a = c.args in
+    from-root (setting_in g.M.Matcher a.worktree_root.now a.options a.ctx) a.ctx.explicit_traversal_root.now c.in_ok-outcome.outcome c.in_ok-outcome.root c.new-delegate.result.unorded_entries c.walk_as.new.delegate.unorded_entries
+    c.in_ok-entries.entries c.new-delegate.ensures c.in_ok-entries.ensures.same c.in_ok-outcome.ensures.feeds.once

@@ -13,6 +13,7 @@ use Rattle.dir_walk.proofs.CallByCall.{Before-asked, Before-classed, Before-then
 use Rattle.dir_walk.proofs.FromRoot.{opens-entered, opens-short}
 use Rattle.dir_walk.proofs.Refusals.{refused-any}
 use Rattle.dir_walk.proofs.Started.{gives-entered, gives-put, no-node, no-root, part-entered, refuses-entered}
+use Rattle.dir_walk.proofs.Starting.{bare}
 use Rattle.dir_walk.proofs.WayRefused.{only-no_root, only-refuses, way-about, way-found, way-refuses}
 use Rattle.dir_walk.proofs.start.walk_from.Goals as goal
 
@@ -145,7 +146,7 @@ returns-clause-refused g c = λ s tells quiet store_quiet default.
     c.put_root.ensures.puts.refused
 
 pub returns-clause-no_root : goal.returns-clause-no_root
-returns-clause-no_root g c = λ s tells quiet.
+returns-clause-no_root g c = λ s told quiet.
     let a = c.args in
     let w = g.W.Worktree in
     let given = setting_of g.M.Matcher a.shared.now in
@@ -154,9 +155,9 @@ returns-clause-no_root g c = λ s tells quiet.
     let r = c.in_ok-reached.reached in
     let top = a.shared.now.worktree_root.now in
     let first : NotIncreased (w.faults a.worktree.now) (w.faults c.root_at.new.worktree) = (let k = c.in_ok-is_root_entered.ensures.keeps.faults in omega (arith, quiet, k)) in
-    let is = way.reached s tells.tells tells.in_step first in
+    let shape = c.requires.root in
     IfErr-weaker c.put_root.result (OnRefused (OnlyRoot top a.root.now r)) (OnRefused (OnNoRoot (IsNoDirectory given s)))
-    (refused-any (OnlyRoot top a.root.now r) (OnNoRoot (IsNoDirectory given s)) (λ e. only-no_root (IsNoDirectory given s) top a.root.now r e (no-node given made s a.root.now c.requires.root r is)))
+    (refused-any (OnlyRoot top a.root.now r) (OnNoRoot (IsNoDirectory given s)) (λ e. only-no_root (IsNoDirectory given s) top a.root.now r e (λ empty. no-node given made s a.root.now shape r (way.top (bare a.root.now empty) s told first) empty)))
     c.put_root.ensures.puts.refused
 
 pub returns-in_err-reached-clause-opens : goal.returns-in_err-reached-clause-opens

@@ -11,53 +11,45 @@ use Rattle.dir_walk.specs.Opens.{refused_walk}
 use Rattle.dir_walk.specs.Root.{rooted, traversal_root}
 use Rattle.dir_walk.specs.Rooting.{IsNormalized}
 use Rattle.dir_walk.specs.Walks.{IsRootOf}
-use Rattle.dir_walk.proofs.FeedsSo.{feeds-broken, feeds-done, feeds-refused}
+use Rattle.dir_walk.proofs.FeedsSo.{feeds-broken, feeds-done, feeds-nothing, feeds-refused}
 use Rattle.dir_walk.proofs.Overall.{opens-whole, refused-most}
 use Rattle.dir_walk.proofs.WalksSo.{walks-done, walks-outside, walks-refused}
 use Rattle.dir_walk.proofs.walk.walk_parts.Goals as goal
 
-pub returns-in_err-root-clause-walks_worktree : goal.returns-in_err-root-clause-walks_worktree
-returns-in_err-root-clause-walks_worktree g c =
+pub returns-in_err-root : goal.returns-in_err-root
+returns-in_err-root g c =
     let a = c.args in
     let p = err_from_is_err_and c.from_residual.result c.from_residual.ensures.1 in
     let refused = c.in_err-root.ensures in
+    let given = setting_of g.M.Matcher a.shared.now in
     rw (p.1, p.2)
-    (walks-outside g.W.Worktree g.F.Find g.I.Interrupt a.strategy (setting_of g.M.Matcher a.shared.now) a.explicit.now a.depth_limit (g.D.Delegate.is_default a.delegate.now) (λ r. r.0) (λ r. r.1) refused.keeps refused.reads c.in_err-root.field-0.0
-    refused.about refused.refused refused.fault)
+    (record {
+      walks_worktree =
+          walks-outside g.W.Worktree g.F.Find g.I.Interrupt a.strategy given a.explicit.now a.depth_limit (g.D.Delegate.is_default a.delegate.now) (λ r. r.0) (λ r. r.1) refused.keeps refused.reads c.in_err-root.field-0.0
+          refused.about refused.refused refused.fault;
+      feeds = feeds-nothing g.W.Worktree g.F.Find g.D.Delegate given a.explicit.now a.depth_limit c.in_err-root.field-0.0;
+    })
 
-pub returns-in_err-full-clause-walks_worktree : goal.returns-in_err-full-clause-walks_worktree
-returns-in_err-full-clause-walks_worktree g c =
+pub returns-in_err-full : goal.returns-in_err-full
+returns-in_err-full g c =
     let a = c.args in
     let p = err_from_is_err_and c.from_residual-in_err-full.result c.from_residual-in_err-full.ensures.1 in
     let found = c.in_ok-root.ensures in
+    let given = setting_of g.M.Matcher a.shared.now in
     rw (p.1, p.2)
-    (walks-outside g.W.Worktree g.F.Find g.I.Interrupt a.strategy (setting_of g.M.Matcher a.shared.now) a.explicit.now a.depth_limit (g.D.Delegate.is_default a.delegate.now) (λ r. r.0) (λ r. r.1) found.keeps found.reads errors.OutOfMemory tt
-    (λ t told. tt) (λ before now. tt))
+    (record {
+      walks_worktree =
+          walks-outside g.W.Worktree g.F.Find g.I.Interrupt a.strategy given a.explicit.now a.depth_limit (g.D.Delegate.is_default a.delegate.now) (λ r. r.0) (λ r. r.1) found.keeps found.reads errors.OutOfMemory tt
+          (λ t told. tt) (λ before now. tt);
+      feeds = feeds-nothing g.W.Worktree g.F.Find g.D.Delegate given a.explicit.now a.depth_limit errors.OutOfMemory;
+    })
 
-pub returns-in-Ok-clause-walks_worktree : goal.returns-in-Ok-clause-walks_worktree
-returns-in-Ok-clause-walks_worktree g c =
+pub returns-in-Ok : goal.returns-in-Ok
+returns-in-Ok g c =
     let a = c.args in
     let w = g.W.Worktree in
     let f = g.F.Find in
     let i = g.I.Interrupt in
-    let d = g.D.Delegate in
-    let given = setting_of g.M.Matcher a.shared.now in
-    let root = c.as_bytes-2.result.now in
-    let found = c.in_ok-root.ensures in
-    let normal : IsNormalized given a.explicit.now root = rw c.as_bytes-2.ensures found.asked in
-    let rooted_is : (t : Names) → w.told a.worktree.now ≡ Some t → NotIncreased (w.faults a.worktree.now) (w.faults c.traversal_root.new.worktree) → traversal_root given t a.explicit.now ≡ rooted root =
-    λ t told quiet. found.root t told quiet ∙ ap rooted (sym c.as_bytes-2.ensures) in
-    let from = c.in-Ok.ensures in
-    let full_is : c.in_ok-full.full ≡ full_path given.root root = c.in_ok-full.ensures ∙ ap (full_path given.root) (c.as_bytes.ensures ∙ sym c.as_bytes-2.ensures) in
-    let is_root : IsRootOf given a.explicit.now (λ (r : Outcome × List ℕ). r.1) (Ok (c.walk_from.new.outcome, c.in_ok-full.full)) root = record { normalized = normal; named = full_is } in
-    let none : refused_walk c.walk_from.result ≤ 0 = rw c.in-Ok.is (omega arith) in
-    walks-done w f i d a.strategy given a.explicit.now a.depth_limit (d.is_default a.delegate.now) (λ r. r.0) (λ r. r.1) root found.keeps normal rooted_is (c.walk_from.new.outcome, c.in_ok-full.full) (Ok tt) from.ends from.ends.caused.listed from.ends.caused.calm
-    (opens-whole a.strategy found.keeps.lists found.reads c.walk_from.result (Ok (c.walk_from.new.outcome, c.in_ok-full.full)) c.default-outcome.ensures.0 is_root refl none c.walk_from.ensures.opens)
-
-pub returns-in-Ok-clause-feeds : goal.returns-in-Ok-clause-feeds
-returns-in-Ok-clause-feeds g c =
-    let a = c.args in
-    let w = g.W.Worktree in
     let d = g.D.Delegate in
     let given = setting_of g.M.Matcher a.shared.now in
     let root = c.as_bytes-2.result.now in
@@ -68,34 +60,24 @@ returns-in-Ok-clause-feeds g c =
     let from = c.in-Ok.ensures in
     let zeros = c.default-outcome.ensures in
     let full_is : c.in_ok-full.full ≡ full_path given.root root = c.in_ok-full.ensures ∙ ap (full_path given.root) (c.as_bytes.ensures ∙ sym c.as_bytes-2.ensures) in
-    feeds-done w g.F.Find d a.worktree.now c.traversal_root.new.worktree c.walk_from.new.worktree a.objects.now a.excludes.now a.delegate.now c.walk_from.new.delegate given a.explicit.now a.depth_limit root c.default-outcome.result c.walk_from.new.outcome
-    found.keeps from.ends.worktree.faults normal rooted_is from.ends.delegate c.walk_from.ensures.puts zeros.0 zeros.1.0 zeros.1.1 c.in_ok-full.full full_is from.ends.heeds.kept_on
-    (λ s told. g.met.W.Worktree.is_tree a.worktree.now s.tree told) from.gives
+    let is_root : IsRootOf given a.explicit.now (λ (r : Outcome × List ℕ). r.1) (Ok (c.walk_from.new.outcome, c.in_ok-full.full)) root = record { normalized = normal; named = full_is } in
+    let none : refused_walk c.walk_from.result ≤ 0 = rw c.in-Ok.is (omega arith) in
+    record {
+      walks_worktree =
+          walks-done w f i d a.strategy given a.explicit.now a.depth_limit (d.is_default a.delegate.now) (λ r. r.0) (λ r. r.1) root found.keeps normal rooted_is (c.walk_from.new.outcome, c.in_ok-full.full) (Ok tt) from.ends from.ends.caused.listed from.ends.caused.calm
+          (opens-whole a.strategy found.keeps.lists found.reads c.walk_from.result (Ok (c.walk_from.new.outcome, c.in_ok-full.full)) zeros.0 is_root refl none c.walk_from.ensures.opens);
+      feeds =
+          feeds-done w f d a.worktree.now c.traversal_root.new.worktree c.walk_from.new.worktree a.objects.now a.excludes.now a.delegate.now c.walk_from.new.delegate given a.explicit.now a.depth_limit root c.default-outcome.result c.walk_from.new.outcome
+          found.keeps from.ends.worktree.faults normal rooted_is from.ends.delegate c.walk_from.ensures.puts zeros.0 zeros.1.0 zeros.1.1 c.in_ok-full.full full_is from.ends.heeds.kept_on
+          (λ s told. g.met.W.Worktree.is_tree a.worktree.now s.tree told) from.gives;
+    }
 
-pub returns-in-Err-Broken-clause-walks_worktree : goal.returns-in-Err-Broken-clause-walks_worktree
-returns-in-Err-Broken-clause-walks_worktree g c =
+pub returns-in-Err-Broken : goal.returns-in-Err-Broken
+returns-in-Err-Broken g c =
     let a = c.args in
     let w = g.W.Worktree in
     let f = g.F.Find in
     let i = g.I.Interrupt in
-    let d = g.D.Delegate in
-    let given = setting_of g.M.Matcher a.shared.now in
-    let root = c.as_bytes-2.result.now in
-    let found = c.in_ok-root.ensures in
-    let normal : IsNormalized given a.explicit.now root = rw c.as_bytes-2.ensures found.asked in
-    let rooted_is : (t : Names) → w.told a.worktree.now ≡ Some t → NotIncreased (w.faults a.worktree.now) (w.faults c.traversal_root.new.worktree) → traversal_root given t a.explicit.now ≡ rooted root =
-    λ t told quiet. found.root t told quiet ∙ ap rooted (sym c.as_bytes-2.ensures) in
-    let from = c.in-Err-Broken.ensures in
-    let full_is : c.in_ok-full.full ≡ full_path given.root root = c.in_ok-full.ensures ∙ ap (full_path given.root) (c.as_bytes.ensures ∙ sym c.as_bytes-2.ensures) in
-    let is_root : IsRootOf given a.explicit.now (λ (r : Outcome × List ℕ). r.1) (Ok (c.walk_from.new.outcome, c.in_ok-full.full)) root = record { normalized = normal; named = full_is } in
-    let none : refused_walk c.walk_from.result ≤ 0 = rw (c.in-Err-Broken.is, c.in-Err-Broken.field-0-is) (omega arith) in
-    walks-done w f i d a.strategy given a.explicit.now a.depth_limit (d.is_default a.delegate.now) (λ r. r.0) (λ r. r.1) root found.keeps normal rooted_is (c.walk_from.new.outcome, c.in_ok-full.full) (Err Broken) (rw c.in-Err-Broken.field-0-is at from.ends) (rw c.in-Err-Broken.field-0-is at from.ends).caused.listed (rw c.in-Err-Broken.field-0-is at from.ends).caused.calm
-    (opens-whole a.strategy found.keeps.lists found.reads c.walk_from.result (Ok (c.walk_from.new.outcome, c.in_ok-full.full)) c.default-outcome.ensures.0 is_root refl none c.walk_from.ensures.opens)
-
-pub returns-in-Err-Broken-clause-feeds : goal.returns-in-Err-Broken-clause-feeds
-returns-in-Err-Broken-clause-feeds g c =
-    let a = c.args in
-    let w = g.W.Worktree in
     let d = g.D.Delegate in
     let given = setting_of g.M.Matcher a.shared.now in
     let root = c.as_bytes-2.result.now in
@@ -106,12 +88,20 @@ returns-in-Err-Broken-clause-feeds g c =
     let from = rw c.in-Err-Broken.field-0-is at c.in-Err-Broken.ensures in
     let zeros = c.default-outcome.ensures in
     let full_is : c.in_ok-full.full ≡ full_path given.root root = c.in_ok-full.ensures ∙ ap (full_path given.root) (c.as_bytes.ensures ∙ sym c.as_bytes-2.ensures) in
-    feeds-broken w g.F.Find d a.worktree.now c.traversal_root.new.worktree c.walk_from.new.worktree a.objects.now a.excludes.now a.delegate.now c.walk_from.new.delegate given a.explicit.now a.depth_limit root c.default-outcome.result c.walk_from.new.outcome
-    found.keeps from.ends.worktree.faults normal rooted_is from.ends.delegate c.walk_from.ensures.puts zeros.0 zeros.1.0 zeros.1.1 c.in_ok-full.full full_is from.ends.heeds
-    (λ s tells by quiet v is. from.part s tells quiet by v is)
+    let is_root : IsRootOf given a.explicit.now (λ (r : Outcome × List ℕ). r.1) (Ok (c.walk_from.new.outcome, c.in_ok-full.full)) root = record { normalized = normal; named = full_is } in
+    let none : refused_walk c.walk_from.result ≤ 0 = rw (c.in-Err-Broken.is, c.in-Err-Broken.field-0-is) (omega arith) in
+    record {
+      walks_worktree =
+          walks-done w f i d a.strategy given a.explicit.now a.depth_limit (d.is_default a.delegate.now) (λ r. r.0) (λ r. r.1) root found.keeps normal rooted_is (c.walk_from.new.outcome, c.in_ok-full.full) (Err Broken) from.ends from.ends.caused.listed from.ends.caused.calm
+          (opens-whole a.strategy found.keeps.lists found.reads c.walk_from.result (Ok (c.walk_from.new.outcome, c.in_ok-full.full)) zeros.0 is_root refl none c.walk_from.ensures.opens);
+      feeds =
+          feeds-broken w f d a.worktree.now c.traversal_root.new.worktree c.walk_from.new.worktree a.objects.now a.excludes.now a.delegate.now c.walk_from.new.delegate given a.explicit.now a.depth_limit root c.default-outcome.result c.walk_from.new.outcome
+          found.keeps from.ends.worktree.faults normal rooted_is from.ends.delegate c.walk_from.ensures.puts zeros.0 zeros.1.0 zeros.1.1 c.in_ok-full.full full_is from.ends.heeds
+          (λ s tells by quiet v is. from.part s tells quiet by v is);
+    }
 
-pub returns-clause-walks_worktree : goal.returns-clause-walks_worktree
-returns-clause-walks_worktree g c =
+pub returns : goal.returns
+returns g c =
     let a = c.args in
     let w = g.W.Worktree in
     let f = g.F.Find in
@@ -125,22 +115,13 @@ returns-clause-walks_worktree g c =
     λ t told quiet. found.root t told quiet ∙ ap rooted (sym c.as_bytes-2.ensures) in
     let from = rw c.in-Err-Refused.field-0-is at c.in-Err-Refused.ensures in
     let e = c.in-Err-Refused.error in
-    walks-refused w f i d a.strategy given a.explicit.now a.depth_limit (d.is_default a.delegate.now) (λ r. r.0) (λ r. r.1) root found.keeps normal rooted_is e from.ends from.about from.found
-    (λ s tells by quiet store_quiet. from.refused s tells quiet store_quiet by) from.no_root
-    (opens-whole a.strategy found.keeps.lists found.reads c.walk_from.result (Err e) c.default-outcome.ensures.0 (record { normalized = normal; named = tt }) tt (refused-most c.walk_from.result) c.walk_from.ensures.opens)
-
-pub returns-clause-feeds : goal.returns-clause-feeds
-returns-clause-feeds g c =
-    let a = c.args in
-    let w = g.W.Worktree in
-    let d = g.D.Delegate in
-    let given = setting_of g.M.Matcher a.shared.now in
-    let root = c.as_bytes-2.result.now in
-    let found = c.in_ok-root.ensures in
-    let normal : IsNormalized given a.explicit.now root = rw c.as_bytes-2.ensures found.asked in
-    let rooted_is : (t : Names) → w.told a.worktree.now ≡ Some t → NotIncreased (w.faults a.worktree.now) (w.faults c.traversal_root.new.worktree) → traversal_root given t a.explicit.now ≡ rooted root =
-    λ t told quiet. found.root t told quiet ∙ ap rooted (sym c.as_bytes-2.ensures) in
-    let from = rw c.in-Err-Refused.field-0-is at c.in-Err-Refused.ensures in
-    feeds-refused w g.F.Find d a.worktree.now c.traversal_root.new.worktree c.walk_from.new.worktree a.objects.now a.excludes.now a.delegate.now c.walk_from.new.delegate given a.explicit.now a.depth_limit root c.default-outcome.result c.walk_from.new.outcome
-    found.keeps from.ends.worktree.faults normal rooted_is from.ends.delegate c.walk_from.ensures.puts c.in-Err-Refused.error from.ends.heeds
-    (λ s tells by quiet v is. from.part s tells quiet by v is)
+    record {
+      walks_worktree =
+          walks-refused w f i d a.strategy given a.explicit.now a.depth_limit (d.is_default a.delegate.now) (λ r. r.0) (λ r. r.1) root found.keeps normal rooted_is e from.ends from.about from.found
+          (λ s tells by quiet store_quiet. from.refused s tells quiet store_quiet by) from.no_root
+          (opens-whole a.strategy found.keeps.lists found.reads c.walk_from.result (Err e) c.default-outcome.ensures.0 (record { normalized = normal; named = tt }) tt (refused-most c.walk_from.result) c.walk_from.ensures.opens);
+      feeds =
+          feeds-refused w f d a.worktree.now c.traversal_root.new.worktree c.walk_from.new.worktree a.objects.now a.excludes.now a.delegate.now c.walk_from.new.delegate given a.explicit.now a.depth_limit root c.default-outcome.result c.walk_from.new.outcome
+          found.keeps from.ends.worktree.faults normal rooted_is from.ends.delegate c.walk_from.ensures.puts e from.ends.heeds
+          (λ s tells by quiet v is. from.part s tells quiet by v is);
+    }

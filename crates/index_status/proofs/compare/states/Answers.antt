@@ -1,36 +1,52 @@
-use Rattle.std.proofs.Common.{drop, ◌+◌}
+use Rattle.std.proofs.Common.{drop, ◌+◌, Option, subst, sym}
 use Rattle.std.proofs.lemmas.List.{drop_all}
 use Rattle.index_status.proofs.Alongside.{along-done, along-entry, along-start, next-left, paired-told, possible-rows}
 use Rattle.index_status.proofs.Ordered.{ascending-rows}
+use Rattle.gitbase_core.specs.Path.{components}
+use Rattle.worktree_fs.specs.Tree.{Names}
 use Rattle.index_status.specs.Rows.{firsts}
 use Rattle.index_status.specs.States.{IsState}
+use Rattle.index_status.specs.Ways.{IsLed}
 use Rattle.index_status.proofs.compare.states.Goals as goal
 
 pub loop-entry-init : goal.loop-entry-init
-loop-entry-init g c =
-    along-start g.W.Worktree c.args.worktree.now c.args.worktree_root.now c.args.index.now c.entries-entry-items.result.now c.new-made.result.items
-    c.entries-entry-items.ensures.same c.new-made.ensures.items
+loop-entry-init g c = (
+  along-start g.W.Worktree c.args.worktree.now c.args.worktree_root.now c.args.index.now c.entries-entry-items.result.now c.new-made.result.items
+      c.entries-entry-items.ensures.same c.new-made.ensures.items,
+  tt,
+)
+
+pub with_entry-requires : goal.with_entry-requires
+with_entry-requires g c =
+    record {
+      known =
+          subst (λ (told : Option Names). IsLed told c.args.worktree_root.now (components c.loop-entry.known.now))
+          (sym c.loop-entry.invariant.0.keeps.tree) c.loop-entry.invariant.1;
+    }
 
 pub loop-entry-preserved : goal.loop-entry-preserved
-loop-entry-preserved g c =
-    along-entry g.W.Worktree c.args.worktree.now c.loop-entry.worktree c.with_entry.new.worktree c.args.worktree_root.now c.args.index.now
-    (drop c.loop-entry.entry-index c.entries-entry-items.result.now) c.loop-entry.made.items c.loop-entry.invariant c.entry-item.result
-    (drop (c.loop-entry.entry-index + 1) c.entries-entry-items.result.now)
-    (next-left c.entries-entry-items.result.now c.loop-entry.entry-index c.entry-item.result c.loop-entry-test.true c.entry-item.is)
-    c.in_ok-made.made.items c.in_ok-made.ensures.keeps c.in_ok-made.ensures.more
+loop-entry-preserved g c = (
+  along-entry g.W.Worktree c.args.worktree.now c.loop-entry.worktree c.with_entry.new.worktree c.args.worktree_root.now c.args.index.now
+      (drop c.loop-entry.entry-index c.entries-entry-items.result.now) c.loop-entry.made.items c.loop-entry.invariant.0 c.entry-item.result
+      (drop (c.loop-entry.entry-index + 1) c.entries-entry-items.result.now)
+      (next-left c.entries-entry-items.result.now c.loop-entry.entry-index c.entry-item.result c.loop-entry-test.true c.entry-item.is)
+      c.in_ok-more.more.items c.in_ok-more.ensures.keeps c.in_ok-more.ensures.more,
+  subst (λ (told : Option Names). IsLed told c.args.worktree_root.now (components c.in_ok-more.led.now)) c.loop-entry.invariant.0.keeps.tree
+      c.in_ok-more.ensures.led,
+)
 
 pub returns-clause-states : goal.returns-clause-states
 returns-clause-states g c = λ t told.
     paired-told (g.W.Worktree.told c.args.worktree.now) t c.args.worktree_root.now (firsts c.args.index.now) c.loop-entry.made.items told
     (along-done g.W.Worktree c.args.worktree.now c.loop-entry.worktree c.args.worktree_root.now c.args.index.now
-    (drop c.loop-entry.entry-index c.entries-entry-items.result.now) c.loop-entry.made.items c.loop-entry.invariant
+    (drop c.loop-entry.entry-index c.entries-entry-items.result.now) c.loop-entry.made.items c.loop-entry.invariant.0
     (drop_all c.loop-entry.entry-index c.entries-entry-items.result.now c.loop-entry-test.false))
 
 pub returns-clause-possible : goal.returns-clause-possible
 returns-clause-possible g c =
     possible-rows (g.W.Worktree.told c.args.worktree.now) c.args.worktree_root.now c.args.index.now c.loop-entry.made.items
     (along-done g.W.Worktree c.args.worktree.now c.loop-entry.worktree c.args.worktree_root.now c.args.index.now
-    (drop c.loop-entry.entry-index c.entries-entry-items.result.now) c.loop-entry.made.items c.loop-entry.invariant
+    (drop c.loop-entry.entry-index c.entries-entry-items.result.now) c.loop-entry.made.items c.loop-entry.invariant.0
     (drop_all c.loop-entry.entry-index c.entries-entry-items.result.now c.loop-entry-test.false))
 
 pub returns-clause-ascends : goal.returns-clause-ascends
@@ -38,5 +54,5 @@ returns-clause-ascends g c =
     ascending-rows (IsState (g.W.Worktree.told c.args.worktree.now) c.args.worktree_root.now) c.args.index.now c.loop-entry.made.items
     c.entries-entry-items.ensures.index
     (along-done g.W.Worktree c.args.worktree.now c.loop-entry.worktree c.args.worktree_root.now c.args.index.now
-    (drop c.loop-entry.entry-index c.entries-entry-items.result.now) c.loop-entry.made.items c.loop-entry.invariant
+    (drop c.loop-entry.entry-index c.entries-entry-items.result.now) c.loop-entry.made.items c.loop-entry.invariant.0
     (drop_all c.loop-entry.entry-index c.entries-entry-items.result.now c.loop-entry-test.false))

@@ -1,0 +1,246 @@
+-- Directories above a path: how those above one path lie to one another, and to its fronts.
+use Rattle.std.proofs.Common.{◌≡◌, ℕ, zero, suc, ◌+◌, ◌<◌, ◌≤◌, ◌⊎◌, inl, inr, List, [], ◌∷◌, ◌++◌, Bool, true, false, cond, ◌||◌, ◌&&◌, Option, Some, None, length, length-append, take, drop, get_or, append_assoc, bytes_eq, eqb, ◌≢◌, refl, sym, ap, subst, ◌∙◌, arith}
+use Rattle.std.specs.Prelude.{nat_eq, nat_lt, is_some}
+use Rattle.std.specs.List.{starts_with}
+use Rattle.std.proofs.lemmas.Bool.{cases_lt, cond-true, lt-ltb, ltb-true, true≢false}
+use Rattle.std.proofs.lemmas.Cmp.{nat_list_eq_equiv}
+use Rattle.std.proofs.lemmas.Bool.Decides.{Decides-eqb, eqb_tells}
+use Rattle.std.proofs.lemmas.List.{drop_at, drop_more, length-take-le, take_at, take-append-drop}
+use Rattle.std.proofs.lemmas.Slice.Eq.{starts_is}
+use Rattle.std.specs.Cmp.Lexicographic.{same_text}
+use Rattle.gitbase_core.specs.Path.{is_slash, is_top, lies_beneath, rest_beneath}
+use Rattle.clean_plan.specs.Above.{fronts, some_above, some_front}
+
+-- a path goes on behind a directory, which is the top, or behind which a slash stands
+pub record GoesOn (d path : List ℕ) : Type 0 where
+  pub byte : ℕ
+  pub rest : List ℕ
+  pub is : path ≡ d ++ byte ∷ rest
+  pub parted : (is_top d || is_slash byte) ≡ true
+
+some_then : (b : Bool) (found : Option (List ℕ)) → is_some (cond b found None) ≡ true → (b ≡ true) × (is_some found ≡ true)
+some_then true found h = (refl, h)
+some_then false found h = absurd (cc h)
+
+step-is : (top : Bool) (b : ℕ) (rest : List ℕ) → is_some (rest_beneath top (b ∷ rest)) ≡ (top || is_slash b)
+step-is true b rest = refl
+step-is false b rest = go (is_slash b)
+  where
+    go : (s : Bool) → is_some (cond s (Some rest) None) ≡ s
+    go true = refl
+    go false = refl
+
+pub beneath-is : (d : List ℕ) (b : ℕ) (rest : List ℕ) → lies_beneath d (d ++ b ∷ rest) ≡ (is_top d || is_slash b)
+beneath-is d b rest =
+    let path : List ℕ = d ++ b ∷ rest in
+    let begins = (starts_is Decides-eqb path d (starts_with nat_eq path d) refl).1 (b ∷ rest) refl in
+    ap is_some (cond-true (starts_with nat_eq path d) (rest_beneath (is_top d) (drop (length d) path)) None begins)
+    ∙ ap (λ (r : List ℕ). is_some (rest_beneath (is_top d) r)) (drop_at d (b ∷ rest) (length d) refl)
+    ∙ step-is (is_top d) b rest
+
+pub goes-on : (d path : List ℕ) → lies_beneath d path ≡ true → GoesOn d path
+goes-on d path h =
+    let both = some_then (starts_with nat_eq path d) (rest_beneath (is_top d) (drop (length d) path)) h in
+    go (drop (length d) path) ((starts_is Decides-eqb path d (starts_with nat_eq path d) refl).0 both.0) both.1
+  where
+    go : (rest : List ℕ) → path ≡ d ++ rest → is_some (rest_beneath (is_top d) rest) ≡ true → GoesOn d path
+    go [] e k = absurd (cc k)
+    go (b ∷ rest) e k = record { byte = b; rest = rest; is = e; parted = sym (step-is (is_top d) b rest) ∙ k }
+
+pub beneath-on : (d path : List ℕ) → GoesOn d path → lies_beneath d path ≡ true
+beneath-on d path h = ap (lies_beneath d) h.is ∙ beneath-is d h.byte h.rest ∙ h.parted
+
+-- ---- in bytes
+
+abbrev tail_of : List ℕ → List ℕ
+tail_of [] = []
+tail_of (b ∷ bytes) = bytes
+
+abbrev head_of : List ℕ → ℕ
+head_of [] = 0
+head_of (b ∷ bytes) = b
+
+-- of two fronts of one path the shorter one is a front of the longer one
+pub record IsFrontOf (a b r s : List ℕ) : Type 0 where
+  pub byte : ℕ
+  pub between : List ℕ
+  pub is : b ≡ a ++ byte ∷ between
+  pub rest_is : r ≡ byte ∷ between ++ s
+
+front-of : (a b r s : List ℕ) → a ++ r ≡ b ++ s → length a < length b → IsFrontOf a b r s
+front-of a [] r s e short = absurd (omega (arith, short))
+front-of [] (y ∷ b) r s e short = record { byte = y; between = b; is = refl; rest_is = e }
+front-of (x ∷ a) (y ∷ b) r s e short =
+    let more : IsFrontOf a b r s = front-of a b r s (ap tail_of e) (omega (arith, short)) in
+    record {
+      byte = more.byte;
+      between = more.between;
+      is = ap (λ (n : ℕ). n ∷ b) (sym (ap head_of e)) ∙ ap (λ (bytes : List ℕ). x ∷ bytes) more.is;
+      rest_is = more.rest_is;
+    }
+
+same-front : (a b r s : List ℕ) → a ++ r ≡ b ++ s → length a ≡ length b → a ≡ b
+same-front [] [] r s e same = refl
+same-front [] (y ∷ b) r s e same = absurd (omega (arith, same))
+same-front (x ∷ a) [] r s e same = absurd (omega (arith, same))
+same-front (x ∷ a) (y ∷ b) r s e same =
+    ap (λ (n : ℕ). n ∷ a) (ap head_of e) ∙ ap (λ (bytes : List ℕ). y ∷ bytes) (same-front a b r s (ap tail_of e) (omega (arith, same)))
+
+-- ---- directories above one another
+
+pub above-shorter : (d path : List ℕ) → lies_beneath d path ≡ true → length d < length path
+above-shorter d path h =
+    let on : GoesOn d path = goes-on d path h in
+    omega (arith, ap length on.is, length-append d (on.byte ∷ on.rest))
+
+pub above-front : (d path : List ℕ) → lies_beneath d path ≡ true → take (length d) path ≡ d
+above-front d path h = let on : GoesOn d path = goes-on d path h in ap (take (length d)) on.is ∙ take_at d (on.byte ∷ on.rest) (length d) refl
+
+-- what lies beneath what lies beneath
+pub above-then : (a b c : List ℕ) → lies_beneath a b ≡ true → lies_beneath b c ≡ true → lies_beneath a c ≡ true
+above-then a b c h k =
+    let one : GoesOn a b = goes-on a b h in
+    let two : GoesOn b c = goes-on b c k in
+    beneath-on a c (record {
+      byte = one.byte;
+      rest = one.rest ++ two.byte ∷ two.rest;
+      is = two.is ∙ ap (λ (p : List ℕ). p ++ two.byte ∷ two.rest) one.is ∙ append_assoc a (one.byte ∷ one.rest) (two.byte ∷ two.rest);
+      parted = one.parted;
+    })
+
+-- of two directories above one path the shorter one is above the longer one
+pub above-longer : (a b c : List ℕ) → lies_beneath a c ≡ true → lies_beneath b c ≡ true → length a < length b → lies_beneath a b ≡ true
+above-longer a b c h k short =
+    let one : GoesOn a c = goes-on a c h in
+    let two : GoesOn b c = goes-on b c k in
+    let front : IsFrontOf a b (one.byte ∷ one.rest) (two.byte ∷ two.rest) = front-of a b (one.byte ∷ one.rest) (two.byte ∷ two.rest) (sym one.is ∙ two.is) short in
+    beneath-on a b (record {
+      byte = front.byte;
+      rest = front.between;
+      is = front.is;
+      parted = ap (λ (n : ℕ). is_top a || is_slash n) (sym (first one.byte front.byte one.rest (front.between ++ two.byte ∷ two.rest) front.rest_is)) ∙ one.parted;
+    })
+  where
+    first : (x y : ℕ) (r s : List ℕ) → (x ∷ r) ≡ (y ∷ s) → x ≡ y
+    first x y r s e = ap head_of e
+
+-- and two as long are one
+pub above-same : (a b c : List ℕ) → lies_beneath a c ≡ true → lies_beneath b c ≡ true → length a ≡ length b → a ≡ b
+above-same a b c h k same =
+    let one : GoesOn a c = goes-on a c h in
+    let two : GoesOn b c = goes-on b c k in
+    same-front a b (one.byte ∷ one.rest) (two.byte ∷ two.rest) (sym one.is ∙ two.is) same
+
+-- whether a front of a path is above it
+pub front-is : (path : List ℕ) (at : ℕ) → at < length path → lies_beneath (take at path) path ≡ (is_top (take at path) || is_slash (get_or path at 0))
+front-is path at short =
+    ap (lies_beneath (take at path)) (sym (take-append-drop at path) ∙ ap (λ (r : List ℕ). take at path ++ r) (drop_more path at 0 short))
+    ∙ beneath-is (take at path) (get_or path at 0) (drop (at + 1) path)
+
+-- ---- some directory
+
+or_cases : (a b : Bool) → (a || b) ≡ true → (a ≡ true) ⊎ (b ≡ true)
+or_cases true b h = inl refl
+or_cases false b h = inr h
+
+or_none : (a b : Bool) → (a || b) ≡ false → (a ≡ false) × (b ≡ false)
+or_none true b h = absurd (cc h)
+or_none false b h = (refl, h)
+
+pub and_both : (a b : Bool) → (a && b) ≡ true → (a ≡ true) × (b ≡ true)
+and_both true b h = (refl, h)
+and_both false b h = absurd (cc h)
+
+and_none : (a b : Bool) → (a && b) ≡ false → a ≡ true → b ≡ false
+and_none true b h e = h
+and_none false b h e = absurd (cc e)
+
+pub record FoundAbove (test : List ℕ → Bool) (n : ℕ) (path : List ℕ) : Type 0 where
+  pub directory : List ℕ
+  pub is_above : lies_beneath directory path ≡ true
+  pub passes : test directory ≡ true
+
+pub found-front : (test : List ℕ → Bool) (n : ℕ) (path : List ℕ) → some_front test n path ≡ true → FoundAbove test n path
+unfolding fronts
+found-front test zero path h = absurd (cc h)
+found-front test (suc n) path h = go (or_cases (lies_beneath (take n path) path && test (take n path)) (some_front test n path) h) (found-front test n path)
+  where
+    go : ((lies_beneath (take n path) path && test (take n path)) ≡ true) ⊎ (some_front test n path ≡ true)
+        → (some_front test n path ≡ true → FoundAbove test n path) → FoundAbove test (suc n) path
+    go (inl e) later = let both = and_both (lies_beneath (take n path) path) (test (take n path)) e in record { directory = take n path; is_above = both.0; passes = both.1 }
+    go (inr e) later = let more : FoundAbove test n path = later e in record { directory = more.directory; is_above = more.is_above; passes = more.passes }
+
+pub no-front : (test : List ℕ → Bool) (n : ℕ) (path d : List ℕ) → some_front test n path ≡ false → lies_beneath d path ≡ true → length d < n → test d ≡ false
+unfolding fronts
+no-front test zero path d h beneath short = absurd (omega (arith, short))
+no-front test (suc n) path d h beneath short =
+    let both = or_none (lies_beneath (take n path) path && test (take n path)) (some_front test n path) h in
+    go (eqb_tells (length d) n) both.0 (λ shorter. no-front test n path d both.1 beneath shorter)
+  where
+    go : ((eqb (length d) n ≡ true) × (length d ≡ n)) ⊎ ((eqb (length d) n ≡ false) × (length d ≢ n))
+        → (lies_beneath (take n path) path && test (take n path)) ≡ false → (length d < n → test d ≡ false) → test d ≡ false
+    go (inl e) here more =
+        let same : take n path ≡ d = ap (λ (k : ℕ). take k path) (sym e.1) ∙ above-front d path beneath in
+        and_none (lies_beneath d path) (test d) (subst (λ (x : List ℕ). (lies_beneath x path && test x) ≡ false) same here) beneath
+    go (inr e) here more = more (omega (arith, short, e.1))
+
+pub none-above : (test : List ℕ → Bool) (path d : List ℕ) → some_above test path ≡ false → lies_beneath d path ≡ true → test d ≡ false
+none-above test path d h beneath = no-front test (length path) path d h beneath (above-shorter d path beneath)
+
+-- the other way round
+pub none-front : (test : List ℕ → Bool) (n : ℕ) (path : List ℕ) → ((d : List ℕ) → lies_beneath d path ≡ true → test d ≡ false) → some_front test n path ≡ false
+unfolding fronts
+none-front test zero path h = refl
+none-front test (suc n) path h = go (lies_beneath (take n path) path) refl (none-front test n path h)
+  where
+    go : (b : Bool) → lies_beneath (take n path) path ≡ b → some_front test n path ≡ false → ((b && test (take n path)) || some_front test n path) ≡ false
+    go true e more = ap (λ (x : Bool). x || some_front test n path) (h (take n path) e) ∙ more
+    go false e more = more
+
+pub some-above : (test : List ℕ → Bool) (path d : List ℕ) → lies_beneath d path ≡ true → test d ≡ true → some_above test path ≡ true
+some-above test path d beneath passes = go (some_above test path) refl
+  where
+    go : (b : Bool) → some_above test path ≡ b → some_above test path ≡ true
+    go true e = e
+    go false e = absurd (true≢false (sym passes ∙ none-above test path d e beneath))
+
+-- ---- one front more
+
+step-cases : (x l s t : Bool) → (x ≡ true → (l ≡ true) × (t ≡ true)) → (s ≡ true → t ≡ true) → (l ≡ true → t ≡ true → s ≡ false → x ≡ true) → (x || (l && s)) ≡ (l && t)
+step-cases true l s t f g h = let both = f refl in rw (both.0, both.1) refl
+step-cases false false s t f g h = refl
+step-cases false true true t f g h = sym (g refl)
+step-cases false true false true f g h = absurd (let no : false ≡ true = h refl refl refl in cc no)
+step-cases false true false false f g h = refl
+
+not-less : (a b : ℕ) → nat_lt a b ≡ false → b ≤ a
+not-less a b e = go (cases_lt a b)
+  where
+    go : (a < b) ⊎ (b ≤ a) → b ≤ a
+    go (inl h) = absurd (true≢false (sym (lt-ltb a b h) ∙ e))
+    go (inr h) = h
+
+-- a directory above a path that is no longer than a front is that front or is shorter
+pub front-step : (path other : List ℕ) (n : ℕ) → n < length path
+    → ((lies_beneath (take n path) path && bytes_eq other (take n path)) || (lies_beneath other path && nat_lt (length other) n)) ≡ (lies_beneath other path && nat_lt (length other) (n + 1))
+front-step path other n short =
+    let front : List ℕ = take n path in
+    let long : length front ≡ n = length-take-le n path (omega (arith, short)) in
+    step-cases (lies_beneath front path && bytes_eq other front) (lies_beneath other path) (nat_lt (length other) n) (nat_lt (length other) (n + 1))
+    (λ e.
+    let both = and_both (lies_beneath front path) (bytes_eq other front) e in
+    let same : other ≡ front = same_text other front (sym both.1) in
+    (ap (λ (d : List ℕ). lies_beneath d path) same ∙ both.0, lt-ltb (length other) (n + 1) (omega (arith, ap length same, long))))
+    (λ e. let less = ltb-true (length other) n e in lt-ltb (length other) (n + 1) (omega (arith, less)))
+    (λ beneath up down.
+    let less = ltb-true (length other) (n + 1) up in
+    let same : length other ≡ n = omega (arith, less, not-less (length other) n down) in
+    let is : other ≡ front = sym (above-front other path beneath) ∙ ap (λ (k : ℕ). take k path) same in
+    both-true (lies_beneath front path) (bytes_eq other front) (ap (λ (d : List ℕ). lies_beneath d path) (sym is) ∙ beneath) (ap (bytes_eq other) (sym is) ∙ nat_list_eq_equiv.refl other))
+  where
+    both-true : (a b : Bool) → a ≡ true → b ≡ true → (a && b) ≡ true
+    both-true a b e f = rw (e, f) refl
+
+pub or_along : (a b c : Bool) → (a || (b || c)) ≡ ((a || b) || c)
+or_along true b c = refl
+or_along false b c = refl

@@ -1,0 +1,11 @@
+mod Among
+mod Directories
+mod Reached
+mod Indexed
+mod Sifting
+mod Planning
+mod Flat
+mod Safely
+mod Made
+pub mod Texts
+pub mod Runs

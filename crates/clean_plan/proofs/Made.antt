@@ -1,0 +1,188 @@
+-- What making a plan says at each of its ends.
+use Rattle.std.proofs.Common.{◌≡◌, ℕ, List, [], ◌∷◌, Bool, true, false, ◌||◌, Option, Some, None, Ok, Err, map, refl, sym, ap, subst, ◌∙◌, inl, inr, arith}
+use Rattle.std.specs.Prelude.{is_none}
+use Rattle.gitbase_core.specs.Path.{lies_beneath}
+use Rattle.gitbase_core.specs.declared.find.Find.{Ghosts as FindOf}
+use Rattle.worktree_fs.specs.declared.interrupt.Interrupt.{Ghosts as InterruptOf}
+use Rattle.worktree_fs.specs.declared.worktree.Worktree.{Ghosts as WorktreeOf}
+use Rattle.worktree_fs.specs.Causes.{Increased}
+use Rattle.worktree_fs.specs.Kept.{Asks}
+use Rattle.worktree_fs.specs.Naming.{IsTree}
+use Rattle.worktree_fs.specs.Tree.{Names, directory}
+use Rattle.worktree_stack.specs.Reading.{Sources}
+use Rattle.dir_classify.specs.declared.entry.Entry.{Entry}
+use Rattle.dir_classify.specs.declared.options.EmissionMode.{EmissionMode}
+use Rattle.dir_classify.specs.declared.options.EmissionMode.TheVariants.{Matching, CollapseDirectory}
+use Rattle.dir_classify.specs.Chosen.{collapses, collapses_if}
+use Rattle.dir_classify.specs.Layers.{current_below}
+use Rattle.dir_walk.specs.Covered.{IsIn as IsEmitted}
+use Rattle.dir_walk.specs.Emissions.{Emission, path_of}
+use Rattle.dir_walk.specs.Kept.{KeepsTree}
+use Rattle.worktree_report.specs.declared.error.ReportError.{ReportError}
+use Rattle.worktree_report.specs.declared.known.Known.{Known}
+use Rattle.worktree_report.specs.declared.report.Report.{Report}
+use Rattle.worktree_report.specs.declared.setup.Setup.{Setup}
+use Rattle.worktree_report.specs.declared.setup.SetupOptions.{SetupOptions}
+use Rattle.worktree_report.specs.Asked.{IsReportOf, current_dir_or, described_by, report_of, walked_of}
+use Rattle.worktree_report.specs.Excluding.{excludes_of}
+use Rattle.worktree_report.specs.Reported.{MakesReport}
+use Rattle.worktree_report.specs.Submodules.{entry_in}
+use Rattle.clean_plan.specs.declared.error.CleanError.{CleanError}
+use Rattle.clean_plan.specs.declared.error.CleanError.TheVariants as errors
+use Rattle.clean_plan.specs.declared.outcome.Plan.{Plan}
+use Rattle.clean_plan.specs.declared.what.Finding.{Finding}
+use Rattle.clean_plan.specs.declared.what.What.{What}
+use Rattle.clean_plan.specs.Plans.{IsPlan, entries_of}
+use Rattle.clean_plan.specs.Planned.{IsPlanBy, MakesPlan, asked_of}
+use Rattle.clean_plan.specs.Prepared.{is_matching, is_matching_if, is_prepared, is_unfolded}
+use Rattle.clean_plan.specs.Refusals.{StopsAsking, of_report}
+use Rattle.clean_plan.specs.Setups.{asked_in, start_of}
+use Rattle.clean_plan.proofs.Directories.{and_both}
+use Rattle.clean_plan.proofs.Flat.{AreFlat as IsFlat, flat-entries, flat-in, once-in}
+use Rattle.clean_plan.proofs.Planning.{IsIn}
+use Rattle.clean_plan.proofs.Safely.{AreFlat, plan-apart, plan-safe, plan-spared}
+
+-- ---- the report
+
+-- an entry of a report is that of an emission
+pub record EmittedAs (all : List Emission) (e : Entry) : Type 0 where
+  pub emission : Emission
+  pub is_in : IsEmitted emission all
+  pub entry_is : e ≡ emission.0
+
+in-described : (known : Option Known) (all : List Emission) (e : Entry) → IsIn e (entries_of (map (entry_in known) all)) → EmittedAs all e
+in-described known [] e here = absurd here
+in-described known (x ∷ all) e (inl same) = record { emission = x; is_in = inl refl; entry_is = same }
+in-described known (x ∷ all) e (inr later) = let more : EmittedAs all e = in-described known all e later in record { emission = more.emission; is_in = inr more.is_in; entry_is = more.entry_is }
+
+unfolded : (finding : Finding) (options : SetupOptions) → is_prepared finding options ≡ true → (collapses options.emit_untracked || collapses_if options.emit_ignored) ≡ false
+unfolded finding options prepared =
+    let one = and_both (is_unfolded options) _ prepared in
+    let two = and_both (is_matching options.emit_untracked) _ one.0 in
+    let three = and_both (is_matching_if options.emit_ignored) (is_none options.emit_collapsed) two.1 in
+    by options.emit_untracked options.emit_ignored two.0 three.0
+  where
+    by : (mode : EmissionMode) (ignored : Option EmissionMode) → is_matching mode ≡ true → is_matching_if ignored ≡ true → (collapses mode || collapses_if ignored) ≡ false
+    by Matching (Some Matching) e f = refl
+    by Matching (Some CollapseDirectory) e f = absurd (cc f)
+    by Matching None e f = absurd (cc f)
+    by CollapseDirectory ignored e f = absurd (cc e)
+
+module _ (composes : Bool) (s : Sources) (root : List ℕ) (setup : Setup) (r : Report) (is : IsReportOf composes s root setup r) where
+  report-is : report_of composes s root setup ≡ Some r
+  report-is =
+      ap (λ k. described_by k (walked_of composes s root setup)) is.known_is
+      ∙ ap (described_by (Ok is.known)) is.walk_is.is
+      ∙ ap (λ (x : Report). Some x) (sym is.same)
+
+  -- the report of a prepared setup is flat
+  report-flat : (finding : Finding) → is_prepared finding setup.options ≡ true → IsTree (directory s.tree) → AreFlat (entries_of r.entries)
+  report-flat finding prepared tree =
+      subst (λ (x : Report). AreFlat (entries_of x.entries)) (sym is.same) (record {
+        none_beneath = λ x y here there.
+            let a : EmittedAs all x = in-described is.known all x here in
+            let b : EmittedAs all y = in-described is.known all y there in
+            ap (λ (e : Entry). lies_beneath e.rela_path y.rela_path) a.entry_is
+            ∙ ap (λ (e : Entry). lies_beneath (path_of a.emission) e.rela_path) b.entry_is
+            ∙ flat-in all a.emission b.emission flat a.is_in b.is_in;
+        once = λ x y here there same.
+            let a : EmittedAs all x = in-described is.known all x here in
+            let b : EmittedAs all y = in-described is.known all y there in
+            let one : a.emission ≡ b.emission =
+            once-in all a.emission b.emission is.walk_is.ascends a.is_in b.is_in
+            (sym (ap (λ (e : Entry). e.rela_path) a.entry_is) ∙ same ∙ ap (λ (e : Entry). e.rela_path) b.entry_is) in
+            a.entry_is ∙ ap (λ (e : Emission). e.0) one ∙ sym b.entry_is;
+      })
+    where
+      all : List Emission
+      all = is.walked.entries
+
+      flat : IsFlat is.walked.entries
+      flat = flat-entries _ (excludes_of root setup) s setup.root setup.depth is.walked tree (unfolded finding setup.options prepared) is.walk_is.is
+
+-- ---- refusals
+
+memory-alone : (Failed : Type 0) (e : CleanError) → (Failed → ⊥) → StopsAsking Failed e → e ≡ errors.OutOfMemory
+memory-alone Failed (errors.Report r) f h = absurd h
+memory-alone Failed errors.Fault f h = absurd (f h)
+memory-alone Failed errors.OutOfMemory f h = refl
+
+module _ {W F I : Type 0} (w : WorktreeOf W) (f : FindOf F) (i : InterruptOf I) (w0 wm w1 : W) (o0 o1 : F) (i0 i1 : I) (root : List ℕ) (setup : Setup) (what : What) where
+  -- there is no report
+  pub plan-refused : (e : ReportError) → MakesReport w f i w0 w1 o0 o1 i0 i1 root setup (Err e) → MakesPlan w f i w0 w1 o0 o1 i0 i1 root setup what (Err (of_report e))
+  plan-refused e made =
+      record {
+        gives = λ s tells quiet. tt;
+        spares = tt;
+        made = Err e;
+        between = w1;
+        reported = made;
+        ends = (refl, refl);
+        complete = λ s tells quiet store_quiet calm valid. ap of_report (made.complete s tells quiet store_quiet calm valid);
+        worktree = made.worktree;
+        store = made.store;
+        interrupt = made.interrupt;
+        listed = tt;
+        calm = tt;
+      }
+
+  keeps-then : KeepsTree w w0 wm → Asks w wm w1 → KeepsTree w w0 w1
+  keeps-then keeps asks =
+      record {
+        tree = asks.tree ∙ keeps.tree;
+        faults = omega (arith, keeps.faults, asks.faults);
+        list_faults = omega (arith, keeps.list_faults, asks.list_faults);
+        lists = omega (arith, keeps.lists, asks.lists);
+        precomposes = asks.precomposes ∙ keeps.precomposes;
+      }
+
+  module _ (r : Report) (made : MakesReport w f i w0 wm o0 o1 i0 i1 root setup (Ok r)) (asks : Asks w wm w1) (reads : w.reads w1 ≡ w.reads wm) where
+    -- the real path is not known, or memory was refused
+    pub plan-stopped : (e : CleanError) → StopsAsking (Increased (w.faults wm) (w.faults w1)) e → MakesPlan w f i w0 w1 o0 o1 i0 i1 root setup what (Err e)
+    plan-stopped e stops =
+        record {
+          gives = λ s tells quiet. tt;
+          spares = tt;
+          made = Ok r;
+          between = wm;
+          reported = made;
+          ends = record { asks = asks; reads = reads; by_report = λ t told. tt; refused = stops };
+          complete = λ s tells quiet store_quiet calm valid. memory-alone _ e (λ rose. absurd (omega (arith, rose, quiet, made.worktree.faults))) stops;
+          worktree = keeps-then made.worktree asks;
+          store = made.store;
+          interrupt = made.interrupt;
+          listed = tt;
+          calm = tt;
+        }
+
+    -- there is a plan
+    pub plan-made : (finding : Finding) → is_prepared finding setup.options ≡ true → ((t : Names) → w.told w0 ≡ Some t → IsTree (directory t)) → (current : Option (List ℕ))
+        → ((t : Names) → w.told wm ≡ Some t → current ≡ current_below t root (current_dir_or root setup.current_dir)) → (plan : Plan)
+        → IsPlan (asked_in what setup (start_of root r.root) current) (entries_of r.entries) plan.paths.items → MakesPlan w f i w0 w1 o0 o1 i0 i1 root setup what (Ok plan)
+    plan-made finding prepared tree current is_current plan is =
+        let by_report : (t : Names) → w.told wm ≡ Some t → IsPlanBy what t root setup r plan =
+        λ t told. subst (λ (c : Option (List ℕ)). IsPlan (asked_in what setup (start_of root r.root) c) (entries_of r.entries) plan.paths.items) (is_current t told) is in
+        record {
+          gives = λ s tells quiet.
+              let of : IsReportOf (w.precomposes w0) s root setup r = made.gives s tells (omega (arith, quiet, asks.faults)) in
+              let plan_is : IsPlanBy what s.tree root setup r plan = by_report s.tree (made.worktree.tree ∙ tells.tree_is) in
+              let flat : AreFlat (entries_of r.entries) = report-flat (w.precomposes w0) s root setup r of finding prepared (tree s.tree tells.tree_is) in
+              record {
+                report = r;
+                report_is = report-is (w.precomposes w0) s root setup r of;
+                plan_is = plan_is;
+                apart = plan-apart (asked_of what s.tree root setup r) (entries_of r.entries) flat plan.paths.items plan_is;
+                safe = plan-safe (asked_of what s.tree root setup r) (entries_of r.entries) flat plan.paths.items plan_is;
+              };
+          spares = plan-spared (asked_in what setup (start_of root r.root) current) (entries_of r.entries) plan.paths.items is;
+          made = Ok r;
+          between = wm;
+          reported = made;
+          ends = record { asks = asks; reads = reads; by_report = by_report; refused = tt };
+          complete = λ s tells quiet store_quiet calm valid. tt;
+          worktree = keeps-then made.worktree asks;
+          store = made.store;
+          interrupt = made.interrupt;
+          listed = asks.list_faults ∙ made.listed;
+          calm = made.calm;
+        }

@@ -1,0 +1,112 @@
+-- The text of a plan, or the refusal of the program that stands for that of a plan.
+use Rattle.std.proofs.Common.{◌≡◌, ℕ, List, inl, inr, Result, Ok, Err, IsErrOf, Option, Some, ap, refl, sym, ◌∙◌, subst, arith}
+use Rattle.gitbase_core.specs.declared.find.Find.{Ghosts as FindOf}
+use Rattle.worktree_fs.specs.declared.interrupt.Interrupt.{Ghosts as InterruptOf}
+use Rattle.worktree_fs.specs.declared.worktree.Worktree.{Ghosts as WorktreeOf}
+use Rattle.worktree_fs.specs.Causes.{NotIncreased}
+use Rattle.worktree_fs.specs.Tree.{Names}
+use Rattle.worktree_report.specs.declared.refusal.Refusal.{Refusal}
+use Rattle.worktree_report.specs.declared.refusal.Refusal.TheVariants as refusals
+use Rattle.worktree_report.specs.declared.setup.Setup.{Setup}
+use Rattle.worktree_report.specs.declared.error.ReportError.{ReportError}
+use Rattle.worktree_report.specs.declared.error.ReportError.TheVariants as reports
+use Rattle.worktree_report.specs.declared.report.Report.{Report}
+use Rattle.worktree_report.specs.Asked.{read_in}
+use Rattle.worktree_report.specs.Converted as converted
+use Rattle.worktree_report.specs.Orderly.{IsOrderly}
+use Rattle.worktree_report.specs.Reported.{MakesReport, Texts}
+use Rattle.worktree_report.proofs.Runs.{Rose-before}
+use Rattle.worktree_report.proofs.Answered.{told-blobs, Texts-refused}
+use Rattle.clean_plan.specs.declared.error.CleanError.{CleanError}
+use Rattle.clean_plan.specs.declared.error.CleanError.TheVariants as errors
+use Rattle.clean_plan.specs.declared.outcome.Plan.{Plan}
+use Rattle.clean_plan.specs.declared.what.What.{What}
+use Rattle.clean_plan.specs.Planned.{EndsAs, MakesPlan}
+use Rattle.clean_plan.specs.Refusals.{of_report}
+use Rattle.clean_plan.specs.Safe.{AreSpared}
+use Rattle.clean_plan.specs.Run as top
+
+module _ {W F I : Type 0} {w : WorktreeOf W} {f : FindOf F} {i : InterruptOf I} {w0 : W} {o0 o1 : F} {i0 i1 : I} {root : List ℕ} {setup : Setup} where
+  -- the text is that of a plan by the report that was made
+  by-report : (what : What) (made : Result Report ReportError) (between w1 : W) (plan : Plan) (text : List ℕ) → MakesReport w f i w0 between o0 o1 i0 i1 root setup made
+      → EndsAs w between w1 root setup what made (Ok plan) → AreSpared setup.options.ignore_case setup.index plan.paths.items → text ≡ top.plan_text plan.paths.items
+      → (t : Names) → w.told w0 ≡ Some t → top.IsTextByReport (w.precomposes w0) t root setup what text
+  by-report what (Ok r) between w1 plan text reported ends spared lines t told =
+      record {
+        report = r;
+        orderly = subst (λ (x : Option Names). IsOrderly (w.precomposes w0) x root setup r) told reported.orderly;
+        plan = plan;
+        plan_is = ends.by_report t (reported.worktree.tree ∙ told);
+        spared = spared;
+        text_is = lines;
+      }
+  by-report what (Err e) between w1 plan text reported ends spared lines t told = absurd (let is = ends.0 in cc)
+
+-- a refused report is refused alike, with a plan or without
+same_refusal : (e : ReportError) → top.of_clean (of_report e) ≡ converted.of_report e
+same_refusal (reports.Config at line) = refl
+same_refusal (reports.Modules line) = refl
+same_refusal (reports.ActiveSpec at) = refl
+same_refusal reports.ReadFault = refl
+same_refusal (reports.Walk walk) = refl
+same_refusal reports.OutOfMemory = refl
+
+which : {T : Type 0} {from to : CleanError} → IsErrOf {T = T} (Err from) to → from ≡ to
+which is = cc
+
+module _ {W F I : Type 0} {w : WorktreeOf W} {f : FindOf F} {i : InterruptOf I} {w0 w1 : W} {o0 o1 : F} {i0 i1 : I} {root : List ℕ} {setup : Setup} where
+  -- why there is no text, by the report that was made or refused
+  refused-text : (what : What) (made : Result Report ReportError) (between : W) (e : CleanError) (refusal : Refusal) → MakesReport w f i w0 between o0 o1 i0 i1 root setup made
+      → EndsAs w between w1 root setup what made (Err e) → f.holds o0 ≡ Some setup.blobs → NotIncreased (f.faults o0) (f.faults o1) → refusal ≡ top.of_clean e
+      → top.RefusesText w i (w.precomposes w0) w0 w1 i0 i1 root setup refusal
+  refused-text what (Ok r) between (errors.Report e) refusal reported ends held kept same = absurd ends.refused
+  refused-text what (Ok r) between errors.Fault refusal reported ends held kept same = inr (inl (same, Rose-before _ _ _ reported.worktree.faults ends.refused, λ t told. (reported.orderly.known, reported.orderly.known_is t told)))
+  refused-text what (Ok r) between errors.OutOfMemory refusal reported ends held kept same = inl same
+  refused-text what (Err e2) between e refusal reported ends held kept same =
+      inr (inr (subst (λ (x : W). Texts w i (w.precomposes w0) w0 x i0 i1 root setup (Err refusal)) (sym ends.1)
+      (Texts-refused e2 refusal reported held kept (same ∙ ap top.of_clean (which (ends.0)) ∙ same_refusal e2))))
+
+module _ {W F I : Type 0} {w : WorktreeOf W} {f : FindOf F} {i : InterruptOf I} {w0 w1 : W} {o0 o1 : F} {i0 i1 : I} {root : List ℕ} {setup : Setup} {what : What} where
+  -- the text of a plan
+  pub PlanTexts-ok : (plan : Plan) (text : List ℕ) → MakesPlan w f i w0 w1 o0 o1 i0 i1 root setup what (Ok plan) → f.holds o0 ≡ Some setup.blobs → text ≡ top.plan_text plan.paths.items
+      → top.PlanTexts w i (w.precomposes w0) w0 w1 i0 i1 root setup what (Ok text)
+  PlanTexts-ok plan text made held lines =
+      record {
+        gives = λ t told quiet. record { plan = plan; plan_is = made.gives (read_in t setup) (told-blobs setup held told) quiet; text_is = lines };
+        by_report = by-report what made.made made.between w1 plan text made.reported made.ends made.spares lines;
+        spares = record { paths = plan.paths.items; spared = made.spares; text_is = lines };
+        refused = tt;
+        worktree = made.worktree;
+        interrupt = made.interrupt;
+        listed = made.listed;
+        calm = made.calm;
+      }
+
+  -- no memory for the text, or for what the refusal says
+  pub PlanTexts-memory : {result : Result Plan CleanError} → MakesPlan w f i w0 w1 o0 o1 i0 i1 root setup what result → top.PlanTexts w i (w.precomposes w0) w0 w1 i0 i1 root setup what (Err refusals.OutOfMemory)
+  PlanTexts-memory made =
+      record {
+        gives = λ t told quiet. tt;
+        by_report = λ t told. tt;
+        spares = tt;
+        refused = inl refl;
+        worktree = made.worktree;
+        interrupt = made.interrupt;
+        listed = tt;
+        calm = tt;
+      }
+
+  -- the refusal that stands for that of a plan
+  pub PlanTexts-refused : (e : CleanError) (refusal : Refusal) → MakesPlan w f i w0 w1 o0 o1 i0 i1 root setup what (Err e) → f.holds o0 ≡ Some setup.blobs → NotIncreased (f.faults o0) (f.faults o1)
+      → refusal ≡ top.of_clean e → top.PlanTexts w i (w.precomposes w0) w0 w1 i0 i1 root setup what (Err refusal)
+  PlanTexts-refused e refusal made held kept same =
+      record {
+        gives = λ t told quiet. tt;
+        by_report = λ t told. tt;
+        spares = tt;
+        refused = refused-text what made.made made.between e refusal made.reported made.ends held kept same;
+        worktree = made.worktree;
+        interrupt = made.interrupt;
+        listed = tt;
+        calm = tt;
+      }

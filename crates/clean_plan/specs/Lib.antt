@@ -1,0 +1,17 @@
+pub mod Paths
+pub mod Above
+pub mod Asked
+pub mod Kept
+pub mod Removable
+pub mod Whole
+pub mod Plans
+pub mod Sifted
+pub mod Targets
+pub mod Safe
+pub mod Prepared
+pub mod Setups
+pub mod Refusals
+pub mod Planned
+pub mod Words
+pub mod Named
+pub mod Run

@@ -1,0 +1,84 @@
+-- What making a plan says: of the plan or the refusal, and of what stays.
+use Rattle.std.specs.Prelude.{◌≡◌, ℕ, List, Bool, Some, Result, Ok, Err, IfOk, IfErr, OnOk}
+use Rattle.gitbase_core.specs.declared.find.Find.{Ghosts as FindOf}
+use Rattle.worktree_fs.specs.declared.interrupt.Interrupt.{Ghosts as InterruptOf}
+use Rattle.worktree_fs.specs.declared.worktree.Worktree.{Ghosts as WorktreeOf}
+use Rattle.worktree_fs.specs.Causes.{NotIncreased, Increased}
+use Rattle.worktree_fs.specs.Kept.{Asks, AsksStore}
+use Rattle.worktree_fs.specs.Tree.{Names}
+use Rattle.worktree_stack.specs.Reading.{Sources}
+use Rattle.dir_classify.specs.Excludes.{TellsIf}
+use Rattle.dir_classify.specs.Layers.{current_below}
+use Rattle.dir_walk.specs.Kept.{AsksInterrupt, KeepsTree}
+use Rattle.worktree_report.specs.declared.error.ReportError.{ReportError}
+use Rattle.worktree_report.specs.declared.report.Report.{Report}
+use Rattle.worktree_report.specs.declared.setup.Setup.{Setup}
+use Rattle.worktree_report.specs.Asked.{IsValidAt, current_dir_or, report_of}
+use Rattle.worktree_report.specs.Excluding.{excludes_of}
+use Rattle.worktree_report.specs.Reported.{MakesReport}
+use Rattle.clean_plan.specs.declared.error.CleanError.{CleanError}
+use Rattle.clean_plan.specs.declared.error.CleanError.TheVariants as errors
+use Rattle.clean_plan.specs.declared.outcome.Plan.{Plan}
+use Rattle.clean_plan.specs.declared.what.What.{What}
+use Rattle.clean_plan.specs.Asked.{Asked}
+use Rattle.clean_plan.specs.Plans.{IsPlan, entries_of, removable_paths}
+use Rattle.clean_plan.specs.Refusals.{StopsAsking, of_report}
+use Rattle.clean_plan.specs.Safe.{AreApart, AreSafe, AreSpared}
+use Rattle.clean_plan.specs.Setups.{asked_in, start_of}
+
+-- what is asked for over a tree, by a report of the work tree at `root`
+abbrev pub asked_of : What → Names → List ℕ → Setup → Report → Asked
+asked_of what t root setup report =
+    asked_in what setup (start_of root report.root) (current_below t root (current_dir_or root setup.current_dir))
+
+-- This is the plan over a tree: by the entries of the report of the work tree at `root`; and it is safe to act on.
+pub record IsPlanAt (composes : Bool) (s : Sources) (root : List ℕ) (setup : Setup) (what : What) (plan : Plan) : Type 0 where
+  pub report : Report
+  pub report_is : report_of composes s root setup ≡ Some report
+  pub plan_is : IsPlan (asked_of what s.tree root setup report) (entries_of report.entries) plan.paths.items
+  pub apart : AreApart plan.paths.items
+  pub safe : AreSafe (asked_of what s.tree root setup report) (entries_of report.entries) plan.paths.items
+      (removable_paths (asked_of what s.tree root setup report) (entries_of report.entries))
+
+-- it is the plan by the entries of a report of the work tree at `root`, over a tree
+abbrev pub IsPlanBy : What → Names → List ℕ → Setup → Report → Plan → Type 0
+IsPlanBy what t root setup report plan = IsPlan (asked_of what t root setup report) (entries_of report.entries) plan.paths.items
+
+-- After the report was made, or refused, which left the worktree as `between`: a refusal of the report is that of the plan, and
+-- nothing was asked after it; else only the real path was asked for, and a fault comes only where the worktree counted one there.
+-- Over a told tree, whatever failed, a plan is the one by the entries of that report, and by where the current directory is there.
+pub record AsksAfter {W : Type 0} (w : WorktreeOf W) (between w1 : W)
+    (root : List ℕ) (setup : Setup) (what : What) (report : Report) (result : Result Plan CleanError) : Type 0 where
+  pub asks : Asks w between w1
+  pub reads : w.reads w1 ≡ w.reads between
+  pub by_report : (t : Names) → w.told between ≡ Some t → IfOk result (IsPlanBy what t root setup report)
+  pub refused : IfErr result (StopsAsking (Increased (w.faults between) (w.faults w1)))
+
+abbrev pub EndsAs : {W : Type 0} → WorktreeOf W → W → W → List ℕ → Setup → What → Result Report ReportError → Result Plan CleanError → Type 0
+EndsAs w between w1 root setup what (Ok r) result = AsksAfter w between w1 root setup what r result
+EndsAs w between w1 root setup what (Err e) result = (result ≡ Err (of_report e)) × (w1 ≡ between)
+
+-- The plan for the work tree at `root`, where a worktree was `w0` and is `w1`, a store was `o0` and is `o1`, and an interrupt was
+-- `i0` and is `i1`.
+pub record MakesPlan {W F I : Type 0} (w : WorktreeOf W) (f : FindOf F) (i : InterruptOf I) (w0 w1 : W) (o0 o1 : F) (i0 i1 : I)
+    (root : List ℕ) (setup : Setup) (what : What) (result : Result Plan CleanError) : Type 0 where
+  -- Over a told tree and a store that tells what it holds, and without a fault, it is exactly the one that the setup asks for.
+  pub gives : (s : Sources) → TellsIf (w.told w0) (f.holds o0) (excludes_of root setup) s → NotIncreased (w.faults w0) (w.faults w1)
+      → IfOk result (IsPlanAt (w.precomposes w0) s root setup what)
+  -- Over any worktree the paths ascend strictly, and none has an index entry at it or beneath it.
+  pub spares : IfOk result (λ plan. AreSpared setup.options.ignore_case setup.index plan.paths.items)
+  -- One report is made, and all that its making says holds of it; and then the real path of the root is asked for.
+  pub made : Result Report ReportError
+  pub between : W
+  pub reported : MakesReport w f i w0 between o0 o1 i0 i1 root setup made
+  pub ends : EndsAs w between w1 root setup what made result
+  -- For valid input, and where nothing failed or was raised, only memory may be wanted.
+  pub complete : (s : Sources) → TellsIf (w.told w0) (f.holds o0) (excludes_of root setup) s
+      → NotIncreased (w.faults w0) (w.faults w1) → NotIncreased (f.faults o0) (f.faults o1) → NotIncreased (i.raised i0) (i.raised i1)
+      → IsValidAt (w.precomposes w0) s root setup → IfErr result (λ e. e ≡ errors.OutOfMemory)
+  -- What stays.
+  pub worktree : KeepsTree w w0 w1
+  pub store : AsksStore f o0 o1
+  pub interrupt : AsksInterrupt i i0 i1
+  pub listed : OnOk result (w.list_faults w1 ≡ w.list_faults w0)
+  pub calm : OnOk result (i.raised i1 ≡ i.raised i0)

@@ -1,0 +1,163 @@
+-- What the top call gives, and why it gives nothing.
+use Rattle.std.specs.Prelude.{◌≡◌, ◌⊎◌, ◌++◌, ◌∷◌, [], ℕ, List, Bool, true, false, codes, Option, Some, None, Ok, Result, Err, IfOk, IfErr, OnOk}
+use Rattle.std.specs.List.{flat_map}
+use Rattle.gitbase_core.specs.Path.{is_top}
+use Rattle.worktree_fs.specs.declared.interrupt.Interrupt.{Ghosts as InterruptOf}
+use Rattle.worktree_fs.specs.declared.worktree.Worktree.{Ghosts as WorktreeOf}
+use Rattle.worktree_fs.specs.Causes.{NotIncreased, Increased}
+use Rattle.worktree_fs.specs.Tree.{Names, look}
+use Rattle.dir_walk.specs.Kept.{AsksInterrupt, KeepsTree}
+use Rattle.worktree_report.specs.declared.refusal.Refusal.{Refusal}
+use Rattle.worktree_report.specs.declared.refusal.Refusal.TheVariants as refusals
+use Rattle.worktree_report.specs.declared.report.Report.{Report}
+use Rattle.worktree_report.specs.declared.setup.Setup.{Setup}
+use Rattle.worktree_report.specs.Asked.{read_in}
+use Rattle.worktree_report.specs.Converted as converted
+use Rattle.worktree_report.specs.Escapes.{escaped}
+use Rattle.worktree_report.specs.Loading.{known_in, IsKnown}
+use Rattle.worktree_report.specs.Orderly.{IsOrderly}
+use Rattle.worktree_report.specs.Reported.{Texts}
+use Rattle.worktree_report.specs.Run.{AsksNothing, HasCauses, IsReadyAt, Keeps}
+use Rattle.worktree_report.specs.SetupAt.{setup_at}
+use Rattle.clean_plan.specs.declared.error.CleanError.{CleanError}
+use Rattle.clean_plan.specs.declared.error.CleanError.TheVariants as errors
+use Rattle.clean_plan.specs.declared.outcome.Plan.{Plan}
+use Rattle.clean_plan.specs.declared.what.Finding.{Finding}
+use Rattle.clean_plan.specs.declared.what.What.{What}
+use Rattle.clean_plan.specs.Kept.{has_dot_git}
+use Rattle.clean_plan.specs.Paths.{Ascends, is_among}
+use Rattle.clean_plan.specs.Planned.{IsPlanAt, IsPlanBy}
+use Rattle.clean_plan.specs.Prepared.{prepared}
+use Rattle.clean_plan.specs.Safe.{AreSpared}
+use Rattle.clean_plan.specs.Words as words
+use Rattle.clean_plan.specs.Words.{Request}
+
+-- the line for words that ask for nothing
+abbrev pub usage : List ℕ
+usage = codes "usage: clean untracked|all|ignored nonbare|all ROOT SETUP\n"
+
+abbrev pub asked : Bool → List (List ℕ) → Option Request
+asked = words.asked
+
+-- ---- the text
+
+-- a path, escaped, and a line feed
+abbrev pub path_line : List ℕ → List ℕ
+path_line path = escaped path ++ 10 ∷ []
+
+-- a line for each path of a plan, in their order
+abbrev pub plan_text : List (List ℕ) → List ℕ
+plan_text paths = flat_map path_line paths
+
+-- the setup with the options that a plan needs
+abbrev pub made_by : Finding → Setup → Setup
+made_by finding setup = record setup { options = prepared finding setup.options }
+
+-- it is the text of the plan for the work tree at `root`, by a setup that is prepared
+pub record IsTextIn (composes : Bool) (t : Names) (root : List ℕ) (setup : Setup) (what : What) (text : List ℕ) : Type 0 where
+  pub plan : Plan
+  pub plan_is : IsPlanAt composes (read_in t setup) root setup what plan
+  pub text_is : text ≡ plan_text plan.paths.items
+
+-- it is the text of paths that the setup's index spares
+pub record IsSparedText (setup : Setup) (text : List ℕ) : Type 0 where
+  pub paths : List (List ℕ)
+  pub spared : AreSpared setup.options.ignore_case setup.index paths
+  pub text_is : text ≡ plan_text paths
+
+-- a path is not that of the root, and has no component `.git`
+pub record IsOutsideGit (path : List ℕ) : Type 0 where
+  pub below : is_top path ≡ false
+  pub no_git : has_dot_git path ≡ false
+
+-- it is the text of paths that ascend strictly, none of them that of the root or with a component `.git`
+pub record IsTextOutsideGit (text : List ℕ) : Type 0 where
+  pub paths : List (List ℕ)
+  pub ascends : Ascends paths
+  pub each : (path : List ℕ) → is_among path paths ≡ true → IsOutsideGit path
+  pub text_is : text ≡ plan_text paths
+
+-- It is the text of a plan by the entries of some report of the work tree at `root` that is in order, and by where the current
+-- directory is in the tree: none of its paths has an index entry at it or beneath it.
+pub record IsTextByReport (composes : Bool) (t : Names) (root : List ℕ) (setup : Setup) (what : What) (text : List ℕ) : Type 0 where
+  pub report : Report
+  pub orderly : IsOrderly composes (Some t) root setup report
+  pub plan : Plan
+  pub plan_is : IsPlanBy what t root setup report plan
+  pub spared : AreSpared setup.options.ignore_case setup.index plan.paths.items
+  pub text_is : text ≡ plan_text plan.paths.items
+
+-- the same by the setup that is read in the tree, and prepared
+pub record IsTextByReportAt (composes : Bool) (t : Names) (request : Request) (text : List ℕ) : Type 0 where
+  pub setup : Setup
+  pub read : setup_at (look t request.places.setup true) ≡ Ok setup
+  pub text_is : IsTextByReport composes t request.places.root (made_by request.finding setup) request.what text
+
+-- It is the text that a request asks for over the tree `t`: the setup is read, and prepared.
+pub record IsTextAt (composes : Bool) (t : Names) (request : Request) (text : List ℕ) : Type 0 where
+  pub setup : Setup
+  pub read : setup_at (look t request.places.setup true) ≡ Ok setup
+  pub text_is : IsTextIn composes t request.places.root (made_by request.finding setup) request.what text
+
+-- it is what is asked for, if something is
+abbrev pub IsOutputAt : Bool → Names → Option Request → List ℕ → Type 0
+IsOutputAt composes t None text = ⊥
+IsOutputAt composes t (Some request) text = IsTextAt composes t request text
+
+-- the bytes are those that the words ask for, over the tree `t`
+abbrev pub IsOutput : Bool → Names → List (List ℕ) → List ℕ → Type 0
+IsOutput composes t words text = IsOutputAt composes t (asked composes words) text
+
+-- ---- refusals
+
+-- the refusal that stands for that of a plan
+abbrev pub of_clean : CleanError → Refusal
+of_clean (errors.Report e) = converted.of_report e
+of_clean errors.Fault = refusals.Fault
+of_clean errors.OutOfMemory = refusals.OutOfMemory
+
+-- why there is no text: for want of memory, as the worktree failed once there was a report, or as there is no text of the report
+abbrev pub RefusesText : {W I : Type 0} → WorktreeOf W → InterruptOf I → Bool → W → W → I → I → List ℕ → Setup → Refusal → Type 0
+RefusesText w i composes w0 w1 i0 i1 root setup refusal =
+    (refusal ≡ refusals.OutOfMemory)
+    ⊎ (((refusal ≡ refusals.Fault) × Increased (w.faults w0) (w.faults w1) × ((t : Names) → w.told w0 ≡ Some t → IsKnown (known_in t root setup)))
+    ⊎ Texts w i composes w0 w1 i0 i1 root setup (Err refusal))
+
+-- The text of the plan, or why there is none, where a worktree was `w0` and is `w1`, and an interrupt was `i0` and is `i1`. `composes`
+-- says whether the worktree composes names.
+pub record PlanTexts {W I : Type 0} (w : WorktreeOf W) (i : InterruptOf I) (composes : Bool) (w0 w1 : W) (i0 i1 : I) (root : List ℕ) (setup : Setup) (what : What) (answer : Result (List ℕ) Refusal) : Type 0 where
+  pub gives : (t : Names) → w.told w0 ≡ Some t → NotIncreased (w.faults w0) (w.faults w1) → IfOk answer (IsTextIn composes t root setup what)
+  pub by_report : (t : Names) → w.told w0 ≡ Some t → IfOk answer (IsTextByReport composes t root setup what)
+  pub spares : IfOk answer (IsSparedText setup)
+  pub refused : IfErr answer (RefusesText w i composes w0 w1 i0 i1 root setup)
+  pub worktree : KeepsTree w w0 w1
+  pub interrupt : AsksInterrupt i i0 i1
+  pub listed : OnOk answer (w.list_faults w1 ≡ w.list_faults w0)
+  pub calm : OnOk answer (i.raised i1 ≡ i.raised i0)
+
+-- ---- the call
+
+-- The text that a request asks for, or why there is none.
+pub record AnswersClean {W I : Type 0} (w : WorktreeOf W) (i : InterruptOf I) (w0 w1 : W) (i0 i1 : I) (request : Request) (answer : Result (List ℕ) Refusal) : Type 0 where
+  -- Over a told tree and with no fault counted it is exactly the one that the prepared setup asks for, and safe to act on.
+  pub gives : (t : Names) → w.told w0 ≡ Some t → NotIncreased (w.faults w0) (w.faults w1) → IfOk answer (IsTextAt (w.precomposes w0) t request)
+  -- Over a told tree, whatever failed, it is the text of a plan by some report, and spares what the index has.
+  pub by_report : (t : Names) → w.told w0 ≡ Some t → IfOk answer (IsTextByReportAt (w.precomposes w0) t request)
+  -- Over any worktree it has neither the root nor what has a component `.git`.
+  pub outside_git : IfOk answer IsTextOutsideGit
+  pub causes : HasCauses w i w0 w1 i0 i1 (made_by request.finding) request.places answer
+  pub keeps : Keeps w i w0 w1 i0 i1 answer
+
+-- the text that is asked for, or why there is none
+abbrev pub Answers : {W I : Type 0} → WorktreeOf W → InterruptOf I → W → W → I → I → Option Request → Result (List ℕ) Refusal → Type 0
+Answers w i w0 w1 i0 i1 None answer = AsksNothing w0 w1 i0 i1 answer
+Answers w i w0 w1 i0 i1 (Some request) answer = AnswersClean w i w0 w1 i0 i1 request answer
+
+-- what is asked for can be had
+abbrev pub CanBeHad : Bool → Names → Option Request → Type 0
+CanBeHad composes t None = ⊥
+CanBeHad composes t (Some request) = IsReadyAt (made_by request.finding) composes t request.places
+
+-- The words, the setup and the worktree are as they should be.
+abbrev pub IsValid : Bool → Names → List (List ℕ) → Type 0
+IsValid composes t words = CanBeHad composes t (asked composes words)

@@ -1,0 +1,52 @@
+-- The words of a command line that ask for a plan.
+use Rattle.std.specs.Prelude.{ℕ, List, [], ◌∷◌, Bool, codes, Option, Some, None, option_and_then, if◌then◌else◌}
+use Rattle.std.specs.Str.{bytes_eq}
+use Rattle.worktree_report.specs.Words.{Places, behind, command_words, places_of}
+use Rattle.clean_plan.specs.declared.what.Finding.{Finding}
+use Rattle.clean_plan.specs.declared.what.Finding.TheVariants as finding
+use Rattle.clean_plan.specs.declared.what.What.{What}
+use Rattle.clean_plan.specs.declared.what.What.TheVariants as what
+
+-- what may be removed, how repositories are looked for, and where
+pub record Request : Type 0 where
+  pub what : What
+  pub finding : Finding
+  pub places : Places
+
+-- which paths
+abbrev pub what_of : List ℕ → Option What
+what_of word =
+    if bytes_eq word (codes "untracked") then Some what.Untracked
+    else if bytes_eq word (codes "all") then Some what.UntrackedAndIgnored
+    else if bytes_eq word (codes "ignored") then Some what.IgnoredOnly
+    else None
+
+-- which repositories
+abbrev pub finding_of : List ℕ → Option Finding
+finding_of word =
+    if bytes_eq word (codes "nonbare") then Some finding.NonBare
+    else if bytes_eq word (codes "all") then Some finding.All
+    else None
+
+abbrev at : What → Finding → Option Places → Option Request
+at what finding None = None
+at what finding (Some places) = Some (record { what = what; finding = finding; places = places })
+
+abbrev finding_at : What → Option Finding → List (List ℕ) → Option Request
+finding_at what None words = None
+finding_at what (Some finding) words = at what finding (places_of words)
+
+abbrev what_at : Option What → List ℕ → List (List ℕ) → Option Request
+what_at None word words = None
+what_at (Some what) word words = finding_at what (finding_of word) words
+
+-- WHAT, FIND, ROOT and SETUP
+unfoldable pub request_of : List (List ℕ) → Option Request
+request_of (what ∷ finding ∷ words) = what_at (what_of what) finding words
+request_of (what ∷ []) = None
+request_of [] = None
+
+-- The words are `clean WHAT FIND ROOT SETUP`, with `composed` before them exactly where the worktree composes names. Any other words
+-- ask for nothing.
+unfoldable pub asked : Bool → List (List ℕ) → Option Request
+asked composes words = option_and_then request_of (option_and_then (behind (codes "clean")) (command_words composes words))

@@ -1,0 +1,94 @@
+//! The plan of a cleaning, by a setup.
+ghost use Rattle.std.specs.Prelude.{◌≡◌, true, IfOk, is_some};
+ghost use Rattle.dir_classify.specs.Layers.{IsLookupIf};
+ghost use Rattle.clean_plan.specs.Plans.{IsPlan, entries_of};
+ghost use Rattle.clean_plan.specs.Planned.{MakesPlan};
+ghost use Rattle.clean_plan.specs.Prepared.{is_prepared};
+ghost use Rattle.clean_plan.specs.Setups.{asked_in, start_of};
+
+use crate::cleaning::Cleaning;
+use crate::current::{current_below, current_dir_of, start_of};
+use crate::error::CleanError;
+use crate::outcome::Plan;
+use crate::planned::planned;
+use crate::what::{Finding, What};
+use gitbase_core::{AccelerateLookup, Find, OutOfMemory, PathText};
+use std::alloc::Global;
+use worktree_fs::{Interrupt, Worktree};
+use worktree_report::{Report, Setup, worktree_report};
+
+/// A look-up of the index where letters compare without regard to their case.
+fn lookup_of(alloc: Global, setup: &Setup) -> Result<Option<AccelerateLookup>, OutOfMemory>
+    ensures lookup { IfOk result (IsLookupIf setup.now.index) }
+    ensures given { IfOk result (λ lookup. is_some lookup ≡ setup.now.options.ignore_case) }
+{
+    if !setup.options.ignore_case {
+        return Ok(None);
+    }
+    Ok(Some(AccelerateLookup::new(alloc, &setup.index)?))
+}
+
+/// The plan by a report.
+fn plan_by(
+    alloc: Global,
+    root: &[u8],
+    setup: &Setup,
+    what: What,
+    report: &Report,
+    current: &Option<PathText>,
+) -> Result<Plan, OutOfMemory>
+    ensures { IfOk result (λ plan. IsPlan
+        (asked_in what setup.now (start_of root.now report.now.root) current.now)
+        (entries_of report.now.entries) plan.paths.items) }
+{
+    let lookup = lookup_of(alloc, setup)?;
+    let cleaning = Cleaning {
+        what,
+        index: &setup.index,
+        lookup: &lookup,
+        specs: &setup.specs,
+        start: start_of(root, report.root.as_bytes()),
+        current,
+    };
+    let paths = planned(alloc, &cleaning, report.entries.as_slice())?;
+    Ok(Plan { paths })
+}
+
+/// What may be removed from the work tree at `worktree_root`, as `git clean` removes it: whole directories where all in them
+/// may go, and single entries of the report where not. Nothing is removed here.
+///
+/// The setup's options have to be prepared, which [`is_prepared`](crate::is_prepared) tests. An entry may go if its status is
+/// asked for, something that is no repository stands there, the path specs match it, and its path is not kept. Kept is the root,
+/// what has a component `.git`, and what has an index entry or the current directory at it or beneath it. A directory may go as a
+/// whole if it lies at or beneath the traversal root, is not kept, some entry lies beneath it, all of these may go, and the
+/// path specs take out neither it nor a directory between it and such an entry. Planned is what may go and lies beneath no
+/// directory that does.
+///
+/// One report is made, and the real path of the root is asked once. Blobs that ignore rules are mapped to are looked up in
+/// `objects`. The report's entries are gone over once. The index is searched for each entry that may go but for its path, and
+/// for each directory above one that may go which no entry is in the way of, until one goes as a whole.
+///
+/// # Errors
+///
+/// - `Report` has the error of [`worktree_report`], for the same causes.
+/// - `Fault`: the worktree failed when it was asked for the real path of its root, which it counted.
+/// - `OutOfMemory`: memory was refused.
+pub fn plan<W: Worktree, F: Find, I: Interrupt>(
+    alloc: Global,
+    worktree: &mut W,
+    objects: &mut F,
+    interrupt: &mut I,
+    worktree_root: &[u8],
+    setup: &Setup,
+    what: What,
+    finding: Finding,
+) -> Result<Plan, CleanError>
+    requires prepared { is_prepared finding setup.now.options ≡ true }
+    ensures { MakesPlan W.Worktree F.Find I.Interrupt worktree.old worktree.new objects.old
+        objects.new interrupt.old interrupt.new worktree_root.now setup.now what result }
+{
+    let report = worktree_report(alloc, worktree, objects, interrupt, worktree_root, setup)?;
+    let current_dir = current_dir_of(worktree_root, setup);
+    let current = current_below(alloc, worktree, worktree_root, current_dir)?;
+    Ok(plan_by(alloc, worktree_root, setup, what, &report, &current)?)
+}

@@ -1,0 +1,26 @@
+//! What may be removed from a work tree, as `git clean` removes it; nothing is removed here.
+#![tactic(auto)]
+
+mod by_setup;
+mod cleaning;
+mod current;
+mod error;
+mod fronts;
+mod kept;
+mod outcome;
+mod paths;
+mod planned;
+mod prepared;
+mod program;
+mod removable;
+mod sift;
+mod what;
+mod whole;
+mod words;
+
+pub use by_setup::plan;
+pub use error::CleanError;
+pub use outcome::Plan;
+pub use prepared::{is_prepared, prepare};
+pub use program::run_clean;
+pub use what::{Finding, What};

@@ -1,0 +1,103 @@
+//! The options by which a plan is made.
+ghost use Rattle.std.specs.Prelude.{◌≡◌, true};
+ghost use Rattle.clean_plan.specs.Prepared as prepared;
+
+use crate::what::Finding;
+use dir_classify::{EmissionMode, ForDeletionMode};
+use worktree_report::SetupOptions;
+
+/// How deletion goes about ignored directories.
+fn deletion_of(finding: Finding) -> ForDeletionMode
+    ensures { result ≡ prepared.deletion_of finding }
+{
+    match finding {
+        Finding::NonBare => ForDeletionMode::FindNonBareRepositoriesInIgnoredDirectories,
+        Finding::All => ForDeletionMode::FindRepositoriesInIgnoredDirectories,
+    }
+}
+
+/// Sets the options that a plan needs: paths are to be deleted, with repositories found as asked; nothing is folded or hidden;
+/// neither submodules nor origins are told. All others stay as they are.
+pub fn prepare(options: &mut SetupOptions, finding: Finding)
+    ensures set { options.new ≡ prepared.prepared finding options.old }
+    ensures prepared { prepared.is_prepared finding options.new ≡ true }
+{
+    options.for_deletion = Some(deletion_of(finding));
+    options.classify_untracked_bare_repositories = matches!(finding, Finding::All);
+    options.recurse_repositories = false;
+    options.submodules = false;
+    options.origins = false;
+    options.emit_untracked = EmissionMode::Matching;
+    options.emit_ignored = Some(EmissionMode::Matching);
+    options.emit_collapsed = None;
+    options.emit_pruned = true;
+    options.emit_tracked = true;
+    options.emit_empty_directories = true;
+}
+
+/// Whether repositories are found so in ignored directories.
+fn is_finding(finding: Finding, mode: Option<ForDeletionMode>) -> bool
+    ensures { result ≡ prepared.is_finding finding mode }
+{
+    match mode {
+        None | Some(ForDeletionMode::IgnoredDirectoriesCanHideNestedRepositories) => false,
+        Some(ForDeletionMode::FindNonBareRepositoriesInIgnoredDirectories) => {
+            matches!(finding, Finding::NonBare)
+        }
+        Some(ForDeletionMode::FindRepositoriesInIgnoredDirectories) => {
+            matches!(finding, Finding::All)
+        }
+    }
+}
+
+/// Whether bare repositories are looked for just where they are to be found.
+fn is_bare_if(finding: Finding, bare: bool) -> bool
+    ensures { result ≡ prepared.is_bare_if finding bare }
+{
+    match finding {
+        Finding::NonBare => !bare,
+        Finding::All => bare,
+    }
+}
+
+/// Whether untracked and ignored paths are reported each by itself.
+fn is_unfolded(options: &SetupOptions) -> bool
+    ensures { result ≡ prepared.is_unfolded options.now }
+{
+    matches!(options.emit_untracked, EmissionMode::Matching)
+        && matches!(options.emit_ignored, Some(EmissionMode::Matching))
+        && options.emit_collapsed.is_none()
+}
+
+/// Whether nothing is hidden.
+fn is_open(options: &SetupOptions) -> bool
+    ensures { result ≡ prepared.is_open options.now }
+{
+    options.emit_pruned && options.emit_tracked && options.emit_empty_directories
+}
+
+/// Whether paths are to be deleted, with repositories found as asked and not looked into.
+fn is_for_deletion(options: &SetupOptions, finding: Finding) -> bool
+    ensures { result ≡ prepared.is_for_deletion finding options.now }
+{
+    is_finding(finding, options.for_deletion)
+        && is_bare_if(finding, options.classify_untracked_bare_repositories)
+        && !options.recurse_repositories
+}
+
+/// Whether options are prepared for a plan, as [`prepare`] leaves them.
+pub fn is_prepared(options: &SetupOptions, finding: Finding) -> bool
+    ensures { result ≡ prepared.is_prepared finding options.now }
+{
+    is_unfolded(options)
+        && is_open(options)
+        && is_for_deletion(options, finding)
+        && is_short(options)
+}
+
+/// Whether nothing is told of submodules and of the rules that decided.
+fn is_short(options: &SetupOptions) -> bool
+    ensures { result ≡ prepared.is_short options.now }
+{
+    !options.submodules && !options.origins
+}

@@ -1,0 +1,183 @@
+//! The top call.
+ghost use Rattle.std.specs.Prelude.{◌≡◌, ◌⊎◌, ◌↔◌, ◌++◌, ℕ, List, true, Some, None, IfOk, OnOk};
+ghost use Rattle.worktree_fs.specs.Causes.{NotIncreased};
+ghost use Rattle.worktree_fs.specs.Tree.{Names};
+ghost use Rattle.worktree_report.specs.Ends.{Runs};
+ghost use Rattle.worktree_report.specs.Written.{Appends};
+ghost use Rattle.clean_plan.specs.Named.{requested_by};
+ghost use Rattle.clean_plan.specs.Prepared.{is_prepared};
+ghost use Rattle.clean_plan.specs.Run as top;
+
+use crate::by_setup::plan;
+use crate::error::CleanError;
+use crate::outcome::Plan;
+use crate::prepared::prepare;
+use crate::what::{Finding, What};
+use crate::words::{Request, asked};
+use gitbase_core::{Bytes, Find, OutOfMemory, PathText};
+use std::alloc::Global;
+use worktree_fs::{Interrupt, Sink, Worktree};
+use worktree_report::{Refusal, Setup, add_escaped, finish, of_report, read_setup};
+
+/// The line for words that ask for nothing.
+const USAGE: &[u8] = b"usage: clean untracked|all|ignored nonbare|all ROOT SETUP\n";
+
+/// Adds the lines of paths, in their order.
+fn add_paths(text: &mut Vec<u8>, paths: &[PathText]) -> Result<(), OutOfMemory>
+    ensures { OnOk result (text.new.items ≡ text.old.items ++ top.plan_text paths.now) }
+{
+    for path in paths {
+        add_escaped(text, path.as_bytes())?;
+        text.push(b'\n')?;
+    }
+    Ok(())
+}
+
+/// The text of a plan: a line for each path.
+fn plan_bytes(alloc: Global, plan: &Plan) -> Result<Bytes, OutOfMemory>
+    ensures { IfOk result (λ text. text ≡ top.plan_text plan.now.paths.items) }
+{
+    let mut text = Vec::new(alloc);
+    add_paths(&mut text, &plan.paths)?;
+    Ok(Bytes::from_vec(text))
+}
+
+/// Why there is no text, where there is no plan.
+fn of_clean(alloc: Global, error: CleanError) -> Result<Refusal, OutOfMemory>
+    ensures { IfOk result (λ refusal. refusal ≡ top.of_clean error) }
+{
+    match error {
+        CleanError::Report(error) => of_report(alloc, error),
+        CleanError::Fault => Ok(Refusal::Fault),
+        CleanError::OutOfMemory => Ok(Refusal::OutOfMemory),
+    }
+}
+
+/// The text of the plan for the work tree at `root`, by a prepared setup. Blobs that ignore rules are mapped to are those of
+/// the setup.
+fn text_of_plan<W: Worktree, I: Interrupt>(
+    alloc: Global,
+    worktree: &mut W,
+    interrupt: &mut I,
+    root: &[u8],
+    setup: &Setup,
+    what: What,
+    finding: Finding,
+) -> Result<Bytes, Refusal>
+    requires prepared { is_prepared finding setup.now.options ≡ true }
+    ensures { top.PlanTexts W.Worktree I.Interrupt (W.precomposes worktree.old) worktree.old
+        worktree.new interrupt.old interrupt.new root.now setup.now what result }
+{
+    let mut objects = setup.blobs.fork(alloc)?;
+    match plan(
+        alloc,
+        worktree,
+        &mut objects,
+        interrupt,
+        root,
+        setup,
+        what,
+        finding,
+    ) {
+        Ok(plan) => Ok(plan_bytes(alloc, &plan)?),
+        Err(error) => Err(of_clean(alloc, error)?),
+    }
+}
+
+/// The text that a request asks for, or why there is none.
+fn text_at<W: Worktree, I: Interrupt>(
+    alloc: Global,
+    request: Request<'_>,
+    worktree: &mut W,
+    interrupt: &mut I,
+) -> Result<Bytes, Refusal>
+    ensures { top.AnswersClean W.Worktree I.Interrupt worktree.old worktree.new interrupt.old
+        interrupt.new (requested_by request.entry) result }
+{
+    let Request {
+        what,
+        finding,
+        places,
+    } = request;
+    let mut setup = read_setup(alloc, worktree, places.setup)?;
+    prepare(&mut setup.options, finding);
+    text_of_plan(
+        alloc,
+        worktree,
+        interrupt,
+        places.root,
+        &setup,
+        what,
+        finding,
+    )
+}
+
+/// The text that the words ask for, or why there is none.
+fn text_asked<W: Worktree, I: Interrupt>(
+    alloc: Global,
+    words: &[Bytes],
+    worktree: &mut W,
+    interrupt: &mut I,
+) -> Result<Bytes, Refusal>
+    ensures { top.Answers W.Worktree I.Interrupt worktree.old worktree.new interrupt.old
+        interrupt.new (top.asked (W.precomposes worktree.old) words.now) result }
+{
+    match asked(worktree.precomposes(), words) {
+        Some(request) => text_at(alloc, request, worktree, interrupt),
+        None => Err(Refusal::Usage),
+    }
+}
+
+/// Answers the words of a command line: writes to `out` what may be removed from a work tree, one path a line, or says to `err`
+/// in one line why there is nothing of that, and answers the status that the program is to end with. Nothing is removed.
+///
+/// `clean WHAT FIND ROOT SETUP` asks for the plan of the work tree at ROOT by the setup text at SETUP, with the options that
+/// [`prepare`](crate::prepare) sets: WHAT is `untracked`, `all` or `ignored`, FIND is `nonbare` or `all`. The word `composed` stands
+/// before it exactly where the worktree composes names.
+///
+/// | status | where |
+/// |---|---|
+/// | 0 | what is asked for was written whole |
+/// | 1 | the interrupt was raised, and counted it |
+/// | 2 | the words are none of these, with absolute paths without `.`, `..` and NUL |
+/// | 3 | the setup is not read as a file, or has a line outside its grammar |
+/// | 4 | the walk was refused |
+/// | 6 | the worktree failed, and counted it |
+/// | 7 | `out` refused bytes, and counted it |
+/// | 8 | want of memory |
+///
+/// With a status other than 0 and 7 nothing goes to `out`. With each status other than 0 one line goes to `err`, with 0
+/// none; a refusal of `err` changes nothing. The interrupt is asked before each directory is read.
+pub fn run_clean<W: Worktree, I: Interrupt, S: Sink, E: Sink>(
+    alloc: Global,
+    words: &[Bytes],
+    worktree: &mut W,
+    interrupt: &mut I,
+    out: &mut S,
+    err: &mut E,
+) -> u8
+    // What the words ask for came to an answer: a text, or a refusal with its cause. The status, `out` and `err` are as that answer
+    // has it, and what stays is said of each.
+    ensures runs { Runs S.Sink E.Sink out.old out.new err.old err.new top.usage
+        (top.Answers W.Worktree I.Interrupt worktree.old worktree.new interrupt.old interrupt.new
+        (top.asked (W.precomposes worktree.old) words.now)) result }
+
+    // Status 0, over a told tree and with no fault counted: what `out` has is what it had, and the lines of the plan.
+    ensures plan { (t : Names) → W.told worktree.old ≡ Some t
+        → NotIncreased (W.faults worktree.old) (W.faults worktree.new) → result ≡ 0
+        → (text : List ℕ) × top.IsOutput (W.precomposes worktree.old) t words.now text
+        × Appends (S.written out.old) (S.written out.new) text }
+
+    // Status 2 exactly where the words ask for nothing.
+    ensures usage { (result ≡ 2) ↔ (top.asked (W.precomposes worktree.old) words.now ≡ None) }
+
+    // Valid input, over a told tree and with nothing counted.
+    ensures complete { (t : Names) → W.told worktree.old ≡ Some t
+        → top.IsValid (W.precomposes worktree.old) t words.now
+        → NotIncreased (W.faults worktree.old) (W.faults worktree.new)
+        → NotIncreased (I.raised interrupt.old) (I.raised interrupt.new)
+        → NotIncreased (S.refusals out.old) (S.refusals out.new) → (result ≡ 0) ⊎ (result ≡ 8) }
+{
+    let answer = text_asked(alloc, words, worktree, interrupt);
+    finish(alloc, USAGE, answer, out, err)
+}

@@ -1,0 +1,95 @@
+//! Which directories may go as a whole.
+ghost use Rattle.std.specs.Prelude.{◌≡◌, ◌≤◌, ◌<◌, ◌+◌, ◌&&◌, ◌++◌, ◌∷◌, [], ℕ, List, true, length, take, if◌then◌else◌, OnOk};
+ghost use Rattle.gitbase_core.specs.Path.{lies_beneath};
+ghost use Rattle.clean_plan.specs.Above.{IsTarget, reach};
+ghost use Rattle.clean_plan.specs.Asked.{asked_by};
+ghost use Rattle.clean_plan.specs.Kept as kept;
+ghost use Rattle.dir_classify.specs.Layers.{IsLookupIf};
+ghost use Rattle.clean_plan.specs.Whole.{is_whole_among};
+
+use crate::cleaning::Cleaning;
+use crate::fronts::is_above;
+use crate::kept::{is_kept, takes_out};
+use crate::paths::Paths;
+use gitbase_core::{is_path_prefix, is_top};
+use glob_rules::pathspec::Search;
+
+/// Whether the directory that is the front of a path of so many bytes may go as a whole; `spoiled` are those that have an
+/// entry in their way.
+fn is_whole(cleaning: &Cleaning<'_>, spoiled: &Paths<'_>, path: &[u8], at: usize) -> bool
+    requires lookup { IsLookupIf cleaning.now.index.now cleaning.now.lookup.now }
+    requires front { at < length path.now }
+    requires above { lies_beneath (take at path.now) path.now ≡ true }
+    ensures { result ≡ is_whole_among (asked_by cleaning.now) spoiled.now (take at path.now) }
+{
+    let front = &path[..at];
+    if is_top(front) {
+        return false;
+    }
+    if spoiled.has(front) {
+        return false;
+    }
+    if !is_path_prefix(cleaning.start, front) {
+        return false;
+    }
+    !is_kept(cleaning, front, &path[..at + 1])
+}
+
+/// The same, if the path lies beneath that directory.
+fn is_whole_above(cleaning: &Cleaning<'_>, spoiled: &Paths<'_>, path: &[u8], at: usize) -> bool
+    requires lookup { IsLookupIf cleaning.now.index.now cleaning.now.lookup.now }
+    requires front { at < length path.now }
+    ensures { result ≡ (lies_beneath (take at path.now) path.now
+        && is_whole_among (asked_by cleaning.now) spoiled.now (take at path.now)) }
+{
+    if !is_above(path, at) {
+        return false;
+    }
+    is_whole(cleaning, spoiled, path, at)
+}
+
+/// The first of the directories above a path, from the top on, that may go as a whole; the path itself where there is none.
+pub(crate) fn target<'a>(cleaning: &Cleaning<'_>, spoiled: &Paths<'_>, path: &'a [u8]) -> &'a [u8]
+    requires lookup { IsLookupIf cleaning.now.index.now cleaning.now.lookup.now }
+    ensures { IsTarget (is_whole_among (asked_by cleaning.now) spoiled.now) path.now result.now }
+{
+    for at in 0..path.len() {
+        if is_whole_above(cleaning, spoiled, path, at) {
+            return &path[..at];
+        }
+    }
+    path
+}
+
+/// Whether the path lies beneath its front of so many bytes, and the path specs take that out.
+fn is_out(specs: &Search, path: &[u8], at: usize) -> bool
+    requires { at < length path.now }
+    ensures { result ≡ (lies_beneath (take at path.now) path.now
+        && kept.takes_out specs.now (take at path.now)) }
+{
+    is_above(path, at) && takes_out(specs, &path[..at])
+}
+
+/// The bytes of a front of a path and one more, if the path specs take that out; else what there was.
+fn longer(specs: &Search, path: &[u8], at: usize, reach: usize) -> usize
+    requires { at < length path.now }
+    ensures { result ≡ (if lies_beneath (take at path.now) path.now
+        && kept.takes_out specs.now (take at path.now) then at + 1 else reach) }
+{
+    if is_out(specs, path, at) {
+        return at + 1;
+    }
+    reach
+}
+
+/// One more than the bytes of the longest directory above a path that path specs take out; 0 where there is none.
+pub(crate) fn reach_of(specs: &Search, path: &[u8]) -> usize
+    ensures reach { result ≡ reach (kept.takes_out specs.now) (length path.now) path.now }
+    ensures within { result ≤ length path.now }
+{
+    let mut reach = 0;
+    for at in 0..path.len() {
+        reach = longer(specs, path, at, reach);
+    }
+    reach
+}

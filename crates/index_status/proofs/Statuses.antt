@@ -1,0 +1,229 @@
+-- A status, once a report is made or refused, and its text.
+use Rattle.std.proofs.Common.{◌≡◌, ◌≤◌, ◌++◌, ℕ, List, Bool, inl, inr, Option, Some, Result, Ok, Err, IfOk, IfErr, OnOk, IsErrOf, ap, refl, sym, ◌∙◌, subst, option_map, arith}
+use Rattle.gitbase_core.specs.declared.entry.IndexEntry.{IndexEntry}
+use Rattle.gitbase_core.specs.declared.find.Find.{Ghosts as FindOf}
+use Rattle.worktree_fs.specs.declared.interrupt.Interrupt.{Ghosts as InterruptOf}
+use Rattle.worktree_fs.specs.declared.worktree.Worktree.{Ghosts as WorktreeOf}
+use Rattle.worktree_fs.specs.Causes.{NotIncreased, Increased}
+use Rattle.worktree_fs.specs.Kept.{Asks}
+use Rattle.worktree_fs.specs.Tree.{Names}
+use Rattle.worktree_stack.specs.Reading.{Sources}
+use Rattle.worktree_report.specs.declared.error.ReportError.{ReportError}
+use Rattle.worktree_report.specs.declared.error.ReportError.TheVariants as reports
+use Rattle.worktree_report.specs.declared.refusal.Refusal.{Refusal}
+use Rattle.worktree_report.specs.declared.refusal.Refusal.TheVariants as refusals
+use Rattle.worktree_report.specs.declared.report.Report.{Report}
+use Rattle.worktree_report.specs.declared.setup.Setup.{Setup}
+use Rattle.worktree_report.specs.Asked.{read_in, text_of, IsReportOf}
+use Rattle.worktree_report.specs.Lines.{text_with}
+use Rattle.worktree_report.specs.Reported.{MakesReport}
+use Rattle.worktree_report.proofs.Answered.{told-blobs, Texts-refused}
+use Rattle.worktree_report.proofs.ReportMade.{report_is}
+use Rattle.worktree_report.proofs.Runs.{Rose-before}
+use Rattle.index_status.specs.declared.error.StatesError.{StatesError}
+use Rattle.index_status.specs.declared.error.StatesError.TheVariants as states
+use Rattle.index_status.specs.declared.error.StatusError.{StatusError}
+use Rattle.index_status.specs.declared.error.StatusError.TheVariants as errors
+use Rattle.index_status.specs.declared.report_beside.IndexStatus.{IndexStatus}
+use Rattle.index_status.specs.Lines.{states_text, status_text}
+use Rattle.index_status.specs.Rows.{IsAskedFor, Refuses, Row, rows}
+use Rattle.index_status.specs.Run as top
+use Rattle.index_status.specs.Status.{of_report, of_states, Compares, IsBeside, IsStatusOf, MakesStatus, RefusesStates}
+
+-- which error is answered
+which : {T : Type 0} {from to : StatusError} → IsErrOf {T = T} (Err from) to → from ≡ to
+which is = cc
+
+-- what did not rise later on did not rise before
+quiet_before : (before middle now : ℕ) → middle ≤ now → NotIncreased before now → NotIncreased before middle
+quiet_before before middle now later quiet = omega arith
+
+always : {T E P : Type 0} (result : Result T E) → P → OnOk result P
+always (Ok answer) p = p
+always (Err e) p = tt
+
+-- ---- the states beside a report
+
+refused-states : (told : Option Names) (root : List ℕ) (entries : List IndexEntry) (Rose : Type 0) (e : StatesError) → Refuses told root entries Rose e → RefusesStates told root entries Rose (of_states e)
+refused-states told root entries Rose (states.Fault path) h = h
+refused-states told root entries Rose states.OutOfMemory h = tt
+
+pub Compares-refused : {W : Type 0} {w : WorktreeOf W} {w0 w1 : W} {root : List ℕ} {entries : List IndexEntry} {report : Report} (e : StatesError)
+    → Refuses (w.told w0) root entries (Increased (w.faults w0) (w.faults w1)) e → Asks w w0 w1 → Compares w w0 w1 root entries report (Err (of_states e))
+Compares-refused {w = w} {w0} {w1} {root} {entries} e of asks =
+    record {
+      gives = λ t told. tt;
+      possible = tt;
+      ascends = tt;
+      beside = tt;
+      refused = refused-states (w.told w0) root entries (Increased (w.faults w0) (w.faults w1)) e of;
+      keeps = asks;
+    }
+
+-- ---- the report, and the states if there is one
+
+which-report : (e refused : ReportError) → of_report e ≡ errors.Report refused → e ≡ refused
+which-report (reports.Config at line) refused is = cc
+which-report (reports.Modules line) refused is = cc
+which-report (reports.ActiveSpec at) refused is = cc
+which-report reports.ReadFault refused is = cc
+which-report (reports.Walk walk) refused is = cc
+which-report reports.OutOfMemory refused is = absurd cc
+
+no_fault : (e : ReportError) (path : List ℕ) → of_report e ≡ errors.Fault path → ⊥
+no_fault (reports.Config at line) path is = absurd cc
+no_fault (reports.Modules line) path is = absurd cc
+no_fault (reports.ActiveSpec at) path is = absurd cc
+no_fault reports.ReadFault path is = absurd cc
+no_fault (reports.Walk walk) path is = absurd cc
+no_fault reports.OutOfMemory path is = absurd cc
+
+module _ {W F I : Type 0} {w : WorktreeOf W} {f : FindOf F} {i : InterruptOf I} {w0 w1 : W} {o0 o1 : F} {i0 i1 : I} {root : List ℕ} {setup : Setup} where
+  -- there is no report
+  pub MakesStatus-refused : (e : ReportError) → MakesReport w f i w0 w1 o0 o1 i0 i1 root setup (Err e) → MakesStatus w f i w0 w1 o0 o1 i0 i1 root setup (Err (of_report e))
+  MakesStatus-refused e made =
+      record {
+        gives = λ s told quiet. tt;
+        possible = tt;
+        ascends = tt;
+        beside = tt;
+        no_report = λ refused is. subst (λ (x : ReportError). MakesReport w f i w0 w1 o0 o1 i0 i1 root setup (Err x)) (which-report e refused (which is)) made;
+        cause = λ path is. absurd (no_fault e path (which is));
+        later = λ path is t told. absurd (no_fault e path (which is));
+        at = λ path is. absurd (no_fault e path (which is));
+        complete = λ s told quiet stored calm valid. ap of_report (made.complete s told quiet stored calm valid);
+        worktree = made.worktree;
+        store = made.store;
+        interrupt = made.interrupt;
+        listed = tt;
+        calm = tt;
+      }
+
+status-is : {W : Type 0} (w : WorktreeOf W) (w0 w1 w2 : W) (root : List ℕ) (setup : Setup) (s : Sources) (r : Report) (result : Result IndexStatus StatusError)
+    → Compares w w1 w2 root setup.index r result → w.told w1 ≡ Some s.tree → IsReportOf (w.precomposes w0) s root setup r → IfOk result (IsStatusOf (w.precomposes w0) s root setup)
+status-is w w0 w1 w2 root setup s r (Ok status) compares told is =
+    record { paths = compares.gives s.tree told; report = subst (λ (x : Report). IsReportOf (w.precomposes w0) s root setup x) (sym compares.beside) is }
+status-is w w0 w1 w2 root setup s r (Err e) compares told is = tt
+
+beside-is : {W F I : Type 0} (w : WorktreeOf W) (f : FindOf F) (i : InterruptOf I) (w0 w1 w2 : W) (o0 o1 : F) (i0 i1 : I) (root : List ℕ) (setup : Setup) (r : Report)
+    (result : Result IndexStatus StatusError) → MakesReport w f i w0 w1 o0 o1 i0 i1 root setup (Ok r) → Compares w w1 w2 root setup.index r result
+    → IfOk result (IsBeside w f i w0 w2 o0 o1 i0 i1 root setup)
+beside-is w f i w0 w1 w2 o0 o1 i0 i1 root setup r (Ok status) made compares =
+    record {
+      between = w1;
+      made = subst (λ (x : Report). MakesReport w f i w0 w1 o0 o1 i0 i1 root setup (Ok x)) (sym compares.beside) made;
+      asks = compares.keeps;
+      paths = λ t told. compares.gives t (made.worktree.tree ∙ told);
+    }
+beside-is w f i w0 w1 w2 o0 o1 i0 i1 root setup r (Err e) made compares = tt
+
+only_memory : {W : Type 0} (w : WorktreeOf W) (w0 w1 w2 : W) (root : List ℕ) (entries : List IndexEntry) (r : Report) (result : Result IndexStatus StatusError)
+    → Compares w w1 w2 root entries r result → w.faults w0 ≤ w.faults w1 → NotIncreased (w.faults w0) (w.faults w2) → IfErr result (λ e. e ≡ errors.OutOfMemory)
+only_memory w w0 w1 w2 root entries r (Ok status) compares faults quiet = tt
+only_memory w w0 w1 w2 root entries r (Err (errors.Report e)) compares faults quiet = absurd compares.refused
+only_memory w w0 w1 w2 root entries r (Err (errors.Fault path)) compares faults quiet = absurd (let rose = compares.refused.0 in omega (arith, faults, rose, quiet))
+only_memory w w0 w1 w2 root entries r (Err errors.OutOfMemory) compares faults quiet = refl
+
+module _ {W F I : Type 0} {w : WorktreeOf W} {f : FindOf F} {i : InterruptOf I} {w0 w1 w2 : W} {o0 o1 : F} {i0 i1 : I} {root : List ℕ} {setup : Setup} where
+  -- there is one, and the index paths are looked at
+  pub MakesStatus-beside : (r : Report) (result : Result IndexStatus StatusError) → MakesReport w f i w0 w1 o0 o1 i0 i1 root setup (Ok r) → Compares w w1 w2 root setup.index r result
+      → MakesStatus w f i w0 w2 o0 o1 i0 i1 root setup result
+  MakesStatus-beside r result made compares =
+      let unless : (e : StatusError) → IsErrOf result e → RefusesStates (w.told w1) root setup.index (Increased (w.faults w1) (w.faults w2)) e =
+      λ e is. subst (λ x. IfErr x (RefusesStates (w.told w1) root setup.index (Increased (w.faults w1) (w.faults w2)))) is compares.refused in
+      record {
+        gives = λ s told quiet. status-is w w0 w1 w2 root setup s r result compares (made.worktree.tree ∙ told.tree_is) (made.gives s told (quiet_before _ _ _ compares.keeps.faults quiet));
+        possible = compares.possible;
+        ascends = compares.ascends;
+        beside = beside-is w f i w0 w1 w2 o0 o1 i0 i1 root setup r result made compares;
+        no_report = λ e is. absurd (unless (errors.Report e) is);
+        cause = λ path is. record { between = w1; report = r; made = made; asks = compares.keeps; rose = (unless (errors.Fault path) is).0 };
+        later = λ path is t told. (made.orderly.known, made.orderly.known_is t told);
+        at = λ path is. subst (λ (told : Option Names). IsAskedFor told root setup.index path) made.worktree.tree (unless (errors.Fault path) is).1;
+        complete = λ s told quiet stored calm valid. only_memory w w0 w1 w2 root setup.index r result compares made.worktree.faults quiet;
+        worktree =
+            record {
+              tree = compares.keeps.tree ∙ made.worktree.tree;
+              faults = omega (arith, made.worktree.faults, compares.keeps.faults);
+              list_faults = omega (arith, made.worktree.list_faults, compares.keeps.list_faults);
+              lists = omega (arith, made.worktree.lists, compares.keeps.lists);
+              precomposes = compares.keeps.precomposes ∙ made.worktree.precomposes;
+            };
+        store = made.store;
+        interrupt = made.interrupt;
+        listed = always result (compares.keeps.list_faults ∙ made.listed);
+        calm = always result made.calm;
+      }
+
+-- ---- texts
+
+text-of : (composes : Bool) (t : Names) (root : List ℕ) (setup : Setup) (status : IndexStatus) (text : List ℕ) → text ≡ status_text setup.options status
+    → status.paths.items ≡ rows t root setup.index → text_of composes t root setup ≡ Some (text_with setup.options status.report) → top.text_in composes t root setup ≡ Some text
+text-of composes t root setup status text same paths is =
+    ap (option_map (λ (report : List ℕ). states_text (rows t root setup.index) ++ report)) is
+    ∙ ap (λ (l : List ℕ). Some l) (ap (λ (r : List Row). states_text r ++ text_with setup.options status.report) (sym paths)) ∙ ap (λ (l : List ℕ). Some l) (sym same)
+
+module _ {W F I : Type 0} {w : WorktreeOf W} {f : FindOf F} {i : InterruptOf I} {w0 w1 : W} {o0 o1 : F} {i0 i1 : I} {root : List ℕ} {setup : Setup} where
+  -- the text of a status
+  pub StatusTexts-ok : (status : IndexStatus) (text : List ℕ) → MakesStatus w f i w0 w1 o0 o1 i0 i1 root setup (Ok status) → f.holds o0 ≡ Some setup.blobs → text ≡ status_text setup.options status
+      → top.StatusTexts w i (w.precomposes w0) w0 w1 i0 i1 root setup (Ok text)
+  StatusTexts-ok status text made held lines =
+      record {
+        gives = λ t told quiet.
+            let is = made.gives (read_in t setup) (told-blobs setup held told) quiet in
+            text-of (w.precomposes w0) t root setup status text lines is.paths (ap (option_map (text_with setup.options)) (report_is is.report));
+        orderly =
+            let beside = made.beside in
+            record {
+              states = status.paths.items;
+              report = text_with setup.options status.report;
+              text_is = lines;
+              exact = beside.paths;
+              possible = made.possible;
+              ascends = made.ascends;
+              orderly = record { made = status.report; orderly = beside.made.orderly; text_is = refl };
+            };
+        safe = λ t told quiet. let is = made.gives (read_in t setup) (told-blobs setup held told) quiet in record { made = status.report; is = is.report };
+        refused = tt;
+        worktree = made.worktree;
+        interrupt = made.interrupt;
+        listed = made.listed;
+        calm = made.calm;
+      }
+
+  -- no memory for the text, or for what the refusal says
+  pub StatusTexts-memory : {result : Result IndexStatus StatusError} → MakesStatus w f i w0 w1 o0 o1 i0 i1 root setup result → top.StatusTexts w i (w.precomposes w0) w0 w1 i0 i1 root setup (Err refusals.OutOfMemory)
+  StatusTexts-memory made =
+      record {
+        gives = λ t told quiet. tt;
+        orderly = tt;
+        safe = λ t told quiet. tt;
+        refused = inl refl;
+        worktree = made.worktree;
+        interrupt = made.interrupt;
+        listed = tt;
+        calm = tt;
+      }
+
+  refused-text : (e : StatusError) (refusal : Refusal) → MakesStatus w f i w0 w1 o0 o1 i0 i1 root setup (Err e) → f.holds o0 ≡ Some setup.blobs → NotIncreased (f.faults o0) (f.faults o1)
+      → refusal ≡ top.of_status e → top.RefusesText w i (w.precomposes w0) w0 w1 i0 i1 root setup refusal
+  refused-text (errors.Report e) refusal made held kept same = inr (inr (Texts-refused e refusal (made.no_report e refl) held kept same))
+  refused-text (errors.Fault path) refusal made held kept same =
+      let fails = made.cause path refl in
+      inr (inl (same, Rose-before _ _ _ fails.made.worktree.faults fails.rose, made.later path refl))
+  refused-text errors.OutOfMemory refusal made held kept same = inl same
+
+  -- the refusal that stands for that of a status
+  pub StatusTexts-refused : (e : StatusError) (refusal : Refusal) → MakesStatus w f i w0 w1 o0 o1 i0 i1 root setup (Err e) → f.holds o0 ≡ Some setup.blobs → NotIncreased (f.faults o0) (f.faults o1)
+      → refusal ≡ top.of_status e → top.StatusTexts w i (w.precomposes w0) w0 w1 i0 i1 root setup (Err refusal)
+  StatusTexts-refused e refusal made held kept same =
+      record {
+        gives = λ t told quiet. tt;
+        orderly = tt;
+        safe = λ t told quiet. tt;
+        refused = refused-text e refusal made held kept same;
+        worktree = made.worktree;
+        interrupt = made.interrupt;
+        listed = tt;
+        calm = tt;
+      }

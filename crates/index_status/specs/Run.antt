@@ -1,0 +1,121 @@
+-- What the top call gives, and why it gives nothing.
+use Rattle.std.specs.Prelude.{◌≡◌, ◌⊎◌, ◌++◌, ℕ, List, Bool, true, codes, Option, Some, None, option_and_then, option_map, Result, Ok, Err, IfOk, IfErr, OnOk}
+use Rattle.std.specs.Result.{result_ok}
+use Rattle.worktree_fs.specs.declared.interrupt.Interrupt.{Ghosts as InterruptOf}
+use Rattle.worktree_fs.specs.declared.worktree.Worktree.{Ghosts as WorktreeOf}
+use Rattle.worktree_fs.specs.Causes.{NotIncreased, Increased}
+use Rattle.worktree_fs.specs.Tree.{Names, look}
+use Rattle.dir_walk.specs.Kept.{AsksInterrupt, KeepsTree}
+use Rattle.worktree_report.specs.declared.refusal.Refusal.{Refusal}
+use Rattle.worktree_report.specs.declared.refusal.Refusal.TheVariants as refusals
+use Rattle.worktree_report.specs.declared.setup.Setup.{Setup}
+use Rattle.worktree_report.specs.Asked.{IsSafeAt, text_of}
+use Rattle.worktree_report.specs.Converted as converted
+use Rattle.worktree_report.specs.Loading.{known_in, IsKnown}
+use Rattle.worktree_report.specs.Orderly.{IsOrderlyText}
+use Rattle.worktree_report.specs.Reported.{Texts}
+use Rattle.worktree_report.specs.Run.{as_read, AsksNothing, HasCauses, IsReadyAt, IsSafeReport, Keeps}
+use Rattle.worktree_report.specs.SetupAt.{setup_at}
+use Rattle.worktree_report.specs.Steps.{◌>>=◌}
+use Rattle.worktree_report.specs.Words.{Places, places_behind}
+use Rattle.index_status.specs.declared.error.StatusError.{StatusError}
+use Rattle.index_status.specs.declared.error.StatusError.TheVariants as errors
+use Rattle.index_status.specs.Lines.{states_text}
+use Rattle.index_status.specs.Rows.{ArePossible, Ascends, Row, rows}
+
+-- the line for words that ask for nothing
+abbrev pub usage : List ℕ
+usage = codes "usage: status ROOT SETUP\n"
+
+-- The places that are asked for: the words are `status ROOT SETUP`, with `composed` before them exactly where the worktree composes
+-- names. Any other words ask for nothing.
+abbrev pub asked : Bool → List (List ℕ) → Option Places
+asked composes words = places_behind (codes "status") composes words
+
+-- ---- the text
+
+-- the states of the index paths over a tree, and behind them the report; none where there is no report
+abbrev pub text_in : Bool → Names → List ℕ → Setup → Option (List ℕ)
+text_in composes t root setup =
+    option_map (λ (report : List ℕ). states_text (rows t root setup.index) ++ report) (text_of composes t root setup)
+
+-- The bytes over the tree `t`. None where the setup is no file or has a line outside the grammar, and where there is no report of
+-- that work tree.
+unfoldable pub output_at : Bool → Names → Places → Option (List ℕ)
+output_at composes t places = do
+  setup ← result_ok (setup_at (look t places.setup true))
+  text_in composes t places.root setup
+
+-- the bytes that the words ask for; none where they ask for nothing too
+abbrev pub output_of : Bool → Names → List (List ℕ) → Option (List ℕ)
+output_of composes t words = option_and_then (output_at composes t) (asked composes words)
+
+-- It is in order, whatever the worktree tells: each path of the index stands once, in ascending order, with a state that it may have,
+-- and behind them the text of a report that is in order. Over a told tree the states are exact, whatever failed.
+pub record IsOrderlyStatus (composes : Bool) (told : Option Names) (root : List ℕ) (setup : Setup) (text : List ℕ) : Type 0 where
+  pub states : List Row
+  pub report : List ℕ
+  pub text_is : text ≡ states_text states ++ report
+  pub exact : (t : Names) → told ≡ Some t → states ≡ rows t root setup.index
+  pub possible : ArePossible setup.index states
+  pub ascends : Ascends states
+  pub orderly : IsOrderlyText composes told root setup report
+
+-- The same at some places. Where the tree is told the setup is the one that was read in it.
+pub record IsOrderlyAnswer (composes : Bool) (told : Option Names) (places : Places) (text : List ℕ) : Type 0 where
+  pub setup : Setup
+  pub read : (t : Names) → told ≡ Some t → setup_at (look t places.setup true) ≡ Ok setup
+  pub orderly : IsOrderlyStatus composes told places.root setup text
+
+-- ---- refusals
+
+-- the refusal that stands for that of a status
+abbrev pub of_status : StatusError → Refusal
+of_status (errors.Report e) = converted.of_report e
+of_status (errors.Fault path) = refusals.Fault
+of_status errors.OutOfMemory = refusals.OutOfMemory
+
+-- why there is no text: for want of memory, as the worktree failed once there was a report, or as there is no text of the report
+abbrev pub RefusesText : {W I : Type 0} → WorktreeOf W → InterruptOf I → Bool → W → W → I → I → List ℕ → Setup → Refusal → Type 0
+RefusesText w i composes w0 w1 i0 i1 root setup refusal =
+    (refusal ≡ refusals.OutOfMemory)
+    ⊎ (((refusal ≡ refusals.Fault) × Increased (w.faults w0) (w.faults w1) × ((t : Names) → w.told w0 ≡ Some t → IsKnown (known_in t root setup)))
+    ⊎ Texts w i composes w0 w1 i0 i1 root setup (Err refusal))
+
+-- The text of the states and the report, or why there is none, where a worktree was `w0` and is `w1`, and an interrupt was `i0` and
+-- is `i1`. `composes` says whether the worktree composes names.
+pub record StatusTexts {W I : Type 0} (w : WorktreeOf W) (i : InterruptOf I) (composes : Bool) (w0 w1 : W) (i0 i1 : I) (root : List ℕ) (setup : Setup) (answer : Result (List ℕ) Refusal) : Type 0 where
+  pub gives : (t : Names) → w.told w0 ≡ Some t → NotIncreased (w.faults w0) (w.faults w1) → IfOk answer (λ text. text_in composes t root setup ≡ Some text)
+  pub orderly : IfOk answer (IsOrderlyStatus composes (w.told w0) root setup)
+  pub safe : (t : Names) → w.told w0 ≡ Some t → NotIncreased (w.faults w0) (w.faults w1) → OnOk answer (IsSafeAt composes t root setup)
+  pub refused : IfErr answer (RefusesText w i composes w0 w1 i0 i1 root setup)
+  pub worktree : KeepsTree w w0 w1
+  pub interrupt : AsksInterrupt i i0 i1
+  pub listed : OnOk answer (w.list_faults w1 ≡ w.list_faults w0)
+  pub calm : OnOk answer (i.raised i1 ≡ i.raised i0)
+
+-- ---- the call
+
+-- The text at some places, or why there is none.
+pub record AnswersStatus {W I : Type 0} (w : WorktreeOf W) (i : InterruptOf I) (w0 w1 : W) (i0 i1 : I) (places : Places) (answer : Result (List ℕ) Refusal) : Type 0 where
+  -- Over a told tree and with no fault counted it is exactly the one that the setup asks for, and the report is safe to act on.
+  pub gives : (t : Names) → w.told w0 ≡ Some t → NotIncreased (w.faults w0) (w.faults w1) → IfOk answer (λ text. output_at (w.precomposes w0) t places ≡ Some text)
+  -- Over any worktree it is in order, and over a told tree the lines of the states are exact, whatever failed.
+  pub orderly : IfOk answer (IsOrderlyAnswer (w.precomposes w0) (w.told w0) places)
+  pub safe : (t : Names) → w.told w0 ≡ Some t → NotIncreased (w.faults w0) (w.faults w1) → OnOk answer (IsSafeReport (w.precomposes w0) t places)
+  pub causes : HasCauses w i w0 w1 i0 i1 as_read places answer
+  pub keeps : Keeps w i w0 w1 i0 i1 answer
+
+-- the text that is asked for, or why there is none
+abbrev pub Answers : {W I : Type 0} → WorktreeOf W → InterruptOf I → W → W → I → I → Option Places → Result (List ℕ) Refusal → Type 0
+Answers w i w0 w1 i0 i1 None answer = AsksNothing w0 w1 i0 i1 answer
+Answers w i w0 w1 i0 i1 (Some places) answer = AnswersStatus w i w0 w1 i0 i1 places answer
+
+-- what is asked for can be had
+abbrev pub CanBeHad : Bool → Names → Option Places → Type 0
+CanBeHad composes t None = ⊥
+CanBeHad composes t (Some places) = IsReadyAt as_read composes t places
+
+-- The words, the setup and the worktree are as they should be.
+abbrev pub IsValid : Bool → Names → List (List ℕ) → Type 0
+IsValid composes t words = CanBeHad composes t (asked composes words)

@@ -1,0 +1,133 @@
+//! The top call.
+ghost use Rattle.std.specs.Prelude.{◌≡◌, ◌⊎◌, ◌↔◌, ℕ, List, Some, None, IfOk};
+ghost use Rattle.worktree_fs.specs.Causes.{NotIncreased};
+ghost use Rattle.worktree_fs.specs.Tree.{Names};
+ghost use Rattle.worktree_report.specs.Ends.{Runs};
+ghost use Rattle.worktree_report.specs.Named.{named_by};
+ghost use Rattle.worktree_report.specs.Written.{Appends};
+ghost use Rattle.index_status.specs.Run as top;
+
+use crate::error::StatusError;
+use crate::lines::status_bytes;
+use crate::report_beside::status;
+use gitbase_core::{Bytes, Find, OutOfMemory};
+use std::alloc::Global;
+use worktree_fs::{Interrupt, Sink, Worktree};
+use worktree_report::{Places, Refusal, Setup, finish, of_report, places_behind, read_setup};
+
+/// The line for words that ask for nothing.
+const USAGE: &[u8] = b"usage: status ROOT SETUP\n";
+
+/// Why there is no text, where there is no status.
+fn of_status(alloc: Global, error: StatusError) -> Result<Refusal, OutOfMemory>
+    ensures { IfOk result (λ refusal. refusal ≡ top.of_status error) }
+{
+    match error {
+        StatusError::Report(error) => of_report(alloc, error),
+        StatusError::Fault { path: _ } => Ok(Refusal::Fault),
+        StatusError::OutOfMemory => Ok(Refusal::OutOfMemory),
+    }
+}
+
+/// The lines of the states and of the report of the work tree at `root`. Blobs that ignore rules are mapped to are those of the
+/// setup.
+fn text_of_status<W: Worktree, I: Interrupt>(
+    alloc: Global,
+    worktree: &mut W,
+    interrupt: &mut I,
+    root: &[u8],
+    setup: &Setup,
+) -> Result<Bytes, Refusal>
+    ensures { top.StatusTexts W.Worktree I.Interrupt (W.precomposes worktree.old) worktree.old
+        worktree.new interrupt.old interrupt.new root.now setup.now result }
+{
+    let mut objects = setup.blobs.fork(alloc)?;
+    match status(alloc, worktree, &mut objects, interrupt, root, setup) {
+        Ok(status) => Ok(status_bytes(alloc, &status, &setup.options)?),
+        Err(error) => Err(of_status(alloc, error)?),
+    }
+}
+
+/// The text at some places, or why there is none.
+fn text_at<W: Worktree, I: Interrupt>(
+    alloc: Global,
+    places: Places<'_>,
+    worktree: &mut W,
+    interrupt: &mut I,
+) -> Result<Bytes, Refusal>
+    ensures { top.AnswersStatus W.Worktree I.Interrupt worktree.old worktree.new interrupt.old
+        interrupt.new (named_by places.entry) result }
+{
+    let setup = read_setup(alloc, worktree, places.setup)?;
+    text_of_status(alloc, worktree, interrupt, places.root, &setup)
+}
+
+/// The text that the words ask for, or why there is none.
+fn text_asked<W: Worktree, I: Interrupt>(
+    alloc: Global,
+    words: &[Bytes],
+    worktree: &mut W,
+    interrupt: &mut I,
+) -> Result<Bytes, Refusal>
+    ensures { top.Answers W.Worktree I.Interrupt worktree.old worktree.new interrupt.old
+        interrupt.new (top.asked (W.precomposes worktree.old) words.now) result }
+{
+    match places_behind(b"status", worktree.precomposes(), words) {
+        Some(places) => text_at(alloc, places, worktree, interrupt),
+        None => Err(Refusal::Usage),
+    }
+}
+
+/// Answers the words of a command line: writes to `out` what became of the index paths of a work tree, and its report, or says to
+/// `err` in one line why there is nothing of that, and answers the status that the program is to end with.
+///
+/// `status ROOT SETUP` asks for that of the work tree at ROOT by the setup text at SETUP; the word `composed` stands before it
+/// exactly where the worktree composes names. The report is made first.
+///
+/// | status | where |
+/// |---|---|
+/// | 0 | what is asked for was written whole |
+/// | 1 | the interrupt was raised, and counted it |
+/// | 2 | the words are none of these, with absolute paths without `.`, `..` and NUL |
+/// | 3 | the setup is not read as a file, or has a line outside its grammar |
+/// | 4 | the walk was refused |
+/// | 5 | a configuration, `.gitmodules` or a value of `submodule.active` is outside its grammar |
+/// | 6 | the worktree failed, and counted it |
+/// | 7 | `out` refused bytes, and counted it |
+/// | 8 | want of memory |
+///
+/// With a status other than 0 and 7 nothing goes to `out`. With each status other than 0 one line goes to `err`, with 0
+/// none; a refusal of `err` changes nothing. The interrupt is asked before each directory is read.
+pub fn run_status<W: Worktree, I: Interrupt, S: Sink, E: Sink>(
+    alloc: Global,
+    words: &[Bytes],
+    worktree: &mut W,
+    interrupt: &mut I,
+    out: &mut S,
+    err: &mut E,
+) -> u8
+    // What the words ask for came to an answer: a text, or a refusal with its cause. The status, `out` and `err` are as that answer
+    // has it, and what stays is said of each.
+    ensures runs { Runs S.Sink E.Sink out.old out.new err.old err.new top.usage
+        (top.Answers W.Worktree I.Interrupt worktree.old worktree.new interrupt.old interrupt.new
+        (top.asked (W.precomposes worktree.old) words.now)) result }
+
+    // Status 0, over a told tree and with no fault counted: what `out` has is what it had, and the lines of the states and the report.
+    ensures status { (t : Names) → W.told worktree.old ≡ Some t
+        → NotIncreased (W.faults worktree.old) (W.faults worktree.new) → result ≡ 0
+        → (text : List ℕ) × (top.output_of (W.precomposes worktree.old) t words.now ≡ Some text)
+        × Appends (S.written out.old) (S.written out.new) text }
+
+    // Status 2 exactly where the words ask for nothing.
+    ensures usage { (result ≡ 2) ↔ (top.asked (W.precomposes worktree.old) words.now ≡ None) }
+
+    // Valid input, over a told tree and with nothing counted.
+    ensures complete { (t : Names) → W.told worktree.old ≡ Some t
+        → top.IsValid (W.precomposes worktree.old) t words.now
+        → NotIncreased (W.faults worktree.old) (W.faults worktree.new)
+        → NotIncreased (I.raised interrupt.old) (I.raised interrupt.new)
+        → NotIncreased (S.refusals out.old) (S.refusals out.new) → (result ≡ 0) ⊎ (result ≡ 8) }
+{
+    let answer = text_asked(alloc, words, worktree, interrupt);
+    finish(alloc, USAGE, answer, out, err)
+}

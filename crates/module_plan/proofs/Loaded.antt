@@ -1,0 +1,74 @@
+-- What files tell of submodules, or why it is not known; and the text of their plan.
+use Rattle.std.proofs.Common.{◌≡◌, ℕ, List, ◌++◌, Option, Some, None, Result, Ok, Err, IsErrOf, ap, sym, subst, ◌∙◌}
+use Rattle.std.specs.List.{flat_map}
+use Rattle.glob_rules.specs.PathSpec.{PathSpec}
+use Rattle.submodule.specs.Active.{platform}
+use Rattle.submodule.specs.declared.is_active_platform.Error.{Error as ActiveError}
+use Rattle.submodule.specs.declared.is_active_platform.Error.TheVariants as active_errors
+use Rattle.worktree_fs.specs.Tree.{Names}
+use Rattle.worktree_report.specs.declared.modules.Modules.{Modules}
+use Rattle.worktree_report.specs.declared.refusal.Misread.{Misread}
+use Rattle.worktree_report.specs.declared.refusal.Misread.TheVariants as misread
+use Rattle.worktree_report.specs.declared.refusal.Refusal.{Refusal}
+use Rattle.worktree_report.specs.declared.setup.Setup.{Setup}
+use Rattle.worktree_report.specs.Loading.{and_then, known_by, known_in, modules_in, with_specs}
+use Rattle.worktree_report.specs.Outside.{IsOutside}
+use Rattle.module_plan.specs.declared.step.ModulePlan.{ModulePlan}
+use Rattle.module_plan.specs.declared.step.Step.{Step}
+use Rattle.module_plan.specs.declared.step.Skipped.{Skipped}
+use Rattle.module_plan.specs.declared.step.Verdict.{Verdict}
+use Rattle.module_plan.specs.Lines.{plan_text, skipped_line, step_line}
+use Rattle.module_plan.specs.Plans.{Ascends, IsPlan}
+use Rattle.module_plan.specs.Run.{asking, text_by, unless_refused}
+use Rattle.module_plan.proofs.Lined.{lines-by_path}
+
+-- which refusal is answered
+pub which : {T : Type 0} {from to : Refusal} → IsErrOf {T = T} (Err from) to → from ≡ to
+which is = cc
+
+-- ---- reading the files
+
+-- where the files are outside their grammar it is not known what they tell
+pub known-misread : (t : Names) (root : List ℕ) (setup : Setup) (which : Misread) → modules_in t root setup ≡ Err which → known_in t root (asking setup) ≡ Err which
+unfolding known_in modules_in
+known-misread t root setup which e = ap (and_then (with_specs setup.options.ignore_case)) e
+
+-- nor where a value of `submodule.active` is refused
+pub known-refused : (t : Names) (root : List ℕ) (setup : Setup) (modules : Modules) (which : Misread) → modules_in t root setup ≡ Ok modules
+    → with_specs setup.options.ignore_case modules ≡ Err which → known_in t root (asking setup) ≡ Err which
+unfolding known_in modules_in
+known-refused t root setup modules which read e = ap (and_then (with_specs setup.options.ignore_case)) read ∙ e
+
+-- ---- what is outside its grammar
+
+-- the same where submodules are asked for
+pub outside-asking : (root : List ℕ) (setup : Setup) (m : Misread) → IsOutside root setup m → IsOutside root (asking setup) m
+outside-asking root setup (misread.Config at line) is = record { before = is.before; named = is.named; at_is = is.at_is; named_is = is.named_is; text = is.text }
+outside-asking root setup (misread.Modules line) is = is
+outside-asking root setup (misread.ActiveSpec at) is = is
+
+refused-spec : (modules : Modules) (found : Result (Option (List PathSpec)) ActiveError) (m : Misread) → known_by modules found ≡ Err m → (at : ℕ) × (m ≡ misread.ActiveSpec at)
+refused-spec modules (Ok specs) m is = absurd cc
+refused-spec modules (Err (active_errors.ParsePattern value at)) m is = (value, cc)
+refused-spec modules (Err (active_errors.NormalizePattern value)) m is = (value, cc)
+refused-spec modules (Err active_errors.OutOfMemory) m is = absurd cc
+
+-- a value of `submodule.active` that is refused is
+pub outside-specs : (root : List ℕ) (setup : Setup) (modules : Modules) (m : Misread) → with_specs setup.options.ignore_case modules ≡ Err m → IsOutside root (asking setup) m
+outside-specs root setup modules m is =
+    let spec = refused-spec modules (platform setup.options.ignore_case modules.config.sections) m is in
+    subst (λ (x : Misread). IsOutside root (asking setup) x) (sym spec.1) (record { modules = modules; outside = is ∙ ap (λ (x : Misread). Err x) spec.1 })
+
+-- ---- the text
+
+lines-are : (steps more : List Step) (skipped left : List Skipped) → flat_map step_line steps ≡ flat_map step_line more → skipped ≡ left → plan_text steps skipped ≡ plan_text more left
+lines-are steps more skipped left e f = ap (λ (l : List ℕ). l ++ flat_map skipped_line skipped) e ∙ ap (λ (s : List Skipped). flat_map step_line more ++ flat_map skipped_line s) f
+
+text-is : (vs : List Verdict) (made : ModulePlan) (text : List ℕ) → IsPlan vs made → Ascends made.steps.items → text ≡ plan_text made.steps.items made.skipped.items → text ≡ text_by vs
+text-is vs made text is ascends same = same ∙ lines-are made.steps.items _ made.skipped.items _ (lines-by_path _ made.steps.items is.steps ascends) is.skipped
+
+-- no value of `submodule.active` is refused, and this is the text of the plan
+pub text-given : (refused : Option ℕ) (vs : List Verdict) (made : ModulePlan) (text : List ℕ) → refused ≡ None → IsPlan vs made → Ascends made.steps.items
+    → text ≡ plan_text made.steps.items made.skipped.items → unless_refused refused (text_by vs) ≡ Some text
+text-given refused vs made text none is ascends same =
+    ap (λ (r : Option ℕ). unless_refused r (text_by vs)) none ∙ ap (λ (l : List ℕ). Some l) (sym (text-is vs made text is ascends same))

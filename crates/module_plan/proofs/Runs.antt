@@ -1,0 +1,262 @@
+-- The parts of the top call, put together.
+use Rattle.std.proofs.Common.{◌≡◌, ◌↔◌, ◌≤◌, ℕ, List, Bool, true, Option, Some, None, Result, Ok, Err, IfOk, IfErr, OnOk, IsErrOf, ap, refl, sym, ◌∙◌, subst, option_and_then, option_map, arith}
+use Rattle.std.specs.Result.{result_ok}
+use Rattle.worktree_fs.specs.declared.sink.Sink.{Ghosts as SinkOf}
+use Rattle.worktree_fs.specs.declared.worktree.Worktree.{Ghosts as WorktreeOf}
+use Rattle.worktree_fs.specs.Causes.{Increased, NotIncreased}
+use Rattle.worktree_fs.specs.Kept.{Asks}
+use Rattle.worktree_fs.specs.Tree.{Names, look}
+use Rattle.worktree_report.specs.declared.known.Known.{Known}
+use Rattle.worktree_report.specs.declared.modules.Modules.{Modules}
+use Rattle.worktree_report.specs.declared.refusal.Misread.{Misread}
+use Rattle.worktree_report.specs.declared.refusal.Refusal.{Refusal}
+use Rattle.worktree_report.specs.declared.refusal.Refusal.TheVariants as refusals
+use Rattle.worktree_report.specs.declared.setup.Setup.{Setup}
+use Rattle.worktree_report.specs.Converted.{IsOfReading}
+use Rattle.worktree_report.specs.Ends.{Ends}
+use Rattle.worktree_report.specs.Loading.{known_in, modules_in, with_specs}
+use Rattle.worktree_report.specs.Loads.{LoadsFiles}
+use Rattle.worktree_report.specs.Outside.{IsOutside}
+use Rattle.worktree_report.specs.Run.{SetupRefuses}
+use Rattle.worktree_report.specs.SetupAt.{setup_at}
+use Rattle.worktree_report.specs.Words.{Places}
+use Rattle.worktree_report.specs.Written.{Appends}
+use Rattle.worktree_report.proofs.Runs.{Rose-before, ends_in_two, ends_in_zero, ends_of_usage}
+use Rattle.module_plan.specs.Run as top
+use Rattle.module_plan.proofs.Loaded.{known-misread, known-refused, outside-asking, outside-specs, which}
+
+-- a fault of a part is one of the whole
+pub planning-weaker : (Failed Broken : Type 0) → (Failed → Broken) → (refusal : Refusal) → top.IsOfPlanning Failed refusal → top.IsOfPlanning Broken refusal
+planning-weaker Failed Broken weaker refusals.Interrupted of = of
+planning-weaker Failed Broken weaker refusals.Usage of = of
+planning-weaker Failed Broken weaker (refusals.Setup line) of = of
+planning-weaker Failed Broken weaker (refusals.Misread misread) of = of
+planning-weaker Failed Broken weaker (refusals.Walk word path) of = of
+planning-weaker Failed Broken weaker refusals.Fault of = weaker of
+planning-weaker Failed Broken weaker refusals.Output of = of
+planning-weaker Failed Broken weaker refusals.OutOfMemory of = of
+
+-- ---- the plan by a setup
+
+module _ {W : Type 0} {w : WorktreeOf W} {w0 w1 : W} {root : List ℕ} {setup : Setup} {most : ℕ} where
+  -- what tells of submodules was not read
+  pub PlansText-unloaded : (refusal : Refusal)
+      → ((t : Names) → w.told w0 ≡ Some t → (m : Misread) → IsErrOf {T = Modules} (Err refusal) (refusals.Misread m) → modules_in t root setup ≡ Err m)
+      → ((m : Misread) → IsErrOf {T = Modules} (Err refusal) (refusals.Misread m) → IsOutside root setup m)
+      → top.IsOfPlanning (Increased (w.faults w0) (w.faults w1)) refusal → LoadsFiles w w0 w1 most → top.PlansText w w0 w1 root setup (Err refusal)
+  PlansText-unloaded refusal outside about of loads =
+      record {
+        gives = λ t told. tt;
+        safe = λ t told. tt;
+        misread = λ t told m is. known-misread t root setup m (outside t told m (ap Err (which is)));
+        about = λ m is. record { asked = refl; outside = outside-asking root setup m (about m (ap Err (which is))) };
+        refused = of;
+        tree = loads.tree;
+        faults = loads.faults;
+        list_faults = loads.list_faults;
+        lists = loads.lists;
+        precomposes = loads.precomposes;
+      }
+
+text-loaded : (t : Names) (root : List ℕ) (setup : Setup) (modules : Modules) (answer : Result (List ℕ) Refusal) → modules_in t root setup ≡ Ok modules
+    → IfOk answer (λ text. top.text_of_modules t root setup.options.ignore_case modules ≡ Some text) → IfOk answer (λ text. top.text_in t root setup ≡ Some text)
+text-loaded t root setup modules (Ok text) read is = ap (λ r. option_and_then (top.text_of_modules t root setup.options.ignore_case) (result_ok r)) read ∙ is
+text-loaded t root setup modules (Err refusal) read is = tt
+
+safe-loaded : (t : Names) (root : List ℕ) (setup : Setup) (modules : Modules) (answer : Result (List ℕ) Refusal) → modules_in t root setup ≡ Ok modules
+    → OnOk answer (top.IsSafePlanOf t root setup.options.ignore_case modules) → OnOk answer (top.IsSafeIn t root setup)
+safe-loaded t root setup modules (Ok text) read safe = record { modules = modules; read = read; safe = safe }
+safe-loaded t root setup modules (Err refusal) read safe = tt
+
+refused-later : (answer : Result (List ℕ) Refusal) (Failed Broken : Type 0) → (Failed → Broken) → IfErr answer (top.IsOfPlanning Failed) → IfErr answer (top.IsOfPlanning Broken)
+refused-later (Ok text) Failed Broken weaker of = tt
+refused-later (Err refusal) Failed Broken weaker of = planning-weaker Failed Broken weaker refusal of
+
+module _ {W : Type 0} {w : WorktreeOf W} {w0 w1 w2 : W} {root : List ℕ} {setup : Setup} {most : ℕ} where
+  -- the plan is made of what was read
+  pub PlansText-loaded : (modules : Modules) (answer : Result (List ℕ) Refusal) → ((t : Names) → w.told w0 ≡ Some t → modules_in t root setup ≡ Ok modules) → LoadsFiles w w0 w1 most
+      → ((t : Names) → w.told w1 ≡ Some t → IfOk answer (λ text. top.text_of_modules t root setup.options.ignore_case modules ≡ Some text))
+      → ((t : Names) → w.told w1 ≡ Some t → OnOk answer (top.IsSafePlanOf t root setup.options.ignore_case modules))
+      → ((m : Misread) → IsErrOf answer (refusals.Misread m) → with_specs setup.options.ignore_case modules ≡ Err m)
+      → IfErr answer (top.IsOfPlanning (Increased (w.faults w1) (w.faults w2))) → Asks w w1 w2 → top.PlansText w w0 w2 root setup answer
+  PlansText-loaded modules answer read loads gives safe outside of asks =
+      record {
+        gives = λ t told. text-loaded t root setup modules answer (read t told) (gives t (loads.tree ∙ told));
+        safe = λ t told. safe-loaded t root setup modules answer (read t told) (safe t (loads.tree ∙ told));
+        misread = λ t told m is. known-refused t root setup modules m (read t told) (outside m is);
+        about = λ m is. record { asked = refl; outside = outside-specs root setup modules m (outside m is) };
+        refused = refused-later answer _ _ (Rose-before _ _ _ loads.faults) of;
+        tree = asks.tree ∙ loads.tree;
+        faults = omega (arith, loads.faults, asks.faults);
+        list_faults = asks.list_faults ∙ loads.list_faults;
+        lists = asks.lists ∙ loads.lists;
+        precomposes = asks.precomposes ∙ loads.precomposes;
+      }
+
+-- ---- the plan at some places
+
+is_read : {a : Setup} {line : ℕ} → Ok a ≡ Err line → ⊥
+is_read e = absurd cc
+
+is_known : {known : Option Known} {m : Misread} → Ok known ≡ Err m → ⊥
+is_known e = absurd cc
+
+same_setup : {a b : Setup} (r : Result Setup ℕ) → r ≡ Ok a → r ≡ Ok b → a ≡ b
+same_setup r e f = cc
+
+call-read : (Failed : Type 0) (refusal : Refusal) → IsOfReading refusal → (refusal ≡ refusals.Fault → Failed) → top.IsOfCall Failed refusal
+call-read Failed refusals.Interrupted of fault = of
+call-read Failed refusals.Usage of fault = of
+call-read Failed (refusals.Setup line) of fault = tt
+call-read Failed (refusals.Misread m) of fault = tt
+call-read Failed (refusals.Walk word path) of fault = of
+call-read Failed refusals.Fault of fault = fault refl
+call-read Failed refusals.Output of fault = of
+call-read Failed refusals.OutOfMemory of fault = tt
+
+call-planned : (Failed Broken : Type 0) → (Failed → Broken) → (answer : Result (List ℕ) Refusal) → IfErr answer (top.IsOfPlanning Failed) → IfErr answer (top.IsOfCall Broken)
+call-planned Failed Broken weaker (Ok text) of = tt
+call-planned Failed Broken weaker (Err refusals.Interrupted) of = of
+call-planned Failed Broken weaker (Err refusals.Usage) of = of
+call-planned Failed Broken weaker (Err (refusals.Setup line)) of = tt
+call-planned Failed Broken weaker (Err (refusals.Misread m)) of = tt
+call-planned Failed Broken weaker (Err (refusals.Walk word path)) of = of
+call-planned Failed Broken weaker (Err refusals.Fault) of = weaker of
+call-planned Failed Broken weaker (Err refusals.Output) of = of
+call-planned Failed Broken weaker (Err refusals.OutOfMemory) of = tt
+
+output-is : (t : Names) (places : Places) (setup : Setup) (text : List ℕ) → setup_at (look t places.setup true) ≡ Ok setup → top.text_in t places.root setup ≡ Some text → top.output_at t places ≡ Some text
+unfolding top.output_at
+output-is t places setup text read is = rw read is
+
+output-planned : (t : Names) (places : Places) (setup : Setup) (answer : Result (List ℕ) Refusal) → setup_at (look t places.setup true) ≡ Ok setup
+    → IfOk answer (λ text. top.text_in t places.root setup ≡ Some text) → IfOk answer (λ text. top.output_at t places ≡ Some text)
+output-planned t places setup (Ok text) read is = output-is t places setup text read is
+output-planned t places setup (Err refusal) read is = tt
+
+safe-planned : (t : Names) (places : Places) (setup : Setup) (answer : Result (List ℕ) Refusal) → setup_at (look t places.setup true) ≡ Ok setup
+    → OnOk answer (top.IsSafeIn t places.root setup) → OnOk answer (top.IsSafePlan t places)
+safe-planned t places setup (Ok text) read safe = record { setup = setup; read = read; safe = safe }
+safe-planned t places setup (Err refusal) read safe = tt
+
+module _ {W : Type 0} (w : WorktreeOf W) (w0 w1 : W) (places : Places) where
+  no_setup : (refusal : Refusal) → IsOfReading refusal
+      → ((t : Names) → w.told w0 ≡ Some t → (line : ℕ) → refusal ≡ refusals.Setup line → SetupRefuses t places line)
+      → (refusal ≡ refusals.Fault → Increased (w.faults w0) (w.faults w1))
+      → (t : Names) → w.told w0 ≡ Some t → NotIncreased (w.faults w0) (w.faults w1) → top.IsReady t places → refusal ≡ refusals.OutOfMemory
+  no_setup refusals.Interrupted of outside fault t told quiet ready = absurd of
+  no_setup refusals.Usage of outside fault t told quiet ready = absurd of
+  no_setup (refusals.Setup line) of outside fault t told quiet ready = absurd (is_read (sym ready.read ∙ outside t told line refl))
+  no_setup (refusals.Misread m) of outside fault t told quiet ready = absurd of
+  no_setup (refusals.Walk word path) of outside fault t told quiet ready = absurd of
+  no_setup refusals.Fault of outside fault t told quiet ready = absurd (omega (arith, fault refl, quiet))
+  no_setup refusals.Output of outside fault t told quiet ready = absurd of
+  no_setup refusals.OutOfMemory of outside fault t told quiet ready = refl
+
+module _ {W : Type 0} {w : WorktreeOf W} {w0 w1 : W} {places : Places} where
+  -- the setup is not read
+  pub AnswersPlan-unread : (refusal : Refusal) → IsOfReading refusal
+      → ((t : Names) → w.told w0 ≡ Some t → (line : ℕ) → refusal ≡ refusals.Setup line → SetupRefuses t places line)
+      → (refusal ≡ refusals.Fault → Increased (w.faults w0) (w.faults w1))
+      → w.told w1 ≡ w.told w0 → w.faults w0 ≤ w.faults w1 → w.list_faults w1 ≡ w.list_faults w0 → w.lists w1 ≡ w.lists w0 → w.precomposes w1 ≡ w.precomposes w0
+      → top.AnswersPlan w w0 w1 places (Err refusal)
+  AnswersPlan-unread refusal of outside fault tree faults list_faults lists composes =
+      record {
+        gives = λ t told. tt;
+        safe = λ t told. tt;
+        refused = call-read _ refusal of fault;
+        setup = λ t told line is. outside t told line (which is);
+        misread = λ t told m is. absurd (subst IsOfReading (which is) of);
+        misread_about = λ m is. absurd (subst IsOfReading (which is) of);
+        complete = λ t told quiet ready. no_setup w w0 w1 places refusal of outside fault t told quiet ready;
+        tree = tree;
+        faults = faults;
+        list_faults = list_faults;
+        lists = lists;
+        precomposes = composes;
+      }
+
+module _ {W : Type 0} {w : WorktreeOf W} {w0 w1 w2 : W} {places : Places} (setup : Setup) (read : (t : Names) → w.told w0 ≡ Some t → setup_at (look t places.setup true) ≡ Ok setup)
+    (tree : w.told w1 ≡ w.told w0) (faults : w.faults w0 ≤ w.faults w1) where
+  no_plan : (answer : Result (List ℕ) Refusal) → top.PlansText w w1 w2 places.root setup answer
+      → (t : Names) → w.told w0 ≡ Some t → NotIncreased (w.faults w0) (w.faults w2) → top.IsReady t places → IfErr answer (λ refusal. refusal ≡ refusals.OutOfMemory)
+  no_plan (Ok text) plans t told quiet ready = tt
+  no_plan (Err refusals.Interrupted) plans t told quiet ready = absurd plans.refused
+  no_plan (Err refusals.Usage) plans t told quiet ready = absurd plans.refused
+  no_plan (Err (refusals.Setup line)) plans t told quiet ready = absurd plans.refused
+  no_plan (Err (refusals.Misread m)) plans t told quiet ready =
+      absurd (is_known (sym (subst (λ (s : Setup). known_in t places.root (top.asking s) ≡ Ok ready.known) (same_setup _ ready.read (read t told)) ready.known_is) ∙ plans.misread t (tree ∙ told) m refl))
+  no_plan (Err (refusals.Walk word path)) plans t told quiet ready = absurd plans.refused
+  no_plan (Err refusals.Fault) plans t told quiet ready = absurd (omega (arith, faults, plans.refused, quiet))
+  no_plan (Err refusals.Output) plans t told quiet ready = absurd plans.refused
+  no_plan (Err refusals.OutOfMemory) plans t told quiet ready = refl
+
+  -- the plan is made by the setup that was read
+  pub AnswersPlan-planned : (answer : Result (List ℕ) Refusal) → w.list_faults w1 ≡ w.list_faults w0 → w.lists w1 ≡ w.lists w0 → w.precomposes w1 ≡ w.precomposes w0
+      → top.PlansText w w1 w2 places.root setup answer → top.AnswersPlan w w0 w2 places answer
+  AnswersPlan-planned answer list_faults lists composes plans =
+      record {
+        gives = λ t told. output-planned t places setup answer (read t told) (plans.gives t (tree ∙ told));
+        safe = λ t told. safe-planned t places setup answer (read t told) (plans.safe t (tree ∙ told));
+        refused = call-planned _ _ (Rose-before _ _ _ faults) answer plans.refused;
+        setup = λ t told line is. absurd (subst (λ r. IfErr r (top.IsOfPlanning (Increased (w.faults w1) (w.faults w2)))) is plans.refused);
+        misread = λ t told m is. record { setup = setup; read = read t told; misread = plans.misread t (tree ∙ told) m is };
+        misread_about = λ m is. record { setup = setup; read = read; about = plans.about m is };
+        complete = λ t told quiet ready. no_plan answer plans t told quiet ready;
+        tree = plans.tree ∙ tree;
+        faults = omega (arith, faults, plans.faults);
+        list_faults = plans.list_faults ∙ list_faults;
+        lists = plans.lists ∙ lists;
+        precomposes = plans.precomposes ∙ composes;
+      }
+
+-- ---- what the words ask for
+
+-- the same of what is asked for by another name
+pub AnswersAsked-named : {W : Type 0} (w : WorktreeOf W) (w0 w1 : W) (answer : Result (List ℕ) Refusal) {found asked : Option Places}
+    → found ≡ asked → top.AnswersAsked w w0 w1 found answer → top.AnswersAsked w w0 w1 asked answer
+AnswersAsked-named w w0 w1 answer e answers = subst (λ (x : Option Places). top.AnswersAsked w w0 w1 x answer) e answers
+
+-- what is asked for, where it is known what was found
+pub asked-is : {C : Type 0} (f : C → Places) (words : List (List ℕ)) (before now : Bool) (found asked : Option C) → option_map f found ≡ top.asked now words → now ≡ before → found ≡ asked
+    → option_map f asked ≡ top.asked before words
+asked-is f words before now found asked e same is = ap (option_map f) (sym is) ∙ e ∙ ap (λ (x : Bool). top.asked x words) same
+
+-- ---- what follows from the status
+
+module _ {W : Type 0} (w : WorktreeOf W) (w0 w1 : W) where
+  text_asked-is : (asked : Option Places) (text : List ℕ) → top.AnswersAsked w w0 w1 asked (Ok text)
+      → (t : Names) → w.told w0 ≡ Some t → option_and_then (top.output_at t) asked ≡ Some text
+  text_asked-is None text answers t told = absurd (let is = answers.usage in cc)
+  text_asked-is (Some places) text answers t told = answers.gives t told
+
+  asks_nothing : (asked : Option Places) (answer : Result (List ℕ) Refusal) → top.AnswersAsked w w0 w1 asked answer → IsErrOf answer refusals.Usage → asked ≡ None
+  asks_nothing None answer answers is = refl
+  asks_nothing (Some places) answer answers is = absurd (subst (λ r. IfErr r (top.IsOfCall (Increased (w.faults w0) (w.faults w1)))) is answers.refused)
+
+  -- for what can be had, where nothing failed, only memory may be wanted
+  pub wants_memory_alone : (asked : Option Places) (answer : Result (List ℕ) Refusal) → top.AnswersAsked w w0 w1 asked answer
+      → (t : Names) → w.told w0 ≡ Some t → NotIncreased (w.faults w0) (w.faults w1) → top.CanBeHad t asked → IfErr answer (λ refusal. refusal ≡ refusals.OutOfMemory)
+  wants_memory_alone None answer answers t told quiet valid = absurd valid
+  wants_memory_alone (Some places) answer answers t told quiet valid = answers.complete t told quiet valid
+
+module _ {W S E : Type 0} (w : WorktreeOf W) (s : SinkOf S) (e : SinkOf E) (w0 w1 : W) (s0 s1 : S) (e0 e1 : E) (usage : List ℕ) (asked : Option Places) (status : ℕ) where
+  -- what is written with 0 is what is asked for
+  pub run_plan : (answer : Result (List ℕ) Refusal) → top.AnswersAsked w w0 w1 asked answer → Ends s e s0 s1 e0 e1 usage answer status
+      → (t : Names) → w.told w0 ≡ Some t → status ≡ 0 → (text : List ℕ) × (option_and_then (top.output_at t) asked ≡ Some text) × Appends (s.written s0) (s.written s1) text
+  run_plan answer answers ends t told zero =
+      let wrote = ends_in_zero s e s0 s1 e0 e1 usage status answer ends zero in
+      (wrote.0, text_asked-is w w0 w1 asked wrote.0 (subst (λ a. top.AnswersAsked w w0 w1 asked a) wrote.1 answers) t told, wrote.2)
+
+  -- the status is 2 exactly where the words ask for nothing
+  pub run_usage : (answer : Result (List ℕ) Refusal) → top.AnswersAsked w w0 w1 asked answer → Ends s e s0 s1 e0 e1 usage answer status → (status ≡ 2) ↔ (asked ≡ None)
+  run_usage answer answers ends = (
+    λ two. asks_nothing w w0 w1 asked answer answers (ends_in_two s e s0 s1 e0 e1 usage status answer ends two),
+    λ none. ends_in_usage answer (nothing_is (subst (λ c. top.AnswersAsked w w0 w1 c answer) none answers)) ends,
+  )
+    where
+      nothing_is : top.RefusesWords w0 w1 answer → answer ≡ Err refusals.Usage
+      nothing_is nothing = nothing.usage
+
+      ends_in_usage : (answer : Result (List ℕ) Refusal) → answer ≡ Err refusals.Usage → Ends s e s0 s1 e0 e1 usage answer status → status ≡ 2
+      ends_in_usage answer is ends = ends_of_usage s e s0 s1 e0 e1 usage status (subst (λ a. Ends s e s0 s1 e0 e1 usage a status) is ends)

@@ -1,0 +1,16 @@
+use Rattle.std.proofs.Common.{refl, None}
+use Rattle.worktree_report.specs.Named.{named_by}
+use Rattle.module_plan.proofs.Runs.{AnswersAsked-named, asked-is}
+use Rattle.module_plan.proofs.program.text_asked.Goals as goal
+
+pub returns-in-Some : goal.returns-in-Some
+returns-in-Some g c =
+    AnswersAsked-named _ _ _ _
+    (asked-is named_by c.args.words.now _ c.precomposes.result c.places_behind.result _ c.places_behind.ensures c.precomposes.ensures c.in-Some.is)
+    c.text_at.ensures
+
+pub returns-in-None : goal.returns-in-None
+returns-in-None g c =
+    AnswersAsked-named _ _ _ _
+    (asked-is named_by c.args.words.now _ c.precomposes.result c.places_behind.result None c.places_behind.ensures c.precomposes.ensures c.in-None.is)
+    (record { usage = refl; worktree = refl })

@@ -1,0 +1,10 @@
+use Rattle.module_plan.proofs.Loaded.{text-given}
+use Rattle.module_plan.proofs.program.text_of_modules.Goals as goal
+
+pub returns-in_ok-plan_bytes-in-Ok-clause-gives : goal.returns-in_ok-plan_bytes-in-Ok-clause-gives
+returns-in_ok-plan_bytes-in-Ok-clause-gives g c = λ t told.
+    text-given _ _ c.in-Ok.plan c.in_ok-plan_bytes-in-Ok.field-0 c.in-Ok.ensures.active (c.in-Ok.ensures.planned t told) c.in-Ok.ensures.ascends c.in_ok-plan_bytes-in-Ok.ensures
+
+pub returns-in_ok-plan_bytes-in-Ok-clause-safe : goal.returns-in_ok-plan_bytes-in-Ok-clause-safe
+returns-in_ok-plan_bytes-in-Ok-clause-safe g c = λ t told.
+    record { plan = c.in-Ok.plan; is_plan = c.in-Ok.ensures.planned t told; safe = c.in-Ok.ensures.safe; open_way = c.in-Ok.ensures.open_way t told }

@@ -1,0 +1,193 @@
+//! The top call.
+ghost use Rattle.std.specs.Prelude.{◌≡◌, ◌⊎◌, ◌↔◌, ℕ, List, Some, None, Ok, Err, IfOk, IfErr, OnOk, IsErrOf};
+ghost use Rattle.worktree_fs.specs.Causes.{Increased, NotIncreased};
+ghost use Rattle.worktree_fs.specs.Kept.{Asks};
+ghost use Rattle.worktree_fs.specs.Tree.{Names};
+ghost use Rattle.module_plan.specs.Run as top;
+ghost use Rattle.worktree_report.specs.Ends.{Runs};
+ghost use Rattle.worktree_report.specs.Loading.{files_of, modules_in, with_specs};
+ghost use Rattle.worktree_report.specs.Loads.{LoadsFiles};
+ghost use Rattle.worktree_report.specs.Named.{named_by};
+ghost use Rattle.worktree_report.specs.Outside.{IsOutside};
+ghost use Rattle.worktree_report.specs.Written.{Appends};
+ghost use Rattle.worktree_report.specs.declared.refusal.Misread.{Misread as Place};
+
+use crate::error::ModuleError;
+use crate::lines::plan_bytes;
+use crate::planned::plan;
+use gitbase_core::Bytes;
+use glob_rules::pathspec::Defaults;
+use std::alloc::Global;
+use worktree_fs::{Interrupt, Sink, Worktree};
+use worktree_report::{
+    Misread, Modules, Places, Refusal, Setup, finish, load_modules, of_report, places_behind,
+    read_setup,
+};
+
+/// The line for words that ask for nothing.
+const USAGE: &[u8] = b"usage: modules ROOT SETUP\n";
+
+impl From<ModuleError> for Refusal {
+    ghost use Rattle.std.specs.Prelude.{◌≡◌};
+    ghost use Rattle.module_plan.specs.Run.{of_module};
+
+    ghost from_gives = { λ error refusal. refusal ≡ of_module error };
+
+    fn from(error: ModuleError) -> Refusal {
+        match error {
+            ModuleError::ActiveSpec { value } => {
+                Refusal::Misread(Misread::ActiveSpec { at: value })
+            }
+            ModuleError::Fault { path: _ } => Refusal::Fault,
+            ModuleError::OutOfMemory => Refusal::OutOfMemory,
+        }
+    }
+}
+
+/// What a work tree and the configurations of a setup tell of submodules.
+fn modules_of<W: Worktree>(
+    alloc: Global,
+    worktree: &mut W,
+    root: &[u8],
+    setup: &Setup,
+) -> Result<Modules, Refusal>
+    ensures gives { (t : Names) → W.told worktree.old ≡ Some t
+        → IfOk result (λ modules. modules_in t root.now setup.now ≡ Ok modules) }
+    ensures misread { (t : Names) → W.told worktree.old ≡ Some t → (which : Place)
+        → IsErrOf result (Refusal.Misread which) → modules_in t root.now setup.now ≡ Err which }
+    ensures outside { (which : Place) → IsErrOf result (Refusal.Misread which)
+        → IsOutside root.now setup.now which }
+    ensures refused { IfErr result (top.IsOfPlanning (Increased (W.faults worktree.old)
+        (W.faults worktree.new))) }
+    ensures loads { LoadsFiles W.Worktree worktree.old worktree.new (files_of setup.now) }
+{
+    match load_modules(alloc, worktree, root, setup) {
+        Ok(modules) => Ok(modules),
+        Err(error) => Err(of_report(alloc, error)?),
+    }
+}
+
+/// The text of the plan that files ask for.
+fn text_of_modules<W: Worktree>(
+    alloc: Global,
+    worktree: &mut W,
+    root: &[u8],
+    ignore_case: bool,
+    modules: &Modules,
+) -> Result<Bytes, Refusal>
+    ensures gives { (t : Names) → W.told worktree.old ≡ Some t → IfOk result
+        (λ text. top.text_of_modules t root.now ignore_case modules.now ≡ Some text) }
+    ensures safe { (t : Names) → W.told worktree.old ≡ Some t
+        → OnOk result (top.IsSafePlanOf t root.now ignore_case modules.now) }
+    ensures misread { (which : Place) → IsErrOf result (Refusal.Misread which)
+        → with_specs ignore_case modules.now ≡ Err which }
+    ensures refused { IfErr result (top.IsOfPlanning (Increased (W.faults worktree.old)
+        (W.faults worktree.new))) }
+    ensures keeps { Asks W.Worktree worktree.old worktree.new }
+{
+    let defaults = Defaults { ignore_case };
+    match plan(
+        alloc,
+        worktree,
+        root,
+        &modules.file,
+        &modules.config,
+        defaults,
+    ) {
+        Ok(plan) => Ok(plan_bytes(alloc, &plan)?),
+        Err(error) => Err(Refusal::from(error)),
+    }
+}
+
+/// The text of the plan for the work tree at `root`, by a setup.
+fn planned_text<W: Worktree>(
+    alloc: Global,
+    worktree: &mut W,
+    root: &[u8],
+    setup: &Setup,
+) -> Result<Bytes, Refusal>
+    ensures { top.PlansText W.Worktree worktree.old worktree.new root.now setup.now result }
+{
+    let modules = modules_of(alloc, worktree, root, setup)?;
+    text_of_modules(alloc, worktree, root, setup.options.ignore_case, &modules)
+}
+
+/// The text of the plan at some places.
+fn text_at<W: Worktree>(
+    alloc: Global,
+    places: Places<'_>,
+    worktree: &mut W,
+) -> Result<Bytes, Refusal>
+    ensures { top.AnswersPlan W.Worktree worktree.old worktree.new (named_by places.entry) result }
+{
+    let setup = read_setup(alloc, worktree, places.setup)?;
+    planned_text(alloc, worktree, places.root, &setup)
+}
+
+/// The text that the words ask for, or why there is none.
+fn text_asked<W: Worktree>(
+    alloc: Global,
+    words: &[Bytes],
+    worktree: &mut W,
+) -> Result<Bytes, Refusal>
+    ensures { top.AnswersAsked W.Worktree worktree.old worktree.new
+        (top.asked (W.precomposes worktree.old) words.now) result }
+{
+    match places_behind(b"modules", worktree.precomposes(), words) {
+        Some(places) => text_at(alloc, places, worktree),
+        None => Err(Refusal::Usage),
+    }
+}
+
+/// Answers the words of a command line: writes to `out` what an update of the submodules would do, or says to `err` in one
+/// line why there is no such plan, and answers the status that the program is to end with. It carries out nothing.
+///
+/// `modules ROOT SETUP` asks for the plan of the work tree at ROOT by the setup text at SETUP; the word `composed` stands before
+/// it exactly where the worktree composes names. Configurations and `.gitmodules` are read as for a report that tells of
+/// submodules, whatever the setup says of them.
+///
+/// | status | where |
+/// |---|---|
+/// | 0 | the plan was written whole |
+/// | 2 | the words are none of these, with absolute paths without `.`, `..` and NUL |
+/// | 3 | the setup is not read as a file, or has a line outside its grammar |
+/// | 5 | a configuration, `.gitmodules` or a value of `submodule.active` is outside its grammar |
+/// | 6 | the worktree failed, and counted it |
+/// | 7 | `out` refused bytes, and counted it |
+/// | 8 | want of memory |
+///
+/// With a status other than 0 and 7 nothing goes to `out`. With each status other than 0 one line goes to `err`, with 0
+/// none; a refusal of `err` changes nothing. The interrupt is not asked.
+pub fn run_modules<W: Worktree, I: Interrupt, S: Sink, E: Sink>(
+    alloc: Global,
+    words: &[Bytes],
+    worktree: &mut W,
+    interrupt: &mut I,
+    out: &mut S,
+    err: &mut E,
+) -> u8
+    // What the words ask for came to an answer: a text, or a refusal with its cause. The status, `out` and `err` are as that answer
+    // has it, and what stays is said of each.
+    ensures runs { Runs S.Sink E.Sink out.old out.new err.old err.new top.usage
+        (top.Answers W.Worktree I.Interrupt worktree.old worktree.new interrupt.old interrupt.new
+        (top.asked (W.precomposes worktree.old) words.now)) result }
+
+    // Status 0, over a told tree and with no fault counted: what `out` has is what it had, and the lines of the plan.
+    ensures plan { (t : Names) → W.told worktree.old ≡ Some t
+        → NotIncreased (W.faults worktree.old) (W.faults worktree.new) → result ≡ 0
+        → (text : List ℕ) × (top.output_of (W.precomposes worktree.old) t words.now ≡ Some text)
+        × Appends (S.written out.old) (S.written out.new) text }
+
+    // Status 2 exactly where the words ask for nothing.
+    ensures usage { (result ≡ 2) ↔ (top.asked (W.precomposes worktree.old) words.now ≡ None) }
+
+    // Valid input, over a told tree and with nothing counted.
+    ensures complete { (t : Names) → W.told worktree.old ≡ Some t
+        → top.IsValid (W.precomposes worktree.old) t words.now
+        → NotIncreased (W.faults worktree.old) (W.faults worktree.new)
+        → NotIncreased (I.raised interrupt.old) (I.raised interrupt.new)
+        → NotIncreased (S.refusals out.old) (S.refusals out.new) → (result ≡ 0) ⊎ (result ≡ 8) }
+{
+    let answer = text_asked(alloc, words, worktree);
+    finish(alloc, USAGE, answer, out, err)
+}

@@ -1,0 +1,39 @@
+-- What holds of a report and of its text over any worktree, whatever failed.
+use Rattle.std.specs.Prelude.{◌≡◌, ◌-◌, ◌^◌, min, ℕ, Bool, List, [], map, length, false, Option, Some, None, Ok, is_some, true}
+use Rattle.std.specs.List.{AllByRecursion}
+use Rattle.worktree_fs.specs.Paths.{full_path}
+use Rattle.worktree_fs.specs.Tree.{Names}
+use Rattle.dir_walk.specs.Distinct.{Ascends}
+use Rattle.dir_walk.specs.Rooting.{IsNormalized}
+use Rattle.dir_walk.specs.Walks.{GivesFrom}
+use Rattle.worktree_report.specs.declared.known.Known.{Known}
+use Rattle.worktree_report.specs.declared.report.Report.{Report}
+use Rattle.worktree_report.specs.declared.report.ReportEntry.{ReportEntry}
+use Rattle.worktree_report.specs.declared.setup.Setup.{Setup}
+use Rattle.worktree_report.specs.Asked.{asked_of}
+use Rattle.worktree_report.specs.Lines.{text_with}
+use Rattle.worktree_report.specs.Loading.{known_in}
+use Rattle.worktree_report.specs.Submodules.{emission_in, facts_in}
+
+-- The entries ascend strictly by path, so that none stands twice, and `returned_entries` is their number. Their paths are at or
+-- beneath a traversal root that was asked for and that the report names, or there is one at most, on the way to it. With each
+-- stands the submodule at its path by what is known of submodules: over a told tree what the tree tells, and nothing where
+-- the setup does not ask for submodules.
+pub record IsOrderly (composes : Bool) (told : Option Names) (root : List ℕ) (setup : Setup) (r : Report) : Type 0 where
+  pub ascends : Ascends (map emission_in r.entries)
+  pub counted : r.outcome.returned_entries ≡ min (length r.entries) (2 ^ 64 - 1)
+  pub start : List ℕ
+  pub asked : IsNormalized (asked_of composes root setup) setup.root start
+  pub named : r.root ≡ full_path root start
+  pub once : GivesFrom start (Some []) (Some (map emission_in r.entries))
+  pub known : Option Known
+  pub known_is : (t : Names) → told ≡ Some t → known_in t root setup ≡ Ok known
+  pub asked_for : setup.options.submodules ≡ true → is_some known ≡ true
+  pub unasked : setup.options.submodules ≡ false → known ≡ None
+  pub facts : AllByRecursion (λ (entry : ReportEntry). entry.facts ≡ facts_in known entry.entry.rela_path) r.entries
+
+-- this is the text of such a report
+pub record IsOrderlyText (composes : Bool) (told : Option Names) (root : List ℕ) (setup : Setup) (text : List ℕ) : Type 0 where
+  pub made : Report
+  pub orderly : IsOrderly composes told root setup made
+  pub text_is : text ≡ text_with setup.options made
