@@ -1,6 +1,6 @@
 -- What a search in folded order finds, and what is the first in an index.
-use Rattle.std.proofs.Common.{◌≡◌, ℕ, zero, suc, ◌+◌, ◌-◌, ◌<◌, ◌≤◌, Bool, true, false, List, [], ◌∷◌, ◌++◌, length, drop, get_or, Option, Some, None, refl, sym, ap, ◌∙◌, arith, inl, inr}
-use Rattle.std.specs.Prelude.{All, Contains, find, slice_get, nat_eq}
+use Rattle.std.proofs.Common.{◌≡◌, ℕ, zero, suc, ◌+◌, ◌-◌, ◌<◌, ◌≤◌, Bool, true, false, List, [], ◌∷◌, ◌++◌, length, drop, get_or, Option, Some, None, refl, sym, ap, ◌∙◌, is_some, arith, inl, inr}
+use Rattle.std.specs.Prelude.{All, Contains, find, take, slice_get, nat_eq}
 use Rattle.std.specs.Cmp.{IsTotalOrder}
 use Rattle.std.specs.List.{position_or_len, slice_range, range_with_len, starts_with}
 use Rattle.std.specs.Ordering.{MatchOrdering, nat_cmp, is_lt, is_le, ordering_then, ordering_reverse}
@@ -220,3 +220,35 @@ module _ (path : List ℕ) (entries : List IndexEntry) (numbers : List ℕ) (is 
             let found = in_run k d low h in
             absurd (omega (arith, found.1, ap length empty))
         fails k d low false h = h
+
+    -- an entry stands beneath the path exactly where the run has a number
+    pub some-fold_case : start < end → is_some (entry_beneath_icase path entries) ≡ true
+    some-fold_case lt = by_entry (slice_get entries number) refl (entry_beneath_icase path entries) refl
+      where
+        number : ℕ
+        number = get_or numbers start 0
+
+        test : key_begins (folded_path_of entries) (fold_case (path ++ 47 ∷ [])) number ≡ true
+        test = run.inside start 0 (omega arith) lt
+
+        low : number < length entries
+        low =
+            let fits = run.fits in
+            within entries numbers is start 0 (omega (arith, lt))
+
+        by_entry : (o : Option IndexEntry) → slice_get entries number ≡ o → (found : Option IndexEntry) → entry_beneath_icase path entries ≡ found → is_some found ≡ true
+        by_entry None here found e = absurd (some_at entries number low here)
+        by_entry (Some x) here (Some y) e = refl
+        by_entry (Some x) here None e =
+            let fails = all-false (λ y. starts_with nat_eq (fold_case y.path) (fold_case (path ++ 47 ∷ []))) entries e number x low in
+            let same : get_or entries number x ≡ x = get_or_from_slice_get entries number x x here in
+            absurd (clash (rw here at test) (ap (λ (y : IndexEntry). starts_with nat_eq (fold_case y.path) (fold_case (path ++ 47 ∷ []))) (sym same) ∙ fails))
+          where
+            clash : starts_with nat_eq (fold_case x.path) (fold_case (path ++ 47 ∷ [])) ≡ true → starts_with nat_eq (fold_case x.path) (fold_case (path ++ 47 ∷ [])) ≡ false → ⊥
+            clash a b = cc
+
+    pub none-beneath : (start < end → ⊥) → is_some (entry_beneath_icase path entries) ≡ false
+    none-beneath not =
+        let order = run.order in
+        let size : end - start ≡ 0 = omega (arith, order, not) in
+        ap is_some (sym (no-fold_case (ap (λ n. take n (drop start numbers)) size)))

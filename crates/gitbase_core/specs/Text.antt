@@ -1,5 +1,5 @@
 -- What the texts of git's files and names have in common.
-use Rattle.std.specs.Prelude.{ℕ, Bool, nat_eq, List, [], ◌∷◌, map, drop, if◌then◌else◌}
+use Rattle.std.specs.Prelude.{ℕ, Bool, nat_eq, List, [], ◌∷◌, codes, map, drop, if◌then◌else◌}
 use Rattle.std.specs.Char.{to_ascii_lowercase}
 use Rattle.std.specs.List.{starts_with}
 use Rattle.std.specs.Str.{bytes_eq}
@@ -11,6 +11,10 @@ fold_case text = map to_ascii_lowercase text
 -- two texts are equal but for the case of ASCII letters
 abbrev pub eq_ignore_case : List ℕ → List ℕ → Bool
 eq_ignore_case left right = bytes_eq (fold_case left) (fold_case right)
+
+-- a name is `.git`, whatever the case of its ASCII letters
+abbrev pub is_dot_git : List ℕ → Bool
+is_dot_git name = eq_ignore_case name (codes ".git")
 
 -- a text without the byte order mark of UTF-8 at its start, the bytes EF BB BF
 abbrev pub without_mark : List ℕ → List ℕ

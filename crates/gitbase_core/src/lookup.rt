@@ -1,5 +1,5 @@
 //! Searches in an index without regard to the case of letters.
-ghost use Rattle.std.specs.Prelude.{◌≡◌, ◌≤◌, ◌++◌, ◌==◌, ◌||◌, [], All, Contains, IfOk, MatchOption, option_copied};
+ghost use Rattle.std.specs.Prelude.{◌≡◌, ◌≤◌, ◌++◌, ◌==◌, ◌||◌, [], All, Contains, IfOk, MatchOption, is_some, option_copied};
 ghost use Rattle.std.specs.List.{range_with_len};
 ghost use Rattle.std.specs.Ordering.{is_lt, is_eq};
 ghost use Rattle.gitbase_core.specs.Entry.{mode_bits, commit_mode, dir_mode};
@@ -71,6 +71,26 @@ impl State {
         entry_beneath(self.entries(), &lookup.numbers, dir)
     }
 
+    /// Whether the index has an entry whose path is `path` without regard to the case of ASCII letters.
+    ///
+    /// The lookup is one made from this index. A binary search tells.
+    pub fn has_entry_icase(&self, path: &[u8], lookup: &AccelerateLookup) -> bool
+        requires { IsLookupOf self.now lookup.now }
+        ensures { result ≡ is_some (entry_at_icase path.now self.now) }
+    {
+        self.entry_by_path_icase(path, lookup).is_some()
+    }
+
+    /// Whether the index has an entry whose path begins with `dir` and a slash without regard to the case of ASCII letters.
+    ///
+    /// The lookup is one made from this index. Two binary searches tell, and no pass over these entries is made.
+    pub fn has_entry_beneath_icase(&self, dir: &[u8], lookup: &AccelerateLookup) -> bool
+        requires { IsLookupOf self.now lookup.now }
+        ensures { result ≡ is_some (entry_beneath_icase dir.now self.now) }
+    {
+        has_beneath(self.entries(), &lookup.numbers, dir)
+    }
+
     /// What the index says of `path` without regard to the case of ASCII letters; a sparse directory is not told so.
     ///
     /// Let the entry at the path, and the first one beneath it, be those that the two look-ups above find. Without an
@@ -129,6 +149,18 @@ fn entry_beneath<'a>(
         return None;
     };
     entries.get(number)
+}
+
+/// Whether an entry stands beneath `dir` without regard to case.
+fn has_beneath(entries: &[IndexEntry], numbers: &[usize], dir: &[u8]) -> bool
+    requires { IsLookupOf entries.now numbers.now }
+    ensures { result ≡ is_some (entry_beneath_icase dir.now entries.now) }
+{
+    let (start, end) = run(entries, numbers, dir, b"/");
+    if start < end {
+        return true;
+    }
+    false
 }
 
 /// What an entry beneath a path says of it.
@@ -242,7 +274,8 @@ fn run(entries: &[IndexEntry], numbers: &[usize], front: &[u8], back: &[u8]) -> 
 /// Whether the path of the entry of a number, folded, stands before those that begin with `front` and `back` behind it.
 fn stands_before(entries: &[IndexEntry], number: usize, front: &[u8], back: &[u8]) -> bool
     ensures { result
-        ≡ is_lt (prefix_cmp (fold_case (front.now ++ back.now)) (folded_path_of entries.now number)) }
+        ≡ is_lt (prefix_cmp (fold_case (front.now ++ back.now))
+        (folded_path_of entries.now number)) }
 {
     prefix_cmp(path_of(entries, number), front, back).is_lt()
 }
@@ -250,7 +283,8 @@ fn stands_before(entries: &[IndexEntry], number: usize, front: &[u8], back: &[u8
 /// Whether the path of the entry of a number, folded, begins with `front` and `back` behind it, folded.
 fn stands_among(entries: &[IndexEntry], number: usize, front: &[u8], back: &[u8]) -> bool
     ensures { result
-        ≡ is_eq (prefix_cmp (fold_case (front.now ++ back.now)) (folded_path_of entries.now number)) }
+        ≡ is_eq (prefix_cmp (fold_case (front.now ++ back.now))
+        (folded_path_of entries.now number)) }
 {
     prefix_cmp(path_of(entries, number), front, back).is_eq()
 }

@@ -14,34 +14,34 @@ use Rattle.std.proofs.lemmas.Slice.Eq.{bytes_eq-Decides}
 use Rattle.worktree_fs.proofs.Distinct.{flips}
 
 -- each directory of a place is in the one above it, and the last one above is the root
-abbrev IsChain : Names → Names → List Level → Type 0
+abbrev pub IsChain : Names → Names → List Level → Type 0
 IsChain root here [] = here ≡ root
 IsChain root here (level ∷ above) = (child level.holds level.name ≡ Some (directory here)) × IsChain root level.holds above
 
-abbrev IsPlaced : Names → Place → Type 0
+abbrev pub IsPlaced : Names → Place → Type 0
 IsPlaced root place = IsChain root place.here place.above
 
-abbrev names_above : List Level → List (List ℕ)
+abbrev pub names_above : List Level → List (List ℕ)
 names_above above = map (λ (level : Level). level.name) above
 
 node_at-push : (names : List (List ℕ)) (name : List ℕ) (o : Option Node) → node_at (names ++ name ∷ []) o ≡ child (names_at (node_at names o)) name
 node_at-push [] name o = refl
 node_at-push (n ∷ names) name o = node_at-push names name (child (names_at o) n)
 
-node_at-last : (names : List (List ℕ)) (name : List ℕ) (root here : Names) → node_at (reverse names) (Some (directory root)) ≡ Some (directory here) → node_at (reverse (name ∷ names)) (Some (directory root)) ≡ child here name
+pub node_at-last : (names : List (List ℕ)) (name : List ℕ) (root here : Names) → node_at (reverse names) (Some (directory root)) ≡ Some (directory here) → node_at (reverse (name ∷ names)) (Some (directory root)) ≡ child here name
 node_at-last names name root here e =
     ap (λ (l : List (List ℕ)). node_at l (Some (directory root))) (reverse-cons name names)
     ∙ node_at-push (reverse names) name (Some (directory root))
     ∙ ap (λ (o : Option Node). child (names_at o) name) e
 
-chain-node : (root here : Names) (above : List Level) → IsChain root here above → node_at (reverse (names_above above)) (Some (directory root)) ≡ Some (directory here)
+pub chain-node : (root here : Names) (above : List Level) → IsChain root here above → node_at (reverse (names_above above)) (Some (directory root)) ≡ Some (directory here)
 chain-node root here [] chain = ap (λ (n : Names). Some (directory n)) (sym chain)
 chain-node root here (level ∷ above) chain = node_at-last (names_above above) level.name root level.holds (chain-node root level.holds above chain.1) ∙ chain.0
 
-chain-child : (root here : Names) (above : List Level) (name : List ℕ) (o : Option Node) → IsChain root here above → child here name ≡ o → node_at (reverse (name ∷ names_above above)) (Some (directory root)) ≡ o
+pub chain-child : (root here : Names) (above : List Level) (name : List ℕ) (o : Option Node) → IsChain root here above → child here name ≡ o → node_at (reverse (name ∷ names_above above)) (Some (directory root)) ≡ o
 chain-child root here above name o chain e = node_at-last (names_above above) name root here (chain-node root here above chain) ∙ e
 
-in_parent : (root here : Names) (above : List Level) → IsChain root here above → IsPlaced root (parent (record { here = here; above = above }))
+pub in_parent : (root here : Names) (above : List Level) → IsChain root here above → IsPlaced root (parent (record { here = here; above = above }))
 in_parent root here [] chain = chain
 in_parent root here (level ∷ above) chain = chain.1
 
@@ -111,7 +111,7 @@ spot-by_names root path follow = go (is_text path)
     go false = tt
 
 -- no names lead from nothing
-from_none : (names : List (List ℕ)) → node_at names None ≡ None
+pub from_none : (names : List (List ℕ)) → node_at names None ≡ None
 from_none [] = refl
 from_none (n ∷ names) = from_none names
 
@@ -141,7 +141,7 @@ missing-free root path follow name below rest e =
     ∙ obstacle-push (reverse below) name (Some (directory root)) found.0 found.1 found.2
 
 -- what was removed is gone
-bytes_same : (a b : List ℕ) → bytes_eq a b ≡ true → a ≡ b
+pub bytes_same : (a b : List ℕ) → bytes_eq a b ≡ true → a ≡ b
 bytes_same a b e = (bytes_eq-Decides a b).0 e
 
 child-absent : (name : List ℕ) (names : Names) → AllByRecursion (λ y. bytes_eq name y ≡ false) (names_of names) → child names name ≡ None
@@ -166,7 +166,7 @@ gone_more name n next rest node more false e ih below = ap (λ b. node_at (next 
 mutual
   unfolding IsDistinct
 
-  gone : (name : List ℕ) (rest : List (List ℕ)) (names : Names) → IsDistinct bytes_eq (names_of names) → AreTrees names → node_at rest (child (cut_names name rest names) name) ≡ None
+  pub gone : (name : List ℕ) (rest : List (List ℕ)) (names : Names) → IsDistinct bytes_eq (names_of names) → AreTrees names → node_at rest (child (cut_names name rest names) name) ≡ None
   gone name rest none distinct trees = from_none rest
   gone name [] (named n node more) distinct trees = gone_last name n node more (bytes_eq n name) refl distinct.0 (gone name [] more distinct.1 trees.1)
   gone name (next ∷ rest) (named n node more) distinct trees =

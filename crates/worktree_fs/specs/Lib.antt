@@ -1,6 +1,7 @@
 pub mod Answers
 pub mod ByNames
 pub mod Causes
+pub mod Changed
 pub mod Changes
 pub mod Codes
 pub mod Composed
@@ -11,6 +12,7 @@ pub mod Kept
 pub mod Memory
 pub mod Naming
 pub mod Order
+pub mod Outlines
 pub mod PathStack
 pub mod Paths
 pub mod Placed

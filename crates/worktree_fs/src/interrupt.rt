@@ -117,8 +117,11 @@ impl Interrupt for PlannedInterrupt {
 
     fn absorb(&mut self, other: PlannedInterrupt)
         ensures state { self.new
-            ≡ record
-            { first = self.old.first; questions = with_more self.old.questions other.questions; raised = with_more self.old.raised other.raised } }
+            ≡ record {
+              first = self.old.first;
+              questions = with_more self.old.questions other.questions;
+              raised = with_more self.old.raised other.raised;
+            } }
         ensures later { self.old.raised ≤ self.new.raised }
     {
         self.questions = self.questions.saturating_add(other.questions);

@@ -26,11 +26,11 @@ mod stored;
 mod trace;
 
 use crate::composed::as_kept;
-use crate::names::{full_path, is_absolute, is_name};
+use crate::names::{full_path, is_name};
 use crate::{
     ListError, MakeAnswer, NameList, NodeKind, ReadAnswer, ReadError, RemoveAnswer, Worktree,
 };
-use gitbase_core::{Bytes, OutOfMemory, PathText};
+use gitbase_core::{Bytes, OutOfMemory, PathText, is_absolute};
 use grow::stored_of;
 pub use grow::{AddError, NewNode};
 use listing::list_of;
@@ -83,8 +83,17 @@ impl MemoryWorktree {
     /// A tree whose root holds nothing; takes no memory.
     pub fn new(alloc: Global, composes: bool) -> MemoryWorktree
         ensures new { result
-            ≡ record
-            { tree = none; composes = composes; is_reversed = false; plans = []; calls = no_calls; faults = 0; list_faults = 0; reads = 0; lists = 0 } }
+            ≡ record {
+              tree = none;
+              composes = composes;
+              is_reversed = false;
+              plans = [];
+              calls = no_calls;
+              faults = 0;
+              list_faults = 0;
+              reads = 0;
+              lists = 0;
+            } }
         ensures told { told_by result.tree ≡ Some none }
     {
         MemoryWorktree {
@@ -193,7 +202,8 @@ impl MemoryWorktree {
             ≡ (if fails self.old CallKind.RemoveNode then Err ReadError.Fault else Ok
             (remove_answer (spot self.old.tree path.now false))) }
         ensures tree { self.new.tree
-            ≡ (if fails self.old CallKind.RemoveNode then self.old.tree else after_remove self.old.tree (spot self.old.tree path.now false)) }
+            ≡ (if fails self.old CallKind.RemoveNode then self.old.tree
+            else after_remove self.old.tree (spot self.old.tree path.now false)) }
         ensures rest { self.new
             ≡ record (called self.old CallKind.RemoveNode) { tree = self.new.tree } }
         ensures later { self.old.faults ≤ self.new.faults }
@@ -382,7 +392,8 @@ impl Worktree for MemoryWorktree {
             ≡ (if fails self.old CallKind.RemoveNode then Err ReadError.Fault else Ok
             (remove_answer (spot self.old.tree path.now false))) }
         ensures tree { self.new.tree
-            ≡ (if fails self.old CallKind.RemoveNode then self.old.tree else after_remove self.old.tree (spot self.old.tree path.now false)) }
+            ≡ (if fails self.old CallKind.RemoveNode then self.old.tree
+            else after_remove self.old.tree (spot self.old.tree path.now false)) }
         ensures rest { self.new
             ≡ record (called self.old CallKind.RemoveNode) { tree = self.new.tree } }
         ensures told_before { told_by self.old.tree ≡ Some self.old.tree }
@@ -398,8 +409,17 @@ impl Worktree for MemoryWorktree {
     /// The tree is copied. No call of a fork is planned to fail.
     fn fork(&self, alloc: Global) -> Result<MemoryWorktree, OutOfMemory>
         ensures { IfOk result (λ fork. fork
-            ≡ record
-            { tree = self.now.tree; composes = self.now.composes; is_reversed = self.now.is_reversed; plans = []; calls = no_calls; faults = 0; list_faults = 0; reads = 0; lists = 0 }) }
+            ≡ record {
+              tree = self.now.tree;
+              composes = self.now.composes;
+              is_reversed = self.now.is_reversed;
+              plans = [];
+              calls = no_calls;
+              faults = 0;
+              list_faults = 0;
+              reads = 0;
+              lists = 0;
+            }) }
     {
         Ok(MemoryWorktree {
             root: self.root.copied(alloc)?,
@@ -416,8 +436,11 @@ impl Worktree for MemoryWorktree {
 
     fn absorb(&mut self, other: MemoryWorktree)
         ensures state { self.new
-            ≡ record self.old
-            { faults = with_more self.old.faults other.faults; list_faults = with_more self.old.list_faults other.list_faults; reads = with_more self.old.reads other.reads } }
+            ≡ record self.old {
+              faults = with_more self.old.faults other.faults;
+              list_faults = with_more self.old.list_faults other.list_faults;
+              reads = with_more self.old.reads other.reads;
+            } }
         ensures later { self.old.faults ≤ self.new.faults }
         ensures list_faults_later { self.old.list_faults ≤ self.new.list_faults }
         ensures reads_later { self.old.reads ≤ self.new.reads }

@@ -42,9 +42,12 @@ pub fn walk_at_once<W: Worktree, F: Find, I: Interrupt>(
     ensures store { AsksStore F.Find store.old store.new }
     ensures raised { I.raised interrupt.old ≤ I.raised interrupt.new }
     ensures lists { W.lists worktree.new ≡ next (W.lists worktree.old) }
-    ensures listing { IsErrOf result WalkError.List → Increased (W.faults worktree.old) (W.faults worktree.new) }
-    ensures blob { IsErrOf result WalkError.Blob → Increased (F.faults store.old) (F.faults store.new) }
-    ensures stopped { IsErrOf result WalkError.Interrupted → Increased (I.raised interrupt.old) (I.raised interrupt.new) }
+    ensures listing { IsErrOf result WalkError.List
+        → Increased (W.faults worktree.old) (W.faults worktree.new) }
+    ensures blob { IsErrOf result WalkError.Blob
+        → Increased (F.faults store.old) (F.faults store.new) }
+    ensures stopped { IsErrOf result WalkError.Interrupted
+        → Increased (I.raised interrupt.old) (I.raised interrupt.new) }
 {
     let names = match worktree.list(alloc, root, true) {
         Ok(names) => names,
@@ -72,9 +75,12 @@ fn on_worktree<W: Worktree, F: Find, I: Interrupt>(
     ensures store { AsksStore F.Find store.old store.new }
     ensures raised { I.raised interrupt.old ≤ I.raised interrupt.new }
     ensures lists { W.lists worktree.new ≡ W.lists worktree.old }
-    ensures listing { IsErrOf result WalkError.List → Increased (W.faults worktree.old) (W.faults worktree.new) }
-    ensures blob { IsErrOf result WalkError.Blob → Increased (F.faults store.old) (F.faults store.new) }
-    ensures stopped { IsErrOf result WalkError.Interrupted → Increased (I.raised interrupt.old) (I.raised interrupt.new) }
+    ensures listing { IsErrOf result WalkError.List
+        → Increased (W.faults worktree.old) (W.faults worktree.new) }
+    ensures blob { IsErrOf result WalkError.Blob
+        → Increased (F.faults store.old) (F.faults store.new) }
+    ensures stopped { IsErrOf result WalkError.Interrupted
+        → Increased (I.raised interrupt.old) (I.raised interrupt.new) }
 {
     let mut fork = worktree.fork(alloc)?;
     let result = on_store(alloc, &mut fork, store, interrupt, name);
@@ -93,9 +99,12 @@ fn on_store<W: Worktree, F: Find, I: Interrupt>(
     ensures tree { Lists W.Worktree worktree.old worktree.new }
     ensures store { AsksStore F.Find store.old store.new }
     ensures raised { I.raised interrupt.old ≤ I.raised interrupt.new }
-    ensures listing { IsErrOf result WalkError.List → Increased (W.faults worktree.old) (W.faults worktree.new) }
-    ensures blob { IsErrOf result WalkError.Blob → Increased (F.faults store.old) (F.faults store.new) }
-    ensures stopped { IsErrOf result WalkError.Interrupted → Increased (I.raised interrupt.old) (I.raised interrupt.new) }
+    ensures listing { IsErrOf result WalkError.List
+        → Increased (W.faults worktree.old) (W.faults worktree.new) }
+    ensures blob { IsErrOf result WalkError.Blob
+        → Increased (F.faults store.old) (F.faults store.new) }
+    ensures stopped { IsErrOf result WalkError.Interrupted
+        → Increased (I.raised interrupt.old) (I.raised interrupt.new) }
 {
     let mut fork = store.fork(alloc)?;
     let result = on_interrupt(alloc, worktree, &mut fork, interrupt, name);
@@ -114,9 +123,12 @@ fn on_interrupt<W: Worktree, F: Find, I: Interrupt>(
     ensures tree { Lists W.Worktree worktree.old worktree.new }
     ensures store { AsksStore F.Find store.old store.new }
     ensures raised { I.raised interrupt.old ≤ I.raised interrupt.new }
-    ensures listing { IsErrOf result WalkError.List → Increased (W.faults worktree.old) (W.faults worktree.new) }
-    ensures blob { IsErrOf result WalkError.Blob → Increased (F.faults store.old) (F.faults store.new) }
-    ensures stopped { IsErrOf result WalkError.Interrupted → Increased (I.raised interrupt.old) (I.raised interrupt.new) }
+    ensures listing { IsErrOf result WalkError.List
+        → Increased (W.faults worktree.old) (W.faults worktree.new) }
+    ensures blob { IsErrOf result WalkError.Blob
+        → Increased (F.faults store.old) (F.faults store.new) }
+    ensures stopped { IsErrOf result WalkError.Interrupted
+        → Increased (I.raised interrupt.old) (I.raised interrupt.new) }
 {
     let mut fork = interrupt.fork(alloc)?;
     let result = work(alloc, worktree, store, &mut fork, name);
@@ -135,9 +147,12 @@ fn work<W: Worktree, F: Find, I: Interrupt>(
     ensures tree { Lists W.Worktree worktree.old worktree.new }
     ensures store { AsksStore F.Find store.old store.new }
     ensures raised { I.raised interrupt.old ≤ I.raised interrupt.new }
-    ensures listing { IsErrOf result WalkError.List → Increased (W.faults worktree.old) (W.faults worktree.new) }
-    ensures blob { IsErrOf result WalkError.Blob → Increased (F.faults store.old) (F.faults store.new) }
-    ensures stopped { IsErrOf result WalkError.Interrupted → Increased (I.raised interrupt.old) (I.raised interrupt.new) }
+    ensures listing { IsErrOf result WalkError.List
+        → Increased (W.faults worktree.old) (W.faults worktree.new) }
+    ensures blob { IsErrOf result WalkError.Blob
+        → Increased (F.faults store.old) (F.faults store.new) }
+    ensures stopped { IsErrOf result WalkError.Interrupted
+        → Increased (I.raised interrupt.old) (I.raised interrupt.new) }
 {
     if interrupt.is_raised() {
         return Err(WalkError::Interrupted);

@@ -1,4 +1,5 @@
-//! The files of the system. Root may open every directory, so none that may not be opened is among them.
+//! The files of the system. Root may open every directory, so none that may not be opened is among them, and no name that
+//! is not UTF-8 can be made through the paths of the standard library.
 use crate::rows::{kind_word, parted};
 use gitbase_core::Bytes;
 use std::alloc::Global;
@@ -15,8 +16,8 @@ const ROWS: &[u8] = b"\
 kind`f`file`|follow`f`file`|kind`f/`file`|kind`l`link`|follow`l`file`|kind`d`directory`|kind`a/`link`|\
 follow`a/`directory`|kind`a/b`file`|kind`f/x`none`|kind`z`none`|kind`p`link`|follow`p`fault`1|\
 kind`z\0`none`|kind`\xff`none`|\
-read`l`link`|read`d`directory`|read`z`absent`|through`p`fault`1|through`l`f`|\
-names`d`B a b `|names`a`not`|names of`a`B a b `|names of`f`not`|names of`z`absent`|names of`p`open`1|\
+read`l`link`|read`p`link`|read`d`directory`|read`z`absent`|through`p`fault`1|through`l`f`|\
+names`d`B a b `|names`a`not`|names`p`not`|names of`a`B a b `|names of`f`not`|names of`z`absent`|names of`p`open`1|\
 composed`c`\xc3\xa4 `|names`c`a\xcc\x88 `|names`e`a\xcc\x88 \xc3\xa4 `|composed`e`entry`1|\
 real`a/../l`f`|real`z`none`|real`p`fault`1|\
 make`f`exists`|make`z/y`orphan`|make`f/y`orphan`|make`n`made`|kind`n`directory`|remove`n`directory`|\
@@ -144,6 +145,14 @@ fn answers(
     }
 }
 
+/// How many listings failed: a fault of a listing is told by a word of its own.
+fn listing_faults(want: &[u8], faults: &[u8]) -> u64 {
+    match want {
+        b"open" | b"entry" => faults.len() as u64,
+        _ => 0,
+    }
+}
+
 fn holds(rt: &HostRuntime, folder: &[u8], row: &[u8]) -> bool {
     let (question, rest) = parted(row);
     let (name, rest) = parted(rest);
@@ -153,18 +162,53 @@ fn holds(rt: &HostRuntime, folder: &[u8], row: &[u8]) -> bool {
         Some(path) => {
             answers(rt.alloc(), &mut disk, question, &path, want)
                 && disk.fault_count() == faults.len() as u64
+                && disk.list_fault_count() == listing_faults(want, faults)
         }
         None => false,
     }
 }
 
-/// A name that is longer than the system takes is a fault; a relative path is taken from the current directory.
-fn has_limits(rt: &HostRuntime) -> bool {
+/// A path that is longer than the system takes is a fault of each call, and of a listing one of listings too. A name that
+/// is too long is one of these.
+fn refuses_long(rt: &HostRuntime) -> bool {
+    let alloc = rt.alloc();
     let mut disk = DiskWorktree::new(rt, false);
-    let long = [b'x'; 5000];
-    has_kind(rt.alloc(), &mut disk, &long, false, b"fault")
-        && has_kind(rt.alloc(), &mut disk, b".", false, b"directory")
-        && disk.fault_count() == 1
+    let path = [b'x'; 5000];
+    let name = [b'x'; 300];
+    has_kind(alloc, &mut disk, &path, false, b"fault")
+        && has_kind(alloc, &mut disk, &name, false, b"fault")
+        && has_kind(alloc, &mut disk, &name, true, b"fault")
+        && reads(alloc, &mut disk, &name, false, b"fault")
+        && makes(alloc, &mut disk, &name, b"fault")
+        && disk.fault_count() == 5
+        && disk.list_fault_count() == 0
+}
+
+/// A listing of a path that is too long fails at opening; a fork's counts are added to those of the worktree.
+fn counts_long_listing(rt: &HostRuntime) -> bool {
+    let alloc = rt.alloc();
+    let mut disk = DiskWorktree::new(rt, false);
+    let Ok(fork) = disk.fork(alloc) else {
+        return false;
+    };
+    let mut fork = fork;
+    let name = [b'x'; 300];
+    let refused = lists(alloc, &mut fork, &name, false, b"open");
+    disk.absorb(fork);
+    refused && disk.fault_count() == 1 && disk.list_fault_count() == 1
+}
+
+/// A relative path is taken from the current directory, and one without links from the directory that is given.
+fn takes_relative(rt: &HostRuntime, folder: &[u8]) -> bool {
+    let alloc = rt.alloc();
+    let mut disk = DiskWorktree::new(rt, false);
+    let from_here = has_kind(alloc, &mut disk, b".", false, b"directory");
+    match disk.real_path(alloc, b"a/../l", folder) {
+        Ok(Some(real)) => from_here
+            && real.basename() == b"f".as_slice()
+            && disk.fault_count() == 0,
+        _ => false,
+    }
 }
 
 /// A folder of this process among the temporary files.
@@ -214,11 +258,13 @@ fn the_disk_answers_as_a_tree(rt: HostRuntime) -> Result<(), Fail> {
     for row in ROWS.split(|byte| *byte == b'|') {
         assert!(rt; holds(&rt, folder.as_bytes(), row), "{row:?}");
     }
+    assert!(rt; takes_relative(&rt, folder.as_bytes()));
     fs::remove_dir_all(&rt, folder.as_str())?;
     Ok(())
 }
 
 #[test]
 fn the_disk_has_limits(rt: HostRuntime) {
-    assert!(rt; has_limits(&rt));
+    assert!(rt; refuses_long(&rt));
+    assert!(rt; counts_long_listing(&rt));
 }

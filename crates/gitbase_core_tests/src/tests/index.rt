@@ -209,11 +209,18 @@ fn says_folded(
 {
     match question {
         b"says folded" => are(state.kinds_icase(path, lookup), want),
-        b"first folded" => is_at(state.entry_by_path_icase(path, lookup), want),
-        b"first beneath" => is_at(
-            state.entry_closest_to_directory_or_directory_icase(path, lookup),
-            want,
-        ),
+        b"first folded" => {
+            is_at(state.entry_by_path_icase(path, lookup), want)
+                && state.has_entry_icase(path, lookup)
+                && !state.has_entry_icase(b"none of them", lookup)
+        }
+        b"first beneath" => {
+            is_at(
+                state.entry_closest_to_directory_or_directory_icase(path, lookup),
+                want,
+            ) && state.has_entry_beneath_icase(path, lookup)
+                && !state.has_entry_beneath_icase(b"none of them", lookup)
+        }
         _ => false,
     }
 }

@@ -7,8 +7,8 @@ ghost use Rattle.worktree_fs.specs.Step.{stepped, within, is_root_below, place_o
 use super::route::Route;
 use super::search::find_child;
 use super::stored::{Entry, Inner, Stored};
-use crate::names::{is_absolute, is_dot, is_dot_dot, is_text};
-use gitbase_core::Bytes;
+use crate::names::{is_dot, is_dot_dot, is_text};
+use gitbase_core::{Bytes, is_absolute};
 
 /// What a path leads to.
 #[derive(Drop)]
@@ -95,7 +95,8 @@ fn walk<'a>(dir: &'a [Entry], is_root: bool, route: &mut Route<'a>, follow: bool
         ≡ stepped follow (place_of dir.now above) route.new.links route.new.left result }
     ensures settled { is_root ≡ true → IsSettled result }
     ensures sound { IsSound result }
-    ensures smaller { route.new.links * 2 ^ 64 + length route.new.left ≤ route.old.links * 2 ^ 64 + length route.old.left }
+    ensures smaller { route.new.links * 2 ^ 64 + length route.new.left
+        ≤ route.old.links * 2 ^ 64 + length route.old.left }
 {
     while let Some(piece) = route.next() {
         if is_dot(piece) || is_dot_dot(piece) && is_root {
@@ -125,10 +126,12 @@ fn walk<'a>(dir: &'a [Entry], is_root: bool, route: &mut Route<'a>, follow: bool
 #[cycle(walk)]
 fn onward<'a>(node: &'a Stored, route: &mut Route<'a>, follow: bool) -> Step<'a>
     ensures leads { (place : Place) (name : List ℕ)
-        → look_at (onward (λ p. resolve route.old.links follow p route.old.left) (behind route.old.links follow) follow place route.old.left name (Some node.now))
+        → look_at (onward (λ p. resolve route.old.links follow p route.old.left)
+        (behind route.old.links follow) follow place route.old.left name (Some node.now))
         ≡ stepped follow (within place) route.new.links route.new.left result }
     ensures sound { IsSound result }
-    ensures smaller { route.new.links * 2 ^ 64 + length route.new.left ≤ route.old.links * 2 ^ 64 + length route.old.left }
+    ensures smaller { route.new.links * 2 ^ 64 + length route.new.left
+        ≤ route.old.links * 2 ^ 64 + length route.old.left }
 {
     match node.inner() {
         Inner::Directory(children) => walk(children, false, route, follow),
@@ -147,10 +150,12 @@ fn onward<'a>(node: &'a Stored, route: &mut Route<'a>, follow: bool) -> Step<'a>
 fn through<'a>(node: &'a Stored, target: &'a [u8], route: &mut Route<'a>, follow: bool) -> Step<'a>
     requires { node.now ≡ link target.now }
     ensures leads { (place : Place) (name : List ℕ)
-        → look_at (onward (λ p. resolve route.old.links follow p route.old.left) (behind route.old.links follow) follow place route.old.left name (Some (link target.now)))
+        → look_at (onward (λ p. resolve route.old.links follow p route.old.left)
+        (behind route.old.links follow) follow place route.old.left name (Some (link target.now)))
         ≡ stepped follow (within place) route.new.links route.new.left result }
     ensures sound { IsSound result }
-    ensures smaller { route.new.links * 2 ^ 64 + length route.new.left ≤ route.old.links * 2 ^ 64 + length route.old.left }
+    ensures smaller { route.new.links * 2 ^ 64 + length route.new.left
+        ≤ route.old.links * 2 ^ 64 + length route.old.left }
 {
     if ends_here(route, follow) {
         return Step::Node(node);

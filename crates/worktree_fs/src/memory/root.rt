@@ -42,7 +42,8 @@ impl Model for Root {
 
     ghost view = { λ a. names_in a.entries.items };
 
-    ghost invariant = { λ a. AreSorted a.entries.items × (depth_in (names_in a.entries.items) ≤ vec_capacity a.way) };
+    ghost invariant = { λ a. AreSorted a.entries.items
+        × (depth_in (names_in a.entries.items) ≤ vec_capacity a.way) };
 }
 
 impl Root {

@@ -8,7 +8,8 @@ use super::resolve::ends_here;
 use super::route::Route;
 use super::search::search;
 use super::stored::{Entry, Inner, Stored};
-use crate::names::{is_absolute, is_dot, is_dot_dot, is_text};
+use crate::names::{is_dot, is_dot_dot, is_text};
+use gitbase_core::is_absolute;
 
 /// Where a path leads, beside the way down to the directory of it.
 #[derive(Drop)]
@@ -82,10 +83,12 @@ fn take_piece<'a>(
     requires room { depth_in (names_in root.now) ≤ vec_capacity way.old }
     ensures leads { resolve route.old.links follow (place_by (names_in root.now) way.old.items)
         (piece.now ∷ route.old.left)
-        ≡ turned follow (place_by (names_in root.now) way.new.items) route.new.links route.new.left result }
+        ≡ turned follow (place_by (names_in root.now) way.new.items) route.new.links
+        route.new.left result }
     ensures stands { TurnStands root.now way.new.items result }
     ensures room { vec_capacity way.old ≤ vec_capacity way.new }
-    ensures smaller { route.new.links * 2 ^ 64 + length route.new.left ≤ route.old.links * 2 ^ 64 + length route.old.left }
+    ensures smaller { route.new.links * 2 ^ 64 + length route.new.left
+        ≤ route.old.links * 2 ^ 64 + length route.old.left }
 {
     if is_dot(piece) {
         return Turn::Into(dir);
@@ -159,11 +162,14 @@ fn on<'a>(
     requires node { node_nth (names_in dir.now) at ≡ node.now }
     ensures leads { onward (λ p. resolve route.old.links follow p route.old.left)
         (behind route.old.links follow) follow
-        (place_by (names_in root.now) way.old.items) route.old.left (name_nth (names_in dir.now) at) (Some node.now)
-        ≡ turned follow (place_by (names_in root.now) way.new.items) route.new.links route.new.left result }
+        (place_by (names_in root.now) way.old.items) route.old.left
+        (name_nth (names_in dir.now) at) (Some node.now)
+        ≡ turned follow (place_by (names_in root.now) way.new.items) route.new.links
+        route.new.left result }
     ensures stands { TurnStands root.now way.new.items result }
     ensures room { vec_capacity way.old ≤ vec_capacity way.new }
-    ensures smaller { route.new.links * 2 ^ 64 + length route.new.left ≤ route.old.links * 2 ^ 64 + length route.old.left }
+    ensures smaller { route.new.links * 2 ^ 64 + length route.new.left
+        ≤ route.old.links * 2 ^ 64 + length route.old.left }
 {
     match node.inner() {
         Inner::Directory(entries) => {
@@ -217,10 +223,12 @@ fn through<'a>(
     ensures leads { (follow : Bool)
         → behind route.old.links follow (place_by
         (names_in root.now) way.old.items) target.now route.old.left
-        ≡ turned follow (place_by (names_in root.now) way.new.items) route.new.links route.new.left result }
+        ≡ turned follow (place_by (names_in root.now) way.new.items) route.new.links
+        route.new.left result }
     ensures stands { TurnStands root.now way.new.items result }
     ensures room { vec_capacity way.old ≤ vec_capacity way.new }
-    ensures smaller { route.new.links * 2 ^ 64 + length route.new.left ≤ route.old.links * 2 ^ 64 + length route.old.left }
+    ensures smaller { route.new.links * 2 ^ 64 + length route.new.left
+        ≤ route.old.links * 2 ^ 64 + length route.old.left }
 {
     if route.links() == 0 {
         return Turn::Endless;

@@ -1,0 +1,122 @@
+-- The name that a path misses is one of the components of the path, or of a link's target on its way; the names before it
+-- are those of the tree.
+use Rattle.std.proofs.Common.{◌≡◌, ℕ, zero, suc, Bool, true, false, not, ◌||◌, List, [], ◌∷◌, ◌++◌, Option, Some, None, reverse, if◌then◌else◌, refl, sym, ap, subst, ◌∙◌}
+use Rattle.std.specs.Str.{bytes_eq}
+use Rattle.std.specs.List.{AllByRecursion}
+use mathlib.Core.List.{reverse-cons}
+use Rattle.gitbase_core.specs.Path.{components}
+use Rattle.gitbase_core.proofs.Names.{AreNames, AreNames-components}
+use Rattle.worktree_fs.specs.Tree.{Node, Names, Place, Jump, Spot, reached, missing, nowhere, endless, file, link, directory, other, none, named, names_of, child, is_text, is_dot, is_dot_dot, is_last, trail, enter, parent, start, onward, along, behind, resolve, spot}
+use Rattle.worktree_fs.specs.Naming.{IsName, IsTree}
+use Rattle.worktree_fs.specs.Paths.{IsComponent}
+use Rattle.worktree_fs.specs.Changes.{slashed}
+use Rattle.worktree_fs.specs.ByNames.{node_at}
+use Rattle.worktree_fs.proofs.ByNames.{bytes_same}
+use Rattle.worktree_fs.proofs.NameParts.{pieces-name}
+use Rattle.worktree_fs.proofs.Regrown.{nothing_there}
+use Rattle.worktree_fs.proofs.Spelled.{component_from}
+use Rattle.worktree_fs.proofs.Subtree.{IsTree-child}
+use Rattle.worktree_fs.proofs.Texts.{pieces-join}
+
+abbrev pub AreComponents : List (List ℕ) → Type 0
+AreComponents [] = Unit {0}
+AreComponents (name ∷ names) = IsComponent name × AreComponents names
+
+from_names : (names : List (List ℕ)) → AreNames names → AreComponents names
+from_names [] are = tt
+from_names (name ∷ names) are = (component_from name are.0, from_names names are.1)
+
+AreComponents-append : (front back : List (List ℕ)) → AreComponents front → AreComponents back → AreComponents (front ++ back)
+AreComponents-append [] back are more = more
+AreComponents-append (name ∷ front) back are more = (are.0, AreComponents-append front back are.1 more)
+
+path_components : (path : List ℕ) → AreComponents (components path)
+path_components path = from_names (components path) (AreNames-components path)
+
+-- the last name of those that are missing is a component
+abbrev pub MissesComponent : Spot → Type 0
+MissesComponent (reached names node) = Unit {0}
+MissesComponent (missing [] rest) = Unit {0}
+MissesComponent (missing (name ∷ below) rest) = IsComponent name
+MissesComponent nowhere = Unit {0}
+MissesComponent endless = Unit {0}
+
+either : (b : Bool) (x y : Spot) → MissesComponent x → MissesComponent y → MissesComponent (if b then x else y)
+either true x y first second = first
+either false x y first second = second
+
+abbrev Jumps : Jump → Type 0
+Jumps jump = (place : Place) (target : List ℕ) (rest : List (List ℕ)) → AreComponents rest → MissesComponent (jump place target rest)
+
+through : (follow : Bool) (jump : Jump) → Jumps jump → (rest : List (List ℕ)) → AreComponents rest → ((place : Place) → MissesComponent (along jump follow place rest)) → (place : Place) (name : List ℕ) → IsComponent name → (o : Option Node)
+    → MissesComponent (onward (λ s. along jump follow s rest) jump follow place rest name o)
+through follow jump jumps rest are goes place name is None = is
+through follow jump jumps rest are goes place name is (Some (directory names)) = goes (enter place name names)
+through follow jump jumps rest are goes place name is (Some (link target)) = either (follow || not (is_last rest)) _ _ (jumps place target rest are) tt
+through follow jump jumps rest are goes place name is (Some (file bytes)) = either (is_last rest) (reached (name ∷ trail place) (file bytes)) nowhere tt tt
+through follow jump jumps rest are goes place name is (Some other) = either (is_last rest) (reached (name ∷ trail place) other) nowhere tt tt
+
+steps : (follow : Bool) (jump : Jump) → Jumps jump → (rest : List (List ℕ)) → AreComponents rest → (place : Place) → MissesComponent (along jump follow place rest)
+steps follow jump jumps [] are place = tt
+steps follow jump jumps (piece ∷ rest) are place =
+    either (is_dot piece) _ _ (steps follow jump jumps rest are.1 place)
+    (either (is_dot_dot piece) _ _ (steps follow jump jumps rest are.1 (parent place))
+    (through follow jump jumps rest are.1 (steps follow jump jumps rest are.1) place piece are.0 (child place.here piece)))
+
+all_jumps : (links : ℕ) (follow : Bool) → Jumps (behind links follow)
+unfolding behind
+all_jumps zero follow place target rest are = tt
+all_jumps (suc links) follow place target rest are =
+    either (is_text target) _ _ (steps follow (behind links follow) (all_jumps links follow) (components target ++ rest) (AreComponents-append (components target) rest (path_components target) are) (start place target)) tt
+
+pub missed-component : (root : Names) (path : List ℕ) (follow : Bool) → MissesComponent (spot root path follow)
+unfolding spot
+missed-component root path follow =
+    either (is_text path) _ _ (steps follow (behind 32 follow) (all_jumps 32 follow) (components path) (path_components path) (record { here = root; above = [] })) tt
+
+-- the names of a tree
+named_is : (names : Names) (name : List ℕ) (node : Node) → AllByRecursion IsName (names_of names) → child names name ≡ Some node → IsName name
+named_is none name node each e = absurd (cc e)
+named_is (named n first rest) name node each e = go (bytes_eq n name) refl e (named_is rest name node each.1)
+  where
+    go : (b : Bool) → bytes_eq n name ≡ b → (if b then Some first else child rest name) ≡ Some node → (child rest name ≡ Some node → IsName name) → IsName name
+    go true same e ih = subst IsName (bytes_same n name same) each.0
+    go false same e ih = ih e
+
+real : (names : List (List ℕ)) (from end : Node) → IsTree from → node_at names (Some from) ≡ Some end → AllByRecursion IsName names
+real [] from end tree e = tt
+real (n ∷ names) (directory inner) end tree e = go (child inner n) refl e (real names)
+  where
+    go : (o : Option Node) → child inner n ≡ o → node_at names o ≡ Some end → ((from end : Node) → IsTree from → node_at names (Some from) ≡ Some end → AllByRecursion IsName names) → AllByRecursion IsName (n ∷ names)
+    go None is e ih = absurd (nothing_there names end e)
+    go (Some next) is e ih = (named_is inner n next tree.0.each is, ih next end (IsTree-child inner n next tree.1 is) e)
+real (n ∷ names) (file bytes) end tree e = absurd (nothing_there names end e)
+real (n ∷ names) (link target) end tree e = absurd (nothing_there names end e)
+real (n ∷ names) other end tree e = absurd (nothing_there names end e)
+
+all_first : (names : List (List ℕ)) (name : List ℕ) → AllByRecursion IsName (names ++ name ∷ []) → AllByRecursion IsName names × IsName name
+all_first [] name all = (tt, all.0)
+all_first (n ∷ names) name all = let both = all_first names name all.1 in ((all.0, both.0), both.1)
+
+all_reversed : (names : List (List ℕ)) → AllByRecursion IsName (reverse names) → AllByRecursion IsName names
+all_reversed [] all = tt
+all_reversed (name ∷ names) all =
+    let both = all_first (reverse names) name (subst (AllByRecursion IsName) (reverse-cons name names) all) in
+    (both.1, all_reversed names both.0)
+
+-- names that lead to a node of a tree, the last one first
+pub real-names : (root : Names) (names : List (List ℕ)) (end : Node) → IsTree (directory root) → node_at (reverse names) (Some (directory root)) ≡ Some end → AllByRecursion IsName names
+real-names root names end tree e = all_reversed names (real (reverse names) (directory root) end tree e)
+
+pub from_all : (names : List (List ℕ)) → AllByRecursion IsName names → AreComponents names
+from_all [] all = tt
+from_all (name ∷ names) all = (pieces-name name all.0, from_all names all.1)
+
+-- the path that names spell comes apart into them
+pub components-slashed : (names : List (List ℕ)) → AreComponents names → components (slashed names) ≡ reverse names
+components-slashed [] are = refl
+components-slashed (name ∷ below) are =
+    pieces-join (slashed below) name
+    ∙ ap (λ (l : List (List ℕ)). l ++ components name) (components-slashed below are.1)
+    ∙ ap (λ (l : List (List ℕ)). reverse below ++ l) are.0
+    ∙ sym (reverse-cons name below)

@@ -1,0 +1,5 @@
+use Rattle.worktree_fs.specs.Edges.{AreListed}
+use Rattle.worktree_fs.proofs.disk.listing.names_from.Given as goal
+
+abbrev pub invariant-loop : goal.invariant-loop
+invariant-loop g l = AreListed l.composes l.names.items

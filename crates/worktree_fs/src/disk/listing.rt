@@ -1,0 +1,183 @@
+//! The names of a directory of the system.
+ghost use Rattle.std.specs.Prelude.{◌≡◌, ◌≤◌, length, IfOk, IfSome, All, IsTrue};
+ghost use Rattle.std.specs.List.Sorted.{IsStrictlySortedBy};
+ghost use Rattle.worktree_fs.specs.Edges.{IsKept, IsListed, AreListed};
+ghost use Rattle.worktree_fs.specs.Naming.{AreNames};
+ghost use Rattle.worktree_fs.specs.Order.{name_cmp};
+
+use super::node::{is_absent, look, text_of};
+use crate::composed::as_kept;
+use crate::names::{is_dot, is_dot_dot, is_name};
+use crate::{ListError, NameList, NodeKind};
+use gitbase_core::{Bytes, OutOfMemory};
+use std::alloc::Global;
+use std::cmp::Ordering;
+use std::io;
+use std::io::Read;
+use std::rt::{Files, HostRuntime};
+
+/// How many bytes of names the system is asked for at a time.
+const BUFFER_LEN: usize = 32_768;
+
+/// How many names a directory may have.
+const NAME_LIMIT: usize = 1_000_000;
+
+/// The names of a directory.
+pub fn listed(
+    rt: &HostRuntime,
+    alloc: Global,
+    composes: bool,
+    buffer: &mut Vec<u8>,
+    path: &[u8],
+    follow: bool,
+) -> Result<NameList, ListError>
+    ensures names { IfOk result AreNames }
+    ensures kept { IfOk result (All (IsKept composes)) }
+    ensures few { IfOk result (λ names. length names ≤ 1000000) }
+{
+    if buffer.len() < BUFFER_LEN {
+        buffer.resize(BUFFER_LEN, 0)?;
+    }
+    let Some(text) = text_of(path) else {
+        return Err(ListError::Absent);
+    };
+    let text = with_slash(alloc, text, follow)?;
+    match rt.open_dir(text.as_str()) {
+        Ok(dir) => {
+            let mut dir = dir;
+            names_from(alloc, composes, &mut dir, buffer)
+        }
+        Err(error) => Err(open_error(rt, path, follow, &error)),
+    }
+}
+
+/// The path of a directory, with the slash that makes the system follow a last link where that is asked for.
+fn with_slash(alloc: Global, path: &str, follow: bool) -> Result<String, OutOfMemory> {
+    let mut text = String::from_str(alloc, path)?;
+    if follow {
+        text.push('/')?;
+    }
+    Ok(text)
+}
+
+/// Why a directory was not opened.
+fn open_error(rt: &HostRuntime, path: &[u8], follow: bool, error: &io::Error) -> ListError {
+    if !is_absent(error) {
+        return ListError::OpenFault;
+    }
+    match look(rt, path, follow) {
+        Ok(Some(NodeKind::Symlink)) | Ok(Some(NodeKind::File)) | Ok(Some(NodeKind::Untrackable)) =>
+            { ListError::NotADirectory }
+        Ok(Some(NodeKind::Directory)) => ListError::OpenFault,
+        Ok(None) => ListError::Absent,
+        Err(_) => ListError::OpenFault,
+    }
+}
+
+/// The names that an open directory gives.
+fn names_from<D: Read>(
+    alloc: Global,
+    composes: bool,
+    dir: &mut D,
+    buffer: &mut [u8],
+) -> Result<NameList, ListError>
+    ensures names { IfOk result AreNames }
+    ensures kept { IfOk result (All (IsKept composes)) }
+    ensures few { IfOk result (λ names. length names ≤ 1000000) }
+{
+    let mut names = Vec::new(alloc);
+    for _ in 0..u64::MAX {
+        let Ok(len) = dir.read(buffer) else {
+            return Err(ListError::EntryFault);
+        };
+        if len == 0 {
+            break;
+        }
+        take_names(alloc, composes, &buffer[..len], &mut names)?;
+    }
+    in_order(composes, names).ok_or(ListError::EntryFault)
+}
+
+/// Adds the names of a piece that the system gave, each ended by a NUL, as they are kept.
+fn take_names(
+    alloc: Global,
+    composes: bool,
+    piece: &[u8],
+    names: &mut Vec<Bytes>,
+) -> Result<(), ListError>
+    requires { AreListed composes names.old.items }
+    ensures { AreListed composes names.new.items }
+{
+    for name in piece.split(|b| *b == 0) {
+        if name.is_empty() || is_dot(name) || is_dot_dot(name) {
+            continue;
+        }
+        take_name(alloc, composes, name, names)?;
+    }
+    Ok(())
+}
+
+/// Adds a name that the system gave, as it is kept.
+fn take_name(
+    alloc: Global,
+    composes: bool,
+    name: &[u8],
+    names: &mut Vec<Bytes>,
+) -> Result<(), ListError>
+    requires { AreListed composes names.old.items }
+    ensures { AreListed composes names.new.items }
+{
+    let Some(name) = listed_name(alloc, composes, name)? else {
+        return Err(ListError::EntryFault);
+    };
+    if names.len() >= NAME_LIMIT {
+        return Err(ListError::EntryFault);
+    }
+    names.push(name)?;
+    Ok(())
+}
+
+/// A name of the system as it is kept, where it may stand in a directory.
+fn listed_name(alloc: Global, composes: bool, name: &[u8]) -> Result<Option<Bytes>, OutOfMemory>
+    ensures { IfOk result (λ kept. IfSome kept (IsListed composes)) }
+{
+    let kept = as_kept(alloc, composes, name)?;
+    if is_name(kept.as_bytes()) {
+        return Ok(Some(kept));
+    }
+    Ok(None)
+}
+
+/// The names in ascending order; none where two of them are equal.
+fn in_order(_composes: bool, names: Vec<Bytes>) -> Option<NameList>
+    requires { AreListed _composes names.items }
+    ensures names { IfSome result AreNames }
+    ensures kept { IfSome result (All (IsKept _composes)) }
+    ensures few { IfSome result (λ names. length names ≤ 1000000) }
+{
+    let mut names = names;
+    names.sort_unstable_by(|a, b| compare(a, b));
+    if rises(&names) {
+        Some(NameList::from_vec(names))
+    } else {
+        None
+    }
+}
+
+fn compare(a: &Bytes, b: &Bytes) -> Ordering
+    ensures { result ≡ name_cmp a.now b.now }
+{
+    a.as_bytes().cmp(&b.as_bytes())
+}
+
+/// Whether each name is below the next.
+fn rises(names: &[Bytes]) -> bool
+    ensures { IsTrue result → IsStrictlySortedBy name_cmp names.now }
+{
+    for i in 1..names.len() {
+        if compare(&names[i - 1], &names[i]) != Ordering::Less {
+            return false;
+        }
+    }
+    true
+}

@@ -1,0 +1,182 @@
+//! The calls of the system on one node, with its answers as those of a worktree.
+ghost use Rattle.std.specs.Prelude.{◌≡◌, ◌≤◌, ◌^◌, length, Ok, IfOk, false};
+ghost use Rattle.worktree_fs.specs.Answers.{UnlessRead};
+
+use crate::composed::as_kept;
+use crate::names::{full_path, is_text};
+use crate::{MakeAnswer, NodeKind, ReadAnswer, ReadError, RemoveAnswer};
+use gitbase_core::{Bytes, OutOfMemory, PathText};
+use std::alloc::Global;
+use std::fs::{File, Metadata};
+use std::io::{ErrorKind, Read};
+use std::rt::{Files, HostRuntime};
+use std::{io, str};
+
+/// How many bytes a file may have.
+const BYTE_LIMIT: u64 = 1 << 30;
+
+/// The path as the system takes it, without slashes at its end; none where it leads nowhere.
+pub fn text_of(path: &[u8]) -> Option<&str> {
+    if !is_text(path) {
+        return None;
+    }
+    let Ok(text) = str::from_utf8(path) else {
+        return None;
+    };
+    let text = text.trim_end_matches('/');
+    Some(if text.is_empty() { "/" } else { text })
+}
+
+fn node_kind(metadata: &Metadata) -> NodeKind {
+    if metadata.is_file() {
+        NodeKind::File
+    } else if metadata.is_dir() {
+        NodeKind::Directory
+    } else if metadata.is_symlink() {
+        NodeKind::Symlink
+    } else {
+        NodeKind::Untrackable
+    }
+}
+
+/// Whether the system says that the path leads nowhere.
+pub fn is_absent(error: &io::Error) -> bool {
+    error.kind() == ErrorKind::NotFound || error.kind() == ErrorKind::NotADirectory
+}
+
+/// The kind of the node at a path, where there is one.
+pub fn look(rt: &HostRuntime, path: &[u8], follow: bool) -> Result<Option<NodeKind>, ReadError> {
+    let Some(text) = text_of(path) else {
+        return Ok(None);
+    };
+    let metadata = if follow {
+        rt.metadata(text)
+    } else {
+        rt.symlink_metadata(text)
+    };
+    match metadata {
+        Ok(metadata) => Ok(Some(node_kind(&metadata))),
+        Err(error) if is_absent(&error) => Ok(None),
+        Err(_) => Err(ReadError::Fault),
+    }
+}
+
+/// Puts a file's bytes into `into`, or answers what stands there in its place.
+pub fn read_into(
+    rt: &HostRuntime,
+    alloc: Global,
+    path: &[u8],
+    follow: bool,
+    into: &mut Bytes,
+) -> Result<ReadAnswer, ReadError>
+    ensures into { UnlessRead result (into.new ≡ into.old) }
+    ensures link { result ≡ Ok ReadAnswer.IsLink → follow ≡ false }
+    ensures short { result ≡ Ok ReadAnswer.Read → length into.new ≤ 2 ^ 30 }
+{
+    match look(rt, path, follow)? {
+        None => Ok(ReadAnswer::Absent),
+        Some(NodeKind::Directory) => Ok(ReadAnswer::IsDirectory),
+        Some(NodeKind::Symlink) if follow => Err(ReadError::Fault),
+        Some(NodeKind::Symlink) => Ok(ReadAnswer::IsLink),
+        Some(NodeKind::Untrackable) => Ok(ReadAnswer::Special),
+        Some(NodeKind::File) => {
+            let bytes = bytes_of(rt, alloc, path)?;
+            *into = Bytes::from_vec(bytes);
+            Ok(ReadAnswer::Read)
+        }
+    }
+}
+
+/// The bytes of a file.
+fn bytes_of(rt: &HostRuntime, alloc: Global, path: &[u8]) -> Result<Vec<u8>, ReadError>
+    ensures { IfOk result (λ bytes. length bytes.items ≤ 2 ^ 30) }
+{
+    let Some(text) = text_of(path) else {
+        return Err(ReadError::Fault);
+    };
+    let Ok(file) = File::open(rt, text) else {
+        return Err(ReadError::Fault);
+    };
+    let mut bytes = Vec::new(alloc);
+    match file.take(BYTE_LIMIT + 1).read_to_end(&mut bytes) {
+        Ok(_) if bytes.len() as u64 > BYTE_LIMIT => Err(ReadError::Fault),
+        Ok(_) => Ok(bytes),
+        Err(error) if is_own_want(&error) => Err(ReadError::OutOfMemory),
+        Err(_) => Err(ReadError::Fault),
+    }
+}
+
+/// Whether the program's own allocator refused, and not the system.
+fn is_own_want(error: &io::Error) -> bool {
+    error.kind() == ErrorKind::OutOfMemory && error.raw_os_error().is_none()
+}
+
+/// The path without links, where there is a node.
+pub fn real_path(
+    rt: &HostRuntime,
+    alloc: Global,
+    path: &[u8],
+    cwd: &[u8],
+) -> Result<Option<PathText>, ReadError> {
+    let full = full_path(alloc, path, cwd)?;
+    let Some(text) = text_of(full.as_bytes()) else {
+        return Ok(None);
+    };
+    match rt.canonicalize(alloc, text) {
+        Ok(real) => Ok(Some(PathText::from_bytes(alloc, real.as_str().as_bytes())?)),
+        Err(error) if is_absent(&error) => Ok(None),
+        Err(error) if is_own_want(&error) => Err(ReadError::OutOfMemory),
+        Err(_) => Err(ReadError::Fault),
+    }
+}
+
+/// The path whose last name is as it is kept.
+fn kept_path(alloc: Global, composes: bool, text: &str) -> Result<Bytes, OutOfMemory> {
+    let Some((parent, name)) = text.rsplit_once('/') else {
+        return as_kept(alloc, composes, text.as_bytes());
+    };
+    let mut path = Bytes::from_slice(alloc, parent.as_bytes())?;
+    path.extend(alloc, b"/")?;
+    path.extend(alloc, as_kept(alloc, composes, name.as_bytes())?.as_bytes())?;
+    Ok(path)
+}
+
+/// Makes a directory, whose name is composed where names are.
+pub fn make_dir(
+    rt: &HostRuntime,
+    alloc: Global,
+    composes: bool,
+    path: &[u8],
+) -> Result<MakeAnswer, ReadError> {
+    let Some(given) = text_of(path) else {
+        return Ok(MakeAnswer::NoParent);
+    };
+    let kept = kept_path(alloc, composes, given)?;
+    let Some(text) = text_of(kept.as_bytes()) else {
+        return Ok(MakeAnswer::NoParent);
+    };
+    match rt.create_dir(text) {
+        Ok(()) => Ok(MakeAnswer::Made),
+        Err(error) if error.kind() == ErrorKind::AlreadyExists => Ok(MakeAnswer::Exists),
+        Err(error) if is_absent(&error) => Ok(MakeAnswer::NoParent),
+        Err(_) => Err(ReadError::Fault),
+    }
+}
+
+/// Removes a node that is no directory.
+pub fn remove_node(rt: &HostRuntime, path: &[u8]) -> Result<RemoveAnswer, ReadError> {
+    match look(rt, path, false)? {
+        None => Ok(RemoveAnswer::Absent),
+        Some(NodeKind::Directory) => Ok(RemoveAnswer::IsDirectory),
+        Some(_) => {
+            let Some(text) = text_of(path) else {
+                return Ok(RemoveAnswer::Absent);
+            };
+            match rt.remove_file(text) {
+                Ok(()) => Ok(RemoveAnswer::Removed),
+                Err(error) if is_absent(&error) => Ok(RemoveAnswer::Absent),
+                Err(_) => Err(ReadError::Fault),
+            }
+        }
+    }
+}
