@@ -3,4 +3,6 @@ mod Pieces
 mod LastSection
 mod AllSections
 pub mod KeyRuns
-mod Placed
+pub mod Placed
+mod Behind
+mod Shorter

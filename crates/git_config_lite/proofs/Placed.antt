@@ -1,16 +1,10 @@
 -- What an index of sections finds is what a walk over all of them finds.
-use Rattle.std.proofs.Common.{◌≡◌, ℕ, zero, suc, ◌+◌, ◌<◌, ◌≤◌, Bool, true, false, not, ◌&&◌, List, [], ◌∷◌, ◌++◌, length, take, drop, reverse, get_or, Option, Some, None, Bor, bytes_eq, refl, sym, ap, ◌∙◌, arith, subst}
-use Rattle.std.specs.Prelude.{MatchOption, HoldsAt, option_copied}
+use Rattle.std.proofs.Common.{◌≡◌, ℕ, suc, ◌+◌, Bool, true, false, ◌&&◌, List, [], ◌∷◌, ◌++◌, reverse, Option, Some, None, bytes_eq, refl, sym, ap, ◌∙◌, arith, subst}
 use Rattle.std.specs.List.{filter, slice_get}
-use Rattle.std.specs.List.Sorted.{IsSortedBy, IsPartitionedBy, IsPartitionPoint, IsStableBy, ties}
 use Rattle.std.specs.Cmp.{IsStrictWeakOrder}
-use Rattle.std.specs.Cmp.Lexicographic.{slice_cmp}
-use Rattle.std.specs.Ordering.{nat_cmp, is_lt}
 use Rattle.std.proofs.lemmas.Cmp.{nat_list_cmp_total, tied_itself}
-use Rattle.std.proofs.lemmas.List.{get_or-drop, length-drop, reverse-append}
+use Rattle.std.proofs.lemmas.List.{reverse-append}
 use Rattle.std.proofs.lemmas.List.MinMax.{ranks_by}
-use Rattle.std.proofs.lemmas.List.Sorted.{sorted_far}
-use Rattle.std.proofs.lemmas.Option.{slice_get_past, slice_get-get_or}
 use Rattle.std.proofs.lemmas.Slice.Eq.{bytes_eq-Decides}
 use Rattle.git_config_lite.proofs.KeyRuns.{not_both}
 use Rattle.git_config_lite.specs.declared.section_place.SectionPlace.{SectionPlace}
@@ -26,7 +20,7 @@ or_none : (found : Option Found) → found_or found None ≡ found
 or_none None = refl
 or_none (Some found) = refl
 
-or_assoc : (a b c : Option Found) → found_or a (found_or b c) ≡ found_or (found_or a b) c
+pub or_assoc : (a b c : Option Found) → found_or a (found_or b c) ≡ found_or (found_or a b) c
 or_assoc None b c = refl
 or_assoc (Some a) b c = refl
 

@@ -11,3 +11,4 @@ pub mod Gives
 pub mod Seen
 pub mod Left
 pub mod SectionPlaces
+pub mod Runs

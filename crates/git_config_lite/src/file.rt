@@ -8,15 +8,17 @@ ghost use Rattle.git_config_lite.specs.Seen as seen;
 use crate::entry::Entry;
 use crate::error::{ParseError, ValueError};
 use crate::found::FoundValue;
-use crate::index::Index;
 use crate::iterators::{Sections, Values};
-use crate::lookup::{last_found, text_of, truth_found};
+use crate::lookup::{text_of, truth_found};
 use crate::metadata::{Metadata, Source};
 use crate::reading::read;
+use crate::run::Run;
+use crate::runs::{last_in_runs, runs_of};
 use crate::section::{Section, add_entry};
 use gitbase_core::{Bytes, OutOfMemory};
 use std::alloc::Global;
 use std::marker::Model;
+use std::mem;
 
 /// One configuration file, or several of them that were appended.
 ///
@@ -25,20 +27,21 @@ use std::marker::Model;
 pub struct File {
     meta: Metadata,
     sections: Vec<Section>,
-    /// Of all sections; none where they were not read, where some were pushed since, or where memory for it was refused.
-    index: Option<Index>,
+    /// By which sections are found; none where they were not read, where some were pushed since, or where memory for them
+    /// was refused.
+    runs: Vec<Run>,
 }
 
 impl Model for File {
-    ghost use Rattle.std.specs.Prelude.{IfSome};
+    ghost use Rattle.std.specs.Prelude.{reverse};
     ghost use Rattle.git_config_lite.specs.Sections.{Configuration};
-    ghost use Rattle.git_config_lite.specs.SectionPlaces.{IsIndexOf};
+    ghost use Rattle.git_config_lite.specs.Runs.{AreRunsOf};
 
     ghost Value = { Configuration };
 
     ghost view = { λ file. record { meta = file.meta; sections = file.sections.items } };
 
-    ghost invariant = { λ file. IfSome file.index (λ places. IsIndexOf places file.sections.items) };
+    ghost invariant = { λ file. AreRunsOf (reverse file.runs.items) file.sections.items };
 }
 
 impl File {
@@ -50,14 +53,17 @@ impl File {
         File {
             meta,
             sections: Vec::new(alloc),
-            index: None,
+            runs: Vec::new(alloc),
         }
     }
 
     /// What a text says, in the format of git-config(1). Each section gets a copy of `meta`.
     ///
-    /// `Syntax` names the first line outside the grammar, counted from 1. A fault in a value that goes on over several
-    /// lines is named by the line on which it stands.
+    /// # Errors
+    ///
+    /// - `Syntax` names the first line outside the grammar, counted from 1. A fault in a value that goes on over several
+    ///   lines is named by the line on which it stands.
+    /// - `OutOfMemory` for want of memory.
     pub fn from_bytes(alloc: Global, bytes: &[u8], meta: Metadata) -> Result<File, ParseError>
         ensures { ParseGives result meta bytes.now }
     {
@@ -70,22 +76,20 @@ impl File {
         ensures sections { result.sections ≡ sections.items }
         ensures meta { result.meta ≡ meta }
     {
-        let index = Index::new(alloc, &sections).ok();
+        let runs = runs_of(alloc, Vec::new(alloc), &sections, 0);
         File {
             meta,
             sections,
-            index,
+            runs,
         }
     }
 
     /// The last value of a key in the sections of a name and subsection.
     fn found(&self, section: &[u8], subsection: Option<&[u8]>, key: &[u8]) -> Option<FoundValue<'_>>
-        ensures { option_map seen.found result ≡ lookups.last_found section.now (option_copied subsection.entry) key.now self.now.sections }
+        ensures { option_map seen.found result ≡ lookups.last_found section.now
+            (option_copied subsection.entry) key.now self.now.sections }
     {
-        match &self.index {
-            Some(index) => index.last_found(&self.sections, section, subsection, key),
-            None => last_found(&self.sections, section, subsection, key),
-        }
+        last_in_runs(&self.runs, &self.sections, section, subsection, key)
     }
 
     /// Where the configuration was read.
@@ -115,7 +119,8 @@ impl File {
     /// Names and keys are compared without regard to the case of ASCII letters, subsections by their bytes; without a
     /// subsection only sections without one are asked.
     pub fn string(&self, section: &[u8], subsection: Option<&[u8]>, key: &[u8]) -> Option<&[u8]>
-        ensures { option_copied result ≡ lookups.string section.now (option_copied subsection.entry) key.now self.now.sections }
+        ensures { option_copied result ≡ lookups.string section.now
+            (option_copied subsection.entry) key.now self.now.sections }
     {
         match self.found(section, subsection, key) {
             Some(found) => Some(text_of(found.value)),
@@ -131,7 +136,8 @@ impl File {
         key: &[u8],
     ) -> Option<(&[u8], Source)>
         ensures { option_map seen.text_and_source_of result
-            ≡ lookups.string_with_source section.now (option_copied subsection.entry) key.now self.now.sections }
+            ≡ lookups.string_with_source section.now (option_copied subsection.entry) key.now
+            self.now.sections }
     {
         match self.found(section, subsection, key) {
             Some(found) => Some((text_of(found.value), found.source)),
@@ -146,7 +152,8 @@ impl File {
         subsection: Option<&'a [u8]>,
         key: &'a [u8],
     ) -> Values<'a>
-        ensures { result ≡ lookups.strings section.now (option_copied subsection.entry) key.now self.now.sections }
+        ensures { result ≡ lookups.strings section.now
+            (option_copied subsection.entry) key.now self.now.sections }
     {
         Values::new(&self.sections, section, subsection, key)
     }
@@ -162,7 +169,8 @@ impl File {
         subsection: Option<&[u8]>,
         key: &[u8],
     ) -> Result<Option<bool>, ValueError<'_>>
-        ensures { truth_seen result ≡ lookups.boolean section.now (option_copied subsection.entry) key.now self.now.sections }
+        ensures { truth_seen result ≡ lookups.boolean section.now
+            (option_copied subsection.entry) key.now self.now.sections }
     {
         truth_found(self.found(section, subsection, key))
     }
@@ -170,7 +178,8 @@ impl File {
     /// Adds the sections of another configuration behind these. They keep where they were read, and this configuration
     /// keeps where it was read; it stays as it was where memory is refused. The room for the sections comes from the
     /// allocator that made this configuration, and that for finding them from `alloc`: where only the latter is refused,
-    /// look-ups are slower.
+    /// look-ups are slower. Of configurations that are appended one after another each section is sorted anew only where
+    /// no fewer stand behind it, so a logarithm of their number of times.
     pub fn append(&mut self, alloc: Global, other: File) -> Result<(), OutOfMemory>
         ensures appended { OnOk result (self.new ≡ writers.appended self.old other) }
         ensures refused { OnErr result (self.new ≡ self.old) }
@@ -178,16 +187,17 @@ impl File {
         let File {
             meta: _meta,
             mut sections,
-            index,
+            runs: others,
         } = other;
         if sections.is_empty() {
             return Ok(());
         }
-        let is_indexed = self.index.is_some() || index.is_some();
-        self.index = None;
+        let is_indexed = !self.runs.is_empty() || !others.is_empty();
+        let start = self.sections.len();
+        let runs = mem::replace(&mut self.runs, Vec::new(alloc));
         self.sections.append(&mut sections)?;
         if is_indexed {
-            self.index = Index::new(alloc, &self.sections).ok();
+            self.runs = runs_of(alloc, runs, &self.sections, start);
         }
         Ok(())
     }
@@ -203,12 +213,13 @@ impl File {
         subsection: &[u8],
     ) -> Result<(), OutOfMemory>
         requires { IsTrue (writers.is_name name.now) }
-        ensures pushed { OnOk result (self.new ≡ writers.with_section self.old name.now subsection.now) }
+        ensures pushed { OnOk result
+            (self.new ≡ writers.with_section self.old name.now subsection.now) }
         ensures refused { OnErr result (self.new ≡ self.old) }
     {
         let subsection = Bytes::from_slice(alloc, subsection)?;
         let section = Section::new(alloc, name, Some(subsection), &self.meta)?;
-        self.index = None;
+        self.runs.clear();
         self.sections.push(section)?;
         Ok(())
     }
@@ -227,7 +238,7 @@ impl File {
             key: Bytes::from_slice(alloc, key)?,
             value: Some(Bytes::from_slice(alloc, value)?),
         };
-        self.index = None;
+        self.runs.clear();
         add_entry(&mut self.sections, entry)
     }
 }

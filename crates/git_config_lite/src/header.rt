@@ -20,7 +20,8 @@ pub struct HeadedLine<'a> {
 
 /// The header of a name and a subsection, where the bracket follows.
 fn with_subsection<'a>(name: &'a [u8], found: Option<QuotedText<'a>>) -> Option<HeadedLine<'a>>
-    ensures { option_map seen.headed result ≡ headers.with_subsection name.now (option_map seen.quoted found.entry) }
+    ensures { option_map seen.headed result
+        ≡ headers.with_subsection name.now (option_map seen.quoted found.entry) }
 {
     let Some(found) = found else {
         return None;
@@ -41,7 +42,8 @@ fn header_behind<'a>(
     name: &'a [u8],
     rest: &'a [u8],
 ) -> Result<Option<HeadedLine<'a>>, OutOfMemory>
-    ensures { IfOk result (λ found. option_map seen.headed found ≡ headers.header_behind name.now rest.now) }
+    ensures { IfOk result
+        (λ found. option_map seen.headed found ≡ headers.header_behind name.now rest.now) }
 {
     if begins_with(b']', rest) {
         return Ok(Some(HeadedLine {

@@ -106,7 +106,8 @@ impl Index {
         key: &[u8],
     ) -> Option<FoundValue<'a>>
         requires { spots.IsIndexOf self.now sections.now }
-        ensures { option_map seen.found result ≡ last_found name.now (option_copied subsection.entry) key.now sections.now }
+        ensures { option_map seen.found result
+            ≡ last_found name.now (option_copied subsection.entry) key.now sections.now }
     {
         let run = run_of(&self.places, key_of(subsection));
         last_placed(sections, run, name, subsection, key)
@@ -122,7 +123,8 @@ fn last_placed<'a>(
     key: &[u8],
 ) -> Option<FoundValue<'a>>
     ensures { option_map seen.found result
-        ≡ spots.first_placed name.now (option_copied subsection.entry) key.now sections.now (reverse run.now) }
+        ≡ spots.first_placed name.now (option_copied subsection.entry) key.now sections.now
+        (reverse run.now) }
 {
     let mut at = run.len();
     while at > 0 {
@@ -150,7 +152,8 @@ fn found_at<'a>(
     key: &[u8],
 ) -> Option<FoundValue<'a>>
     ensures { option_map seen.found result
-        ≡ spots.found_at name.now (option_copied subsection.entry) key.now (option_copied section.entry) }
+        ≡ spots.found_at name.now (option_copied subsection.entry) key.now
+        (option_copied section.entry) }
 {
     match section {
         Some(section) => section.found(name, subsection, key),

@@ -77,7 +77,8 @@ fn first_section<'a>(
     sections: &'a [Section],
     name: Option<&[u8]>,
 ) -> Option<(&'a Section, &'a [Section])>
-    ensures { MatchOption result (lookups.sections_named (option_copied name.entry) sections.now ≡ [])
+    ensures { MatchOption result
+        (lookups.sections_named (option_copied name.entry) sections.now ≡ [])
         (λ found. lookups.sections_named (option_copied name.entry) sections.now
         ≡ found.0.now ∷ lookups.sections_named (option_copied name.entry) found.1.now) }
 {
@@ -116,7 +117,8 @@ impl<'a> Values<'a> {
         subsection: Option<&'a [u8]>,
         key: &'a [u8],
     ) -> Values<'a>
-        ensures { result ≡ lookups.strings name.now (option_copied subsection.entry) key.now sections.now }
+        ensures { result
+            ≡ lookups.strings name.now (option_copied subsection.entry) key.now sections.now }
     {
         Values {
             left: Left {

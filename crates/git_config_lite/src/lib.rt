@@ -15,6 +15,8 @@ mod left;
 mod lookup;
 mod metadata;
 mod reading;
+mod run;
+mod runs;
 mod section;
 mod section_place;
 mod subsection;

@@ -12,7 +12,8 @@ use crate::section::Section;
 
 /// Whether a subsection, or none, is this one.
 pub fn is_subsection(found: Option<&[u8]>, asked: Option<&[u8]>) -> bool
-    ensures { result ≡ lookups.is_subsection (option_copied found.entry) (option_copied asked.entry) }
+    ensures { result
+        ≡ lookups.is_subsection (option_copied found.entry) (option_copied asked.entry) }
 {
     match found {
         None => match asked {
@@ -74,7 +75,8 @@ pub fn last_found<'a>(
     subsection: Option<&[u8]>,
     key: &[u8],
 ) -> Option<FoundValue<'a>>
-    ensures { option_map seen.found result ≡ lookups.last_found name.now (option_copied subsection.entry) key.now sections.now }
+    ensures { option_map seen.found result
+        ≡ lookups.last_found name.now (option_copied subsection.entry) key.now sections.now }
 {
     let mut at = sections.len();
     while at > 0 {

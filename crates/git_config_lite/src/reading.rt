@@ -57,7 +57,8 @@ fn with_entry(
     key: Bytes,
     value: Option<Bytes>,
 ) -> Result<Draft, OutOfMemory>
-    ensures { IfOk result (λ draft. draft ≡ grammar.whole (adding_entry (grammar.entry key value) sections.items)) }
+    ensures { IfOk result
+        (λ draft. draft ≡ grammar.whole (adding_entry (grammar.entry key value) sections.items)) }
 {
     add_entry(&mut sections, Entry { key, value })?;
     Ok(Draft {
@@ -99,7 +100,8 @@ fn with_key(
     sections: Vec<Section>,
     keyed: Option<KeyedLine<'_>>,
 ) -> Result<Option<Draft>, OutOfMemory>
-    ensures { IfOk result (λ draft. draft ≡ grammar.with_key sections.items (option_map seen.keyed keyed.entry)) }
+    ensures { IfOk result
+        (λ draft. draft ≡ grammar.with_key sections.items (option_map seen.keyed keyed.entry)) }
 {
     let Some(keyed) = keyed else {
         return Ok(None);
@@ -151,7 +153,8 @@ fn with_header(
     mut sections: Vec<Section>,
     headed: Option<HeadedLine<'_>>,
 ) -> Result<Option<Draft>, OutOfMemory>
-    ensures { IfOk result (λ draft. draft ≡ grammar.with_header meta.now sections.items (option_map seen.headed headed.entry)) }
+    ensures { IfOk result (λ draft. draft
+        ≡ grammar.with_header meta.now sections.items (option_map seen.headed headed.entry)) }
 {
     let Some(headed) = headed else {
         return Ok(None);

@@ -88,7 +88,8 @@ impl Section {
 
     /// The keys, if the section is the one that is asked for.
     pub(crate) fn entries_of(&self, name: &[u8], subsection: Option<&[u8]>) -> &[Entry]
-        ensures { result.now ≡ lookups.entries_of name.now (option_copied subsection.entry) self.now }
+        ensures { result.now
+            ≡ lookups.entries_of name.now (option_copied subsection.entry) self.now }
     {
         if !self.is_named(name) {
             return &[];
@@ -106,7 +107,8 @@ impl Section {
         subsection: Option<&[u8]>,
         key: &[u8],
     ) -> Option<FoundValue<'_>>
-        ensures { option_map seen.found result ≡ lookups.found_in name.now (option_copied subsection.entry) key.now self.now }
+        ensures { option_map seen.found result
+            ≡ lookups.found_in name.now (option_copied subsection.entry) key.now self.now }
     {
         match last_entry(self.entries_of(name, subsection), key) {
             Some(entry) => Some(FoundValue {

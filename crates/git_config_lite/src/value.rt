@@ -40,7 +40,8 @@ fn piece_end(elements: Vec<Element>, place: Place) -> Option<Piece>
 
 /// A value with one more line, behind the elements of its earlier ones. None where the line is outside the grammar.
 pub fn read_piece(mut elements: Vec<Element>, line: &[u8]) -> Result<Option<Piece>, OutOfMemory>
-    ensures { IfOk result (λ piece. piece ≡ option_map (before_piece elements.items) (piece_of line.now)) }
+    ensures { IfOk result
+        (λ piece. piece ≡ option_map (before_piece elements.items) (piece_of line.now)) }
 {
     let mut place = Place {
         is_quoted: false,

@@ -12,6 +12,14 @@ pub mod Fronts
 pub mod Stems
 pub mod LongForms
 pub mod Longest
+pub mod Cuts
+pub mod Shortened
 pub mod Led
 pub mod Matched
 pub mod Places
+pub mod LonePieces
+pub mod SeenNames
+pub mod Sayings
+pub mod StandingStates
+pub mod Bodies
+pub mod Hearing

@@ -6,6 +6,10 @@
 #![tactic(auto)]
 
 #[cfg(test)]
+mod attribute_answers;
+#[cfg(test)]
+mod attributes;
+#[cfg(test)]
 mod config;
 #[cfg(test)]
 mod config_answers;

@@ -64,8 +64,10 @@ impl File {
     /// - `OutOfMemory` for want of memory.
     pub fn update(&self, alloc: Global, name: &[u8]) -> Result<Option<Update>, update::Error>
         ensures value { answers.UpdateOfGives result (access.update name.now self.now.sections) }
-        ensures command { IfOk result (λ update. IfSome update (access.IsAllowed (access.found_update name.now self.now.sections))) }
-        ensures forbidden { IfErr result (access.IsForbidden (access.found_update name.now self.now.sections)) }
+        ensures command { IfOk result (λ update. IfSome update
+            (access.IsAllowed (access.found_update name.now self.now.sections))) }
+        ensures forbidden { IfErr result
+            (access.IsForbidden (access.found_update name.now self.now.sections)) }
     {
         update::update_of(
             alloc,
@@ -75,16 +77,24 @@ impl File {
         )
     }
 
-    /// The branch that the submodule follows: its `branch`, if it is set. `Refspec` comes exactly where `Branch::try_from`
-    /// refuses it.
+    /// The branch that the submodule follows: its `branch`, if it is set.
+    ///
+    /// # Errors
+    ///
+    /// - `Refspec` exactly where `Branch::try_from` refuses it, with its refusal.
+    /// - `OutOfMemory` for want of memory.
     pub fn branch(&self, alloc: Global, name: &[u8]) -> Result<Option<Branch>, branch::Error>
         ensures { answers.BranchOfGives result (access.branch name.now self.now.sections) }
     {
         branch::branch_of(alloc, name, self.value(name, b"branch"))
     }
 
-    /// Whether a fetch goes on into the submodule: its `fetchRecurseSubmodules`, if it is set. `Invalid` comes exactly where
-    /// it is no boolean and not `on-demand`.
+    /// Whether a fetch goes on into the submodule: its `fetchRecurseSubmodules`, if it is set.
+    ///
+    /// # Errors
+    ///
+    /// - `Invalid` exactly where it is no boolean and not `on-demand`.
+    /// - `OutOfMemory` for want of memory.
     pub fn fetch_recurse(
         &self,
         alloc: Global,
@@ -99,8 +109,12 @@ impl File {
         field::recurse_of(alloc, name, said)
     }
 
-    /// Which changes of the submodule a status leaves out: its `ignore`, if it is set. `Invalid` comes exactly where it is
-    /// none of the words.
+    /// Which changes of the submodule a status leaves out: its `ignore`, if it is set.
+    ///
+    /// # Errors
+    ///
+    /// - `Invalid` exactly where it is none of the words.
+    /// - `OutOfMemory` for want of memory.
     pub fn ignore(&self, alloc: Global, name: &[u8]) -> Result<Option<Ignore>, FieldError>
         ensures { answers.FieldGives result (access.ignore name.now self.now.sections) }
     {

@@ -85,8 +85,13 @@ impl Branch {
     /// The branch that a text names. `.` is the one that is checked out in the superproject.
     ///
     /// Any other text is read as what is fetched: behind one optional `+`, what stands before the first `:` is the name,
-    /// and no name is `HEAD`. `Invalid` comes exactly where the name has a control byte, a blank, one of `~^?[\`, `..`,
-    /// `@{`, `//`, a slash at either end, a `.` or `.lock` at its end, a component that begins with a `.`, or two `*`.
+    /// and no name is `HEAD`.
+    ///
+    /// # Errors
+    ///
+    /// - `Invalid` exactly where the name has a control byte, a blank, one of `~^?[\`, `..`, `@{`, `//`, a slash at either
+    ///   end, a `.` or `.lock` at its end, a component that begins with a `.`, or two `*`.
+    /// - `OutOfMemory` for want of memory.
     pub fn try_from(alloc: Global, value: &[u8]) -> Result<Branch, RefspecError>
         ensures { BranchGives result (branches.branch_of value.now) }
     {

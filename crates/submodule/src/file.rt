@@ -158,7 +158,8 @@ impl File {
         alloc: Global,
         relative_path: &[u8],
     ) -> Result<Option<&[u8]>, OutOfMemory>
-        ensures { IfOk result (λ name. option_copied name ≡ access.name_by_path relative_path.now self.now.sections) }
+        ensures { IfOk result
+            (λ name. option_copied name ≡ access.name_by_path relative_path.now self.now.sections) }
     {
         match &self.table {
             Some(table) => table.name_of(alloc, relative_path, &self.config, &self.names),
@@ -172,7 +173,8 @@ impl File {
         alloc: Global,
         relative_path: &[u8],
     ) -> Result<Option<&[u8]>, OutOfMemory>
-        ensures { IfOk result (λ name. option_copied name ≡ access.name_by_path relative_path.now self.now.sections) }
+        ensures { IfOk result
+            (λ name. option_copied name ≡ access.name_by_path relative_path.now self.now.sections) }
     {
         for name in self.names() {
             let value = self.config.string(b"submodule", Some(name), b"path");
@@ -188,7 +190,9 @@ impl File {
     ///
     /// # Errors
     ///
-    /// - `ParsePattern` and `NormalizePattern` name the first value that `Spec::parse` refuses, counted from 1.
+    /// - `ParsePattern` exactly where `Spec::parse` refuses the first value that it refuses by `Parse`: its number, counted
+    ///   from 1, and the place in it.
+    /// - `NormalizePattern` exactly where it refuses that value by `Normalize`: its number, counted from 1.
     /// - `OutOfMemory` for want of memory.
     pub fn is_active_platform(
         &self,
@@ -202,14 +206,19 @@ impl File {
     }
 
     /// The names of the submodules in their order, each with whether it is active by a configuration, or with the text of
-    /// its `submodule.NAME.active` where that is no boolean. It is refused as `is_active_platform` is.
+    /// its `submodule.NAME.active` where that is no boolean.
+    ///
+    /// # Errors
+    ///
+    /// Those of [`File::is_active_platform`], each exactly where it comes there.
     pub fn names_and_active_state<'a>(
         &'a self,
         alloc: Global,
         config: &'a config::File,
         defaults: Defaults,
     ) -> Result<NamesAndActive<'a>, is_active_platform::Error>
-        ensures { ActiveGives result (active.module_states defaults.ignore_case self.now.sections config.now.sections) }
+        ensures { ActiveGives result
+            (active.module_states defaults.ignore_case self.now.sections config.now.sections) }
     {
         let platform = IsActivePlatform::new(alloc, config, defaults)?;
         Ok(NamesAndActive::new(self.names(), platform, config))

@@ -76,7 +76,8 @@ fn spec_of(alloc: Global, number: usize, text: &[u8], defaults: Defaults) -> Res
 
 /// The specs of a configuration.
 fn specs_of(alloc: Global, config: &config::File, defaults: Defaults) -> Result<Vec<Spec>, Error>
-    ensures { let given = active.specs_after defaults.ignore_case [] (active.active_values config.now.sections) in
+    ensures { let values = active.active_values config.now.sections in
+        let given = active.specs_after defaults.ignore_case [] values in
         MatchResult result (λ specs. given ≡ Ok specs.items) (λ e. seen.RefusalGives e given) }
 {
     let mut specs = Vec::new(alloc);
@@ -106,7 +107,8 @@ impl IsActivePlatform {
         config: &config::File,
         defaults: Defaults,
     ) -> Result<IsActivePlatform, Error>
-        ensures { seen.ActiveGives result (active.platform defaults.ignore_case config.now.sections) }
+        ensures { seen.ActiveGives result
+            (active.platform defaults.ignore_case config.now.sections) }
     {
         let specs = specs_of(alloc, config, defaults)?;
         Ok(IsActivePlatform::from_specs(specs))
@@ -133,7 +135,8 @@ impl IsActivePlatform {
         config: &'c config::File,
         name: &[u8],
     ) -> Result<bool, ValueError<'c>>
-        ensures answer { seen.active_seen result ≡ active.is_active self.old config.now.sections name.now }
+        ensures answer { seen.active_seen result
+            ≡ active.is_active self.old config.now.sections name.now }
         ensures same { self.new ≡ self.old }
     {
         match config.boolean(b"submodule", Some(name), b"active") {

@@ -45,7 +45,8 @@ fn in_order(
     mut names: BTreeSet<Bytes>,
     name: Option<&[u8]>,
 ) -> Result<BTreeSet<Bytes>, OutOfMemory>
-    ensures { IfOk result (λ more. more.keys ≡ overrides.in_order names.keys (option_copied name.entry)) }
+    ensures { IfOk result
+        (λ more. more.keys ≡ overrides.in_order names.keys (option_copied name.entry)) }
 {
     let Some(name) = name else {
         return Ok(names);
@@ -93,7 +94,8 @@ fn add(
 ) -> Result<(), OutOfMemory>
     requires one { length made.old.sections ≡ 1 }
     requires key { IsTrue (writers.is_key_name key.now) }
-    ensures added { OnOk result (made.new.sections ≡ building.grown (overrides.override name.now key.now config.now.sections) made.old.sections) }
+    ensures added { OnOk result (made.new.sections ≡ building.grown
+        (overrides.override name.now key.now config.now.sections) made.old.sections) }
     ensures one { length made.new.sections ≡ 1 }
 {
     match config.string(b"submodule", Some(name), key) {
@@ -109,7 +111,8 @@ fn override_of(
     name: &[u8],
 ) -> Result<config::File, OutOfMemory>
     ensures { IfOk result (λ made. made.sections
-        ≡ overrides.section_for (overrides.override_meta config.now.meta) config.now.sections name.now) }
+        ≡ overrides.section_for (overrides.override_meta config.now.meta) config.now.sections
+        name.now) }
 {
     let mut made = config::File::new(alloc, override_meta(alloc, config.meta())?);
     if !is_overriding(config, name) {

@@ -43,7 +43,8 @@ fn with_row(
     name: &[u8],
     path: Option<&[u8]>,
 ) -> Result<Vec<NamedPath>, OutOfMemory>
-    ensures { IfOk result (λ more. more.items ≡ rows.items ++ paths.paths_of_name name.now (option_copied path.entry)) }
+    ensures { IfOk result (λ more. more.items
+        ≡ rows.items ++ paths.paths_of_name name.now (option_copied path.entry)) }
 {
     let Some(path) = path else {
         return Ok(rows);
@@ -132,7 +133,8 @@ impl PathTable {
     ) -> Result<Option<&[u8]>, OutOfMemory>
         requires { paths.IsTableOf self.now _config.now.sections _names.now }
         ensures { IfOk result (λ name. option_copied name
-            ≡ find (λ one. access.has_path path.now (value one (codes "path") _config.now.sections)) _names.now) }
+            ≡ find (λ one. access.has_path path.now (value one (codes "path") _config.now.sections))
+            _names.now) }
     {
         self.given_name(alloc, path)
     }
@@ -140,7 +142,8 @@ impl PathTable {
     /// The first name of a path, if that may be one of a submodule.
     fn given_name(&self, alloc: Global, path: &[u8]) -> Result<Option<&[u8]>, OutOfMemory>
         ensures { IfOk result (λ name. option_copied name
-            ≡ (if access.is_path path.now then paths.first_name (filter (paths.is_at_path path.now) self.now) else None)) }
+            ≡ (if access.is_path path.now
+            then paths.first_name (filter (paths.is_at_path path.now) self.now) else None)) }
     {
         if is_path(alloc, path)? {
             Ok(self.first_name(path))
@@ -151,7 +154,8 @@ impl PathTable {
 
     /// The first name of a path.
     fn first_name(&self, path: &[u8]) -> Option<&[u8]>
-        ensures { option_copied result ≡ paths.first_name (filter (paths.is_at_path path.now) self.now) }
+        ensures { option_copied result
+            ≡ paths.first_name (filter (paths.is_at_path path.now) self.now) }
     {
         first_name(run_of(&self.rows, path))
     }

@@ -87,8 +87,12 @@ impl From<OutOfMemory> for Error {
 }
 
 impl Update {
-    /// What a text says: `checkout`, `rebase`, `merge` or `none`, byte for byte, or a command behind a `!`. `Invalid`
-    /// comes exactly for any other text.
+    /// What a text says: `checkout`, `rebase`, `merge` or `none`, byte for byte, or a command behind a `!`.
+    ///
+    /// # Errors
+    ///
+    /// - `Invalid` exactly for any other text.
+    /// - `OutOfMemory` for want of memory.
     pub fn try_from(alloc: Global, value: &[u8]) -> Result<Update, UpdateParseError>
         ensures { UpdateGives result (updates.update_of value.now) }
     {
@@ -126,7 +130,8 @@ fn invalid(alloc: Global, name: &[u8], value: &[u8]) -> Result<Error, OutOfMemor
 }
 
 fn forbidden(alloc: Global, name: &[u8], command: Bytes) -> Result<Error, OutOfMemory>
-    ensures { IfOk result (λ e. e ≡ refusals.CommandForbiddenInModulesConfiguration name.now command) }
+    ensures { IfOk result
+        (λ e. e ≡ refusals.CommandForbiddenInModulesConfiguration name.now command) }
 {
     Ok(Error::CommandForbiddenInModulesConfiguration {
         submodule: Bytes::from_slice(alloc, name)?,
@@ -159,7 +164,8 @@ fn allowed(alloc: Global, name: &[u8], source: Source, update: Update) -> Result
 
 /// The update that a value says.
 fn given(alloc: Global, name: &[u8], value: &[u8], source: Source) -> Result<Update, Error>
-    ensures { answers.UpdateOfGives result (access.update_from name.now value.now source (updates.update_of value.now)) }
+    ensures { answers.UpdateOfGives result
+        (access.update_from name.now value.now source (updates.update_of value.now)) }
 {
     match Update::try_from(alloc, value) {
         Ok(update) => allowed(alloc, name, source, update),
@@ -174,7 +180,8 @@ pub(crate) fn update_of(
     name: &[u8],
     found: Option<(&[u8], Source)>,
 ) -> Result<Option<Update>, Error>
-    ensures { answers.UpdateOfGives result (access.update_by name.now (option_map text_and_source_of found.entry)) }
+    ensures { answers.UpdateOfGives result
+        (access.update_by name.now (option_map text_and_source_of found.entry)) }
 {
     match found {
         Some((value, source)) => Ok(Some(given(alloc, name, value, source)?)),

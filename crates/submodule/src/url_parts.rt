@@ -170,7 +170,8 @@ fn with_host<'a>(
     place: HostAndPort<'a>,
     path: &'a [u8],
 ) -> Result<UrlParts<'a>, UrlError>
-    ensures { seen.parsed_url result ≡ urls.with_host scheme.now (option_copied login.entry) (seen.host_place place.entry) path.now }
+    ensures { seen.parsed_url result ≡ urls.with_host scheme.now
+        (option_copied login.entry) (seen.host_place place.entry) path.now }
 {
     if lacks_host(scheme, place.host) {
         return Err(UrlError::EmptyHost);

@@ -53,6 +53,7 @@ not-normal {W} {F} {T} w f w0 o0 path kind old new counted not_normal =
       platforms = refl;
       carried = tt;
       stopped = λ normal. absurd (not_both (is_normal path) not_normal normal);
+      stays = fewer-stay old.at (components path);
       reads = omega (arith, fewer-stay old.at (components path));
     } in
     subst (λ (s : Stacked). LooksUp {W = W} {F = F} {T = T} w f w0 w0 o0 o0 path kind old s (Err errors.NotNormal)) (sym counted) there
@@ -84,6 +85,7 @@ pub look-refused : {W F T : Type 0} (w : WorktreeOf W) (f : FindOf F)
     → Stops (w.told w0) (f.holds o0) (Increased (w.faults w0) (w.faults w1)) (Increased (f.faults o0) (f.faults o1)) (lookup_calls mid.at (components path)) mid new e
     → (asks_worktree (made_of mid) ≡ false → w1 ≡ w0) → ((made_of mid).mappings ≡ [] → o1 ≡ o0)
     → (IsLevel mid → IsLevel new) → new.is_answered ≡ mid.is_answered
+    → length (pushed (staying mid.at (components path))) ≤ length (pushed new.at)
     → w.reads w1 + length (pushed (staying mid.at (components path))) ≤ w.reads w0 + length (pushed new.at) + 1
     → LooksUp {W = W} {F = F} {T = T} w f w0 w1 o0 o1 path kind old new (Err e)
 look-refused {W} {F} {T} w f w0 w1 o0 o1 path kind old mid new e counted normal =
@@ -94,10 +96,11 @@ look-refused {W} {F} {T} w f w0 w1 o0 o1 path kind old mid new e counted normal 
     → Stops (w.told w0) (f.holds o0) (Increased (w.faults w0) (w.faults w1)) (Increased (f.faults o0) (f.faults o1)) (lookup_calls m.at (components path)) m new e
     → (asks_worktree (made_of m) ≡ false → w1 ≡ w0) → ((made_of m).mappings ≡ [] → o1 ≡ o0)
     → (IsLevel m → IsLevel new) → new.is_answered ≡ m.is_answered
+    → length (pushed (staying m.at (components path))) ≤ length (pushed new.at)
     → w.reads w1 + length (pushed (staying m.at (components path))) ≤ w.reads w0 + length (pushed new.at) + 1
     → LooksUp {W = W} {F = F} {T = T} w f w0 w1 o0 o1 path kind old new (Err e))
     (sym counted)
-    (λ made step way platforms stops untouched store_untouched levels answered reads.
+    (λ made step way platforms stops untouched store_untouched levels answered stays reads.
     let told = w.told w0 in
     let holds = f.holds o0 in
     let calls : List Call = lookup_calls old.at (components path) in
@@ -119,6 +122,7 @@ look-refused {W} {F} {T} w f w0 w1 o0 o1 path kind old mid new e counted normal 
       platforms = platforms;
       carried = tt;
       stopped = λ is. stopped;
+      stays = stays;
       reads = reads;
     })
 

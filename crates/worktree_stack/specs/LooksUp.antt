@@ -17,10 +17,11 @@ use Rattle.worktree_stack.specs.Stacked.{Stacked, IsInStep, IsLevel, made_of, pu
 use Rattle.worktree_stack.specs.Steps.{CarriesOut, Stops}
 
 -- What a lookup leaves of a worktree: the tree that it tells, where none of its calls may change it, and what is counted of
--- listings.
+-- listings. Other counts do not fall.
 pub record Leaves {W : Type 0} (keeps_tree : Bool) (w : WorktreeOf W) (before after : W) : Type 0 where
   pub tree : keeps_tree ≡ true → w.told after ≡ w.told before
   pub faults : w.faults before ≤ w.faults after
+  pub reads : w.reads before ≤ w.reads after
   pub list_faults : w.list_faults after ≡ w.list_faults before
   pub lists : w.lists after ≡ w.lists before
   pub precomposes : w.precomposes after ≡ w.precomposes before
@@ -51,4 +52,6 @@ pub record LooksUp {W F T : Type 0} (w : WorktreeOf W) (f : FindOf F) (w0 w1 : W
   pub carried : OnOk result (CarriesOut (w.told w0) (f.holds o0) (lookup_calls old.at (components path)) old new)
   pub stopped : is_normal path ≡ true
       → IfErr result (Stops (w.told w0) (f.holds o0) (Increased (w.faults w0) (w.faults w1)) (Increased (f.faults o0) (f.faults o1)) (lookup_calls old.at (components path)) old new)
+  -- What stays pushed on the way to the path is not popped, and what is pushed then lies behind it.
+  pub stays : length (pushed (staying old.at (components path))) ≤ length (pushed new.at)
   pub reads : w.reads w1 + length (pushed (staying old.at (components path))) ≤ w.reads w0 + length (pushed new.at) + refused_one result

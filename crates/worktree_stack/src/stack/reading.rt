@@ -108,10 +108,12 @@ fn read_places<W: Worktree, F: Find>(
         statistics.new) }
     ensures tried { IfErr result (OnRefusal (λ path why. statistics.new ≡ statistics.old)
         (λ id why. statistics.new
-        ≡ tried_at (ignore_places source (full_path root.now path.now) path.now mapped) statistics.old)
+        ≡ tried_at (ignore_places source (full_path root.now path.now) path.now mapped)
+        statistics.old)
         ((statistics.new ≡ statistics.old)
         ⊎ ((statistics.new
-        ≡ tried_at (ignore_places source (full_path root.now path.now) path.now mapped) statistics.old)
+        ≡ tried_at (ignore_places source (full_path root.now path.now) path.now mapped)
+        statistics.old)
         ⊎ CountsPlaces (W.told worktree.old) (F.holds objects.old)
         (ignore_places source (full_path root.now path.now) path.now mapped)
         statistics.old statistics.new))) }

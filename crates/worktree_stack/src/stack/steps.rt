@@ -308,6 +308,7 @@ impl Stack {
         ensures store_untouched { (made_of self.old).mappings ≡ [] → objects.new ≡ objects.old }
         ensures leaves { Asks W.Worktree worktree.old worktree.new }
         ensures leaves_store { AsksStore F.Find objects.old objects.new }
+        ensures stays { length (names_at self.old.at) ≤ length (names_at self.new.at) }
         ensures reads { W.reads worktree.new + length (names_at self.old.at) ≤ W.reads
             worktree.old + length (names_at self.new.at) + refused_one result }
     {
@@ -351,6 +352,8 @@ impl Stack {
         ensures store_untouched { (made_of self.old).mappings ≡ [] → objects.new ≡ objects.old }
         ensures leaves { Asks W.Worktree worktree.old worktree.new }
         ensures leaves_store { AsksStore F.Find objects.old objects.new }
+        ensures stays { length (pushed (staying self.old.at (components relative.now))) ≤ length
+            (pushed self.new.at) }
         ensures reads { W.reads worktree.new + length
             (pushed (staying self.old.at (components relative.now))) ≤ W.reads worktree.old + length
             (pushed self.new.at) + refused_one result }

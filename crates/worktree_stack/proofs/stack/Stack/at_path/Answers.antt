@@ -20,4 +20,4 @@ returns-in_err-look_up-clause-looks_up g c =
     subst (λ (r : Result (Unit {0}) AtPathError). LooksUp W F c.args.worktree.now c.look_up.new.worktree c.args.objects.now c.look_up.new.objects c.args.relative.now (is_dir_of c.args.mode) c.args.self.now c.look_up.new.self r)
     (sym (is_err c.from_residual.result e same))
     (look-refused W F c.args.worktree.now c.look_up.new.worktree c.args.objects.now c.look_up.new.objects c.args.relative.now _ c.args.self.now c.count_platform.new.self c.look_up.new.self e
-    c.count_platform.ensures (search rules) c.look_up.ensures.made c.look_up.ensures.in_step c.in_err-look_up.ensures.on_way c.look_up.ensures.platforms c.in_err-look_up.ensures.stopped c.look_up.ensures.untouched c.look_up.ensures.store_untouched c.look_up.ensures.levels c.look_up.ensures.answered c.in_err-look_up.ensures.reads)
+    c.count_platform.ensures (search rules) c.look_up.ensures.made c.look_up.ensures.in_step c.in_err-look_up.ensures.on_way c.look_up.ensures.platforms c.in_err-look_up.ensures.stopped c.look_up.ensures.untouched c.look_up.ensures.store_untouched c.look_up.ensures.levels c.look_up.ensures.answered c.look_up.ensures.stays c.in_err-look_up.ensures.reads)

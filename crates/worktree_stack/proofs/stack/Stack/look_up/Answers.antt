@@ -83,6 +83,19 @@ returns-clause-reads g c =
       ap length stay,
     )
 
+pub returns-clause-stays : goal.returns-clause-stays
+returns-clause-stays g c =
+    let stay =
+    stay_names c.args.self.now.at c.push_root.new.self.at c.pop_surplus.new.self.at (components c.args.relative.now) (components c.rest-left.result.now)
+    (record { rooted = c.in_ok-push_root.ensures.at; popped = c.pop_surplus.ensures.at; left_is = c.rest-left.ensures }) in
+    omega (
+      arith,
+      c.push_rest.ensures.stays,
+      root-length c.args.self.now.at (components c.args.relative.now),
+      length-pushed c.push_rest.new.self.at c.push_rest.ensures.some,
+      ap length stay,
+    )
+
 pub returns-clause-in_step : goal.returns-clause-in_step
 returns-clause-in_step g c s tells in_step =
     c.push_rest.ensures.in_step s (tells-before _ _ _ _ s (c.push_root.ensures.leaves.tree) c.push_root.ensures.leaves_store.holds tells)

@@ -36,6 +36,7 @@ loop-next-init g c =
       store_untouched = λ none. refl;
       leaves = record { tree = refl; faults = omega arith; list_faults = refl; reads = omega arith; lists = refl; precomposes = refl };
       leaves_store = record { holds = refl; faults = omega arith };
+      stays = omega arith;
       reads = omega arith;
     }
 
@@ -139,5 +140,6 @@ loop-next-preserved g c =
       store_untouched = λ none. c.descend.ensures.store_untouched (ap (λ (m : Made). m.mappings) before.setup ∙ none) ∙ before.store_untouched none;
       leaves = leaves-then W c.args.worktree.now c.loop-next.worktree c.descend.new.worktree before.leaves c.descend.ensures.leaves;
       leaves_store = store-then F c.args.objects.now c.loop-next.objects c.descend.new.objects before.leaves_store c.descend.ensures.leaves_store;
+      stays = omega (arith, before.stays, ap length names_is, length-append names (name ∷ []));
       reads = omega (arith, c.descend.ensures.reads, before.reads, ap length names_is, length-append names (name ∷ []));
     }

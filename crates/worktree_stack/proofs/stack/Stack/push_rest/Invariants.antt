@@ -31,6 +31,7 @@ invariant-loop-next g l =
       store_untouched : (made_of l.fn.self).mappings ≡ [] → l.objects ≡ l.fn.objects;
       leaves : Asks W l.fn.worktree l.worktree;
       leaves_store : AsksStore F l.fn.objects l.objects;
+      stays : length names ≤ length (names_at l.self.at);
       reads : W.reads l.worktree + length names ≤ W.reads l.fn.worktree + length (names_at l.self.at);
     }
 

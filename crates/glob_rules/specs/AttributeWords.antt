@@ -1,0 +1,66 @@
+-- What the words of a line say of attributes, after gitattributes(5).
+--
+--     a       the attribute a is set
+--     -a      it is unset
+--     !a      it is unspecified, as if nothing were said of it; but it is said
+--     a=v     it has the value v, which may be empty and may have further `=`
+--
+-- A name is made of letters, digits, `-`, `.` and `_`, at least one of them, and does not begin with `-`. A word of any other
+-- form, as `-a=v` or one with another byte in its name, says nothing. Spaces and tabs part the words.
+use Rattle.std.specs.Prelude.{ℕ, Bool, false, ◌&&◌, ◌||◌, List, [], ◌∷◌, drop, Option, Some, None, ◌==◌, if◌then◌else◌}
+use Rattle.std.specs.List.{list_all, before_first, position_or_len, filter_map, slice_split}
+use Rattle.std.specs.Bool.{nat_le}
+use Rattle.glob_rules.specs.declared.attributes.Assignment.{Assignment}
+use Rattle.glob_rules.specs.declared.attributes.Assignment.TheVariants.{Set, Unset, Unspecified, Value}
+use Rattle.glob_rules.specs.declared.attributes.word.Assigned.{Assigned}
+use Rattle.glob_rules.specs.Marks.{space, tab, dash, dot, underscore, exclamation_mark, equals_sign}
+
+-- a space or a tab
+abbrev pub is_blank : ℕ → Bool
+is_blank b = (b == space) || (b == tab)
+
+-- an ASCII letter
+abbrev pub is_letter : ℕ → Bool
+is_letter b = (nat_le 65 b && nat_le b 90) || (nat_le 97 b && nat_le b 122)
+
+-- a decimal digit
+abbrev pub is_digit : ℕ → Bool
+is_digit b = nat_le 48 b && nat_le b 57
+
+-- a letter, a digit, `-`, `.` or `_`
+abbrev pub is_name_byte : ℕ → Bool
+is_name_byte b = is_letter b || (is_digit b || ((b == dash) || ((b == dot) || (b == underscore))))
+
+-- the name of an attribute
+abbrev pub is_name : List ℕ → Bool
+is_name [] = false
+is_name (b ∷ bs) = if b == dash then false else list_all is_name_byte (b ∷ bs)
+
+-- what is said of a name, if it is one
+abbrev pub said : List ℕ → Assignment → Option Assigned
+said name state = if is_name name then Some (record { name = name; state = state }) else None
+
+-- `=`
+abbrev pub is_equals : ℕ → Bool
+is_equals b = b == equals_sign
+
+-- what the rest of a word from its first `=` on says
+abbrev pub state_from : List ℕ → Assignment
+state_from [] = Set
+state_from (b ∷ value) = Value value
+
+-- a word without a mark at its front
+abbrev pub said_plainly : List ℕ → Option Assigned
+said_plainly word = said (before_first is_equals word) (state_from (drop (position_or_len is_equals word) word))
+
+-- a word
+abbrev pub assignment_of : List ℕ → Option Assigned
+assignment_of [] = None
+assignment_of (b ∷ bs) =
+    if b == dash then said bs Unset
+    else if b == exclamation_mark then said bs Unspecified
+    else said_plainly (b ∷ bs)
+
+-- the words of a text
+abbrev pub assignments : List ℕ → List Assigned
+assignments text = filter_map assignment_of (slice_split is_blank text)
