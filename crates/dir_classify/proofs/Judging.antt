@@ -49,9 +49,10 @@ unruled w f w0 w1 o0 old given path judge asks nothing ask_disk c kept reads is 
       keeps = asks-rules w w0 w1 kept;
       store = record { holds = refl; faults = omega arith };
       rules = record { made = refl; in_step = λ s tells step. step };
-      reads = inl (record { same = refl; reads = reads });
-      spared = λ s never. record { same = refl; reads = reads };
-      unasked = λ s told quiet no. (refl, refl);
+      reads = inl (record { same = refl; store = refl; reads = reads });
+      spared = λ s never. record { same = refl; store = refl; reads = reads };
+      memory = λ s never. tt;
+      unasked = λ s told quiet no. record { same = refl; store = refl; reads = reads };
       untouched = λ s h. record { worktree = same s h; store = refl; rules = refl };
     }
 
@@ -81,6 +82,7 @@ module _ {W F : Type 0} (w : WorktreeOf W) (f : FindOf F) (w0 w1 : W) (o0 o1 : F
         rules = j.rules;
         reads = j.reads;
         spared = λ s never. j.spared s (λ k. asks-dot_git given.options (evidence given (made_with old) s) path known (if ask_disk then k else None) is ∙ never k);
+        memory = λ s never. tt;
         unasked = λ s told quiet no.
             j.unasked s told quiet (asks-dot_git given.options (evidence given (made_with old) s) path known (on_disk given s.tree path ask_disk) is ∙ no);
         untouched = λ s h. j.untouched s (nothing-dot_git given.options (evidence given (made_with old) s) path known ask_disk is h);
@@ -108,6 +110,7 @@ module _ {W F : Type 0} (w : WorktreeOf W) (f : FindOf F) (w0 w1 : W) (o0 o1 : F
         rules = j.rules;
         reads = j.reads;
         spared = λ s never. j.spared s (λ k. asks-dot_git given.options (evidence given (made_with old) s) path known (if ask_disk then k else None) is ∙ never k);
+        memory = λ s never. j.memory s (λ k. asks-dot_git given.options (evidence given (made_with old) s) path known (if ask_disk then k else None) is ∙ never k);
         unasked = λ s told quiet no.
             j.unasked s told quiet (asks-dot_git given.options (evidence given (made_with old) s) path known (on_disk given s.tree path ask_disk) is ∙ no);
         untouched = λ s h. j.untouched s (nothing-dot_git given.options (evidence given (made_with old) s) path known ask_disk is h);
@@ -230,15 +233,17 @@ module _ {W F : Type 0} (w : WorktreeOf W) (f : FindOf F) (w0 w1 w2 : W) (o0 o1 
         keeps = asks-then w w0 w1 w2 (asks-rules w w0 w1 first) later.keeps;
         store = later.store;
         rules = record { made = later.rules.made; in_step = λ s tells step. later.rules.in_step s (tells-now s tells) step };
-        reads = at-most-later given.options.recurse_repositories path (w.reads w0) (w.reads w1) (w.reads w2) old new (Ok c) unread later.reads;
+        reads = at-most-later given.options.recurse_repositories path (w.reads w0) (w.reads w1) (w.reads w2) o0 o1 old new (Ok c) unread later.reads;
         spared = λ s never. let ev = evidence given (made_with old) s in
-            unasked-later given.options.recurse_repositories (w.reads w0) (w.reads w1) (w.reads w2) old new unread
+            unasked-later given.options.recurse_repositories (w.reads w0) (w.reads w1) (w.reads w2) o0 o1 old new unread
             (later.spared s (λ k.
             ap (λ (x : Option Kind). asks_of_kind given.options ev path x) (settled s kind (if ask_disk then seen-as.0 else None) seen-as.1)
             ∙ kind-asks given.options ev path known (if ask_disk then seen-as.0 else None) none (can-of s) ∙ never seen-as.0));
+        memory = λ s never. tt;
         unasked = λ s told quiet no. let ev = evidence given (made_with old) s in
-            later.unasked s (first.tree ∙ told) (quiet-second _ _ _ first.faults later.keeps.faults quiet)
-            (ap (λ (x : Option Kind). asks_of_kind given.options ev path x) (exactly-settled s told quiet) ∙ kind-asks given.options ev path known (seen s.tree) none (can-of s) ∙ no);
+            unasked-later given.options.recurse_repositories (w.reads w0) (w.reads w1) (w.reads w2) o0 o1 old new unread
+            (later.unasked s (first.tree ∙ told) (quiet-second _ _ _ first.faults later.keeps.faults quiet)
+            (ap (λ (x : Option Kind). asks_of_kind given.options ev path x) (exactly-settled s told quiet) ∙ kind-asks given.options ev path known (seen s.tree) none (can-of s) ∙ no));
         untouched = λ s h.
             let kept = still-kind given (made_with old) s path known ask_disk entry kind w0 w1 entry_is none can untouched h in
             let same = later.untouched s kept.1 in
@@ -280,15 +285,23 @@ at-kind-refused w f w0 w1 w2 o0 o1 old new given path full known ask_disk entry 
       keeps = asks-then w w0 w1 w2 (asks-rules w w0 w1 first) later.keeps;
       store = later.store;
       rules = record { made = later.rules.made; in_step = λ s tells step. later.rules.in_step s (tells-then (w.told w0) (w.told w1) (f.holds o0) (made_with old) s first.tree tells) step };
-      reads = at-most-later given.options.recurse_repositories path (w.reads w0) (w.reads w1) (w.reads w2) old new (Err e) unread later.reads;
+      reads = at-most-later given.options.recurse_repositories path (w.reads w0) (w.reads w1) (w.reads w2) o0 o1 old new (Err e) unread later.reads;
       spared = λ s never. let ev = evidence given (made_with old) s in
           let seen_as = any-kind ask_disk entry.up_to_date known kind (λ is. (untouched is).0) in
-          unasked-later given.options.recurse_repositories (w.reads w0) (w.reads w1) (w.reads w2) old new unread
+          unasked-later given.options.recurse_repositories (w.reads w0) (w.reads w1) (w.reads w2) o0 o1 old new unread
           (later.spared s (λ k.
           ap (λ (x : Option Kind). asks_of_kind given.options ev path x)
           (seen_as.1 ∙ ap (λ (i : InIndex). first_of_kinds i.up_to_date (first_of_kinds known (if ask_disk then seen_as.0 else None))) (entry_is ∙ sym (in_index-of given (made_with old) s path)))
           ∙ kind-asks given.options ev path known (if ask_disk then seen_as.0 else None) none (can_match-of given (made_with old) s path (is_dir known) ∙ can) ∙ never seen_as.0));
-      unasked = λ s told quiet no. later.unasked s (first.tree ∙ told) (quiet-second _ _ _ first.faults later.keeps.faults quiet) (asked s told quiet ∙ no);
+      memory = λ s never. let ev = evidence given (made_with old) s in
+          let seen_as = any-kind ask_disk entry.up_to_date known kind (λ is. (untouched is).0) in
+          later.memory s (λ k.
+          ap (λ (x : Option Kind). asks_of_kind given.options ev path x)
+          (seen_as.1 ∙ ap (λ (i : InIndex). first_of_kinds i.up_to_date (first_of_kinds known (if ask_disk then seen_as.0 else None))) (entry_is ∙ sym (in_index-of given (made_with old) s path)))
+          ∙ kind-asks given.options ev path known (if ask_disk then seen_as.0 else None) none (can_match-of given (made_with old) s path (is_dir known) ∙ can) ∙ never seen_as.0);
+      unasked = λ s told quiet no.
+          unasked-later given.options.recurse_repositories (w.reads w0) (w.reads w1) (w.reads w2) o0 o1 old new unread
+          (later.unasked s (first.tree ∙ told) (quiet-second _ _ _ first.faults later.keeps.faults quiet) (asked s told quiet ∙ no));
       untouched = λ s h.
           let kept = still-kind given (made_with old) s path known ask_disk entry kind w0 w1 entry_is none can untouched h in
           let same = later.untouched s kept.1 in

@@ -45,32 +45,32 @@ increased-later n0 n1 n2 a more = omega (arith, a, more)
 
 -- ---- about which path the rules were asked
 
+pub unasked-later : {F : Type 0} (recurses : Bool) (r0 r1 r2 : ℕ) (o0 o1 : F) (old new : Option Stacked) → r1 ≡ r0 → Unasked recurses r1 r2 o0 o1 old new → Unasked recurses r0 r2 o0 o1 old new
+unasked-later recurses r0 r1 r2 o0 o1 old new same asked = record { same = asked.same; store = asked.store; reads = λ on. asked.reads on ∙ same }
+
 -- they were, and then the worktree was read no more where repositories are walked into
-pub at-most : {T U E : Type 0} (recurses : Bool) (path : List ℕ) (r0 r1 r2 : ℕ) (old new : Option Stacked) (t : T) (u : U) → (recurses ≡ true → r2 ≡ r1)
-    → AsksAtMost {T = T} {E = E} true path r0 r1 old new (Ok t) → AsksAtMost {T = U} {E = E} recurses path r0 r2 old new (Ok u)
-at-most recurses path r0 r1 r2 old new t u same (inl asked) = inl (record { same = asked.same; reads = λ on. same on ∙ asked.reads refl })
-at-most recurses path r0 r1 r2 old new t u same (inr asked) =
-    inr (record { looked_up = asked.looked_up; on_way = asked.on_way; reads = λ on. let r = same on in let most = asked.reads refl in omega (arith, r, most) })
+pub at-most : {F T U E : Type 0} (recurses : Bool) (path : List ℕ) (r0 r1 r2 : ℕ) (o0 o1 : F) (old new : Option Stacked) (t : T) (u : U) → (recurses ≡ true → r2 ≡ r1)
+    → AsksAtMost {T = T} {E = E} true path r0 r1 o0 o1 old new (Ok t) → AsksAtMost {T = U} {E = E} recurses path r0 r2 o0 o1 old new (Ok u)
+at-most recurses path r0 r1 r2 o0 o1 old new t u same (inl asked) = inl (record { same = asked.same; store = asked.store; reads = λ on. same on ∙ asked.reads refl })
+at-most recurses path r0 r1 r2 o0 o1 old new t u same (inr asked) =
+    inr (record { given = asked.given; looked_up = asked.looked_up; on_way = asked.on_way; leaves = asked.leaves; reads = λ on. let r = same on in let most = asked.reads refl in omega (arith, r, most) })
 
 -- they were, and a later step was refused
-pub at-most-stopped : {T U E : Type 0} (recurses : Bool) (path : List ℕ) (r0 r1 r2 : ℕ) (old new : Option Stacked) (t : T) (e : E) → (recurses ≡ true → r2 ≡ r1)
-    → AsksAtMost {T = T} {E = E} true path r0 r1 old new (Ok t) → AsksAtMost {T = U} {E = E} recurses path r0 r2 old new (Err e)
-at-most-stopped recurses path r0 r1 r2 old new t e same (inl asked) = inl (record { same = asked.same; reads = λ on. same on ∙ asked.reads refl })
-at-most-stopped recurses path r0 r1 r2 old new t e same (inr asked) =
-    inr (record { looked_up = tt; on_way = asked.on_way; reads = λ on. let r = same on in let most = asked.reads refl in omega (arith, r, most) })
+pub at-most-stopped : {F T U E : Type 0} (recurses : Bool) (path : List ℕ) (r0 r1 r2 : ℕ) (o0 o1 : F) (old new : Option Stacked) (t : T) (e : E) → (recurses ≡ true → r2 ≡ r1)
+    → AsksAtMost {T = T} {E = E} true path r0 r1 o0 o1 old new (Ok t) → AsksAtMost {T = U} {E = E} recurses path r0 r2 o0 o1 old new (Err e)
+at-most-stopped recurses path r0 r1 r2 o0 o1 old new t e same (inl asked) = inl (record { same = asked.same; store = asked.store; reads = λ on. same on ∙ asked.reads refl })
+at-most-stopped recurses path r0 r1 r2 o0 o1 old new t e same (inr asked) =
+    inr (record { given = asked.given; looked_up = tt; on_way = asked.on_way; leaves = asked.leaves; reads = λ on. let r = same on in let most = asked.reads refl in omega (arith, r, most) })
 
 -- they were asked and refused
-pub at-most-refused : {T U E : Type 0} (recurses : Bool) (path : List ℕ) (r0 r1 : ℕ) (old new : Option Stacked) (e : E)
-    → AsksAtMost {T = T} {E = E} true path r0 r1 old new (Err e) → AsksAtMost {T = U} {E = E} recurses path r0 r1 old new (Err e)
-at-most-refused recurses path r0 r1 old new e (inl asked) = inl (record { same = asked.same; reads = λ on. asked.reads refl })
-at-most-refused recurses path r0 r1 old new e (inr asked) = inr (record { looked_up = tt; on_way = asked.on_way; reads = λ on. asked.reads refl })
+pub at-most-refused : {F T U E : Type 0} (recurses : Bool) (path : List ℕ) (r0 r1 : ℕ) (o0 o1 : F) (old new : Option Stacked) (e : E)
+    → AsksAtMost {T = T} {E = E} true path r0 r1 o0 o1 old new (Err e) → AsksAtMost {T = U} {E = E} recurses path r0 r1 o0 o1 old new (Err e)
+at-most-refused recurses path r0 r1 o0 o1 old new e (inl asked) = inl (record { same = asked.same; store = asked.store; reads = λ on. asked.reads refl })
+at-most-refused recurses path r0 r1 o0 o1 old new e (inr asked) = inr (record { given = asked.given; looked_up = tt; on_way = asked.on_way; leaves = asked.leaves; reads = λ on. asked.reads refl })
 
 -- before they were asked, the worktree was not read
-pub at-most-later : {T E : Type 0} (recurses : Bool) (path : List ℕ) (r0 r1 r2 : ℕ) (old new : Option Stacked) (result : Result T E) → r1 ≡ r0
-    → AsksAtMost recurses path r1 r2 old new result → AsksAtMost recurses path r0 r2 old new result
-at-most-later recurses path r0 r1 r2 old new result same (inl asked) = inl (record { same = asked.same; reads = λ on. asked.reads on ∙ same })
-at-most-later recurses path r0 r1 r2 old new result same (inr asked) =
-    inr (record { looked_up = asked.looked_up; on_way = asked.on_way; reads = λ on. let most = asked.reads on in omega (arith, same, most) })
-
-pub unasked-later : (recurses : Bool) (r0 r1 r2 : ℕ) (old new : Option Stacked) → r1 ≡ r0 → Unasked recurses r1 r2 old new → Unasked recurses r0 r2 old new
-unasked-later recurses r0 r1 r2 old new same asked = record { same = asked.same; reads = λ on. asked.reads on ∙ same }
+pub at-most-later : {F T E : Type 0} (recurses : Bool) (path : List ℕ) (r0 r1 r2 : ℕ) (o0 o1 : F) (old new : Option Stacked) (result : Result T E) → r1 ≡ r0
+    → AsksAtMost recurses path r1 r2 o0 o1 old new result → AsksAtMost recurses path r0 r2 o0 o1 old new result
+at-most-later recurses path r0 r1 r2 o0 o1 old new result same (inl asked) = inl (unasked-later recurses r0 r1 r2 o0 o1 old new same asked)
+at-most-later recurses path r0 r1 r2 o0 o1 old new result same (inr asked) =
+    inr (record { given = asked.given; looked_up = asked.looked_up; on_way = asked.on_way; leaves = asked.leaves; reads = λ on. let most = asked.reads on in omega (arith, same, most) })

@@ -9,4 +9,5 @@ pub mod Onward
 pub mod Refusals
 mod Ruled
 mod Upgrades
-mod WayAsked
+pub mod WayAsked
+mod WayUnread

@@ -1,5 +1,5 @@
 -- What a stack says of the path that it stands at.
-use Rattle.std.proofs.Common.{◌≡◌, ℕ, List, Bool, true, false, not, Option, Some, None, refl, sym, ap, ◌∙◌}
+use Rattle.std.proofs.Common.{◌≡◌, ℕ, List, [], ◌++◌, append_assoc, inl, inr, Bool, true, false, not, Option, Some, None, refl, sym, ap, ◌∙◌}
 use Rattle.std.specs.Prelude.{is_some}
 use Rattle.std.specs.List.{list_all}
 use Rattle.gitbase_core.specs.Objects.{Objects}
@@ -12,6 +12,12 @@ use Rattle.worktree_stack.specs.Setup.{Made, Held, setup_of, has_excludes, exclu
 use Rattle.worktree_stack.specs.Excludes.{exclude, rule_of, origin_of}
 use Rattle.worktree_stack.specs.Reading.{Sources, Tells, reading, is_read, rulebook}
 use Rattle.worktree_stack.specs.Stacked.{Stacked, made_of, pushed, HoldsFor, IsInStep}
+use Rattle.worktree_fs.specs.PathStack.{Call, lookup_calls}
+use Rattle.std.proofs.lemmas.List.{append-nil}
+use Rattle.worktree_stack.specs.declared.error.AtPathError.{AtPathError}
+use Rattle.worktree_stack.specs.declared.error.AtPathError.TheVariants as errors
+use Rattle.worktree_stack.specs.Steps.{CarriesOut, IsStopped, Stops, the_call}
+use Rattle.dir_classify.specs.Kept.{LeavesPushed}
 use Rattle.worktree_stack.specs.Lookups.{IsLookedUp}
 use Rattle.dir_classify.specs.declared.excludes.Ruling.{Ruling}
 use Rattle.dir_classify.specs.Excludes.{TellsIf}
@@ -51,3 +57,28 @@ read-looked sources made s path some made_is step at =
     let now : read (made_of s) (pushed s.at) ≡ true = read-all sources (made_of s) (pushed s.at) s.ignore (ap has_excludes made_is ∙ some) step in
     let all : read (made_of s) (fronts (without_last (components path))) ≡ true = ap (λ (a : Option (List (List ℕ))). read (made_of s) (pushed a)) (sym at.at) ∙ now in
     ap (λ (m : Made). not (read m (fronts (without_last (components path))))) (sym made_is) ∙ ap not all
+
+-- ---- what it leaves pushed
+
+-- all calls of a lookup were carried out
+pub leaves-answered : (told : Option Names) (holds : Option Objects) (path : List ℕ) (old new : Stacked) → CarriesOut told holds (lookup_calls old.at (components path)) old new
+    → LeavesPushed path old.at new.at
+leaves-answered told holds path old new carried =
+    record { done = lookup_calls old.at (components path); undone = []; calls_are = sym (append-nil (lookup_calls old.at (components path))); left = carried.left }
+
+leaves-at : (path : List ℕ) (old new : Stacked) (done : List Call) (begun : Option Call) → IsStopped (lookup_calls old.at (components path)) old new done begun
+    → LeavesPushed path old.at new.at
+leaves-at path old new done begun stopped =
+    record { done = done; undone = the_call begun ++ stopped.unmade; calls_are = stopped.front ∙ append_assoc done (the_call begun) stopped.unmade; left = stopped.left }
+
+-- only the first ones were
+pub leaves-refused : (told : Option Names) (holds : Option Objects) (TreeFailed StoreFailed : Type 0) (path : List ℕ) (old new : Stacked) (e : AtPathError)
+    → Stops told holds TreeFailed StoreFailed (lookup_calls old.at (components path)) old new e → LeavesPushed path old.at new.at
+leaves-refused told holds TreeFailed StoreFailed path old new errors.NotNormal stopped = absurd stopped
+leaves-refused told holds TreeFailed StoreFailed path old new (errors.Component why) stopped = absurd stopped
+leaves-refused told holds TreeFailed StoreFailed path old new (errors.Collision p) stopped = absurd stopped
+leaves-refused told holds TreeFailed StoreFailed path old new (errors.Directory p why) stopped = absurd stopped
+leaves-refused told holds TreeFailed StoreFailed path old new (errors.RulesFile p why) stopped = leaves-at path old new stopped.done _ stopped.stopped
+leaves-refused told holds TreeFailed StoreFailed path old new (errors.Blob id why) stopped = leaves-at path old new stopped.done _ stopped.stopped
+leaves-refused told holds TreeFailed StoreFailed path old new errors.OutOfMemory (inl stopped) = leaves-at path old new stopped.done _ stopped.stopped
+leaves-refused told holds TreeFailed StoreFailed path old new errors.OutOfMemory (inr stopped) = leaves-at path old new stopped.done _ stopped.stopped

@@ -94,9 +94,12 @@ module _ {W F : Type 0} (w : WorktreeOf W) (f : FindOf F) (w0 w1 w2 : W) (o0 o1 
         keeps = asks-then w w0 w1 w2 (asks-rules w w0 w1 first) later.keeps;
         store = later.store;
         rules = record { made = later.rules.made; in_step = λ s tells step. later.rules.in_step s (tells-now s tells) step };
-        reads = at-most-later given.options.recurse_repositories path (w.reads w0) (w.reads w1) (w.reads w2) old new (Ok c) unread later.reads;
-        spared = λ s never. unasked-later given.options.recurse_repositories (w.reads w0) (w.reads w1) (w.reads w2) old new unread (later.spared s (λ k. never kind));
-        unasked = λ s told quiet no. later.unasked s (first.tree ∙ told) (quiet-second _ _ _ first.faults later.keeps.faults quiet) (asked s told later.keeps.faults quiet ∙ no);
+        reads = at-most-later given.options.recurse_repositories path (w.reads w0) (w.reads w1) (w.reads w2) o0 o1 old new (Ok c) unread later.reads;
+        spared = λ s never. unasked-later given.options.recurse_repositories (w.reads w0) (w.reads w1) (w.reads w2) o0 o1 old new unread (later.spared s (λ k. never kind));
+        memory = λ s never. tt;
+        unasked = λ s told quiet no.
+            unasked-later given.options.recurse_repositories (w.reads w0) (w.reads w1) (w.reads w2) o0 o1 old new unread
+            (later.unasked s (first.tree ∙ told) (quiet-second _ _ _ first.faults later.keeps.faults quiet) (asked s told later.keeps.faults quiet ∙ no));
         untouched = λ s no. absurd (cc no);
       }
 
@@ -120,8 +123,11 @@ module _ {W F : Type 0} (w : WorktreeOf W) (f : FindOf F) (w0 w1 w2 : W) (o0 o1 
         keeps = asks-then w w0 w1 w2 (asks-rules w w0 w1 first) later.keeps;
         store = later.store;
         rules = record { made = later.rules.made; in_step = λ s tells step. later.rules.in_step s (tells-now s tells) step };
-        reads = at-most-later given.options.recurse_repositories path (w.reads w0) (w.reads w1) (w.reads w2) old new (Err e) unread later.reads;
-        spared = λ s never. unasked-later given.options.recurse_repositories (w.reads w0) (w.reads w1) (w.reads w2) old new unread (later.spared s (λ k. never kind));
-        unasked = λ s told quiet no. later.unasked s (first.tree ∙ told) (quiet-second _ _ _ first.faults later.keeps.faults quiet) (asked s told later.keeps.faults quiet ∙ no);
+        reads = at-most-later given.options.recurse_repositories path (w.reads w0) (w.reads w1) (w.reads w2) o0 o1 old new (Err e) unread later.reads;
+        spared = λ s never. unasked-later given.options.recurse_repositories (w.reads w0) (w.reads w1) (w.reads w2) o0 o1 old new unread (later.spared s (λ k. never kind));
+        memory = λ s never. later.memory s (λ k. never kind);
+        unasked = λ s told quiet no.
+            unasked-later given.options.recurse_repositories (w.reads w0) (w.reads w1) (w.reads w2) o0 o1 old new unread
+            (later.unasked s (first.tree ∙ told) (quiet-second _ _ _ first.faults later.keeps.faults quiet) (asked s told later.keeps.faults quiet ∙ no));
         untouched = λ s no. absurd (cc no);
       }

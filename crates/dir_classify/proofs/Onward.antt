@@ -1,15 +1,18 @@
 -- The way to a traversal root, one component after another.
-use Rattle.std.proofs.Common.{◌≡◌, ◌∙◌, ap, sym, ℕ, List, [], ◌∷◌, ◌++◌, Bool, true, false, not, ◌&&◌, ◌||◌, Option, Some, None, Ok, Err, refl, inl, inr, subst, append_assoc, arith}
+use Rattle.std.proofs.Common.{◌≡◌, ◌∙◌, ap, sym, ℕ, List, [], ◌∷◌, ◌++◌, Bool, true, false, not, ◌&&◌, Option, Some, None, Ok, Err, refl, inl, subst, append_assoc, arith}
 use Rattle.std.proofs.lemmas.List.{append-nil}
 use Rattle.std.specs.FinMap as map
-use Rattle.std.specs.Prelude.{◌⊎◌, if◌then◌else◌, is_some, Result}
+use Rattle.std.specs.Prelude.{◌⊎◌, if◌then◌else◌, is_some, IfErr, Result}
 use Rattle.gitbase_core.specs.Path.{components, joined}
 use Rattle.gitbase_core.specs.declared.find.Find.{Ghosts as FindOf}
 use Rattle.worktree_fs.specs.Causes.{Increased, NotIncreased}
 use Rattle.worktree_fs.specs.Kept.{AsksStore}
-use Rattle.worktree_fs.specs.Paths.{IsComponent, is_normal, spelled}
+use Rattle.worktree_fs.specs.Paths.{IsComponent, is_nil, is_normal, spelled}
 use Rattle.worktree_fs.specs.Tree.{none}
 use Rattle.worktree_fs.specs.declared.worktree.Worktree.{Ghosts as WorktreeOf}
+use Rattle.std.proofs.lemmas.Slice.Eq.{bytes_eq-Decides}
+use Rattle.std.specs.Str.{bytes_eq}
+use Rattle.worktree_fs.proofs.Grown.{same_name}
 use Rattle.worktree_fs.proofs.Spelled.{grown-is, grown-components}
 use Rattle.worktree_stack.specs.Reading.{Sources}
 use Rattle.worktree_stack.specs.Setup.{Made}
@@ -23,12 +26,13 @@ use Rattle.dir_classify.specs.declared.error.Error.{Error}
 use Rattle.dir_classify.specs.declared.error.Error.TheVariants as errors
 use Rattle.dir_classify.specs.Class.{class as class_of, asks as asks_of, asks_of_kind, is_dot_git, is_indexed, is_worktree, settled_kind}
 use Rattle.dir_classify.specs.Classes.{Judges}
-use Rattle.dir_classify.specs.Refused.{IsAbout, Refuses}
+use Rattle.dir_classify.specs.Refused.{IsAbout, Refuses, OnAccess}
 use Rattle.dir_classify.specs.Rooted.{AsksOnWay, LeadsTo, Reaches, reached_by, way_to}
 use Rattle.dir_classify.proofs.NormalPaths.{normal-front}
 use Rattle.dir_classify.proofs.Keeping.{asks-then, increased-later, quiet-first, quiet-second}
 use Rattle.dir_classify.proofs.Refusals.{OnAccess-both, OnFault-weaker, unread-refused}
-use Rattle.dir_classify.proofs.WayAsked.{nothing-more, way-answered, way-asked, way-refused, way-root, way-stopped}
+use Rattle.dir_classify.proofs.WayUnread.{either-unread, quiet-not, unread-onward, unread-step, unread-way, yes-no}
+use Rattle.dir_classify.proofs.WayAsked.{leads-further, nothing-more, way-answered, way-asked, way-refused, way-root, way-stopped}
 use Rattle.dir_classify.specs.declared.entry.Kind.{Kind}
 use Rattle.dir_classify.specs.Chosen.{Chosen}
 use Rattle.dir_classify.specs.Evidence.{Evidence}
@@ -51,7 +55,12 @@ pub record IsOnward {W F : Type 0} (w : WorktreeOf W) (f : FindOf F) (w0 w1 : W)
   pub ends : (s : Sources) → TellsIf (w.told w0) (f.holds o0) (made_with old) s → InStepIf s old → (r : Reached)
       → EndsAt given.options (evidence given (made_with old) s) (λ p. on_disk given s.tree p true) path class in_repository (components rest) r
       → IsReached given.options (evidence given (made_with old) s) (λ p. on_disk given s.tree p true) (components root) r
-  pub reads : AsksOnWay {T = Unit {0}} {E = Error} given.options.recurse_repositories path (w.reads w0) (w.reads w1) old new (Ok tt)
+  pub reads : AsksOnWay {T = Unit {0}} {E = Error} given.options.recurse_repositories path (w.reads w0) (w.reads w1) o0 o1 old new (Ok tt)
+  pub spared : (s : Sources) → ((p : List ℕ) → LeadsTo path p → (kind : Option Kind) → asks_of given.options (evidence given (made_with old) s) p kind None ≡ false)
+      → Unasked given.options.recurse_repositories (w.reads w0) (w.reads w1) o0 o1 old new
+  pub unasked : (s : Sources) → w.told w0 ≡ Some s.tree → NotIncreased (w.faults w0) (w.faults w1)
+      → ((p : List ℕ) → LeadsTo path p → asks_of given.options (evidence given (made_with old) s) p (on_disk given s.tree p true) None ≡ false)
+      → Unasked given.options.recurse_repositories (w.reads w0) (w.reads w1) o0 o1 old new
 
 -- ---- at the worktree root
 
@@ -118,11 +127,21 @@ never-unread o ev kinds = ap (λ b. b && ev.is_unread []) (never-asked o ev (kin
 some-sources : Sources
 some-sources = record { tree = none; objects = map.empty }
 
--- so they are as they were
-pub root-unasked : {W F : Type 0} {w : WorktreeOf W} {f : FindOf F} {w0 w1 : W} {o0 o1 : F} {old new : Option Stacked} {given : Setting} {result : Result Outcome Error}
-    → Judges w f w0 w1 o0 o1 old new given [] (λ kind ev. class_of given.options ev [] kind None) (λ kind ev. asks_of given.options ev [] kind None) (λ _. false) true result
-    → Unasked given.options.recurse_repositories (w.reads w0) (w.reads w1) old new
-root-unasked {old = old} {given = given} step = step.spared some-sources (λ kind. never-asked given.options (evidence given (made_with old) some-sources) kind None)
+-- so they are as they were, and it is refused for want of memory alone
+module _ {W F : Type 0} {w : WorktreeOf W} {f : FindOf F} {w0 w1 : W} {o0 o1 : F} {old new : Option Stacked} {given : Setting} {result : Result Outcome Error}
+    (step : Judges w f w0 w1 o0 o1 old new given [] (λ kind ev. class_of given.options ev [] kind None) (λ kind ev. asks_of given.options ev [] kind None) (λ _. false) true result) where
+  never-there : (kind : Option Kind) → asks_of given.options (evidence given (made_with old) some-sources) [] kind None ≡ false
+  never-there kind = never-asked given.options (evidence given (made_with old) some-sources) kind None
+
+  pub root-unasked : Unasked given.options.recurse_repositories (w.reads w0) (w.reads w1) o0 o1 old new
+  root-unasked = step.spared some-sources never-there
+
+  pub root-memory : IfErr result (OnAccess ⊥)
+  root-memory = step.memory some-sources never-there
+
+pub unasked-then : {F : Type 0} {recurses : Bool} {r0 r1 r2 : ℕ} {o0 o1 o2 : F} {old now new : Option Stacked} → Unasked recurses r0 r1 o0 o1 old now → Unasked recurses r1 r2 o1 o2 now new
+    → Unasked recurses r0 r2 o0 o2 old new
+unasked-then a b = record { same = b.same ∙ a.same; store = b.store ∙ a.store; reads = λ on. b.reads on ∙ a.reads on }
 
 -- ---- one component further
 
@@ -140,50 +159,6 @@ way-step o ev kinds path name names c next in_repository goes next_is read =
         ≡ onward o ev kinds (reached_at o ev kinds in_repository false (joined path name)) names
     open-way true e = refl
     open-way false e = absurd (cc e)
-
--- ---- where the rules of a path on the way cannot be read
-
-yes-no : (b : Bool) → b ≡ true → b ≡ false → ⊥
-yes-no true e f = cc f
-yes-no false e f = cc e
-
-quiet-not : (n0 n1 : ℕ) → NotIncreased n0 n1 → Increased n0 n1 → ⊥
-quiet-not n0 n1 quiet more = omega (arith, quiet, more)
-
-either-unread : (P Q R S : Type 0) → (P → R) → (Q → S) → P ⊎ Q → R ⊎ S
-either-unread P Q R S f g (inl p) = inl (f p)
-either-unread P Q R S f g (inr q) = inr (g q)
-
-unread-is : (given : Setting) (made : Option Made) (s : Sources) (path : List ℕ) → (evidence given made s).is_unread path ≡ is_unread_in made s path
-unfolding evidence
-unread-is given made s path = refl
-
-unread-way : (given : Setting) (now old : Option Made) (s : Sources) (path : List ℕ) → now ≡ old
-    → asks_of given.options (evidence given now s) path (on_disk given s.tree path true) None ≡ true → is_unread_in now s path ≡ true
-    → way_unread given.options (evidence given old s) (λ p. on_disk given s.tree p true) path ≡ true
-unread-way given now old s path same asks unread =
-    ap (λ (m : Option Made). way_unread given.options (evidence given m s) (λ p. on_disk given s.tree p true) path) (sym same)
-    ∙ ap (λ b. b && (evidence given now s).is_unread path) asks ∙ unread-is given now s path ∙ unread
-
--- once they cannot, that stays so
-unread-onward : (o : Chosen) (ev : Evidence) (kinds : List ℕ → Option Kind) (r : Reached) (names : List (List ℕ)) → r.is_unread ≡ true → (onward o ev kinds r names).is_unread ≡ true
-unread-onward o ev kinds r [] e = e
-unread-onward o ev kinds r (name ∷ names) e =
-    go (unread-onward o ev kinds (reached_at o ev kinds r.in_repository r.is_unread (joined r.path name)) names (ap (λ b. b || way_unread o ev kinds (joined r.path name)) e))
-    (goes_on o r.path r.class r.in_repository)
-  where
-    go : (onward o ev kinds (reached_at o ev kinds r.in_repository r.is_unread (joined r.path name)) names).is_unread ≡ true → (b : Bool) → (if b then onward o ev kinds (reached_at o ev kinds r.in_repository r.is_unread (joined r.path name)) names else record r { whole = false }).is_unread ≡ true
-    go ih true = ih
-    go ih false = e
-
-unread-step : (o : Chosen) (ev : Evidence) (kinds : List ℕ → Option Kind) (path name : List ℕ) (names : List (List ℕ)) (c : Outcome) (in_repository : Bool)
-    → goes_on o path c in_repository ≡ true → way_unread o ev kinds (joined path name) ≡ true → (onward o ev kinds (reached_so path c in_repository true) (name ∷ names)).is_unread ≡ true
-unread-step o ev kinds path name names c in_repository goes unread = go (goes_on o path c in_repository) goes
-  where
-    go : (b : Bool) → b ≡ true
-        → (if b then onward o ev kinds (reached_at o ev kinds in_repository false (joined path name)) names else record (reached_so path c in_repository true) { whole = false }).is_unread ≡ true
-    go true e = unread-onward o ev kinds (reached_at o ev kinds in_repository false (joined path name)) names unread
-    go false e = absurd (cc e)
 
 -- ---- what stays, and what is told, after a step
 
@@ -214,6 +189,38 @@ module _ {W F : Type 0} (w : WorktreeOf W) (f : FindOf F) (w0 w1 w2 : W) (o0 o1 
 
   pub tells-here : (s : Sources) → TellsIf (w.told w0) (f.holds o0) (made_with old) s → TellsIf (w.told w1) (f.holds o1) (made_with now) s
   tells-here s tells = tells-after w f w0 w1 o0 o1 old now s at.keeps at.store at.rules.made tells
+
+  grown-itself : LeadsTo (joined path name) (joined path name)
+  grown-itself = record { spelled_is = grown-spelled; rest = []; components_are = sym (append-nil (components (joined path name))) }
+
+  leads-grown : (p : List ℕ) → LeadsTo path p → LeadsTo (joined path name) p
+  leads-grown p = leads-further (joined path name) path p (name ∷ []) (grown-components path name at.spelled_is component)
+
+  -- what holds of a step where the rules are not asked holds of the way up to there
+  module _ (result : Result Outcome Error)
+      (step : Judges w f w1 w2 o1 o2 now new given (joined path name) (λ kind ev. class_of given.options ev (joined path name) kind None)
+      (λ kind ev. asks_of given.options ev (joined path name) kind None) (λ _. false) true result) where
+    never-now : (s : Sources) → ((p : List ℕ) → LeadsTo (joined path name) p → (kind : Option Kind) → asks_of given.options (evidence given (made_with old) s) p kind None ≡ false)
+        → (kind : Option Kind) → asks_of given.options (evidence given (made_with now) s) (joined path name) kind None ≡ false
+    never-now s never kind = ap (λ (m : Option Made). asks_of given.options (evidence given m s) (joined path name) kind None) at.rules.made ∙ never (joined path name) grown-itself kind
+
+    grown-spared : (s : Sources) → ((p : List ℕ) → LeadsTo (joined path name) p → (kind : Option Kind) → asks_of given.options (evidence given (made_with old) s) p kind None ≡ false)
+        → Unasked given.options.recurse_repositories (w.reads w0) (w.reads w2) o0 o2 old new
+    grown-spared s never = unasked-then (at.spared s (λ p leads. never p (leads-grown p leads))) (step.spared s (never-now s never))
+
+    grown-memory : (s : Sources) → ((p : List ℕ) → LeadsTo (joined path name) p → (kind : Option Kind) → asks_of given.options (evidence given (made_with old) s) p kind None ≡ false)
+        → IfErr result (OnAccess ⊥)
+    grown-memory s never = step.memory s (never-now s never)
+
+    grown-unasked : (s : Sources) → w.told w0 ≡ Some s.tree → NotIncreased (w.faults w0) (w.faults w2)
+        → ((p : List ℕ) → LeadsTo (joined path name) p → asks_of given.options (evidence given (made_with old) s) p (on_disk given s.tree p true) None ≡ false)
+        → Unasked given.options.recurse_repositories (w.reads w0) (w.reads w2) o0 o2 old new
+    grown-unasked s told quiet never =
+        unasked-then
+        (at.unasked s told (quiet-first (w.faults w0) (w.faults w1) (w.faults w2) at.keeps.faults step.keeps.faults quiet) (λ p leads. never p (leads-grown p leads)))
+        (step.unasked s (at.keeps.tree ∙ told) (quiet-second (w.faults w0) (w.faults w1) (w.faults w2) at.keeps.faults step.keeps.faults quiet)
+        (ap (λ (m : Option Made). asks_of given.options (evidence given m s) (joined path name) (on_disk given s.tree (joined path name) true) None) at.rules.made
+        ∙ never (joined path name) grown-itself))
 
   module _ (next : Outcome) (goes : goes_on given.options path c in_repository ≡ true)
       (step : Judges w f w1 w2 o1 o2 now new given (joined path name) (λ kind ev. class_of given.options ev (joined path name) kind None)
@@ -249,9 +256,11 @@ module _ {W F : Type 0} (w : WorktreeOf W) (f : FindOf F) (w0 w1 w2 : W) (o0 o1 
               (subst (λ (l : List (List ℕ)). EndsAt given.options (evidence given (made_with old) s) kinds path c in_repository l r) (sym rest_is)
               ((λ yes. (next, judged, end), λ no. absurd (yes-no (goes_on given.options path c in_repository) goes no))));
           reads =
-              way-answered given.options.recurse_repositories (joined path name) (w.reads w0) (w.reads w2) old new next tt
-              (way-asked given.options.recurse_repositories path name (joined path name) (w.reads w0) (w.reads w1) (w.reads w2) old now new (Ok next)
+              way-answered given.options.recurse_repositories (joined path name) (w.reads w0) (w.reads w2) o0 o2 old new next tt
+              (way-asked given.options.recurse_repositories path name (joined path name) (w.reads w0) (w.reads w1) (w.reads w2) o0 o1 o2 old now new (Ok next)
               (grown-components path name at.spelled_is component) grown-spelled at.reads step.reads);
+          spared = grown-spared (Ok next) step;
+          unasked = grown-unasked (Ok next) step;
         }
 
   pub Reaches-refused : (e : Error)
@@ -298,10 +307,15 @@ module _ {W F : Type 0} (w : WorktreeOf W) (f : FindOf F) (w0 w1 w2 : W) (o0 o1 
           made = step.rules.made ∙ at.rules.made;
           in_step = λ s tells stepped. step.rules.in_step s (tells-here s tells) (at.rules.in_step s tells stepped);
         };
-        reads = way-root given.options.recurse_repositories root (joined path name) (components left) (w.reads w0) (w.reads w2) old new (Err e) grown-split
-            (way-refused given.options.recurse_repositories (joined path name) (w.reads w0) (w.reads w2) old new e
-            (way-asked given.options.recurse_repositories path name (joined path name) (w.reads w0) (w.reads w1) (w.reads w2) old now new (Err e)
+        reads = way-root given.options.recurse_repositories root (joined path name) (components left) (w.reads w0) (w.reads w2) o0 o2 old new (Err e) grown-split
+            (way-refused given.options.recurse_repositories (joined path name) (w.reads w0) (w.reads w2) o0 o2 old new e
+            (way-asked given.options.recurse_repositories path name (joined path name) (w.reads w0) (w.reads w1) (w.reads w2) o0 o1 o2 old now new (Err e)
             (grown-components path name at.spelled_is component) grown-spelled at.reads step.reads));
+        spared = λ s never.
+            let grown : (p : List ℕ) → LeadsTo (joined path name) p → (kind : Option Kind) → asks_of given.options (evidence given (made_with old) s) p kind None ≡ false =
+            λ p on. never p (leads-further root (joined path name) p (components left) grown-split on) in
+            (grown-spared (Err e) step s grown, grown-memory (Err e) step s grown);
+        unasked = λ s told quiet never. grown-unasked (Err e) step s told quiet (λ p on. never p (leads-further root (joined path name) p (components left) grown-split on));
       }
 
 -- ---- where the way ends
@@ -309,6 +323,25 @@ module _ {W F : Type 0} (w : WorktreeOf W) (f : FindOf F) (w0 w1 w2 : W) (o0 o1 
 nothing-left : (front rest : List (List ℕ)) → [] ≡ front ++ rest → rest ≡ []
 nothing-left [] rest e = sym e
 nothing-left (name ∷ front) rest e = absurd (cc e)
+
+longer : (front rest : List (List ℕ)) (name : List ℕ) → front ≡ front ++ name ∷ rest → ⊥
+longer [] rest name e = cc e
+longer (x ∷ front) rest name e = longer front rest name (tail-is e)
+  where
+    tail-is : {xs ys : List (List ℕ)} → x ∷ xs ≡ x ∷ ys → xs ≡ ys
+    tail-is e = cc e
+
+-- no component is left exactly where the path is the whole one
+whole-path : (root path : List ℕ) (rest : List (List ℕ)) → root ≡ spelled (components root) → path ≡ spelled (components path) → components root ≡ components path ++ rest
+    → is_nil rest ≡ bytes_eq path root
+whole-path root path [] root_is spelled_is split =
+    sym (same_name path root (spelled_is ∙ ap spelled (sym (append-nil (components path)) ∙ sym split) ∙ sym root_is))
+whole-path root path (name ∷ rest) root_is spelled_is split =
+    go (bytes_eq path root) refl
+  where
+    go : (b : Bool) → bytes_eq path root ≡ b → false ≡ b
+    go true e = absurd (longer (components path) rest name (ap components ((bytes_eq-Decides path root).0 e) ∙ split))
+    go false e = refl
 
 -- at the worktree root, where no component leads further
 way-top : (given : Setting) (made : Option Made) (s : Sources) (root : List ℕ) → components root ≡ []
@@ -319,7 +352,7 @@ way-top given made s root bare = ap (λ (l : List (List ℕ)). reached given.opt
 module _ {W F : Type 0} (w : WorktreeOf W) (f : FindOf F) (w0 w1 : W) (o0 o1 : F) (old new : Option Stacked) (given : Setting)
     (root path rest : List ℕ) (c : Outcome) (in_repository : Bool) (at : IsOnward w f w0 w1 o0 o1 old new given root path c in_repository rest)
     (root_is : root ≡ spelled (components root)) (r : RootOutcome) (whole : Bool) (r_is : reached_by r false ≡ reached_so path c in_repository whole)
-    (whole_is : whole ≡ true → components rest ≡ [])
+    (whole_is : whole ≡ is_nil (components rest))
     (onward_is : (s : Sources) → onward given.options (evidence given (made_with old) s) (λ p. on_disk given s.tree p true) (reached_so path c in_repository true) (components rest)
     ≡ reached_so path c in_repository whole)
     (ends_at : (s : Sources) → EndsAt given.options (evidence given (made_with old) s) (λ p. on_disk given s.tree p true) path c in_repository (components rest) (reached_so path c in_repository whole)) where
@@ -342,10 +375,11 @@ module _ {W F : Type 0} (w : WorktreeOf W) (f : FindOf F) (w0 w1 : W) (o0 o1 : F
         swallowed = λ s tells stepped. at.ends s tells stepped (reached_by r false)
             (subst (λ (x : Reached). EndsAt given.options (evidence given (made_with old) s) (λ p. on_disk given s.tree p true) path c in_repository (components rest) x) (sym r_is) (ends_at s));
         prefix = subst (LeadsTo root) (sym path_is) (record { spelled_is = at.spelled_is; rest = components rest; components_are = at.split });
-        whole = λ is.
-            let none = whole_is (ap (λ (x : Reached). x.whole) (sym r_is) ∙ is) in
-            let same : components path ≡ components root = sym (append-nil (components path)) ∙ ap (λ (l : List (List ℕ)). components path ++ l) (sym none) ∙ sym at.split in
-            path_is ∙ at.spelled_is ∙ ap spelled same ∙ sym root_is;
+        whole =
+            ap (λ (x : Reached). x.whole) r_is
+            ∙ whole_is
+            ∙ whole-path root path (components rest) root_is at.spelled_is at.split
+            ∙ ap (λ (p : List ℕ). bytes_eq p root) (sym path_is);
         about = tt;
         refused = λ s tells. tt;
         asked = λ s tells stepped quiet. tt;
@@ -353,8 +387,11 @@ module _ {W F : Type 0} (w : WorktreeOf W) (f : FindOf F) (w0 w1 : W) (o0 o1 : F
         keeps = at.keeps;
         store = at.store;
         rules = at.rules;
-        reads = way-root given.options.recurse_repositories root path (components rest) (w.reads w0) (w.reads w1) old new (Ok r) at.split
-            (way-answered given.options.recurse_repositories path (w.reads w0) (w.reads w1) old new tt r at.reads);
+        reads =
+            subst (λ (p : List ℕ). AsksOnWay {E = Error} given.options.recurse_repositories p (w.reads w0) (w.reads w1) o0 o1 old new (Ok r)) (sym path_is)
+            (way-answered given.options.recurse_repositories path (w.reads w0) (w.reads w1) o0 o1 old new tt r at.reads);
+        spared = λ s never. (at.spared s (λ p leads. never p (subst (λ (x : List ℕ). LeadsTo x p) (sym path_is) leads)), tt);
+        unasked = λ s told quiet never. at.unasked s told quiet (λ p leads. never p (subst (λ (x : List ℕ). LeadsTo x p) (sym path_is) leads));
       }
 
 -- no component is left
@@ -395,8 +432,10 @@ Reaches-stopped w f w0 w1 o0 o1 old new given root path rest c in_repository at 
       keeps = at.keeps;
       store = at.store;
       rules = at.rules;
-      reads = way-root given.options.recurse_repositories root path (components rest) (w.reads w0) (w.reads w1) old new (Err errors.OutOfMemory) at.split
-          (way-stopped given.options.recurse_repositories path (w.reads w0) (w.reads w1) old new errors.OutOfMemory at.reads);
+      reads = way-root given.options.recurse_repositories root path (components rest) (w.reads w0) (w.reads w1) o0 o1 old new (Err errors.OutOfMemory) at.split
+          (way-stopped given.options.recurse_repositories path (w.reads w0) (w.reads w1) o0 o1 old new errors.OutOfMemory at.reads);
+      spared = λ s never. (at.spared s (λ p leads. never p (leads-further root path p (components rest) at.split leads)), tt);
+      unasked = λ s told quiet never. at.unasked s told quiet (λ p leads. never p (leads-further root path p (components rest) at.split leads));
     }
 
 -- the class of the worktree root was refused
@@ -436,4 +475,6 @@ Reaches-unrooted w f w0 w1 o0 o1 old new given root e step =
       store = step.store;
       rules = step.rules;
       reads = inl (root-unasked step);
+      spared = λ s never. (root-unasked step, root-memory step);
+      unasked = λ s told quiet never. root-unasked step;
     }

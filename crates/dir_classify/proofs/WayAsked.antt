@@ -1,6 +1,6 @@
 -- What the rules were asked on the way to a traversal root.
 use Rattle.std.proofs.Common.{◌≡◌, ◌∙◌, ap, sym, subst, ℕ, List, [], ◌∷◌, ◌++◌, length, Bool, true, false, Option, Some, None, Ok, Err, refl, inl, inr, append_assoc, arith}
-use Rattle.std.specs.Prelude.{Result, if◌then◌else◌}
+use Rattle.std.specs.Prelude.{Result, OnOk, is_some, if◌then◌else◌}
 use Rattle.std.specs.Str.{bytes_eq}
 use Rattle.std.proofs.lemmas.List.{append-nil}
 use Rattle.gitbase_core.specs.Path.{components, is_empty}
@@ -12,8 +12,8 @@ use Rattle.worktree_stack.specs.Stacked.{Stacked, pushed}
 use Rattle.dir_classify.specs.declared.classify.RootOutcome.{RootOutcome}
 use Rattle.dir_classify.specs.declared.error.Error.{Error}
 use Rattle.dir_classify.specs.Excludes.{pushed_in}
-use Rattle.dir_classify.specs.Kept.{AsksAtMost}
-use Rattle.dir_classify.specs.Rooted.{AsksOnWay, LeadsTo}
+use Rattle.dir_classify.specs.Kept.{AskedAbout, AsksAtMost, LeavesPushed, StandsAt, Unasked}
+use Rattle.dir_classify.specs.Rooted.{AskedOnWay, AsksOnWay, LeadsTo}
 
 -- ---- what lies on the way to a path lies on the way to those beneath it
 
@@ -43,95 +43,184 @@ stays-on-way : (at : Option (List (List ℕ))) (names : List (List ℕ)) → IsO
 stays-on-way None names is = refl
 stays-on-way (Some pushed) names is = ap Some (ap (common_front pushed) is.joined ∙ common-self pushed is.rest)
 
-leads-further : (root path first : List ℕ) (rest : List (List ℕ)) → components root ≡ components path ++ rest → LeadsTo path first → LeadsTo root first
+pub leads-further : (root path first : List ℕ) (rest : List (List ℕ)) → components root ≡ components path ++ rest → LeadsTo path first → LeadsTo root first
 leads-further root path first rest split leads =
     record { spelled_is = leads.spelled_is; rest = leads.rest ++ rest; components_are = split ∙ ap (λ l. l ++ rest) leads.components_are ∙ append_assoc (components first) leads.rest rest }
+
+-- exactly the directories above a path are pushed where rules stand at it
+pushed-above : (o : Option Stacked) (path : List ℕ) → StandsAt o path → pushed_in o ≡ Some (without_last (components path))
+pushed-above None path at = absurd at
+pushed-above (Some s) path at = at.at
+
+stands : {T E : Type 0} {P : Type 0} (result : Result T E) → P → OnOk result P
+stands (Ok t) p = p
+stands (Err e) p = tt
 
 -- a path with a component is not empty
 pub nothing-more : (front rest : List (List ℕ)) (name : List ℕ) → [] ≡ front ++ name ∷ rest → ⊥
 nothing-more [] rest name e = cc e
 nothing-more (x ∷ front) rest name e = cc e
 
-grown-some : (next : List ℕ) (front : List (List ℕ)) (name : List ℕ) → components next ≡ front ++ name ∷ [] → is_empty next ≡ false
+pub grown-some : (next : List ℕ) (front : List (List ℕ)) (name : List ℕ) → components next ≡ front ++ name ∷ [] → is_empty next ≡ false
 grown-some [] front name e = absurd (nothing-more front [] name e)
 grown-some (b ∷ bytes) front name e = refl
 
 -- ---- one path further
 
-module _ {T E : Type 0} (recurses : Bool) (path name next : List ℕ) (r0 r1 r2 : ℕ) (old now new : Option Stacked) (result : Result T E)
+module _ {F T E : Type 0} (recurses : Bool) (path name next : List ℕ) (r0 r1 r2 : ℕ) (o0 o1 o2 : F) (old now new : Option Stacked) (result : Result T E)
     (grown : components next ≡ components path ++ name ∷ []) (next_is : next ≡ spelled (components next)) where
-  further : (at : Option (List (List ℕ))) → IsOnWay at (components path) → IsOnWay at (components next)
-  further at is = subst (IsOnWay at) (sym grown) (on-way-further at (components path) (name ∷ []) is)
+  next-itself : LeadsTo next next
+  next-itself = record { spelled_is = next_is; rest = []; components_are = sym (append-nil (components next)) }
 
-  pub way-asked : AsksOnWay {T = Unit {0}} {E = Error} recurses path r0 r1 old now (Ok tt) → AsksAtMost recurses next r1 r2 now new result → AsksOnWay recurses next r0 r2 old new result
-  way-asked (inl a) (inl b) = inl (record { same = b.same ∙ a.same; reads = λ on. b.reads on ∙ a.reads on })
-  way-asked (inl a) (inr b) =
-      inr (record {
+  way-later : AskedOnWay {T = Unit {0}} {E = Error} recurses path r0 r1 old now (Ok tt) → Unasked recurses r1 r2 o1 o2 now new → AskedOnWay recurses next r0 r2 old new result
+  way-later a b =
+      record {
+        given = a.given;
+        first = a.first;
+        beneath = a.beneath;
+        last = a.last;
+        leads = leads-further next path a.last (name ∷ []) grown a.leads;
+        behind = a.behind;
+        looked_up = stands result (subst (λ (o : Option Stacked). StandsAt o a.last) (sym b.same) a.looked_up);
+        on_way = subst (λ (o : Option Stacked). IsOnWay (pushed_in o) (components a.last)) (sym b.same) a.on_way;
+        before = a.before;
+        before_is = a.before_is;
+        leaves = subst (λ (o : Option Stacked). LeavesPushed a.last a.before (pushed_in o)) (sym b.same) a.leaves;
+        reads = λ on.
+            let same = b.reads on in
+            let all : length (pushed (pushed_in new)) ≡ length (pushed (pushed_in now)) = ap (λ (o : Option Stacked). length (pushed (pushed_in o))) b.same in
+            let most = a.reads on in
+            omega (arith, same, all, most);
+      }
+
+  way-first : Unasked recurses r0 r1 o0 o1 old now → AskedAbout recurses next r1 r2 now new result → AskedOnWay recurses next r0 r2 old new result
+  way-first a b =
+      record {
+        given = subst (λ (o : Option Stacked). is_some o ≡ true) a.same b.given;
         first = next;
-        leads = record { spelled_is = next_is; rest = []; components_are = sym (append-nil (components next)) };
         beneath = grown-some next (components path) name grown;
+        last = next;
+        leads = next-itself;
+        behind = next-itself;
+        looked_up = b.looked_up;
         on_way = b.on_way;
+        before = pushed_in now;
+        before_is = inl (refl, ap pushed_in a.same);
+        leaves = b.leaves;
         reads = λ on.
             let same = a.reads on in
             let stay : length (pushed (staying (pushed_in now) (components next))) ≡ length (pushed (staying (pushed_in old) (components next))) =
             ap (λ (o : Option Stacked). length (pushed (staying (pushed_in o) (components next)))) a.same in
             let most = b.reads on in
             omega (arith, same, stay, most);
-      })
-  way-asked (inr a) (inl b) =
-      inr (record {
+      }
+
+  way-on : AskedOnWay {T = Unit {0}} {E = Error} recurses path r0 r1 old now (Ok tt) → AskedAbout recurses next r1 r2 now new result → AskedOnWay recurses next r0 r2 old new result
+  way-on a b =
+      let leads : LeadsTo next a.last = leads-further next path a.last (name ∷ []) grown a.leads in
+      record {
+        given = a.given;
         first = a.first;
-        leads = leads-further next path a.first (name ∷ []) grown a.leads;
         beneath = a.beneath;
-        on_way = subst (λ (o : Option Stacked). IsOnWay (pushed_in o) (components next)) (sym b.same) (further (pushed_in now) a.on_way);
-        reads = λ on.
-            let same = b.reads on in
-            let all : length (pushed (pushed_in new)) ≡ length (pushed (pushed_in now)) = ap (λ (o : Option Stacked). length (pushed (pushed_in o))) b.same in
-            let most = a.reads on in
-            omega (arith, same, all, most);
-      })
-  way-asked (inr a) (inr b) =
-      inr (record {
-        first = a.first;
-        leads = leads-further next path a.first (name ∷ []) grown a.leads;
-        beneath = a.beneath;
+        last = next;
+        leads = next-itself;
+        behind = leads-further next a.last a.first leads.rest leads.components_are a.behind;
+        looked_up = b.looked_up;
         on_way = b.on_way;
+        before = pushed_in now;
+        before_is = inr (a.last, a.behind, leads, pushed-above now a.last a.looked_up);
+        leaves = b.leaves;
         reads = λ on.
+            let way : IsOnWay (pushed_in now) (components next) = subst (IsOnWay (pushed_in now)) (sym leads.components_are) (on-way-further (pushed_in now) (components a.last) leads.rest a.on_way) in
             let stay : length (pushed (staying (pushed_in now) (components next))) ≡ length (pushed (pushed_in now)) =
-            ap (λ (at : Option (List (List ℕ))). length (pushed at)) (stays-on-way (pushed_in now) (components next) (further (pushed_in now) a.on_way)) in
+            ap (λ (at : Option (List (List ℕ))). length (pushed at)) (stays-on-way (pushed_in now) (components next) way) in
             let first = a.reads on in
             let then_ = b.reads on in
             omega (arith, stay, first, then_);
-      })
+      }
+
+  pub way-asked : AsksOnWay {T = Unit {0}} {E = Error} recurses path r0 r1 o0 o1 old now (Ok tt) → AsksAtMost recurses next r1 r2 o1 o2 now new result → AsksOnWay recurses next r0 r2 o0 o2 old new result
+  way-asked (inl a) (inl b) = inl (record { same = b.same ∙ a.same; store = b.store ∙ a.store; reads = λ on. b.reads on ∙ a.reads on })
+  way-asked (inl a) (inr b) = inr (way-first a b)
+  way-asked (inr a) (inl b) = inr (way-later a b)
+  way-asked (inr a) (inr b) = inr (way-on a b)
 
 -- ---- the whole way
 
-pub way-root : {T E : Type 0} (recurses : Bool) (root path : List ℕ) (rest : List (List ℕ)) (r0 r1 : ℕ) (old new : Option Stacked) (result : Result T E)
-    → components root ≡ components path ++ rest → AsksOnWay recurses path r0 r1 old new result → AsksOnWay recurses root r0 r1 old new result
-way-root recurses root path rest r0 r1 old new result split (inl a) = inl a
-way-root recurses root path rest r0 r1 old new result split (inr a) =
+pub way-root : {F T E : Type 0} (recurses : Bool) (root path : List ℕ) (rest : List (List ℕ)) (r0 r1 : ℕ) (o0 o1 : F) (old new : Option Stacked) (result : Result T E)
+    → components root ≡ components path ++ rest → AsksOnWay recurses path r0 r1 o0 o1 old new result → AsksOnWay recurses root r0 r1 o0 o1 old new result
+way-root recurses root path rest r0 r1 o0 o1 old new result split (inl a) = inl a
+way-root recurses root path rest r0 r1 o0 o1 old new result split (inr a) =
     inr (record {
+      given = a.given;
       first = a.first;
-      leads = leads-further root path a.first rest split a.leads;
       beneath = a.beneath;
-      on_way = subst (IsOnWay (pushed_in new)) (sym split) (on-way-further (pushed_in new) (components path) rest a.on_way);
+      last = a.last;
+      leads = leads-further root path a.last rest split a.leads;
+      behind = a.behind;
+      looked_up = a.looked_up;
+      on_way = a.on_way;
+      before = a.before;
+      before_is = a.before_is;
+      leaves = a.leaves;
       reads = a.reads;
     })
 
 -- whatever was answered, and whatever was refused
-pub way-answered : {T U : Type 0} (recurses : Bool) (path : List ℕ) (r0 r1 : ℕ) (old new : Option Stacked) (t : T) (u : U)
-    → AsksOnWay {T = T} {E = Error} recurses path r0 r1 old new (Ok t) → AsksOnWay {T = U} {E = Error} recurses path r0 r1 old new (Ok u)
-way-answered recurses path r0 r1 old new t u (inl a) = inl a
-way-answered recurses path r0 r1 old new t u (inr a) = inr (record { first = a.first; leads = a.leads; beneath = a.beneath; on_way = a.on_way; reads = a.reads })
+pub way-answered : {F T U : Type 0} (recurses : Bool) (path : List ℕ) (r0 r1 : ℕ) (o0 o1 : F) (old new : Option Stacked) (t : T) (u : U)
+    → AsksOnWay {T = T} {E = Error} recurses path r0 r1 o0 o1 old new (Ok t) → AsksOnWay {T = U} {E = Error} recurses path r0 r1 o0 o1 old new (Ok u)
+way-answered recurses path r0 r1 o0 o1 old new t u (inl a) = inl a
+way-answered recurses path r0 r1 o0 o1 old new t u (inr a) =
+    inr (record {
+      given = a.given;
+      first = a.first;
+      beneath = a.beneath;
+      last = a.last;
+      leads = a.leads;
+      behind = a.behind;
+      looked_up = a.looked_up;
+      on_way = a.on_way;
+      before = a.before;
+      before_is = a.before_is;
+      leaves = a.leaves;
+      reads = a.reads;
+    })
 
-pub way-refused : {T U : Type 0} (recurses : Bool) (path : List ℕ) (r0 r1 : ℕ) (old new : Option Stacked) (e : Error)
-    → AsksOnWay {T = T} {E = Error} recurses path r0 r1 old new (Err e) → AsksOnWay {T = U} {E = Error} recurses path r0 r1 old new (Err e)
-way-refused recurses path r0 r1 old new e (inl a) = inl a
-way-refused recurses path r0 r1 old new e (inr a) = inr (record { first = a.first; leads = a.leads; beneath = a.beneath; on_way = a.on_way; reads = a.reads })
+pub way-refused : {F T U : Type 0} (recurses : Bool) (path : List ℕ) (r0 r1 : ℕ) (o0 o1 : F) (old new : Option Stacked) (e : Error)
+    → AsksOnWay {T = T} {E = Error} recurses path r0 r1 o0 o1 old new (Err e) → AsksOnWay {T = U} {E = Error} recurses path r0 r1 o0 o1 old new (Err e)
+way-refused recurses path r0 r1 o0 o1 old new e (inl a) = inl a
+way-refused recurses path r0 r1 o0 o1 old new e (inr a) =
+    inr (record {
+      given = a.given;
+      first = a.first;
+      beneath = a.beneath;
+      last = a.last;
+      leads = a.leads;
+      behind = a.behind;
+      looked_up = tt;
+      on_way = a.on_way;
+      before = a.before;
+      before_is = a.before_is;
+      leaves = a.leaves;
+      reads = a.reads;
+    })
 
 -- memory was refused before the next path was asked about
-pub way-stopped : (recurses : Bool) (path : List ℕ) (r0 r1 : ℕ) (old new : Option Stacked) (e : Error)
-    → AsksOnWay {T = Unit {0}} {E = Error} recurses path r0 r1 old new (Ok tt) → AsksOnWay {T = RootOutcome} {E = Error} recurses path r0 r1 old new (Err e)
-way-stopped recurses path r0 r1 old new e (inl a) = inl a
-way-stopped recurses path r0 r1 old new e (inr a) =
-    inr (record { first = a.first; leads = a.leads; beneath = a.beneath; on_way = a.on_way; reads = λ on. let most = a.reads on in omega (arith, most) })
+pub way-stopped : {F : Type 0} (recurses : Bool) (path : List ℕ) (r0 r1 : ℕ) (o0 o1 : F) (old new : Option Stacked) (e : Error)
+    → AsksOnWay {T = Unit {0}} {E = Error} recurses path r0 r1 o0 o1 old new (Ok tt) → AsksOnWay {T = RootOutcome} {E = Error} recurses path r0 r1 o0 o1 old new (Err e)
+way-stopped recurses path r0 r1 o0 o1 old new e (inl a) = inl a
+way-stopped recurses path r0 r1 o0 o1 old new e (inr a) =
+    inr (record {
+      given = a.given;
+      first = a.first;
+      beneath = a.beneath;
+      last = a.last;
+      leads = a.leads;
+      behind = a.behind;
+      looked_up = tt;
+      on_way = a.on_way;
+      before = a.before;
+      before_is = a.before_is;
+      leaves = a.leaves;
+      reads = λ on. let most = a.reads on in omega (arith, most);
+    })

@@ -47,13 +47,16 @@ pub record Judges {W F : Type 0} (w : WorktreeOf W) (f : FindOf F) (w0 w1 : W) (
   pub store : AsksStore f o0 o1
   pub rules : KeepsRules w f w0 w1 o0 old new
   -- Told or not, the rules were asked about this path alone.
-  pub reads : AsksAtMost given.options.recurse_repositories path (w.reads w0) (w.reads w1) old new result
-  -- Nor were they, where they are not asked whatever the kind on disk is.
+  pub reads : AsksAtMost given.options.recurse_repositories path (w.reads w0) (w.reads w1) o0 o1 old new result
+  -- Nor were they, where they are not asked whatever the kind on disk is; then it is refused for want of memory alone.
   pub spared : (s : Sources) → ((kind : Option Kind) → asks (if ask_disk then kind else None) (evidence given (made_with old) s) ≡ false)
-      → Unasked given.options.recurse_repositories (w.reads w0) (w.reads w1) old new
+      → Unasked given.options.recurse_repositories (w.reads w0) (w.reads w1) o0 o1 old new
+  pub memory : (s : Sources) → ((kind : Option Kind) → asks (if ask_disk then kind else None) (evidence given (made_with old) s) ≡ false)
+      → IfErr result (OnAccess ⊥)
   -- Over a told tree and without a fault, they are not asked in vain.
   pub unasked : (s : Sources) → w.told w0 ≡ Some s.tree → NotIncreased (w.faults w0) (w.faults w1)
-      → asks (on_disk given s.tree path ask_disk) (evidence given (made_with old) s) ≡ false → (o1 ≡ o0) × (new ≡ old)
+      → asks (on_disk given s.tree path ask_disk) (evidence given (made_with old) s) ≡ false
+      → Unasked given.options.recurse_repositories (w.reads w0) (w.reads w1) o0 o1 old new
   -- Told or not, where nothing is asked of the worktree it is as it was.
   pub untouched : (s : Sources) → nothing (evidence given (made_with old) s) ≡ true → AreUntouched w0 w1 o0 o1 old new
 

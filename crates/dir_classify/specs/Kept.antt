@@ -1,9 +1,9 @@
 -- What the class of a path leaves of a worktree and of the ignore rules.
-use Rattle.std.specs.Prelude.{◌≡◌, ◌≤◌, ◌⊎◌, ℕ, ◌+◌, Bool, true, List, length, Option, Result, OnOk, IsSomeAnd}
+use Rattle.std.specs.Prelude.{◌≡◌, ◌≤◌, ◌⊎◌, ℕ, ◌+◌, ◌++◌, Bool, true, List, length, map, Option, Result, OnOk, IsSomeAnd, is_some}
 use Rattle.gitbase_core.specs.Path.{components}
 use Rattle.gitbase_core.specs.declared.find.Find.{Ghosts as FindOf}
 use Rattle.worktree_fs.specs.declared.worktree.Worktree.{Ghosts as WorktreeOf}
-use Rattle.worktree_fs.specs.PathStack.{IsOnWay}
+use Rattle.worktree_fs.specs.PathStack.{Call, IsOnWay, directories, granted, left_by, lookup_calls}
 use Rattle.worktree_stack.specs.Lookups.{IsLookedUp, staying, refused_one}
 use Rattle.worktree_stack.specs.Reading.{Sources}
 use Rattle.worktree_stack.specs.Stacked.{Stacked, pushed}
@@ -23,28 +23,38 @@ pub record KeepsRules {W F : Type 0} (w : WorktreeOf W) (f : FindOf F) (w0 w1 : 
   pub made : made_with new ≡ made_with old
   pub in_step : (s : Sources) → TellsIf (w.told w0) (f.holds o0) (made_with old) s → InStepIf s old → InStepIf s new
 
--- The rules were not asked: they are as they were, and nothing was read for them. Where repositories are not walked into, the
--- worktree may have been read to find some.
-pub record Unasked (recurses : Bool) (reads0 reads1 : ℕ) (old new : Option Stacked) : Type 0 where
+-- The rules were not asked: they and the store are as they were, and nothing was read for them. Where repositories are not walked
+-- into, the worktree may have been read to find some.
+pub record Unasked {F : Type 0} (recurses : Bool) (reads0 reads1 : ℕ) (o0 o1 : F) (old new : Option Stacked) : Type 0 where
   pub same : new ≡ old
+  pub store : o1 ≡ o0
   pub reads : recurses ≡ true → reads1 ≡ reads0
 
 -- rules that are given stand looked up at a path
 abbrev pub StandsAt : Option Stacked → List ℕ → Type 0
 StandsAt excludes path = IsSomeAnd excludes (λ s. IsLookedUp s (components path))
 
--- The rules were asked about one path. Answered they stand at it, so that exactly the directories above it are pushed; refused,
--- what is pushed lies on the way to it. Where repositories are walked into, the worktree was read at most once for each directory
--- that was pushed or refused.
+-- What is pushed after a lookup is what the first ones of its calls leave: where it was refused, those before the refusal.
+pub record LeavesPushed (path : List ℕ) (old new : Option (List (List ℕ))) : Type 0 where
+  pub done : List Call
+  pub undone : List Call
+  pub calls_are : lookup_calls old (components path) ≡ done ++ undone
+  pub left : directories new ≡ left_by (directories old) (map granted done)
+
+-- Rules that are given were asked about one path. Answered they stand at it, so that exactly the directories above it are pushed;
+-- refused, what is pushed lies on the way to it, as its lookup left it. Where repositories are walked into, the worktree was read
+-- at most once for each directory that was pushed or refused.
 pub record AskedAbout {T E : Type 0} (recurses : Bool) (path : List ℕ) (reads0 reads1 : ℕ) (old new : Option Stacked) (result : Result T E) : Type 0 where
+  pub given : is_some old ≡ true
   pub looked_up : OnOk result (StandsAt new path)
   pub on_way : IsOnWay (pushed_in new) (components path)
+  pub leaves : LeavesPushed path (pushed_in old) (pushed_in new)
   pub reads : recurses ≡ true → reads1 + length (pushed (staying (pushed_in old) (components path))) ≤ reads0 + length (pushed (pushed_in new)) + refused_one result
 
 -- The rules were asked about one path, or they were not asked.
-abbrev pub AsksAtMost : {T E : Type 0} → Bool → List ℕ → ℕ → ℕ → Option Stacked → Option Stacked → Result T E → Type 0
-AsksAtMost recurses path reads0 reads1 old new result =
-    Unasked recurses reads0 reads1 old new ⊎ AskedAbout recurses path reads0 reads1 old new result
+abbrev pub AsksAtMost : {F T E : Type 0} → Bool → List ℕ → ℕ → ℕ → F → F → Option Stacked → Option Stacked → Result T E → Type 0
+AsksAtMost recurses path reads0 reads1 o0 o1 old new result =
+    Unasked recurses reads0 reads1 o0 o1 old new ⊎ AskedAbout recurses path reads0 reads1 old new result
 
 -- a worktree, a store and the rules, where they are given, as they were
 pub record AreUntouched {W F : Type 0} (w0 w1 : W) (o0 o1 : F) (old new : Option Stacked) : Type 0 where

@@ -1,20 +1,23 @@
 -- What a call does that classes the paths on the way to a traversal root.
-use Rattle.std.specs.Prelude.{◌≡◌, ◌≤◌, ◌⊎◌, ℕ, ◌+◌, Bool, true, false, List, [], ◌++◌, length, Option, Some, Result, IfOk, IfErr}
+use Rattle.std.specs.Prelude.{◌≡◌, ◌≤◌, ◌⊎◌, ℕ, ◌+◌, Bool, true, false, List, [], ◌++◌, length, Option, Some, None, Result, Ok, Err, IfOk, IfErr, OnOk, is_some}
+use Rattle.std.specs.Str.{bytes_eq}
 use Rattle.gitbase_core.specs.Path.{components, is_empty}
 use Rattle.gitbase_core.specs.declared.find.Find.{Ghosts as FindOf}
 use Rattle.worktree_fs.specs.declared.worktree.Worktree.{Ghosts as WorktreeOf}
 use Rattle.worktree_fs.specs.Causes.{NotIncreased, Increased}
 use Rattle.worktree_fs.specs.Kept.{AsksStore}
-use Rattle.worktree_fs.specs.Paths.{spelled}
+use Rattle.worktree_fs.specs.Paths.{spelled, without_last}
 use Rattle.worktree_fs.specs.PathStack.{IsOnWay}
 use Rattle.worktree_stack.specs.Lookups.{staying, refused_one}
 use Rattle.worktree_stack.specs.Reading.{Sources}
 use Rattle.worktree_stack.specs.Setup.{Made}
 use Rattle.worktree_stack.specs.Stacked.{Stacked, pushed}
 use Rattle.dir_classify.specs.declared.classify.RootOutcome.{RootOutcome}
+use Rattle.dir_classify.specs.declared.entry.Kind.{Kind}
 use Rattle.dir_classify.specs.declared.error.Error.{Error}
+use Rattle.dir_classify.specs.Class.{asks}
 use Rattle.dir_classify.specs.Excludes.{made_with, pushed_in, TellsIf, InStepIf}
-use Rattle.dir_classify.specs.Kept.{AsksRules, KeepsRules, Unasked}
+use Rattle.dir_classify.specs.Kept.{AsksRules, KeepsRules, LeavesPushed, StandsAt, Unasked}
 use Rattle.dir_classify.specs.Layers.{Setting, evidence, on_disk}
 use Rattle.dir_classify.specs.Refused.{IsAbout, Refuses, OnAccess, OnFault}
 use Rattle.dir_classify.specs.Way.{Reached, reached, IsReached}
@@ -37,21 +40,39 @@ pub record LeadsTo (root path : List ℕ) : Type 0 where
 abbrev pub OnWayTo : List ℕ → (List ℕ → Type 0) → Type 0
 OnWayTo root Said = (path : List ℕ) × LeadsTo root path × Said path
 
--- The rules were asked about paths on the way to one, and not about the worktree root. What is pushed lies on the way there. Where
--- repositories are walked into, the worktree was read at most once for each directory that was pushed or refused from the first of
--- these paths on.
+-- What was pushed where the last of some paths was looked up, each beneath the one before it: what was pushed at first, where it
+-- is the first one; else exactly the directories above the one before it.
+abbrev pub IsPushedBefore : (first last : List ℕ) → (old before : Option (List (List ℕ))) → Type 0
+IsPushedBefore first last old before =
+    ((last ≡ first) × (before ≡ old)) ⊎ ((path : List ℕ) × LeadsTo path first × LeadsTo last path × (before ≡ Some (without_last (components path))))
+
+-- The rules were asked about paths on the way to one, and not about the worktree root. Answered they stand at the last of these
+-- paths; and what is pushed is what its lookup left, on the way there. Where repositories are walked into, the worktree was read
+-- at most once for each directory that was pushed or refused from the first of these paths on.
 pub record AskedOnWay {T E : Type 0} (recurses : Bool) (root : List ℕ) (reads0 reads1 : ℕ) (old new : Option Stacked) (result : Result T E) : Type 0 where
+  pub given : is_some old ≡ true
   pub first : List ℕ
-  pub leads : LeadsTo root first
   pub beneath : is_empty first ≡ false
-  pub on_way : IsOnWay (pushed_in new) (components root)
+  pub last : List ℕ
+  pub leads : LeadsTo root last
+  pub behind : LeadsTo last first
+  pub looked_up : OnOk result (StandsAt new last)
+  pub on_way : IsOnWay (pushed_in new) (components last)
+  pub before : Option (List (List ℕ))
+  pub before_is : IsPushedBefore first last (pushed_in old) before
+  pub leaves : LeavesPushed last before (pushed_in new)
   pub reads : recurses ≡ true
       → reads1 + length (pushed (staying (pushed_in old) (components first))) ≤ reads0 + length (pushed (pushed_in new)) + refused_one result
 
 -- The rules were asked about paths on the way to one, or they were not asked.
-abbrev pub AsksOnWay : {T E : Type 0} → Bool → List ℕ → ℕ → ℕ → Option Stacked → Option Stacked → Result T E → Type 0
-AsksOnWay recurses root reads0 reads1 old new result =
-    Unasked recurses reads0 reads1 old new ⊎ AskedOnWay recurses root reads0 reads1 old new result
+abbrev pub AsksOnWay : {F T E : Type 0} → Bool → List ℕ → ℕ → ℕ → F → F → Option Stacked → Option Stacked → Result T E → Type 0
+AsksOnWay recurses root reads0 reads1 o0 o1 old new result =
+    Unasked recurses reads0 reads1 o0 o1 old new ⊎ AskedOnWay recurses root reads0 reads1 old new result
+
+-- How far the rules may have been asked: up to the path that was classed last, and refused somewhere on the way.
+abbrev pub ended_at : List ℕ → Result RootOutcome Error → List ℕ
+ended_at root (Ok r) = r.path
+ended_at root (Err e) = root
 
 -- What it answers and leaves; a worktree was `w0` and is `w1`, a store was `o0` and is `o1`, and the rules were `old` and are
 -- `new`.
@@ -67,9 +88,9 @@ pub record Reaches {W F : Type 0} (w : WorktreeOf W) (f : FindOf F) (w0 w1 : W) 
   -- With faults it is where the way ends by what was read.
   pub swallowed : (s : Sources) → TellsIf (w.told w0) (f.holds o0) (made_with old) s → InStepIf s old
       → IfOk result (λ r. IsReached given.options (evidence given (made_with old) s) (λ path. on_disk given s.tree path true) (components root) (reached_by r false))
-  -- Told or not, the path is one on the way.
+  -- Told or not, the path is one on the way, and it is said whether it is the whole one.
   pub prefix : IfOk result (λ r. LeadsTo root r.path)
-  pub whole : IfOk result (λ r. r.whole ≡ true → r.path ≡ root)
+  pub whole : IfOk result (λ r. r.whole ≡ bytes_eq r.path root)
   -- Each refusal has its cause.
   pub about : IfErr result (λ e. OnWayTo root (λ path. IsAbout (made_with old) path e))
   pub refused : (s : Sources) → TellsIf (w.told w0) (f.holds o0) (made_with old) s
@@ -81,4 +102,12 @@ pub record Reaches {W F : Type 0} (w : WorktreeOf W) (f : FindOf F) (w0 w1 : W) 
   pub keeps : AsksRules w w0 w1
   pub store : AsksStore f o0 o1
   pub rules : KeepsRules w f w0 w1 o0 old new
-  pub reads : AsksOnWay given.options.recurse_repositories root (w.reads w0) (w.reads w1) old new result
+  pub reads : AsksOnWay given.options.recurse_repositories (ended_at root result) (w.reads w0) (w.reads w1) o0 o1 old new result
+  -- The rules are not asked where no path on the way asks them whatever its kind is, and then it is refused for want of memory
+  -- alone; and over a told tree and without a fault, where none asks them by its kind.
+  pub spared : (s : Sources)
+      → ((path : List ℕ) → LeadsTo (ended_at root result) path → (kind : Option Kind) → asks given.options (evidence given (made_with old) s) path kind None ≡ false)
+      → Unasked given.options.recurse_repositories (w.reads w0) (w.reads w1) o0 o1 old new × IfErr result (OnAccess ⊥)
+  pub unasked : (s : Sources) → w.told w0 ≡ Some s.tree → NotIncreased (w.faults w0) (w.faults w1)
+      → ((path : List ℕ) → LeadsTo (ended_at root result) path → asks given.options (evidence given (made_with old) s) path (on_disk given s.tree path true) None ≡ false)
+      → Unasked given.options.recurse_repositories (w.reads w0) (w.reads w1) o0 o1 old new

@@ -77,7 +77,7 @@ pub(crate) fn ruling_of<W: Worktree, F: Find>(
     ensures rules { KeepsRules W.Worktree F.Find worktree.old worktree.new objects.old excludes.old
         excludes.new }
     ensures reads { AsksAtMost true rela_path.now (W.reads worktree.old) (W.reads worktree.new)
-        excludes.old excludes.new result }
+        objects.old objects.new excludes.old excludes.new result }
     ensures no_rules { is_some (made_with excludes.old) ≡ false
         → IfOk result (λ r. r ≡ no_ruling) }
     ensures untouched { is_some (made_with excludes.old) ≡ false
@@ -118,7 +118,7 @@ fn ruling_by<W: Worktree, F: Find>(
     ensures rules { KeepsRules W.Worktree F.Find worktree.old worktree.new objects.old
         (Some stack.old) (Some stack.new) }
     ensures reads { AsksAtMost true rela_path.now (W.reads worktree.old) (W.reads worktree.new)
-        (Some stack.old) (Some stack.new) result }
+        objects.old objects.new (Some stack.old) (Some stack.new) result }
 {
     stack.at_path(alloc, rela_path, mode_of(is_dir), worktree, objects)?;
     let platform = stack.platform();

@@ -23,6 +23,7 @@ use Rattle.dir_walk.specs.Safe.{IsSafe}
 use Rattle.dir_walk.specs.Fold.{one_if}
 use Rattle.dir_walk.specs.Puts.{AddsAtMost, given_at, once_at, once_within}
 use Rattle.dir_walk.specs.Walks.{GivesEntries, GivesFrom, GivesOnce, WalkGives}
+use Rattle.dir_walk.proofs.Flat.{flat-entries}
 use Rattle.dir_walk.proofs.Lists.{some-weaker}
 use Rattle.dir_walk.proofs.Reported.{covers-by_path}
 use Rattle.dir_walk.proofs.Safety.{safe-by_path, safe-walk}
@@ -90,6 +91,7 @@ module _ (given : Setting) (made : Option Made) (s : Sources) (explicit : Option
       record {
         is = is-of;
         ascends = subst Ascends (sym entries-are) (Ascends-by_path got safe.once);
+        flat = λ off. flat-entries given made s explicit limit made_report tree off is-of;
         safe =
             at-walk (λ walk. IsSafe given.options (evidence given made s) walk.gives entries)
             (subst (IsSafe given.options (evidence given made s) gives.walk.gives) (sym entries-are) (safe-by_path given.options (evidence given made s) gives.walk.gives got safe));

@@ -19,7 +19,7 @@ use Rattle.dir_walk.specs.declared.delegate.Delegate.{Ghosts as DelegateOf}
 use Rattle.dir_walk.specs.declared.handed.Stop.{Stop}
 use Rattle.dir_walk.specs.declared.handed.Stop.TheVariants.{Refused, Broken}
 use Rattle.dir_walk.specs.Given.{OnRefused}
-use Rattle.dir_walk.specs.Kept.{AsksInterrupt, Heeds, KeepsDelegate, KeepsTree, OnInterrupt, WantsMemory}
+use Rattle.dir_walk.specs.Kept.{AsksInterrupt, Heeds, KeepsDelegate, KeepsTree, OnInterrupt, WantsMemory, OnListingFault}
 use Rattle.dir_walk.specs.Refused.{IsDeep}
 use Rattle.dir_walk.specs.Starts.{OnlyRoot}
 use Rattle.dir_walk.specs.Walks.{Ends, Tells}
@@ -105,8 +105,9 @@ module _ {W F I D T : Type 0} (w : WorktreeOf W) (f : FindOf F) (i : InterruptOf
   -- only the delegate was given something
   pub Ends-put : {w0 : W} {o0 : F} {i0 : I} {r0 : Option Stacked} {d0 d1 : D} (result : Result T Stop) → KeepsDelegate d d0 d1 → Heeds d d0 d1 result
       → IfErr result (OnRefused (OnFault (Increased (w.faults w0) (w.faults w0)) (Increased (f.faults o0) (f.faults o0)))) → IfErr result (OnRefused (OnInterrupt (Increased (i.raised i0) (i.raised i0))))
+      → IfErr result (OnRefused (OnListingFault (Increased (w.list_faults w0) (w.list_faults w0))))
       → Ends w f i d w0 w0 o0 o0 i0 i0 r0 r0 d0 d1 result
-  Ends-put {w0} {o0} {i0} result keeps heeds fault interrupt =
+  Ends-put {w0} {o0} {i0} result keeps heeds fault interrupt listing =
       record {
         worktree = record { tree = refl; faults = omega arith; list_faults = omega arith; lists = omega arith; precomposes = refl };
         store = AsksStore-same;
@@ -114,15 +115,16 @@ module _ {W F I D T : Type 0} (w : WorktreeOf W) (f : FindOf F) (i : InterruptOf
         interrupt = record { questions = omega arith; raised = omega arith };
         delegate = keeps;
         heeds = heeds;
-        caused = record { fault = fault; interrupt = interrupt; listed = always result refl; calm = always result refl };
+        caused = record { fault = fault; interrupt = interrupt; listing = listing; listed = always result refl; calm = always result refl };
       }
 
 -- a refusal before anything was given
 pub Ends-refused : {W F I D : Type 0} (T : Type 0) (w : WorktreeOf W) (f : FindOf F) (i : InterruptOf I) (d : DelegateOf D) {w0 w1 : W} {o0 o1 : F} {i0 i1 : I} {r0 r1 : Option Stacked} {d0 : D} (e : Error)
     → Before w f w0 w1 o0 o1 r0 r1 → AsksInterrupt i i0 i1
     → OnFault (Increased (w.faults w0) (w.faults w1)) (Increased (f.faults o0) (f.faults o1)) e → OnInterrupt (Increased (i.raised i0) (i.raised i1)) e
+    → OnListingFault (Increased (w.list_faults w0) (w.list_faults w1)) e
     → Ends {T = T} w f i d w0 w1 o0 o1 i0 i1 r0 r1 d0 d0 (Err (Refused e))
-Ends-refused T w f i d e b asks fault interrupt =
+Ends-refused T w f i d e b asks fault interrupt listing =
     record {
       worktree = unlisted b.worktree;
       store = b.store;
@@ -130,13 +132,13 @@ Ends-refused T w f i d e b asks fault interrupt =
       interrupt = asks;
       delegate = KeepsDelegate-same;
       heeds = record { broken = tt; stopped = tt; unbroken = refl; kept_on = tt };
-      caused = record { fault = fault; interrupt = interrupt; listed = tt; calm = tt };
+      caused = record { fault = fault; interrupt = interrupt; listing = listing; listed = tt; calm = tt };
     }
 
 -- want of memory
 pub Ends-memory : {W F I D : Type 0} (T : Type 0) (w : WorktreeOf W) (f : FindOf F) (i : InterruptOf I) (d : DelegateOf D) {w0 w1 : W} {o0 o1 : F} {i0 : I} {r0 r1 : Option Stacked} {d0 : D}
     → Before w f w0 w1 o0 o1 r0 r1 → Ends {T = T} w f i d w0 w1 o0 o1 i0 i0 r0 r1 d0 d0 (Err (Refused errors.OutOfMemory))
-Ends-memory T w f i d b = Ends-refused T w f i d errors.OutOfMemory b (record { questions = omega arith; raised = omega arith }) tt tt
+Ends-memory T w f i d b = Ends-refused T w f i d errors.OutOfMemory b (record { questions = omega arith; raised = omega arith }) tt tt tt
 
 -- an end that is handed on
 pub Ends-err : {W F I D S T : Type 0} (w : WorktreeOf W) (f : FindOf F) (i : InterruptOf I) (d : DelegateOf D) {w0 w1 : W} {o0 o1 : F} {i0 i1 : I} {r0 r1 : Option Stacked} {d0 d1 : D} (stop : Stop)
@@ -149,7 +151,7 @@ Ends-err w f i d (Refused e) h =
       interrupt = h.interrupt;
       delegate = h.delegate;
       heeds = record { broken = tt; stopped = tt; unbroken = h.heeds.unbroken; kept_on = tt };
-      caused = record { fault = h.caused.fault; interrupt = h.caused.interrupt; listed = tt; calm = tt };
+      caused = record { fault = h.caused.fault; interrupt = h.caused.interrupt; listing = h.caused.listing; listed = tt; calm = tt };
     }
 Ends-err w f i d Broken h =
     record {
@@ -159,7 +161,7 @@ Ends-err w f i d Broken h =
       interrupt = h.interrupt;
       delegate = h.delegate;
       heeds = record { broken = h.heeds.broken; stopped = h.heeds.stopped; unbroken = tt; kept_on = tt };
-      caused = record { fault = tt; interrupt = tt; listed = h.caused.listed; calm = h.caused.calm };
+      caused = record { fault = tt; interrupt = tt; listing = tt; listed = h.caused.listed; calm = h.caused.calm };
     }
 
 -- one call, and then what is put out
@@ -176,6 +178,7 @@ Ends-then w f i d {w0} {w1} {o0} {o1} {i0} {i1} {d0 = d0} {d1 = d1} {d2 = d2} ha
       caused = record {
         fault = memory-only result (OnFault (Increased (w.faults w0) (w.faults w1)) (Increased (f.faults o0) (f.faults o1))) tt memory;
         interrupt = memory-only result (OnInterrupt (Increased (i.raised i0) (i.raised i1))) tt memory;
+        listing = memory-only result (OnListingFault (Increased (w.list_faults w0) (w.list_faults w1))) tt memory;
         listed = always result e.caused.listed;
         calm = always result e.caused.calm;
       };

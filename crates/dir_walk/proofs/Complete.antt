@@ -167,7 +167,7 @@ module _ (s : Sources) (made : Option Made) (given : Setting) (explicit : Option
         (ap (λ (w : Walked). is_among d.root w.broken) (same_some (sym d.walked_is ∙ walked-way given made s d.root (root-shape given s.tree explicit d.root d.rooted_is) h.entered))
         ∙ broken-at given.options all d.root (way_to given made s d.root).class (look_root given s.tree d.root) why h.node)))
 
-    start-memory : (e : Error) → OnFault (Increased before now) (Increased store_before store_now) e → OnInterrupt (Increased raised_before raised_now) e → StartRefuses given made s d.root limit e → e ≡ errors.OutOfMemory
+    start-memory : (e : Error) → OnFault (Increased before now) (Increased store_before store_now) e → OnInterrupt (Increased raised_before raised_now) e → StartRefuses given made s d.root limit (Increased store_before store_now) e → e ≡ errors.OutOfMemory
     start-memory errors.Interrupted cause raised h = absurd (omega (arith, raised, calm))
     start-memory (errors.WorktreeRootIsFile path) cause raised h = absurd (let f = sym h.not_walked ∙ d.walked_is in cc f)
     start-memory (errors.NormalizeRoot path) cause raised h = absurd h
@@ -175,9 +175,13 @@ module _ (s : Sources) (made : Option Made) (given : Setting) (explicit : Option
     start-memory (errors.SymlinkMetadata path why) cause raised h = absurd h
     start-memory (errors.ExcludesAccess e) cause raised h = access made refl h
       where
-        access : {X : Type 0} (m : Option Made) → made ≡ m → IsSomeAnd m (λ rules. IsNoWay given made s d.root rules e ⊎ IsNoAccess s rules (walked_or_nothing (walked_at given made s d.root)) ⊥ e) → X
+        unread : {X : Type 0} → ((way_to given made s d.root).is_unread ≡ true) ⊎ Increased store_before store_now → X
+        unread (inl is) = absurd (let f : false ≡ true = sym d.read ∙ is in cc f)
+        unread (inr more) = absurd (omega (arith, more, store_quiet))
+
+        access : {X : Type 0} (m : Option Made) → made ≡ m → IsSomeAnd m (λ rules. IsNoWay given made s d.root rules (Increased store_before store_now) e ⊎ IsNoAccess s rules (walked_or_nothing (walked_at given made s d.root)) ⊥ e) → X
         access None is k = absurd k
-        access (Some rules) is (inl k) = absurd (let f : false ≡ true = sym d.read ∙ k.unread in cc f)
+        access (Some rules) is (inl k) = unread k.unread
         access (Some rules) is (inr k) =
             refused (ap (λ (m : Option Made). is_refused limit (evidence given m s) d.w) is ∙ access-refused s rules given limit before now store_before store_now d.w quiet store_quiet e cause (of-walk (λ v. IsNoAccess s rules v ⊥ e) k))
     start-memory (errors.TooDeep path) cause raised h =
@@ -190,8 +194,8 @@ module _ (s : Sources) (made : Option Made) (given : Setting) (explicit : Option
     start-memory (errors.DirEntry path) cause raised h = absurd (omega (arith, cause, quiet))
     start-memory errors.OutOfMemory cause raised h = refl
 
-    start-of : (root : List ℕ) (e : Error) → traversal_root given s.tree explicit ≡ rooted root → OnFault (Increased before now) (Increased store_before store_now) e → OnInterrupt (Increased raised_before raised_now) e → StartRefuses given made s root limit e → e ≡ errors.OutOfMemory
-    start-of root e is cause raised h = start-memory e cause raised (subst (λ (p : List ℕ). StartRefuses given made s p limit e) (same_root (sym is ∙ d.rooted_is)) h)
+    start-of : (root : List ℕ) (e : Error) → traversal_root given s.tree explicit ≡ rooted root → OnFault (Increased before now) (Increased store_before store_now) e → OnInterrupt (Increased raised_before raised_now) e → StartRefuses given made s root limit (Increased store_before store_now) e → e ≡ errors.OutOfMemory
+    start-of root e is cause raised h = start-memory e cause raised (subst (λ (p : List ℕ). StartRefuses given made s p limit (Increased store_before store_now) e) (same_root (sym is ∙ d.rooted_is)) h)
 
     -- there is a traversal root
     no-end : (e : Error) → OnFault (Increased before now) (Increased store_before store_now) e → EndsIn (traversal_root given s.tree explicit) e → e ≡ errors.OutOfMemory
@@ -208,7 +212,7 @@ module _ (s : Sources) (made : Option Made) (given : Setting) (explicit : Option
     no-end errors.OutOfMemory cause h = refl
 
   -- where nothing failed and nothing was raised, want of memory alone is left
-  pub only-memory : (e : Error) → OnFault (Increased before now) (Increased store_before store_now) e → OnInterrupt (Increased raised_before raised_now) e → WalkRefuses given made s explicit limit e
+  pub only-memory : (e : Error) → OnFault (Increased before now) (Increased store_before store_now) e → OnInterrupt (Increased raised_before raised_now) e → WalkRefuses given made s explicit limit (Increased store_before store_now) e
       → NotIncreased before now → NotIncreased store_before store_now → NotIncreased raised_before raised_now → is_some (report given made s explicit limit) ≡ true → e ≡ errors.OutOfMemory
   only-memory e cause raised (inl h) quiet store_quiet calm is = no-end quiet store_quiet calm (defined (report given made s explicit limit) refl is) e cause h
   only-memory e cause raised (inr h) quiet store_quiet calm is = start-of quiet store_quiet calm (defined (report given made s explicit limit) refl is) h.0 e h.1 cause raised h.2

@@ -11,6 +11,7 @@ use Rattle.worktree_stack.specs.Stacked.{Stacked}
 use Rattle.dir_classify.specs.declared.classify.Outcome.{Outcome as Class}
 use Rattle.dir_classify.specs.declared.error.Error.{Error}
 use Rattle.dir_classify.specs.declared.error.Error.TheVariants as errors
+use Rattle.dir_classify.specs.declared.error.ReadWhy.TheVariants as whys
 use Rattle.dir_classify.specs.Excludes.{made_with, InStepIf}
 use Rattle.dir_classify.specs.Layers.{Setting}
 use Rattle.dir_classify.specs.Refused.{OnFault}
@@ -22,7 +23,7 @@ use Rattle.dir_walk.specs.declared.handed.Stop.TheVariants.{Broken, Refused}
 use Rattle.dir_walk.specs.declared.outcome.Outcome.{Outcome}
 use Rattle.dir_walk.specs.Given.{OnRefused, UnlessRefused}
 use Rattle.dir_walk.specs.Jobs.{WalksJob}
-use Rattle.dir_walk.specs.Kept.{OnInterrupt}
+use Rattle.dir_walk.specs.Kept.{OnInterrupt, OnListingFault}
 use Rattle.dir_walk.specs.Refused.{DirectoryRefuses}
 use Rattle.dir_walk.specs.Told.{Stands}
 use Rattle.dir_walk.proofs.Emitting.{Within-none}
@@ -71,6 +72,25 @@ raised-weaker P Q (Ok done) f h = tt
 raised-weaker P Q (Err Broken) f h = tt
 raised-weaker P Q (Err (Refused e)) f h = interrupt-weaker P Q e f h
 
+listing-more : (P Q : Type 0) (e : Error) → (P → Q) → OnListingFault P e → OnListingFault Q e
+listing-more P Q errors.Interrupted f h = tt
+listing-more P Q (errors.WorktreeRootIsFile at) f h = tt
+listing-more P Q (errors.NormalizeRoot root) f h = tt
+listing-more P Q (errors.SymlinkInRoot whole worktree_root index) f h = tt
+listing-more P Q (errors.SymlinkMetadata full why) f h = tt
+listing-more P Q (errors.ExcludesAccess x) f h = tt
+listing-more P Q (errors.TooDeep at) f h = tt
+listing-more P Q (errors.ReadDir at whys.Absent) f h = tt
+listing-more P Q (errors.ReadDir at whys.NotADirectory) f h = tt
+listing-more P Q (errors.ReadDir at whys.Fault) f h = f h
+listing-more P Q (errors.DirEntry at) f h = f h
+listing-more P Q errors.OutOfMemory f h = tt
+
+listing-weaker : {T : Type 0} (P Q : Type 0) (result : Result T Stop) → (P → Q) → IfErr result (OnRefused (OnListingFault P)) → IfErr result (OnRefused (OnListingFault Q))
+listing-weaker P Q (Ok done) f h = tt
+listing-weaker P Q (Err Broken) f h = tt
+listing-weaker P Q (Err (Refused e)) f h = listing-more P Q e f h
+
 module _ {W F I D : Type 0} (w : WorktreeOf W) (f : FindOf F) (i : InterruptOf I) (d : DelegateOf D) where
   -- ---- no memory for a fork
 
@@ -83,7 +103,7 @@ module _ {W F I D : Type 0} (w : WorktreeOf W) (f : FindOf F) (i : InterruptOf I
         about = λ limit level. tt;
         found = λ s told. tt;
         refused = λ made s stands default limit level. inl tt;
-        caused = record { fault = tt; interrupt = tt; listed = tt; calm = tt };
+        caused = record { fault = tt; interrupt = tt; listing = tt; listed = tt; calm = tt };
         worktree = record { tree = refl; faults = omega arith; list_faults = omega arith; lists = omega arith; precomposes = refl };
         store = AsksStore-same;
         interrupt = record { questions = omega arith; raised = omega arith };
@@ -119,6 +139,8 @@ module _ {W F I D : Type 0} (w : WorktreeOf W) (f : FindOf F) (i : InterruptOf I
           caused = record {
             fault = caused-weaker (Increased (w.faults x0) (w.faults x1)) (Increased (f.faults o0) (f.faults o1)) (Increased (w.faults w0) (w.faults w1)) (Increased (f.faults o0) (f.faults o1)) result rose (λ h. h) job.caused.fault;
             interrupt = job.caused.interrupt;
+            listing = listing-weaker (Increased (w.list_faults x0) (w.list_faults x1)) (Increased (w.list_faults w0) (w.list_faults w1)) result
+                (rose-more (w.list_faults w0) (w.list_faults x0) (w.list_faults w1) (w.list_faults x1) list_faults0 list_faults1) job.caused.listing;
             listed = unless-weaker result (stays-more (w.list_faults w0) (w.list_faults x0) (w.list_faults w1) (w.list_faults x1) list_faults0 list_faults1 list_later) job.caused.listed;
             calm = job.caused.calm;
           };
@@ -150,6 +172,7 @@ module _ {W F I D : Type 0} (w : WorktreeOf W) (f : FindOf F) (i : InterruptOf I
             fault = caused-weaker (Increased (w.faults w0) (w.faults w1)) (Increased (f.faults x0) (f.faults x1)) (Increased (w.faults w0) (w.faults w1)) (Increased (f.faults o0) (f.faults o1)) result (λ h. h)
                 (rose-more (f.faults o0) (f.faults x0) (f.faults o1) (f.faults x1) faults0 faults1) job.caused.fault;
             interrupt = job.caused.interrupt;
+            listing = job.caused.listing;
             listed = job.caused.listed;
             calm = job.caused.calm;
           };
@@ -178,6 +201,7 @@ module _ {W F I D : Type 0} (w : WorktreeOf W) (f : FindOf F) (i : InterruptOf I
           caused = record {
             fault = job.caused.fault;
             interrupt = raised-weaker (Increased (i.raised x0) (i.raised x1)) (Increased (i.raised i0) (i.raised i1)) result (rose-more (i.raised i0) (i.raised x0) (i.raised i1) (i.raised x1) raised0 raised1) job.caused.interrupt;
+            listing = job.caused.listing;
             listed = job.caused.listed;
             calm = unless-weaker result (stays-more (i.raised i0) (i.raised x0) (i.raised i1) (i.raised x1) raised0 raised1 later) job.caused.calm;
           };

@@ -1,5 +1,5 @@
 -- What is opened, read and given from a traversal root on.
-use Rattle.std.proofs.Common.{◌≡◌, ℕ, ◌+◌, ◌-◌, ◌≤◌, max, List, [], ◌∷◌, ◌++◌, Bool, true, false, Option, Some, None, Result, Err, inl, inr, length, append_assoc, refl, sym, ap, ◌∙◌, arith}
+use Rattle.std.proofs.Common.{◌≡◌, ℕ, ◌+◌, ◌-◌, ◌≤◌, max, List, [], ◌∷◌, ◌++◌, Bool, true, false, Option, Some, None, Result, Err, inl, inr, length, append_assoc, refl, sym, subst, ap, ◌∙◌, arith}
 use Rattle.std.proofs.lemmas.List.{length-append}
 use Rattle.gitbase_core.specs.Path.{components, is_empty}
 use Rattle.worktree_fs.specs.declared.interrupt.Interrupt.{Ghosts as InterruptOf}
@@ -13,7 +13,8 @@ use Rattle.worktree_stack.specs.Stacked.{Stacked, pushed}
 use Rattle.dir_classify.specs.declared.entry.Entry.{Entry}
 use Rattle.dir_classify.specs.Chosen.{Chosen}
 use Rattle.dir_classify.specs.Excludes.{pushed_in}
-use Rattle.dir_classify.specs.Rooted.{AsksOnWay}
+use Rattle.dir_classify.specs.Rooted.{AsksOnWay, LeadsTo}
+use Rattle.dir_classify.proofs.WayAsked.{on-way-further, way-root}
 use Rattle.dir_walk.specs.declared.handed.Stop.{Stop}
 use Rattle.dir_walk.specs.declared.handed.Stop.TheVariants.{Broken, Refused}
 use Rattle.dir_walk.specs.declared.outcome.Outcome.{Outcome}
@@ -42,11 +43,15 @@ held-on-way (Some held) names way =
     ap (common_front held) (last.1 ∙ ap (λ (l : List (List ℕ)). l ++ last.0) way.joined ∙ append_assoc held way.rest last.0) ∙ front-all held (way.rest ++ last.0) in
     omega (arith, length-fronts held, ap {B = ℕ} (λ (l : List (List ℕ)). length l) front)
 
+-- what is pushed on the way to a path is on the way to those that it leads to
+on-way-to : (root : List ℕ) {path : List ℕ} (new : Option Stacked) → LeadsTo root path → IsOnWay (pushed_in new) (components path) → IsOnWay (pushed_in new) (components root)
+on-way-to root {path} new leads way = subst (IsOnWay (pushed_in new)) (sym leads.components_are) (on-way-further (pushed_in new) (components path) leads.rest way)
+
 -- the classes on the way read at most once for each directory there whose rules are held then
-asks-on-way : {T E : Type 0} (recurses : Bool) (root : List ℕ) (reads0 reads1 : ℕ) (old new : Option Stacked) (result : Result T E) → recurses ≡ true → AsksOnWay recurses root reads0 reads1 old new result
-    → reads1 ≤ reads0 + pushed_to (pushed_in new) (components root) + refused_one result
-asks-on-way recurses root reads0 reads1 old new result on (inl unasked) = omega (arith, unasked.reads on)
-asks-on-way recurses root reads0 reads1 old new result on (inr asked) = omega (arith, asked.reads on, held-on-way (pushed_in new) (components root) asked.on_way)
+asks-on-way : {F T E : Type 0} (recurses : Bool) (root : List ℕ) (reads0 reads1 : ℕ) (o0 o1 : F) (old new : Option Stacked) (result : Result T E) → recurses ≡ true
+    → AsksOnWay recurses root reads0 reads1 o0 o1 old new result → reads1 ≤ reads0 + pushed_to (pushed_in new) (components root) + refused_one result
+asks-on-way recurses root reads0 reads1 o0 o1 old new result on (inl unasked) = omega (arith, unasked.reads on)
+asks-on-way recurses root reads0 reads1 o0 o1 old new result on (inr asked) = omega (arith, asked.reads on, held-on-way (pushed_in new) (components root) (on-way-to root new asked.leads asked.on_way))
 
 -- what is pushed on the way to a directory lies above it, or is the worktree root
 above-last : (names : List (List ℕ)) → length (without_last names) ≤ length names - 1
@@ -64,13 +69,20 @@ some-names [] rest first is some = absurd (let e : is_empty first ≡ true = ap 
 some-names (name ∷ names) rest first is some = omega arith
 
 -- so the classes on the way read at most once for each component
-asks-above : {T E : Type 0} (recurses : Bool) (root : List ℕ) (reads0 reads1 : ℕ) (old new : Option Stacked) (result : Result T E) → recurses ≡ true → AsksOnWay recurses root reads0 reads1 old new result
-    → reads1 ≤ reads0 + length (components root) + refused_one result
-asks-above recurses root reads0 reads1 old new result on (inl unasked) = omega (arith, unasked.reads on)
-asks-above recurses root reads0 reads1 old new result on (inr asked) =
-    let some : 1 ≤ length (components asked.first ++ asked.leads.rest) = some-names (components asked.first) asked.leads.rest asked.first asked.leads.spelled_is asked.beneath in
-    let same : length (components root) ≡ length (components asked.first ++ asked.leads.rest) = ap {B = ℕ} (λ (l : List (List ℕ)). length l) asked.leads.components_are in
-    omega (arith, asked.reads on, pushed-above (pushed_in new) (components root) asked.on_way, some, same)
+asks-above : {F T E : Type 0} (recurses : Bool) (root : List ℕ) (reads0 reads1 : ℕ) (o0 o1 : F) (old new : Option Stacked) (result : Result T E) → recurses ≡ true
+    → AsksOnWay recurses root reads0 reads1 o0 o1 old new result → reads1 ≤ reads0 + length (components root) + refused_one result
+asks-above recurses root reads0 reads1 o0 o1 old new result on (inl unasked) = omega (arith, unasked.reads on)
+asks-above recurses root reads0 reads1 o0 o1 old new result on (inr asked) =
+    let some : 1 ≤ length (components asked.first ++ asked.behind.rest) = some-names (components asked.first) asked.behind.rest asked.first asked.behind.spelled_is asked.beneath in
+    let last : length (components asked.last) ≡ length (components asked.first ++ asked.behind.rest) = ap {B = ℕ} (λ (l : List (List ℕ)). length l) asked.behind.components_are in
+    let same : length (components root) ≡ length (components asked.last ++ asked.leads.rest) = ap {B = ℕ} (λ (l : List (List ℕ)). length l) asked.leads.components_are in
+    omega (arith, asked.reads on, pushed-above (pushed_in new) (components root) (on-way-to root new asked.leads asked.on_way), some, last, same, length-append (components asked.last) asked.leads.rest)
+
+-- what was asked on the way to where it ended was asked on the way to the traversal root
+pub asks-from : {F T E : Type 0} {recurses : Bool} {root path : List ℕ} {reads0 reads1 : ℕ} {o0 o1 : F} {old new : Option Stacked} {result : Result T E} → LeadsTo root path
+    → AsksOnWay recurses path reads0 reads1 o0 o1 old new result → AsksOnWay recurses root reads0 reads1 o0 o1 old new result
+asks-from {recurses = recurses} {root = root} {path = path} {reads0 = reads0} {reads1 = reads1} {o0 = o0} {o1 = o1} {old = old} {new = new} {result = result} leads asks =
+    way-root recurses root path leads.rest reads0 reads1 o0 o1 old new result leads.components_are asks
 
 -- ---- what is opened
 
@@ -90,8 +102,8 @@ pub opens-not : {W I : Type 0} (strategy : Strategy) (w : WorktreeOf W) (i : Int
 opens-not AtOnce w i o w0 w1 i0 i1 a at names lists reads asked = record { enters = record { opened = 0; counted = λ small. omega (arith, small); asked = asked }; listed = omega (arith, lists) }
 opens-not Held w i o w0 w1 i0 i1 a at names lists reads asked = opens-refused (0, record { listed = λ small. omega (arith, lists, small); counted = λ small. omega (arith, small); asked = asked }) reads
 
-module _ {W I T U E : Type 0} {w : WorktreeOf W} {i : InterruptOf I} {o : Chosen} {w0 w2 : W} (w1 : W) (strategy : Strategy) {i0 : I} {a b : Outcome} {old mid : Option Stacked} {root : List ℕ} {reached : Result U E}
-    (asks : AsksOnWay o.recurse_repositories root (w.reads w0) (w.reads w1) old mid reached) where
+module _ {W F I T U E : Type 0} {w : WorktreeOf W} {i : InterruptOf I} {o : Chosen} {w0 w2 : W} (w1 : W) {o0 o1 : F} (strategy : Strategy) {i0 : I} {a b : Outcome} {old mid : Option Stacked} {root : List ℕ} {reached : Result U E}
+    (asks : AsksOnWay o.recurse_repositories root (w.reads w0) (w.reads w1) o0 o1 old mid reached) where
   -- the way to the traversal root ended before it, or it is not entered
   pub opens-short : (result : Result T Stop) → w.lists w2 ≡ w.lists w0 → w.reads w2 ≡ w.reads w1 → b.read_dir_calls ≡ a.read_dir_calls → refused_one reached ≤ refused_walk result
       → OpensFrom w i w0 w2 i0 i0 a b strategy o root result
@@ -101,7 +113,7 @@ module _ {W I T U E : Type 0} {w : WorktreeOf W} {i : InterruptOf I} {o : Chosen
         listed = listed-none strategy lists;
         counted = λ small. omega (arith, counted, small);
         asked = omega arith;
-        reads = λ held on. omega (arith, asks-above o.recurse_repositories root (w.reads w0) (w.reads w1) old mid reached (and_left o.recurse_repositories _ on) asks, reads, fits);
+        reads = λ held on. omega (arith, asks-above o.recurse_repositories root (w.reads w0) (w.reads w1) o0 o1 old mid reached (and_left o.recurse_repositories _ on) asks, reads, fits);
       }
 
 -- what is opened is opened between calls that list and read nothing
@@ -128,11 +140,11 @@ refused-same S T (Refused e) = omega arith
 refused-same S T Broken = omega arith
 
 -- it is entered
-pub opens-entered : {W I T U E : Type 0} {w : WorktreeOf W} {i : InterruptOf I} {o : Chosen} {w0 : W} (w1 w2 : W) (strategy : Strategy) {i0 : I} {a b : Outcome} {old mid : Option Stacked} {root : List ℕ} {reached : Result U E}
-    → AsksOnWay o.recurse_repositories root (w.reads w0) (w.reads w1) old mid reached
+pub opens-entered : {W F I T U E : Type 0} {w : WorktreeOf W} {i : InterruptOf I} {o : Chosen} {w0 : W} (w1 w2 : W) {o0 o1 : F} (strategy : Strategy) {i0 : I} {a b : Outcome} {old mid : Option Stacked} {root : List ℕ} {reached : Result U E}
+    → AsksOnWay o.recurse_repositories root (w.reads w0) (w.reads w1) o0 o1 old mid reached
     → {w3 : W} {i1 : I} (new : Option Stacked) (result : Result T Stop) → w.lists w2 ≡ w.lists w0 → w.reads w2 ≡ w.reads w1 → refused_one reached ≡ 0
     → OpensRoot w i w2 w3 i0 i1 a b strategy o mid new (components root) (refused_walk result) → OpensFrom w i w0 w3 i0 i1 a b strategy o root result
-opens-entered {w = w} {o = o} {w0 = w0} w1 w2 Held {old = old} {mid = mid} {root = root} {reached = reached} asks new result lists reads answered one =
+opens-entered {w = w} {o = o} {w0 = w0} w1 w2 {o0 = o0} {o1 = o1} Held {old = old} {mid = mid} {root = root} {reached = reached} asks new result lists reads answered one =
     record {
       opened = one.opened;
       listed = λ small. omega (arith, lists, small, one.opens.listed (omega (arith, lists, small)));
@@ -141,7 +153,7 @@ opens-entered {w = w} {o = o} {w0 = w0} w1 w2 Held {old = old} {mid = mid} {root
       reads = λ held on.
           omega (
             arith,
-            asks-on-way o.recurse_repositories root (w.reads w0) (w.reads w1) old mid reached (and_left o.recurse_repositories _ on) asks,
+            asks-on-way o.recurse_repositories root (w.reads w0) (w.reads w1) o0 o1 old mid reached (and_left o.recurse_repositories _ on) asks,
             one.reads on,
             pushed-most (pushed_in new) (components root),
             reads,

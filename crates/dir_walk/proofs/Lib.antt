@@ -20,6 +20,7 @@ pub mod Emitting
 pub mod Ending
 pub mod Entering
 pub mod FeedsSo
+pub mod Flat
 pub mod Folds
 pub mod Forked
 pub mod FromRoot
@@ -66,4 +67,5 @@ pub mod WalkedAt
 pub mod WalksSo
 pub mod WayRefused
 pub mod Ways
+pub mod Weaker
 pub mod Wholly

@@ -152,17 +152,17 @@ module _ (d name : List ℕ) (is : IsName name) where
       length-fronts held ∙ ap {B = ℕ} (λ (names : List (List ℕ)). length names + 1) (sym front)
 
   -- a look-up reads at most once for each directory above the path whose rules were not held and are held then
-  pub asks-reads : {T E : Type 0} (recurses : Bool) (reads0 reads1 : ℕ) (old new : Option Stacked) (result : Result T E) → recurses ≡ true → AsksAtMost recurses (joined d name) reads0 reads1 old new result
+  pub asks-reads : {F T E : Type 0} (recurses : Bool) (reads0 reads1 : ℕ) (o0 o1 : F) (old new : Option Stacked) (result : Result T E) → recurses ≡ true → AsksAtMost recurses (joined d name) reads0 reads1 o0 o1 old new result
       → reads1 + pushed_to (pushed_in old) (components d) ≤ reads0 + pushed_to (pushed_in new) (components d) + refused_one result
-  asks-reads recurses reads0 reads1 old new result on (inl unasked) = omega (arith, unasked.reads on, ap {B = ℕ} (λ (x : Option Stacked). pushed_to (pushed_in x) (components d)) unasked.same)
-  asks-reads recurses reads0 reads1 old new result on (inr asked) = omega (arith, asked.reads on, stays (pushed_in old), on-way (pushed_in new) asked.on_way)
+  asks-reads recurses reads0 reads1 o0 o1 old new result on (inl unasked) = omega (arith, unasked.reads on, ap {B = ℕ} (λ (x : Option Stacked). pushed_to (pushed_in x) (components d)) unasked.same)
+  asks-reads recurses reads0 reads1 o0 o1 old new result on (inr asked) = omega (arith, asked.reads on, stays (pushed_in old), on-way (pushed_in new) asked.on_way)
 
 -- the rules are asked for a class, where files are read for rules alone
-pub opens-class : {W I T E : Type 0} {w : WorktreeOf W} {i : InterruptOf I} {o : Chosen} {w0 w1 : W} {i0 : I} {a : Outcome} {old new : Option Stacked} (d name : List ℕ) {result : Result T E} → IsName name
-    → w.lists w1 ≡ w.lists w0 → AsksAtMost o.recurse_repositories (joined d name) (w.reads w0) (w.reads w1) old new result
+pub opens-class : {W F I T E : Type 0} {w : WorktreeOf W} {i : InterruptOf I} {o : Chosen} {w0 w1 : W} {o0 o1 : F} {i0 : I} {a : Outcome} {old new : Option Stacked} (d name : List ℕ) {result : Result T E} → IsName name
+    → w.lists w1 ≡ w.lists w0 → AsksAtMost o.recurse_repositories (joined d name) (w.reads w0) (w.reads w1) o0 o1 old new result
     → OpensWithin w i w0 w1 i0 i0 a a o old new (components d) 0 (refused_one result)
-opens-class {w = w} {o = o} {w0 = w0} {w1 = w1} {old = old} {new = new} d name {result = result} is lists asks =
-    opens-none lists refl (omega arith) (λ on. asks-reads d name is o.recurse_repositories (w.reads w0) (w.reads w1) old new result (and_left o.recurse_repositories _ on) asks)
+opens-class {w = w} {o = o} {w0 = w0} {w1 = w1} {o0 = o0} {o1 = o1} {old = old} {new = new} d name {result = result} is lists asks =
+    opens-none lists refl (omega arith) (λ on. asks-reads d name is o.recurse_repositories (w.reads w0) (w.reads w1) o0 o1 old new result (and_left o.recurse_repositories _ on) asks)
 
 pub hides-none : (o : Chosen) → reads_rules_alone o ≡ true → may_hide_repositories o.for_deletion ≡ false
 hides-none o on = go (may_hide_repositories o.for_deletion) (and_right o.recurse_repositories _ on)

@@ -11,7 +11,8 @@ use Rattle.worktree_fs.specs.declared.answers.ListError.{ListError}
 use Rattle.worktree_fs.specs.declared.answers.ListError.TheVariants as lists
 use Rattle.worktree_fs.specs.Answers.{list_of}
 use Rattle.worktree_fs.specs.Causes.{Increased, NotIncreased, next}
-use Rattle.worktree_fs.specs.Paths.{is_normal, full_path}
+use Rattle.gitbase_core.specs.Path.{components, is_empty}
+use Rattle.worktree_fs.specs.Paths.{is_normal, full_path, spelled}
 use Rattle.worktree_fs.specs.Tree.{Look, look, found, absent, too_many_links, file, link, directory, other}
 use Rattle.worktree_stack.specs.declared.error.AtPathError.{AtPathError}
 use Rattle.worktree_stack.specs.Setup.{Made}
@@ -125,21 +126,21 @@ IsAbout-class made root limit path (errors.ReadDir p why) normal about = absurd 
 IsAbout-class made root limit path (errors.DirEntry p) normal about = absurd about
 IsAbout-class made root limit path errors.OutOfMemory normal about = tt
 
-pub IsInTree-class : (holds : Option Objects) (s : Sources) (made : Option Made) (path : List ℕ) (e : Error) → is_normal path ≡ true → classes.IsAbout made path e → (holds ≡ Some s.objects → classes.Refuses s made path e) → IsInTree holds s made e
-IsInTree-class holds s made path errors.Interrupted normal about refused = tt
-IsInTree-class holds s made path (errors.WorktreeRootIsFile p) normal about refused = tt
-IsInTree-class holds s made path (errors.NormalizeRoot p) normal about refused = tt
-IsInTree-class holds s made path (errors.SymlinkInRoot p r i) normal about refused = tt
-IsInTree-class holds s made path (errors.SymlinkMetadata p why) normal about refused = tt
-IsInTree-class holds s made path (errors.ExcludesAccess e) normal about refused = go made about refused
+pub IsInTree-class : (root : List ℕ) (holds : Option Objects) (s : Sources) (made : Option Made) (path : List ℕ) (e : Error) → is_normal path ≡ true → classes.IsAbout made path e → (holds ≡ Some s.objects → classes.Refuses s made path e) → IsInTree root holds s made e
+IsInTree-class root holds s made path errors.Interrupted normal about refused = tt
+IsInTree-class root holds s made path (errors.WorktreeRootIsFile p) normal about refused = tt
+IsInTree-class root holds s made path (errors.NormalizeRoot p) normal about refused = tt
+IsInTree-class root holds s made path (errors.SymlinkInRoot p r i) normal about refused = tt
+IsInTree-class root holds s made path (errors.SymlinkMetadata p why) normal about refused = tt
+IsInTree-class root holds s made path (errors.ExcludesAccess e) normal about refused = go made about refused
   where
     go : (k : Option Made) → classes.IsAbout k path (errors.ExcludesAccess e) → (holds ≡ Some s.objects → classes.Refuses s k path (errors.ExcludesAccess e)) → IsSomeAnd k (λ rules. holds ≡ Some s.objects → IsRefusedLookup s rules e)
     go None a r = absurd a
     go (Some rules) a r = λ known. record { path = path; normal = normal; access = a; refused = r known }
-IsInTree-class holds s made path (errors.TooDeep p) normal about refused = tt
-IsInTree-class holds s made path (errors.ReadDir p why) normal about refused = absurd about
-IsInTree-class holds s made path (errors.DirEntry p) normal about refused = tt
-IsInTree-class holds s made path errors.OutOfMemory normal about refused = tt
+IsInTree-class root holds s made path (errors.TooDeep p) normal about refused = tt
+IsInTree-class root holds s made path (errors.ReadDir p why) normal about refused = absurd about
+IsInTree-class root holds s made path (errors.DirEntry p) normal about refused = tt
+IsInTree-class root holds s made path errors.OutOfMemory normal about refused = tt
 
 -- a class that asks the rules is one of a path that asks them, unless the worktree failed
 pub Refuses-class : (given : Setting) (made : Option Made) (s : Sources) (limit : ℕ) (Failed Asks : Type 0) (w : Walked) (path : List ℕ) (e : Error) → is_normal path ≡ true → classes.IsAbout made path e → classes.Refuses s made path e
@@ -165,17 +166,18 @@ Refuses-class given made s limit Failed Asks w path errors.OutOfMemory normal ab
 
 -- ---- the refusal of what lies too deep
 
-pub IsAbout-deep : (made : Option Made) (root path : List ℕ) (limit : ℕ) (Raised : Type 0) (e : Error) → is_normal path ≡ true → limit < depth_of path → IsDeep (full_path root path) Raised e → IsAbout made root limit e
-IsAbout-deep made root path limit Raised errors.Interrupted normal deep h = tt
-IsAbout-deep made root path limit Raised (errors.WorktreeRootIsFile p) normal deep h = absurd h
-IsAbout-deep made root path limit Raised (errors.NormalizeRoot p) normal deep h = absurd h
-IsAbout-deep made root path limit Raised (errors.SymlinkInRoot p r i) normal deep h = absurd h
-IsAbout-deep made root path limit Raised (errors.SymlinkMetadata p why) normal deep h = absurd h
-IsAbout-deep made root path limit Raised (errors.ExcludesAccess e) normal deep h = absurd h
-IsAbout-deep made root path limit Raised (errors.TooDeep p) normal deep h = record { below = path; path_is = h; normal = normal; deep = deep }
-IsAbout-deep made root path limit Raised (errors.ReadDir p why) normal deep h = absurd h
-IsAbout-deep made root path limit Raised (errors.DirEntry p) normal deep h = absurd h
-IsAbout-deep made root path limit Raised errors.OutOfMemory normal deep h = tt
+pub IsAbout-deep : (made : Option Made) (root path : List ℕ) (limit : ℕ) (Raised : Type 0) (e : Error) → is_normal path ≡ true → path ≡ spelled (components path) → limit < depth_of path → IsDeep (full_path root path) Raised e
+    → IsAbout made root limit e
+IsAbout-deep made root path limit Raised errors.Interrupted normal spelled_is deep h = tt
+IsAbout-deep made root path limit Raised (errors.WorktreeRootIsFile p) normal spelled_is deep h = absurd h
+IsAbout-deep made root path limit Raised (errors.NormalizeRoot p) normal spelled_is deep h = absurd h
+IsAbout-deep made root path limit Raised (errors.SymlinkInRoot p r i) normal spelled_is deep h = absurd h
+IsAbout-deep made root path limit Raised (errors.SymlinkMetadata p why) normal spelled_is deep h = absurd h
+IsAbout-deep made root path limit Raised (errors.ExcludesAccess e) normal spelled_is deep h = absurd h
+IsAbout-deep made root path limit Raised (errors.TooDeep p) normal spelled_is deep h = record { below = path; path_is = h; normal = normal; spelled_is = spelled_is; deep = deep }
+IsAbout-deep made root path limit Raised (errors.ReadDir p why) normal spelled_is deep h = absurd h
+IsAbout-deep made root path limit Raised (errors.DirEntry p) normal spelled_is deep h = absurd h
+IsAbout-deep made root path limit Raised errors.OutOfMemory normal spelled_is deep h = tt
 
 pub Refuses-deep : (given : Setting) (made : Option Made) (s : Sources) (limit : ℕ) (Failed Raised : Type 0) (w : Walked) (path : List ℕ) (e : Error) → limit < depth_of path → (is_to_enter path w ≡ true) ⊎ Failed → IsDeep (full_path given.root path) Raised e
     → Refuses given made s limit Failed w e
@@ -192,19 +194,20 @@ Refuses-deep given made s limit Failed Raised w path errors.OutOfMemory deep ent
 
 -- ---- a listing that is refused
 
-pub IsInTree-open : (holds : Option Objects) (s : Sources) (made : Option Made) (full : List ℕ) (follow : Bool) (e : Error) → OpenRefuses full (look s.tree full follow) e → IsInTree holds s made e
-IsInTree-open holds s made full follow errors.Interrupted h = tt
-IsInTree-open holds s made full follow (errors.WorktreeRootIsFile p) h = tt
-IsInTree-open holds s made full follow (errors.NormalizeRoot p) h = tt
-IsInTree-open holds s made full follow (errors.SymlinkInRoot p r i) h = tt
-IsInTree-open holds s made full follow (errors.SymlinkMetadata p why) h = tt
-IsInTree-open holds s made full follow (errors.ExcludesAccess e) h = absurd h
-IsInTree-open holds s made full follow (errors.TooDeep p) h = tt
-IsInTree-open holds s made full follow (errors.ReadDir p reads.Absent) h = record { follow = follow; node = ap (λ (q : List ℕ). list_of (look s.tree q follow)) h.0 ∙ h.1 }
-IsInTree-open holds s made full follow (errors.ReadDir p reads.NotADirectory) h = record { follow = follow; node = ap (λ (q : List ℕ). list_of (look s.tree q follow)) h.0 ∙ h.1 }
-IsInTree-open holds s made full follow (errors.ReadDir p reads.Fault) h = tt
-IsInTree-open holds s made full follow (errors.DirEntry p) h = tt
-IsInTree-open holds s made full follow errors.OutOfMemory h = tt
+pub IsInTree-open : (holds : Option Objects) (s : Sources) (made : Option Made) (root path : List ℕ) (e : Error) → OpenRefuses (full_path root path) (look s.tree (full_path root path) (is_empty path)) e
+    → IsInTree root holds s made e
+IsInTree-open holds s made root path errors.Interrupted h = tt
+IsInTree-open holds s made root path (errors.WorktreeRootIsFile p) h = tt
+IsInTree-open holds s made root path (errors.NormalizeRoot p) h = tt
+IsInTree-open holds s made root path (errors.SymlinkInRoot p r i) h = tt
+IsInTree-open holds s made root path (errors.SymlinkMetadata p why) h = tt
+IsInTree-open holds s made root path (errors.ExcludesAccess e) h = absurd h
+IsInTree-open holds s made root path (errors.TooDeep p) h = tt
+IsInTree-open holds s made root path (errors.ReadDir p reads.Absent) h = record { below = path; path_is = h.0; node = ap (λ (q : List ℕ). list_of (look s.tree q (is_empty path))) h.0 ∙ h.1 }
+IsInTree-open holds s made root path (errors.ReadDir p reads.NotADirectory) h = record { below = path; path_is = h.0; node = ap (λ (q : List ℕ). list_of (look s.tree q (is_empty path))) h.0 ∙ h.1 }
+IsInTree-open holds s made root path (errors.ReadDir p reads.Fault) h = tt
+IsInTree-open holds s made root path (errors.DirEntry p) h = tt
+IsInTree-open holds s made root path errors.OutOfMemory h = tt
 
 -- what is entered and cannot be listed is broken
 pub broken-among : (o : Chosen) (ev : Evidence) (path : List ℕ) (c : Class) (at : Look) (why : ListError) → list_of at ≡ Err why → is_among path (entered_at o ev path c at).broken ≡ true

@@ -15,6 +15,8 @@ use Rattle.dir_classify.specs.declared.error.MetadataWhy.TheVariants as metadata
 use Rattle.dir_classify.specs.Kinds.{is_symlink}
 use Rattle.dir_classify.specs.Layers.{Setting, kind_at}
 use Rattle.dir_classify.specs.Refused.{OnFault}
+use Rattle.dir_classify.specs.Rooted.{LeadsTo}
+use Rattle.dir_classify.proofs.WayAsked.{grown-some}
 use Rattle.dir_walk.specs.Root.{Rooted, missing, through_link, rooted, past_component, root_at, root_through}
 use Rattle.dir_walk.specs.Rooting.{EndsIn, IsFrontOf, IsNotThere, IsPast, NamesIt, ThroughAbout}
 
@@ -78,8 +80,19 @@ module _ {W : Type 0} (w : WorktreeOf W) (w0 w1 w2 : W) (given : Setting) (path 
       ∙ sym (append_assoc (components way) (name ∷ []) (components left))
       ∙ ap (λ (l : List (List ℕ)). l ++ components left) (sym (grown-components way name at.spelled_is component))
 
+  leads-grown : LeadsTo path grown
+  leads-grown =
+      record {
+        spelled_is = grown-is way name at.spelled_is component ∙ ap spelled (sym (grown-components way name at.spelled_is component));
+        rest = components left;
+        components_are = grown-split;
+      }
+
+  front-at : (at_full : List ℕ) → at_full ≡ full → IsFrontOf given.root path at_full
+  front-at at_full is = record { front = grown; leads = leads-grown; beneath = grown-some grown (components way) name (grown-components way name at.spelled_is component); full_is = is }
+
   pub front : IsFrontOf given.root path full
-  front = record { front = grown; rest = components left; full_is = refl; components_are = grown-split }
+  front = front-at full refl
 
   pub index-low : index < length (components path)
   index-low = let count = at.count in let one = ap (λ (l : List (List ℕ)). length l) rest_is in omega (arith, count, one)
@@ -98,7 +111,7 @@ module _ {W : Type 0} (w : WorktreeOf W) (w0 w1 w2 : W) (given : Setting) (path 
         };
         unread = unread ∙ at.unread;
         count = let count = at.count in let one = ap (λ (l : List (List ℕ)). length l) rest_is in omega (arith, count, one);
-        spelled_is = grown-is way name at.spelled_is component ∙ ap spelled (sym (grown-components way name at.spelled_is component));
+        spelled_is = leads-grown.spelled_is;
         split = grown-split;
         leads = λ t told.
             let is = past t (at.keeps.tree ∙ told) in
@@ -120,7 +133,7 @@ module _ {W : Type 0} (w : WorktreeOf W) (w0 w1 w2 : W) (given : Setting) (path 
   rootward-about (errors.ExcludesAccess e) h = absurd h
   rootward-about (errors.ReadDir p why) h = absurd h
   rootward-about (errors.DirEntry p) h = absurd h
-  rootward-about (errors.SymlinkMetadata p why) h = record { front = grown; rest = components left; full_is = h; components_are = grown-split }
+  rootward-about (errors.SymlinkMetadata p why) h = front-at p h
   rootward-about (errors.TooDeep p) h = absurd h
   rootward-about errors.OutOfMemory h = tt
 

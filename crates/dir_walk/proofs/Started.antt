@@ -76,8 +76,8 @@ module _ (given : Setting) (made : Option Made) (s : Sources) (root : List ℕ) 
     pub part-entered : (w : Walked) (before after : Option (List Emission)) → walked_at given made s root ≡ Some w → IsPart o (out_of (directory_told given made s root r.outcome)) before after → IsPart o (out_of w) before after
     part-entered w before after walk part = subst (λ (v : Walked). IsPart o (out_of v) before after) (same_some (sym walked-entered ∙ walk)) part
 
-    pub refuses-entered : (limit : ℕ) (e : Error) → DirectoryRefuses given made s limit ⊥ root r.outcome e → StartRefuses given made s root limit e
-    refuses-entered limit e refused = go e refused
+    pub refuses-entered : (limit : ℕ) (StoreFailed : Type 0) (e : Error) → DirectoryRefuses given made s limit ⊥ root r.outcome e → StartRefuses given made s root limit StoreFailed e
+    refuses-entered limit F e refused = go e refused
       where
         w : Walked
         w = directory_told given made s root r.outcome
@@ -85,7 +85,7 @@ module _ (given : Setting) (made : Option Made) (s : Sources) (root : List ℕ) 
         within : (R : Walked → Type 0) → R w → R (walked_or_nothing (walked_at given made s root))
         within R h = subst (λ (v : Option Walked). R (walked_or_nothing v)) (sym walked-entered) h
 
-        go : (x : Error) → DirectoryRefuses given made s limit ⊥ root r.outcome x → StartRefuses given made s root limit x
+        go : (x : Error) → DirectoryRefuses given made s limit ⊥ root r.outcome x → StartRefuses given made s root limit F x
         go errors.Interrupted h = tt
         go (errors.WorktreeRootIsFile path) (inl h) = absurd h
         go (errors.WorktreeRootIsFile path) (inr h) = absurd h
@@ -99,7 +99,7 @@ module _ (given : Setting) (made : Option Made) (s : Sources) (root : List ℕ) 
         go (errors.ExcludesAccess inner) (inr h) = some made (within (λ v. IsSomeAnd made (λ rules. IsNoAccess s rules v ⊥ inner)) h)
           where
             some : (m : Option Made) → IsSomeAnd m (λ rules. IsNoAccess s rules (walked_or_nothing (walked_at given made s root)) ⊥ inner)
-                → IsSomeAnd m (λ rules. IsNoWay given made s root rules inner ⊎ IsNoAccess s rules (walked_or_nothing (walked_at given made s root)) ⊥ inner)
+                → IsSomeAnd m (λ rules. IsNoWay given made s root rules F inner ⊎ IsNoAccess s rules (walked_or_nothing (walked_at given made s root)) ⊥ inner)
             some None x = x
             some (Some rules) x = inr x
         go (errors.TooDeep path) (inl h) = absurd h

@@ -37,6 +37,7 @@ use Rattle.dir_walk.specs.Rooting.{EndsIn}
 use Rattle.dir_walk.specs.Walked.{Walked}
 use Rattle.dir_walk.specs.WalkRefused.{IsBrokenRoot, IsHeldDirectory, IsNoWay, StartRefuses, WalkRefuses}
 use Rattle.dir_walk.specs.Walkable.{AreFitAbove, IsDirectory, IsValid, IsWalkable, is_fit, is_fit_file, is_fit_object, walked_if_any}
+use Rattle.dir_walk.proofs.Lists.{and_left}
 use Rattle.dir_walk.proofs.Complete.{not-failed, only-memory}
 use Rattle.dir_walk.proofs.Counts.{or-right}
 use Rattle.dir_walk.proofs.HeldRoots.{named-directory}
@@ -140,24 +141,24 @@ module _ (s : Sources) (made : Option Made) (given : Setting) (explicit : Option
       (v.held h.below (inr (or-right (is_among h.below w.entered) (is_among h.below w.broken) (not-failed h.broken))) (inl h.indexed))
       (subst (λ (p : List ℕ). list_of (look s.tree p false) ≡ Err why) h.path_is h.node)
 
-  start-directory : IsHeldDirectory given.options all v.start (way_to given made s v.start).class → IsDirectory s.tree (full_path given.root v.start)
-  start-directory (inl up) = v.held v.start (inl refl) (inl up)
-  start-directory (inr (inl up)) = v.held v.start (inl refl) (inr (inl up))
-  start-directory (inr (inr (inl set))) = v.held v.start (inl refl) (inr (inr set))
-  start-directory (inr (inr (inr h))) = v.start_repository h.1
+  start-directory : (way_to given made s v.start).whole ≡ true → IsHeldDirectory given.options all v.start (way_to given made s v.start).class → IsDirectory s.tree (full_path given.root v.start)
+  start-directory whole (inl up) = v.held v.start (inl (refl, whole)) (inl up)
+  start-directory whole (inr (inl up)) = v.held v.start (inl (refl, whole)) (inr (inl up))
+  start-directory whole (inr (inr (inl set))) = v.held v.start (inl (refl, whole)) (inr (inr set))
+  start-directory whole (inr (inr (inr h))) = v.start_repository whole h.1
 
   not-broken-start : {X : Type 0} (why : ListError) (path : List ℕ) → IsBrokenRoot given made s v.start why path → X
-  not-broken-start why path h = is-listed s.tree (full_path given.root v.start) (is_empty v.start) why (start-directory h.held) h.node
+  not-broken-start why path h = is-listed s.tree (full_path given.root v.start) (is_empty v.start) why (start-directory (and_left (way_to given made s v.start).whole _ h.entered) h.held) h.node
 
   not-refused : {X : Type 0} (e : AtPathError) → lookups.OnFault (Increased before now) (Increased store_before store_now) e
-      → IsSomeAnd made (λ rules. IsNoWay given made s v.start rules e ⊎ IsNoAccess s rules w ⊥ e) → X
+      → IsSomeAnd made (λ rules. IsNoWay given made s v.start rules (Increased store_before store_now) e ⊎ IsNoAccess s rules w ⊥ e) → X
   not-refused e cause h = some-rules made v.rules h go
     where
-      go : {X : Type 0} (rules : Made) → ((path : List ℕ) → LeadsTo v.start path ⊎ (is_among path w.asked ≡ true) → AreFitAbove s rules path) → IsNoWay given made s v.start rules e ⊎ IsNoAccess s rules w ⊥ e → X
+      go : {X : Type 0} (rules : Made) → ((path : List ℕ) → LeadsTo v.start path ⊎ (is_among path w.asked ≡ true) → AreFitAbove s rules path) → IsNoWay given made s v.start rules (Increased store_before store_now) e ⊎ IsNoAccess s rules w ⊥ e → X
       go rules fits (inl k) = no-refusal s rules k.path (fits k.path (inl k.leads)) before now store_before store_now e quiet store_quiet cause k.access.some_memory k.refused
       go rules fits (inr k) = no-refusal s rules k.path (fits k.path (inr (not-failed k.asked))) before now store_before store_now e quiet store_quiet cause k.access.some_memory k.refused
 
-  start-memory : (e : Error) → Cause e → OnInterrupt (Increased raised_before raised_now) e → StartRefuses given made s v.start limit e → e ≡ errors.OutOfMemory
+  start-memory : (e : Error) → Cause e → OnInterrupt (Increased raised_before raised_now) e → StartRefuses given made s v.start limit (Increased store_before store_now) e → e ≡ errors.OutOfMemory
   start-memory errors.Interrupted cause raised h = absurd (omega (arith, raised, calm))
   start-memory (errors.WorktreeRootIsFile path) cause raised h = absurd (h.node v.top)
   start-memory (errors.NormalizeRoot path) cause raised h = absurd h
@@ -188,12 +189,12 @@ module _ (s : Sources) (made : Option Made) (given : Setting) (explicit : Option
   no-end errors.OutOfMemory cause h = refl
 
   -- where nothing failed and nothing was raised, want of memory alone is left
-  pub walkable-memory : (e : Error) → Cause e → OnInterrupt (Increased raised_before raised_now) e → WalkRefuses given made s explicit limit e → e ≡ errors.OutOfMemory
+  pub walkable-memory : (e : Error) → Cause e → OnInterrupt (Increased raised_before raised_now) e → WalkRefuses given made s explicit limit (Increased store_before store_now) e → e ≡ errors.OutOfMemory
   walkable-memory e cause raised (inl h) = no-end e cause h
-  walkable-memory e cause raised (inr h) = start-memory e cause raised (subst (λ (p : List ℕ). StartRefuses given made s p limit e) (same_root (sym h.1 ∙ v.start_is)) h.2)
+  walkable-memory e cause raised (inr h) = start-memory e cause raised (subst (λ (p : List ℕ). StartRefuses given made s p limit (Increased store_before store_now) e) (same_root (sym h.1 ∙ v.start_is)) h.2)
 
 module _ (s : Sources) (made : Option Made) (given : Setting) (explicit : Option (List ℕ)) (limit before now store_before store_now raised_before raised_now : ℕ) where
-  pub valid-memory : (e : Error) → OnFault (Increased before now) (Increased store_before store_now) e → OnInterrupt (Increased raised_before raised_now) e → WalkRefuses given made s explicit limit e
+  pub valid-memory : (e : Error) → OnFault (Increased before now) (Increased store_before store_now) e → OnInterrupt (Increased raised_before raised_now) e → WalkRefuses given made s explicit limit (Increased store_before store_now) e
       → NotIncreased before now → NotIncreased store_before store_now → NotIncreased raised_before raised_now → IsValid given made s explicit limit → e ≡ errors.OutOfMemory
   valid-memory e cause raised h quiet store_quiet calm (inl is) =
       only-memory s made given explicit limit before now store_before store_now raised_before raised_now e cause raised h quiet store_quiet calm is

@@ -5,6 +5,7 @@ use Rattle.worktree_fs.specs.declared.interrupt.Interrupt.{Ghosts as InterruptOf
 use Rattle.worktree_fs.specs.declared.worktree.Worktree.{Ghosts as WorktreeOf}
 use Rattle.worktree_fs.specs.Causes.{Increased, NotIncreased}
 use Rattle.worktree_fs.specs.Kept.{Asks}
+use Rattle.worktree_fs.specs.Paths.{full_path}
 use Rattle.worktree_fs.specs.Tree.{Names}
 use Rattle.worktree_stack.specs.Lookups.{refused_one}
 use Rattle.worktree_stack.specs.Reading.{Sources}
@@ -20,10 +21,10 @@ use Rattle.dir_walk.specs.declared.handed.Stop.TheVariants.{Refused}
 use Rattle.dir_walk.specs.declared.outcome.Outcome.{Outcome}
 use Rattle.dir_walk.specs.declared.strategy.Strategy.{Strategy}
 use Rattle.dir_walk.specs.declared.delegate.Delegate.{Ghosts as DelegateOf}
-use Rattle.dir_walk.specs.Kept.{OnInterrupt}
+use Rattle.dir_walk.specs.Kept.{OnInterrupt, OnListingFault}
 use Rattle.dir_walk.specs.Root.{rooted, traversal_root}
 use Rattle.dir_walk.specs.Rooting.{EndsIn, IsNormalized, RootAbout}
-use Rattle.dir_walk.specs.WalkRefused.{IsNoDirectory, OnNoRoot, StartAbout, StartFound, StartRefuses}
+use Rattle.dir_walk.specs.WalkRefused.{IsNoTop, OnNoRoot, StartAbout, StartFound, StartRefuses}
 use Rattle.dir_walk.specs.Walks.{Ends, OpensDirectories, ReadsAtMost, Tells, WalksWorktree}
 use Rattle.dir_walk.proofs.CallByCall.{Before-asked, Ends-after, unlisted}
 use Rattle.dir_walk.proofs.Walkable.{valid-memory}
@@ -43,6 +44,18 @@ interrupt-outside P given explicit (errors.TooDeep at) h = tt
 interrupt-outside P given explicit (errors.ReadDir at why) h = tt
 interrupt-outside P given explicit (errors.DirEntry at) h = tt
 interrupt-outside P given explicit errors.OutOfMemory h = tt
+
+listing-outside : (P : Type 0) (given : Setting) (explicit : Option (List ℕ)) (e : Error) → RootAbout given explicit e → OnListingFault P e
+listing-outside P given explicit errors.Interrupted h = tt
+listing-outside P given explicit (errors.WorktreeRootIsFile root) h = tt
+listing-outside P given explicit (errors.NormalizeRoot root) h = tt
+listing-outside P given explicit (errors.SymlinkInRoot whole worktree_root index) h = tt
+listing-outside P given explicit (errors.SymlinkMetadata full why) h = tt
+listing-outside P given explicit (errors.ExcludesAccess x) h = tt
+listing-outside P given explicit (errors.TooDeep at) h = tt
+listing-outside P given explicit (errors.ReadDir at why) h = absurd h
+listing-outside P given explicit (errors.DirEntry at) h = absurd h
+listing-outside P given explicit errors.OutOfMemory h = tt
 
 no_root-outside : (P : Type 0) (given : Setting) (explicit : Option (List ℕ)) (e : Error) → RootAbout given explicit e → OnNoRoot P e
 no_root-outside P given explicit errors.Interrupted h = tt
@@ -65,12 +78,14 @@ module _ {W F I T : Type 0} (w : WorktreeOf W) (f : FindOf F) (i : InterruptOf I
         about = inl about;
         cause = fault (f.faults o0) (f.faults o0);
         interrupted = interrupt-outside (Increased (i.raised i0) (i.raised i0)) given explicit e about;
+        listing = listing-outside (Increased (w.list_faults w0) (w.list_faults w1)) given explicit e about;
         found = λ s told. inl (ends s.tree told);
-        refused = λ s tells by quiet store_quiet. inl (ends s.tree tells.tells.tree_is);
-        no_root = λ s told quiet. no_root-outside ((traversal_root given s.tree explicit ≡ rooted []) × IsNoDirectory given s) given explicit e about;
+        refused = λ s tells by quiet. inl (ends s.tree tells.tells.tree_is);
+        no_root = λ s told quiet. no_root-outside ((traversal_root given s.tree explicit ≡ rooted []) × IsNoTop given (made_with r0) s default) given explicit e about;
         complete = λ s tells by quiet store_quiet calm is.
             valid-memory s (made_with r0) given explicit limit (w.faults w0) (w.faults w1) (f.faults o0) (f.faults o0) (i.raised i0) (i.raised i0) e (fault (f.faults o0) (f.faults o0))
             (interrupt-outside (Increased (i.raised i0) (i.raised i0)) given explicit e about) (inl (ends s.tree tells.tells.tree_is)) quiet store_quiet calm is;
+        named = λ t told quiet. tt;
         worktree = unlisted (Before-asked {f = f} {o = o0} {rules = r0} keeps).worktree;
         store = AsksStore-same;
         rules = KeepsRules-same;
@@ -98,9 +113,10 @@ module _ {W F I D T : Type 0} (w : WorktreeOf W) (f : FindOf F) (i : InterruptOf
     (strategy : Strategy) (given : Setting) (explicit : Option (List ℕ)) (limit : ℕ) (default : Bool) (outcome_of : T → Outcome) (path_of : T → List ℕ) (root : List ℕ) (keeps : Asks w w0 w1) (normalized_is : IsNormalized given explicit root)
     (rooted_is : (t : Names) → w.told w0 ≡ Some t → NotIncreased (w.faults w0) (w.faults w1) → traversal_root given t explicit ≡ rooted root) where
   pub walks-refused : (e : Error) → Ends {T = Unit {0}} w f i d w1 w2 o0 o2 i0 i2 r0 r2 d0 d2 (Err (Refused e)) → StartAbout (made_with r0) given.root root limit e
-      → ((s : Sources) → w.told w1 ≡ Some s.tree → StartFound (f.holds o0) s (made_with r0) e)
-      → ((s : Sources) → Tells w f w1 o0 r0 s → default ≡ true → NotIncreased (w.faults w1) (w.faults w2) → NotIncreased (f.faults o0) (f.faults o2) → StartRefuses given (made_with r0) s root limit e)
-      → ((s : Sources) → w.told w1 ≡ Some s.tree → NotIncreased (w.faults w1) (w.faults w2) → OnNoRoot (IsNoDirectory given s) e)
+      → ((s : Sources) → w.told w1 ≡ Some s.tree → StartFound given.root (f.holds o0) s (made_with r0) e)
+      → ((s : Sources) → Tells w f w1 o0 r0 s → default ≡ true → NotIncreased (w.faults w1) (w.faults w2)
+      → StartRefuses given (made_with r0) s root limit (Increased (f.faults o0) (f.faults o2)) e)
+      → ((s : Sources) → w.told w1 ≡ Some s.tree → NotIncreased (w.faults w1) (w.faults w2) → OnNoRoot (IsNoTop given (made_with r0) s default) e)
       → OpensDirectories w i w0 w2 i0 i2 strategy given explicit outcome_of path_of (Err e)
       → WalksWorktree w f i w0 w2 o0 o2 i0 i2 r0 r2 strategy given explicit limit default outcome_of path_of (Err e)
   walks-refused e here about found refused no_root opens =
@@ -113,14 +129,16 @@ module _ {W F I D T : Type 0} (w : WorktreeOf W) (f : FindOf F) (i : InterruptOf
         about = inr (root, normalized_is, about);
         cause = ends.caused.fault;
         interrupted = ends.caused.interrupt;
+        listing = ends.caused.listing;
         found = λ s told. inr (found s (keeps.tree ∙ told));
-        refused = λ s tells by quiet store_quiet. inr (root, rooted_is s.tree tells.tells.tree_is (first quiet), refused s (later s tells) by (second quiet) store_quiet);
+        refused = λ s tells by quiet. inr (root, rooted_is s.tree tells.tells.tree_is (first quiet), refused s (later s tells) by (second quiet));
         no_root = λ s told quiet.
-            no_root-start (IsNoDirectory given s) ((traversal_root given s.tree explicit ≡ rooted []) × IsNoDirectory given s) (made_with r0) given.root root limit e about
+            no_root-start (IsNoTop given (made_with r0) s default) ((traversal_root given s.tree explicit ≡ rooted []) × IsNoTop given (made_with r0) s default) (made_with r0) given.root root limit e about
             (λ top node. (rooted_is s.tree told (first quiet) ∙ ap rooted top, node)) (no_root s (keeps.tree ∙ told) (second quiet));
         complete = λ s tells by quiet store_quiet calm is.
             valid-memory s (made_with r0) given explicit limit (w.faults w0) (w.faults w2) (f.faults o0) (f.faults o2) (i.raised i0) (i.raised i2) e ends.caused.fault ends.caused.interrupt
-            (inr (root, rooted_is s.tree tells.tells.tree_is (first quiet), refused s (later s tells) by (second quiet) store_quiet)) quiet store_quiet calm is;
+            (inr (root, rooted_is s.tree tells.tells.tree_is (first quiet), refused s (later s tells) by (second quiet))) quiet store_quiet calm is;
+        named = λ t told quiet. tt;
         worktree = ends.worktree;
         store = ends.store;
         rules = ends.rules;
@@ -131,18 +149,20 @@ module _ {W F I D T : Type 0} (w : WorktreeOf W) (f : FindOf F) (i : InterruptOf
       }
 
   -- or it was done, or broken off
-  pub walks-done : (r : T) (stop : Result (Unit {0}) Stop) → Ends w f i d w1 w2 o0 o2 i0 i2 r0 r2 d0 d2 stop → w.list_faults w2 ≡ w.list_faults w1 → i.raised i2 ≡ i.raised i0
+  pub walks-done : (r : T) → path_of r ≡ full_path given.root root → (stop : Result (Unit {0}) Stop) → Ends w f i d w1 w2 o0 o2 i0 i2 r0 r2 d0 d2 stop → w.list_faults w2 ≡ w.list_faults w1 → i.raised i2 ≡ i.raised i0
       → OpensDirectories w i w0 w2 i0 i2 strategy given explicit outcome_of path_of (Ok r) → WalksWorktree w f i w0 w2 o0 o2 i0 i2 r0 r2 strategy given explicit limit default outcome_of path_of (Ok r)
-  walks-done r stop here lists calm opens =
+  walks-done r full_is stop here lists calm opens =
       let ends = Ends-after w f i d stop (Before-asked keeps) here in
       record {
         about = tt;
         cause = tt;
         interrupted = tt;
+        listing = tt;
         found = λ s told. tt;
-        refused = λ s tells by quiet store_quiet. tt;
+        refused = λ s tells by quiet. tt;
         no_root = λ s told quiet. tt;
         complete = λ s tells by quiet store_quiet raised is. tt;
+        named = λ t told quiet. (root, rooted_is t told (omega (arith, quiet, here.worktree.faults)), full_is);
         worktree = ends.worktree;
         store = ends.store;
         rules = ends.rules;
@@ -175,10 +195,12 @@ module _ {W F I S T : Type 0} (w : WorktreeOf W) (f : FindOf F) (i : InterruptOf
         about = h.about;
         cause = h.cause;
         interrupted = h.interrupted;
+        listing = h.listing;
         found = h.found;
         refused = h.refused;
         no_root = h.no_root;
         complete = h.complete;
+        named = λ t told quiet. tt;
         worktree = h.worktree;
         store = h.store;
         rules = h.rules;
@@ -202,10 +224,12 @@ module _ {W F I S T : Type 0} (w : WorktreeOf W) (f : FindOf F) (i : InterruptOf
         about = tt;
         cause = tt;
         interrupted = tt;
+        listing = tt;
         found = λ s told. tt;
-        refused = λ s tells by quiet store_quiet. tt;
+        refused = λ s tells by quiet. tt;
         no_root = λ s told quiet. tt;
         complete = λ s tells by quiet store_quiet calm is. tt;
+        named = λ t told quiet. let n = h.named t told quiet in (n.0, n.1, path ∙ n.2);
         worktree = h.worktree;
         store = h.store;
         rules = h.rules;
@@ -229,10 +253,12 @@ module _ {W F I S T : Type 0} (w : WorktreeOf W) (f : FindOf F) (i : InterruptOf
         about = inl tt;
         cause = tt;
         interrupted = tt;
+        listing = tt;
         found = λ s told. inl tt;
-        refused = λ s tells by quiet store_quiet. inl tt;
+        refused = λ s tells by quiet. inl tt;
         no_root = λ s told quiet. tt;
         complete = λ s tells by quiet store_quiet calm is. refl;
+        named = λ t told quiet. tt;
         worktree = h.worktree;
         store = h.store;
         rules = h.rules;

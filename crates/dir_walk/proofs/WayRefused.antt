@@ -1,5 +1,5 @@
 -- The way to a traversal root was refused, or what is entered there.
-use Rattle.std.proofs.Common.{◌≡◌, ◌⊎◌, inl, inr, ℕ, List, [], ◌∷◌, true, false, Option, Some, None, refl}
+use Rattle.std.proofs.Common.{◌≡◌, ◌⊎◌, inl, ℕ, List, [], ◌∷◌, true, false, Option, Some, None, refl}
 use Rattle.std.specs.Prelude.{IsSomeAnd, is_some}
 use Rattle.gitbase_core.specs.Objects.{Objects}
 use Rattle.gitbase_core.specs.Path.{components, is_empty}
@@ -41,43 +41,39 @@ way-about made top root limit (errors.ReadDir p why) shape (path, leads, h) = ab
 way-about made top root limit (errors.DirEntry p) shape (path, leads, h) = absurd h
 way-about made top root limit errors.OutOfMemory shape h = tt
 
-pub way-found : (holds : Option Objects) (s : Sources) (made : Option Made) (root : List ℕ) (e : Error) → IsRoot root → OnWayTo root (λ path. classes.IsAbout made path e)
-    → ((is_some made ≡ true → holds ≡ Some s.objects) → OnWayTo root (λ path. classes.IsAbout made path e × classes.Refuses s made path e)) → StartFound holds s made e
-way-found holds s made root errors.Interrupted shape h refused = tt
-way-found holds s made root (errors.WorktreeRootIsFile p) shape h refused = tt
-way-found holds s made root (errors.NormalizeRoot p) shape (path, leads, h) refused = h
-way-found holds s made root (errors.SymlinkInRoot p worktree_root index) shape (path, leads, h) refused = h
-way-found holds s made root (errors.SymlinkMetadata p why) shape (path, leads, h) refused = h
-way-found holds s None root (errors.ExcludesAccess x) shape (path, leads, h) refused = h
-way-found holds s (Some rules) root (errors.ExcludesAccess x) shape h refused = λ told.
+pub way-found : (top : List ℕ) (holds : Option Objects) (s : Sources) (made : Option Made) (root : List ℕ) (e : Error) → IsRoot root → OnWayTo root (λ path. classes.IsAbout made path e)
+    → ((is_some made ≡ true → holds ≡ Some s.objects) → OnWayTo root (λ path. classes.IsAbout made path e × classes.Refuses s made path e)) → StartFound top holds s made e
+way-found top holds s made root errors.Interrupted shape h refused = tt
+way-found top holds s made root (errors.WorktreeRootIsFile p) shape h refused = tt
+way-found top holds s made root (errors.NormalizeRoot p) shape (path, leads, h) refused = h
+way-found top holds s made root (errors.SymlinkInRoot p worktree_root index) shape (path, leads, h) refused = h
+way-found top holds s made root (errors.SymlinkMetadata p why) shape (path, leads, h) refused = h
+way-found top holds s None root (errors.ExcludesAccess x) shape (path, leads, h) refused = h
+way-found top holds s (Some rules) root (errors.ExcludesAccess x) shape h refused = λ told.
     let r = refused (λ some. told) in
     record { path = r.0; normal = on-way-normal root r.0 shape r.1; access = r.2.0; refused = r.2.1 }
-way-found holds s made root (errors.TooDeep p) shape h refused = tt
-way-found holds s made root (errors.ReadDir p why) shape (path, leads, h) refused = absurd h
-way-found holds s made root (errors.DirEntry p) shape h refused = tt
-way-found holds s made root errors.OutOfMemory shape h refused = tt
+way-found top holds s made root (errors.TooDeep p) shape h refused = tt
+way-found top holds s made root (errors.ReadDir p why) shape (path, leads, h) refused = absurd h
+way-found top holds s made root (errors.DirEntry p) shape h refused = tt
+way-found top holds s made root errors.OutOfMemory shape h refused = tt
 
 pub way-refuses : (given : Setting) (made : Option Made) (s : Sources) (root : List ℕ) (limit : ℕ) (Failed : Type 0) (e : Error)
-    → OnWayTo root (λ path. classes.IsAbout made path e × classes.Refuses s made path e) → OnAccess (((way_to given made s root).is_unread ≡ true) ⊎ Failed) e → (Failed → ⊥) → StartRefuses given made s root limit e
-way-refuses given made s root limit F errors.Interrupted h asked off = tt
-way-refuses given made s root limit F (errors.WorktreeRootIsFile p) (path, leads, h) asked off = absurd h.0
-way-refuses given made s root limit F (errors.NormalizeRoot p) (path, leads, h) asked off = h.0
-way-refuses given made s root limit F (errors.SymlinkInRoot p worktree_root index) (path, leads, h) asked off = h.0
-way-refuses given made s root limit F (errors.SymlinkMetadata p why) (path, leads, h) asked off = h.0
-way-refuses given made s root limit F (errors.ExcludesAccess x) (path, leads, h) asked off = go made refl h
+    → OnWayTo root (λ path. classes.IsAbout made path e × classes.Refuses s made path e) → OnAccess (((way_to given made s root).is_unread ≡ true) ⊎ Failed) e → StartRefuses given made s root limit Failed e
+way-refuses given made s root limit F errors.Interrupted h asked = tt
+way-refuses given made s root limit F (errors.WorktreeRootIsFile p) (path, leads, h) asked = absurd h.0
+way-refuses given made s root limit F (errors.NormalizeRoot p) (path, leads, h) asked = h.0
+way-refuses given made s root limit F (errors.SymlinkInRoot p worktree_root index) (path, leads, h) asked = h.0
+way-refuses given made s root limit F (errors.SymlinkMetadata p why) (path, leads, h) asked = h.0
+way-refuses given made s root limit F (errors.ExcludesAccess x) (path, leads, h) asked = go made refl h
   where
-    unread : (U : Type 0) → U ⊎ F → U
-    unread U (inl u) = u
-    unread U (inr f) = absurd (off f)
-
     go : (m : Option Made) → made ≡ m → IsSomeAnd m (λ rules. IsAccess rules path x) × IsSomeAnd m (λ rules. lookups.RefusesIn s rules (components path) x)
-        → IsSomeAnd m (λ rules. IsNoWay given made s root rules x ⊎ IsNoAccess s rules (walked_or_nothing (walked_at given made s root)) ⊥ x)
+        → IsSomeAnd m (λ rules. IsNoWay given made s root rules F x ⊎ IsNoAccess s rules (walked_or_nothing (walked_at given made s root)) ⊥ x)
     go None is k = k.0
-    go (Some rules) is k = inl (record { path = path; leads = leads; access = k.0; refused = k.1; unread = unread ((way_to given made s root).is_unread ≡ true) asked })
-way-refuses given made s root limit F (errors.TooDeep p) (path, leads, h) asked off = absurd h.0
-way-refuses given made s root limit F (errors.ReadDir p why) (path, leads, h) asked off = absurd h.0
-way-refuses given made s root limit F (errors.DirEntry p) (path, leads, h) asked off = absurd h.0
-way-refuses given made s root limit F errors.OutOfMemory h asked off = tt
+    go (Some rules) is k = inl (record { path = path; leads = leads; access = k.0; refused = k.1; unread = asked })
+way-refuses given made s root limit F (errors.TooDeep p) (path, leads, h) asked = absurd h.0
+way-refuses given made s root limit F (errors.ReadDir p why) (path, leads, h) asked = absurd h.0
+way-refuses given made s root limit F (errors.DirEntry p) (path, leads, h) asked = absurd h.0
+way-refuses given made s root limit F errors.OutOfMemory h asked = tt
 
 pub way-no_root : (Holds : Type 0) (made : Option Made) (root : List ℕ) (e : Error) → OnWayTo root (λ path. classes.IsAbout made path e) → OnNoRoot Holds e
 way-no_root Holds made root errors.Interrupted h = tt
@@ -105,7 +101,7 @@ entered-about made top root limit (errors.ReadDir p why) h = h
 entered-about made top root limit (errors.DirEntry p) h = h
 entered-about made top root limit errors.OutOfMemory h = tt
 
-pub entered-found : (holds : Option Objects) (s : Sources) (made : Option Made) (top : List ℕ) (limit : ℕ) (e : Error) → IsAbout made top limit e → IsInTree holds s made e → StartFound holds s made e
+pub entered-found : (holds : Option Objects) (s : Sources) (made : Option Made) (top : List ℕ) (limit : ℕ) (e : Error) → IsAbout made top limit e → IsInTree top holds s made e → StartFound top holds s made e
 entered-found holds s made top limit errors.Interrupted about h = tt
 entered-found holds s made top limit (errors.WorktreeRootIsFile p) about h = tt
 entered-found holds s made top limit (errors.NormalizeRoot p) about h = about
@@ -147,7 +143,7 @@ only-about made top root limit reached (errors.ReadDir p why) h = absurd h
 only-about made top root limit reached (errors.DirEntry p) h = absurd h
 only-about made top root limit reached errors.OutOfMemory h = tt
 
-pub only-found : (holds : Option Objects) (s : Sources) (made : Option Made) (top root : List ℕ) (reached : RootOutcome) (e : Error) → OnlyRoot top root reached e → StartFound holds s made e
+pub only-found : (holds : Option Objects) (s : Sources) (made : Option Made) (top root : List ℕ) (reached : RootOutcome) (e : Error) → OnlyRoot top root reached e → StartFound top holds s made e
 only-found holds s made top root reached errors.Interrupted h = tt
 only-found holds s made top root reached (errors.WorktreeRootIsFile p) h = tt
 only-found holds s made top root reached (errors.NormalizeRoot p) h = h
@@ -159,18 +155,18 @@ only-found holds s made top root reached (errors.ReadDir p why) h = absurd h
 only-found holds s made top root reached (errors.DirEntry p) h = tt
 only-found holds s made top root reached errors.OutOfMemory h = tt
 
-pub only-refuses : (given : Setting) (made : Option Made) (s : Sources) (top root : List ℕ) (limit : ℕ) (reached : RootOutcome) (e : Error)
-    → (is_empty root ≡ true → holds_names reached.outcome.disk_kind ≡ false → IsNoRoot given made s root) → OnlyRoot top root reached e → StartRefuses given made s root limit e
-only-refuses given made s top root limit reached errors.Interrupted none h = tt
-only-refuses given made s top root limit reached (errors.WorktreeRootIsFile p) none h = none h.1 h.2
-only-refuses given made s top root limit reached (errors.NormalizeRoot p) none h = h
-only-refuses given made s top root limit reached (errors.SymlinkInRoot p worktree_root index) none h = h
-only-refuses given made s top root limit reached (errors.SymlinkMetadata p why) none h = h
-only-refuses given made s top root limit reached (errors.ExcludesAccess x) none h = absurd h
-only-refuses given made s top root limit reached (errors.TooDeep p) none h = absurd h
-only-refuses given made s top root limit reached (errors.ReadDir p why) none h = absurd h
-only-refuses given made s top root limit reached (errors.DirEntry p) none h = tt
-only-refuses given made s top root limit reached errors.OutOfMemory none h = tt
+pub only-refuses : (given : Setting) (made : Option Made) (s : Sources) (top root : List ℕ) (limit : ℕ) (StoreFailed : Type 0) (reached : RootOutcome) (e : Error)
+    → (is_empty root ≡ true → holds_names reached.outcome.disk_kind ≡ false → IsNoRoot given made s root) → OnlyRoot top root reached e → StartRefuses given made s root limit StoreFailed e
+only-refuses given made s top root limit F reached errors.Interrupted none h = tt
+only-refuses given made s top root limit F reached (errors.WorktreeRootIsFile p) none h = none h.1 h.2
+only-refuses given made s top root limit F reached (errors.NormalizeRoot p) none h = h
+only-refuses given made s top root limit F reached (errors.SymlinkInRoot p worktree_root index) none h = h
+only-refuses given made s top root limit F reached (errors.SymlinkMetadata p why) none h = h
+only-refuses given made s top root limit F reached (errors.ExcludesAccess x) none h = absurd h
+only-refuses given made s top root limit F reached (errors.TooDeep p) none h = absurd h
+only-refuses given made s top root limit F reached (errors.ReadDir p why) none h = absurd h
+only-refuses given made s top root limit F reached (errors.DirEntry p) none h = tt
+only-refuses given made s top root limit F reached errors.OutOfMemory none h = tt
 
 pub only-no_root : (Holds : Type 0) (top root : List ℕ) (reached : RootOutcome) (e : Error) → (is_empty root ≡ true → holds_names reached.outcome.disk_kind ≡ false → Holds) → OnlyRoot top root reached e → OnNoRoot Holds e
 only-no_root Holds top root reached errors.Interrupted none h = tt

@@ -2,6 +2,7 @@
 use Rattle.std.specs.Prelude.{◌≡◌, ℕ, ◌≤◌, List, [], ◌∷◌, true, false, count_by}
 use Rattle.std.specs.Str.{bytes_eq}
 use Rattle.std.specs.List.{AllByRecursion}
+use Rattle.gitbase_core.specs.Path.{lies_beneath}
 use Rattle.dir_walk.specs.Emissions.{Emission, path_of, is_before}
 
 -- no path stands twice
@@ -17,3 +18,11 @@ IsAscending (x ∷ xs) = AllByRecursion (λ y. is_before y x ≡ false) xs × Is
 abbrev pub Ascends : List Emission → Type 0
 Ascends [] = Unit {0}
 Ascends (x ∷ xs) = AllByRecursion (λ y. is_before x y ≡ true) xs × Ascends xs
+
+-- no path lies beneath that of an entry
+abbrev pub IsOverNone : List Emission → Emission → Type 0
+IsOverNone all x = AllByRecursion (λ (y : Emission). lies_beneath (path_of x) (path_of y) ≡ false) all
+
+-- no path lies beneath another
+abbrev pub AreFlat : List Emission → Type 0
+AreFlat all = AllByRecursion (IsOverNone all) all

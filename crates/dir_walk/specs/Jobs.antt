@@ -37,7 +37,7 @@ pub record WalksJob {W F I D : Type 0} (w : WorktreeOf W) (f : FindOf F) (i : In
       → OnErr result (IsPart given.options (directory_told given made s path class).out (d.given d0) (d.given d1))
   -- Each refusal has its cause.
   pub about : (limit : ℕ) → levels + depth_of path ≡ limit → IfErr result (OnRefused (IsAbout (made_with rules) given.root limit))
-  pub found : (s : Sources) → w.told w0 ≡ Some s.tree → IfErr result (OnRefused (IsInTree (f.holds o0) s (made_with rules)))
+  pub found : (s : Sources) → w.told w0 ≡ Some s.tree → IfErr result (OnRefused (IsInTree given.root (f.holds o0) s (made_with rules)))
   pub refused : (made : Option Made) (s : Sources) → Stands given (w.told w0) (f.holds o0) rules blocked made s → d.is_default d0 ≡ true → (limit : ℕ) → levels + depth_of path ≡ limit
       → IfErr result (OnRefused (DirectoryRefuses given made s limit (Increased (w.faults w0) (w.faults w1)) path class))
   pub caused : Caused w f i w0 w1 o0 o1 i0 i1 result

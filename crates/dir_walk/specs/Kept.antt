@@ -6,6 +6,7 @@ use Rattle.worktree_fs.specs.declared.worktree.Worktree.{Ghosts as WorktreeOf}
 use Rattle.worktree_fs.specs.Causes.{Increased, Incremented, with_more}
 use Rattle.dir_classify.specs.declared.error.Error.{Error}
 use Rattle.dir_classify.specs.declared.error.Error.TheVariants as errors
+use Rattle.dir_classify.specs.declared.error.ReadWhy.TheVariants as reads
 use Rattle.dir_classify.specs.Refused.{OnFault}
 use Rattle.dir_walk.specs.declared.delegate.Delegate.{Ghosts as DelegateOf}
 use Rattle.dir_walk.specs.declared.handed.Stop.{Stop}
@@ -50,11 +51,27 @@ OnInterrupt Raised (errors.SymlinkMetadata path why) = Unit {0}
 OnInterrupt Raised (errors.TooDeep path) = Unit {0}
 OnInterrupt Raised errors.OutOfMemory = Unit {0}
 
+-- what holds where a listing failed
+abbrev pub OnListingFault : Type 0 → Error → Type 0
+OnListingFault Failed errors.Interrupted = Unit {0}
+OnListingFault Failed (errors.WorktreeRootIsFile root) = Unit {0}
+OnListingFault Failed (errors.NormalizeRoot root) = Unit {0}
+OnListingFault Failed (errors.SymlinkInRoot root worktree_root index) = Unit {0}
+OnListingFault Failed (errors.ExcludesAccess e) = Unit {0}
+OnListingFault Failed (errors.ReadDir path reads.Absent) = Unit {0}
+OnListingFault Failed (errors.ReadDir path reads.NotADirectory) = Unit {0}
+OnListingFault Failed (errors.ReadDir path reads.Fault) = Failed
+OnListingFault Failed (errors.DirEntry path) = Failed
+OnListingFault Failed (errors.SymlinkMetadata path why) = Unit {0}
+OnListingFault Failed (errors.TooDeep path) = Unit {0}
+OnListingFault Failed errors.OutOfMemory = Unit {0}
+
 -- Each refusal that a fault or the interrupt caused was counted by them; where there is none, neither a listing failed
 -- nor was the interrupt raised.
 pub record Caused {W F I T : Type 0} (w : WorktreeOf W) (f : FindOf F) (i : InterruptOf I) (w0 w1 : W) (o0 o1 : F) (i0 i1 : I) (result : Result T Stop) : Type 0 where
   pub fault : IfErr result (OnRefused (OnFault (Increased (w.faults w0) (w.faults w1)) (Increased (f.faults o0) (f.faults o1))))
   pub interrupt : IfErr result (OnRefused (OnInterrupt (Increased (i.raised i0) (i.raised i1))))
+  pub listing : IfErr result (OnRefused (OnListingFault (Increased (w.list_faults w0) (w.list_faults w1))))
   pub listed : UnlessRefused result (w.list_faults w1 ≡ w.list_faults w0)
   pub calm : UnlessRefused result (i.raised i1 ≡ i.raised i0)
 

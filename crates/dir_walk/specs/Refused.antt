@@ -2,13 +2,13 @@
 use Rattle.std.specs.Prelude.{◌≡◌, ◌⊎◌, ◌<◌, ℕ, Bool, true, false, ◌||◌, List, Option, Some, Err, IsSomeAnd}
 use Rattle.std.specs.List.{list_any}
 use Rattle.std.specs.Str.{bytes_eq}
-use Rattle.gitbase_core.specs.Path.{components}
+use Rattle.gitbase_core.specs.Path.{components, is_empty}
 use Rattle.gitbase_core.specs.Objects.{Objects}
 use Rattle.worktree_fs.specs.declared.answers.ListError.{ListError}
 use Rattle.worktree_fs.specs.declared.answers.ListError.TheVariants as lists
 use Rattle.worktree_fs.specs.Tree.{Names, Look, look}
 use Rattle.worktree_fs.specs.Answers.{list_of}
-use Rattle.worktree_fs.specs.Paths.{is_normal, full_path}
+use Rattle.worktree_fs.specs.Paths.{is_normal, full_path, spelled}
 use Rattle.worktree_stack.specs.declared.error.AtPathError.{AtPathError}
 use Rattle.worktree_stack.specs.Setup.{Made}
 use Rattle.worktree_stack.specs.Reading.{Sources}
@@ -35,17 +35,20 @@ is_to_enter path w = is_among path w.entered || is_among path w.broken
 
 -- ---- what holds of any worktree
 
--- the whole path of the worktree root or of what lies below it: what stands below the root is normal
+-- the whole path of the worktree root or of what lies below it: what stands below the root is normal, and one slash parts each two
+-- of its components
 pub record IsBelow (root path : List ℕ) : Type 0 where
   pub below : List ℕ
   pub path_is : path ≡ full_path root below
   pub normal : is_normal below ≡ true
+  pub spelled_is : below ≡ spelled (components below)
 
 -- such a path that has more components below the worktree root than the limit
 pub record IsBelowLimit (root : List ℕ) (limit : ℕ) (path : List ℕ) : Type 0 where
   pub below : List ℕ
   pub path_is : path ≡ full_path root below
   pub normal : is_normal below ≡ true
+  pub spelled_is : below ≡ spelled (components below)
   pub deep : limit < depth_of below
 
 -- a lookup of some normal path in the rules was refused
@@ -76,25 +79,26 @@ pub record IsRefusedLookup (s : Sources) (made : Made) (e : AtPathError) : Type 
   pub access : IsAccess made path e
   pub refused : lookups.RefusesIn s made (components path) e
 
--- what a path leads to in the tree, a last link followed or not, cannot be listed
-pub record IsNotListed (t : Names) (why : ListError) (path : List ℕ) : Type 0 where
-  pub follow : Bool
-  pub node : list_of (look t path follow) ≡ Err why
+-- what a whole path leads to in the tree cannot be listed; a last link is followed for the worktree root alone
+pub record IsNotListed (t : Names) (root : List ℕ) (why : ListError) (path : List ℕ) : Type 0 where
+  pub below : List ℕ
+  pub path_is : path ≡ full_path root below
+  pub node : list_of (look t path (is_empty below)) ≡ Err why
 
 -- what a refusal says of the tree, and, where the store holds these objects, of the rules, whether or not they are in step
-abbrev pub IsInTree : Option Objects → Sources → Option Made → Error → Type 0
-IsInTree holds s made errors.Interrupted = Unit {0}
-IsInTree holds s made (errors.WorktreeRootIsFile path) = Unit {0}
-IsInTree holds s made (errors.NormalizeRoot path) = Unit {0}
-IsInTree holds s made (errors.SymlinkInRoot path worktree_root index) = Unit {0}
-IsInTree holds s made (errors.SymlinkMetadata path why) = Unit {0}
-IsInTree holds s made (errors.ExcludesAccess e) = IsSomeAnd made (λ rules. holds ≡ Some s.objects → IsRefusedLookup s rules e)
-IsInTree holds s made (errors.TooDeep path) = Unit {0}
-IsInTree holds s made (errors.ReadDir path reads.Absent) = IsNotListed s.tree lists.Absent path
-IsInTree holds s made (errors.ReadDir path reads.NotADirectory) = IsNotListed s.tree lists.NotADirectory path
-IsInTree holds s made (errors.ReadDir path reads.Fault) = Unit {0}
-IsInTree holds s made (errors.DirEntry path) = Unit {0}
-IsInTree holds s made errors.OutOfMemory = Unit {0}
+abbrev pub IsInTree : List ℕ → Option Objects → Sources → Option Made → Error → Type 0
+IsInTree root holds s made errors.Interrupted = Unit {0}
+IsInTree root holds s made (errors.WorktreeRootIsFile path) = Unit {0}
+IsInTree root holds s made (errors.NormalizeRoot path) = Unit {0}
+IsInTree root holds s made (errors.SymlinkInRoot path worktree_root index) = Unit {0}
+IsInTree root holds s made (errors.SymlinkMetadata path why) = Unit {0}
+IsInTree root holds s made (errors.ExcludesAccess e) = IsSomeAnd made (λ rules. holds ≡ Some s.objects → IsRefusedLookup s rules e)
+IsInTree root holds s made (errors.TooDeep path) = Unit {0}
+IsInTree root holds s made (errors.ReadDir path reads.Absent) = IsNotListed s.tree root lists.Absent path
+IsInTree root holds s made (errors.ReadDir path reads.NotADirectory) = IsNotListed s.tree root lists.NotADirectory path
+IsInTree root holds s made (errors.ReadDir path reads.Fault) = Unit {0}
+IsInTree root holds s made (errors.DirEntry path) = Unit {0}
+IsInTree root holds s made errors.OutOfMemory = Unit {0}
 
 -- ---- what holds where the rules are in step too
 

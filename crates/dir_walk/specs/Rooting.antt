@@ -1,6 +1,6 @@
 -- Why there is no traversal root.
-use Rattle.std.specs.Prelude.{◌≡◌, ◌⊎◌, ◌<◌, ℕ, Bool, true, false, List, [], ◌++◌, length, Option, Some, None, is_some}
-use Rattle.gitbase_core.specs.Path.{components, is_absolute, ends_in_slash, normalized}
+use Rattle.std.specs.Prelude.{◌≡◌, ◌⊎◌, ◌<◌, ℕ, Bool, true, false, List, [], length, Option, Some, None, is_some}
+use Rattle.gitbase_core.specs.Path.{components, is_absolute, is_empty, ends_in_slash, normalized}
 use Rattle.worktree_fs.specs.Paths.{full_path, is_normal, spelled}
 use Rattle.dir_classify.specs.declared.error.Error.{Error}
 use Rattle.dir_classify.specs.declared.error.Error.TheVariants as errors
@@ -8,6 +8,7 @@ use Rattle.dir_classify.specs.declared.error.MetadataWhy.TheVariants as metadata
 use Rattle.dir_classify.specs.declared.entry.Kind.{Kind}
 use Rattle.dir_classify.specs.Kinds.{is_symlink}
 use Rattle.dir_classify.specs.Layers.{Setting}
+use Rattle.dir_classify.specs.Rooted.{LeadsTo}
 use Rattle.dir_walk.specs.Root.{Rooted, missing, through_link, outside}
 
 -- ---- any worktree
@@ -30,12 +31,12 @@ pub record IsOutside (given : Setting) (explicit : Option (List ℕ)) (root : Li
   pub asked : IsRootAsked given explicit root
   pub out : LeadsOut (normalized root)
 
--- the whole path of the first components of a path
+-- the whole path of the first components of a path, of one at least
 pub record IsFrontOf (root path full : List ℕ) : Type 0 where
   pub front : List ℕ
-  pub rest : List (List ℕ)
+  pub leads : LeadsTo path front
+  pub beneath : is_empty front ≡ false
   pub full_is : full ≡ full_path root front
-  pub components_are : components path ≡ components front ++ rest
 
 -- what a refusal on the way through the components of a path says of what was handed in
 abbrev pub ThroughAbout : List ℕ → List ℕ → Error → Type 0
@@ -50,9 +51,9 @@ ThroughAbout root path (errors.SymlinkMetadata full why) = IsFrontOf root path f
 ThroughAbout root path (errors.TooDeep at) = ⊥
 ThroughAbout root path errors.OutOfMemory = Unit {0}
 
--- a root that was asked for, normalised
+-- a root that was asked for, normalised, which does not lead out of the worktree
 abbrev pub IsNormalized : Setting → Option (List ℕ) → List ℕ → Type 0
-IsNormalized given explicit path = (root : List ℕ) × IsRootAsked given explicit root × (normalized root ≡ Some path)
+IsNormalized given explicit path = (root : List ℕ) × IsRootAsked given explicit root × (normalized root ≡ Some path) × (is_absolute path ≡ false)
 
 -- what the refusal of a traversal root says of what was handed in
 abbrev pub RootAbout : Setting → Option (List ℕ) → Error → Type 0

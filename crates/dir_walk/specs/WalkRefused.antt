@@ -1,5 +1,5 @@
 -- Why a whole walk is refused.
-use Rattle.std.specs.Prelude.{◌≡◌, ◌≢◌, ◌⊎◌, ℕ, true, false, List, [], Option, Some, None, Err, IsSomeAnd}
+use Rattle.std.specs.Prelude.{◌≡◌, ◌≢◌, ◌⊎◌, ℕ, Bool, true, false, List, [], Option, Some, None, Err, IsSomeAnd}
 use Rattle.gitbase_core.specs.Objects.{Objects}
 use Rattle.gitbase_core.specs.Path.{components}
 use Rattle.worktree_fs.specs.declared.answers.ListError.{ListError}
@@ -49,19 +49,19 @@ StartAbout made top root limit errors.OutOfMemory = Unit {0}
 -- ---- what holds over a told tree
 
 -- what it says of the tree, and, where the store holds these objects, of the rules, whether or not they are in step
-abbrev pub StartFound : Option Objects → Sources → Option Made → Error → Type 0
-StartFound holds s made errors.Interrupted = Unit {0}
-StartFound holds s made (errors.WorktreeRootIsFile path) = Unit {0}
-StartFound holds s made (errors.NormalizeRoot path) = ⊥
-StartFound holds s made (errors.SymlinkInRoot path worktree_root index) = ⊥
-StartFound holds s made (errors.SymlinkMetadata path why) = ⊥
-StartFound holds s made (errors.ExcludesAccess e) = IsInTree holds s made (errors.ExcludesAccess e)
-StartFound holds s made (errors.TooDeep path) = Unit {0}
-StartFound holds s made (errors.ReadDir path why) = IsInTree holds s made (errors.ReadDir path why)
-StartFound holds s made (errors.DirEntry path) = Unit {0}
-StartFound holds s made errors.OutOfMemory = Unit {0}
+abbrev pub StartFound : List ℕ → Option Objects → Sources → Option Made → Error → Type 0
+StartFound top holds s made errors.Interrupted = Unit {0}
+StartFound top holds s made (errors.WorktreeRootIsFile path) = Unit {0}
+StartFound top holds s made (errors.NormalizeRoot path) = ⊥
+StartFound top holds s made (errors.SymlinkInRoot path worktree_root index) = ⊥
+StartFound top holds s made (errors.SymlinkMetadata path why) = ⊥
+StartFound top holds s made (errors.ExcludesAccess e) = IsInTree top holds s made (errors.ExcludesAccess e)
+StartFound top holds s made (errors.TooDeep path) = Unit {0}
+StartFound top holds s made (errors.ReadDir path why) = IsInTree top holds s made (errors.ReadDir path why)
+StartFound top holds s made (errors.DirEntry path) = Unit {0}
+StartFound top holds s made errors.OutOfMemory = Unit {0}
 
--- ---- what holds where the rules are in step too, a delegate recurses by default, and neither the worktree nor the store failed
+-- ---- what holds where the rules are in step too, a delegate recurses by default, and the worktree did not fail
 
 -- what is walked, if something is
 abbrev pub walked_or_nothing : Option Walked → Walked
@@ -79,14 +79,19 @@ pub record IsNoRoot (given : Setting) (made : Option Made) (s : Sources) (root :
   pub not_walked : walked_at given made s root ≡ None
   pub node : IsNoDirectory given s
 
+-- the worktree root is no directory, and a delegate that recurses by default does not enter it
+pub record IsNoTop (given : Setting) (made : Option Made) (s : Sources) (default : Bool) : Type 0 where
+  pub node : IsNoDirectory given s
+  pub unentered : default ≡ true → is_root_entered given.options (evidence given made s) (way_to given made s []) ≡ false
+
 -- the lookup of a path on the way to the traversal root was refused, by a rules file or a blob that is refused; the way
--- asks rules that cannot be read
-pub record IsNoWay (given : Setting) (made : Option Made) (s : Sources) (root : List ℕ) (rules : Made) (e : AtPathError) : Type 0 where
+-- asks rules that cannot be read, unless the store failed
+pub record IsNoWay (given : Setting) (made : Option Made) (s : Sources) (root : List ℕ) (rules : Made) (StoreFailed : Type 0) (e : AtPathError) : Type 0 where
   pub path : List ℕ
   pub leads : LeadsTo root path
   pub access : IsAccess rules path e
   pub refused : lookups.RefusesIn s rules (components path) e
-  pub unread : (way_to given made s root).is_unread ≡ true
+  pub unread : ((way_to given made s root).is_unread ≡ true) ⊎ StoreFailed
 
 -- Why the class of what is no directory has it as one: by the index, by the worktree set, or as the rules exclude it and deletion
 -- saw a repository there.
@@ -109,21 +114,22 @@ IsUnlistedRoot given made s root path reads.Absent = IsBrokenRoot given made s r
 IsUnlistedRoot given made s root path reads.NotADirectory = IsBrokenRoot given made s root lists.NotADirectory path
 IsUnlistedRoot given made s root path reads.Fault = Unit {0}
 
--- The refusal of a walk from a traversal root on. `made` is what the rules were made with.
-abbrev pub StartRefuses : Setting → Option Made → Sources → List ℕ → ℕ → Error → Type 0
-StartRefuses given made s root limit errors.Interrupted = Unit {0}
-StartRefuses given made s root limit (errors.WorktreeRootIsFile path) = IsNoRoot given made s root
-StartRefuses given made s root limit (errors.NormalizeRoot path) = ⊥
-StartRefuses given made s root limit (errors.SymlinkInRoot path worktree_root index) = ⊥
-StartRefuses given made s root limit (errors.SymlinkMetadata path why) = ⊥
-StartRefuses given made s root limit (errors.ExcludesAccess e) =
-    IsSomeAnd made (λ rules. IsNoWay given made s root rules e ⊎ IsNoAccess s rules (walked_or_nothing (walked_at given made s root)) ⊥ e)
-StartRefuses given made s root limit (errors.TooDeep path) = IsTooDeep given.root limit (walked_or_nothing (walked_at given made s root)) ⊥ path
-StartRefuses given made s root limit (errors.ReadDir path why) =
+-- The refusal of a walk from a traversal root on. `made` is what the rules were made with, and `StoreFailed` says that the store
+-- failed.
+abbrev pub StartRefuses : Setting → Option Made → Sources → List ℕ → ℕ → Type 0 → Error → Type 0
+StartRefuses given made s root limit StoreFailed errors.Interrupted = Unit {0}
+StartRefuses given made s root limit StoreFailed (errors.WorktreeRootIsFile path) = IsNoRoot given made s root
+StartRefuses given made s root limit StoreFailed (errors.NormalizeRoot path) = ⊥
+StartRefuses given made s root limit StoreFailed (errors.SymlinkInRoot path worktree_root index) = ⊥
+StartRefuses given made s root limit StoreFailed (errors.SymlinkMetadata path why) = ⊥
+StartRefuses given made s root limit StoreFailed (errors.ExcludesAccess e) =
+    IsSomeAnd made (λ rules. IsNoWay given made s root rules StoreFailed e ⊎ IsNoAccess s rules (walked_or_nothing (walked_at given made s root)) ⊥ e)
+StartRefuses given made s root limit StoreFailed (errors.TooDeep path) = IsTooDeep given.root limit (walked_or_nothing (walked_at given made s root)) ⊥ path
+StartRefuses given made s root limit StoreFailed (errors.ReadDir path why) =
     IsUnlistedRoot given made s root path why
     ⊎ IsUnlisted s.tree (evidence given made s) given.root (walked_or_nothing (walked_at given made s root)) ⊥ path why
-StartRefuses given made s root limit (errors.DirEntry path) = Unit {0}
-StartRefuses given made s root limit errors.OutOfMemory = Unit {0}
+StartRefuses given made s root limit StoreFailed (errors.DirEntry path) = Unit {0}
+StartRefuses given made s root limit StoreFailed errors.OutOfMemory = Unit {0}
 
 -- what holds where the worktree root is refused
 abbrev pub OnNoRoot : Type 0 → Error → Type 0
@@ -146,10 +152,11 @@ WalkAbout given made explicit limit e = RootAbout given explicit e ⊎ ((root : 
 
 -- what it says of the tree, the store and the rules
 abbrev pub WalkFound : Setting → Option Made → Option (List ℕ) → Option Objects → Sources → Error → Type 0
-WalkFound given made explicit holds s e = EndsIn (traversal_root given s.tree explicit) e ⊎ StartFound holds s made e
+WalkFound given made explicit holds s e = EndsIn (traversal_root given s.tree explicit) e ⊎ StartFound given.root holds s made e
 
--- and what where the rules are in step too, a delegate recurses by default, and neither the worktree nor the store failed
-abbrev pub WalkRefuses : Setting → Option Made → Sources → Option (List ℕ) → ℕ → Error → Type 0
-WalkRefuses given made s explicit limit e =
+-- and what where the rules are in step too, a delegate recurses by default, and the worktree did not fail; `StoreFailed` says that
+-- the store did
+abbrev pub WalkRefuses : Setting → Option Made → Sources → Option (List ℕ) → ℕ → Type 0 → Error → Type 0
+WalkRefuses given made s explicit limit StoreFailed e =
     EndsIn (traversal_root given s.tree explicit) e
-    ⊎ ((root : List ℕ) × (traversal_root given s.tree explicit ≡ rooted root) × StartRefuses given made s root limit e)
+    ⊎ ((root : List ℕ) × (traversal_root given s.tree explicit ≡ rooted root) × StartRefuses given made s root limit StoreFailed e)

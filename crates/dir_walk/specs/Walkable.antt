@@ -72,11 +72,11 @@ pub record IsWalkable (given : Setting) (made : Option Made) (s : Sources) (expl
   -- The traversal root lies within, and its components are there and no links.
   pub start : List ℕ
   pub start_is : traversal_root given s.tree explicit ≡ rooted start
-  -- Where its class has it as a repository, it is a directory.
-  pub start_repository : is_repository (way_to given made s start).class.disk_kind ≡ true → IsDirectory s.tree (full_path given.root start)
-  -- So is the traversal root, and each path that is to be entered, where the index has it as an up-to-date directory or repository,
-  -- or it is a worktree of its own.
-  pub held : (path : List ℕ) → (path ≡ start) ⊎ (is_to_enter path (walked_if_any given made s start) ≡ true) → IsHeldAs given.options (evidence given made s) path
+  -- Where the way leads there, and its class has it as a repository, it is a directory.
+  pub start_repository : (way_to given made s start).whole ≡ true → is_repository (way_to given made s start).class.disk_kind ≡ true → IsDirectory s.tree (full_path given.root start)
+  -- So is the traversal root where the way leads there, and each path that is to be entered, where the index has it as an up-to-date
+  -- directory or repository, or it is a worktree of its own.
+  pub held : (path : List ℕ) → ((path ≡ start) × ((way_to given made s start).whole ≡ true)) ⊎ (is_to_enter path (walked_if_any given made s start) ≡ true) → IsHeldAs given.options (evidence given made s) path
       → IsDirectory s.tree (full_path given.root path)
   -- The rules above each path on the way to the traversal root, and above each path that is walked and asks them, are fit to be read.
   pub rules : IfSome made (λ rules. (path : List ℕ) → LeadsTo start path ⊎ (is_among path (walked_if_any given made s start).asked ≡ true) → AreFitAbove s rules path)

@@ -7,6 +7,7 @@ use Rattle.worktree_fs.specs.declared.worktree.Worktree.{Ghosts as WorktreeOf}
 use Rattle.worktree_fs.specs.Causes.{NotIncreased, Increased, Incremented, with_more}
 use Rattle.worktree_fs.specs.Kept.{AsksStore}
 use Rattle.worktree_fs.specs.Paths.{full_path}
+use Rattle.worktree_fs.specs.Tree.{Names}
 use Rattle.worktree_stack.specs.Lookups.{refused_one}
 use Rattle.worktree_stack.specs.Reading.{Sources}
 use Rattle.worktree_stack.specs.Setup.{Made}
@@ -28,14 +29,14 @@ use Rattle.dir_walk.specs.Covered.{Covers, as_matching, without_folding}
 use Rattle.dir_walk.specs.Emissions.{Emission}
 use Rattle.dir_walk.specs.Emits.{IsPart}
 use Rattle.dir_walk.specs.Given.{listed}
-use Rattle.dir_walk.specs.Kept.{AsksInterrupt, Caused, Heeds, KeepsDelegate, KeepsTree, OnInterrupt}
+use Rattle.dir_walk.specs.Kept.{AsksInterrupt, Caused, Heeds, KeepsDelegate, KeepsTree, OnInterrupt, OnListingFault}
 use Rattle.dir_walk.specs.Opens.{IsListed, reads_rules_alone}
 use Rattle.dir_walk.specs.Puts.{AddsAtMost, once_at, once_within}
 use Rattle.dir_walk.specs.Report.{counts, is_walk_refused, out_of, shown}
 use Rattle.dir_walk.specs.Rooting.{IsNormalized}
 use Rattle.dir_walk.specs.Root.{Walk, rooted, traversal_root, walk_in}
 use Rattle.dir_walk.specs.Safe.{IsSafe}
-use Rattle.dir_walk.specs.WalkRefused.{IsNoDirectory, OnNoRoot, WalkAbout, WalkFound, WalkRefuses}
+use Rattle.dir_walk.specs.WalkRefused.{IsNoTop, OnNoRoot, WalkAbout, WalkFound, WalkRefuses}
 use Rattle.dir_walk.specs.Walkable.{IsValid}
 
 -- A worktree tells a tree and a store, where there are rules, objects, and the rules are in step with them.
@@ -76,15 +77,19 @@ pub record WalksWorktree {W F I T : Type 0} (w : WorktreeOf W) (f : FindOf F) (i
   pub about : IfErr result (WalkAbout given (made_with old) explicit limit)
   pub cause : IfErr result (OnFault (Increased (w.faults w0) (w.faults w1)) (Increased (f.faults o0) (f.faults o1)))
   pub interrupted : IfErr result (OnInterrupt (Increased (i.raised i0) (i.raised i1)))
+  pub listing : IfErr result (OnListingFault (Increased (w.list_faults w0) (w.list_faults w1)))
   pub found : (s : Sources) → w.told w0 ≡ Some s.tree → IfErr result (WalkFound given (made_with old) explicit (f.holds o0) s)
-  pub refused : (s : Sources) → Tells w f w0 o0 old s → default ≡ true → NotIncreased (w.faults w0) (w.faults w1) → NotIncreased (f.faults o0) (f.faults o1)
-      → IfErr result (WalkRefuses given (made_with old) s explicit limit)
+  pub refused : (s : Sources) → Tells w f w0 o0 old s → default ≡ true → NotIncreased (w.faults w0) (w.faults w1)
+      → IfErr result (WalkRefuses given (made_with old) s explicit limit (Increased (f.faults o0) (f.faults o1)))
   pub no_root : (s : Sources) → w.told w0 ≡ Some s.tree → NotIncreased (w.faults w0) (w.faults w1)
-      → IfErr result (OnNoRoot ((traversal_root given s.tree explicit ≡ rooted []) × IsNoDirectory given s))
+      → IfErr result (OnNoRoot ((traversal_root given s.tree explicit ≡ rooted []) × IsNoTop given (made_with old) s default))
   -- For valid input, and where nothing failed or was raised, only memory may be wanted.
   pub complete : (s : Sources) → Tells w f w0 o0 old s → default ≡ true
       → NotIncreased (w.faults w0) (w.faults w1) → NotIncreased (f.faults o0) (f.faults o1) → NotIncreased (i.raised i0) (i.raised i1)
       → IsValid given (made_with old) s explicit limit → IfErr result (λ e. e ≡ OutOfMemory)
+  -- An answer names the traversal root, also where the walk was broken off.
+  pub named : (t : Names) → w.told w0 ≡ Some t → NotIncreased (w.faults w0) (w.faults w1)
+      → IfOk result (λ r. (root : List ℕ) × (traversal_root given t explicit ≡ rooted root) × (path_of r ≡ full_path given.root root))
   -- What stays.
   pub worktree : KeepsTree w w0 w1
   pub store : AsksStore f o0 o1

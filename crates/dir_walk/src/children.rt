@@ -78,7 +78,8 @@ fn walk_child<W: Worktree, F: Find, I: Interrupt, M: Matcher, D: Delegate>(
         → IfErr result (OnRefused (IsAbout (made_with excludes.old) shared.now.worktree_root.now
         limit)) }
     ensures found { (s : Sources) → W.told worktree.old ≡ Some s.tree
-        → IfErr result (OnRefused (IsInTree (F.holds objects.old) s (made_with excludes.old))) }
+        → IfErr result (OnRefused (IsInTree shared.now.worktree_root.now
+        (F.holds objects.old) s (made_with excludes.old))) }
     ensures refused { (made : Option Made) (s : Sources)
         → Stands (setting_of M.Matcher shared.now) (W.told worktree.old) (F.holds objects.old)
         excludes.old blocked.now made s
@@ -171,7 +172,8 @@ pub(crate) fn walk_children<W: Worktree, F: Find, I: Interrupt, M: Matcher, D: D
         → IfErr result (OnRefused (IsAbout (made_with excludes.old) shared.now.worktree_root.now
         limit)) }
     ensures found { (s : Sources) → W.told worktree.old ≡ Some s.tree
-        → IfErr result (OnRefused (IsInTree (F.holds objects.old) s (made_with excludes.old))) }
+        → IfErr result (OnRefused (IsInTree shared.now.worktree_root.now
+        (F.holds objects.old) s (made_with excludes.old))) }
     ensures refused { (made : Option Made) (s : Sources)
         → Stands (setting_of M.Matcher shared.now) (W.told worktree.old) (F.holds objects.old)
         excludes.old blocked.now made s

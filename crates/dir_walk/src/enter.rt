@@ -170,7 +170,8 @@ fn walk_deep<W: Worktree, F: Find, I: Interrupt, M: Matcher, D: Delegate>(
     ensures about { IfErr result (OnRefused (IsAbout (made_with excludes.old)
         shared.now.worktree_root.now depth_limit)) }
     ensures found { (s : Sources) → W.told worktree.old ≡ Some s.tree
-        → IfErr result (OnRefused (IsInTree (F.holds objects.old) s (made_with excludes.old))) }
+        → IfErr result (OnRefused (IsInTree shared.now.worktree_root.now
+        (F.holds objects.old) s (made_with excludes.old))) }
     ensures opens { OpensRoot W.Worktree I.Interrupt worktree.old worktree.new interrupt.old
         interrupt.new outcome.old outcome.new strategy (chosen shared.now.options) excludes.old
         excludes.new (components place.now.path) (refused_walk result) }
@@ -241,7 +242,8 @@ pub(crate) fn walk_entered<W: Worktree, F: Find, I: Interrupt, M: Matcher, D: De
     ensures about { IfErr result (OnRefused (IsAbout (made_with excludes.old)
         shared.now.worktree_root.now depth_limit)) }
     ensures found { (s : Sources) → W.told worktree.old ≡ Some s.tree
-        → IfErr result (OnRefused (IsInTree (F.holds objects.old) s (made_with excludes.old))) }
+        → IfErr result (OnRefused (IsInTree shared.now.worktree_root.now
+        (F.holds objects.old) s (made_with excludes.old))) }
     ensures opens { OpensRoot W.Worktree I.Interrupt worktree.old worktree.new interrupt.old
         interrupt.new outcome.old outcome.new strategy (chosen shared.now.options) excludes.old
         excludes.new (components path.now) (refused_walk result) }

@@ -13,7 +13,7 @@ ghost use Rattle.dir_classify.specs.Class.{enters};
 ghost use Rattle.dir_classify.specs.Refused.{OnFault};
 ghost use Rattle.dir_walk.specs.Emissions.{Emission};
 ghost use Rattle.dir_walk.specs.Emits.{Emits};
-ghost use Rattle.dir_walk.specs.Kept.{AsksInterrupt, OnInterrupt};
+ghost use Rattle.dir_walk.specs.Kept.{AsksInterrupt, OnInterrupt, OnListingFault};
 ghost use Rattle.dir_walk.specs.Opens.{Opens};
 ghost use Rattle.dir_walk.specs.Refused.{IsAbout, OpenRefuses, IsDeep, read_error};
 
@@ -61,6 +61,8 @@ pub(crate) fn open<W: Worktree, I: Interrupt>(
         (Increased before now)) }
     ensures raised { IfErr result (OnInterrupt (Increased (I.raised interrupt.old)
         (I.raised interrupt.new))) }
+    ensures listing { IfErr result (OnListingFault (Increased (W.list_faults worktree.old)
+        (W.list_faults worktree.new))) }
     ensures listed { OnOk result (W.list_faults worktree.new ≡ W.list_faults worktree.old) }
     ensures calm { OnOk result (I.raised interrupt.new ≡ I.raised interrupt.old) }
 {

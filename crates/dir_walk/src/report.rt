@@ -1,5 +1,5 @@
 //! The report of a worktree: its walk in the order of paths.
-ghost use Rattle.std.specs.Prelude.{◌≡◌, ◌-◌, ◌^◌, min, length, true, IfOk};
+ghost use Rattle.std.specs.Prelude.{◌≡◌, ◌≤◌, ◌-◌, ◌^◌, min, length, true, IfOk};
 ghost use Rattle.dir_walk.specs.Distinct.{Ascends};
 ghost use Rattle.worktree_fs.specs.Causes.{NotIncreased};
 ghost use Rattle.worktree_stack.specs.Reading.{Sources};
@@ -55,6 +55,8 @@ pub fn walk_by_path<W: Worktree, F: Find, I: Interrupt, M: Matcher>(
     ensures ordered { IfOk result (λ r. Ascends r.entries) }
     ensures counted { IfOk result
         (λ r. r.outcome.returned_entries ≡ min (length r.entries) (2 ^ 64 - 1)) }
+    ensures seen { IfOk result
+        (λ r. min r.outcome.returned_entries (2 ^ 32 - 1) ≤ r.outcome.seen_entries) }
     // They are from the traversal root on that is named, which was asked for.
     ensures once { IfOk result
         (IsFromRoot (setting_in M.Matcher worktree_root.now options.entry ctx.entry)

@@ -21,7 +21,7 @@ ghost use Rattle.dir_walk.specs.Root.{is_root_entered, root_kind, walked_at};
 ghost use Rattle.dir_walk.specs.Rooting.{IsRoot};
 ghost use Rattle.dir_walk.specs.Starts.{StartGives, PutsRoot};
 ghost use Rattle.dir_walk.specs.Walked.{Walked};
-ghost use Rattle.dir_walk.specs.WalkRefused.{IsNoDirectory, OnNoRoot, StartAbout, StartFound, StartRefuses};
+ghost use Rattle.dir_walk.specs.WalkRefused.{IsNoTop, OnNoRoot, StartAbout, StartFound, StartRefuses};
 ghost use Rattle.dir_walk.specs.Walks.{Ends, Tells};
 
 use crate::delegate::Delegate;
@@ -199,17 +199,19 @@ pub(crate) fn walk_from<W: Worktree, F: Find, I: Interrupt, M: Matcher, D: Deleg
     ensures refused { (s : Sources)
         → Tells W.Worktree F.Find worktree.old objects.old excludes.old s
         → NotIncreased (W.faults worktree.old) (W.faults worktree.new)
-        → NotIncreased (F.faults objects.old) (F.faults objects.new)
         → D.is_default delegate.old ≡ true
         → IfErr result (OnRefused (StartRefuses (setting_of M.Matcher shared.now)
-        (made_with excludes.old) s root.now depth_limit)) }
+        (made_with excludes.old) s root.now depth_limit
+        (Increased (F.faults objects.old) (F.faults objects.new)))) }
     ensures no_root { (s : Sources) → W.told worktree.old ≡ Some s.tree
         → NotIncreased (W.faults worktree.old) (W.faults worktree.new)
-        → IfErr result (OnRefused (OnNoRoot (IsNoDirectory (setting_of M.Matcher shared.now) s))) }
+        → IfErr result (OnRefused (OnNoRoot (IsNoTop (setting_of M.Matcher shared.now)
+        (made_with excludes.old) s (D.is_default delegate.old)))) }
     ensures about { IfErr result (OnRefused (StartAbout (made_with excludes.old)
         shared.now.worktree_root.now root.now depth_limit)) }
     ensures found { (s : Sources) → W.told worktree.old ≡ Some s.tree
-        → IfErr result (OnRefused (StartFound (F.holds objects.old) s (made_with excludes.old))) }
+        → IfErr result (OnRefused (StartFound shared.now.worktree_root.now
+        (F.holds objects.old) s (made_with excludes.old))) }
     ensures opens { OpensFrom W.Worktree I.Interrupt worktree.old worktree.new interrupt.old
         interrupt.new outcome.old outcome.new strategy (chosen shared.now.options) root.now
         result }

@@ -1,8 +1,9 @@
-use Rattle.std.proofs.Common.{◌≡◌, ◌∙◌, sym, true, false, ℕ, List, [], Option, None, inl, rules}
+use Rattle.std.proofs.Common.{◌≡◌, ◌∙◌, ap, sym, true, false, ℕ, List, [], Option, None, inl, rules}
 use Rattle.std.proofs.lemmas.Result.{err_from_is_err_and}
 use Rattle.dir_classify.specs.declared.entry.Kind.{Kind}
 use Rattle.dir_classify.specs.Excludes.{made_with}
 use Rattle.gitbase_core.specs.Path.{components}
+use Rattle.worktree_fs.specs.Paths.{is_nil}
 use Rattle.worktree_stack.specs.Reading.{Sources}
 use Rattle.dir_classify.specs.Layers.{setting_of, evidence, on_disk}
 use Rattle.dir_classify.proofs.Onward.{way-init, top-init, never-asked, never-unread, ends-init, root-unasked, grown-normal, grown-spelled, onward-grown, Reaches-refused, Reaches-ended, Reaches-stopped, Reaches-unrooted, ended-short, ended-whole}
@@ -32,6 +33,8 @@ loop-next-init g c =
           ends-init given.options (evidence given (made_with c.args.excludes.now) s) (λ p. on_disk given s.tree p true) (components c.args.worktree_relative_root.now) c.in_ok-path.path c.in_ok-class.class
           c.is_repository-in_repository.result r path_is c.is_repository-in_repository.ensures (first.swallowed s tells step) end;
       reads = inl (root-unasked first);
+      spared = λ s never. root-unasked first;
+      unasked = λ s told quiet no. root-unasked first;
     }
 
 pub class_on_way-requires-in-Some-clause-normal : goal.class_on_way-requires-in-Some-clause-normal
@@ -79,7 +82,7 @@ returns-then-not-goes_on g c =
     c.is_repository-in_repository.result (components c.loop-next.rest.now) (components c.in-Some.next.rest.now) c.in-Some.ensures.0 (rw c.as_bytes.ensures at (sym c.goes_on.ensures ∙ c.if-not-goes_on.true)) in
     Reaches-ended g.W.Worktree g.F.Find c.args.worktree.now c.loop-next.worktree c.args.objects.now c.loop-next.objects c.args.excludes.now c.loop-next.excludes given
     c.args.worktree_relative_root.now c.loop-next.path c.loop-next.rest.now c.loop-next.class c.is_repository-in_repository.result c.loop-next.invariant c.requires.spelled
-    c.reached.result false c.reached.ensures (λ on. absurd (cc on)) (λ s. (short s).0) (λ s. (short s).1)
+    c.reached.result false c.reached.ensures (ap is_nil (sym c.in-Some.ensures.0)) (λ s. (short s).0) (λ s. (short s).1)
 
 pub returns-in_err-push_component : goal.returns-in_err-push_component
 returns-in_err-push_component g c =
@@ -96,4 +99,4 @@ returns g c =
     c.is_repository-in_repository.result (components c.loop-next.rest.now) none in
     Reaches-ended g.W.Worktree g.F.Find c.args.worktree.now c.loop-next.worktree c.args.objects.now c.loop-next.objects c.args.excludes.now c.loop-next.excludes given
     c.args.worktree_relative_root.now c.loop-next.path c.loop-next.rest.now c.loop-next.class c.is_repository-in_repository.result c.loop-next.invariant c.requires.spelled
-    c.reached-2.result true c.reached-2.ensures (λ on. none) (λ s. (whole s).0) (λ s. (whole s).1)
+    c.reached-2.result true c.reached-2.ensures (ap is_nil (sym none)) (λ s. (whole s).0) (λ s. (whole s).1)

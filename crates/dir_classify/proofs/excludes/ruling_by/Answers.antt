@@ -1,11 +1,12 @@
-use Rattle.std.proofs.Common.{◌≡◌, ◌∙◌, sym, subst}
+use Rattle.std.proofs.Common.{◌≡◌, ◌∙◌, sym, subst, refl, inr}
+use Rattle.std.proofs.lemmas.Result.{err_from_is_err_and}
 use Rattle.gitbase_core.specs.Path.{components}
 use Rattle.worktree_stack.specs.Setup.{excluded_kind}
 use Rattle.worktree_stack.specs.Excludes.{exclude, rule_of, origin_of}
 use Rattle.worktree_stack.specs.Reading.{rulebook}
 use Rattle.worktree_stack.specs.Lookups.{IsLookedUp}
 use Rattle.worktree_stack.specs.Stacked.{Stacked, made_of, IsInStep}
-use Rattle.dir_classify.proofs.Looked.{tells-given, ruling-looked, read-looked}
+use Rattle.dir_classify.proofs.Looked.{tells-given, ruling-looked, read-looked, leaves-refused}
 use Rattle.dir_classify.proofs.excludes.ruling_by.Goals as goal
 
 pub returns-clause-ruling : goal.returns-clause-ruling
@@ -27,3 +28,16 @@ returns-clause-read g c = λ s told step.
     let looks = c.in_ok-at_path.ensures.looks_up in
     let tells = tells-given (g.W.Worktree.told c.args.worktree.now) (g.F.Find.holds c.args.objects.now) (made_of c.args.stack.now) s told in
     read-looked s (made_of c.args.stack.now) c.at_path.new.self c.args.rela_path.now c.requires.excludes looks.made (looks.in_step s tells step) looks.looked_up
+
+pub returns-in_err-at_path-clause-reads : goal.returns-in_err-at_path-clause-reads
+returns-in_err-at_path-clause-reads g c =
+    let looks = c.in_err-at_path.ensures.looks_up in
+    let p = err_from_is_err_and c.from_residual.result c.from_residual.ensures.1 in
+    rw (p.1, p.2)
+    (inr (record {
+      given = refl;
+      looked_up = tt;
+      on_way = looks.on_way c.requires.normal;
+      leaves = leaves-refused _ _ _ _ c.args.rela_path.now c.args.stack.now c.at_path.new.self c.in_err-at_path.field-0.0 (looks.stopped c.requires.normal);
+      reads = λ on. looks.reads;
+    }))

@@ -50,15 +50,19 @@ returns-in_err-ruling g c = λ ask_disk.
       rules = c.in_err-ruling.ensures.rules;
       reads =
           let p = err_from_is_err_and c.from_residual.result c.from_residual.ensures.1 in
-          rw (p.1, p.2) (at-most-refused (chosen c.args.shared.now.options).recurse_repositories c.args.rela_path.now _ _ _ _ c.in_err-ruling.field-0.0 c.in_err-ruling.ensures.reads);
+          rw (p.1, p.2) (at-most-refused (chosen c.args.shared.now.options).recurse_repositories c.args.rela_path.now _ _ _ _ _ _ c.in_err-ruling.field-0.0 c.in_err-ruling.ensures.reads);
       spared = λ s never.
           let kept = c.in_err-ruling.ensures.untouched
           (dot_git-none (chosen c.args.shared.now.options) (setting_of g.M.Matcher c.args.shared.now) (made_with c.args.excludes.now) s (sym c.is_deleting.ensures ∙ c.if-not-is_deleting.false) (never None)) in
-          record { same = kept.rules; reads = λ on. ap g.W.Worktree.reads kept.worktree };
+          record { same = kept.rules; store = kept.store; reads = λ on. ap g.W.Worktree.reads kept.worktree };
+      memory = λ s never.
+          let p = err_from_is_err_and c.from_residual.result c.from_residual.ensures.1 in
+          let off = dot_git-none (chosen c.args.shared.now.options) (setting_of g.M.Matcher c.args.shared.now) (made_with c.args.excludes.now) s (sym c.is_deleting.ensures ∙ c.if-not-is_deleting.false) (never None) in
+          rw (p.1, p.2) (on-access-by (made_with c.args.excludes.now) c.args.rela_path.now ⊥ (λ some. absurd (let no = sym some ∙ off in cc no)) c.in_err-ruling.field-0.0 c.in_err-ruling.ensures.about);
       unasked = λ s told quiet no.
           let kept = c.in_err-ruling.ensures.untouched
           (dot_git-none (chosen c.args.shared.now.options) (setting_of g.M.Matcher c.args.shared.now) (made_with c.args.excludes.now) s (sym c.is_deleting.ensures ∙ c.if-not-is_deleting.false) no) in
-          (kept.store, kept.rules);
+          record { same = kept.rules; store = kept.store; reads = λ on. ap g.W.Worktree.reads kept.worktree };
       untouched = λ s no.
           c.in_err-ruling.ensures.untouched
           (dot_git-nothing (chosen c.args.shared.now.options) (setting_of g.M.Matcher c.args.shared.now) (made_with c.args.excludes.now) s (sym c.is_deleting.ensures ∙ c.if-not-is_deleting.false) no);
@@ -91,12 +95,13 @@ returns g c = λ ask_disk.
       keeps = asked.keeps;
       store = asked.store;
       rules = asked.rules;
-      reads = at-most (chosen c.args.shared.now.options).recurse_repositories path _ _ _ _ _ c.in_ok-ruling.ruling c.class_dot_git-2.result (λ on. refl) asked.reads;
+      reads = at-most (chosen c.args.shared.now.options).recurse_repositories path _ _ _ _ _ _ _ c.in_ok-ruling.ruling c.class_dot_git-2.result (λ on. refl) asked.reads;
       spared = λ s never.
           let kept = asked.untouched (dot_git-none (chosen c.args.shared.now.options) (setting_of g.M.Matcher c.args.shared.now) made s on (never None)) in
-          record { same = kept.rules; reads = λ on. ap g.W.Worktree.reads kept.worktree };
+          record { same = kept.rules; store = kept.store; reads = λ on. ap g.W.Worktree.reads kept.worktree };
+      memory = λ s never. tt;
       unasked = λ s told quiet no.
           let kept = asked.untouched (dot_git-none (chosen c.args.shared.now.options) (setting_of g.M.Matcher c.args.shared.now) made s on no) in
-          (kept.store, kept.rules);
+          record { same = kept.rules; store = kept.store; reads = λ on. ap g.W.Worktree.reads kept.worktree };
       untouched = λ s no. asked.untouched (dot_git-nothing (chosen c.args.shared.now.options) (setting_of g.M.Matcher c.args.shared.now) made s on no);
     }

@@ -9,7 +9,9 @@ use Rattle.dir_classify.specs.Layers.{setting_of, evidence, on_disk}
 use Rattle.dir_classify.proofs.Fitting.{worktree-case, indexed-case, unindexed-case, unasked-worktree, unasked-indexed, indexed-as, read-case, in_index-of, none-asked, idle-indexed, idle-unindexed}
 use Rattle.dir_classify.proofs.Judging.{unruled}
 use Rattle.dir_classify.proofs.Keeping.{asks-same, asks-then, asks-rules, quiet-first, quiet-second, at-most}
+use Rattle.dir_classify.proofs.Refusals.{OnAccess-weaker}
 use Rattle.dir_classify.proofs.Ruled.{judged-unindexed, ruling-none}
+use Rattle.std.proofs.lemmas.Result.{err_from_is_err_and}
 use Rattle.dir_classify.proofs.Upgrades.{judged-kind, judged-unread}
 use Rattle.dir_classify.proofs.steps.of_kind.Goals as goal
 
@@ -81,14 +83,15 @@ returns g c = λ ask_disk.
       keeps = asks-then g.W.Worktree c.args.worktree.now c.ruling_at.new.worktree c.of_unindexed.new.worktree first.keeps (asks-rules g.W.Worktree c.ruling_at.new.worktree c.of_unindexed.new.worktree then.keeps);
       store = first.store;
       rules = record { made = first.rules.made; in_step = first.rules.in_step };
-      reads = at-most (chosen c.args.shared.now.options).recurse_repositories path _ _ _ _ _ c.in_ok-ruling.ruling c.in_ok-class-2.class
+      reads = at-most (chosen c.args.shared.now.options).recurse_repositories path _ _ _ _ _ _ _ c.in_ok-ruling.ruling c.in_ok-class-2.class
           (λ on. ap g.W.Worktree.reads (then.unasked (rw on refl))) first.reads;
       spared = λ s never.
           let kept = first.untouched (none-asked (setting_of g.M.Matcher c.args.shared.now) made s path c.args.kind none (ap (λ e. is_indexed e c.args.kind) (sym c.requires.entry) ∙ not_indexed) (never None)) in
-          record { same = kept.rules; reads = λ on. ap g.W.Worktree.reads (then.unasked (rw on refl) ∙ kept.worktree) };
+          record { same = kept.rules; store = kept.store; reads = λ on. ap g.W.Worktree.reads (then.unasked (rw on refl) ∙ kept.worktree) };
+      memory = λ s never. tt;
       unasked = λ s told quiet no.
           let kept = first.untouched (none-asked (setting_of g.M.Matcher c.args.shared.now) made s path c.args.kind none (ap (λ e. is_indexed e c.args.kind) (sym c.requires.entry) ∙ not_indexed) no) in
-          (kept.store, kept.rules);
+          record { same = kept.rules; store = kept.store; reads = λ on. ap g.W.Worktree.reads (then.unasked (rw on refl) ∙ kept.worktree) };
       untouched = λ s no.
           let parts = idle-unindexed (setting_of g.M.Matcher c.args.shared.now) made s path c.args.kind none (ap (λ e. is_indexed e c.args.kind) (sym c.requires.entry) ∙ not_indexed) no in
           let kept = first.untouched parts.0 in
@@ -120,7 +123,11 @@ returns-in_err-ruling g c = λ ask_disk.
       spared = λ s never.
           let kept = c.in_err-ruling.ensures.untouched
           (none-asked (setting_of g.M.Matcher c.args.shared.now) made s path c.args.kind none (ap (λ e. is_indexed e c.args.kind) (sym c.requires.entry) ∙ not_indexed) (never None)) in
-          record { same = kept.rules; reads = λ on. ap g.W.Worktree.reads kept.worktree };
+          record { same = kept.rules; store = kept.store; reads = λ on. ap g.W.Worktree.reads kept.worktree };
+      memory = λ s never.
+          let p = err_from_is_err_and c.from_residual-in_err-ruling.result c.from_residual-in_err-ruling.ensures.1 in
+          let off = none-asked (setting_of g.M.Matcher c.args.shared.now) made s path c.args.kind none (ap (λ e. is_indexed e c.args.kind) (sym c.requires.entry) ∙ not_indexed) (never None) in
+          rw (p.1, p.2) (OnAccess-weaker _ ⊥ c.in_err-ruling.field-0.0 (λ on. absurd (let no = sym on ∙ off in cc no)) c.in_err-ruling.ensures.asked);
       unasked = search rules;
       untouched = search rules;
     }
@@ -148,7 +155,8 @@ returns-in_err-class-2 g c = λ ask_disk.
       spared = λ s never.
           let kept = c.in_ok-ruling.ensures.untouched
           (none-asked (setting_of g.M.Matcher c.args.shared.now) made s path c.args.kind none (ap (λ e. is_indexed e c.args.kind) (sym c.requires.entry) ∙ not_indexed) (never None)) in
-          record { same = kept.rules; reads = λ on. ap g.W.Worktree.reads (c.in_err-class-2.ensures.unasked (rw on refl) ∙ kept.worktree) };
+          record { same = kept.rules; store = kept.store; reads = λ on. ap g.W.Worktree.reads (c.in_err-class-2.ensures.unasked (rw on refl) ∙ kept.worktree) };
+      memory = search rules;
       unasked = search rules;
       untouched = search rules;
     }

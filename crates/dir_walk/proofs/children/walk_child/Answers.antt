@@ -95,7 +95,7 @@ pub returns-in_err-class-clause-found : goal.returns-in_err-class-clause-found
 returns-in_err-class-clause-found g c = λ s told.
     let a = c.args in let r = err_from_is_err_and c.from_residual-in_err-class.result c.from_residual-in_err-class.ensures.1 in
     let made = made_with a.excludes.now in
-    rw (r.1, r.2) (IsInTree-class (g.F.Find.holds a.objects.now) s made c.set_child.new.self.path _ c.path-path.ensures.normal (rw c.path-path.ensures.path at c.in_err-class.ensures.about)
+    rw (r.1, r.2) (IsInTree-class a.shared.now.worktree_root.now (g.F.Find.holds a.objects.now) s made c.set_child.new.self.path _ c.path-path.ensures.normal (rw c.path-path.ensures.path at c.in_err-class.ensures.about)
     (λ known. rw c.path-path.ensures.path at (c.in_err-class.ensures.refused s (record { tree_is = told; objects_are = λ some. known }))))
 
 pub returns-in_err-class-clause-refused : goal.returns-in_err-class-clause-refused
@@ -118,7 +118,7 @@ returns-then-levels-eq0-clause-about g c = λ limit level.
     let at = ap (λ (x : Standing). x.path) c.in_ok-set_child.ensures in
     let base : c.set_child.new.self.root ≡ root = ap (λ (x : Standing). x.root) c.in_ok-set_child.ensures ∙ c.requires.root in
     let deep : limit < depth_of p = omega (arith, level, c.if-levels-eq0.true, ap depth_of at, depth_of-joined a.directory.now.path a.name.now c.requires.name) in
-    IsAbout-deep (made_with a.excludes.now) root p limit _ _ c.path-path.ensures.normal deep (rw base at c.too_deep.ensures.deep)
+    IsAbout-deep (made_with a.excludes.now) root p limit _ _ c.path-path.ensures.normal c.path-path.ensures.spelled deep (rw base at c.too_deep.ensures.deep)
 
 pub returns-then-levels-eq0-clause-refused : goal.returns-then-levels-eq0-clause-refused
 returns-then-levels-eq0-clause-refused g c = λ made s stands default limit level.

@@ -26,7 +26,7 @@ returns-in_err-names-clause-delegate g c = KeepsDelegate-same
 pub returns-in_err-names-clause-caused : goal.returns-in_err-names-clause-caused
 returns-in_err-names-clause-caused g c =
     let p = err_from_is_err_and c.from_residual.result c.from_residual.ensures.1 in let stored = g.F.Find.faults c.args.objects.now in
-    rw (p.1, p.2) (record { fault = c.in_err-names.ensures.fault stored stored; interrupt = c.in_err-names.ensures.raised; listed = tt; calm = tt })
+    rw (p.1, p.2) (record { fault = c.in_err-names.ensures.fault stored stored; interrupt = c.in_err-names.ensures.raised; listing = c.in_err-names.ensures.listing; listed = tt; calm = tt })
 
 pub returns-then-is_empty-clause-gives : goal.returns-then-is_empty-clause-gives
 returns-then-is_empty-clause-gives g c = λ made s stands quiet default limit level.
@@ -163,7 +163,7 @@ returns-in_err-names-clause-about g c = λ limit level.
 pub returns-in_err-names-clause-found : goal.returns-in_err-names-clause-found
 returns-in_err-names-clause-found g c = λ s told.
     let a = c.args in let p = err_from_is_err_and c.from_residual.result c.from_residual.ensures.1 in
-    rw (p.1, p.2) (IsInTree-open (g.F.Find.holds a.objects.now) s (made_with a.excludes.now) _ _ _ (c.in_err-names.ensures.refused s.tree told))
+    rw (p.1, p.2) (IsInTree-open (g.F.Find.holds a.objects.now) s (made_with a.excludes.now) a.shared.now.worktree_root.now a.place.now.path _ (rw c.requires.root at (c.in_err-names.ensures.refused s.tree told)))
 
 pub returns-in_err-names-clause-refused : goal.returns-in_err-names-clause-refused
 returns-in_err-names-clause-refused g c = λ made s stands default limit level.

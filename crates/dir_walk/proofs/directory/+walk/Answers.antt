@@ -37,7 +37,7 @@ walk_directory-returns-in_err-names-clause-delegate g t c = KeepsDelegate-same
 pub walk_directory-returns-in_err-names-clause-caused : goal.walk_directory-returns-in_err-names-clause-caused
 walk_directory-returns-in_err-names-clause-caused g t c =
     let p = err_from_is_err_and c.from_residual.result c.from_residual.ensures.1 in let stored = g.F.Find.faults c.args.objects.now in
-    rw (p.1, p.2) (record { fault = c.in_err-names.ensures.fault stored stored; interrupt = c.in_err-names.ensures.raised; listed = tt; calm = tt })
+    rw (p.1, p.2) (record { fault = c.in_err-names.ensures.fault stored stored; interrupt = c.in_err-names.ensures.raised; listing = c.in_err-names.ensures.listing; listed = tt; calm = tt })
 
 pub walk_directory-returns-then-is_empty-clause-gives : goal.walk_directory-returns-then-is_empty-clause-gives
 walk_directory-returns-then-is_empty-clause-gives g t c = λ made s stands quiet default limit level.
@@ -232,7 +232,7 @@ walk_directory-returns-in_err-names-clause-about g t c = λ limit level.
 pub walk_directory-returns-in_err-names-clause-found : goal.walk_directory-returns-in_err-names-clause-found
 walk_directory-returns-in_err-names-clause-found g t c = λ s told.
     let a = c.args in let p = err_from_is_err_and c.from_residual.result c.from_residual.ensures.1 in
-    rw (p.1, p.2) (IsInTree-open (g.F.Find.holds a.objects.now) s (made_with a.excludes.now) _ _ _ (c.in_err-names.ensures.refused s.tree told))
+    rw (p.1, p.2) (IsInTree-open (g.F.Find.holds a.objects.now) s (made_with a.excludes.now) a.shared.now.worktree_root.now a.place.now.path _ (rw c.requires.root at (c.in_err-names.ensures.refused s.tree told)))
 
 pub walk_directory-returns-in_err-names-clause-refused : goal.walk_directory-returns-in_err-names-clause-refused
 walk_directory-returns-in_err-names-clause-refused g t c = λ made s stands default limit level.
@@ -289,7 +289,7 @@ pub walk_name-returns-in_err-class-clause-found : goal.walk_name-returns-in_err-
 walk_name-returns-in_err-class-clause-found g t c = λ s told.
     let a = c.args in let r = err_from_is_err_and c.from_residual-in_err-class.result c.from_residual-in_err-class.ensures.1 in
     let made = made_with a.excludes.now in
-    rw (r.1, r.2) (IsInTree-class (g.F.Find.holds a.objects.now) s made c.set_child.new.self.path _ c.path-path.ensures.normal (rw c.path-path.ensures.path at c.in_err-class.ensures.about)
+    rw (r.1, r.2) (IsInTree-class a.shared.now.worktree_root.now (g.F.Find.holds a.objects.now) s made c.set_child.new.self.path _ c.path-path.ensures.normal (rw c.path-path.ensures.path at c.in_err-class.ensures.about)
     (λ known. rw c.path-path.ensures.path at (c.in_err-class.ensures.refused s (record { tree_is = told; objects_are = λ some. known }))))
 
 pub walk_name-returns-in_err-class-clause-refused : goal.walk_name-returns-in_err-class-clause-refused
@@ -312,7 +312,7 @@ walk_name-returns-then-levels-eq0-clause-about g t c = λ limit level.
     let at = ap (λ (x : Standing). x.path) c.in_ok-set_child.ensures in
     let base : c.set_child.new.self.root ≡ root = ap (λ (x : Standing). x.root) c.in_ok-set_child.ensures ∙ c.requires.root in
     let deep : limit < depth_of p = omega (arith, level, c.if-levels-eq0.true, ap depth_of at, depth_of-joined a.directory.now.path a.name.now c.requires.name) in
-    IsAbout-deep (made_with a.excludes.now) root p limit _ _ c.path-path.ensures.normal deep (rw base at c.too_deep.ensures.deep)
+    IsAbout-deep (made_with a.excludes.now) root p limit _ _ c.path-path.ensures.normal c.path-path.ensures.spelled deep (rw base at c.too_deep.ensures.deep)
 
 pub walk_name-returns-then-levels-eq0-clause-refused : goal.walk_name-returns-then-levels-eq0-clause-refused
 walk_name-returns-then-levels-eq0-clause-refused g t c = λ made s stands default limit level.

@@ -64,4 +64,5 @@ returns-in_ok-through_components-in-Some-clause-shape g c = normal-root c.in_ok-
     (ap is_absolute (sym c.as_bytes.ensures) ∙ sym c.is_absolute.ensures ∙ c.if-is_absolute.false)
 
 pub returns-in_ok-through_components-in-Some-clause-asked : goal.returns-in_ok-through_components-in-Some-clause-asked
-returns-in_ok-through_components-in-Some-clause-asked g c = (c.in_ok-asked.asked, c.in_ok-asked.ensures.asked, sym c.in_ok-normalize.ensures ∙ c.in-Some.is)
+returns-in_ok-through_components-in-Some-clause-asked g c =
+    (c.in_ok-asked.asked, c.in_ok-asked.ensures.asked, sym c.in_ok-normalize.ensures ∙ c.in-Some.is, ap is_absolute (sym c.as_bytes.ensures) ∙ sym c.is_absolute.ensures ∙ c.if-is_absolute.false)

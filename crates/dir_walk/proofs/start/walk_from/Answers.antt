@@ -1,16 +1,17 @@
-use Rattle.std.proofs.Common.{◌≡◌, ◌∙◌, refl, sym, arith, true, false}
+use Rattle.std.proofs.Common.{◌≡◌, ◌∙◌, ap, refl, sym, arith, ℕ, List, [], true, false}
 use Rattle.std.proofs.lemmas.Result.{IfErr-weaker, err_from_is_err_and, on_err_weaker, on_ok_weaker}
 use Rattle.worktree_fs.specs.Causes.{Increased, NotIncreased}
 use Rattle.dir_classify.specs.Excludes.{made_with}
 use Rattle.dir_classify.specs.Layers.{setting_of, evidence}
-use Rattle.dir_classify.specs.Rooted.{reached_by}
+use Rattle.dir_classify.specs.Rooted.{reached_by, way_to}
 use Rattle.dir_walk.specs.Given.{OnRefused}
 use Rattle.dir_walk.specs.Refused.{DirectoryRefuses}
 use Rattle.dir_walk.specs.Root.{is_root_entered}
 use Rattle.dir_walk.specs.Starts.{OnlyRoot}
-use Rattle.dir_walk.specs.WalkRefused.{IsNoDirectory, OnNoRoot, StartRefuses}
+use Rattle.dir_walk.specs.WalkRefused.{IsNoTop, OnNoRoot, StartRefuses}
+use Rattle.gitbase_core.specs.Path.{is_empty}
 use Rattle.dir_walk.proofs.CallByCall.{Before-asked, Before-classed, Before-then, Ends-after, Ends-asked, Tells-later}
-use Rattle.dir_walk.proofs.FromRoot.{opens-entered, opens-short}
+use Rattle.dir_walk.proofs.FromRoot.{asks-from, opens-entered, opens-short}
 use Rattle.dir_walk.proofs.Refusals.{refused-any}
 use Rattle.dir_walk.proofs.Started.{gives-entered, gives-put, no-node, no-root, part-entered, refuses-entered}
 use Rattle.dir_walk.proofs.Starting.{bare}
@@ -18,14 +19,14 @@ use Rattle.dir_walk.proofs.WayRefused.{only-no_root, only-refuses, way-about, wa
 use Rattle.dir_walk.proofs.start.walk_from.Goals as goal
 
 pub returns-in_err-reached-clause-refused : goal.returns-in_err-reached-clause-refused
-returns-in_err-reached-clause-refused g c = λ s tells quiet store_quiet default.
+returns-in_err-reached-clause-refused g c = λ s tells quiet default.
     let a = c.args in
     let f = g.F.Find in
     let p = err_from_is_err_and c.from_residual.result c.from_residual.ensures.1 in
     let way = c.in_err-reached.ensures in
     rw (p.1, p.2)
     (way-refuses (setting_of g.M.Matcher a.shared.now) (made_with a.excludes.now) s a.root.now a.depth_limit (Increased (f.faults a.objects.now) (f.faults c.root_at.new.objects)) c.in_err-reached.field-0.0
-    (way.refused s tells.tells) (way.asked s tells.tells tells.in_step quiet) (λ rose. omega (arith, rose, store_quiet)))
+    (way.refused s tells.tells) (way.asked s tells.tells tells.in_step quiet))
 
 pub returns-in_err-reached-clause-about : goal.returns-in_err-reached-clause-about
 returns-in_err-reached-clause-about g c =
@@ -39,7 +40,7 @@ returns-in_err-reached-clause-found g c = λ s told.
     let p = err_from_is_err_and c.from_residual.result c.from_residual.ensures.1 in
     let way = c.in_err-reached.ensures in
     rw (p.1, p.2)
-    (way-found (g.F.Find.holds a.objects.now) s (made_with a.excludes.now) a.root.now c.in_err-reached.field-0.0 c.requires.root way.about
+    (way-found a.shared.now.worktree_root.now (g.F.Find.holds a.objects.now) s (made_with a.excludes.now) a.root.now c.in_err-reached.field-0.0 c.requires.root way.about
     (λ some. way.refused s (record { tree_is = told; objects_are = some })))
 
 pub returns-then-branch-clause-gives : goal.returns-then-branch-clause-gives
@@ -81,7 +82,7 @@ returns-then-branch-clause-part g c = λ s tells quiet default walked walk.
     (rw (way.rules.made, asked.given) at (c.walk_entered.ensures.part s here third (asked.delegate.default ∙ default)))
 
 pub returns-then-branch-clause-refused : goal.returns-then-branch-clause-refused
-returns-then-branch-clause-refused g c = λ s tells quiet store_quiet default.
+returns-then-branch-clause-refused g c = λ s tells quiet default.
     let a = c.args in
     let w = g.W.Worktree in
     let given = setting_of g.M.Matcher a.shared.now in
@@ -96,8 +97,10 @@ returns-then-branch-clause-refused g c = λ s tells quiet store_quiet default.
     let is = way.reached s tells.tells tells.in_step first in
     let into : is_root_entered given.options (evidence given made s) (reached_by r false) ≡ true = sym (asked.entered made s (way.keeps.tree ∙ tells.tells.tree_is) second default) ∙ c.if-branch.true in
     let here = Tells-later (Before-then (Before-classed way.keeps way.store way.rules) (Before-asked asked.keeps)) tells in
-    IfErr-weaker c.walk_entered.result (OnRefused (DirectoryRefuses given made s a.depth_limit ⊥ a.root.now r.outcome)) (OnRefused (StartRefuses given made s a.root.now a.depth_limit))
-    (refused-any (DirectoryRefuses given made s a.depth_limit ⊥ a.root.now r.outcome) (StartRefuses given made s a.root.now a.depth_limit) (refuses-entered given made s a.root.now c.requires.root r is into a.depth_limit))
+    let stored : Type 0 = Increased (g.F.Find.faults a.objects.now) (g.F.Find.faults c.walk_entered.new.objects) in
+    IfErr-weaker c.walk_entered.result (OnRefused (DirectoryRefuses given made s a.depth_limit ⊥ a.root.now r.outcome)) (OnRefused (StartRefuses given made s a.root.now a.depth_limit stored))
+    (refused-any (DirectoryRefuses given made s a.depth_limit ⊥ a.root.now r.outcome) (StartRefuses given made s a.root.now a.depth_limit stored)
+    (refuses-entered given made s a.root.now c.requires.root r is into a.depth_limit stored))
     (rw way.rules.made at (c.walk_entered.ensures.refused s here third (asked.delegate.default ∙ default)))
 
 pub returns-then-branch-clause-ends : goal.returns-then-branch-clause-ends
@@ -128,7 +131,7 @@ returns-clause-gives g c = λ s tells quiet default.
     (gives-put given made s a.root.now c.requires.root r is out g.D.Delegate a.depth_limit a.shared.now.worktree_root.now c.is_root_entered.new.delegate c.put_root.new.delegate a.outcome.now c.put_root.new.outcome c.put_root.result c.put_root.ensures.puts)
 
 pub returns-clause-refused : goal.returns-clause-refused
-returns-clause-refused g c = λ s tells quiet store_quiet default.
+returns-clause-refused g c = λ s tells quiet default.
     let a = c.args in
     let w = g.W.Worktree in
     let given = setting_of g.M.Matcher a.shared.now in
@@ -141,8 +144,9 @@ returns-clause-refused g c = λ s tells quiet store_quiet default.
     let second : NotIncreased (w.faults c.root_at.new.worktree) (w.faults c.is_root_entered.new.worktree) = omega (arith, quiet, way.keeps.faults) in
     let is = way.reached s tells.tells tells.in_step first in
     let out : is_root_entered given.options (evidence given made s) (reached_by r false) ≡ false = sym (asked.entered made s (way.keeps.tree ∙ tells.tells.tree_is) second default) ∙ c.if-branch.false in
-    IfErr-weaker c.put_root.result (OnRefused (OnlyRoot top a.root.now r)) (OnRefused (StartRefuses given made s a.root.now a.depth_limit))
-    (refused-any (OnlyRoot top a.root.now r) (StartRefuses given made s a.root.now a.depth_limit) (λ e. only-refuses given made s top a.root.now a.depth_limit r e (no-root given made s a.root.now c.requires.root r is out)))
+    let stored : Type 0 = Increased (g.F.Find.faults a.objects.now) (g.F.Find.faults c.root_at.new.objects) in
+    IfErr-weaker c.put_root.result (OnRefused (OnlyRoot top a.root.now r)) (OnRefused (StartRefuses given made s a.root.now a.depth_limit stored))
+    (refused-any (OnlyRoot top a.root.now r) (StartRefuses given made s a.root.now a.depth_limit stored) (λ e. only-refuses given made s top a.root.now a.depth_limit stored r e (no-root given made s a.root.now c.requires.root r is out)))
     c.put_root.ensures.puts.refused
 
 pub returns-clause-no_root : goal.returns-clause-no_root
@@ -155,9 +159,19 @@ returns-clause-no_root g c = λ s told quiet.
     let r = c.in_ok-reached.reached in
     let top = a.shared.now.worktree_root.now in
     let first : NotIncreased (w.faults a.worktree.now) (w.faults c.root_at.new.worktree) = (let k = c.in_ok-is_root_entered.ensures.keeps.faults in omega (arith, quiet, k)) in
+    let second : NotIncreased (w.faults c.root_at.new.worktree) (w.faults c.is_root_entered.new.worktree) = omega (arith, quiet, way.keeps.faults) in
+    let asked = c.in_ok-is_root_entered.ensures in
     let shape = c.requires.root in
-    IfErr-weaker c.put_root.result (OnRefused (OnlyRoot top a.root.now r)) (OnRefused (OnNoRoot (IsNoDirectory given s)))
-    (refused-any (OnlyRoot top a.root.now r) (OnNoRoot (IsNoDirectory given s)) (λ e. only-no_root (IsNoDirectory given s) top a.root.now r e (λ empty. no-node given made s a.root.now shape r (way.top (bare a.root.now empty) s told first) empty)))
+    let none : Type 0 = IsNoTop given made s (g.D.Delegate.is_default a.delegate.now) in
+    let unentered : is_empty a.root.now ≡ true → g.D.Delegate.is_default a.delegate.now ≡ true → is_root_entered given.options (evidence given made s) (way_to given made s []) ≡ false =
+    λ empty default.
+    ap (λ (p : List ℕ). is_root_entered given.options (evidence given made s) (way_to given made s p)) (sym (bare a.root.now empty))
+    ∙ ap (is_root_entered given.options (evidence given made s)) (sym (way.top (bare a.root.now empty) s told first))
+    ∙ sym (asked.entered made s (way.keeps.tree ∙ told) second default)
+    ∙ c.if-branch.false in
+    IfErr-weaker c.put_root.result (OnRefused (OnlyRoot top a.root.now r)) (OnRefused (OnNoRoot none))
+    (refused-any (OnlyRoot top a.root.now r) (OnNoRoot none) (λ e. only-no_root none top a.root.now r e
+    (λ empty holds. record { node = no-node given made s a.root.now shape r (way.top (bare a.root.now empty) s told first) empty holds; unentered = unentered empty })))
     c.put_root.ensures.puts.refused
 
 pub returns-in_err-reached-clause-opens : goal.returns-in_err-reached-clause-opens
@@ -169,16 +183,16 @@ pub returns-in_err-is_root_entered-clause-opens : goal.returns-in_err-is_root_en
 returns-in_err-is_root_entered-clause-opens g c =
     let way = c.in_ok-reached.ensures in
     let asked = c.in_err-is_root_entered.ensures in
-    opens-short c.root_at.new.worktree c.args.strategy way.reads _ (asked.keeps.lists ∙ way.keeps.lists) asked.reads refl (omega arith)
+    opens-short c.root_at.new.worktree c.args.strategy (asks-from way.prefix way.reads) _ (asked.keeps.lists ∙ way.keeps.lists) asked.reads refl (omega arith)
 
 pub returns-then-branch-clause-opens : goal.returns-then-branch-clause-opens
 returns-then-branch-clause-opens g c =
     let way = c.in_ok-reached.ensures in
     let asked = c.in_ok-is_root_entered.ensures in
-    opens-entered c.root_at.new.worktree c.is_root_entered.new.worktree c.args.strategy way.reads c.walk_entered.new.excludes c.walk_entered.result (asked.keeps.lists ∙ way.keeps.lists) asked.reads refl c.walk_entered.ensures.opens
+    opens-entered c.root_at.new.worktree c.is_root_entered.new.worktree c.args.strategy (asks-from way.prefix way.reads) c.walk_entered.new.excludes c.walk_entered.result (asked.keeps.lists ∙ way.keeps.lists) asked.reads refl c.walk_entered.ensures.opens
 
 pub returns-clause-opens : goal.returns-clause-opens
 returns-clause-opens g c =
     let way = c.in_ok-reached.ensures in
     let asked = c.in_ok-is_root_entered.ensures in
-    opens-short c.root_at.new.worktree c.args.strategy way.reads c.put_root.result (asked.keeps.lists ∙ way.keeps.lists) asked.reads c.put_root.ensures.entered (omega arith)
+    opens-short c.root_at.new.worktree c.args.strategy (asks-from way.prefix way.reads) c.put_root.result (asked.keeps.lists ∙ way.keeps.lists) asked.reads c.put_root.ensures.entered (omega arith)

@@ -64,7 +64,7 @@ returns-in-Ok g c =
     let none : refused_walk c.walk_from.result ≤ 0 = rw c.in-Ok.is (omega arith) in
     record {
       walks_worktree =
-          walks-done w f i d a.strategy given a.explicit.now a.depth_limit (d.is_default a.delegate.now) (λ r. r.0) (λ r. r.1) root found.keeps normal rooted_is (c.walk_from.new.outcome, c.in_ok-full.full) (Ok tt) from.ends from.ends.caused.listed from.ends.caused.calm
+          walks-done w f i d a.strategy given a.explicit.now a.depth_limit (d.is_default a.delegate.now) (λ r. r.0) (λ r. r.1) root found.keeps normal rooted_is (c.walk_from.new.outcome, c.in_ok-full.full) full_is (Ok tt) from.ends from.ends.caused.listed from.ends.caused.calm
           (opens-whole a.strategy found.keeps.lists found.reads c.walk_from.result (Ok (c.walk_from.new.outcome, c.in_ok-full.full)) zeros.0 is_root refl none c.walk_from.ensures.opens);
       feeds =
           feeds-done w f d a.worktree.now c.traversal_root.new.worktree c.walk_from.new.worktree a.objects.now a.excludes.now a.delegate.now c.walk_from.new.delegate given a.explicit.now a.depth_limit root c.default-outcome.result c.walk_from.new.outcome
@@ -92,7 +92,7 @@ returns-in-Err-Broken g c =
     let none : refused_walk c.walk_from.result ≤ 0 = rw (c.in-Err-Broken.is, c.in-Err-Broken.field-0-is) (omega arith) in
     record {
       walks_worktree =
-          walks-done w f i d a.strategy given a.explicit.now a.depth_limit (d.is_default a.delegate.now) (λ r. r.0) (λ r. r.1) root found.keeps normal rooted_is (c.walk_from.new.outcome, c.in_ok-full.full) (Err Broken) from.ends from.ends.caused.listed from.ends.caused.calm
+          walks-done w f i d a.strategy given a.explicit.now a.depth_limit (d.is_default a.delegate.now) (λ r. r.0) (λ r. r.1) root found.keeps normal rooted_is (c.walk_from.new.outcome, c.in_ok-full.full) full_is (Err Broken) from.ends from.ends.caused.listed from.ends.caused.calm
           (opens-whole a.strategy found.keeps.lists found.reads c.walk_from.result (Ok (c.walk_from.new.outcome, c.in_ok-full.full)) zeros.0 is_root refl none c.walk_from.ensures.opens);
       feeds =
           feeds-broken w f d a.worktree.now c.traversal_root.new.worktree c.walk_from.new.worktree a.objects.now a.excludes.now a.delegate.now c.walk_from.new.delegate given a.explicit.now a.depth_limit root c.default-outcome.result c.walk_from.new.outcome
@@ -118,7 +118,7 @@ returns g c =
     record {
       walks_worktree =
           walks-refused w f i d a.strategy given a.explicit.now a.depth_limit (d.is_default a.delegate.now) (λ r. r.0) (λ r. r.1) root found.keeps normal rooted_is e from.ends from.about from.found
-          (λ s tells by quiet store_quiet. from.refused s tells quiet store_quiet by) from.no_root
+          (λ s tells by quiet. from.refused s tells quiet by) from.no_root
           (opens-whole a.strategy found.keeps.lists found.reads c.walk_from.result (Err e) c.default-outcome.ensures.0 (record { normalized = normal; named = tt }) tt (refused-most c.walk_from.result) c.walk_from.ensures.opens);
       feeds =
           feeds-refused w f d a.worktree.now c.traversal_root.new.worktree c.walk_from.new.worktree a.objects.now a.excludes.now a.delegate.now c.walk_from.new.delegate given a.explicit.now a.depth_limit root c.default-outcome.result c.walk_from.new.outcome
