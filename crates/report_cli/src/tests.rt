@@ -9,7 +9,8 @@ mod walks;
 
 use crate::dispatch::dispatch;
 use faults::{
-    AT_ONCE, COLLAPSE, EACH_CALL, EACH_CALL_AT_ONCE, EACH_LOOK, Failing, IGNORING, NESTED,
+    AT_ONCE, COLLAPSE, CONFIGURED, EACH_CALL, EACH_CALL_AT_ONCE, EACH_LOOK, Failing, IGNORING,
+    IN_ORDER, MISREAD_FIRST, NESTED,
 };
 use git_config_lite::Source;
 use gitbase_core::{Bytes, OutOfMemory};
@@ -451,6 +452,18 @@ fn counts_each_call_that_fails_outside_of_jobs(rt: HostRuntime) {
     for (failing, counted) in &EACH_CALL_AT_ONCE {
         assert!(rt;
             ends_so(rt.alloc(), IGNORING, AT_ONCE, failing, *counted),
+            "{:?} {}",
+            failing.0,
+            failing.1
+        );
+    }
+}
+
+#[test]
+fn reads_no_file_behind_one_that_is_refused(rt: HostRuntime) {
+    for (failing, counted) in &IN_ORDER {
+        assert!(rt;
+            ends_so(rt.alloc(), MISREAD_FIRST, CONFIGURED, failing, *counted),
             "{:?} {}",
             failing.0,
             failing.1

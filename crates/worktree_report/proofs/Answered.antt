@@ -1,5 +1,5 @@
 -- The text of a report, or the refusal of the program that stands for that of a report.
-use Rattle.std.proofs.Common.{◌≡◌, ◌⊎◌, inl, inr, ℕ, List, Option, Bool, Some, Result, Ok, Err, IsErrOf, refl, sym, ap, ◌∙◌, subst, option_map, arith}
+use Rattle.std.proofs.Common.{◌≡◌, ◌⊎◌, ◌≤◌, ◌+◌, inl, inr, ℕ, List, Option, Bool, Some, Result, Ok, Err, IsErrOf, refl, sym, ap, ◌∙◌, subst, option_map, arith}
 use Rattle.gitbase_core.specs.Objects.{Objects}
 use Rattle.gitbase_core.specs.declared.find.Find.{Ghosts as FindOf}
 use Rattle.worktree_fs.specs.declared.interrupt.Interrupt.{Ghosts as InterruptOf}
@@ -21,6 +21,7 @@ use Rattle.dir_classify.specs.Refused.{OnFault}
 use Rattle.dir_walk.specs.declared.strategy.Strategy.{Strategy}
 use Rattle.dir_walk.specs.Opens.{IsListed}
 use Rattle.dir_walk.specs.Kept.{OnInterrupt}
+use Rattle.dir_walk.proofs.Weaker.{WalkRefuses-weaker}
 use Rattle.worktree_report.specs.declared.error.ReportError.{ReportError}
 use Rattle.worktree_report.specs.declared.error.ReportError.TheVariants as errors
 use Rattle.worktree_report.specs.declared.known.Known.{Known}
@@ -30,10 +31,11 @@ use Rattle.worktree_report.specs.declared.report.Report.{Report}
 use Rattle.worktree_report.specs.declared.setup.Setup.{Setup}
 use Rattle.worktree_report.specs.declared.refusal.Refusal.{Refusal}
 use Rattle.worktree_report.specs.declared.refusal.Refusal.TheVariants as refusals
-use Rattle.worktree_report.specs.Asked.{read_in, About, Found, IsAboutWalkAt, ReadsWithin, Refuses, RefusesWalkAt}
+use Rattle.worktree_report.specs.Asked.{asked_of, read_in, About, Found, IsAboutWalkAt, ReadsWithin, Refuses, RefusesWalkAt}
+use Rattle.worktree_report.specs.Excluding.{excludes_of}
 use Rattle.worktree_report.specs.Converted.{of_lookup, of_report, of_walk, IsOfWalking}
 use Rattle.worktree_report.specs.Loading.{known_in, IsKnown}
-use Rattle.worktree_report.specs.Outside.{IsOutside, LoadsAlone, MisreadsAt, OnMisread, OnReading}
+use Rattle.worktree_report.specs.Outside.{files_to, FailsLoading, IsOutside, LoadsAlone, MisreadsAt, OnMisread, OnReading, Stops}
 use Rattle.worktree_report.specs.Lines.{text_with}
 use Rattle.worktree_report.specs.Reported.{MakesReport, Misreads, OnReportFault, OnWalk, Texts}
 use Rattle.worktree_report.proofs.ReportMade.{report_is}
@@ -162,10 +164,24 @@ of_walking walk.OutOfMemory = tt
 -- ---- those of a report
 
 misreads_at : {W F I : Type 0} (w : WorktreeOf W) (w0 w1 : W) (o0 o1 : F) (i0 i1 : I) (root : List ℕ) (setup : Setup) (which from : Misread)
-    → IsOutside root setup from → LoadsAlone w w0 w1 o0 o1 i0 i1 setup → refusals.Misread from ≡ refusals.Misread which → MisreadsAt w w0 w1 i0 i1 root setup which
-misreads_at w w0 w1 o0 o1 i0 i1 root setup which from outside alone is =
+    → IsOutside root setup from → LoadsAlone w w0 w1 o0 o1 i0 i1 setup → w.reads w1 ≤ w.reads w0 + files_to setup from
+    → refusals.Misread from ≡ refusals.Misread which → MisreadsAt w w0 w1 i0 i1 root setup which
+misreads_at w w0 w1 o0 o1 i0 i1 root setup which from outside alone stops is =
     let same : from ≡ which = cc is in
-    record { about = record { asked = alone.asked; outside = subst (IsOutside root setup) same outside }; loads = alone.loads; interrupt = alone.interrupt }
+    let loads = alone.loads in
+    record {
+      about = record { asked = alone.asked; outside = subst (IsOutside root setup) same outside };
+      loads =
+          record {
+            tree = loads.tree;
+            faults = loads.faults;
+            list_faults = loads.list_faults;
+            lists = loads.lists;
+            precomposes = loads.precomposes;
+            reads = subst (λ (m : Misread). w.reads w1 ≤ w.reads w0 + files_to setup m) same stops;
+          };
+      interrupt = alone.interrupt;
+    }
 
 fault-of_report : (Failed Stored : Type 0) → (Stored → ⊥) → (e : ReportError) → OnReportFault Failed Stored e → of_report e ≡ refusals.Fault → Failed
 fault-of_report Failed Stored never (errors.Config at line) h is = absurd cc
@@ -193,13 +209,13 @@ of_reporting errors.OutOfMemory = tt
 
 -- what is outside its grammar is said of the same
 outside-of_report : {W F I : Type 0} (w : WorktreeOf W) (w0 w1 : W) (o0 o1 : F) (i0 i1 : I) (root : List ℕ) (setup : Setup) (which : Misread) (e : ReportError)
-    → OnMisread (IsOutside root setup) e → OnReading (LoadsAlone w w0 w1 o0 o1 i0 i1 setup) e → of_report e ≡ refusals.Misread which → MisreadsAt w w0 w1 i0 i1 root setup which
-outside-of_report w w0 w1 o0 o1 i0 i1 root setup which (errors.Config at line) outside alone is = misreads_at w w0 w1 o0 o1 i0 i1 root setup which _ outside alone is
-outside-of_report w w0 w1 o0 o1 i0 i1 root setup which (errors.Modules line) outside alone is = misreads_at w w0 w1 o0 o1 i0 i1 root setup which _ outside alone is
-outside-of_report w w0 w1 o0 o1 i0 i1 root setup which (errors.ActiveSpec at) outside alone is = misreads_at w w0 w1 o0 o1 i0 i1 root setup which _ outside alone is
-outside-of_report w w0 w1 o0 o1 i0 i1 root setup which errors.ReadFault outside alone is = absurd cc
-outside-of_report w w0 w1 o0 o1 i0 i1 root setup which (errors.Walk e) outside alone is = absurd (is_no_misread which e is)
-outside-of_report w w0 w1 o0 o1 i0 i1 root setup which errors.OutOfMemory outside alone is = absurd cc
+    → OnMisread (IsOutside root setup) e → OnReading (LoadsAlone w w0 w1 o0 o1 i0 i1 setup) e → Stops w w0 w1 setup e → of_report e ≡ refusals.Misread which → MisreadsAt w w0 w1 i0 i1 root setup which
+outside-of_report w w0 w1 o0 o1 i0 i1 root setup which (errors.Config at line) outside alone stops is = misreads_at w w0 w1 o0 o1 i0 i1 root setup which _ outside alone stops is
+outside-of_report w w0 w1 o0 o1 i0 i1 root setup which (errors.Modules line) outside alone stops is = misreads_at w w0 w1 o0 o1 i0 i1 root setup which _ outside alone stops is
+outside-of_report w w0 w1 o0 o1 i0 i1 root setup which (errors.ActiveSpec at) outside alone stops is = misreads_at w w0 w1 o0 o1 i0 i1 root setup which _ outside alone stops is
+outside-of_report w w0 w1 o0 o1 i0 i1 root setup which errors.ReadFault outside alone stops is = absurd cc
+outside-of_report w w0 w1 o0 o1 i0 i1 root setup which (errors.Walk e) outside alone stops is = absurd (is_no_misread which e is)
+outside-of_report w w0 w1 o0 o1 i0 i1 root setup which errors.OutOfMemory outside alone stops is = absurd cc
 
 -- the interrupt is asked once all that tells of submodules is known
 known-of_report : (given : Result (Option Known) Misread) (e : ReportError) → Misreads given e → of_report e ≡ refusals.Interrupted → IsKnown given
@@ -218,15 +234,22 @@ misread-of_report given which errors.ReadFault h is = absurd cc
 misread-of_report given which (errors.Walk e) h is = absurd (is_no_misread which e is)
 misread-of_report given which errors.OutOfMemory h is = absurd cc
 
-refused-of_report : (composes : Bool) (t : Names) (root : List ℕ) (setup : Setup) (word : WalkWord) (path : List ℕ) (e : ReportError)
-    → OnWalk (About composes root setup) e → OnWalk (Refuses composes (read_in t setup) root setup) e → Misreads (known_in t root setup) e
+refused-of_report : (Stored : Type 0) → (Stored → ⊥) → (composes : Bool) (t : Names) (root : List ℕ) (setup : Setup) (word : WalkWord) (path : List ℕ) (e : ReportError)
+    → OnWalk (About composes root setup) e → OnWalk (Refuses composes (read_in t setup) root setup Stored) e → Misreads (known_in t root setup) e
     → of_report e ≡ refusals.Walk word path → RefusesWalkAt composes t root setup word path
-refused-of_report composes t root setup word path (errors.Config at line) about cause known is = absurd cc
-refused-of_report composes t root setup word path (errors.Modules line) about cause known is = absurd cc
-refused-of_report composes t root setup word path (errors.ActiveSpec at) about cause known is = absurd cc
-refused-of_report composes t root setup word path errors.ReadFault about cause known is = absurd cc
-refused-of_report composes t root setup word path (errors.Walk e) about cause known is = record { error = e; is = is; about = about; cause = cause; known = known }
-refused-of_report composes t root setup word path errors.OutOfMemory about cause known is = absurd cc
+refused-of_report Stored never composes t root setup word path (errors.Config at line) about cause known is = absurd cc
+refused-of_report Stored never composes t root setup word path (errors.Modules line) about cause known is = absurd cc
+refused-of_report Stored never composes t root setup word path (errors.ActiveSpec at) about cause known is = absurd cc
+refused-of_report Stored never composes t root setup word path errors.ReadFault about cause known is = absurd cc
+refused-of_report Stored never composes t root setup word path (errors.Walk e) about cause known is =
+    record {
+      error = e;
+      is = is;
+      about = about;
+      cause = WalkRefuses-weaker (asked_of composes root setup) (excludes_of root setup) (read_in t setup) setup.depth Stored ⊥ never setup.root e cause;
+      known = known;
+    }
+refused-of_report Stored never composes t root setup word path errors.OutOfMemory about cause known is = absurd cc
 
 about-of_report : (composes : Bool) (told : Option Names) (root : List ℕ) (setup : Setup) (word : WalkWord) (path : List ℕ) (e : ReportError)
     → OnWalk (About composes root setup) e → ((t : Names) → told ≡ Some t → OnWalk (Found composes root setup (Some setup.blobs) (read_in t setup)) e)
@@ -239,15 +262,16 @@ about-of_report composes told root setup word path (errors.Walk e) about found k
 about-of_report composes told root setup word path errors.OutOfMemory about found known is = absurd cc
 
 -- a fault comes before the walk, or where all that tells of submodules is in its grammar
-late-of_report : (Alone : Type 0) (told : Option Names) (root : List ℕ) (setup : Setup) (e : ReportError) → OnReading Alone e
-    → ((t : Names) → told ≡ Some t → Misreads (known_in t root setup) e) → of_report e ≡ refusals.Fault
-    → Alone ⊎ ((t : Names) → told ≡ Some t → IsKnown (known_in t root setup))
-late-of_report Alone told root setup (errors.Config at line) alone known is = absurd cc
-late-of_report Alone told root setup (errors.Modules line) alone known is = absurd cc
-late-of_report Alone told root setup (errors.ActiveSpec at) alone known is = absurd cc
-late-of_report Alone told root setup errors.ReadFault alone known is = inl alone
-late-of_report Alone told root setup (errors.Walk e) alone known is = inr known
-late-of_report Alone told root setup errors.OutOfMemory alone known is = absurd cc
+late-of_report : {W F I : Type 0} (w : WorktreeOf W) (w0 w1 : W) (o0 o1 : F) (i0 i1 : I) (root : List ℕ) (setup : Setup) (e : ReportError)
+    → OnReading (LoadsAlone w w0 w1 o0 o1 i0 i1 setup) e → Stops w w0 w1 setup e → ((t : Names) → w.told w0 ≡ Some t → Misreads (known_in t root setup) e) → of_report e ≡ refusals.Fault
+    → FailsLoading w w0 w1 i0 i1 setup ⊎ ((t : Names) → w.told w0 ≡ Some t → IsKnown (known_in t root setup))
+late-of_report w w0 w1 o0 o1 i0 i1 root setup (errors.Config at line) alone stops known is = absurd cc
+late-of_report w w0 w1 o0 o1 i0 i1 root setup (errors.Modules line) alone stops known is = absurd cc
+late-of_report w w0 w1 o0 o1 i0 i1 root setup (errors.ActiveSpec at) alone stops known is = absurd cc
+late-of_report w w0 w1 o0 o1 i0 i1 root setup errors.ReadFault alone stops known is =
+    inl (record { asked = alone.asked; lists = alone.loads.lists; interrupt = alone.interrupt; stops = stops })
+late-of_report w w0 w1 o0 o1 i0 i1 root setup (errors.Walk e) alone stops known is = inr known
+late-of_report w w0 w1 o0 o1 i0 i1 root setup errors.OutOfMemory alone stops known is = absurd cc
 
 -- ---- texts
 
@@ -315,7 +339,7 @@ module _ {W F I : Type 0} {w : WorktreeOf W} {f : FindOf F} {i : InterruptOf I} 
         worktree = reports.worktree;
         interrupt = reports.interrupt;
         listed = tt;
-        lists = tt;
+        lists = λ at_once. subst (λ (strategy : Strategy). IsListed strategy (w.lists w0) (w.lists w1) reports.opens.opened) at_once reports.opens.listed;
         calm = tt;
       }
 
@@ -330,18 +354,15 @@ module _ {W F I : Type 0} {w : WorktreeOf W} {f : FindOf F} {i : InterruptOf I} 
         safe = λ t told quiet. tt;
         works = λ t told quiet. tt;
         refused = λ t told quiet word path is.
-            refused-of_report (w.precomposes w0) t root setup word path e reports.about (reports.refused (read_in t setup) (told-blobs setup held told) quiet kept) (reports.misread t told) (answered is);
+            refused-of_report _ (λ stored. omega (arith, stored, kept)) (w.precomposes w0) t root setup word path e reports.about
+            (reports.refused (read_in t setup) (told-blobs setup held told) quiet) (reports.misread t told) (answered is);
         misread = λ t told which is. misread-of_report (known_in t root setup) which e (reports.misread t told) (answered is);
-        outside = λ which is. outside-of_report w w0 w1 o0 o1 i0 i1 root setup which e reports.outside reports.alone (answered is);
+        outside = λ which is. outside-of_report w w0 w1 o0 o1 i0 i1 root setup which e reports.outside reports.alone reports.stops (answered is);
         about = λ word path is.
             about-of_report (w.precomposes w0) (w.told w0) root setup word path e reports.about
             (λ t told. subst (λ (holds : Option Objects). OnWalk (Found (w.precomposes w0) root setup holds (read_in t setup)) e) held (reports.found (read_in t setup) told)) reports.misread (answered is);
         cause = λ is. fault-of_report _ _ (λ stored. omega (arith, stored, kept)) e reports.cause (answered is);
-        fault_late = λ is.
-            elim (late-of_report (LoadsAlone w w0 w1 o0 o1 i0 i1 setup) (w.told w0) root setup e reports.alone reports.misread (answered is)) [
-              | inl alone ↦ inl (alone.loads.lists, alone.interrupt)
-              | inr known ↦ inr known
-            ];
+        fault_late = λ is. late-of_report w w0 w1 o0 o1 i0 i1 root setup e reports.alone reports.stops reports.misread (answered is);
         interrupted = λ is. interrupt-of_report _ e reports.interrupted (answered is);
         interrupted_late = λ t told is. known-of_report _ e (reports.misread t told) (answered is);
         answers = of_reporting e;
@@ -349,6 +370,6 @@ module _ {W F I : Type 0} {w : WorktreeOf W} {f : FindOf F} {i : InterruptOf I} 
         worktree = reports.worktree;
         interrupt = reports.interrupt;
         listed = tt;
-        lists = tt;
+        lists = λ at_once. subst (λ (strategy : Strategy). IsListed strategy (w.lists w0) (w.lists w1) reports.opens.opened) at_once reports.opens.listed;
         calm = tt;
       })

@@ -7,6 +7,7 @@ pub mod Runs
 pub mod Generated
 pub mod Numbers
 pub mod Walks
+pub mod Stopping
 pub mod ReportMade
 pub mod Answered
 pub mod Meanings

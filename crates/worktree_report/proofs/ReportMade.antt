@@ -26,7 +26,7 @@ use Rattle.dir_classify.specs.Refused.{OnFault}
 use Rattle.dir_walk.specs.declared.report.Report.{Report as WalkReport}
 use Rattle.dir_walk.specs.Distinct.{Ascends}
 use Rattle.dir_walk.specs.Emissions.{Emission}
-use Rattle.dir_walk.specs.Kept.{KeepsTree}
+use Rattle.dir_walk.specs.Kept.{KeepsTree, OnListingFault}
 use Rattle.dir_walk.specs.Opens.{IsListed, reads_rules_alone}
 use Rattle.dir_walk.specs.Reports.{IsFromRoot}
 use Rattle.dir_walk.specs.Walkable.{IsValid}
@@ -44,8 +44,8 @@ use Rattle.worktree_report.specs.Excluding.{excludes_of}
 use Rattle.worktree_report.specs.Loading.{files_if, known_in}
 use Rattle.worktree_report.specs.Loads.{Gives, LoadsFiles, OfKnown, of_walk}
 use Rattle.worktree_report.specs.Orderly.{IsOrderly}
-use Rattle.worktree_report.specs.Outside.{IsOutside, LoadsAlone, OnMisread, OnReading}
-use Rattle.worktree_report.specs.Reported.{Describes, LoadsAndOpens, MakesReport, Misreads, OnReportFault, OnWalk, Reports}
+use Rattle.worktree_report.specs.Outside.{IsOutside, LoadsAlone, OnMisread, OnReading, Stops}
+use Rattle.worktree_report.specs.Reported.{Describes, IsNamedRoot, LoadsAndOpens, MakesReport, Misreads, OnReportFault, OnWalk, Reports}
 use Rattle.worktree_report.specs.Submodules.{described, emission_in, entry_in, facts_in}
 use Rattle.worktree_report.proofs.Walks.{unlisted_so}
 
@@ -108,21 +108,24 @@ not_both before now quiet rose = omega arith
 
 module _ {W F I : Type 0} {w : WorktreeOf W} {f : FindOf F} {i : InterruptOf I} {w0 w1 : W} {o : F} {i0 : I} {root : List ℕ} {setup : Setup} where
   pub MakesReport-misread : (e : ReportError) → LoadsFiles w w0 w1 (files_if setup) → ((t : Names) → w.told w0 ≡ Some t → Gives (Err e) (known_in t root setup))
-      → OfKnown (Increased (w.faults w0) (w.faults w1)) e → OnMisread (IsOutside root setup) e → OnReading (setup.options.submodules ≡ true) e
+      → OfKnown (Increased (w.faults w0) (w.faults w1)) e → OnMisread (IsOutside root setup) e → OnReading (setup.options.submodules ≡ true) e → Stops w w0 w1 setup e
       → MakesReport w f i w0 w1 o o i0 i0 root setup (Err e)
-  MakesReport-misread e loads gives of_it outside asked =
+  MakesReport-misread e loads gives of_it outside asked stops =
       record {
         gives = λ s told quiet. tt;
         orderly = tt;
+        named = λ t told quiet. tt;
         misread = λ t told. misreads_given e _ (gives t told);
         outside = outside;
         alone = on_reading _ _ e (λ is. record { asked = is; loads = loads; store = refl; interrupt = refl }) asked;
+        stops = stops;
         about = no_walk _ _ e of_it;
         found = λ s told. no_walk _ _ e of_it;
         cause = failed _ _ e of_it;
         interrupted = no_walk _ _ e of_it;
+        listing = no_walk _ _ e of_it;
         no_root = λ t told quiet. no_walk _ _ e of_it;
-        refused = λ s told quiet stored. no_walk _ _ e of_it;
+        refused = λ s told quiet. no_walk _ _ e of_it;
         complete = λ s told quiet stored calm valid. only_memory _ e (known_in s.tree root setup) valid.known (gives s.tree told.tree_is) of_it (not_both _ _ quiet) valid.known_is;
         worktree = record { tree = loads.tree; faults = loads.faults; list_faults = let same = loads.list_faults in omega (arith, same); lists = let same = loads.lists in omega (arith, same); precomposes = loads.precomposes };
         store = record { holds = refl; faults = omega arith };
@@ -218,6 +221,18 @@ walk_is_no_reading Holds (walk.DirEntry path) = tt
 walk_is_no_reading Holds (walk.TooDeep path) = tt
 walk_is_no_reading Holds walk.OutOfMemory = tt
 
+walk_stops_nothing : {W : Type 0} (w : WorktreeOf W) (w0 w1 : W) (setup : Setup) (e : Error) → Stops w w0 w1 setup (of_walk e)
+walk_stops_nothing w w0 w1 setup walk.Interrupted = tt
+walk_stops_nothing w w0 w1 setup (walk.WorktreeRootIsFile root) = tt
+walk_stops_nothing w w0 w1 setup (walk.NormalizeRoot root) = tt
+walk_stops_nothing w w0 w1 setup (walk.SymlinkInRoot root worktree_root index) = tt
+walk_stops_nothing w w0 w1 setup (walk.SymlinkMetadata path c) = tt
+walk_stops_nothing w w0 w1 setup (walk.ExcludesAccess e) = tt
+walk_stops_nothing w w0 w1 setup (walk.ReadDir path c) = tt
+walk_stops_nothing w w0 w1 setup (walk.DirEntry path) = tt
+walk_stops_nothing w w0 w1 setup (walk.TooDeep path) = tt
+walk_stops_nothing w w0 w1 setup walk.OutOfMemory = tt
+
 -- ---- the entries, with the submodules
 
 emissions-described : (known : Option Known) (xs : List Emission) → map emission_in (map (entry_in known) xs) ≡ xs
@@ -230,12 +245,13 @@ facts-described known (x ∷ xs) = (refl, facts-described known xs)
 
 described-orderly : (composes : Bool) (told : Option Names) (root : List ℕ) (setup : Setup) (known : Option Known) (walked : WalkReport)
     → ((t : Names) → told ≡ Some t → known_in t root setup ≡ Ok known) → (setup.options.submodules ≡ true → is_some known ≡ true) → (setup.options.submodules ≡ false → known ≡ None)
-    → Ascends walked.entries → walked.outcome.returned_entries ≡ min (length walked.entries) (2 ^ 64 - 1)
+    → Ascends walked.entries → walked.outcome.returned_entries ≡ min (length walked.entries) (2 ^ 64 - 1) → min walked.outcome.returned_entries (2 ^ 32 - 1) ≤ walked.outcome.seen_entries
     → IsFromRoot (asked_of composes root setup) setup.root walked → IsOrderly composes told root setup (described known walked)
-described-orderly composes told root setup known walked known_is asked_for unasked ordered counted once =
+described-orderly composes told root setup known walked known_is asked_for unasked ordered counted seen once =
     record {
       ascends = subst Ascends (sym (emissions-described known walked.entries)) ordered;
       counted = counted ∙ ap (λ (n : ℕ). min n (2 ^ 64 - 1)) (sym (length-map walked.entries (entry_in known)));
+      seen = seen;
       start = once.root;
       asked = once.asked;
       named = once.named;
@@ -324,17 +340,22 @@ module _ {W F I : Type 0} {w : WorktreeOf W} {f : FindOf F} {i : InterruptOf I} 
                 same = same;
               };
           orderly = subst (IsOrderly (w.precomposes w0) (w.told w0) root setup) (sym same)
-              (described-orderly (w.precomposes w0) (w.told w0) root setup known walked known_is asked_for unasked reports.ordered reports.counted
+              (described-orderly (w.precomposes w0) (w.told w0) root setup known walked known_is asked_for unasked reports.ordered reports.counted reports.seen
               (subst (λ (b : Bool). IsFromRoot (asked_of b root setup) setup.root walked) loads.precomposes reports.once));
+          named = λ t told quiet.
+              subst (λ (x : Report). IsNamedRoot (w.precomposes w0) t root setup x.root) (sym same)
+              (subst (λ (b : Bool). IsNamedRoot b t root setup walked.root) loads.precomposes (reports.named t (loads.tree ∙ told) (quiet_later _ _ _ loads.faults quiet)));
           misread = λ t told. tt;
           outside = tt;
           alone = tt;
+          stops = tt;
           about = tt;
           found = λ s told. tt;
           cause = tt;
           interrupted = tt;
+          listing = tt;
           no_root = λ t told quiet. tt;
-          refused = λ s told quiet stored. tt;
+          refused = λ s told quiet. tt;
           complete = λ s told quiet stored calm valid. tt;
           worktree = kept_later w w0 wl w1 _ loads reports.worktree;
           store = reports.store;
@@ -351,15 +372,18 @@ module _ {W F I : Type 0} {w : WorktreeOf W} {f : FindOf F} {i : InterruptOf I} 
         record {
           gives = λ s told quiet. tt;
           orderly = tt;
+          named = λ t told quiet. tt;
           misread = λ t told. tt;
           outside = tt;
           alone = tt;
+          stops = tt;
           about = tt;
           found = λ s told. tt;
           cause = tt;
           interrupted = tt;
+          listing = tt;
           no_root = λ t told quiet. tt;
-          refused = λ s told quiet stored. tt;
+          refused = λ s told quiet. tt;
           complete = λ s told quiet stored calm valid. refl;
           worktree = kept_later w w0 wl w1 _ loads reports.worktree;
           store = reports.store;
@@ -376,15 +400,21 @@ module _ {W F I : Type 0} {w : WorktreeOf W} {f : FindOf F} {i : InterruptOf I} 
         record {
           gives = λ s told quiet. tt;
           orderly = tt;
+          named = λ t told quiet. tt;
           misread = λ t told. walk_is_later _ known (known_is t told) e;
           outside = walk_is_inside (IsOutside root setup) e;
           alone = walk_is_no_reading (LoadsAlone w w0 w1 o0 o1 i0 i1 setup) e;
+          stops = walk_stops_nothing w w0 w1 setup e;
           about = on_walk _ e (subst (λ (b : Bool). About b root setup e) loads.precomposes reports.about);
           found = λ s told. on_walk _ e (subst (λ (b : Bool). Found b root setup (f.holds o0) s e) loads.precomposes (reports.found s (loads.tree ∙ told)));
           cause = failed_walk _ _ _ e (rose_before _ _ _ loads.faults) reports.cause;
           interrupted = on_walk _ e reports.interrupted;
+          listing = on_walk _ e (subst (λ (n : ℕ). OnListingFault (Increased n (w.list_faults w1)) e) loads.list_faults reports.listing);
           no_root = λ t told quiet. on_walk _ e (subst (λ (b : Bool). NoRoot b t root setup e) loads.precomposes (reports.no_root t (loads.tree ∙ told) (quiet_later _ _ _ loads.faults quiet)));
-          refused = λ s told quiet stored. on_walk _ e (subst (λ (b : Bool). Refuses b s root setup e) loads.precomposes (reports.refused s (told_later w f w0 wl o0 _ _ s loads told) (quiet_later _ _ _ loads.faults quiet) stored));
+          refused = λ s told quiet.
+              on_walk _ e
+              (subst (λ (b : Bool). Refuses b s root setup (Increased (f.faults o0) (f.faults o1)) e) loads.precomposes
+              (reports.refused s (told_later w f w0 wl o0 _ _ s loads told) (quiet_later _ _ _ loads.faults quiet)));
           complete = λ s told quiet stored calm valid.
               ap of_walk
               (reports.complete s (told_later w f w0 wl o0 _ _ s loads told) (quiet_later _ _ _ loads.faults quiet) stored calm

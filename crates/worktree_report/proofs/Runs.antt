@@ -7,15 +7,17 @@ use Rattle.worktree_fs.specs.declared.worktree.Worktree.{Ghosts as WorktreeOf}
 use Rattle.worktree_fs.specs.Tree.{Names, look}
 use Rattle.worktree_fs.specs.Causes.{Increased, Incremented, NotIncreased}
 use Rattle.dir_walk.specs.declared.strategy.Strategy.TheVariants.{AtOnce}
+use Rattle.dir_walk.specs.Kept.{AsksInterrupt, KeepsTree}
 use Rattle.worktree_report.specs.declared.setup.Setup.{Setup}
 use Rattle.worktree_report.specs.declared.refusal.Refusal.{Refusal}
 use Rattle.worktree_report.specs.declared.refusal.Refusal.TheVariants as refusals
-use Rattle.worktree_report.specs.Words.{Command, Places, report, generate, command_of}
+use Rattle.worktree_report.specs.Words.{Command, Places, report, generate}
 use Rattle.worktree_report.specs.SetupAt.{setup_at}
 use Rattle.worktree_report.specs.Asked.{read_in, text_of, IsAboutWalkAt, IsSafeAt, IsValidAt, WorksAt}
 use Rattle.worktree_report.specs.Converted.{IsOfReading, IsOfWalking}
 use Rattle.worktree_report.specs.Orderly.{IsOrderlyText}
-use Rattle.worktree_report.specs.Reported.{Texts}
+use Rattle.worktree_report.specs.Outside.{files_to, StopsAt}
+use Rattle.worktree_report.specs.Reported.{RefusesText, Texts}
 use Rattle.worktree_report.specs.Refusals.{status_of}
 use Rattle.worktree_report.specs.Written.{Appends}
 use Rattle.worktree_report.specs.Generate.{Generated, IsOfGenerating, generated_lines, generated_text}
@@ -52,6 +54,7 @@ module _ {W I : Type 0} (w : WorktreeOf W) (i : InterruptOf I) (w0 w1 : W) (i0 i
         misread = λ t told misread is. absurd cc;
         misread_about = λ misread is. absurd cc;
         misread_unasked = λ misread is. absurd cc;
+        misread_reads = λ misread is. absurd cc;
         walk = λ t told quiet word p is. absurd cc;
         about = λ word p is. absurd cc;
         cause = λ is. absurd cc;
@@ -72,6 +75,7 @@ module _ {W I : Type 0} (w : WorktreeOf W) (i : InterruptOf I) (w0 w1 : W) (i0 i
         misread = λ t told misread is. absurd cc;
         misread_about = λ misread is. absurd cc;
         misread_unasked = λ misread is. absurd cc;
+        misread_reads = λ misread is. absurd cc;
         walk = λ t told quiet word p is. absurd cc;
         about = λ word p is. absurd cc;
         cause = λ is. absurd cc;
@@ -84,7 +88,7 @@ module _ {W I : Type 0} (w : WorktreeOf W) (i : InterruptOf I) (w0 w1 : W) (i0 i
 
   -- the worktree failed
   pub HasCauses-fault : Increased (w.faults w0) (w.faults w1)
-      → ((w.lists w1 ≡ w.lists w0) × (i1 ≡ i0)) ⊎ ((t : Names) → w.told w0 ≡ Some t → top.IsKnownReport made t places)
+      → top.FailsEarly w w0 w1 i0 i1 made places ⊎ ((t : Names) → w.told w0 ≡ Some t → top.IsKnownReport made t places)
       → top.HasCauses w i w0 w1 i0 i1 made places (Err refusals.Fault)
   HasCauses-fault rose late =
       record {
@@ -94,6 +98,7 @@ module _ {W I : Type 0} (w : WorktreeOf W) (i : InterruptOf I) (w0 w1 : W) (i0 i
         misread = λ t told misread is. absurd cc;
         misread_about = λ misread is. absurd cc;
         misread_unasked = λ misread is. absurd cc;
+        misread_reads = λ misread is. absurd cc;
         walk = λ t told quiet word p is. absurd cc;
         about = λ word p is. absurd cc;
         cause = λ is. rose;
@@ -120,19 +125,21 @@ module _ {W I : Type 0} (w : WorktreeOf W) (i : InterruptOf I) (w0 w1 : W) (i0 i
   -- the setup is not read
   pub HasCauses-unread : (refusal : Refusal) → IsOfReading refusal
       → ((t : Names) → w.told w0 ≡ Some t → (line : ℕ) → refusal ≡ refusals.Setup line → top.SetupRefuses t places line)
-      → (refusal ≡ refusals.Fault → Increased (w.faults w0) (w.faults w1)) → w.lists w1 ≡ w.lists w0 → i1 ≡ i0 → top.HasCauses w i w0 w1 i0 i1 made places (Err refusal)
-  HasCauses-unread refusal of outside fault listed unasked =
+      → (refusal ≡ refusals.Fault → Increased (w.faults w0) (w.faults w1)) → Incremented (w.reads w0) (w.reads w1) → w.lists w1 ≡ w.lists w0 → i1 ≡ i0
+      → top.HasCauses w i w0 w1 i0 i1 made places (Err refusal)
+  HasCauses-unread refusal of outside fault once listed unasked =
       record {
         no_usage = λ is. absurd (subst IsOfReading (which is) of);
         setup = λ t told line is. outside t told line (which is);
-        setup_unasked = λ line is. (listed, unasked);
+        setup_unasked = λ line is. (listed, unasked, omega (arith, once));
         misread = λ t told misread is. absurd (subst IsOfReading (which is) of);
         misread_about = λ misread is. absurd (subst IsOfReading (which is) of);
         misread_unasked = λ misread is. absurd (subst IsOfReading (which is) of);
+        misread_reads = λ misread is. absurd (subst IsOfReading (which is) of);
         walk = λ t told quiet word p is. absurd (subst IsOfReading (which is) of);
         about = λ word p is. absurd (subst IsOfReading (which is) of);
         cause = λ is. fault (which is);
-        fault_late = λ is. inl (listed, unasked);
+        fault_late = λ is. inl (record { lists = listed; interrupt = unasked; reads = λ t told. inl (omega (arith, once)) });
         interrupted = λ is. absurd (subst IsOfReading (which is) of);
         interrupted_late = λ t told is. absurd (subst IsOfReading (which is) of);
         no_output = λ is. subst IsOfReading (which is) of;
@@ -143,9 +150,9 @@ module _ {W I : Type 0} (w : WorktreeOf W) (i : InterruptOf I) (w0 w1 w2 : W) (i
   -- the report is made by the setup that was read
   pub HasCauses-walked : (setup : Setup) (answer : Result (List ℕ) Refusal)
       → ((t : Names) → w.told w0 ≡ Some t → setup_at (look t places.setup true) ≡ Ok setup)
-      → w.told w1 ≡ w.told w0 → w.faults w0 ≤ w.faults w1 → w.lists w1 ≡ w.lists w0
+      → w.told w1 ≡ w.told w0 → w.faults w0 ≤ w.faults w1 → Incremented (w.reads w0) (w.reads w1) → w.lists w1 ≡ w.lists w0
       → Texts w i (w.precomposes w0) w1 w2 i0 i1 places.root (made setup) answer → top.HasCauses w i w0 w2 i0 i1 made places answer
-  HasCauses-walked setup answer read tree faults listed texts =
+  HasCauses-walked setup answer read tree faults once listed texts =
       let unless : (refusal : Refusal) → IsErrOf answer refusal → IsOfWalking refusal = λ refusal is. subst (λ r. IfErr r IsOfWalking) is texts.answers in
       record {
         no_usage = λ is. unless refusals.Usage is;
@@ -154,12 +161,27 @@ module _ {W I : Type 0} (w : WorktreeOf W) (i : InterruptOf I) (w0 w1 w2 : W) (i
         misread = λ t told misread is. record { setup = setup; read = read t told; misread = texts.misread t (tree ∙ told) misread is };
         misread_about = λ misread is. record { setup = setup; read = read; about = (texts.outside misread is).about };
         misread_unasked = λ misread is. let only = texts.outside misread is in (only.loads.lists ∙ listed, only.interrupt);
+        misread_reads = λ misread is.
+            record {
+              setup = setup;
+              read = read;
+              reads = subst (λ (n : ℕ). w.reads w2 ≤ n + files_to (made setup) misread) once (texts.outside misread is).loads.reads;
+            };
         walk = λ t told quiet word p is. record { setup = setup; read = read t told; refused = texts.refused t (tree ∙ told) (Quiet-later _ _ _ faults quiet) word p is };
         about = λ word p is. record { setup = setup; read = read; about = subst (λ (told : Option Names). IsAboutWalkAt (w.precomposes w0) told places.root (made setup) word p) tree (texts.about word p is) };
         cause = λ is. Rose-before _ _ _ faults (texts.cause is);
         fault_late = λ is.
             elim (texts.fault_late is) [
-              | inl early ↦ inl (early.0 ∙ listed, early.1)
+              | inl early ↦ inl (record {
+                lists = early.lists ∙ listed;
+                interrupt = early.interrupt;
+                reads = λ t told. inr (record {
+                  setup = setup;
+                  read = read t told;
+                  asked = early.asked;
+                  stops = subst (λ (n : ℕ). StopsAt t (made setup) n (w.reads w2)) once (early.stops t (tree ∙ told));
+                });
+              })
               | inr known ↦ inr (λ t told. record { setup = setup; read = read t told; known = known t (tree ∙ told) })
             ];
         interrupted = texts.interrupted;
@@ -168,6 +190,50 @@ module _ {W I : Type 0} (w : WorktreeOf W) (i : InterruptOf I) (w0 w1 w2 : W) (i
         complete = λ t told quiet calm valid.
             texts.complete t (tree ∙ told) (Quiet-later _ _ _ faults quiet) calm
             (subst (λ (s : Setup). IsValidAt (w.precomposes w0) (read_in t (made s)) places.root (made s)) (same_setup _ valid.read (read t told)) valid.valid);
+      }
+
+  -- a command that makes a report is refused by the setup that was read
+  pub HasCauses-refused : (setup : Setup) (answer : Result (List ℕ) Refusal)
+      → ((t : Names) → w.told w0 ≡ Some t → setup_at (look t places.setup true) ≡ Ok setup)
+      → w.told w1 ≡ w.told w0 → w.faults w0 ≤ w.faults w1 → Incremented (w.reads w0) (w.reads w1) → w.lists w1 ≡ w.lists w0
+      → IfErr answer (RefusesText w i (w.precomposes w0) w1 w2 i0 i1 places.root (made setup)) → top.HasCauses w i w0 w2 i0 i1 made places answer
+  HasCauses-refused setup (Ok text) read tree faults once listed refused = HasCauses-given w i w0 w2 i0 i1 made places text
+  HasCauses-refused setup (Err refusal) read tree faults once listed refused =
+      elim refused [
+        | inl memory ↦ subst (λ (r : Refusal). top.HasCauses w i w0 w2 i0 i1 made places (Err r)) (sym memory) (HasCauses-memory w i w0 w2 i0 i1 made places)
+        | inr other ↦ elim other [
+          | inl failed ↦ subst (λ (r : Refusal). top.HasCauses w i w0 w2 i0 i1 made places (Err r)) (sym failed.0)
+              (HasCauses-fault w i w0 w2 i0 i1 made places (Rose-before _ _ _ faults failed.1)
+              (inr (λ t told. record { setup = setup; read = read t told; known = failed.2 t (tree ∙ told) })))
+          | inr texts ↦ HasCauses-walked setup (Err refusal) read tree faults once listed texts
+        ]
+      ]
+
+-- ---- what stays
+
+module _ {W I : Type 0} {w : WorktreeOf W} {i : InterruptOf I} {w0 w1 : W} {i0 : I} where
+  -- the setup is not read
+  pub Keeps-unread : (refusal : Refusal) → w.told w1 ≡ w.told w0 → w.faults w0 ≤ w.faults w1 → w.list_faults w1 ≡ w.list_faults w0 → w.lists w1 ≡ w.lists w0
+      → w.precomposes w1 ≡ w.precomposes w0 → top.Keeps w i w0 w1 i0 i0 (Err refusal)
+  Keeps-unread refusal tree faults listed none_listed composes =
+      record { tree = tree; faults = faults; list_faults = omega (arith, listed); list_faults_kept = tt; lists = omega (arith, none_listed); precomposes = composes; questions = omega arith; raised = omega arith; calm = tt }
+
+module _ {W I : Type 0} {w : WorktreeOf W} {i : InterruptOf I} {w0 w1 w2 : W} {i0 i1 : I} where
+  -- an answer is made once the setup is read
+  pub Keeps-made : (answer : Result (List ℕ) Refusal) → w.told w1 ≡ w.told w0 → w.faults w0 ≤ w.faults w1 → w.list_faults w1 ≡ w.list_faults w0 → w.lists w1 ≡ w.lists w0
+      → w.precomposes w1 ≡ w.precomposes w0 → KeepsTree w w1 w2 → AsksInterrupt i i0 i1 → OnOk answer (w.list_faults w2 ≡ w.list_faults w1) → OnOk answer (i.raised i1 ≡ i.raised i0)
+      → top.Keeps w i w0 w2 i0 i1 answer
+  Keeps-made answer tree faults listed none_listed composes worktree interrupt kept calm =
+      record {
+        tree = worktree.tree ∙ tree;
+        faults = omega (arith, faults, worktree.faults);
+        list_faults = omega (arith, listed, worktree.list_faults);
+        list_faults_kept = subst (λ (n : ℕ). OnOk answer (w.list_faults w2 ≡ n)) listed kept;
+        lists = omega (arith, none_listed, worktree.lists);
+        precomposes = worktree.precomposes ∙ composes;
+        questions = interrupt.questions;
+        raised = interrupt.raised;
+        calm = calm;
       }
 
 -- ---- the report of a work tree
@@ -207,28 +273,27 @@ works-walked composes t places setup (Ok text) questions0 questions1 reads0 read
 works-walked composes t places setup (Err refusal) questions0 questions1 reads0 reads reads1 read once works = tt
 
 -- the one directory that is listed at most
-lists-walked : (t : Names) (places : Places) (setup : Setup) (answer : Result (List ℕ) Refusal) (lists0 lists lists1 : ℕ)
-    → setup_at (look t places.setup true) ≡ Ok setup → lists ≡ lists0 → OnOk answer (setup.options.strategy ≡ AtOnce → lists1 ≤ lists + 1) → OnOk answer (top.ListsOnce t places lists0 lists1)
-lists-walked t places setup (Ok text) lists0 lists lists1 read same once =
+lists-walked : (t : Names) (places : Places) (setup : Setup) (lists0 lists lists1 : ℕ)
+    → setup_at (look t places.setup true) ≡ Ok setup → lists ≡ lists0 → (setup.options.strategy ≡ AtOnce → lists1 ≤ lists + 1) → top.ListsOnce t places lists0 lists1
+lists-walked t places setup lists0 lists lists1 read same once =
     λ other read_so at_once. let most = once (ap (λ (s : Setup). s.options.strategy) (same_setup _ read read_so) ∙ at_once) in omega (arith, same, most)
-lists-walked t places setup (Err refusal) lists0 lists lists1 read same once = tt
 
 module _ {W I : Type 0} {w : WorktreeOf W} {i : InterruptOf I} {w0 w1 : W} {i0 : I} {places : Places} where
   -- the setup is not read
   pub AnswersReport-unread : (refusal : Refusal) → IsOfReading refusal
       → ((t : Names) → w.told w0 ≡ Some t → (line : ℕ) → refusal ≡ refusals.Setup line → top.SetupRefuses t places line)
-      → (refusal ≡ refusals.Fault → Increased (w.faults w0) (w.faults w1))
-      → w.told w1 ≡ w.told w0 → w.faults w0 ≤ w.faults w1 → w.list_faults w1 ≡ w.list_faults w0 → w.lists w1 ≡ w.lists w0 → w.precomposes w1 ≡ w.precomposes w0
+      → (refusal ≡ refusals.Fault → Increased (w.faults w0) (w.faults w1)) → Incremented (w.reads w0) (w.reads w1) → w.lists w1 ≡ w.lists w0
+      → w.told w1 ≡ w.told w0 → w.faults w0 ≤ w.faults w1 → w.list_faults w1 ≡ w.list_faults w0 → w.precomposes w1 ≡ w.precomposes w0
       → top.AnswersReport w i w0 w1 i0 i0 places (Err refusal)
-  AnswersReport-unread refusal of outside fault tree faults listed none_listed composes =
+  AnswersReport-unread refusal of outside fault once none_listed tree faults listed composes =
       record {
         gives = λ t told quiet. tt;
         orderly = tt;
         safe = λ t told quiet. tt;
         works = λ t told quiet. tt;
-        lists = λ t told. tt;
-        causes = HasCauses-unread w i w0 w1 i0 i0 top.as_read places refusal of outside fault none_listed refl;
-        keeps = record { tree = tree; faults = faults; list_faults = omega (arith, listed); list_faults_kept = tt; lists = omega (arith, none_listed); precomposes = composes; questions = omega arith; raised = omega arith; calm = tt };
+        lists = λ t told setup read at_once. omega (arith, none_listed);
+        causes = HasCauses-unread w i w0 w1 i0 i0 top.as_read places refusal of outside fault once none_listed refl;
+        keeps = Keeps-unread refusal tree faults listed none_listed composes;
       }
 
 module _ {W I : Type 0} {w : WorktreeOf W} {i : InterruptOf I} {w0 w1 w2 : W} {i0 i1 : I} {places : Places} where
@@ -244,33 +309,22 @@ module _ {W I : Type 0} {w : WorktreeOf W} {i : InterruptOf I} {w0 w1 w2 : W} {i
         orderly = orderly-walked _ (w.told w0) (w.told w1) places setup answer read tree texts.orderly;
         safe = λ t told quiet. safe-walked _ t places setup answer (read t told) (texts.safe t (tree ∙ told) (Quiet-later _ _ _ faults quiet));
         works = λ t told quiet. works-walked _ t places setup answer _ _ _ _ _ (read t told) once (texts.works t (tree ∙ told) (Quiet-later _ _ _ faults quiet));
-        lists = λ t told. lists-walked t places setup answer _ _ _ (read t told) none_listed texts.lists;
-        causes = HasCauses-walked w i w0 w1 w2 i0 i1 top.as_read places setup answer read tree faults none_listed texts;
-        keeps =
-            record {
-              tree = texts.worktree.tree ∙ tree;
-              faults = omega (arith, faults, texts.worktree.faults);
-              list_faults = omega (arith, listed, texts.worktree.list_faults);
-              list_faults_kept = subst (λ (n : ℕ). OnOk answer (w.list_faults w2 ≡ n)) listed texts.listed;
-              lists = omega (arith, none_listed, texts.worktree.lists);
-              questions = texts.interrupt.questions;
-              precomposes = texts.worktree.precomposes ∙ composes;
-              raised = texts.interrupt.raised;
-              calm = texts.calm;
-            };
+        lists = λ t told. lists-walked t places setup _ _ _ (read t told) none_listed texts.lists;
+        causes = HasCauses-walked w i w0 w1 w2 i0 i1 top.as_read places setup answer read tree faults once none_listed texts;
+        keeps = Keeps-made answer tree faults listed none_listed composes texts.worktree texts.interrupt texts.listed texts.calm;
       }
 
--- ---- what the words ask for
+-- ---- what the words ask for, of any command
 
 -- the same of what is asked for by another name
-pub Answers-named : {W I : Type 0} (w : WorktreeOf W) (i : InterruptOf I) (w0 w1 : W) (i0 i1 : I) (command asked : Option Command) (answer : Result (List ℕ) Refusal) → command ≡ asked
-    → top.Answers w i w0 w1 i0 i1 command answer → top.Answers w i w0 w1 i0 i1 asked answer
-Answers-named w i w0 w1 i0 i1 command asked answer e answers = subst (λ (x : Option Command). top.Answers w i w0 w1 i0 i1 x answer) e answers
+pub Answers-named : {W I A : Type 0} (Holds : A → Result (List ℕ) Refusal → Type 0) (w0 w1 : W) (i0 i1 : I) (answer : Result (List ℕ) Refusal) {found asked : Option A}
+    → found ≡ asked → top.AnswersIf Holds w0 w1 i0 i1 found answer → top.AnswersIf Holds w0 w1 i0 i1 asked answer
+Answers-named {A = A} Holds w0 w1 i0 i1 answer e answers = subst (λ (x : Option A). top.AnswersIf Holds w0 w1 i0 i1 x answer) e answers
 
 -- what is asked for, where it is known what was found
-pub asked-is : {C : Type 0} (f : C → Command) (words : List (List ℕ)) (before now : Bool) (found asked : Option C) → option_map f found ≡ command_of now words → now ≡ before → found ≡ asked
-    → option_map f asked ≡ command_of before words
-asked-is f words before now found asked e same is = ap (option_map f) (sym is) ∙ e ∙ ap (λ (x : Bool). command_of x words) same
+pub asked-is : {C R : Type 0} (f : C → R) (asked_by : Bool → Option R) (before now : Bool) (found asked : Option C) → option_map f found ≡ asked_by now → now ≡ before → found ≡ asked
+    → option_map f asked ≡ asked_by before
+asked-is f asked_by before now found asked e same is = ap (option_map f) (sym is) ∙ e ∙ ap asked_by same
 
 -- ---- what follows from the status
 
@@ -329,6 +383,28 @@ module _ {S E : Type 0} (s : SinkOf S) (e : SinkOf E) (s0 s1 : S) (e0 e1 : E) (u
   ends_well (Ok text) ends quiet memory = elim ends.by [ inl whole ↦ inl whole.status_is | inr cut ↦ absurd (let cause = cut.cause in omega (arith, cause, quiet)) ]
   ends_well (Err refusal) ends quiet memory = elim ends.by.1 [ inl told ↦ inr (told.status_is ∙ ap status_of memory) | inr untold ↦ inr untold.wants.status_is ]
 
+  -- what is written with 0 is a text of which all holds that holds of such an answer
+  pub run_text : (Holds : Result (List ℕ) Refusal → Type 0) (Is : List ℕ → Type 0) → ((text : List ℕ) → Holds (Ok text) → Is text)
+      → (answer : Result (List ℕ) Refusal) → Holds answer → Ends s e s0 s1 e0 e1 usage answer status → status ≡ 0
+      → (text : List ℕ) × Is text × Appends (s.written s0) (s.written s1) text
+  run_text Holds Is is answer answers ends zero =
+      let wrote = ends_in_zero answer ends zero in
+      (wrote.0, is wrote.0 (subst Holds wrote.1 answers), wrote.2)
+
+  -- the status is 2 exactly where the words ask for nothing
+  pub run_usage : {W I A : Type 0} (Holds : A → Result (List ℕ) Refusal → Type 0) (w0 w1 : W) (i0 i1 : I)
+      → ((a : A) (answer : Result (List ℕ) Refusal) → Holds a answer → ¬ IsErrOf answer refusals.Usage)
+      → (asked : Option A) (answer : Result (List ℕ) Refusal) → top.AnswersIf Holds w0 w1 i0 i1 asked answer → Ends s e s0 s1 e0 e1 usage answer status
+      → (status ≡ 2) ↔ (asked ≡ None)
+  run_usage Holds w0 w1 i0 i1 no_usage None answer answers ends = (λ two. refl, λ none. ends_in_usage answer (nothing_is answers) ends)
+    where
+      nothing_is : top.AsksNothing w0 w1 i0 i1 answer → answer ≡ Err refusals.Usage
+      nothing_is nothing = nothing.usage
+
+      ends_in_usage : (answer : Result (List ℕ) Refusal) → answer ≡ Err refusals.Usage → Ends s e s0 s1 e0 e1 usage answer status → status ≡ 2
+      ends_in_usage answer is ends = ends_of_usage (subst (λ a. Ends s e s0 s1 e0 e1 usage a status) is ends)
+  run_usage Holds w0 w1 i0 i1 no_usage (Some a) answer answers ends = (λ two. absurd (no_usage a answer answers (ends_in_two answer ends two)), λ none. absurd cc)
+
 only_memory : (refusal : Refusal) → IsOfGenerating refusal → ¬ (refusal ≡ refusals.Interrupted) → refusal ≡ refusals.OutOfMemory
 only_memory refusals.Interrupted of calm = absurd (calm refl)
 only_memory refusals.Usage of calm = absurd of
@@ -347,11 +423,10 @@ module _ {W I : Type 0} (w : WorktreeOf W) (i : InterruptOf I) (w0 w1 : W) (i0 i
   text_asked-is (Some (report places)) text answers t told quiet = answers.gives t told quiet
   text_asked-is (Some (generate n)) text answers t told quiet = text_is n _ _ text answers.gives
 
-  -- words are refused where they ask for nothing, and there alone
-  pub asks_nothing : (command : Option Command) (answer : Result (List ℕ) Refusal) → top.Answers w i w0 w1 i0 i1 command answer → IsErrOf answer refusals.Usage → command ≡ None
-  asks_nothing None answer answers is = refl
-  asks_nothing (Some (report places)) answer answers is = absurd (answers.causes.no_usage is)
-  asks_nothing (Some (generate n)) answer answers is = absurd (subst (λ r. IfErr r IsOfGenerating) is answers.refused)
+  -- a command is not refused for its words
+  pub no_usage : (command : Command) (answer : Result (List ℕ) Refusal) → top.AnswersCommand w i w0 w1 i0 i1 command answer → ¬ IsErrOf answer refusals.Usage
+  no_usage (report places) answer answers is = answers.causes.no_usage is
+  no_usage (generate n) answer answers is = subst (λ r. IfErr r IsOfGenerating) is answers.refused
 
   -- for what can be had, where nothing failed or was raised, only memory may be wanted
   pub wants_memory_alone : (command : Option Command) (answer : Result (List ℕ) Refusal) → top.Answers w i w0 w1 i0 i1 command answer
@@ -362,29 +437,3 @@ module _ {W I : Type 0} (w : WorktreeOf W) (i : InterruptOf I) (w0 w1 : W) (i0 i
   wants_memory_alone (Some (generate n)) (Ok text) answers t told quiet calm valid = tt
   wants_memory_alone (Some (generate n)) (Err refusal) answers t told quiet calm valid =
       only_memory refusal answers.refused (λ is. omega (arith, answers.interrupted (ap Err is), calm))
-
-module _ {W I S E : Type 0} (w : WorktreeOf W) (i : InterruptOf I) (s : SinkOf S) (e : SinkOf E) (w0 w1 : W) (i0 i1 : I) (s0 s1 : S) (e0 e1 : E) (usage : List ℕ) (command : Option Command) (status : ℕ) where
-  -- what is written with 0 is what is asked for
-  pub run_report : (answer : Result (List ℕ) Refusal) → top.Answers w i w0 w1 i0 i1 command answer → Ends s e s0 s1 e0 e1 usage answer status
-      → (t : Names) → w.told w0 ≡ Some t → NotIncreased (w.faults w0) (w.faults w1) → status ≡ 0
-      → (text : List ℕ) × (top.text_asked (w.precomposes w0) t command ≡ Some text) × Appends (s.written s0) (s.written s1) text
-  run_report answer answers ends t told quiet zero =
-      let wrote = ends_in_zero s e s0 s1 e0 e1 usage status answer ends zero in (
-        wrote.0,
-        text_asked-is w i w0 w1 i0 i1 command wrote.0 (subst (λ a. top.Answers w i w0 w1 i0 i1 command a) wrote.1 answers) t told quiet,
-        wrote.2,
-      )
-
-  -- the status is 2 exactly where the words ask for nothing
-  pub run_usage : (answer : Result (List ℕ) Refusal) → top.Answers w i w0 w1 i0 i1 command answer → Ends s e s0 s1 e0 e1 usage answer status
-      → (status ≡ 2) ↔ (command ≡ None)
-  run_usage answer answers ends = (
-    λ two. asks_nothing w i w0 w1 i0 i1 command answer answers (ends_in_two s e s0 s1 e0 e1 usage status answer ends two),
-    λ none. ends_in_usage answer (nothing_is (subst (λ c. top.Answers w i w0 w1 i0 i1 c answer) none answers)) ends,
-  )
-    where
-      nothing_is : top.AsksNothing w0 w1 i0 i1 answer → answer ≡ Err refusals.Usage
-      nothing_is nothing = nothing.usage
-
-      ends_in_usage : (answer : Result (List ℕ) Refusal) → answer ≡ Err refusals.Usage → Ends s e s0 s1 e0 e1 usage answer status → status ≡ 2
-      ends_in_usage answer is ends = ends_of_usage s e s0 s1 e0 e1 usage status (subst (λ a. Ends s e s0 s1 e0 e1 usage a status) is ends)

@@ -1,9 +1,9 @@
 -- What a walk answers, with what a setup asks for.
-use Rattle.std.proofs.Common.{◌≡◌, ◌-◌, ◌^◌, min, ℕ, List, length, Bool, true, Option, Result, IfOk, IfErr, refl, sym, ap, ◌∙◌, subst, Err, inl, inr, arith}
+use Rattle.std.proofs.Common.{◌≡◌, ◌≤◌, ◌-◌, ◌^◌, min, ℕ, List, [], length, Bool, true, Option, Result, IfOk, IfErr, refl, sym, ap, ◌∙◌, subst, Err, inl, inr, arith}
 use Rattle.gitbase_core.specs.declared.find.Find.{Ghosts as FindOf}
 use Rattle.worktree_fs.specs.declared.interrupt.Interrupt.{Ghosts as InterruptOf}
 use Rattle.worktree_fs.specs.declared.worktree.Worktree.{Ghosts as WorktreeOf}
-use Rattle.worktree_fs.specs.Causes.{NotIncreased}
+use Rattle.worktree_fs.specs.Causes.{Increased, NotIncreased}
 use Rattle.worktree_stack.specs.Reading.{Sources}
 use Rattle.worktree_stack.specs.Setup.{Made}
 use Rattle.worktree_stack.specs.Stacked.{Stacked}
@@ -19,7 +19,8 @@ use Rattle.dir_walk.specs.declared.strategy.Strategy.TheVariants.{AtOnce, Held}
 use Rattle.dir_walk.specs.Distinct.{Ascends}
 use Rattle.dir_walk.specs.Opens.{IsListed}
 use Rattle.dir_walk.specs.Reports.{IsFromRoot, IsReport}
-use Rattle.dir_walk.specs.WalkRefused.{WalkAbout, WalkFound, WalkRefuses}
+use Rattle.dir_walk.specs.Root.{rooted, traversal_root}
+use Rattle.dir_walk.specs.WalkRefused.{IsNoTop, OnNoRoot, WalkAbout, WalkFound, WalkRefuses}
 use Rattle.dir_walk.specs.Walkable.{IsValid}
 use Rattle.dir_walk.specs.Walks.{Tells, WalksWorktree}
 use Rattle.worktree_report.specs.declared.setup.Setup.{Setup}
@@ -53,21 +54,30 @@ pub Reports-walked : {W F I : Type 0} {w : WorktreeOf W} {f : FindOf F} {i : Int
     → made_with old ≡ excludes_of root setup → ((s : Sources) → InStepIf s old)
     → ((s : Sources) → Tells w f w0 o0 old s → NotIncreased (w.faults w0) (w.faults w1) → IfOk result (IsReport (asked_of (w.precomposes w0) root setup) (made_with old) s setup.root setup.depth))
     → IfOk result (λ r. Ascends r.entries) → IfOk result (λ r. r.outcome.returned_entries ≡ min (length r.entries) (2 ^ 64 - 1))
+    → IfOk result (λ r. min r.outcome.returned_entries (2 ^ 32 - 1) ≤ r.outcome.seen_entries)
     → IfOk result (IsFromRoot (asked_of (w.precomposes w0) root setup) setup.root)
     → WalksWorktree w f i w0 w1 o0 o1 i0 i1 old new setup.options.strategy (asked_of (w.precomposes w0) root setup) setup.root setup.depth true (λ (r : Report). r.outcome) (λ (r : Report). r.root) result
     → Reports w f i w0 w1 o0 o1 i0 i1 root setup result
-Reports-walked {w = w} {f = f} {w0 = w0} {o0 = o0} {root = root} {setup = setup} {result = result} made step gives ordered counted once walks =
+Reports-walked {w = w} {f = f} {w0 = w0} {o0 = o0} {o1 = o1} {root = root} {setup = setup} {result = result} made step gives ordered counted seen once walks =
     record {
       gives = λ s told quiet. subst (λ m. IfOk result (IsReport (asked_of (w.precomposes w0) root setup) m s setup.root setup.depth)) made (gives s (tells_of {w = w} {f = f} made step s told) quiet);
       ordered = ordered;
       counted = counted;
+      seen = seen;
       once = once;
+      named = walks.named;
       about = subst (λ m. IfErr result (WalkAbout (asked_of (w.precomposes w0) root setup) m setup.root setup.depth)) made walks.about;
       found = λ s told. subst (λ m. IfErr result (WalkFound (asked_of (w.precomposes w0) root setup) m setup.root (f.holds o0) s)) made (walks.found s told);
       cause = walks.cause;
       interrupted = walks.interrupted;
-      no_root = λ t told quiet. walks.no_root (read_in t setup) told quiet;
-      refused = λ s told quiet stored. subst (λ m. IfErr result (WalkRefuses (asked_of (w.precomposes w0) root setup) m s setup.root setup.depth)) made (walks.refused s (tells_of {w = w} {f = f} made step s told) refl quiet stored);
+      listing = walks.listing;
+      no_root = λ t told quiet.
+          subst
+          (λ m. IfErr result (OnNoRoot ((traversal_root (asked_of (w.precomposes w0) root setup) t setup.root ≡ rooted []) × IsNoTop (asked_of (w.precomposes w0) root setup) m (read_in t setup) true)))
+          made (walks.no_root (read_in t setup) told quiet);
+      refused = λ s told quiet.
+          subst (λ m. IfErr result (WalkRefuses (asked_of (w.precomposes w0) root setup) m s setup.root setup.depth (Increased (f.faults o0) (f.faults o1)))) made
+          (walks.refused s (tells_of {w = w} {f = f} made step s told) refl quiet);
       complete = λ s told quiet stored calm valid.
           walks.complete s (tells_of {w = w} {f = f} made step s told) refl quiet stored calm (subst (λ m. IsValid (asked_of (w.precomposes w0) root setup) m s setup.root setup.depth) (sym made) valid);
       worktree = walks.worktree;
@@ -91,13 +101,16 @@ Reports-memory w f i w0 o0 i0 root setup =
       gives = λ s told quiet. tt;
       ordered = tt;
       counted = tt;
+      seen = tt;
       once = tt;
+      named = λ t told quiet. tt;
       about = inl tt;
       found = λ s told. inr tt;
       cause = tt;
       interrupted = tt;
+      listing = tt;
       no_root = λ t told quiet. tt;
-      refused = λ s told quiet stored. inl tt;
+      refused = λ s told quiet. inl tt;
       complete = λ s told quiet stored calm valid. refl;
       worktree = record { tree = refl; faults = omega arith; list_faults = omega arith; lists = omega arith; precomposes = refl };
       store = record { holds = refl; faults = omega arith };

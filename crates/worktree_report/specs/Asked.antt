@@ -17,7 +17,7 @@ use Rattle.dir_walk.specs.declared.report.Report.{Report as WalkReport}
 use Rattle.dir_walk.specs.Opens.{reads_rules_alone}
 use Rattle.dir_walk.specs.Report.{report}
 use Rattle.dir_walk.specs.Reports.{IsReport}
-use Rattle.dir_walk.specs.WalkRefused.{IsNoDirectory, OnNoRoot, WalkAbout, WalkFound, WalkRefuses}
+use Rattle.dir_walk.specs.WalkRefused.{IsNoTop, OnNoRoot, WalkAbout, WalkFound, WalkRefuses}
 use Rattle.dir_walk.specs.Rooting.{IsNormalized}
 use Rattle.dir_walk.specs.Root.{rooted, traversal_root}
 use Rattle.dir_walk.specs.Walkable.{IsValid}
@@ -158,18 +158,21 @@ pub record WorksAt (composes : Bool) (t : Names) (root : List ℕ) (setup : Setu
 
 -- ---- refusals
 
--- what the refusal of a walk says of the tree and the rules
-abbrev pub Refuses : Bool → Sources → List ℕ → Setup → Error → Type 0
-Refuses composes s root setup error = WalkRefuses (asked_of composes root setup) (excludes_of root setup) s setup.root setup.depth error
+-- what the refusal of a walk says of the tree and the rules, unless the store failed
+abbrev pub Refuses : Bool → Sources → List ℕ → Setup → Type 0 → Error → Type 0
+Refuses composes s root setup StoreFailed error = WalkRefuses (asked_of composes root setup) (excludes_of root setup) s setup.root setup.depth StoreFailed error
 
 -- the same of a told tree alone, and, where the store holds these objects, of the rules, whatever failed
 abbrev pub Found : Bool → List ℕ → Setup → Option Objects → Sources → Error → Type 0
 Found composes root setup holds s error = WalkFound (asked_of composes root setup) (excludes_of root setup) setup.root holds s error
 
--- that the worktree root is the traversal root and no directory, where it is refused, without a fault
+-- that the worktree root is the traversal root, is not entered and is no directory, where it is refused, without a fault
 abbrev pub NoRoot : Bool → Names → List ℕ → Setup → Error → Type 0
 NoRoot composes t root setup error =
-    OnNoRoot ((traversal_root (asked_of composes root setup) t setup.root ≡ rooted []) × IsNoDirectory (asked_of composes root setup) (read_in t setup)) error
+    OnNoRoot
+    ((traversal_root (asked_of composes root setup) t setup.root ≡ rooted [])
+    × IsNoTop (asked_of composes root setup) (excludes_of root setup) (read_in t setup) true)
+    error
 
 -- and of what was handed in
 abbrev pub About : Bool → List ℕ → Setup → Error → Type 0
@@ -181,7 +184,7 @@ pub record RefusesWalkAt (composes : Bool) (t : Names) (root : List ℕ) (setup 
   pub error : Error
   pub is : of_walk error ≡ refusals.Walk word path
   pub about : About composes root setup error
-  pub cause : Refuses composes (read_in t setup) root setup error
+  pub cause : Refuses composes (read_in t setup) root setup ⊥ error
   pub known : IsKnown (known_in t root setup)
 
 -- The word and the path of a refused walk are about the root, the rules and the limit that were handed in, told tree or not.

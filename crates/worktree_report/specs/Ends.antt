@@ -11,11 +11,11 @@ use Rattle.worktree_report.specs.Written.{Appends, AppendsPart}
 abbrev pub IsSaid : {E : Type 0} → SinkOf E → E → E → List ℕ → Type 0
 IsSaid e e0 e1 line = Says (e.written e0) (e.written e1) (e.refusals e0) (e.refusals e1) line
 
--- the text is written whole, and nothing is said
+-- the text is written whole, and standard error is not touched
 pub record IsWritten {S E : Type 0} (s : SinkOf S) (e : SinkOf E) (s0 s1 : S) (e0 e1 : E) (text : List ℕ) (status : ℕ) : Type 0 where
   pub status_is : status ≡ 0
   pub written : Appends (s.written s0) (s.written s1) text
-  pub silent : e.written e1 ≡ e.written e0
+  pub silent : e1 ≡ e0
 
 -- the output is refused, behind a front of the text that is not all of it
 pub record IsCut {S E : Type 0} (s : SinkOf S) (e : SinkOf E) (s0 s1 : S) (e0 e1 : E) (usage text : List ℕ) (status : ℕ) : Type 0 where

@@ -1,5 +1,5 @@
 -- What holds of a report and of its text over any worktree, whatever failed.
-use Rattle.std.specs.Prelude.{◌≡◌, ◌-◌, ◌^◌, min, ℕ, Bool, List, [], map, length, false, Option, Some, None, Ok, is_some, true}
+use Rattle.std.specs.Prelude.{◌≡◌, ◌≤◌, ◌-◌, ◌^◌, min, ℕ, Bool, List, [], map, length, false, Option, Some, None, Ok, is_some, true}
 use Rattle.std.specs.List.{AllByRecursion}
 use Rattle.worktree_fs.specs.Paths.{full_path}
 use Rattle.worktree_fs.specs.Tree.{Names}
@@ -15,13 +15,15 @@ use Rattle.worktree_report.specs.Lines.{text_with}
 use Rattle.worktree_report.specs.Loading.{known_in}
 use Rattle.worktree_report.specs.Submodules.{emission_in, facts_in}
 
--- The entries ascend strictly by path, so that none stands twice, and `returned_entries` is their number. Their paths are at or
+-- The entries ascend strictly by path, so that none stands twice, and `returned_entries` is their number, of no more than were
+-- seen. Their paths are at or
 -- beneath a traversal root that was asked for and that the report names, or there is one at most, on the way to it. With each
 -- stands the submodule at its path by what is known of submodules: over a told tree what the tree tells, and nothing where
 -- the setup does not ask for submodules.
 pub record IsOrderly (composes : Bool) (told : Option Names) (root : List ℕ) (setup : Setup) (r : Report) : Type 0 where
   pub ascends : Ascends (map emission_in r.entries)
   pub counted : r.outcome.returned_entries ≡ min (length r.entries) (2 ^ 64 - 1)
+  pub seen : min r.outcome.returned_entries (2 ^ 32 - 1) ≤ r.outcome.seen_entries
   pub start : List ℕ
   pub asked : IsNormalized (asked_of composes root setup) setup.root start
   pub named : r.root ≡ full_path root start

@@ -1,10 +1,11 @@
--- Where what tells of submodules is outside its grammar, by what the setup asks for, whether or not the tree is told.
-use Rattle.std.specs.Prelude.{◌≡◌, ◌+◌, ℕ, List, Bool, true, Some, Err}
+-- Where what tells of submodules is outside its grammar or is not read, by what the setup asks for, whether or not the tree is told.
+use Rattle.std.specs.Prelude.{◌≡◌, ◌≤◌, ◌+◌, ℕ, List, Bool, true, take, Some, Ok, Err}
 use Rattle.std.specs.List.{slice_get}
 use Rattle.git_config_lite.specs.Grammar.{said}
 use Rattle.git_config_lite.specs.Sections.{Configuration}
 use Rattle.submodule.specs.Overrides.{modules_of}
 use Rattle.worktree_fs.specs.declared.worktree.Worktree.{Ghosts as WorktreeOf}
+use Rattle.worktree_fs.specs.Tree.{Names}
 use Rattle.worktree_report.specs.declared.error.ReportError.{ReportError}
 use Rattle.worktree_report.specs.declared.error.ReportError.TheVariants as errors
 use Rattle.worktree_report.specs.declared.modules.Modules.{Modules}
@@ -13,7 +14,7 @@ use Rattle.worktree_report.specs.declared.refusal.Misread.{Misread}
 use Rattle.worktree_report.specs.declared.refusal.Misread.TheVariants as misread
 use Rattle.worktree_report.specs.declared.setup.Setup.{Setup}
 use Rattle.worktree_report.specs.ConfigFiles.{ConfigFile}
-use Rattle.worktree_report.specs.Loading.{files_if, meta_of, modules_path, with_specs}
+use Rattle.worktree_report.specs.Loading.{admitted, files_if, files_of, meta_of, modules_path, no_config, with_configs, with_specs}
 use Rattle.worktree_report.specs.Loads.{LoadsFiles}
 use Rattle.worktree_report.specs.Permissions.{admits}
 
@@ -101,6 +102,33 @@ OnReading Holds errors.ReadFault = Holds
 OnReading Holds (errors.Walk e) = Unit {0}
 OnReading Holds errors.OutOfMemory = Unit {0}
 
+-- ---- how far files are read
+
+-- how many are read at most where this is outside its grammar: none behind the configuration that it names
+abbrev pub files_to : Setup → Misread → ℕ
+files_to setup (misread.Config at line) = admitted setup.options.permissions (take at setup.configs)
+files_to setup (misread.Modules line) = files_of setup
+files_to setup (misread.ActiveSpec at) = files_of setup
+
+-- A file was not read: the configurations before it are in their grammar, and none behind it was read. Behind all configurations
+-- it is `.gitmodules`.
+pub record StopsAt (t : Names) (setup : Setup) (reads0 reads1 : ℕ) : Type 0 where
+  pub before : ℕ
+  pub config : Configuration
+  pub read : with_configs t setup.options.permissions 1 (take before setup.configs) no_config ≡ Ok config
+  pub reads : reads1 ≤ reads0 + admitted setup.options.permissions (take before setup.configs) + 1
+
+-- The files are read in order, and none behind the one for which there is a refusal.
+abbrev pub Stops : {W : Type 0} → WorktreeOf W → W → W → Setup → ReportError → Type 0
+Stops w w0 w1 setup (errors.Config at line) = w.reads w1 ≤ w.reads w0 + files_to setup (misread.Config at line)
+Stops w w0 w1 setup (errors.Modules line) = w.reads w1 ≤ w.reads w0 + files_to setup (misread.Modules line)
+Stops w w0 w1 setup (errors.ActiveSpec at) = w.reads w1 ≤ w.reads w0 + files_to setup (misread.ActiveSpec at)
+Stops w w0 w1 setup errors.ReadFault = (t : Names) → w.told w0 ≡ Some t → StopsAt t setup (w.reads w0) (w.reads w1)
+Stops w w0 w1 setup (errors.Walk e) = Unit {0}
+Stops w w0 w1 setup errors.OutOfMemory = Unit {0}
+
+-- ---- nothing else is asked
+
 -- What tells of submodules is asked for and was read, and nothing else was asked: so many files were read at most, nothing was
 -- listed, and store and interrupt are as they were. So a fault that was counted was one of reading these files.
 pub record LoadsAlone {W F I : Type 0} (w : WorktreeOf W) (w0 w1 : W) (o0 o1 : F) (i0 i1 : I) (setup : Setup) : Type 0 where
@@ -110,8 +138,15 @@ pub record LoadsAlone {W F I : Type 0} (w : WorktreeOf W) (w0 w1 : W) (o0 o1 : F
   pub interrupt : i1 ≡ i0
 
 -- The same of the text of a report, where something is outside its grammar: it is about what the setup asks for, and came of
--- reading that alone.
+-- reading that alone, in order.
 pub record MisreadsAt {W I : Type 0} (w : WorktreeOf W) (w0 w1 : W) (i0 i1 : I) (root : List ℕ) (setup : Setup) (which : Misread) : Type 0 where
   pub about : IsAboutMisreadAt root setup which
-  pub loads : LoadsFiles w w0 w1 (files_if setup)
+  pub loads : LoadsFiles w w0 w1 (files_to setup which)
   pub interrupt : i1 ≡ i0
+
+-- And where a file was not read: nothing was listed, and none behind it was read.
+pub record FailsLoading {W I : Type 0} (w : WorktreeOf W) (w0 w1 : W) (i0 i1 : I) (setup : Setup) : Type 0 where
+  pub asked : setup.options.submodules ≡ true
+  pub lists : w.lists w1 ≡ w.lists w0
+  pub interrupt : i1 ≡ i0
+  pub stops : (t : Names) → w.told w0 ≡ Some t → StopsAt t setup (w.reads w0) (w.reads w1)

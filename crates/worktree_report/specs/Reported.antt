@@ -5,6 +5,7 @@ use Rattle.worktree_fs.specs.declared.interrupt.Interrupt.{Ghosts as InterruptOf
 use Rattle.worktree_fs.specs.declared.worktree.Worktree.{Ghosts as WorktreeOf}
 use Rattle.worktree_fs.specs.Causes.{NotIncreased, Increased, with_more}
 use Rattle.worktree_fs.specs.Kept.{AsksStore}
+use Rattle.worktree_fs.specs.Paths.{full_path}
 use Rattle.worktree_fs.specs.Tree.{Names}
 use Rattle.worktree_stack.specs.Lookups.{refused_one}
 use Rattle.worktree_stack.specs.Reading.{Sources}
@@ -15,8 +16,9 @@ use Rattle.dir_classify.specs.Refused.{OnFault}
 use Rattle.dir_walk.specs.declared.report.Report.{Report as WalkReport}
 use Rattle.dir_walk.specs.declared.strategy.Strategy.TheVariants.{Held, AtOnce}
 use Rattle.dir_walk.specs.Distinct.{Ascends}
-use Rattle.dir_walk.specs.Kept.{AsksInterrupt, KeepsTree, OnInterrupt}
+use Rattle.dir_walk.specs.Kept.{AsksInterrupt, KeepsTree, OnInterrupt, OnListingFault}
 use Rattle.dir_walk.specs.Opens.{IsListed, reads_rules_alone}
+use Rattle.dir_walk.specs.Root.{rooted, traversal_root}
 use Rattle.dir_walk.specs.Reports.{IsFromRoot}
 use Rattle.dir_walk.specs.Walkable.{IsValid}
 use Rattle.dir_walk.specs.Walks.{OpensDirectories}
@@ -36,8 +38,13 @@ use Rattle.worktree_report.specs.Excluding.{excludes_of}
 use Rattle.worktree_report.specs.Loading.{known_in, IsKnown}
 use Rattle.worktree_report.specs.Loads.{of_walk}
 use Rattle.worktree_report.specs.Orderly.{IsOrderly, IsOrderlyText}
-use Rattle.worktree_report.specs.Outside.{IsOutside, LoadsAlone, MisreadsAt, OnMisread, OnReading}
+use Rattle.worktree_report.specs.Outside.{FailsLoading, IsOutside, LoadsAlone, MisreadsAt, OnMisread, OnReading, Stops}
 use Rattle.worktree_report.specs.Submodules.{described}
+
+-- The whole path of the traversal root that a setup asks for in a tree.
+abbrev pub IsNamedRoot : Bool → Names → List ℕ → Setup → List ℕ → Type 0
+IsNamedRoot composes t root setup path =
+    (start : List ℕ) × (traversal_root (asked_of composes root setup) t setup.root ≡ rooted start) × (path ≡ full_path root start)
 
 -- What the walk of the work tree at `root` gives, where a worktree was `w0` and is `w1`, a store was `o0` and is `o1`, and an interrupt
 -- was `i0` and is `i1`.
@@ -49,15 +56,19 @@ pub record Reports {W F I : Type 0} (w : WorktreeOf W) (f : FindOf F) (i : Inter
   -- Over any worktree the entries ascend strictly by path, are counted, and are from a traversal root that was asked for.
   pub ordered : IfOk result (λ r. Ascends r.entries)
   pub counted : IfOk result (λ r. r.outcome.returned_entries ≡ min (length r.entries) (2 ^ 64 - 1))
+  pub seen : IfOk result (λ r. min r.outcome.returned_entries (2 ^ 32 - 1) ≤ r.outcome.seen_entries)
   pub once : IfOk result (IsFromRoot (asked_of (w.precomposes w0) root setup) setup.root)
+  pub named : (t : Names) → w.told w0 ≡ Some t → NotIncreased (w.faults w0) (w.faults w1)
+      → IfOk result (λ r. IsNamedRoot (w.precomposes w0) t root setup r.root)
   -- Each refusal has its cause; over a told tree it is found there, whatever failed.
   pub about : IfErr result (About (w.precomposes w0) root setup)
   pub found : (s : Sources) → w.told w0 ≡ Some s.tree → IfErr result (Found (w.precomposes w0) root setup (f.holds o0) s)
   pub cause : IfErr result (OnFault (Increased (w.faults w0) (w.faults w1)) (Increased (f.faults o0) (f.faults o1)))
   pub interrupted : IfErr result (OnInterrupt (Increased (i.raised i0) (i.raised i1)))
+  pub listing : IfErr result (OnListingFault (Increased (w.list_faults w0) (w.list_faults w1)))
   pub no_root : (t : Names) → w.told w0 ≡ Some t → NotIncreased (w.faults w0) (w.faults w1) → IfErr result (NoRoot (w.precomposes w0) t root setup)
   pub refused : (s : Sources) → TellsIf (w.told w0) (f.holds o0) (excludes_of root setup) s → NotIncreased (w.faults w0) (w.faults w1)
-      → NotIncreased (f.faults o0) (f.faults o1) → IfErr result (Refuses (w.precomposes w0) s root setup)
+      → IfErr result (Refuses (w.precomposes w0) s root setup (Increased (f.faults o0) (f.faults o1)))
   -- For valid input, and where nothing failed or was raised, only memory may be wanted.
   pub complete : (s : Sources) → TellsIf (w.told w0) (f.holds o0) (excludes_of root setup) s
       → NotIncreased (w.faults w0) (w.faults w1) → NotIncreased (f.faults o0) (f.faults o1) → NotIncreased (i.raised i0) (i.raised i1)
@@ -124,17 +135,21 @@ pub record MakesReport {W F I : Type 0} (w : WorktreeOf W) (f : FindOf F) (i : I
       → IfOk result (IsReportOf (w.precomposes w0) s root setup)
   -- Over any worktree the entries are in order, are counted, and have the submodules that are known.
   pub orderly : IfOk result (IsOrderly (w.precomposes w0) (w.told w0) root setup)
+  pub named : (t : Names) → w.told w0 ≡ Some t → NotIncreased (w.faults w0) (w.faults w1)
+      → IfOk result (λ r. IsNamedRoot (w.precomposes w0) t root setup r.root)
   -- Each refusal has its cause. What tells of submodules is read before the walk: where that is refused nothing else was asked.
   pub misread : (t : Names) → w.told w0 ≡ Some t → IfErr result (Misreads (known_in t root setup))
   pub outside : IfErr result (OnMisread (IsOutside root setup))
   pub alone : IfErr result (OnReading (LoadsAlone w w0 w1 o0 o1 i0 i1 setup))
+  pub stops : IfErr result (Stops w w0 w1 setup)
   pub about : IfErr result (OnWalk (About (w.precomposes w0) root setup))
   pub found : (s : Sources) → w.told w0 ≡ Some s.tree → IfErr result (OnWalk (Found (w.precomposes w0) root setup (f.holds o0) s))
   pub cause : IfErr result (OnReportFault (Increased (w.faults w0) (w.faults w1)) (Increased (f.faults o0) (f.faults o1)))
   pub interrupted : IfErr result (OnWalk (OnInterrupt (Increased (i.raised i0) (i.raised i1))))
+  pub listing : IfErr result (OnWalk (OnListingFault (Increased (w.list_faults w0) (w.list_faults w1))))
   pub no_root : (t : Names) → w.told w0 ≡ Some t → NotIncreased (w.faults w0) (w.faults w1) → IfErr result (OnWalk (NoRoot (w.precomposes w0) t root setup))
   pub refused : (s : Sources) → TellsIf (w.told w0) (f.holds o0) (excludes_of root setup) s → NotIncreased (w.faults w0) (w.faults w1)
-      → NotIncreased (f.faults o0) (f.faults o1) → IfErr result (OnWalk (Refuses (w.precomposes w0) s root setup))
+      → IfErr result (OnWalk (Refuses (w.precomposes w0) s root setup (Increased (f.faults o0) (f.faults o1))))
   -- For valid input, and where nothing failed or was raised, only memory may be wanted.
   pub complete : (s : Sources) → TellsIf (w.told w0) (f.holds o0) (excludes_of root setup) s
       → NotIncreased (w.faults w0) (w.faults w1) → NotIncreased (f.faults o0) (f.faults o1) → NotIncreased (i.raised i0) (i.raised i1)
@@ -161,8 +176,7 @@ pub record Texts {W I : Type 0} (w : WorktreeOf W) (i : InterruptOf I) (composes
   pub outside : (which : Misread) → IsErrOf result (refusals.Misread which) → MisreadsAt w w0 w1 i0 i1 root setup which
   pub about : (word : WalkWord) (path : List ℕ) → IsErrOf result (refusals.Walk word path) → IsAboutWalkAt composes (w.told w0) root setup word path
   pub cause : IsErrOf result refusals.Fault → Increased (w.faults w0) (w.faults w1)
-  pub fault_late : IsErrOf result refusals.Fault
-      → ((w.lists w1 ≡ w.lists w0) × (i1 ≡ i0)) ⊎ ((t : Names) → w.told w0 ≡ Some t → IsKnown (known_in t root setup))
+  pub fault_late : IsErrOf result refusals.Fault → FailsLoading w w0 w1 i0 i1 setup ⊎ ((t : Names) → w.told w0 ≡ Some t → IsKnown (known_in t root setup))
   pub interrupted : IsErrOf result refusals.Interrupted → Increased (i.raised i0) (i.raised i1)
   pub interrupted_late : (t : Names) → w.told w0 ≡ Some t → IsErrOf result refusals.Interrupted → IsKnown (known_in t root setup)
   pub answers : IfErr result IsOfWalking
@@ -172,5 +186,13 @@ pub record Texts {W I : Type 0} (w : WorktreeOf W) (i : InterruptOf I) (composes
   pub interrupt : AsksInterrupt i i0 i1
   pub listed : OnOk result (w.list_faults w1 ≡ w.list_faults w0)
   -- where subtrees are walked at once, over forks, the worktree counts one directory as listed at most
-  pub lists : OnOk result (setup.options.strategy ≡ AtOnce → w.lists w1 ≤ w.lists w0 + 1)
+  pub lists : setup.options.strategy ≡ AtOnce → w.lists w1 ≤ w.lists w0 + 1
   pub calm : OnOk result (i.raised i1 ≡ i.raised i0)
+
+-- Why there is no text that a report is made for: for want of memory, as the worktree failed once there was a report, or as there is
+-- no text of the report.
+abbrev pub RefusesText : {W I : Type 0} → WorktreeOf W → InterruptOf I → Bool → W → W → I → I → List ℕ → Setup → Refusal → Type 0
+RefusesText w i composes w0 w1 i0 i1 root setup refusal =
+    (refusal ≡ refusals.OutOfMemory)
+    ⊎ (((refusal ≡ refusals.Fault) × Increased (w.faults w0) (w.faults w1) × ((t : Names) → w.told w0 ≡ Some t → IsKnown (known_in t root setup)))
+    ⊎ Texts w i composes w0 w1 i0 i1 root setup (Err refusal))

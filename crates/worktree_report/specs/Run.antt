@@ -16,7 +16,7 @@ use Rattle.worktree_report.specs.Words.{Command, Places, report, generate, comma
 use Rattle.worktree_report.specs.SetupAt.{setup_at}
 use Rattle.worktree_report.specs.Loading.{known_in, IsKnown}
 use Rattle.worktree_report.specs.Orderly.{IsOrderlyText}
-use Rattle.worktree_report.specs.Outside.{IsAboutMisreadAt}
+use Rattle.worktree_report.specs.Outside.{files_to, IsAboutMisreadAt, StopsAt}
 use Rattle.worktree_report.specs.Asked.{read_in, text_of, IsSafeAt, IsValidAt, WorksAt, RefusesWalkAt, IsAboutWalkAt}
 use Rattle.worktree_report.specs.Generate.{generated_text, Generated, IsOfGenerating}
 
@@ -42,6 +42,26 @@ pub record IsAboutMisread (made : Setup → Setup) (told : Option Names) (places
   pub setup : Setup
   pub read : (t : Names) → told ≡ Some t → setup_at (look t places.setup true) ≡ Ok setup
   pub about : IsAboutMisreadAt places.root (made setup) which
+
+-- No file behind the place that is outside its grammar was read, by the setup. Where the tree is told that is the one that was read
+-- in it.
+pub record ReadsToMisread (made : Setup → Setup) (told : Option Names) (places : Places) (which : Misread) (reads0 reads1 : ℕ) : Type 0 where
+  pub setup : Setup
+  pub read : (t : Names) → told ≡ Some t → setup_at (look t places.setup true) ≡ Ok setup
+  pub reads : reads1 ≤ next reads0 + files_to (made setup) which
+
+-- A file that tells of submodules was not read, as far as the setup asks for these, and no file behind it was.
+pub record StopsReport (made : Setup → Setup) (t : Names) (places : Places) (reads0 reads1 : ℕ) : Type 0 where
+  pub setup : Setup
+  pub read : setup_at (look t places.setup true) ≡ Ok setup
+  pub asked : (made setup).options.submodules ≡ true
+  pub stops : StopsAt t (made setup) (next reads0) reads1
+
+-- Nothing was walked yet: over a told tree no file behind the setup was read, or one that tells of submodules was not read.
+pub record FailsEarly {W I : Type 0} (w : WorktreeOf W) (w0 w1 : W) (i0 i1 : I) (made : Setup → Setup) (places : Places) : Type 0 where
+  pub lists : w.lists w1 ≡ w.lists w0
+  pub interrupt : i1 ≡ i0
+  pub reads : (t : Names) → w.told w0 ≡ Some t → (w.reads w1 ≤ next (w.reads w0)) ⊎ StopsReport made t places (w.reads w0) (w.reads w1)
 
 -- all that tells of submodules is in its grammar: the walk comes after that is read
 pub record IsKnownReport (made : Setup → Setup) (t : Names) (places : Places) : Type 0 where
@@ -73,18 +93,19 @@ pub record IsReadyAt (made : Setup → Setup) (composes : Bool) (t : Names) (pla
 pub record HasCauses {W I : Type 0} (w : WorktreeOf W) (i : InterruptOf I) (w0 w1 : W) (i0 i1 : I) (made : Setup → Setup) (places : Places) (answer : Result (List ℕ) Refusal) : Type 0 where
   pub no_usage : ¬ IsErrOf answer refusals.Usage
   pub setup : (t : Names) → w.told w0 ≡ Some t → (line : ℕ) → IsErrOf answer (refusals.Setup line) → SetupRefuses t places line
-  pub setup_unasked : (line : ℕ) → IsErrOf answer (refusals.Setup line) → (w.lists w1 ≡ w.lists w0) × (i1 ≡ i0)
+  pub setup_unasked : (line : ℕ) → IsErrOf answer (refusals.Setup line)
+      → (w.lists w1 ≡ w.lists w0) × (i1 ≡ i0) × (w.reads w1 ≤ next (w.reads w0))
   pub misread : (t : Names) → w.told w0 ≡ Some t → (which : Misread) → IsErrOf answer (refusals.Misread which) → MisreadsReport made t places which
   pub misread_about : (which : Misread) → IsErrOf answer (refusals.Misread which) → IsAboutMisread made (w.told w0) places which
   pub misread_unasked : (which : Misread) → IsErrOf answer (refusals.Misread which) → (w.lists w1 ≡ w.lists w0) × (i1 ≡ i0)
+  pub misread_reads : (which : Misread) → IsErrOf answer (refusals.Misread which) → ReadsToMisread made (w.told w0) places which (w.reads w0) (w.reads w1)
   pub walk : (t : Names) → w.told w0 ≡ Some t → NotIncreased (w.faults w0) (w.faults w1)
       → (word : WalkWord) (path : List ℕ) → IsErrOf answer (refusals.Walk word path) → RefusesReport made (w.precomposes w0) t places word path
   pub about : (word : WalkWord) (path : List ℕ) → IsErrOf answer (refusals.Walk word path)
       → IsAboutReport made (w.precomposes w0) (w.told w0) places word path
   pub cause : IsErrOf answer refusals.Fault → Increased (w.faults w0) (w.faults w1)
   -- Nothing was walked yet, or all that tells of submodules is in its grammar.
-  pub fault_late : IsErrOf answer refusals.Fault
-      → ((w.lists w1 ≡ w.lists w0) × (i1 ≡ i0)) ⊎ ((t : Names) → w.told w0 ≡ Some t → IsKnownReport made t places)
+  pub fault_late : IsErrOf answer refusals.Fault → FailsEarly w w0 w1 i0 i1 made places ⊎ ((t : Names) → w.told w0 ≡ Some t → IsKnownReport made t places)
   pub interrupted : IsErrOf answer refusals.Interrupted → Increased (i.raised i0) (i.raised i1)
   pub interrupted_late : (t : Names) → w.told w0 ≡ Some t → IsErrOf answer refusals.Interrupted → IsKnownReport made t places
   pub no_output : ¬ IsErrOf answer refusals.Output
@@ -108,6 +129,11 @@ pub record AsksNothing {W I : Type 0} (w0 w1 : W) (i0 i1 : I) (answer : Result (
   pub usage : IsErrOf answer refusals.Usage
   pub worktree : w1 ≡ w0
   pub interrupt : i1 ≡ i0
+
+-- what an answer says of what the words ask for, where they ask for something
+abbrev pub AnswersIf : {W I A : Type 0} → (A → Result (List ℕ) Refusal → Type 0) → W → W → I → I → Option A → Result (List ℕ) Refusal → Type 0
+AnswersIf Holds w0 w1 i0 i1 None answer = AsksNothing w0 w1 i0 i1 answer
+AnswersIf Holds w0 w1 i0 i1 (Some asked) answer = Holds asked answer
 
 -- ---- the report of a work tree, where the worktree composes names or not
 
@@ -155,7 +181,7 @@ pub record AnswersReport {W I : Type 0} (w : WorktreeOf W) (i : InterruptOf I) (
   pub safe : (t : Names) → w.told w0 ≡ Some t → NotIncreased (w.faults w0) (w.faults w1) → OnOk answer (IsSafeReport (w.precomposes w0) t places)
   pub works : (t : Names) → w.told w0 ≡ Some t → NotIncreased (w.faults w0) (w.faults w1)
       → OnOk answer (ReportWorks (w.precomposes w0) t (i.questions i0) (i.questions i1) (w.reads w0) (w.reads w1) places)
-  pub lists : (t : Names) → w.told w0 ≡ Some t → OnOk answer (ListsOnce t places (w.lists w0) (w.lists w1))
+  pub lists : (t : Names) → w.told w0 ≡ Some t → ListsOnce t places (w.lists w0) (w.lists w1)
   pub causes : HasCauses w i w0 w1 i0 i1 as_read places answer
   pub keeps : Keeps w i w0 w1 i0 i1 answer
 
@@ -168,16 +194,20 @@ pub record AnswersGenerate {W I : Type 0} (i : InterruptOf I) (w0 w1 : W) (i0 i1
   pub refused : IfErr answer IsOfGenerating
   pub interrupted : IsErrOf answer refusals.Interrupted → Increased (i.raised i0) (i.raised i1)
   pub worktree : w1 ≡ w0
+  pub questions : with_more (i.questions i0) 0 ≤ i.questions i1
   pub raised : i.raised i0 ≤ i.raised i1
   pub calm : OnOk answer (i.raised i1 ≡ i.raised i0)
 
 -- ---- what the words ask for
 
--- the text that is asked for, or why there is none
+-- the text that a command asks for, or why there is none
+abbrev pub AnswersCommand : {W I : Type 0} → WorktreeOf W → InterruptOf I → W → W → I → I → Command → Result (List ℕ) Refusal → Type 0
+AnswersCommand w i w0 w1 i0 i1 (report places) answer = AnswersReport w i w0 w1 i0 i1 places answer
+AnswersCommand w i w0 w1 i0 i1 (generate n) answer = AnswersGenerate i w0 w1 i0 i1 n answer
+
+-- the same of what the words ask for
 abbrev pub Answers : {W I : Type 0} → WorktreeOf W → InterruptOf I → W → W → I → I → Option Command → Result (List ℕ) Refusal → Type 0
-Answers w i w0 w1 i0 i1 None answer = AsksNothing w0 w1 i0 i1 answer
-Answers w i w0 w1 i0 i1 (Some (report places)) answer = AnswersReport w i w0 w1 i0 i1 places answer
-Answers w i w0 w1 i0 i1 (Some (generate n)) answer = AnswersGenerate i w0 w1 i0 i1 n answer
+Answers w i w0 w1 i0 i1 asked answer = AnswersIf (AnswersCommand w i w0 w1 i0 i1) w0 w1 i0 i1 asked answer
 
 -- the bytes that are asked for, over the tree `t`; for a tree of files in memory that is no matter
 abbrev pub text_asked : Bool → Names → Option Command → Option (List ℕ)

@@ -8,8 +8,9 @@ use gitbase_core::Bytes;
 use std::alloc::Global;
 use worktree_fs::Sink;
 
-/// Writes a text to `out`, and answers 0; or says to `err` in one line why there is none, or why it was not written whole, and
-/// answers the status for it. `usage` is the line for words that ask for nothing, its line feed included.
+/// Writes a text to `out`, and answers 0; or says to `err` in one line why there is none, or why it
+/// was not written whole, and answers the status for it. `usage` is the line for words that ask for
+/// nothing, its line feed included.
 ///
 /// | status | where |
 /// |---|---|

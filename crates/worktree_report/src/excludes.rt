@@ -53,6 +53,8 @@ fn stack_of(alloc: Global, root: &[u8], setup: &Setup) -> Result<Stack, OutOfMem
 /// the setup alone, and read no rules file yet: so they are in step with any tree and store.
 ///
 /// Fails only where memory is refused.
+///
+/// See docs/DECISIONS.md#overrides-and-globals.
 pub fn excludes_of(alloc: Global, root: &[u8], setup: &Setup) -> Result<Option<Stack>, OutOfMemory>
     ensures made { IfOk result (λ excludes. made_with excludes ≡ excludes_of root.now setup.now) }
     ensures in_step { (s : Sources) → IfOk result (InStepIf s) }

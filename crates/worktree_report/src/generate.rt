@@ -168,6 +168,7 @@ fn own_report<I: Interrupt>(
     ensures answers { IfErr result IsOfGenerating }
     ensures interrupted { IsErrOf result Refusal.Interrupted
         → Increased (I.raised interrupt.old) (I.raised interrupt.new) }
+    ensures questions { with_more (I.questions interrupt.old) 0 ≤ I.questions interrupt.new }
     ensures raised { I.raised interrupt.old ≤ I.raised interrupt.new }
     ensures calm { OnOk result (I.raised interrupt.new ≡ I.raised interrupt.old) }
 {
@@ -212,6 +213,7 @@ pub fn generated_text<I: Interrupt>(
     ensures answers { IfErr result IsOfGenerating }
     ensures interrupted { IsErrOf result Refusal.Interrupted
         → Increased (I.raised interrupt.old) (I.raised interrupt.new) }
+    ensures questions { with_more (I.questions interrupt.old) 0 ≤ I.questions interrupt.new }
     ensures raised { I.raised interrupt.old ≤ I.raised interrupt.new }
     ensures calm { OnOk result (I.raised interrupt.new ≡ I.raised interrupt.old) }
 {

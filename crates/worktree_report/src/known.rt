@@ -5,7 +5,7 @@ ghost use Rattle.worktree_fs.specs.Causes.{Increased};
 ghost use Rattle.worktree_fs.specs.Tree.{Names};
 ghost use Rattle.worktree_report.specs.Loading.{known_in, with_specs, files_if};
 ghost use Rattle.worktree_report.specs.Loads.{Gives, LoadsFiles, OfKnown};
-ghost use Rattle.worktree_report.specs.Outside.{IsActiveOf, IsOutside, OnMisread, OnReading};
+ghost use Rattle.worktree_report.specs.Outside.{IsActiveOf, IsOutside, OnMisread, OnReading, Stops};
 
 use crate::error::ReportError;
 use crate::modules::{Modules, load_modules};
@@ -61,6 +61,7 @@ pub fn known_in<W: Worktree>(
         (W.faults worktree.new))) }
     ensures outside { IfErr result (OnMisread (IsOutside root.now setup.now)) }
     ensures asked { IfErr result (OnReading (setup.now.options.submodules ≡ true)) }
+    ensures stops { IfErr result (Stops W.Worktree worktree.old worktree.new setup.now) }
     ensures known { setup.now.options.submodules ≡ true
         → IfOk result (λ known. is_some known ≡ true) }
     ensures unasked { setup.now.options.submodules ≡ false

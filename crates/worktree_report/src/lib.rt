@@ -38,4 +38,5 @@ pub use refusal::{Misread, Refusal, WalkWord};
 pub use report::{Report, ReportEntries, ReportEntry};
 pub use setup::configs::Configs;
 pub use setup::{Setup, SetupError, SetupOptions};
+pub use walking::lookup_of;
 pub use words::{Places, behind, command_words, places_behind, places_of};

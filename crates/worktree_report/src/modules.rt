@@ -5,7 +5,7 @@ ghost use Rattle.worktree_fs.specs.Causes.{Increased};
 ghost use Rattle.worktree_fs.specs.Tree.{Names, look};
 ghost use Rattle.worktree_report.specs.Loading as loading;
 ghost use Rattle.worktree_report.specs.Loads.{Gives, ReadsConfig, LoadsFiles, OfConfig, OfModules};
-ghost use Rattle.worktree_report.specs.Outside.{IsConfigAt, IsConfigOf, IsModulesOf, IsOutside, OnMisread};
+ghost use Rattle.worktree_report.specs.Outside.{IsConfigAt, IsConfigOf, IsModulesOf, IsOutside, OnMisread, Stops};
 ghost use Rattle.worktree_report.specs.Permissions.{admits};
 
 use crate::error::ReportError;
@@ -107,6 +107,7 @@ fn with_configs<W: Worktree>(
     ensures answers { IfErr result (OfConfig (Increased (W.faults worktree.old)
         (W.faults worktree.new))) }
     ensures outside { IfErr result (OnMisread (IsConfigOf setup.now)) }
+    ensures stops { IfErr result (Stops W.Worktree worktree.old worktree.new setup.now) }
     ensures loads { LoadsFiles W.Worktree worktree.old worktree.new
         (loading.admitted setup.now.options.permissions setup.now.configs) }
 {
@@ -162,8 +163,8 @@ fn modules_beside<W: Worktree>(
 
 /// Reads the configurations of a setup that its permissions admit, with links followed and in
 /// order, and then `.gitmodules` in the worktree root, which is absolute and has no component `.`
-/// or `..`, a link not followed. What is no file counts as an empty one. Each is read at most once, and
-/// nothing else is asked of the worktree.
+/// or `..`, a link not followed. What is no file counts as an empty one. Each is read at most once,
+/// none behind the one for which it is refused, and nothing else is asked of the worktree.
 ///
 /// # Errors
 ///
@@ -172,6 +173,9 @@ fn modules_beside<W: Worktree>(
 /// - `Modules` names the first such line of `.gitmodules`.
 /// - `ReadFault` comes only where the worktree failed and counted it.
 /// - `OutOfMemory` for want of memory.
+///
+/// See docs/DECISIONS.md#joined-configurations.
+/// See docs/DECISIONS.md#config-numbers.
 #[tactic(auto, unfolding(crate::specs::Loading::modules_in))]
 pub fn load_modules<W: Worktree>(
     alloc: Global,
@@ -184,6 +188,7 @@ pub fn load_modules<W: Worktree>(
     ensures answers { IfErr result (OfModules (Increased (W.faults worktree.old)
         (W.faults worktree.new))) }
     ensures outside { IfErr result (OnMisread (IsOutside worktree_root.now setup.now)) }
+    ensures stops { IfErr result (Stops W.Worktree worktree.old worktree.new setup.now) }
     ensures loads { LoadsFiles W.Worktree worktree.old worktree.new (loading.files_of setup.now) }
 {
     let config = with_configs(alloc, worktree, setup)?;

@@ -177,6 +177,8 @@ impl Environment {
 }
 
 /// What may be read beside the worktree; after `gix::open::Permissions` of gitoxide.
+///
+/// See docs/DECISIONS.md#unused-permissions.
 #[derive(Clone, Copy, Debug, PartialEq, Eq)]
 pub struct Permissions {
     /// Variables of the environment.

@@ -54,12 +54,12 @@ fn text_asked<W: Worktree, I: Interrupt>(
     }
 }
 
-/// Answers the words of a command line: writes what they ask for to `out`, or says to `err` in one line why there is
-/// nothing of that, and answers the status that the program is to end with.
+/// Answers the words of a command line: writes what they ask for to `out`, or says to `err` in one
+/// line why there is nothing of that, and answers the status that the program is to end with.
 ///
-/// `report ROOT SETUP` asks for the report of the work tree at ROOT by the setup text at SETUP; the word `composed` stands
-/// before it exactly where the worktree composes names. `generate N` asks how much there is to report of a tree of N files
-/// in memory, and nothing of the worktree.
+/// `report ROOT SETUP` asks for the report of the work tree at ROOT by the setup text at SETUP; the
+/// word `composed` stands before it exactly where the worktree composes names. `generate N` asks
+/// how much there is to report of a tree of N files in memory, and nothing of the worktree.
 ///
 /// | status | where |
 /// |---|---|
@@ -73,8 +73,9 @@ fn text_asked<W: Worktree, I: Interrupt>(
 /// | 7 | `out` refused bytes, and counted it |
 /// | 8 | want of memory |
 ///
-/// With a status other than 0 and 7 nothing goes to `out`. With each status other than 0 one line goes to `err`, with 0
-/// none; a refusal of `err` changes nothing. The interrupt is asked before each directory is read.
+/// With a status other than 0 and 7 nothing goes to `out`. With each status other than 0 one line
+/// goes to `err`, with 0 none; a refusal of `err` changes nothing. The interrupt is asked before
+/// each directory is read.
 pub fn run<W: Worktree, I: Interrupt, S: Sink, E: Sink>(
     alloc: Global,
     words: &[Bytes],
@@ -83,13 +84,14 @@ pub fn run<W: Worktree, I: Interrupt, S: Sink, E: Sink>(
     out: &mut S,
     err: &mut E,
 ) -> u8
-    // What the words ask for came to an answer: a text, or a refusal with its cause. The status, `out` and `err` are as that answer
-    // has it, and what stays is said of each.
+    // What the words ask for came to an answer: a text, or a refusal with its cause. The status,
+    // `out` and `err` are as that answer has it, and what stays is said of each.
     ensures runs { Runs S.Sink E.Sink out.old out.new err.old err.new usage
         (Answers W.Worktree I.Interrupt worktree.old worktree.new interrupt.old interrupt.new
         (command_of (W.precomposes worktree.old) words.now)) result }
 
-    // Status 0, over a told tree and with no fault counted: what `out` has is what it had, and the lines of the report.
+    // Status 0, over a told tree and with no fault counted: what `out` has is what it had, and the
+    // lines of the report.
     ensures report { (t : Names) → W.told worktree.old ≡ Some t
         → NotIncreased (W.faults worktree.old) (W.faults worktree.new) → result ≡ 0
         → (text : List ℕ) × (output_of (W.precomposes worktree.old) t words.now ≡ Some text)

@@ -12,8 +12,8 @@ use worktree_fs::Sink;
 /// The word of a walk that was refused.
 #[derive(Clone, Copy, Debug, PartialEq, Eq)]
 pub enum WalkWord {
-    /// The traversal root is the worktree root, which is not entered and is no directory, a link not followed; or its kind could
-    /// not be learnt.
+    /// The traversal root is the worktree root, which is not entered and is no directory, a link
+    /// not followed; or its kind could not be learnt.
     RootIsFile,
     /// The traversal root is absolute, or leads out of the worktree.
     OutsideRoot,
@@ -25,10 +25,11 @@ pub enum WalkWord {
     AbsentDirectory,
     /// What was to be entered is no directory.
     NotADirectory,
-    /// A rules file leads along more links than are followed, or to what is neither a file nor a directory; or it is a link,
-    /// though it is mapped to a blob.
+    /// A rules file leads along more links than are followed, or to what is neither a file nor a
+    /// directory; or it is a link, though it is mapped to a blob.
     RulesFile,
-    /// The blob that a rules file is mapped to is not there, or is no blob. In the place of a path stands its id.
+    /// The blob that a rules file is mapped to is not there, or is no blob. In the place of a path
+    /// stands its id.
     Blob,
     /// The rules could not be asked for another reason, which does not come in a walk.
     Lookup,
@@ -39,7 +40,8 @@ pub enum WalkWord {
 /// What is outside its grammar among what tells of submodules.
 #[derive(Clone, Copy, Debug, PartialEq, Eq)]
 pub enum Misread {
-    /// The first such line of a configuration, which has this place among those of the setup. Both are counted from 1.
+    /// The first such line of a configuration, which has this place among those of the setup. Both
+    /// are counted from 1.
     Config { at: usize, line: usize },
     /// The first such line of `.gitmodules`.
     Modules { line: usize },
@@ -194,7 +196,8 @@ pub fn say_fixed<E: Sink>(usage: &[u8], refusal: &Refusal, err: &mut E) -> u8
     status_of(refusal)
 }
 
-/// Says why there is no text, and answers the status; where there is no memory for the line, that want instead.
+/// Says why there is no text, and answers the status; where there is no memory for the line, that
+/// want instead.
 pub fn refuse<E: Sink>(alloc: Global, usage: &[u8], refusal: &Refusal, err: &mut E) -> u8
     ensures told { IsTold E.Sink err.old err.new usage.now refusal.now result }
     ensures later { E.refusals err.old ≤ E.refusals err.new }

@@ -1,5 +1,5 @@
 //! The report of a work tree, and its text.
-ghost use Rattle.std.specs.Prelude.{◌≡◌, ◌-◌, ◌^◌, min, length, true, IfOk, is_some};
+ghost use Rattle.std.specs.Prelude.{◌≡◌, ◌≤◌, ◌-◌, ◌^◌, min, length, true, IfOk, is_some};
 ghost use Rattle.worktree_fs.specs.Causes.{NotIncreased};
 ghost use Rattle.worktree_stack.specs.Reading.{Sources};
 ghost use Rattle.dir_classify.specs.Chosen.{chosen};
@@ -49,8 +49,10 @@ fn options_of(composes: bool, setup: &Setup) -> Options<'_>
     }
 }
 
-/// A look-up of the index where letters compare without regard to their case.
-fn lookup_of(alloc: Global, setup: &Setup) -> Result<Option<AccelerateLookup>, OutOfMemory>
+/// A look-up of the index where letters compare without regard to their case, as the setup says.
+///
+/// Fails only where memory is refused.
+pub fn lookup_of(alloc: Global, setup: &Setup) -> Result<Option<AccelerateLookup>, OutOfMemory>
     ensures lookup { IfOk result (IsLookupIf setup.now.index) }
     ensures given { IfOk result (λ lookup. is_some lookup ≡ setup.now.options.ignore_case) }
 {
@@ -106,6 +108,8 @@ fn walk_with<'a, W: Worktree, F: Find, I: Interrupt>(
     ensures ordered { IfOk result (λ r. Ascends r.entries) }
     ensures counted { IfOk result
         (λ r. r.outcome.returned_entries ≡ min (length r.entries) (2 ^ 64 - 1)) }
+    ensures seen { IfOk result
+        (λ r. min r.outcome.returned_entries (2 ^ 32 - 1) ≤ r.outcome.seen_entries) }
     ensures once { IfOk result (IsFromRoot
         (asked_of (W.precomposes worktree.old) root.now setup.now) setup.now.root) }
     ensures walks_worktree { WalksWorktree W.Worktree F.Find I.Interrupt worktree.old worktree.new

@@ -112,8 +112,8 @@ pub fn behind<'a>(name: &[u8], words: &'a [Bytes]) -> Option<&'a [Bytes]>
     Some(rest)
 }
 
-/// The words of a command, over a worktree that composes names or not: those behind `composed` where it does, else all. None where
-/// it does and the first word is not `composed`.
+/// The words of a command, over a worktree that composes names or not: those behind `composed`
+/// where it does, else all. None where it does and the first word is not `composed`.
 pub fn command_words(composes: bool, words: &[Bytes]) -> Option<&[Bytes]>
     ensures { option_map (λ rest. rest.now) result ≡ command_words composes words.now }
 {
@@ -139,8 +139,9 @@ pub fn places_of(words: &[Bytes]) -> Option<Places<'_>>
     Some(Places { root, setup })
 }
 
-/// The places that a command of this name is to look at, over a worktree that composes names or not: its words are the name, ROOT
-/// and SETUP, with `composed` before them exactly where the worktree composes names. None for any other words.
+/// The places that a command of this name is to look at, over a worktree that composes names or
+/// not: its words are the name, ROOT and SETUP, with `composed` before them exactly where the
+/// worktree composes names. None for any other words.
 #[tactic(auto, unfolding(crate::specs::Words::places_behind))]
 pub fn places_behind<'a>(name: &[u8], composes: bool, words: &'a [Bytes]) -> Option<Places<'a>>
     ensures { option_map named_by result ≡ places_behind name.now composes words.now }
@@ -158,8 +159,12 @@ fn generate_words(words: &[Bytes]) -> Option<usize>
     count_of(words[1].as_bytes())
 }
 
-/// What the words ask for, over a worktree that composes names or not: `generate N`, or `report ROOT SETUP` with two plain
-/// paths, with `composed` before it exactly where the worktree composes names. None for any other words.
+/// What the words ask for, over a worktree that composes names or not: `generate N`, or `report
+/// ROOT SETUP` with two plain paths, with `composed` before it exactly where the worktree composes
+/// names. None for any other words.
+///
+/// See docs/DECISIONS.md#composed-word.
+/// See docs/DECISIONS.md#no-guesses.
 #[tactic(auto, unfolding(crate::specs::Words::command_of))]
 pub fn command_of(composes: bool, words: &[Bytes]) -> Option<Command<'_>>
     ensures { option_map asked_by result ≡ command_of composes words.now }

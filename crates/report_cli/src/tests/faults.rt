@@ -109,3 +109,19 @@ pub static EACH_LOOK: [Failing; 3] = [
         b"untracked file - always - -\td/a\nuntracked repository - always - -\td/r\n",
     ),
 ];
+
+/// Two configurations, the first with a section that is not closed.
+pub const MISREAD_FIRST: &[(&[u8], NewNode<'static>)] = &[
+    (b"/c", NewNode::File(b"[x")),
+    (b"/e", NewNode::File(b"")),
+];
+
+/// They are read for submodules.
+pub const CONFIGURED: &[u8] = b"option submodules yes\nconfig local /c\nconfig local /e\n";
+
+/// With [`MISREAD_FIRST`], and how many failures are counted: no file is read behind the one that is refused.
+pub static IN_ORDER: [(Failing, u64); 3] = [
+    ((CallKind::Read, 1, 6, b"worktree fault\n"), 1),
+    ((CallKind::Read, 2, 6, b"worktree fault\n"), 1),
+    ((CallKind::Read, 3, 5, b"config 1: line 1\n"), 0),
+];

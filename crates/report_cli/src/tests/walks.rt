@@ -133,7 +133,15 @@ const LINK: &[(&[u8], NewNode<'static>)] = &[
     (b"/x", NewNode::Directory),
 ];
 
-pub static ROOTED: [Row; 8] = [
+pub static ROOTED: [Row; 9] = [
+    Row {
+        name: "a directory that path specs have in common, with a link to one in its place",
+        nodes: LINK,
+        setup: b"spec l/*\n",
+        status: 4,
+        out: b"",
+        err: b"walk: symlink-in-root /w/l\n",
+    },
     Row {
         name: "a traversal root through a link",
         nodes: LINK,

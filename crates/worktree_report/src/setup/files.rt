@@ -19,6 +19,8 @@ pub struct SetupBlob {
 
 /// The blob that a line gives behind its keyword, which is `ID BYTES`. None where a word is missing
 /// or says nothing.
+///
+/// See docs/DECISIONS.md#same-blob-twice.
 pub fn blob_of(alloc: Global, rest: &[u8]) -> Result<Option<SetupBlob>, OutOfMemory>
     ensures { IfOk result (λ given. given ≡ blob_of rest.now) }
 {

@@ -125,6 +125,8 @@ pub fn index_entry(alloc: Global, rest: &[u8]) -> Result<Option<IndexEntry>, Out
 }
 
 /// What the words of an entry say.
+///
+/// See docs/DECISIONS.md#index-lines.
 fn entry_in(alloc: Global, words: IndexWords<'_>) -> Result<Option<IndexEntry>, OutOfMemory>
     ensures { IfOk result (λ entry. entry ≡ entry_in (words_seen words.entry)) }
 {

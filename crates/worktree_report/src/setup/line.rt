@@ -104,6 +104,8 @@ fn spec_line(alloc: Global, text: &[u8]) -> Result<Option<SetupLine>, OutOfMemor
 }
 
 /// A line that names a directory that is a worktree of its own.
+///
+/// See docs/DECISIONS.md#worktree-line.
 fn worktree_line(alloc: Global, rest: &[u8]) -> Result<Option<SetupLine>, OutOfMemory>
     ensures { IfOk result (λ line. line ≡ worktree_line rest.now) }
 {

@@ -19,6 +19,8 @@ fn spec_in(alloc: Global, ignore_case: bool, text: &[u8]) -> Result<Option<Spec>
 }
 
 /// Whether a text is a path spec, whether letters fold or not.
+///
+/// See docs/DECISIONS.md#spec-line.
 pub fn is_spec(alloc: Global, text: &[u8]) -> Result<bool, OutOfMemory>
     ensures { IfOk result (λ is. is ≡ is_spec text.now) }
 {

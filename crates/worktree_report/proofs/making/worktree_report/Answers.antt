@@ -5,7 +5,7 @@ use Rattle.worktree_report.proofs.making.worktree_report.Goals as goal
 pub returns-in_err-known : goal.returns-in_err-known
 returns-in_err-known g c =
     let p = err_from_is_err_and c.from_residual.result c.from_residual.ensures.1 in
-    rw (p.1, p.2) (MakesReport-misread c.in_err-known.field-0.0 c.in_err-known.ensures.loads c.in_err-known.ensures.gives c.in_err-known.ensures.answers c.in_err-known.ensures.outside c.in_err-known.ensures.asked)
+    rw (p.1, p.2) (MakesReport-misread c.in_err-known.field-0.0 c.in_err-known.ensures.loads c.in_err-known.ensures.gives c.in_err-known.ensures.answers c.in_err-known.ensures.outside c.in_err-known.ensures.asked c.in_err-known.ensures.stops)
 
 pub returns : goal.returns
 returns g c =

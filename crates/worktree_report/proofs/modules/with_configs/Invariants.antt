@@ -1,4 +1,4 @@
-use Rattle.std.proofs.Common.{◌≡◌, ◌+◌, take, drop, Some}
+use Rattle.std.proofs.Common.{◌≡◌, ◌+◌, take, drop, Some, Ok}
 use Rattle.worktree_fs.specs.Tree.{Names}
 use Rattle.worktree_report.specs.Loading.{admitted, no_config, with_configs}
 use Rattle.worktree_report.specs.Loads.{LoadsFiles}
@@ -11,5 +11,6 @@ invariant-loop-i g l =
     record {
       same : (t : Names) → g.W.Worktree.told l.fn.worktree ≡ Some t
           → with_configs t permissions (l.i + 1) (drop l.i configs) l.config ≡ with_configs t permissions 1 configs no_config;
+      read : (t : Names) → g.W.Worktree.told l.fn.worktree ≡ Some t → with_configs t permissions 1 (take l.i configs) no_config ≡ Ok l.config;
       loads : LoadsFiles g.W.Worktree l.fn.worktree l.worktree (admitted permissions (take l.i configs));
     }
