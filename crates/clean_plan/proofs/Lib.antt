@@ -1,6 +1,7 @@
 mod Among
 mod Directories
 mod Reached
+mod Jointly
 mod Indexed
 mod Sifting
 mod Planning

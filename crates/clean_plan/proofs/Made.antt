@@ -7,8 +7,7 @@ use Rattle.worktree_fs.specs.declared.interrupt.Interrupt.{Ghosts as InterruptOf
 use Rattle.worktree_fs.specs.declared.worktree.Worktree.{Ghosts as WorktreeOf}
 use Rattle.worktree_fs.specs.Causes.{Increased}
 use Rattle.worktree_fs.specs.Kept.{Asks}
-use Rattle.worktree_fs.specs.Naming.{IsTree}
-use Rattle.worktree_fs.specs.Tree.{Names, directory}
+use Rattle.worktree_fs.specs.Tree.{Names}
 use Rattle.worktree_stack.specs.Reading.{Sources}
 use Rattle.dir_classify.specs.declared.entry.Entry.{Entry}
 use Rattle.dir_classify.specs.declared.options.EmissionMode.{EmissionMode}
@@ -16,6 +15,7 @@ use Rattle.dir_classify.specs.declared.options.EmissionMode.TheVariants.{Matchin
 use Rattle.dir_classify.specs.Chosen.{collapses, collapses_if}
 use Rattle.dir_classify.specs.Layers.{current_below}
 use Rattle.dir_walk.specs.Covered.{IsIn as IsEmitted}
+use Rattle.dir_walk.specs.Distinct.{AreFlat as IsFlat}
 use Rattle.dir_walk.specs.Emissions.{Emission, path_of}
 use Rattle.dir_walk.specs.Kept.{KeepsTree}
 use Rattle.worktree_report.specs.declared.error.ReportError.{ReportError}
@@ -24,7 +24,6 @@ use Rattle.worktree_report.specs.declared.report.Report.{Report}
 use Rattle.worktree_report.specs.declared.setup.Setup.{Setup}
 use Rattle.worktree_report.specs.declared.setup.SetupOptions.{SetupOptions}
 use Rattle.worktree_report.specs.Asked.{IsReportOf, current_dir_or, described_by, report_of, walked_of}
-use Rattle.worktree_report.specs.Excluding.{excludes_of}
 use Rattle.worktree_report.specs.Reported.{MakesReport}
 use Rattle.worktree_report.specs.Submodules.{entry_in}
 use Rattle.clean_plan.specs.declared.error.CleanError.{CleanError}
@@ -38,7 +37,7 @@ use Rattle.clean_plan.specs.Prepared.{is_matching, is_matching_if, is_prepared, 
 use Rattle.clean_plan.specs.Refusals.{StopsAsking, of_report}
 use Rattle.clean_plan.specs.Setups.{asked_in, start_of}
 use Rattle.clean_plan.proofs.Directories.{and_both}
-use Rattle.clean_plan.proofs.Flat.{AreFlat as IsFlat, flat-entries, flat-in, once-in}
+use Rattle.clean_plan.proofs.Flat.{flat-in, once-in}
 use Rattle.clean_plan.proofs.Planning.{IsIn}
 use Rattle.clean_plan.proofs.Safely.{AreFlat, plan-apart, plan-safe, plan-spared}
 
@@ -76,8 +75,8 @@ module _ (composes : Bool) (s : Sources) (root : List ℕ) (setup : Setup) (r : 
       ∙ ap (λ (x : Report). Some x) (sym is.same)
 
   -- the report of a prepared setup is flat
-  report-flat : (finding : Finding) → is_prepared finding setup.options ≡ true → IsTree (directory s.tree) → AreFlat (entries_of r.entries)
-  report-flat finding prepared tree =
+  report-flat : (finding : Finding) → is_prepared finding setup.options ≡ true → AreFlat (entries_of r.entries)
+  report-flat finding prepared =
       subst (λ (x : Report). AreFlat (entries_of x.entries)) (sym is.same) (record {
         none_beneath = λ x y here there.
             let a : EmittedAs all x = in-described is.known all x here in
@@ -98,7 +97,7 @@ module _ (composes : Bool) (s : Sources) (root : List ℕ) (setup : Setup) (r : 
       all = is.walked.entries
 
       flat : IsFlat is.walked.entries
-      flat = flat-entries _ (excludes_of root setup) s setup.root setup.depth is.walked tree (unfolded finding setup.options prepared) is.walk_is.is
+      flat = is.walk_is.flat (unfolded finding setup.options prepared)
 
 -- ---- refusals
 
@@ -156,17 +155,17 @@ module _ {W F I : Type 0} (w : WorktreeOf W) (f : FindOf F) (i : InterruptOf I) 
         }
 
     -- there is a plan
-    pub plan-made : (finding : Finding) → is_prepared finding setup.options ≡ true → ((t : Names) → w.told w0 ≡ Some t → IsTree (directory t)) → (current : Option (List ℕ))
+    pub plan-made : (finding : Finding) → is_prepared finding setup.options ≡ true → (current : Option (List ℕ))
         → ((t : Names) → w.told wm ≡ Some t → current ≡ current_below t root (current_dir_or root setup.current_dir)) → (plan : Plan)
         → IsPlan (asked_in what setup (start_of root r.root) current) (entries_of r.entries) plan.paths.items → MakesPlan w f i w0 w1 o0 o1 i0 i1 root setup what (Ok plan)
-    plan-made finding prepared tree current is_current plan is =
+    plan-made finding prepared current is_current plan is =
         let by_report : (t : Names) → w.told wm ≡ Some t → IsPlanBy what t root setup r plan =
         λ t told. subst (λ (c : Option (List ℕ)). IsPlan (asked_in what setup (start_of root r.root) c) (entries_of r.entries) plan.paths.items) (is_current t told) is in
         record {
           gives = λ s tells quiet.
               let of : IsReportOf (w.precomposes w0) s root setup r = made.gives s tells (omega (arith, quiet, asks.faults)) in
               let plan_is : IsPlanBy what s.tree root setup r plan = by_report s.tree (made.worktree.tree ∙ tells.tree_is) in
-              let flat : AreFlat (entries_of r.entries) = report-flat (w.precomposes w0) s root setup r of finding prepared (tree s.tree tells.tree_is) in
+              let flat : AreFlat (entries_of r.entries) = report-flat (w.precomposes w0) s root setup r of finding prepared in
               record {
                 report = r;
                 report_is = report-is (w.precomposes w0) s root setup r of;

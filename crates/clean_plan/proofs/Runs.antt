@@ -3,7 +3,7 @@ use Rattle.std.proofs.Common.{◌≡◌, ◌↔◌, ◌≤◌, ℕ, List, Bool, 
 use Rattle.worktree_fs.specs.declared.interrupt.Interrupt.{Ghosts as InterruptOf}
 use Rattle.worktree_fs.specs.declared.sink.Sink.{Ghosts as SinkOf}
 use Rattle.worktree_fs.specs.declared.worktree.Worktree.{Ghosts as WorktreeOf}
-use Rattle.worktree_fs.specs.Causes.{Increased, NotIncreased}
+use Rattle.worktree_fs.specs.Causes.{Increased, Incremented, NotIncreased}
 use Rattle.worktree_fs.specs.Tree.{Names, look}
 use Rattle.worktree_report.specs.declared.refusal.Refusal.{Refusal}
 use Rattle.worktree_report.specs.declared.refusal.Refusal.TheVariants as refusals
@@ -47,30 +47,30 @@ module _ {W I : Type 0} {w : WorktreeOf W} {i : InterruptOf I} {w0 w1 : W} {i0 :
   pub AnswersClean-unread : (refusal : Refusal) → IsOfReading refusal
       → ((t : Names) → w.told w0 ≡ Some t → (line : ℕ) → refusal ≡ refusals.Setup line → SetupRefuses t request.places line)
       → (refusal ≡ refusals.Fault → Increased (w.faults w0) (w.faults w1))
-      → w.told w1 ≡ w.told w0 → w.faults w0 ≤ w.faults w1 → w.list_faults w1 ≡ w.list_faults w0 → w.lists w1 ≡ w.lists w0 → w.precomposes w1 ≡ w.precomposes w0
-      → top.AnswersClean w i w0 w1 i0 i0 request (Err refusal)
-  AnswersClean-unread refusal of outside fault tree faults listed lists composes =
+      → w.told w1 ≡ w.told w0 → w.faults w0 ≤ w.faults w1 → w.list_faults w1 ≡ w.list_faults w0 → Incremented (w.reads w0) (w.reads w1) → w.lists w1 ≡ w.lists w0
+      → w.precomposes w1 ≡ w.precomposes w0 → top.AnswersClean w i w0 w1 i0 i0 request (Err refusal)
+  AnswersClean-unread refusal of outside fault tree faults listed once lists composes =
       record {
         gives = λ t told quiet. tt;
         by_report = λ t told. tt;
         outside_git = tt;
-        causes = HasCauses-unread w i w0 w1 i0 i0 (top.made_by request.finding) request.places refusal of outside fault lists refl;
+        causes = HasCauses-unread w i w0 w1 i0 i0 (top.made_by request.finding) request.places refusal of outside fault once lists refl;
         keeps = record { tree = tree; faults = faults; list_faults = omega (arith, listed); list_faults_kept = tt; lists = omega (arith, lists); precomposes = composes; questions = omega arith; raised = omega arith; calm = tt };
       }
 
 module _ {W I : Type 0} (w : WorktreeOf W) (i : InterruptOf I) (w0 w1 w2 : W) (i0 i1 : I) (request : Request) where
   causes-made : (setup : Setup) (answer : Result (List ℕ) Refusal)
-      → ((t : Names) → w.told w0 ≡ Some t → setup_at (look t request.places.setup true) ≡ Ok setup) → w.told w1 ≡ w.told w0 → w.faults w0 ≤ w.faults w1 → w.lists w1 ≡ w.lists w0
-      → IfErr answer (top.RefusesText w i (w.precomposes w0) w1 w2 i0 i1 request.places.root (top.made_by request.finding setup)) → HasCauses w i w0 w2 i0 i1 (top.made_by request.finding) request.places answer
-  causes-made setup (Ok text) read tree faults lists refused = HasCauses-given w i w0 w2 i0 i1 (top.made_by request.finding) request.places text
-  causes-made setup (Err refusal) read tree faults lists refused =
+      → ((t : Names) → w.told w0 ≡ Some t → setup_at (look t request.places.setup true) ≡ Ok setup) → w.told w1 ≡ w.told w0 → w.faults w0 ≤ w.faults w1 → Incremented (w.reads w0) (w.reads w1)
+      → w.lists w1 ≡ w.lists w0 → IfErr answer (top.RefusesText w i (w.precomposes w0) w1 w2 i0 i1 request.places.root (top.made_by request.finding setup)) → HasCauses w i w0 w2 i0 i1 (top.made_by request.finding) request.places answer
+  causes-made setup (Ok text) read tree faults once lists refused = HasCauses-given w i w0 w2 i0 i1 (top.made_by request.finding) request.places text
+  causes-made setup (Err refusal) read tree faults once lists refused =
       elim refused [
         | inl memory ↦ subst (λ (r : Refusal). HasCauses w i w0 w2 i0 i1 (top.made_by request.finding) request.places (Err r)) (sym memory) (HasCauses-memory w i w0 w2 i0 i1 (top.made_by request.finding) request.places)
         | inr other ↦ elim other [
           | inl failed ↦ subst (λ (r : Refusal). HasCauses w i w0 w2 i0 i1 (top.made_by request.finding) request.places (Err r)) (sym failed.0)
               (HasCauses-fault w i w0 w2 i0 i1 (top.made_by request.finding) request.places (Rose-before _ _ _ faults failed.1)
               (inr (λ t told. record { setup = setup; read = read t told; known = failed.2 t (tree ∙ told) })))
-          | inr texts ↦ HasCauses-walked w i w0 w1 w2 i0 i1 (top.made_by request.finding) request.places setup (Err refusal) read tree faults lists texts
+          | inr texts ↦ HasCauses-walked w i w0 w1 w2 i0 i1 (top.made_by request.finding) request.places setup (Err refusal) read tree faults once lists texts
         ]
       ]
 
@@ -78,10 +78,10 @@ module _ {W I : Type 0} {w : WorktreeOf W} {i : InterruptOf I} {w0 w1 w2 : W} {i
   -- the plan is made by the setup that was read, prepared
   pub AnswersClean-made : (setup : Setup) (options : SetupOptions) (answer : Result (List ℕ) Refusal) → options ≡ prepared request.finding setup.options
       → ((t : Names) → w.told w0 ≡ Some t → setup_at (look t request.places.setup true) ≡ Ok setup)
-      → w.told w1 ≡ w.told w0 → w.faults w0 ≤ w.faults w1 → w.list_faults w1 ≡ w.list_faults w0 → w.lists w1 ≡ w.lists w0 → w.precomposes w1 ≡ w.precomposes w0
-      → top.PlanTexts w i (w.precomposes w1) w1 w2 i0 i1 request.places.root (record setup { options = options }) request.what answer
+      → w.told w1 ≡ w.told w0 → w.faults w0 ≤ w.faults w1 → w.list_faults w1 ≡ w.list_faults w0 → Incremented (w.reads w0) (w.reads w1) → w.lists w1 ≡ w.lists w0
+      → w.precomposes w1 ≡ w.precomposes w0 → top.PlanTexts w i (w.precomposes w1) w1 w2 i0 i1 request.places.root (record setup { options = options }) request.what answer
       → top.AnswersClean w i w0 w2 i0 i1 request answer
-  AnswersClean-made setup options answer set read tree faults listed lists composes told_of =
+  AnswersClean-made setup options answer set read tree faults listed once lists composes told_of =
       let same : top.PlanTexts w i (w.precomposes w1) w1 w2 i0 i1 request.places.root (top.made_by request.finding setup) request.what answer =
       subst (λ (o : SetupOptions). top.PlanTexts w i (w.precomposes w1) w1 w2 i0 i1 request.places.root (record setup { options = o }) request.what answer) set told_of in
       let texts : top.PlanTexts w i (w.precomposes w0) w1 w2 i0 i1 request.places.root (top.made_by request.finding setup) request.what answer =
@@ -90,7 +90,7 @@ module _ {W I : Type 0} {w : WorktreeOf W} {i : InterruptOf I} {w0 w1 w2 : W} {i
         gives = λ t told quiet. output-made _ t request setup answer (read t told) (texts.gives t (tree ∙ told) (Quiet-later _ _ _ faults quiet));
         by_report = λ t told. by-report-made _ t request setup answer (read t told) (texts.by_report t (tree ∙ told));
         outside_git = outside-git (top.made_by request.finding setup) answer texts.spares;
-        causes = causes-made w i w0 w1 w2 i0 i1 request setup answer read tree faults lists texts.refused;
+        causes = causes-made w i w0 w1 w2 i0 i1 request setup answer read tree faults once lists texts.refused;
         keeps =
             record {
               tree = texts.worktree.tree ∙ tree;

@@ -26,3 +26,8 @@ reach test (suc n) path = if lies_beneath (take n path) path && test (take n pat
 pub record IsTarget (test : List ℕ → Bool) (path target : List ℕ) : Type 0 where
   pub which : (target ≡ path) ⊎ ((lies_beneath target path ≡ true) × (test target ≡ true))
   pub none_above : some_above test target ≡ false
+
+-- No directory above a known path passes a test; and it does itself, if it is said to.
+pub record IsKnown (test : List ℕ → Bool) (path : List ℕ) (passes : Bool) : Type 0 where
+  pub none_above : some_above test path ≡ false
+  pub passed : passes ≡ true → test path ≡ true

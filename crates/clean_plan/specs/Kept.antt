@@ -1,21 +1,18 @@
 -- Which paths are kept, whatever stands there.
-use Rattle.std.specs.Prelude.{ℕ, List, [], ◌∷◌, codes, Bool, true, false, ◌||◌, Option, Some, None, is_some}
+use Rattle.std.specs.Prelude.{ℕ, List, [], ◌∷◌, Bool, true, false, ◌||◌, Option, Some, None, is_some}
 use Rattle.std.specs.List.{list_any}
 use Rattle.gitbase_core.specs.Index.{entry_at}
 use Rattle.gitbase_core.specs.Kinds.{entries_beneath}
 use Rattle.gitbase_core.specs.Lookup.{entry_at_icase, entry_beneath_icase}
 use Rattle.gitbase_core.specs.Path.{components, is_path_prefix, is_top}
-use Rattle.gitbase_core.specs.Text.{eq_ignore_case}
+use Rattle.gitbase_core.specs.Text.{is_dot_git}
 use Rattle.gitbase_core.specs.declared.entry.IndexEntry.{IndexEntry}
 use Rattle.glob_rules.specs.PathSpec.{PathSpec}
 use Rattle.glob_rules.specs.PathSpecs.{list_match}
 use Rattle.glob_rules.specs.declared.pathspec.Match.{Match}
 use Rattle.clean_plan.specs.Asked.{Asked}
 
--- a name is `.git`, whatever the case of its letters
-abbrev pub is_dot_git : List ℕ → Bool
-is_dot_git name = eq_ignore_case name (codes ".git")
-
+-- a component of a path is `.git`, whatever the case of its letters
 abbrev pub has_dot_git : List ℕ → Bool
 has_dot_git path = list_any is_dot_git (components path)
 

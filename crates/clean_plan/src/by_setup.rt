@@ -1,6 +1,5 @@
 //! The plan of a cleaning, by a setup.
-ghost use Rattle.std.specs.Prelude.{◌≡◌, true, IfOk, is_some};
-ghost use Rattle.dir_classify.specs.Layers.{IsLookupIf};
+ghost use Rattle.std.specs.Prelude.{◌≡◌, true, IfOk};
 ghost use Rattle.clean_plan.specs.Plans.{IsPlan, entries_of};
 ghost use Rattle.clean_plan.specs.Planned.{MakesPlan};
 ghost use Rattle.clean_plan.specs.Prepared.{is_prepared};
@@ -12,21 +11,10 @@ use crate::error::CleanError;
 use crate::outcome::Plan;
 use crate::planned::planned;
 use crate::what::{Finding, What};
-use gitbase_core::{AccelerateLookup, Find, OutOfMemory, PathText};
+use gitbase_core::{Find, OutOfMemory, PathText};
 use std::alloc::Global;
 use worktree_fs::{Interrupt, Worktree};
-use worktree_report::{Report, Setup, worktree_report};
-
-/// A look-up of the index where letters compare without regard to their case.
-fn lookup_of(alloc: Global, setup: &Setup) -> Result<Option<AccelerateLookup>, OutOfMemory>
-    ensures lookup { IfOk result (IsLookupIf setup.now.index) }
-    ensures given { IfOk result (λ lookup. is_some lookup ≡ setup.now.options.ignore_case) }
-{
-    if !setup.options.ignore_case {
-        return Ok(None);
-    }
-    Ok(Some(AccelerateLookup::new(alloc, &setup.index)?))
-}
+use worktree_report::{Report, Setup, lookup_of, worktree_report};
 
 /// The plan by a report.
 fn plan_by(
@@ -73,6 +61,12 @@ fn plan_by(
 /// - `Report` has the error of [`worktree_report`], for the same causes.
 /// - `Fault`: the worktree failed when it was asked for the real path of its root, which it counted.
 /// - `OutOfMemory`: memory was refused.
+///
+/// See docs/DECISIONS.md#plan-real-path.
+/// See docs/DECISIONS.md#plan-out-of-memory.
+/// See docs/DECISIONS.md#plan-traversal-root.
+/// See docs/DIFFERENCES.md#clean-replaced-directory.
+/// See docs/DIFFERENCES.md#clean-broken-git.
 pub fn plan<W: Worktree, F: Find, I: Interrupt>(
     alloc: Global,
     worktree: &mut W,

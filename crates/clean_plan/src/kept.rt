@@ -8,7 +8,7 @@ ghost use Rattle.dir_classify.specs.Layers.{IsLookupIf};
 
 use crate::cleaning::Cleaning;
 use gitbase_core::{
-    AccelerateLookup, PathText, State, eq_ignore_case, is_path_prefix, split_component,
+    AccelerateLookup, PathText, State, is_dot_git, is_path_prefix, split_component,
 };
 use glob_rules::pathspec::{Match, Matcher, Search};
 
@@ -18,7 +18,7 @@ fn has_dot_git(path: &[u8]) -> bool
 {
     let mut rest = path;
     while let Some((name, after)) = split_component(rest) {
-        if eq_ignore_case(name, b".git") {
+        if is_dot_git(name) {
             return true;
         }
         rest = after;
@@ -50,10 +50,7 @@ fn is_there_folded(index: &State, lookup: &AccelerateLookup, path: &[u8]) -> boo
     requires { IsLookupOf index.now lookup.now }
     ensures { result ≡ kept.is_indexed true index.now path.now }
 {
-    index.entry_by_path_icase(path, lookup).is_some()
-        || index
-            .entry_closest_to_directory_or_directory_icase(path, lookup)
-            .is_some()
+    index.has_entry_icase(path, lookup) || index.has_entry_beneath_icase(path, lookup)
 }
 
 /// Whether the index has an entry at a path or beneath it; `prefix` is the path and a slash.

@@ -13,6 +13,7 @@ mod planned;
 mod prepared;
 mod program;
 mod removable;
+mod shared;
 mod sift;
 mod what;
 mod whole;

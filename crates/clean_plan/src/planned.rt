@@ -10,12 +10,13 @@ ghost use Rattle.clean_plan.specs.Whole.{is_whole_among};
 use crate::cleaning::Cleaning;
 use crate::paths::Paths;
 use crate::sift::sift;
-use crate::whole::target;
+use crate::whole::{Known, target};
 use gitbase_core::{OutOfMemory, PathText};
 use std::alloc::Global;
 use worktree_report::ReportEntry;
 
-/// The paths that are planned for those of entries that may go; `spoiled` are the directories that have an entry in their way.
+/// The paths that are planned for those of entries that may go; `spoiled` are the directories that have an entry in their way. Where
+/// the paths ascend each directory above them is judged once.
 fn targets<'a>(
     alloc: Global,
     cleaning: &Cleaning<'_>,
@@ -27,8 +28,17 @@ fn targets<'a>(
         (texts_of removable.now)) }
 {
     let mut planned = Paths::new(alloc);
+    let mut known = Known {
+        path: b"",
+        is_whole: false,
+    };
     for path in removable {
-        planned.add(target(cleaning, spoiled, path))?;
+        let target = target(cleaning, spoiled, &known, path);
+        planned.add(target)?;
+        known = Known {
+            path: target,
+            is_whole: target.len() < path.len(),
+        };
     }
     Ok(planned)
 }

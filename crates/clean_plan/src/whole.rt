@@ -1,7 +1,7 @@
 //! Which directories may go as a whole.
 ghost use Rattle.std.specs.Prelude.{◌≡◌, ◌≤◌, ◌<◌, ◌+◌, ◌&&◌, ◌++◌, ◌∷◌, [], ℕ, List, true, length, take, if◌then◌else◌, OnOk};
 ghost use Rattle.gitbase_core.specs.Path.{lies_beneath};
-ghost use Rattle.clean_plan.specs.Above.{IsTarget, reach};
+ghost use Rattle.clean_plan.specs.Above.{IsKnown, IsTarget, reach};
 ghost use Rattle.clean_plan.specs.Asked.{asked_by};
 ghost use Rattle.clean_plan.specs.Kept as kept;
 ghost use Rattle.dir_classify.specs.Layers.{IsLookupIf};
@@ -11,6 +11,7 @@ use crate::cleaning::Cleaning;
 use crate::fronts::is_above;
 use crate::kept::{is_kept, takes_out};
 use crate::paths::Paths;
+use crate::shared::shared_length;
 use gitbase_core::{is_path_prefix, is_top};
 use glob_rules::pathspec::Search;
 
@@ -48,12 +49,43 @@ fn is_whole_above(cleaning: &Cleaning<'_>, spoiled: &Paths<'_>, path: &[u8], at:
     is_whole(cleaning, spoiled, path, at)
 }
 
-/// The first of the directories above a path, from the top on, that may go as a whole; the path itself where there is none.
-pub(crate) fn target<'a>(cleaning: &Cleaning<'_>, spoiled: &Paths<'_>, path: &'a [u8]) -> &'a [u8]
+/// A path above which no directory may go as a whole, and whether it is that of one that may.
+#[derive(Drop)]
+pub struct Known<'a> {
+    pub path: &'a [u8],
+    pub is_whole: bool,
+}
+
+/// Whether a path lies beneath a known one that may go as a whole, which has as many bytes as the two have in common.
+fn is_in_whole(known: &Known<'_>, path: &[u8], shared: usize) -> bool
+    requires { shared ≤ length path.now }
+    ensures { result ≡ true → (known.now.is_whole ≡ true) × (shared ≡ length known.now.path.now)
+        × (lies_beneath (take shared path.now) path.now ≡ true) }
+{
+    if !known.is_whole || shared != known.path.len() {
+        return false;
+    }
+    shared < path.len() && is_above(path, shared)
+}
+
+/// The first of the directories above a path, from the top on, that may go as a whole; the path itself where there is none. Those
+/// that it has in common with a known path are not judged again.
+pub(crate) fn target<'a>(
+    cleaning: &Cleaning<'_>,
+    spoiled: &Paths<'_>,
+    known: &Known<'_>,
+    path: &'a [u8],
+) -> &'a [u8]
     requires lookup { IsLookupIf cleaning.now.index.now cleaning.now.lookup.now }
+    requires known { IsKnown (is_whole_among (asked_by cleaning.now) spoiled.now)
+        known.now.path.now known.now.is_whole }
     ensures { IsTarget (is_whole_among (asked_by cleaning.now) spoiled.now) path.now result.now }
 {
-    for at in 0..path.len() {
+    let shared = shared_length(known.path, path);
+    if is_in_whole(known, path, shared) {
+        return &path[..shared];
+    }
+    for at in shared..path.len() {
         if is_whole_above(cleaning, spoiled, path, at) {
             return &path[..at];
         }

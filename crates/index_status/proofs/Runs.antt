@@ -3,7 +3,7 @@ use Rattle.std.proofs.Common.{◌≡◌, ◌↔◌, ◌≤◌, ℕ, List, Bool, 
 use Rattle.worktree_fs.specs.declared.interrupt.Interrupt.{Ghosts as InterruptOf}
 use Rattle.worktree_fs.specs.declared.sink.Sink.{Ghosts as SinkOf}
 use Rattle.worktree_fs.specs.declared.worktree.Worktree.{Ghosts as WorktreeOf}
-use Rattle.worktree_fs.specs.Causes.{Increased, NotIncreased}
+use Rattle.worktree_fs.specs.Causes.{Increased, Incremented, NotIncreased}
 use Rattle.worktree_fs.specs.Tree.{Names, look}
 use Rattle.worktree_report.specs.declared.refusal.Refusal.{Refusal}
 use Rattle.worktree_report.specs.declared.refusal.Refusal.TheVariants as refusals
@@ -47,30 +47,30 @@ module _ {W I : Type 0} {w : WorktreeOf W} {i : InterruptOf I} {w0 w1 : W} {i0 :
   pub AnswersStatus-unread : (refusal : Refusal) → IsOfReading refusal
       → ((t : Names) → w.told w0 ≡ Some t → (line : ℕ) → refusal ≡ refusals.Setup line → SetupRefuses t places line)
       → (refusal ≡ refusals.Fault → Increased (w.faults w0) (w.faults w1))
-      → w.told w1 ≡ w.told w0 → w.faults w0 ≤ w.faults w1 → w.list_faults w1 ≡ w.list_faults w0 → w.lists w1 ≡ w.lists w0 → w.precomposes w1 ≡ w.precomposes w0
-      → top.AnswersStatus w i w0 w1 i0 i0 places (Err refusal)
-  AnswersStatus-unread refusal of outside fault tree faults listed lists composes =
+      → w.told w1 ≡ w.told w0 → w.faults w0 ≤ w.faults w1 → w.list_faults w1 ≡ w.list_faults w0 → Incremented (w.reads w0) (w.reads w1) → w.lists w1 ≡ w.lists w0
+      → w.precomposes w1 ≡ w.precomposes w0 → top.AnswersStatus w i w0 w1 i0 i0 places (Err refusal)
+  AnswersStatus-unread refusal of outside fault tree faults listed once lists composes =
       record {
         gives = λ t told quiet. tt;
         orderly = tt;
         safe = λ t told quiet. tt;
-        causes = HasCauses-unread w i w0 w1 i0 i0 as_read places refusal of outside fault lists refl;
+        causes = HasCauses-unread w i w0 w1 i0 i0 as_read places refusal of outside fault once lists refl;
         keeps = record { tree = tree; faults = faults; list_faults = omega (arith, listed); list_faults_kept = tt; lists = omega (arith, lists); precomposes = composes; questions = omega arith; raised = omega arith; calm = tt };
       }
 
 module _ {W I : Type 0} (w : WorktreeOf W) (i : InterruptOf I) (w0 w1 w2 : W) (i0 i1 : I) (places : Places) where
   causes-made : (setup : Setup) (answer : Result (List ℕ) Refusal)
-      → ((t : Names) → w.told w0 ≡ Some t → setup_at (look t places.setup true) ≡ Ok setup) → w.told w1 ≡ w.told w0 → w.faults w0 ≤ w.faults w1 → w.lists w1 ≡ w.lists w0
-      → IfErr answer (top.RefusesText w i (w.precomposes w0) w1 w2 i0 i1 places.root setup) → HasCauses w i w0 w2 i0 i1 as_read places answer
-  causes-made setup (Ok text) read tree faults lists refused = HasCauses-given w i w0 w2 i0 i1 as_read places text
-  causes-made setup (Err refusal) read tree faults lists refused =
+      → ((t : Names) → w.told w0 ≡ Some t → setup_at (look t places.setup true) ≡ Ok setup) → w.told w1 ≡ w.told w0 → w.faults w0 ≤ w.faults w1 → Incremented (w.reads w0) (w.reads w1)
+      → w.lists w1 ≡ w.lists w0 → IfErr answer (top.RefusesText w i (w.precomposes w0) w1 w2 i0 i1 places.root setup) → HasCauses w i w0 w2 i0 i1 as_read places answer
+  causes-made setup (Ok text) read tree faults once lists refused = HasCauses-given w i w0 w2 i0 i1 as_read places text
+  causes-made setup (Err refusal) read tree faults once lists refused =
       elim refused [
         | inl memory ↦ subst (λ (r : Refusal). HasCauses w i w0 w2 i0 i1 as_read places (Err r)) (sym memory) (HasCauses-memory w i w0 w2 i0 i1 as_read places)
         | inr other ↦ elim other [
           | inl failed ↦ subst (λ (r : Refusal). HasCauses w i w0 w2 i0 i1 as_read places (Err r)) (sym failed.0)
               (HasCauses-fault w i w0 w2 i0 i1 as_read places (Rose-before _ _ _ faults failed.1)
               (inr (λ t told. record { setup = setup; read = read t told; known = failed.2 t (tree ∙ told) })))
-          | inr texts ↦ HasCauses-walked w i w0 w1 w2 i0 i1 as_read places setup (Err refusal) read tree faults lists texts
+          | inr texts ↦ HasCauses-walked w i w0 w1 w2 i0 i1 as_read places setup (Err refusal) read tree faults once lists texts
         ]
       ]
 
@@ -78,15 +78,15 @@ module _ {W I : Type 0} {w : WorktreeOf W} {i : InterruptOf I} {w0 w1 w2 : W} {i
   -- the status is made by the setup that was read
   pub AnswersStatus-made : (setup : Setup) (answer : Result (List ℕ) Refusal)
       → ((t : Names) → w.told w0 ≡ Some t → setup_at (look t places.setup true) ≡ Ok setup)
-      → w.told w1 ≡ w.told w0 → w.faults w0 ≤ w.faults w1 → w.list_faults w1 ≡ w.list_faults w0 → w.lists w1 ≡ w.lists w0 → w.precomposes w1 ≡ w.precomposes w0
-      → top.StatusTexts w i (w.precomposes w1) w1 w2 i0 i1 places.root setup answer → top.AnswersStatus w i w0 w2 i0 i1 places answer
-  AnswersStatus-made setup answer read tree faults listed lists composes told_of =
+      → w.told w1 ≡ w.told w0 → w.faults w0 ≤ w.faults w1 → w.list_faults w1 ≡ w.list_faults w0 → Incremented (w.reads w0) (w.reads w1) → w.lists w1 ≡ w.lists w0
+      → w.precomposes w1 ≡ w.precomposes w0 → top.StatusTexts w i (w.precomposes w1) w1 w2 i0 i1 places.root setup answer → top.AnswersStatus w i w0 w2 i0 i1 places answer
+  AnswersStatus-made setup answer read tree faults listed once lists composes told_of =
       let texts : top.StatusTexts w i (w.precomposes w0) w1 w2 i0 i1 places.root setup answer = subst (λ b. top.StatusTexts w i b w1 w2 i0 i1 places.root setup answer) composes told_of in
       record {
         gives = λ t told quiet. output-made _ t places setup answer (read t told) (texts.gives t (tree ∙ told) (Quiet-later _ _ _ faults quiet));
         orderly = orderly-made _ (w.told w0) (w.told w1) places setup answer read tree texts.orderly;
         safe = λ t told quiet. safe-made _ t places setup answer (read t told) (texts.safe t (tree ∙ told) (Quiet-later _ _ _ faults quiet));
-        causes = causes-made w i w0 w1 w2 i0 i1 places setup answer read tree faults lists texts.refused;
+        causes = causes-made w i w0 w1 w2 i0 i1 places setup answer read tree faults once lists texts.refused;
         keeps =
             record {
               tree = texts.worktree.tree ∙ tree;

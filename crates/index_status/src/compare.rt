@@ -11,7 +11,7 @@ ghost use Rattle.index_status.specs.Ways as ways;
 use crate::error::StatesError;
 use crate::look::state_at;
 use crate::path_state::PathState;
-use crate::way::way_to;
+use crate::way::{Known, Way, way_to};
 use gitbase_core::{Flags, IndexEntry, OutOfMemory, PathText, State};
 use std::alloc::Global;
 use worktree_fs::Worktree;
@@ -25,8 +25,8 @@ use worktree_fs::Worktree;
 /// - `Unchecked` and `TypeChanged`: for a submodule, whether there is a directory; for a link, whether there is one.
 /// - `TypeChanged`, `Same` and `Modified`: for a file, no file; one whose bytes have the id of the entry; any other.
 ///
-/// Bytes are compared as they are on disk, without filters. Each file is read once, and a directory that leads to several paths
-/// beside one another, all of which are there, is looked at once; a mark that an entry was up to date saves no reading.
+/// Bytes are compared as they are on disk, without filters. Each file is read once, and what leads to several paths beside one
+/// another is looked at once, whether it is there or not; a mark that an entry was up to date saves no reading.
 ///
 /// # Errors
 ///
@@ -48,7 +48,10 @@ pub fn states<W: Worktree>(
     ensures keeps { Asks W.Worktree worktree.old worktree.new }
 {
     let mut made = Vec::new(alloc);
-    let mut known: &[u8] = b"";
+    let mut known = Known {
+        path: b"",
+        barred: None,
+    };
     for entry in index.entries() {
         let (more, led) = with_entry(alloc, worktree, worktree_root, known, made, entry)?;
         made = more;
@@ -57,20 +60,21 @@ pub fn states<W: Worktree>(
     Ok(made)
 }
 
-/// Rows with that of an entry, unless the last one is of its path; and a path to which directories alone are known to lead.
+/// Rows with that of an entry, unless the last one is of its path; and what is known of the ways.
 fn with_entry<'a, W: Worktree>(
     alloc: Global,
     worktree: &mut W,
     root: &[u8],
-    known: &'a [u8],
+    known: Known<'a>,
     made: Vec<(PathText, PathState)>,
     entry: &'a IndexEntry,
-) -> Result<(Vec<(PathText, PathState)>, &'a [u8]), StatesError>
-    requires known { ways.IsLed (W.told worktree.old) root.now (components known.now) }
+) -> Result<(Vec<(PathText, PathState)>, Known<'a>), StatesError>
+    requires known { ways.IsKnown (W.told worktree.old) root.now known.barred
+        (components known.path.now) }
     ensures more { IfOk result (λ more. rows.IsWithEntry (W.told worktree.old) root.now entry.now
         made.items more.0.items) }
-    ensures led { IfOk result (λ more. ways.IsLed (W.told worktree.old) root.now
-        (components more.1.now)) }
+    ensures known { IfOk result (λ more. ways.IsKnown (W.told worktree.old) root.now more.1.barred
+        (components more.1.path.now)) }
     ensures refused { IfErr result (ways.StopsLook
         (states.IsAskedBy (W.told worktree.old) root.now entry.now)
         (Increased (W.faults worktree.old) (W.faults worktree.new))) }
@@ -107,20 +111,20 @@ fn with_row(
     Ok(made)
 }
 
-/// The state of an entry, the first of its path; and a path to which directories alone are known to lead, its own or the one
-/// before.
+/// The state of an entry, the first of its path; and what is known of the way to it, or, where it is not looked at, what was.
 fn state_of<'a, W: Worktree>(
     alloc: Global,
     worktree: &mut W,
     root: &[u8],
-    known: &'a [u8],
+    known: Known<'a>,
     entry: &'a IndexEntry,
-) -> Result<(PathState, &'a [u8]), StatesError>
-    requires known { ways.IsLed (W.told worktree.old) root.now (components known.now) }
+) -> Result<(PathState, Known<'a>), StatesError>
+    requires known { ways.IsKnown (W.told worktree.old) root.now known.barred
+        (components known.path.now) }
     ensures state { IfOk result (λ found. states.IsState (W.told worktree.old) root.now entry.now
         found.0) }
-    ensures led { IfOk result (λ found. ways.IsLed (W.told worktree.old) root.now
-        (components found.1.now)) }
+    ensures known { IfOk result (λ found. ways.IsKnown (W.told worktree.old) root.now
+        found.1.barred (components found.1.path.now)) }
     ensures refused { IfErr result (ways.StopsLook
         (states.IsAskedBy (W.told worktree.old) root.now entry.now)
         (Increased (W.faults worktree.old) (W.faults worktree.new))) }
@@ -132,12 +136,23 @@ fn state_of<'a, W: Worktree>(
     if is_left_out(entry) {
         return Ok((PathState::Skipped, known));
     }
-    match way_to(alloc, worktree, root, known, &entry.path)? {
-        Some(full) => {
+    match way_to(alloc, worktree, root, &known, &entry.path)? {
+        Way::Open(full) => {
             let state = state_at(alloc, worktree, full, entry)?;
-            Ok((state, entry.path.as_bytes()))
+            Ok((state, known_of(entry, None)))
         }
-        None => Ok((PathState::Deleted, known)),
+        Way::Barred(full) => Ok((PathState::Deleted, known_of(entry, Some(full)))),
+    }
+}
+
+/// What is known of the way to an entry's path.
+fn known_of(entry: &IndexEntry, barred: Option<PathText>) -> Known<'_>
+    ensures path { result.path.now ≡ entry.now.path }
+    ensures barred { result.barred ≡ barred }
+{
+    Known {
+        path: entry.path.as_bytes(),
+        barred,
     }
 }
 

@@ -15,6 +15,11 @@ use std::alloc::Global;
 use worktree_fs::{NodeKind, ReadAnswer, ReadError, Worktree};
 
 /// The state of an entry whose node stands at a whole path, to which directories lead.
+///
+/// See docs/DECISIONS.md#through-directories-alone.
+/// See docs/DECISIONS.md#mode-is-file.
+/// See docs/DIFFERENCES.md#status-unlooked.
+/// See docs/DIFFERENCES.md#status-bytes.
 pub(crate) fn state_at<W: Worktree>(
     alloc: Global,
     worktree: &mut W,

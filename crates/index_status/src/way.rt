@@ -13,23 +13,39 @@ use gitbase_core::{PathText, split_component};
 use std::alloc::Global;
 use worktree_fs::{NodeKind, ReadError, Worktree};
 
-/// The whole path of the node at a path below a root, if directories alone lead to it. Those that are known to lead to another
-/// path are not looked at again.
+/// What was learnt of the ways from a root: directories alone lead to a path, or to the node that bars the way to it, by its
+/// whole path; that is no directory.
+#[derive(Drop)]
+pub struct Known<'a> {
+    pub path: &'a [u8],
+    pub barred: Option<PathText>,
+}
+
+/// Where a way leads.
+#[derive(Drop)]
+pub enum Way {
+    /// To this whole path, past directories alone.
+    Open(PathText),
+    /// No further than to this whole path, past directories alone; what stands there is none.
+    Barred(PathText),
+}
+
+/// Whether directories alone lead to the node at a path below a root. What is known of another way is not looked at again.
 pub(crate) fn way_to<W: Worktree>(
     alloc: Global,
     worktree: &mut W,
     root: &[u8],
-    known: &[u8],
+    known: &Known<'_>,
     path: &PathText,
-) -> Result<Option<PathText>, StatesError>
-    requires known { ways.IsLed (W.told worktree.old) root.now (components known.now) }
+) -> Result<Way, StatesError>
+    requires known { ways.IsKnown (W.told worktree.old) root.now known.now.barred
+        (components known.now.path.now) }
     ensures way { (t : Names) → W.told worktree.old ≡ Some t
-        → IfOk result (λ full. full ≡ ways.way t root.now (components path.now)) }
-    ensures on_way { IfOk result
-        (λ full. IfSome full (IsLookedAt (W.told worktree.old) root.now (components path.now))) }
-    ensures led { IfOk result
-        (λ full. IfSome full (λ _. ways.IsLed (W.told worktree.old) root.now
-        (components path.now))) }
+        → IfOk result (λ found. ways.end_of found ≡ ways.way t root.now (components path.now)) }
+    ensures on_way { IfOk result (λ found. IfSome (ways.end_of found)
+        (IsLookedAt (W.told worktree.old) root.now (components path.now))) }
+    ensures known { IfOk result (λ found. ways.IsKnown (W.told worktree.old) root.now
+        (ways.bar_of found) (components path.now)) }
     ensures refused { IfErr result (ways.StopsLook
         (IsLookedAt (W.told worktree.old) root.now (components path.now))
         (Increased (W.faults worktree.old) (W.faults worktree.new))) }
@@ -39,20 +55,20 @@ pub(crate) fn way_to<W: Worktree>(
     let mut full = PathText::from_bytes(alloc, root)?;
     let mut names = path.components();
     let Some(first) = names.next() else {
-        return Ok(Some(full));
+        return Ok(Way::Open(full));
     };
     let mut name = first;
-    let mut left = known;
+    let mut left = known.path;
     for next in names {
         full.push_component(alloc, name)?;
         left = behind(left, name);
-        if !is_led(alloc, worktree, &full, left)? {
-            return Ok(None);
+        if !is_led(alloc, worktree, &known.barred, &full, left)? {
+            return Ok(Way::Barred(full));
         }
         name = next;
     }
     full.push_component(alloc, name)?;
-    Ok(Some(full))
+    Ok(Way::Open(full))
 }
 
 /// What is left of a path behind a component, if that is its first one; else nothing.
@@ -72,15 +88,30 @@ fn has_component(path: &[u8]) -> bool
     split_component(path).is_some()
 }
 
-/// Whether the node at a whole path is a directory. It is not looked at where a known path goes on behind it.
+/// Whether a whole path is that of the node that bars a way, if one does.
+fn is_bar(barred: &Option<PathText>, full: &PathText) -> bool
+    ensures { result ≡ ways.is_bar barred.now full.now }
+{
+    match barred {
+        Some(bar) => bar.as_bytes() == full.as_bytes(),
+        None => false,
+    }
+}
+
+/// Whether the node at a whole path is a directory. It is not looked at where it bars a way, and where a known path goes on behind
+/// it.
 fn is_led<W: Worktree>(
     alloc: Global,
     worktree: &mut W,
+    barred: &Option<PathText>,
     full: &PathText,
     left: &[u8],
 ) -> Result<bool, StatesError>
-    requires known { ways.has_names (components left.now) ≡ true
+    requires bar { ways.IsBar (W.told worktree.old) barred.now }
+    requires known { ways.is_bar barred.now full.now ≡ false
+        → ways.has_names (components left.now) ≡ true
         → IsDirectoryAt (W.told worktree.old) full.now }
+    ensures passes { IfOk result (λ is. is ≡ true → ways.is_bar barred.now full.now ≡ false) }
     ensures is { (t : Names) → W.told worktree.old ≡ Some t
         → IfOk result (λ is. is ≡ is_directory (kind_of (look t full.now false))) }
     ensures refused { IfErr result (ways.StopsAt full.now
@@ -88,6 +119,9 @@ fn is_led<W: Worktree>(
     ensures keeps { Asks W.Worktree worktree.old worktree.new }
     ensures reads { W.reads worktree.new ≡ W.reads worktree.old }
 {
+    if is_bar(barred, full) {
+        return Ok(false);
+    }
     if has_component(left) {
         return Ok(true);
     }

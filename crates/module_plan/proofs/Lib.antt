@@ -4,6 +4,7 @@ mod Distinct
 mod Ascending
 mod Safe
 mod Onward
+mod SeenKinds
 mod Sorted
 mod Lined
 mod Loaded

@@ -1,5 +1,5 @@
 -- What files tell of submodules, or why it is not known; and the text of their plan.
-use Rattle.std.proofs.Common.{◌≡◌, ℕ, List, ◌++◌, Option, Some, None, Result, Ok, Err, IsErrOf, ap, sym, subst, ◌∙◌}
+use Rattle.std.proofs.Common.{◌≡◌, ℕ, List, ◌++◌, Bool, Option, Some, None, Result, Ok, Err, IsErrOf, refl, ap, sym, subst, ◌∙◌}
 use Rattle.std.specs.List.{flat_map}
 use Rattle.glob_rules.specs.PathSpec.{PathSpec}
 use Rattle.submodule.specs.Active.{platform}
@@ -11,15 +11,24 @@ use Rattle.worktree_report.specs.declared.refusal.Misread.{Misread}
 use Rattle.worktree_report.specs.declared.refusal.Misread.TheVariants as misread
 use Rattle.worktree_report.specs.declared.refusal.Refusal.{Refusal}
 use Rattle.worktree_report.specs.declared.setup.Setup.{Setup}
-use Rattle.worktree_report.specs.Loading.{and_then, known_by, known_in, modules_in, with_specs}
-use Rattle.worktree_report.specs.Outside.{IsOutside}
+use Rattle.worktree_fs.specs.declared.worktree.Worktree.{Ghosts as WorktreeOf}
+use Rattle.worktree_report.specs.declared.error.ReportError.{ReportError}
+use Rattle.worktree_report.specs.declared.error.ReportError.TheVariants as reports
+use Rattle.worktree_report.specs.declared.refusal.Refusal.TheVariants as refusals
+use Rattle.worktree_report.specs.Converted.{of_report}
+use Rattle.worktree_report.specs.Loading.{and_then, known_by, known_in, modules_in, with_specs, IsKnown}
+use Rattle.worktree_report.specs.Loads.{OfModules}
+use Rattle.worktree_report.specs.Outside.{IsOutside, Stops, StopsAt}
 use Rattle.module_plan.specs.declared.step.ModulePlan.{ModulePlan}
 use Rattle.module_plan.specs.declared.step.Step.{Step}
 use Rattle.module_plan.specs.declared.step.Skipped.{Skipped}
 use Rattle.module_plan.specs.declared.step.Verdict.{Verdict}
 use Rattle.module_plan.specs.Lines.{plan_text, skipped_line, step_line}
-use Rattle.module_plan.specs.Plans.{Ascends, IsPlan}
-use Rattle.module_plan.specs.Run.{asking, text_by, unless_refused}
+use Rattle.module_plan.specs.declared.error.ModuleError.{ModuleError}
+use Rattle.module_plan.specs.declared.error.ModuleError.TheVariants as errors
+use Rattle.module_plan.specs.Plans.{Ascends, IsPlan, Refuses, refused_value}
+use Rattle.module_plan.specs.Wanted.{Asked}
+use Rattle.module_plan.specs.Run.{asking, of_module, text_by, unless_refused}
 use Rattle.module_plan.proofs.Lined.{lines-by_path}
 
 -- which refusal is answered
@@ -38,6 +47,39 @@ pub known-refused : (t : Names) (root : List ℕ) (setup : Setup) (modules : Mod
     → with_specs setup.options.ignore_case modules ≡ Err which → known_in t root (asking setup) ≡ Err which
 unfolding known_in modules_in
 known-refused t root setup modules which read e = ap (and_then (with_specs setup.options.ignore_case)) read ∙ e
+
+-- where no value is refused, it is known what they tell
+pub known-loaded : (t : Names) (root : List ℕ) (setup : Setup) (modules : Modules) → modules_in t root setup ≡ Ok modules
+    → IsKnown (with_specs setup.options.ignore_case modules) → IsKnown (known_in t root (asking setup))
+unfolding known_in modules_in
+known-loaded t root setup modules read known = (known.0, ap (and_then (with_specs setup.options.ignore_case)) read ∙ known.1)
+
+known-by : (modules : Modules) (found : Result (Option (List PathSpec)) ActiveError) → refused_value found ≡ None → IsKnown (known_by modules found)
+known-by modules (Ok specs) none = (Some (record { modules = modules; platform = specs }), refl)
+known-by modules (Err (active_errors.ParsePattern value at)) none = absurd cc
+known-by modules (Err (active_errors.NormalizePattern value)) none = absurd cc
+known-by modules (Err active_errors.OutOfMemory) none = (None, refl)
+
+-- a fault that ends a plan comes where no value is refused
+pub known-late : (told : Option Names) (root : List ℕ) (asked : Asked) (Rose : Type 0) (fold : Bool) (modules : Modules) (e : ModuleError)
+    → Refuses told root asked (refused_value (platform fold modules.config.sections)) Rose e → of_module e ≡ refusals.Fault → IsKnown (with_specs fold modules)
+known-late told root asked Rose fold modules (errors.ActiveSpec value) refused is = absurd cc
+known-late told root asked Rose fold modules (errors.Fault path) refused is = known-by modules (platform fold modules.config.sections) refused.0
+known-late told root asked Rose fold modules errors.OutOfMemory refused is = absurd cc
+
+-- the same of a file that was not read, where submodules are asked for
+pub stops-asking : (t : Names) (setup : Setup) (reads0 reads1 : ℕ) → StopsAt t setup reads0 reads1 → StopsAt t (asking setup) reads0 reads1
+stops-asking t setup reads0 reads1 at = record { before = at.before; config = at.config; read = at.read; reads = at.reads }
+
+-- a fault of reading is that of a file that was not read
+pub stops-loading : {W : Type 0} (w : WorktreeOf W) (w0 w1 : W) (setup : Setup) (e : ReportError) (Failed : Type 0) → OfModules Failed e → Stops w w0 w1 setup e
+    → of_report e ≡ refusals.Fault → (t : Names) → w.told w0 ≡ Some t → StopsAt t setup (w.reads w0) (w.reads w1)
+stops-loading w w0 w1 setup (reports.Config at line) Failed of stops is = absurd cc
+stops-loading w w0 w1 setup (reports.Modules line) Failed of stops is = absurd cc
+stops-loading w w0 w1 setup (reports.ActiveSpec at) Failed of stops is = absurd cc
+stops-loading w w0 w1 setup reports.ReadFault Failed of stops is = stops
+stops-loading w w0 w1 setup (reports.Walk error) Failed of stops is = absurd of
+stops-loading w w0 w1 setup reports.OutOfMemory Failed of stops is = absurd cc
 
 -- ---- what is outside its grammar
 

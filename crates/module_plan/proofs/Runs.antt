@@ -1,9 +1,9 @@
 -- The parts of the top call, put together.
-use Rattle.std.proofs.Common.{◌≡◌, ◌↔◌, ◌≤◌, ℕ, List, Bool, true, Option, Some, None, Result, Ok, Err, IfOk, IfErr, OnOk, IsErrOf, ap, refl, sym, ◌∙◌, subst, option_and_then, option_map, arith}
+use Rattle.std.proofs.Common.{◌≡◌, ◌⊎◌, inl, inr, ◌+◌, ◌↔◌, ◌≤◌, ℕ, List, Bool, true, Option, Some, None, Result, Ok, Err, IfOk, IfErr, OnOk, IsErrOf, ap, refl, sym, ◌∙◌, subst, option_and_then, option_map, arith}
 use Rattle.std.specs.Result.{result_ok}
 use Rattle.worktree_fs.specs.declared.sink.Sink.{Ghosts as SinkOf}
 use Rattle.worktree_fs.specs.declared.worktree.Worktree.{Ghosts as WorktreeOf}
-use Rattle.worktree_fs.specs.Causes.{Increased, NotIncreased}
+use Rattle.worktree_fs.specs.Causes.{Increased, Incremented, NotIncreased}
 use Rattle.worktree_fs.specs.Kept.{Asks}
 use Rattle.worktree_fs.specs.Tree.{Names, look}
 use Rattle.worktree_report.specs.declared.known.Known.{Known}
@@ -14,16 +14,16 @@ use Rattle.worktree_report.specs.declared.refusal.Refusal.TheVariants as refusal
 use Rattle.worktree_report.specs.declared.setup.Setup.{Setup}
 use Rattle.worktree_report.specs.Converted.{IsOfReading}
 use Rattle.worktree_report.specs.Ends.{Ends}
-use Rattle.worktree_report.specs.Loading.{known_in, modules_in, with_specs}
+use Rattle.worktree_report.specs.Loading.{files_of, known_in, modules_in, with_specs, IsKnown}
 use Rattle.worktree_report.specs.Loads.{LoadsFiles}
-use Rattle.worktree_report.specs.Outside.{IsOutside}
+use Rattle.worktree_report.specs.Outside.{IsOutside, StopsAt}
 use Rattle.worktree_report.specs.Run.{SetupRefuses}
 use Rattle.worktree_report.specs.SetupAt.{setup_at}
 use Rattle.worktree_report.specs.Words.{Places}
 use Rattle.worktree_report.specs.Written.{Appends}
 use Rattle.worktree_report.proofs.Runs.{Rose-before, ends_in_two, ends_in_zero, ends_of_usage}
 use Rattle.module_plan.specs.Run as top
-use Rattle.module_plan.proofs.Loaded.{known-misread, known-refused, outside-asking, outside-specs, which}
+use Rattle.module_plan.proofs.Loaded.{known-loaded, known-misread, known-refused, outside-asking, outside-specs, stops-asking, which}
 
 -- a fault of a part is one of the whole
 pub planning-weaker : (Failed Broken : Type 0) → (Failed → Broken) → (refusal : Refusal) → top.IsOfPlanning Failed refusal → top.IsOfPlanning Broken refusal
@@ -38,19 +38,23 @@ planning-weaker Failed Broken weaker refusals.OutOfMemory of = of
 
 -- ---- the plan by a setup
 
-module _ {W : Type 0} {w : WorktreeOf W} {w0 w1 : W} {root : List ℕ} {setup : Setup} {most : ℕ} where
+module _ {W : Type 0} {w : WorktreeOf W} {w0 w1 : W} {root : List ℕ} {setup : Setup} where
   -- what tells of submodules was not read
   pub PlansText-unloaded : (refusal : Refusal)
       → ((t : Names) → w.told w0 ≡ Some t → (m : Misread) → IsErrOf {T = Modules} (Err refusal) (refusals.Misread m) → modules_in t root setup ≡ Err m)
       → ((m : Misread) → IsErrOf {T = Modules} (Err refusal) (refusals.Misread m) → IsOutside root setup m)
-      → top.IsOfPlanning (Increased (w.faults w0) (w.faults w1)) refusal → LoadsFiles w w0 w1 most → top.PlansText w w0 w1 root setup (Err refusal)
-  PlansText-unloaded refusal outside about of loads =
+      → top.IsOfPlanning (Increased (w.faults w0) (w.faults w1)) refusal
+      → ((t : Names) → w.told w0 ≡ Some t → IsErrOf {T = Modules} (Err refusal) refusals.Fault → StopsAt t setup (w.reads w0) (w.reads w1))
+      → LoadsFiles w w0 w1 (files_of setup) → top.PlansText w w0 w1 root setup (Err refusal)
+  PlansText-unloaded refusal outside about of stops loads =
       record {
         gives = λ t told. tt;
         safe = λ t told. tt;
         misread = λ t told m is. known-misread t root setup m (outside t told m (ap Err (which is)));
         about = λ m is. record { asked = refl; outside = outside-asking root setup m (about m (ap Err (which is))) };
         refused = of;
+        fault_late = λ is t told. inl (stops t told (ap Err (which is)));
+        reads = loads.reads;
         tree = loads.tree;
         faults = loads.faults;
         list_faults = loads.list_faults;
@@ -72,20 +76,24 @@ refused-later : (answer : Result (List ℕ) Refusal) (Failed Broken : Type 0) �
 refused-later (Ok text) Failed Broken weaker of = tt
 refused-later (Err refusal) Failed Broken weaker of = planning-weaker Failed Broken weaker refusal of
 
-module _ {W : Type 0} {w : WorktreeOf W} {w0 w1 w2 : W} {root : List ℕ} {setup : Setup} {most : ℕ} where
+module _ {W : Type 0} {w : WorktreeOf W} {w0 w1 w2 : W} {root : List ℕ} {setup : Setup} where
   -- the plan is made of what was read
-  pub PlansText-loaded : (modules : Modules) (answer : Result (List ℕ) Refusal) → ((t : Names) → w.told w0 ≡ Some t → modules_in t root setup ≡ Ok modules) → LoadsFiles w w0 w1 most
+  pub PlansText-loaded : (modules : Modules) (answer : Result (List ℕ) Refusal) → ((t : Names) → w.told w0 ≡ Some t → modules_in t root setup ≡ Ok modules) → LoadsFiles w w0 w1 (files_of setup)
       → ((t : Names) → w.told w1 ≡ Some t → IfOk answer (λ text. top.text_of_modules t root setup.options.ignore_case modules ≡ Some text))
       → ((t : Names) → w.told w1 ≡ Some t → OnOk answer (top.IsSafePlanOf t root setup.options.ignore_case modules))
       → ((m : Misread) → IsErrOf answer (refusals.Misread m) → with_specs setup.options.ignore_case modules ≡ Err m)
-      → IfErr answer (top.IsOfPlanning (Increased (w.faults w1) (w.faults w2))) → Asks w w1 w2 → top.PlansText w w0 w2 root setup answer
-  PlansText-loaded modules answer read loads gives safe outside of asks =
+      → IfErr answer (top.IsOfPlanning (Increased (w.faults w1) (w.faults w2)))
+      → (IsErrOf answer refusals.Fault → IsKnown (with_specs setup.options.ignore_case modules)) → Asks w w1 w2 → w.reads w2 ≡ w.reads w1
+      → top.PlansText w w0 w2 root setup answer
+  PlansText-loaded modules answer read loads gives safe outside of late asks unread =
       record {
         gives = λ t told. text-loaded t root setup modules answer (read t told) (gives t (loads.tree ∙ told));
         safe = λ t told. safe-loaded t root setup modules answer (read t told) (safe t (loads.tree ∙ told));
         misread = λ t told m is. known-refused t root setup modules m (read t told) (outside m is);
         about = λ m is. record { asked = refl; outside = outside-specs root setup modules m (outside m is) };
         refused = refused-later answer _ _ (Rose-before _ _ _ loads.faults) of;
+        fault_late = λ is t told. inr (known-loaded t root setup modules (read t told) (late is));
+        reads = omega (arith, loads.reads, unread);
         tree = asks.tree ∙ loads.tree;
         faults = omega (arith, loads.faults, asks.faults);
         list_faults = asks.list_faults ∙ loads.list_faults;
@@ -158,13 +166,16 @@ module _ {W : Type 0} {w : WorktreeOf W} {w0 w1 : W} {places : Places} where
   pub AnswersPlan-unread : (refusal : Refusal) → IsOfReading refusal
       → ((t : Names) → w.told w0 ≡ Some t → (line : ℕ) → refusal ≡ refusals.Setup line → SetupRefuses t places line)
       → (refusal ≡ refusals.Fault → Increased (w.faults w0) (w.faults w1))
+      → Incremented (w.reads w0) (w.reads w1)
       → w.told w1 ≡ w.told w0 → w.faults w0 ≤ w.faults w1 → w.list_faults w1 ≡ w.list_faults w0 → w.lists w1 ≡ w.lists w0 → w.precomposes w1 ≡ w.precomposes w0
       → top.AnswersPlan w w0 w1 places (Err refusal)
-  AnswersPlan-unread refusal of outside fault tree faults list_faults lists composes =
+  AnswersPlan-unread refusal of outside fault once tree faults list_faults lists composes =
       record {
         gives = λ t told. tt;
         safe = λ t told. tt;
         refused = call-read _ refusal of fault;
+        fault_late = λ is t told. inl (omega (arith, once));
+        reads = λ t told. inl (omega (arith, once));
         setup = λ t told line is. outside t told line (which is);
         misread = λ t told m is. absurd (subst IsOfReading (which is) of);
         misread_about = λ m is. absurd (subst IsOfReading (which is) of);
@@ -176,8 +187,14 @@ module _ {W : Type 0} {w : WorktreeOf W} {w0 w1 : W} {places : Places} where
         precomposes = composes;
       }
 
+on-time : (t : Names) (places : Places) (setup : Setup) (reads0 reads1 reads2 : ℕ) → setup_at (look t places.setup true) ≡ Ok setup → Incremented reads0 reads1
+    → StopsAt t setup reads1 reads2 ⊎ IsKnown (known_in t places.root (top.asking setup)) → top.FailsOnTime t places reads0 reads2
+on-time t places setup reads0 reads1 reads2 read once (inl stops) =
+    inr (inl (record { setup = setup; read = read; asked = refl; stops = stops-asking t setup _ _ (subst (λ (n : ℕ). StopsAt t setup n reads2) once stops) }))
+on-time t places setup reads0 reads1 reads2 read once (inr known) = inr (inr (record { setup = setup; read = read; known = known }))
+
 module _ {W : Type 0} {w : WorktreeOf W} {w0 w1 w2 : W} {places : Places} (setup : Setup) (read : (t : Names) → w.told w0 ≡ Some t → setup_at (look t places.setup true) ≡ Ok setup)
-    (tree : w.told w1 ≡ w.told w0) (faults : w.faults w0 ≤ w.faults w1) where
+    (tree : w.told w1 ≡ w.told w0) (faults : w.faults w0 ≤ w.faults w1) (once : Incremented (w.reads w0) (w.reads w1)) where
   no_plan : (answer : Result (List ℕ) Refusal) → top.PlansText w w1 w2 places.root setup answer
       → (t : Names) → w.told w0 ≡ Some t → NotIncreased (w.faults w0) (w.faults w2) → top.IsReady t places → IfErr answer (λ refusal. refusal ≡ refusals.OutOfMemory)
   no_plan (Ok text) plans t told quiet ready = tt
@@ -199,6 +216,8 @@ module _ {W : Type 0} {w : WorktreeOf W} {w0 w1 w2 : W} {places : Places} (setup
         gives = λ t told. output-planned t places setup answer (read t told) (plans.gives t (tree ∙ told));
         safe = λ t told. safe-planned t places setup answer (read t told) (plans.safe t (tree ∙ told));
         refused = call-planned _ _ (Rose-before _ _ _ faults) answer plans.refused;
+        fault_late = λ is t told. on-time t places setup _ _ _ (read t told) once (plans.fault_late is t (tree ∙ told));
+        reads = λ t told. inr (setup, read t told, subst (λ (n : ℕ). w.reads w2 ≤ n + files_of setup) once plans.reads);
         setup = λ t told line is. absurd (subst (λ r. IfErr r (top.IsOfPlanning (Increased (w.faults w1) (w.faults w2)))) is plans.refused);
         misread = λ t told m is. record { setup = setup; read = read t told; misread = plans.misread t (tree ∙ told) m is };
         misread_about = λ m is. record { setup = setup; read = read; about = plans.about m is };

@@ -27,7 +27,8 @@ use Rattle.module_plan.specs.declared.step.Why.TheVariants as whys
 use Rattle.module_plan.specs.declared.wanted.Wanted.{Wanted}
 use Rattle.module_plan.specs.Plans.{IsAllowedStep, IsSafe}
 use Rattle.module_plan.specs.Verdicts.{AreVerdicts, is_taken, steps_of}
-use Rattle.module_plan.specs.Wanted.{Asked, first_why, is_dot_git, kind, place, place_below, wanted, why_inactive, wish}
+use Rattle.gitbase_core.specs.Text.{is_dot_git}
+use Rattle.module_plan.specs.Wanted.{Asked, first_why, kind, place, place_below, wanted, why_inactive, wish}
 use Rattle.module_plan.specs.Ways.{obstacle}
 use Rattle.module_plan.proofs.Distinct.{by-verdict}
 

@@ -22,7 +22,8 @@ use Rattle.module_plan.specs.declared.step.StepKind.TheVariants as kinds
 use Rattle.module_plan.specs.declared.step.Verdict.{Verdict}
 use Rattle.module_plan.specs.Judged.{IsAskedFor}
 use Rattle.module_plan.specs.Verdicts.{AreVerdicts, verdicts_after, steps_of, skipped_of}
-use Rattle.module_plan.specs.Wanted.{Asked, is_dot_git}
+use Rattle.gitbase_core.specs.Text.{is_dot_git}
+use Rattle.module_plan.specs.Wanted.{Asked}
 use Rattle.module_plan.specs.Ways.{obstacle}
 
 -- What becomes of each submodule that `.gitmodules` names, in the order of the names.

@@ -1,9 +1,9 @@
 -- What the top call gives, and why it gives nothing.
-use Rattle.std.specs.Prelude.{◌≡◌, ◌≤◌, ℕ, List, Bool, true, codes, Option, Some, None, option_and_then, Result, Ok, Err, IfOk, IfErr, OnOk, IsErrOf}
+use Rattle.std.specs.Prelude.{◌≡◌, ◌⊎◌, ◌≤◌, ◌+◌, ℕ, List, Bool, true, codes, Option, Some, None, option_and_then, Result, Ok, Err, IfOk, IfErr, OnOk, IsErrOf}
 use Rattle.std.specs.Result.{result_ok}
 use Rattle.worktree_fs.specs.declared.interrupt.Interrupt.{Ghosts as InterruptOf}
 use Rattle.worktree_fs.specs.declared.worktree.Worktree.{Ghosts as WorktreeOf}
-use Rattle.worktree_fs.specs.Causes.{NotIncreased, Increased}
+use Rattle.worktree_fs.specs.Causes.{NotIncreased, Increased, next}
 use Rattle.worktree_fs.specs.Tree.{Names, look}
 use Rattle.submodule.specs.Active.{platform}
 use Rattle.module_plan.specs.declared.error.ModuleError.{ModuleError}
@@ -22,9 +22,9 @@ use Rattle.worktree_report.specs.declared.refusal.Misread.TheVariants as misread
 use Rattle.worktree_report.specs.declared.refusal.Refusal.{Refusal}
 use Rattle.worktree_report.specs.declared.refusal.Refusal.TheVariants as refusals
 use Rattle.worktree_report.specs.declared.setup.Setup.{Setup}
-use Rattle.worktree_report.specs.Loading.{known_in, modules_in}
-use Rattle.worktree_report.specs.Outside.{IsAboutMisreadAt}
-use Rattle.worktree_report.specs.Run.{IsAboutMisread, MisreadsReport, SetupRefuses}
+use Rattle.worktree_report.specs.Loading.{files_of, known_in, modules_in, IsKnown}
+use Rattle.worktree_report.specs.Outside.{IsAboutMisreadAt, StopsAt}
+use Rattle.worktree_report.specs.Run.{IsAboutMisread, IsKnownReport, MisreadsReport, SetupRefuses, StopsReport}
 use Rattle.worktree_report.specs.SetupAt.{setup_at}
 use Rattle.worktree_report.specs.Steps.{◌>>=◌}
 use Rattle.worktree_report.specs.Words.{Places, places_behind}
@@ -132,6 +132,9 @@ pub record PlansText {W : Type 0} (w : WorktreeOf W) (w0 w1 : W) (root : List �
   pub misread : (t : Names) → w.told w0 ≡ Some t → (which : Misread) → IsErrOf answer (refusals.Misread which) → known_in t root (asking setup) ≡ Err which
   pub about : (which : Misread) → IsErrOf answer (refusals.Misread which) → IsAboutMisreadAt root (asking setup) which
   pub refused : IfErr answer (IsOfPlanning (Increased (w.faults w0) (w.faults w1)))
+  pub fault_late : IsErrOf answer refusals.Fault → (t : Names) → w.told w0 ≡ Some t
+      → StopsAt t setup (w.reads w0) (w.reads w1) ⊎ IsKnown (known_in t root (asking setup))
+  pub reads : w.reads w1 ≤ w.reads w0 + files_of setup
   pub tree : w.told w1 ≡ w.told w0
   pub faults : w.faults w0 ≤ w.faults w1
   pub list_faults : w.list_faults w1 ≡ w.list_faults w0
@@ -147,6 +150,15 @@ pub record IsReady (t : Names) (places : Places) : Type 0 where
   pub known : Option Known
   pub known_is : known_in t places.root (asking setup) ≡ Ok known
 
+-- a fault comes in its time: no file behind the setup was read, or one that tells of submodules was not, or all of it is in its grammar
+abbrev pub FailsOnTime : Names → Places → ℕ → ℕ → Type 0
+FailsOnTime t places reads0 reads1 = (reads1 ≤ next reads0) ⊎ (StopsReport asking t places reads0 reads1 ⊎ IsKnownReport asking t places)
+
+-- the setup is read once, and where it is one, each file that it asks for once at most
+abbrev pub ReadsOnce : Names → Places → ℕ → ℕ → Type 0
+ReadsOnce t places reads0 reads1 =
+    (reads1 ≤ next reads0) ⊎ ((setup : Setup) × (setup_at (look t places.setup true) ≡ Ok setup) × (reads1 ≤ next reads0 + files_of setup))
+
 -- The text of the plan at some places, or why there is none, where a worktree was `w0` and is `w1`.
 pub record AnswersPlan {W : Type 0} (w : WorktreeOf W) (w0 w1 : W) (places : Places) (answer : Result (List ℕ) Refusal) : Type 0 where
   -- Over a told tree it is exactly the one that the files ask for, and safe to carry out.
@@ -154,12 +166,17 @@ pub record AnswersPlan {W : Type 0} (w : WorktreeOf W) (w0 w1 : W) (places : Pla
   pub safe : (t : Names) → w.told w0 ≡ Some t → OnOk answer (IsSafePlan t places)
   -- Each refusal has its cause.
   pub refused : IfErr answer (IsOfCall (Increased (w.faults w0) (w.faults w1)))
+  -- Over a told tree a fault comes where the setup was not read, or a file that tells of submodules was not, or all that tells of them is
+  -- in its grammar: the ways are looked at behind that.
+  pub fault_late : IsErrOf answer refusals.Fault → (t : Names) → w.told w0 ≡ Some t → FailsOnTime t places (w.reads w0) (w.reads w1)
   pub setup : (t : Names) → w.told w0 ≡ Some t → (line : ℕ) → IsErrOf answer (refusals.Setup line) → SetupRefuses t places line
   pub misread : (t : Names) → w.told w0 ≡ Some t → (which : Misread) → IsErrOf answer (refusals.Misread which) → MisreadsReport asking t places which
   pub misread_about : (which : Misread) → IsErrOf answer (refusals.Misread which) → IsAboutMisread asking (w.told w0) places which
   -- For valid input, and where nothing failed, only memory may be wanted.
   pub complete : (t : Names) → w.told w0 ≡ Some t → NotIncreased (w.faults w0) (w.faults w1) → IsReady t places
       → IfErr answer (λ refusal. refusal ≡ refusals.OutOfMemory)
+  -- Each file is read once at most, and none behind the setup where that is refused.
+  pub reads : (t : Names) → w.told w0 ≡ Some t → ReadsOnce t places (w.reads w0) (w.reads w1)
   -- What stays.
   pub tree : w.told w1 ≡ w.told w0
   pub faults : w.faults w0 ≤ w.faults w1

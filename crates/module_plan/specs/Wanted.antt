@@ -1,8 +1,8 @@
 -- What a submodule asks for, by `.gitmodules` and the configuration: a step at a path, or why there is none.
-use Rattle.std.specs.Prelude.{ℕ, List, codes, Bool, true, false, Option, Some, None, Result, Ok, Err, is_err, if◌then◌else◌}
+use Rattle.std.specs.Prelude.{ℕ, List, Bool, true, false, Option, Some, None, Result, Ok, Err, is_err, if◌then◌else◌}
 use Rattle.std.specs.List.{list_any}
 use Rattle.gitbase_core.specs.Path.{is_empty, components, normalized}
-use Rattle.gitbase_core.specs.Text.{eq_ignore_case}
+use Rattle.gitbase_core.specs.Text.{is_dot_git}
 use Rattle.git_config_lite.specs.Sections.{Section, Configuration}
 use Rattle.glob_rules.specs.PathSpec.{PathSpec}
 use Rattle.submodule.specs.Access.{path, update, url}
@@ -45,10 +45,6 @@ abbrev pub why_inactive : Result Bool (List ℕ) → Option Why
 why_inactive (Ok true) = None
 why_inactive (Ok false) = Some whys.Inactive
 why_inactive (Err text) = Some whys.BadActive
-
--- a name is `.git`, whatever the case of its letters
-abbrev pub is_dot_git : List ℕ → Bool
-is_dot_git name = eq_ignore_case name (codes ".git")
 
 -- a path without empty components, `.` and `..`: it is not that of the root, and no component is `.git`
 abbrev pub place_below : Option (List ℕ) → Result (List ℕ) Why

@@ -1,5 +1,6 @@
 -- What stands on the way from a root to a path below it.
 use Rattle.std.specs.Prelude.{◌≡◌, ◌⊎◌, ℕ, List, [], ◌∷◌, Bool, false, Option, Some, None, if◌then◌else◌}
+use Rattle.std.specs.List.{AllByRecursion}
 use Rattle.gitbase_core.specs.Path.{components, joined}
 use Rattle.worktree_fs.specs.Answers.{kind_of}
 use Rattle.worktree_fs.specs.Tree.{Names, look}
@@ -35,6 +36,11 @@ obstacle t directory (name ∷ names) =
 abbrev pub IsObstacle : Option Why → Type 0
 IsObstacle None = Unit {0}
 IsObstacle (Some why) = (why ≡ whys.Link) ⊎ (why ≡ whys.NotADirectory)
+
+-- nodes that were looked at, by their whole paths, are of these kinds, where the worktree tells
+abbrev pub AreSeen : Option Names → List (List ℕ × Option NodeKind) → Type 0
+AreSeen told seen =
+    (t : Names) → told ≡ Some t → AllByRecursion (λ (one : List ℕ × Option NodeKind). one.1 ≡ kind_of (look t one.0 false)) seen
 
 -- why what stands at a path was not learnt: the worktree failed there
 abbrev pub StopsAt : List ℕ → Type 0 → ModuleError → Type 0

@@ -10,6 +10,7 @@ ghost use Rattle.module_plan.specs.Ways as ways;
 
 use crate::asking::Asking;
 use crate::error::ModuleError;
+use crate::seen::Seen;
 use crate::step::{ModulePlan, Skipped, Step, Verdict, Why};
 use crate::taken::TakenPaths;
 use crate::wanted::{Stop, Wanted, asked_for};
@@ -39,8 +40,11 @@ pub(crate) fn judged<W: Worktree>(
         skipped: Vec::new(alloc),
     };
     let mut taken = TakenPaths::new(alloc);
+    let mut seen = Seen::new(alloc);
     for name in asking.modules.names() {
-        let verdict = verdict(alloc, worktree, asking, platform, &mut taken, name)?;
+        let verdict = verdict(
+            alloc, worktree, asking, platform, &mut taken, &mut seen, name,
+        )?;
         plan = with_verdict(plan, verdict)?;
     }
     Ok(plan)
@@ -73,14 +77,17 @@ fn verdict<W: Worktree>(
     asking: &Asking<'_>,
     platform: &mut IsActivePlatform,
     taken: &mut TakenPaths,
+    seen: &mut Seen,
     name: &[u8],
 ) -> Result<Verdict, ModuleError>
+    requires seen { ways.AreSeen (W.told worktree.old) seen.old }
     ensures verdict { IfOk result (verdicts.IsJudged (W.told worktree.old) asking.now.root.now
         name.now (wanted (asked_by asking.now platform.old) name.now)
         (λ path. is_among path taken.old)) }
     ensures taken { (other : List ℕ) → OnOk result (is_among other taken.new
         ≡ (verdicts.wants other (wanted (asked_by asking.now platform.old) name.now)
         || is_among other taken.old)) }
+    ensures seen { OnOk result (ways.AreSeen (W.told worktree.old) seen.new) }
     ensures refused { IfErr result (judged.StopsModule (W.told worktree.old) asking.now.root.now
         (wanted (asked_by asking.now platform.old) name.now) (λ path. is_among path taken.old)
         (Increased (W.faults worktree.old) (W.faults worktree.new))) }
@@ -89,7 +96,7 @@ fn verdict<W: Worktree>(
     ensures reads { W.reads worktree.new ≡ W.reads worktree.old }
 {
     match asked_for(alloc, asking, platform, name) {
-        Ok(wanted) => placed(alloc, worktree, asking.root, taken, name, wanted),
+        Ok(wanted) => placed(alloc, worktree, asking.root, taken, seen, name, wanted),
         Err(Stop::LeaveOut(why)) => Ok(left_out(alloc, name, why)?),
         Err(Stop::OutOfMemory) => Err(ModuleError::OutOfMemory),
     }
@@ -101,13 +108,16 @@ fn placed<W: Worktree>(
     worktree: &mut W,
     root: &[u8],
     taken: &mut TakenPaths,
+    seen: &mut Seen,
     name: &[u8],
     wanted: Wanted,
 ) -> Result<Verdict, ModuleError>
+    requires seen { ways.AreSeen (W.told worktree.old) seen.old }
     ensures verdict { IfOk result (verdicts.IsPlaced (W.told worktree.old) root.now
         name.now wanted (is_among wanted.path taken.old)) }
     ensures taken { (other : List ℕ) → OnOk result (is_among other taken.new
         ≡ (bytes_eq other wanted.path || is_among other taken.old)) }
+    ensures seen { OnOk result (ways.AreSeen (W.told worktree.old) seen.new) }
     ensures refused { IfErr result (ways.StopsLook (ways.IsLookedFor (W.told worktree.old) root.now
         wanted (is_among wanted.path taken.old))
         (Increased (W.faults worktree.old) (W.faults worktree.new))) }
@@ -117,7 +127,7 @@ fn placed<W: Worktree>(
     if !taken.take(alloc, &wanted.path)? {
         return Ok(left_out(alloc, name, Why::SamePath)?);
     }
-    match obstacle(alloc, worktree, root, &wanted.path)? {
+    match obstacle(alloc, worktree, root, seen, &wanted.path)? {
         Some(why) => Ok(left_out(alloc, name, why)?),
         None => Ok(updated(alloc, name, wanted)?),
     }

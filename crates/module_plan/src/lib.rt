@@ -7,6 +7,7 @@ mod judge;
 mod lines;
 mod planned;
 mod program;
+mod seen;
 mod step;
 mod taken;
 mod wanted;

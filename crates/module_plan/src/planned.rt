@@ -25,7 +25,7 @@ use worktree_fs::Worktree;
 /// Each submodule that `.gitmodules` names is updated, or left out for the first reason of `Why` that holds. Which are active
 /// says the configuration, by `IsActivePlatform::is_active`; in the path specs of `submodule.active` letters fold if
 /// `defaults` says so. The worktree is asked for the nodes on the way to each path that no earlier submodule asks for, links
-/// not followed.
+/// not followed; for one that is on several ways once.
 ///
 /// # Errors
 ///

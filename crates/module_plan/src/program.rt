@@ -5,10 +5,10 @@ ghost use Rattle.worktree_fs.specs.Kept.{Asks};
 ghost use Rattle.worktree_fs.specs.Tree.{Names};
 ghost use Rattle.module_plan.specs.Run as top;
 ghost use Rattle.worktree_report.specs.Ends.{Runs};
-ghost use Rattle.worktree_report.specs.Loading.{files_of, modules_in, with_specs};
+ghost use Rattle.worktree_report.specs.Loading.{files_of, modules_in, with_specs, IsKnown};
 ghost use Rattle.worktree_report.specs.Loads.{LoadsFiles};
 ghost use Rattle.worktree_report.specs.Named.{named_by};
-ghost use Rattle.worktree_report.specs.Outside.{IsOutside};
+ghost use Rattle.worktree_report.specs.Outside.{IsOutside, StopsAt};
 ghost use Rattle.worktree_report.specs.Written.{Appends};
 ghost use Rattle.worktree_report.specs.declared.refusal.Misread.{Misread as Place};
 
@@ -59,6 +59,8 @@ fn modules_of<W: Worktree>(
         → IsOutside root.now setup.now which }
     ensures refused { IfErr result (top.IsOfPlanning (Increased (W.faults worktree.old)
         (W.faults worktree.new))) }
+    ensures stops { (t : Names) → W.told worktree.old ≡ Some t → IsErrOf result Refusal.Fault
+        → StopsAt t setup.now (W.reads worktree.old) (W.reads worktree.new) }
     ensures loads { LoadsFiles W.Worktree worktree.old worktree.new (files_of setup.now) }
 {
     match load_modules(alloc, worktree, root, setup) {
@@ -83,7 +85,9 @@ fn text_of_modules<W: Worktree>(
         → with_specs ignore_case modules.now ≡ Err which }
     ensures refused { IfErr result (top.IsOfPlanning (Increased (W.faults worktree.old)
         (W.faults worktree.new))) }
+    ensures late { IsErrOf result Refusal.Fault → IsKnown (with_specs ignore_case modules.now) }
     ensures keeps { Asks W.Worktree worktree.old worktree.new }
+    ensures reads { W.reads worktree.new ≡ W.reads worktree.old }
 {
     let defaults = Defaults { ignore_case };
     match plan(

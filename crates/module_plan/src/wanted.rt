@@ -2,6 +2,7 @@
 ghost use Rattle.std.specs.Prelude.{◌≡◌, Some, Ok, IfOk, is_err};
 ghost use Rattle.std.specs.List.{list_any};
 ghost use Rattle.gitbase_core.specs.Path.{components};
+ghost use Rattle.gitbase_core.specs.Text.{is_dot_git};
 ghost use Rattle.submodule.specs.Access as access;
 ghost use Rattle.submodule.specs.Active as active;
 ghost use Rattle.module_plan.specs.Wanted as wanted;
@@ -10,7 +11,7 @@ ghost use Rattle.module_plan.specs.Gives.{Gives};
 use crate::asking::Asking;
 use crate::step::{StepKind, Why};
 use git_config_lite as config;
-use gitbase_core::{OutOfMemory, PathText, eq_ignore_case};
+use gitbase_core::{OutOfMemory, PathText, is_dot_git};
 use std::alloc::Global;
 use submodule::{IsActivePlatform, Update, path, update, url};
 
@@ -40,6 +41,9 @@ impl From<OutOfMemory> for Stop {
 }
 
 /// The step that a submodule asks for: it is active, has a path, an update and a url.
+///
+/// See docs/DIFFERENCES.md#modules-not-initialised.
+/// See docs/DIFFERENCES.md#modules-without-index.
 pub(crate) fn asked_for(
     alloc: Global,
     asking: &Asking<'_>,
@@ -105,10 +109,10 @@ fn place_of(alloc: Global, path: &[u8]) -> Result<PathText, Stop>
 
 /// Whether a component of a path is `.git`, whatever the case of the letters.
 fn has_dot_git(path: &PathText) -> bool
-    ensures { result ≡ list_any wanted.is_dot_git (components path.now) }
+    ensures { result ≡ list_any is_dot_git (components path.now) }
 {
     for name in path.components() {
-        if eq_ignore_case(name, b".git") {
+        if is_dot_git(name) {
             return true;
         }
     }

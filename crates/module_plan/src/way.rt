@@ -1,5 +1,5 @@
 //! What stands on the way to a path.
-ghost use Rattle.std.specs.Prelude.{◌≡◌, false, Some, IfOk, IfErr};
+ghost use Rattle.std.specs.Prelude.{◌≡◌, false, Some, IfOk, IfErr, OnOk};
 ghost use Rattle.gitbase_core.specs.Path.{components};
 ghost use Rattle.worktree_fs.specs.Causes.{Increased};
 ghost use Rattle.worktree_fs.specs.Kept.{Asks};
@@ -9,21 +9,30 @@ ghost use Rattle.worktree_report.specs.Looks.{IsLookedAt, is_directory};
 ghost use Rattle.module_plan.specs.Ways as ways;
 
 use crate::error::ModuleError;
+use crate::seen::Seen;
 use crate::step::Why;
 use gitbase_core::PathText;
 use std::alloc::Global;
 use worktree_fs::{NodeKind, ReadError, Worktree};
 
-/// The first node that is no directory on the way from a root to a path below it, or there.
+/// The first node that is no directory on the way from a root to a path below it, or there. Nodes that were looked at before are
+/// not looked at again.
+///
+/// See docs/DECISIONS.md#absent-bars-nothing.
+/// See docs/DECISIONS.md#way-to-first-gap.
+/// See docs/DECISIONS.md#too-long-path.
 pub(crate) fn obstacle<W: Worktree>(
     alloc: Global,
     worktree: &mut W,
     root: &[u8],
+    seen: &mut Seen,
     path: &PathText,
 ) -> Result<Option<Why>, ModuleError>
+    requires seen { ways.AreSeen (W.told worktree.old) seen.old }
     ensures obstacle { (t : Names) → W.told worktree.old ≡ Some t
         → IfOk result (λ why. why ≡ ways.obstacle t root.now (components path.now)) }
     ensures is { IfOk result ways.IsObstacle }
+    ensures seen { OnOk result (ways.AreSeen (W.told worktree.old) seen.new) }
     ensures refused { IfErr result (ways.StopsLook
         (IsLookedAt (W.told worktree.old) root.now (components path.now))
         (Increased (W.faults worktree.old) (W.faults worktree.new))) }
@@ -33,12 +42,36 @@ pub(crate) fn obstacle<W: Worktree>(
     let mut full = PathText::from_bytes(alloc, root)?;
     for name in path.components() {
         full.push_component(alloc, name)?;
-        let kind = kind_at(alloc, worktree, &full)?;
+        let kind = seen_kind(alloc, worktree, seen, &full)?;
         if !is_directory(kind) {
             return Ok(obstacle_of(kind));
         }
     }
     Ok(None)
+}
+
+/// The kind of the node at a whole path, which is looked at unless it was before.
+fn seen_kind<W: Worktree>(
+    alloc: Global,
+    worktree: &mut W,
+    seen: &mut Seen,
+    full: &PathText,
+) -> Result<Option<NodeKind>, ModuleError>
+    requires seen { ways.AreSeen (W.told worktree.old) seen.old }
+    ensures kind { (t : Names) → W.told worktree.old ≡ Some t
+        → IfOk result (λ kind. kind ≡ kind_of (look t full.now false)) }
+    ensures seen { OnOk result (ways.AreSeen (W.told worktree.old) seen.new) }
+    ensures refused { IfErr result (ways.StopsAt full.now
+        (Increased (W.faults worktree.old) (W.faults worktree.new))) }
+    ensures keeps { Asks W.Worktree worktree.old worktree.new }
+    ensures reads { W.reads worktree.new ≡ W.reads worktree.old }
+{
+    if let Some(kind) = seen.kind_at(full) {
+        return Ok(kind);
+    }
+    let kind = kind_at(alloc, worktree, full)?;
+    seen.add(alloc, full, kind)?;
+    Ok(kind)
 }
 
 /// The kind of the node at a whole path.

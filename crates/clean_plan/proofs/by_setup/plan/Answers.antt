@@ -19,7 +19,7 @@ returns g c =
     let a = c.args in
     plan-made g.W.Worktree g.F.Find g.I.Interrupt a.worktree.now c.worktree_report.new.worktree c.current_below.new.worktree a.objects.now
     c.worktree_report.new.objects a.interrupt.now c.worktree_report.new.interrupt a.worktree_root.now a.setup.now a.what c.in_ok-report.report
-    c.in_ok-report.ensures c.current_below.ensures.keeps c.current_below.ensures.reads a.finding c.requires.prepared (λ t told. g.met.W.Worktree.is_tree a.worktree.now t told)
+    c.in_ok-report.ensures c.current_below.ensures.keeps c.current_below.ensures.reads a.finding c.requires.prepared
     c.in_ok-current.current
     (λ t told. c.in_ok-current.ensures.below t told ∙ ap (λ (cwd : List ℕ). current_below t a.worktree_root.now cwd) c.current_dir_of-current_dir.ensures)
     c.in_ok-plan_by.field-0 c.in_ok-plan_by.ensures

@@ -1,7 +1,7 @@
 use Rattle.std.proofs.Common.{◌≡◌, length}
 use Rattle.std.specs.List.{list_any}
 use Rattle.gitbase_core.specs.Path.{components}
-use Rattle.clean_plan.specs.Kept.{is_dot_git}
+use Rattle.gitbase_core.specs.Text.{is_dot_git}
 use Rattle.clean_plan.proofs.kept.has_dot_git.Given as goal
 
 abbrev pub invariant-loop-name : goal.invariant-loop-name

@@ -10,9 +10,9 @@ returns-in_err-setup g c =
     let unread = c.in_err-setup.ensures in
     rw (p.1, p.2)
     (AnswersClean-unread c.in_err-setup.field-0.0 unread.answers (λ t told line is. unread.outside t told line (ap Err is)) (λ is. unread.cause (ap Err is))
-    unread.tree unread.faults unread.list_faults unread.lists unread.precomposes)
+    unread.tree unread.faults unread.list_faults unread.reads unread.lists unread.precomposes)
 
 pub returns : goal.returns
 returns g c =
     let read = c.in_ok-setup.ensures in
-    AnswersClean-made {w = g.W.Worktree} {i = g.I.Interrupt} {request = requested_by c.args.request} c.in_ok-setup.setup c.prepare.new.options c.text_of_plan.result c.prepare.ensures.set read.gives read.tree read.faults read.list_faults read.lists read.precomposes c.text_of_plan.ensures
+    AnswersClean-made {w = g.W.Worktree} {i = g.I.Interrupt} {request = requested_by c.args.request} c.in_ok-setup.setup c.prepare.new.options c.text_of_plan.result c.prepare.ensures.set read.gives read.tree read.faults read.list_faults read.reads read.lists read.precomposes c.text_of_plan.ensures

@@ -6,21 +6,21 @@ use Rattle.gitbase_core.specs.Path.{components}
 use Rattle.worktree_fs.specs.Tree.{Names}
 use Rattle.index_status.specs.Rows.{firsts}
 use Rattle.index_status.specs.States.{IsState}
-use Rattle.index_status.specs.Ways.{IsLed}
+use Rattle.index_status.specs.Ways.{IsKnown}
 use Rattle.index_status.proofs.compare.states.Goals as goal
 
 pub loop-entry-init : goal.loop-entry-init
 loop-entry-init g c = (
   along-start g.W.Worktree c.args.worktree.now c.args.worktree_root.now c.args.index.now c.entries-entry-items.result.now c.new-made.result.items
       c.entries-entry-items.ensures.same c.new-made.ensures.items,
-  tt,
+  record { bar = tt; led = tt },
 )
 
 pub with_entry-requires : goal.with_entry-requires
 with_entry-requires g c =
     record {
       known =
-          subst (λ (told : Option Names). IsLed told c.args.worktree_root.now (components c.loop-entry.known.now))
+          subst (λ (told : Option Names). IsKnown told c.args.worktree_root.now c.loop-entry.known.barred (components c.loop-entry.known.path.now))
           (sym c.loop-entry.invariant.0.keeps.tree) c.loop-entry.invariant.1;
     }
 
@@ -31,8 +31,8 @@ loop-entry-preserved g c = (
       (drop (c.loop-entry.entry-index + 1) c.entries-entry-items.result.now)
       (next-left c.entries-entry-items.result.now c.loop-entry.entry-index c.entry-item.result c.loop-entry-test.true c.entry-item.is)
       c.in_ok-more.more.items c.in_ok-more.ensures.keeps c.in_ok-more.ensures.more,
-  subst (λ (told : Option Names). IsLed told c.args.worktree_root.now (components c.in_ok-more.led.now)) c.loop-entry.invariant.0.keeps.tree
-      c.in_ok-more.ensures.led,
+  subst (λ (told : Option Names). IsKnown told c.args.worktree_root.now c.in_ok-more.led.barred (components c.in_ok-more.led.path.now)) c.loop-entry.invariant.0.keeps.tree
+      c.in_ok-more.ensures.known,
 )
 
 pub returns-clause-states : goal.returns-clause-states

@@ -9,9 +9,9 @@ returns-in_err-setup g c =
     let unread = c.in_err-setup.ensures in
     rw (p.1, p.2)
     (AnswersStatus-unread c.in_err-setup.field-0.0 unread.answers (λ t told line is. unread.outside t told line (ap Err is)) (λ is. unread.cause (ap Err is))
-    unread.tree unread.faults unread.list_faults unread.lists unread.precomposes)
+    unread.tree unread.faults unread.list_faults unread.reads unread.lists unread.precomposes)
 
 pub returns : goal.returns
 returns g c =
     let read = c.in_ok-setup.ensures in
-    AnswersStatus-made c.in_ok-setup.setup c.text_of_status.result read.gives read.tree read.faults read.list_faults read.lists read.precomposes c.text_of_status.ensures
+    AnswersStatus-made c.in_ok-setup.setup c.text_of_status.result read.gives read.tree read.faults read.list_faults read.reads read.lists read.precomposes c.text_of_status.ensures

@@ -26,4 +26,5 @@ loop-name-preserved g c = (
       c.in_ok-verdict.verdict c.verdict.new.taken c.in_ok-plan.plan c.in_ok-verdict.ensures.keeps c.in_ok-verdict.ensures.reads
       c.in_ok-verdict.ensures.verdict c.in_ok-verdict.ensures.taken c.in_ok-plan.ensures,
   search rules,
+  search rules,
 )

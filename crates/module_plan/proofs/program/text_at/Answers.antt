@@ -8,10 +8,10 @@ returns-in_err-setup g c =
     let p = err_from_is_err_and c.from_residual.result c.from_residual.ensures.1 in
     let unread = c.in_err-setup.ensures in
     rw (p.1, p.2)
-    (AnswersPlan-unread c.in_err-setup.field-0.0 unread.answers (λ t told line is. unread.outside t told line (ap Err is)) (λ is. unread.cause (ap Err is))
+    (AnswersPlan-unread c.in_err-setup.field-0.0 unread.answers (λ t told line is. unread.outside t told line (ap Err is)) (λ is. unread.cause (ap Err is)) unread.reads
     unread.tree unread.faults unread.list_faults unread.lists unread.precomposes)
 
 pub returns : goal.returns
 returns g c =
     let read = c.in_ok-setup.ensures in
-    AnswersPlan-planned c.in_ok-setup.setup read.gives read.tree read.faults c.planned_text.result read.list_faults read.lists read.precomposes c.planned_text.ensures
+    AnswersPlan-planned c.in_ok-setup.setup read.gives read.tree read.faults read.reads c.planned_text.result read.list_faults read.lists read.precomposes c.planned_text.ensures

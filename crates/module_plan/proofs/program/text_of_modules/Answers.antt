@@ -1,4 +1,5 @@
-use Rattle.module_plan.proofs.Loaded.{text-given}
+use Rattle.std.proofs.Common.{sym, ◌∙◌}
+use Rattle.module_plan.proofs.Loaded.{known-late, text-given, which}
 use Rattle.module_plan.proofs.program.text_of_modules.Goals as goal
 
 pub returns-in_ok-plan_bytes-in-Ok-clause-gives : goal.returns-in_ok-plan_bytes-in-Ok-clause-gives
@@ -8,3 +9,7 @@ returns-in_ok-plan_bytes-in-Ok-clause-gives g c = λ t told.
 pub returns-in_ok-plan_bytes-in-Ok-clause-safe : goal.returns-in_ok-plan_bytes-in-Ok-clause-safe
 returns-in_ok-plan_bytes-in-Ok-clause-safe g c = λ t told.
     record { plan = c.in-Ok.plan; is_plan = c.in-Ok.ensures.planned t told; safe = c.in-Ok.ensures.safe; open_way = c.in-Ok.ensures.open_way t told }
+
+pub returns-in-Err-clause-late : goal.returns-in-Err-clause-late
+returns-in-Err-clause-late g c = λ is.
+    known-late _ _ _ _ c.args.ignore_case c.args.modules.now c.in-Err.error c.in-Err.ensures.refused (sym c.from.ensures ∙ which is)

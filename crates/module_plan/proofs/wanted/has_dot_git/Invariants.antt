@@ -1,7 +1,7 @@
 use Rattle.std.proofs.Common.{◌≡◌}
 use Rattle.std.specs.List.{list_any}
 use Rattle.gitbase_core.specs.Path.{components}
-use Rattle.module_plan.specs.Wanted.{is_dot_git}
+use Rattle.gitbase_core.specs.Text.{is_dot_git}
 use Rattle.module_plan.proofs.wanted.has_dot_git.Given as goal
 
 abbrev pub invariant-loop-name : goal.invariant-loop-name

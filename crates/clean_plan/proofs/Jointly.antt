@@ -1,0 +1,71 @@
+-- The fronts that two paths have in common.
+use Rattle.std.proofs.Common.{◌≡◌, ◌≢◌, ◌⊎◌, inl, inr, ℕ, zero, suc, ◌<◌, ◌≤◌, List, [], Bool, true, false, ◌||◌, ◌&&◌, length, take, get_or, eqb, refl, sym, ap, subst, ◌∙◌, arith}
+use Rattle.std.proofs.lemmas.Bool.Decides.{eqb_tells}
+use Rattle.std.proofs.lemmas.List.{get_or-take, take-take, take_all}
+use Rattle.gitbase_core.specs.Path.{is_slash, is_top, lies_beneath}
+use Rattle.clean_plan.specs.Above.{IsKnown, IsTarget, fronts, some_above, some_front}
+use Rattle.clean_plan.proofs.Directories.{front-is}
+
+module _ (m : ℕ) (one other : List ℕ) (in_one : m ≤ length one) (in_other : m ≤ length other) (same : take m one ≡ take m other) where
+  same-front : (n : ℕ) → n ≤ m → take n one ≡ take n other
+  same-front n h = sym (take-take n m one h) ∙ ap (take n) same ∙ take-take n m other h
+
+  same-byte : (n : ℕ) → n < m → get_or one n 0 ≡ get_or other n 0
+  same-byte n h = sym (get_or-take m one n 0 h) ∙ ap (λ (l : List ℕ). get_or l n 0) same ∙ get_or-take m other n 0 h
+
+  pub same-above : (n : ℕ) → n < m → lies_beneath (take n one) one ≡ lies_beneath (take n other) other
+  same-above n h =
+      front-is one n (omega (arith, h, in_one))
+      ∙ ap (λ (front : List ℕ). is_top front || is_slash (get_or one n 0)) (same-front n (omega (arith, h)))
+      ∙ ap (λ (b : ℕ). is_top (take n other) || is_slash b) (same-byte n h)
+      ∙ sym (front-is other n (omega (arith, h, in_other)))
+
+  pub same-fronts : (test : List ℕ → Bool) (n : ℕ) → n ≤ m → some_front test n one ≡ some_front test n other
+  unfolding fronts
+  same-fronts test zero h = refl
+  same-fronts test (suc n) h =
+      ap (λ (b : Bool). (b && test (take n one)) || some_front test n one) (same-above n (omega (arith, h)))
+      ∙ ap (λ (front : List ℕ). (lies_beneath (take n other) other && test front) || some_front test n one) (same-front n (omega (arith, h)))
+      ∙ ap (λ (b : Bool). (lies_beneath (take n other) other && test (take n other)) || b) (same-fronts test n (omega (arith, h)))
+
+-- fewer fronts of a path, none of which passes
+fewer-fronts : (test : List ℕ → Bool) (n m : ℕ) (path : List ℕ) → n ≤ m → some_front test m path ≡ false → some_front test n path ≡ false
+unfolding fronts
+fewer-fronts test zero zero path h none = none
+fewer-fronts test (suc n) zero path h none = absurd (omega (arith, h))
+fewer-fronts test n (suc m) path h none = go (eqb_tells n (suc m)) (λ fewer. fewer-fronts test n m path fewer (neither (lies_beneath (take m path) path && test (take m path)) (some_front test m path) none))
+  where
+    neither : (a b : Bool) → (a || b) ≡ false → b ≡ false
+    neither true b e = absurd (cc e)
+    neither false b e = e
+
+    go : ((eqb n (suc m) ≡ true) × (n ≡ suc m)) ⊎ ((eqb n (suc m) ≡ false) × (n ≢ suc m)) → (n ≤ m → some_front test n path ≡ false) → some_front test n path ≡ false
+    go (inl e) more = subst (λ (k : ℕ). some_front test k path ≡ false) (sym e.1) none
+    go (inr e) more = more (omega (arith, h, e.1))
+
+module _ (test : List ℕ → Bool) (known path : List ℕ) (passes : Bool) (is : IsKnown test known passes) (m : ℕ)
+    (in_known : m ≤ length known) (in_path : m ≤ length path) (same : take m known ≡ take m path) where
+  -- of the directories above a path, none passes that it has in common with a known one
+  pub known-fronts : some_front test m path ≡ false
+  known-fronts = sym (same-fronts m known path in_known in_path same test m (omega arith)) ∙ fewer-fronts test m (length known) known in_known is.none_above
+
+  -- and one that is known to pass is the first that does
+  pub known-target : (passes ≡ true) × (m ≡ length known) × (lies_beneath (take m path) path ≡ true) → IsTarget test path (take m path)
+  known-target h =
+      let front : take m path ≡ known = sym same ∙ take_all m known (omega (arith, h.1)) in
+      record {
+        which = inr (h.2, ap test front ∙ is.passed h.0);
+        none_above = ap (some_above test) front ∙ is.none_above;
+      }
+
+pub known-first : (test : List ℕ → Bool) → IsKnown test [] false
+unfolding fronts
+known-first test = record { none_above = refl; passed = λ e. absurd (cc e) }
+
+-- what is planned for a path is known; it passes where it has fewer bytes
+pub known-next : (test : List ℕ → Bool) (path target : List ℕ) (passes : Bool) → IsTarget test path target → (passes ≡ true → length target < length path) → IsKnown test target passes
+known-next test path target passes is shorter = record { none_above = is.none_above; passed = λ e. go is.which (shorter e) }
+  where
+    go : (target ≡ path) ⊎ ((lies_beneath target path ≡ true) × (test target ≡ true)) → length target < length path → test target ≡ true
+    go (inl same) less = absurd (omega (arith, less, ap length same))
+    go (inr both) less = both.1
