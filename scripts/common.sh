@@ -1,18 +1,13 @@
 # What the scripts share; each begins with `. "$(dirname -- "$(readlink -f -- "$0")")/common.sh"`.
 #
 # It takes git's own variables out of the environment, so that the repository that is asked is the one at ROOT and no
-# other, and CDPATH, so that `cd` goes where it is told. It sets $here to the top of this repository.
+# other, and CDPATH, so that `cd` goes where it is told. It sets $here to the top of this repository, and ends the script
+# with 2 and a word where anything that the script calls fails.
 # shellcheck shell=bash
-set -euo pipefail
+set -Eeuo pipefail
 shopt -s inherit_errexit
 export LC_ALL=C
-unset CDPATH
-if command -v git >/dev/null; then
-    # shellcheck disable=SC2046
-    unset $(git rev-parse --local-env-vars)
-fi
-unset GIT_CEILING_DIRECTORIES GIT_DISCOVERY_ACROSS_FILESYSTEM GIT_OPTIONAL_LOCKS GIT_LITERAL_PATHSPECS \
-    GIT_GLOB_PATHSPECS GIT_NOGLOB_PATHSPECS GIT_ICASE_PATHSPECS GIT_ATTR_SOURCE
+unset CDPATH PERL_UNICODE PERL5OPT
 here=$(dirname -- "$(dirname -- "$(readlink -f -- "${BASH_SOURCE[0]}")")")
 name=${0##*/}
 
@@ -21,6 +16,21 @@ fail() {
     echo "$name: $1" >&2
     exit 2
 }
+
+# Ends the script with 2 where a command of its own fails, and says where; one that ended with 2 has said why.
+failed() {
+    [ "$1" -eq 2 ] || echo "$name: line $2 ended with $1: ${3%%$'\n'*}" >&2
+    exit 2
+}
+trap 'failed "$?" "$LINENO" "$BASH_COMMAND"' ERR
+
+# git's variables, by git's own list where git runs.
+unset GIT_DIR GIT_WORK_TREE GIT_INDEX_FILE GIT_COMMON_DIR GIT_OBJECT_DIRECTORY GIT_ALTERNATE_OBJECT_DIRECTORIES GIT_CONFIG \
+    GIT_CONFIG_PARAMETERS GIT_CONFIG_COUNT GIT_NAMESPACE GIT_PREFIX GIT_CEILING_DIRECTORIES GIT_DISCOVERY_ACROSS_FILESYSTEM \
+    GIT_OPTIONAL_LOCKS GIT_LITERAL_PATHSPECS GIT_GLOB_PATHSPECS GIT_NOGLOB_PATHSPECS GIT_ICASE_PATHSPECS GIT_ATTR_SOURCE \
+    GIT_TEMPLATE_DIR GIT_DEFAULT_HASH GIT_DEFAULT_REF_FORMAT
+# shellcheck disable=SC2046
+unset $(git rev-parse --local-env-vars 2>/dev/null || true)
 
 # Prints the comment at the head of the script, which says how it is used.
 help() {
@@ -41,11 +51,16 @@ help_if_asked() {
 
 # The directory at $1, whole and without links. A name that begins with `-` is one all the same.
 directory() {
-    [ -n "$1" ] || fail "the name of the directory is empty"
-    case $1 in
-    /*) (cd -- "$1" 2>/dev/null && pwd -P) || fail "$1 is no directory" ;;
-    *) (cd -- "./$1" 2>/dev/null && pwd -P) || fail "$1 is no directory" ;;
+    local path=$1 whole
+    [ -n "$path" ] || fail "the name of the directory is empty"
+    [ "${path:0:1}" = / ] || path=./$path
+    # The last byte keeps the line feeds before it, which are looked for then.
+    whole=$(cd -- "$path" 2>/dev/null && pwd -P && echo /) || fail "${1@Q} is no directory that can be entered"
+    whole=${whole%$'\n/'}
+    case $whole in
+    *$'\n'*) fail "the path of ${1@Q} has a line feed, and fits no line" ;;
     esac
+    echo "$whole"
 }
 
 # Fails unless a command is there.
@@ -56,11 +71,54 @@ need() {
 # The directory at $1, where it is the top of a git work tree.
 work_tree() {
     need git
-    local root top
+    local root top said
     root=$(directory "$1")
-    top=$(git -C "$root" rev-parse --show-toplevel 2>/dev/null) || fail "$root is in no git work tree"
+    if ! top=$(git -C "$root" rev-parse --show-toplevel 2>/dev/null); then
+        said=$(git -C "$root" rev-parse --show-toplevel 2>&1 >/dev/null || true)
+        fail "$root is in no git work tree; git says: ${said:-nothing}"
+    fi
     [ "$top" = "$root" ] || fail "$root is not the top of its git work tree, which is $top"
     echo "$root"
+}
+
+# A folder of the script's own, at $work, which goes when the script ends.
+own_folder() {
+    need mktemp
+    work=$(mktemp -d)
+    # shellcheck disable=SC2064
+    trap "$(printf 'rm -rf -- %q' "$work")" EXIT
+    work=$(directory "$work")
+}
+
+# From here on no configuration, file of attributes or excludes file of the user or of the system has a say in what git does.
+without_user() {
+    export GIT_CONFIG_GLOBAL=/dev/null GIT_CONFIG_NOSYSTEM=1 GIT_ATTR_NOSYSTEM=1 HOME=/dev/null
+    unset XDG_CONFIG_HOME
+}
+
+# Sets $root, $program and $work, with the setup of the work tree at $1 and the options behind it in $work/setup. What lies in an
+# excluded directory stays excluded there, as git has it, unless an option says otherwise.
+make_setup() {
+    root=$(work_tree "$1")
+    shift
+    program=$("$here/scripts/program")
+    own_folder
+    case $work/ in
+    "${root%/}"/*) fail "TMPDIR lies in $root, so the report would name what is made there; set another" ;;
+    esac
+    has_option strict_parents "$@" || set -- strict_parents=yes "$@"
+    "$here/scripts/setup-of" "$root" "$@" > "$work/setup"
+}
+
+# Runs the program at $program with these words; $status is its status. Where it names a line of the setup at $work/setup, which is
+# gone when the script ends, this says what stands there.
+answer() {
+    local line
+    status=0
+    "$program" "$@" 2> "$work/said" || status=$?
+    cat -- "$work/said" >&2
+    line=$(sed -n 's/^setup: line \([0-9]*\)$/\1/p' "$work/said")
+    [ "$status" -ne 3 ] || echo "$name: that line is: $(sed -n "${line}p" "$work/setup")" >&2
 }
 
 # Whether one of the words behind $1 gives the option $1 a value.

@@ -5,6 +5,8 @@ A script calls `tables(path, heading, make)`: the command line of each is then
     scripts/ask-git-..            prints the table
     scripts/ask-git-.. --write    writes it into the repository, whole or not at all
     scripts/ask-git-.. --check    compares it with the one there, where that was made by the same version of git
+
+It ends with 1 where the two differ, and with 2 where git fails or answers as no case expects.
 """
 import argparse
 import contextlib
@@ -13,7 +15,7 @@ import os
 import subprocess
 import sys
 
-HERE = os.path.dirname(os.path.dirname(os.path.realpath(__file__)))
+from common import HERE, die, run_main, write_whole
 
 
 def run(words, cwd, stdin=None):
@@ -21,6 +23,14 @@ def run(words, cwd, stdin=None):
     env = {"PATH": os.environ.get("PATH", os.defpath), "LC_ALL": "C", "GIT_CONFIG_NOSYSTEM": "1", "HOME": cwd, "GIT_AUTHOR_NAME": "a",
            "GIT_AUTHOR_EMAIL": "a", "GIT_COMMITTER_NAME": "a", "GIT_COMMITTER_EMAIL": "a"}
     return subprocess.run(words, input=stdin, stdout=subprocess.PIPE, stderr=subprocess.PIPE, cwd=cwd, env=env)
+
+
+def git(top, *words, stdin=None, may=(0,)):
+    """What git prints in a folder; the script ends where its status is another than it may be."""
+    done = run(["git", *words], top, stdin)
+    if done.returncode not in may:
+        die("git %s ended with %d: %s" % (" ".join(map(str, words)), done.returncode, done.stderr.decode(errors="replace").strip()))
+    return done.stdout
 
 
 def text(data):
@@ -43,11 +53,11 @@ def reasons(all_reasons):
 def need_difference(git, own, about):
     """Ends the script where git answers as the definitions do: the row is none of a table of differences."""
     if git == own:
-        sys.exit("no difference: %r of %r" % (own, about))
+        die("no difference: %r of %r" % (own, about))
 
 
 def git_version():
-    return run(["git", "version"], HERE).stdout.decode().strip()
+    return git(HERE, "version").decode().strip()
 
 
 def made(heading, make):
@@ -55,30 +65,39 @@ def made(heading, make):
     out = io.StringIO()
     with contextlib.redirect_stdout(out):
         print(heading % git_version())
-        make()
+        try:
+            make()
+        except (AssertionError, ValueError, KeyError, AttributeError) as error:
+            die("git answered as no case expects: %r" % error)
     return out.getvalue()
 
 
 def tables(path, doc, heading, make):
     """Does what the command line asks for; `path` is that of the table in the repository."""
     parser = argparse.ArgumentParser(description=doc, formatter_class=argparse.RawDescriptionHelpFormatter)
-    parser.add_argument("--write", action="store_true", help="write the table into the repository")
-    parser.add_argument("--check", action="store_true", help="compare it with the one there")
+    ways = parser.add_mutually_exclusive_group()
+    ways.add_argument("--write", action="store_true", help="write the table into the repository, whole or not at all")
+    ways.add_argument("--check", action="store_true",
+                      help="compare it with the one there, where that was made by the same version of git: 1 where they differ")
     words, path = parser.parse_args(), os.path.join(HERE, path)
+    run_main(lambda: table(words, path, heading, make))
+
+
+def table(words, path, heading, make):
+    """Prints, writes or compares one table."""
+    name = os.path.basename(path)
     if not words.write and not words.check:
         print(made(heading, make), end="")
         return
     with open(path) as file:
         old = file.read()
     if words.check and git_version() not in old.split("\n", 1)[0]:
-        print("%s: not compared, since it was made by another version than %s" % (os.path.basename(path), git_version()))
+        print("%s: not compared, since it was made by another version than %s" % (name, git_version()))
         return
     new = made(heading, make)
     if words.write:
-        with open(path + ".new", "w") as file:
-            file.write(new)
-        os.replace(path + ".new", path)
+        write_whole(path, new)
     elif new != old:
-        sys.exit("%s: git answers otherwise than the table says" % os.path.basename(path))
+        sys.exit("%s: git answers otherwise than the table says" % name)
     else:
-        print("%s: as git answers" % os.path.basename(path))
+        print("%s: as git answers" % name)
