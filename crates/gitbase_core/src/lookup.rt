@@ -19,6 +19,8 @@ use std::marker::Model;
 /// gitoxide's `AccelerateLookup`: with it an entry is found by binary search where `ignore_case` holds.
 ///
 /// Contracts see the list of all numbers, ascending by folded path, then by number.
+///
+/// See docs/DIFFERENCES.md#gix-lookup-without-case.
 #[derive(Debug, Drop)]
 pub struct AccelerateLookup {
     numbers: Vec<usize>,
@@ -48,6 +50,8 @@ impl State {
     /// The first entry, in the order of the index, whose path is `path` without regard to the case of ASCII letters.
     ///
     /// The lookup is one made from this index. Two binary searches find the entry; no clause speaks of the cost.
+    ///
+    /// See docs/DECISIONS.md#first-without-case.
     pub fn entry_by_path_icase(&self, path: &[u8], lookup: &AccelerateLookup) -> Option<&IndexEntry>
         requires { IsLookupOf self.now lookup.now }
         ensures { option_copied result ≡ entry_at_icase path.now self.now }

@@ -4,6 +4,8 @@ use std::alloc::{AllocError, AllocFailed};
 /// The allocator refused a growth, as Rust's `TryReserveError`.
 ///
 /// Each layer's error has a variant for it, and each program a status of its own.
+///
+/// See docs/DIFFERENCES.md#gix-out-of-memory.
 #[derive(Clone, Copy, Debug, PartialEq, Eq, thiserror::Error)]
 #[error("Out of memory: the allocator refused to make room")]
 pub struct OutOfMemory;

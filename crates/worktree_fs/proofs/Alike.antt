@@ -1,10 +1,10 @@
 -- In two trees that differ in one node each path leads alike, unless it comes to that node.
-use Rattle.std.proofs.Common.{◌≡◌, ◌⊎◌, inl, inr, ℕ, zero, suc, Bool, true, false, not, ◌||◌, List, [], ◌∷◌, ◌++◌, Option, Some, None, option_map, reverse, drop, if◌then◌else◌, refl, sym, ap, subst, ◌∙◌}
+use Rattle.std.proofs.Common.{◌≡◌, inl, inr, ℕ, zero, suc, Bool, true, false, not, ◌||◌, List, [], ◌∷◌, ◌++◌, Option, Some, None, option_map, reverse, drop, if◌then◌else◌, refl, sym, ap, subst, ◌∙◌}
 use Rattle.gitbase_core.specs.Path.{components, is_absolute}
-use Rattle.worktree_fs.specs.Tree.{Node, Names, Level, Place, Jump, Spot, reached, missing, nowhere, file, link, directory, other, none, child, is_directory, is_text, is_dot, is_dot_dot, is_last, trail, enter, parent, root_of, start, onward, along, behind, resolve, spot}
+use Rattle.worktree_fs.specs.Tree.{Node, Names, Level, Place, Jump, Spot, reached, missing, file, link, directory, other, none, child, is_directory, is_text, is_dot, is_dot_dot, is_last, trail, enter, parent, root_of, start, onward, walking, along, behind, spot}
 use Rattle.worktree_fs.specs.ByNames.{node_at}
-use Rattle.worktree_fs.specs.Outlines.{outline, outlined, ComesTo, LeadsAlike, Apart}
-use Rattle.worktree_fs.proofs.ByNames.{IsChain, IsPlaced, names_above, chain-child, in_parent}
+use Rattle.worktree_fs.specs.Outlines.{outline, LeadsAlike, Apart}
+use Rattle.worktree_fs.proofs.ByNames.{IsChain, IsPlaced, names_above, chain-child}
 
 -- the outline of a node that is no directory is that node
 outline-leaf : (node : Node) → is_directory node ≡ false → outline node ≡ node
@@ -39,7 +39,7 @@ alike_directory (Some other) e = absurd (cc e)
 
 -- a path whose last piece is that of a node ends at the node, where a last link is not followed
 ends_at : (jump : Jump) (follow : Bool) (place : Place) (name : List ℕ) (node : Node) (rest : List (List ℕ)) → follow ≡ false → rest ≡ []
-    → onward (λ s. along jump follow s rest) jump follow place rest name (Some node) ≡ reached (name ∷ trail place) node
+    → onward (walking (λ s. along jump follow s rest) jump follow) place rest name (Some node) ≡ reached (name ∷ trail place) node
 ends_at jump true place name node rest stays ended = absurd (cc stays)
 ends_at jump false place name (file bytes) [] stays ended = refl
 ends_at jump false place name (link target) [] stays ended = refl
@@ -89,27 +89,27 @@ module _ (at : List (List ℕ)) (there : Node) (without beside : Names) (follow 
 
   module _ (jump : Jump) (jumps : Jumps jump) where
     through : (rest : List (List ℕ)) → Goes jump rest → (p q : Place) → Pair without beside p q → (name : List ℕ) (a b : Option Node) → child p.here name ≡ a → child q.here name ≡ b → option_map outline a ≡ option_map outline b
-        → LeadsAlike follow at there (onward (λ s. along jump follow s rest) jump follow p rest name a) (onward (λ s. along jump follow s rest) jump follow q rest name b)
+        → LeadsAlike follow at there (onward (walking (λ s. along jump follow s rest) jump follow) p rest name a) (onward (walking (λ s. along jump follow s rest) jump follow) q rest name b)
     through rest goes p q pair name None b c d e =
-        subst (λ (o : Option Node). LeadsAlike follow at there (missing (name ∷ trail p) rest) (onward (λ s. along jump follow s rest) jump follow q rest name o)) (sym (alike_none b e))
+        subst (λ (o : Option Node). LeadsAlike follow at there (missing (name ∷ trail p) rest) (onward (walking (λ s. along jump follow s rest) jump follow) q rest name o)) (sym (alike_none b e))
         (inr (ap (λ (names : List (List ℕ)). missing (name ∷ names) rest) pair.same))
     through rest goes p q pair name (Some (directory names)) b c d e =
         let inner = alike_directory b e in
-        subst (λ (o : Option Node). LeadsAlike follow at there (along jump follow (enter p name names) rest) (onward (λ s. along jump follow s rest) jump follow q rest name o)) (sym inner.1)
+        subst (λ (o : Option Node). LeadsAlike follow at there (along jump follow (enter p name names) rest) (onward (walking (λ s. along jump follow s rest) jump follow) q rest name o)) (sym inner.1)
         (goes (enter p name names) (enter q name inner.0) (record { first = (c, pair.first); second = (d ∙ inner.1, pair.second); same = ap (λ (l : List (List ℕ)). name ∷ l) pair.same }))
     through rest goes p q pair name (Some (link target)) b c d e =
-        subst (λ (o : Option Node). LeadsAlike follow at there (onward (λ s. along jump follow s rest) jump follow p rest name (Some (link target))) (onward (λ s. along jump follow s rest) jump follow q rest name o)) (sym (alike_leaf (link target) refl b e))
+        subst (λ (o : Option Node). LeadsAlike follow at there (onward (walking (λ s. along jump follow s rest) jump follow) p rest name (Some (link target))) (onward (walking (λ s. along jump follow s rest) jump follow) q rest name o)) (sym (alike_leaf (link target) refl b e))
         (either (follow || not (is_last rest)) _ _ _ _ (jumps p q pair target rest) (to_leaf p q pair name (link target)))
     through rest goes p q pair name (Some (file bytes)) b c d e =
-        subst (λ (o : Option Node). LeadsAlike follow at there (onward (λ s. along jump follow s rest) jump follow p rest name (Some (file bytes))) (onward (λ s. along jump follow s rest) jump follow q rest name o)) (sym (alike_leaf (file bytes) refl b e))
+        subst (λ (o : Option Node). LeadsAlike follow at there (onward (walking (λ s. along jump follow s rest) jump follow) p rest name (Some (file bytes))) (onward (walking (λ s. along jump follow s rest) jump follow) q rest name o)) (sym (alike_leaf (file bytes) refl b e))
         (either (is_last rest) _ _ _ _ (to_leaf p q pair name (file bytes)) (inr refl))
     through rest goes p q pair name (Some other) b c d e =
-        subst (λ (o : Option Node). LeadsAlike follow at there (onward (λ s. along jump follow s rest) jump follow p rest name (Some other)) (onward (λ s. along jump follow s rest) jump follow q rest name o)) (sym (alike_leaf other refl b e))
+        subst (λ (o : Option Node). LeadsAlike follow at there (onward (walking (λ s. along jump follow s rest) jump follow) p rest name (Some other)) (onward (walking (λ s. along jump follow s rest) jump follow) q rest name o)) (sym (alike_leaf other refl b e))
         (either (is_last rest) _ _ _ _ (to_leaf p q pair name other) (inr refl))
 
     module _ (apart : Apart at without beside) (gone : node_at (reverse at) (Some (directory without)) ≡ None) (has : node_at (reverse at) (Some (directory beside)) ≡ Some there) where
       by_piece : (rest : List (List ℕ)) → Goes jump rest → (p q : Place) → Pair without beside p q → (piece : List ℕ)
-          → LeadsAlike follow at there (onward (λ s. along jump follow s rest) jump follow p rest piece (child p.here piece)) (onward (λ s. along jump follow s rest) jump follow q rest piece (child q.here piece))
+          → LeadsAlike follow at there (onward (walking (λ s. along jump follow s rest) jump follow) p rest piece (child p.here piece)) (onward (walking (λ s. along jump follow s rest) jump follow) q rest piece (child q.here piece))
       by_piece rest goes p q pair piece = elim (apart (piece ∷ trail p)) [
         | inl is ↦
             let lost : child p.here piece ≡ None = sym (chain-child without p.here p.above piece (child p.here piece) pair.first refl) ∙ ap (λ (l : List (List ℕ)). node_at (reverse l) (Some (directory without))) is ∙ gone in
@@ -117,8 +117,8 @@ module _ (at : List (List ℕ)) (there : Node) (without beside : Names) (follow 
             let met : child q.here piece ≡ Some there = sym (chain-child beside q.here q.above piece (child q.here piece) pair.second refl) ∙ ap (λ (l : List (List ℕ)). node_at (reverse l) (Some (directory beside))) is_other ∙ has in
             inl (record {
               rest = rest;
-              is_missing = ap (λ (o : Option Node). onward (λ s. along jump follow s rest) jump follow p rest piece o) lost ∙ ap (λ (l : List (List ℕ)). missing l rest) is;
-              ends = λ stays ended. ap (λ (o : Option Node). onward (λ s. along jump follow s rest) jump follow q rest piece o) met ∙ ends_at jump follow q piece there rest stays ended ∙ ap (λ (l : List (List ℕ)). reached l there) is_other;
+              is_missing = ap (λ (o : Option Node). onward (walking (λ s. along jump follow s rest) jump follow) p rest piece o) lost ∙ ap (λ (l : List (List ℕ)). missing l rest) is;
+              ends = λ stays ended. ap (λ (o : Option Node). onward (walking (λ s. along jump follow s rest) jump follow) q rest piece o) met ∙ ends_at jump follow q piece there rest stays ended ∙ ap (λ (l : List (List ℕ)). reached l there) is_other;
             })
         | inr e ↦ through rest goes p q pair piece (child p.here piece) (child q.here piece) refl refl (
             sym (ap (option_map outline) (chain-child without p.here p.above piece (child p.here piece) pair.first refl))

@@ -1,23 +1,26 @@
 -- A directory that was made is there, a node that was removed is gone, and all else leads where it led.
-use Rattle.std.proofs.Common.{◌≡◌, ◌⊎◌, inl, inr, ℕ, option_map, Bool, true, false, List, [], ◌∷◌, ◌++◌, Option, Some, None, reverse, if◌then◌else◌, refl, sym, ap, subst, ◌∙◌}
+use Rattle.std.proofs.Common.{◌≡◌, inl, inr, ℕ, option_map, Bool, false, List, [], ◌∷◌, ◌++◌, Option, Some, None, reverse, if◌then◌else◌, refl, sym, ap, subst, ◌∙◌}
 use Rattle.std.proofs.lemmas.List.{reverse-reverse}
 use mathlib.Core.List.{reverse-cons}
-use Rattle.gitbase_core.specs.Path.{components}
+use Rattle.gitbase_core.specs.Path.{components, joined}
 use Rattle.worktree_fs.specs.declared.answers.MakeAnswer.TheVariants as makes
 use Rattle.worktree_fs.specs.declared.answers.RemoveAnswer.TheVariants as removes
 use Rattle.worktree_fs.specs.declared.memory.grow.AddError.{AddError}
 use Rattle.worktree_fs.specs.declared.memory.grow.AddError.TheVariants as refusals
-use Rattle.worktree_fs.specs.Tree.{Node, Names, Spot, look_at, reached, missing, nowhere, endless, file, link, directory, other, none, child, found, absent, is_directory, is_last, spot, look}
+use Rattle.worktree_fs.specs.Tree.{Node, Names, Spot, look_at, reached, missing, nowhere, endless, file, link, directory, other, none, child, absent, is_directory, spot, look}
 use Rattle.worktree_fs.specs.Naming.{IsTree}
-use Rattle.worktree_fs.specs.Grow.{grown, names_at, add_refusal}
+use Rattle.worktree_fs.specs.Grow.{grown, names_at, add_refusal, obstacle}
 use Rattle.worktree_fs.specs.Changes.{slashed, kept_last, make_answer, made_unless, with_directory, after_make, cut, remove_answer, after_remove}
 use Rattle.worktree_fs.specs.ByNames.{node_at, LeadsByNames, IsMissingIn}
-use Rattle.worktree_fs.specs.Outlines.{outline, outlined, ComesTo, LeadsAlike, Apart}
-use Rattle.worktree_fs.specs.Changed.{Makes, Removes}
-use Rattle.worktree_fs.proofs.ByNames.{spot-by_names, node_at-last, removed-gone}
+use Rattle.worktree_fs.specs.Outlines.{outline, outlined, LeadsAlike, Apart}
+use Rattle.worktree_fs.specs.Changed.{Makes, Removes, AnswersInside, made_beside}
+use Rattle.worktree_fs.specs.Join.{Last, last_of}
+use Rattle.worktree_fs.proofs.ByNames.{spot-by_names, node_at-last, removed-gone, missing-free}
 use Rattle.worktree_fs.proofs.Alike.{alike_directory, spot-alike}
-use Rattle.worktree_fs.proofs.Regrown.{HasGap, HasGap-push, HasLeaf, HasLeaf-from, Stays, grown-stays, grown-there, cut-stays}
-use Rattle.worktree_fs.proofs.MissingNames.{AreComponents, MissesComponent, missed-component, real-names, from_all, components-slashed}
+use Rattle.worktree_fs.proofs.Regrown.{HasGap, HasGap-push, HasLeaf-from, Stays, grown-stays, grown-there, cut-stays}
+use Rattle.worktree_fs.proofs.Join.{last-joined}
+use Rattle.worktree_fs.proofs.MissingNames.{AreComponents, MissesName, missed-name, real-names, from_all, components-slashed}
+use Rattle.worktree_fs.proofs.Slashed.{full_path-slashed}
 
 -- stays along names in either order
 reversed : (at : List (List ℕ)) (before now : Names) → ((names : List (List ℕ)) → Stays (reverse at) names (Some (directory before)) (Some (directory now))) → Apart at before now
@@ -119,17 +122,17 @@ made_free composes t endless e = absurd (cc e)
 -- is, as each is where names are not composed.
 pub makes-there : (composes : Bool) (t : Names) (path : List ℕ) → IsTree (directory t) → ((names : List (List ℕ)) → spot t path false ≡ missing names [] → kept_last composes names ≡ names)
     → make_answer composes t (spot t path false) ≡ makes.Made → Makes path t (after_make composes t (spot t path false))
-makes-there composes t path tree keeps answer = go found.0 found.1 (subst (LeadsByNames t) found.1 (spot-by_names t path false)) (subst MissesComponent found.1 (missed-component t path false)) found.2 (keeps found.0 found.1)
+makes-there composes t path tree keeps answer = go found.0 found.1 (subst (LeadsByNames t) found.1 (spot-by_names t path false)) (subst MissesName found.1 (missed-name t path false)) found.2 (keeps found.0 found.1)
   where
     found : (names : List (List ℕ)) × (spot t path false ≡ missing names []) × (after_make composes t (spot t path false) ≡ names_at (Some (grown (components (slashed (kept_last composes names))) (directory none) (Some (directory t)))))
     found = made_free composes t (spot t path false) answer
 
-    go : (names : List (List ℕ)) → spot t path false ≡ missing names [] → IsMissingIn t names → MissesComponent (missing names [])
+    go : (names : List (List ℕ)) → spot t path false ≡ missing names [] → IsMissingIn t names → MissesName (missing names [])
         → after_make composes t (spot t path false) ≡ names_at (Some (grown (components (slashed (kept_last composes names))) (directory none) (Some (directory t)))) → kept_last composes names ≡ names
         → Makes path t (after_make composes t (spot t path false))
-    go [] was missing_in component after kept = absurd missing_in
-    go (name ∷ below) was (here, leads, free) component after kept =
-        let are : AreComponents (name ∷ below) = (component, from_all below (real-names t below (directory here) tree leads)) in
+    go [] was missing_in is_name after kept = absurd missing_in
+    go (name ∷ below) was (here, leads, free) is_name after kept =
+        let are : AreComponents (name ∷ below) = from_all (name ∷ below) (is_name, real-names t below (directory here) tree leads) in
         let new : Names = names_at (Some (grown (reverse (name ∷ below)) (directory none) (Some (directory t)))) in
         let is : new ≡ after_make composes t (spot t path false) =
         sym (after ∙ ap (λ (l : List (List ℕ)). names_at (Some (grown l (directory none) (Some (directory t))))) (ap (λ (l : List (List ℕ)). components (slashed l)) kept ∙ components-slashed (name ∷ below) are)) in
@@ -143,6 +146,62 @@ makes-there composes t path tree keeps answer = go found.0 found.1 (subst (Leads
           apart = made_apart t name below here leads free;
           alike = λ q follow. spot-alike (name ∷ below) (directory none) t new follow (made_apart t name below here leads free) (was_free t name below here leads free) (is_there t name below here leads free) q;
         })
+
+-- Where a path misses its last name alone, a directory is made there: nothing stands in its way. That name is to be kept as
+-- it is.
+pub made-missing : (composes : Bool) (t : Names) (path : List ℕ) (names : List (List ℕ)) → IsTree (directory t) → spot t path false ≡ missing names [] → kept_last composes names ≡ names
+    → make_answer composes t (spot t path false) ≡ makes.Made
+made-missing composes t path names tree was kept =
+    ap (make_answer composes t) was
+    ∙ ap made_unless (ap (λ (l : List (List ℕ)). add_refusal t (slashed l)) kept
+    ∙ fits names was (subst (LeadsByNames t) was (spot-by_names t path false)) (subst MissesName was (missed-name t path false)))
+  where
+    fits : (names : List (List ℕ)) → spot t path false ≡ missing names [] → IsMissingIn t names → MissesName (missing names []) → add_refusal t (slashed names) ≡ None
+    fits [] was missing_in is_name = absurd missing_in
+    fits (name ∷ below) was (here, leads, free) is_name =
+        let all = real-names t below (directory here) tree leads in
+        ap (λ b. if b then obstacle (components (slashed (name ∷ below))) (Some (directory t)) else Some refusals.NotNormal) (full_path-slashed name below is_name all)
+        ∙ ap (λ (l : List (List ℕ)). obstacle l (Some (directory t))) (components-slashed (name ∷ below) (from_all (name ∷ below) (is_name, all)))
+        ∙ missing-free t path false name below [] was
+
+-- how a path comes to a name in a directory
+abbrev node_of_last : Option Last → Option Node
+node_of_last None = None
+node_of_last (Some last) = last.node
+
+abbrev name_of_last : Option Last → List ℕ
+name_of_last None = []
+name_of_last (Some last) = last.name
+
+came_to_none : (at : Spot) (name : List ℕ) → last_of at ≡ Some (record { name = name; node = None }) → (below : List (List ℕ)) × (at ≡ missing (name ∷ below) [])
+came_to_none (reached [] node) name e = absurd (cc e)
+came_to_none (reached (n ∷ below) node) name e = absurd (cc (ap node_of_last e))
+came_to_none (missing [] rest) name e = absurd (cc e)
+came_to_none (missing (n ∷ below) []) name e = (below, ap (λ (l : List ℕ). missing (l ∷ below) []) (ap name_of_last e))
+came_to_none (missing (n ∷ below) (piece ∷ rest)) name e = absurd (cc e)
+came_to_none nowhere name e = absurd (cc e)
+came_to_none endless name e = absurd (cc e)
+
+stands_there : (composes : Bool) (t : Names) (at : Spot) (name : List ℕ) (node : Node) → last_of at ≡ Some (record { name = name; node = Some node }) → make_answer composes t at ≡ makes.Exists
+stands_there composes t (reached [] end) name node e = absurd (cc e)
+stands_there composes t (reached (n ∷ below) end) name node e = refl
+stands_there composes t (missing [] rest) name node e = absurd (cc e)
+stands_there composes t (missing (n ∷ below) []) name node e = absurd (cc (ap node_of_last e))
+stands_there composes t (missing (n ∷ below) (piece ∷ rest)) name node e = absurd (cc e)
+stands_there composes t nowhere name node e = absurd (cc e)
+stands_there composes t endless name node e = absurd (cc e)
+
+-- In a directory that is there a name is never refused for its parent.
+pub made-in : (composes : Bool) (t : Names) (path : List ℕ) → IsTree (directory t) → AnswersInside composes t path (make_answer composes t (spot t path false))
+made-in composes t path tree above name names spells is_name keeps there =
+    ap (λ (p : List ℕ). make_answer composes t (spot t p false)) spells
+    ∙ go (child names name) (last-joined names name is_name t above there)
+  where
+    go : (o : Option Node) → last_of (spot t (joined above name) false) ≡ Some (record { name = name; node = o }) → make_answer composes t (spot t (joined above name) false) ≡ made_beside o
+    go None e =
+        let came = came_to_none (spot t (joined above name) false) name e in
+        made-missing composes t (joined above name) (name ∷ came.0) tree came.1 (ap (λ (l : List ℕ). l ∷ came.0) keeps)
+    go (Some node) e = stands_there composes t (spot t (joined above name) false) name node e
 
 -- a tree without a node that is no directory
 cut_apart : (at : List (List ℕ)) (t : Names) (node : Node) → IsTree (directory t) → node_at at (Some (directory t)) ≡ Some node → is_directory node ≡ false

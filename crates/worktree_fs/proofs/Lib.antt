@@ -6,6 +6,7 @@ pub mod Distinct
 pub mod EntryNames
 pub mod Grown
 pub mod Join
+pub mod Listed
 pub mod Lookups
 pub mod MissingNames
 pub mod NameParts
@@ -15,11 +16,13 @@ pub mod Parts
 pub mod Pieces
 pub mod Regrown
 pub mod Settled
+pub mod Slashed
 pub mod Sorted
 pub mod Steps
 pub mod Subtree
 pub mod Tested
 pub mod Texts
+pub mod TextPieces
 pub mod Followed
 pub mod Spelled
 mod Cuts

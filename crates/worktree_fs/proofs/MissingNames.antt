@@ -1,12 +1,11 @@
--- The name that a path misses is one of the components of the path, or of a link's target on its way; the names before it
--- are those of the tree.
+-- The name that a path misses may stand in a directory: it is a component of the path, or of a link's target on its way, and
+-- neither `.` nor `..`; the names before it are those of the tree.
 use Rattle.std.proofs.Common.{◌≡◌, ℕ, zero, suc, Bool, true, false, not, ◌||◌, List, [], ◌∷◌, ◌++◌, Option, Some, None, reverse, if◌then◌else◌, refl, sym, ap, subst, ◌∙◌}
 use Rattle.std.specs.Str.{bytes_eq}
 use Rattle.std.specs.List.{AllByRecursion}
 use mathlib.Core.List.{reverse-cons}
 use Rattle.gitbase_core.specs.Path.{components}
-use Rattle.gitbase_core.proofs.Names.{AreNames, AreNames-components}
-use Rattle.worktree_fs.specs.Tree.{Node, Names, Place, Jump, Spot, reached, missing, nowhere, endless, file, link, directory, other, none, named, names_of, child, is_text, is_dot, is_dot_dot, is_last, trail, enter, parent, start, onward, along, behind, resolve, spot}
+use Rattle.worktree_fs.specs.Tree.{Node, Names, Place, Jump, Spot, reached, missing, nowhere, endless, file, link, directory, other, none, named, names_of, child, is_text, is_dot, is_dot_dot, is_last, trail, enter, parent, start, onward, walking, along, behind, resolve, spot}
 use Rattle.worktree_fs.specs.Naming.{IsName, IsTree}
 use Rattle.worktree_fs.specs.Paths.{IsComponent}
 use Rattle.worktree_fs.specs.Changes.{slashed}
@@ -14,65 +13,67 @@ use Rattle.worktree_fs.specs.ByNames.{node_at}
 use Rattle.worktree_fs.proofs.ByNames.{bytes_same}
 use Rattle.worktree_fs.proofs.NameParts.{pieces-name}
 use Rattle.worktree_fs.proofs.Regrown.{nothing_there}
-use Rattle.worktree_fs.proofs.Spelled.{component_from}
 use Rattle.worktree_fs.proofs.Subtree.{IsTree-child}
+use Rattle.worktree_fs.proofs.TextPieces.{AreParts, parts-components, name-from_part}
 use Rattle.worktree_fs.proofs.Texts.{pieces-join}
 
 abbrev pub AreComponents : List (List ℕ) → Type 0
 AreComponents [] = Unit {0}
 AreComponents (name ∷ names) = IsComponent name × AreComponents names
 
-from_names : (names : List (List ℕ)) → AreNames names → AreComponents names
-from_names [] are = tt
-from_names (name ∷ names) are = (component_from name are.0, from_names names are.1)
+AreParts-append : (front back : List (List ℕ)) → AreParts front → AreParts back → AreParts (front ++ back)
+AreParts-append [] back are more = more
+AreParts-append (name ∷ front) back are more = (are.0, AreParts-append front back are.1 more)
 
-AreComponents-append : (front back : List (List ℕ)) → AreComponents front → AreComponents back → AreComponents (front ++ back)
-AreComponents-append [] back are more = more
-AreComponents-append (name ∷ front) back are more = (are.0, AreComponents-append front back are.1 more)
+-- the last name of those that are missing may stand in a directory
+abbrev pub MissesName : Spot → Type 0
+MissesName (reached names node) = Unit {0}
+MissesName (missing [] rest) = Unit {0}
+MissesName (missing (name ∷ below) rest) = IsName name
+MissesName nowhere = Unit {0}
+MissesName endless = Unit {0}
 
-path_components : (path : List ℕ) → AreComponents (components path)
-path_components path = from_names (components path) (AreNames-components path)
-
--- the last name of those that are missing is a component
-abbrev pub MissesComponent : Spot → Type 0
-MissesComponent (reached names node) = Unit {0}
-MissesComponent (missing [] rest) = Unit {0}
-MissesComponent (missing (name ∷ below) rest) = IsComponent name
-MissesComponent nowhere = Unit {0}
-MissesComponent endless = Unit {0}
-
-either : (b : Bool) (x y : Spot) → MissesComponent x → MissesComponent y → MissesComponent (if b then x else y)
+either : (b : Bool) (x y : Spot) → MissesName x → MissesName y → MissesName (if b then x else y)
 either true x y first second = first
 either false x y first second = second
 
 abbrev Jumps : Jump → Type 0
-Jumps jump = (place : Place) (target : List ℕ) (rest : List (List ℕ)) → AreComponents rest → MissesComponent (jump place target rest)
+Jumps jump = (place : Place) (target : List ℕ) (rest : List (List ℕ)) → AreParts rest → MissesName (jump place target rest)
 
-through : (follow : Bool) (jump : Jump) → Jumps jump → (rest : List (List ℕ)) → AreComponents rest → ((place : Place) → MissesComponent (along jump follow place rest)) → (place : Place) (name : List ℕ) → IsComponent name → (o : Option Node)
-    → MissesComponent (onward (λ s. along jump follow s rest) jump follow place rest name o)
+through : (follow : Bool) (jump : Jump) → Jumps jump → (rest : List (List ℕ)) → AreParts rest → ((place : Place) → MissesName (along jump follow place rest)) → (place : Place) (name : List ℕ) → IsName name → (o : Option Node)
+    → MissesName (onward (walking (λ s. along jump follow s rest) jump follow) place rest name o)
 through follow jump jumps rest are goes place name is None = is
 through follow jump jumps rest are goes place name is (Some (directory names)) = goes (enter place name names)
 through follow jump jumps rest are goes place name is (Some (link target)) = either (follow || not (is_last rest)) _ _ (jumps place target rest are) tt
 through follow jump jumps rest are goes place name is (Some (file bytes)) = either (is_last rest) (reached (name ∷ trail place) (file bytes)) nowhere tt tt
 through follow jump jumps rest are goes place name is (Some other) = either (is_last rest) (reached (name ∷ trail place) other) nowhere tt tt
 
-steps : (follow : Bool) (jump : Jump) → Jumps jump → (rest : List (List ℕ)) → AreComponents rest → (place : Place) → MissesComponent (along jump follow place rest)
+steps : (follow : Bool) (jump : Jump) → Jumps jump → (rest : List (List ℕ)) → AreParts rest → (place : Place) → MissesName (along jump follow place rest)
 steps follow jump jumps [] are place = tt
-steps follow jump jumps (piece ∷ rest) are place =
-    either (is_dot piece) _ _ (steps follow jump jumps rest are.1 place)
-    (either (is_dot_dot piece) _ _ (steps follow jump jumps rest are.1 (parent place))
-    (through follow jump jumps rest are.1 (steps follow jump jumps rest are.1) place piece are.0 (child place.here piece)))
+steps follow jump jumps (piece ∷ rest) are place = go (is_dot piece) (is_dot_dot piece) refl refl (steps follow jump jumps rest are.1)
+  where
+    go : (dot up : Bool) → is_dot piece ≡ dot → is_dot_dot piece ≡ up → ((place : Place) → MissesName (along jump follow place rest))
+        → MissesName (if dot then along jump follow place rest else if up then along jump follow (parent place) rest else onward (walking (λ s. along jump follow s rest) jump follow) place rest piece (child place.here piece))
+    go true up d u goes = goes place
+    go false true d u goes = goes (parent place)
+    go false false d u goes = through follow jump jumps rest are.1 goes place piece (name-from_part piece are.0 d u) (child place.here piece)
 
 all_jumps : (links : ℕ) (follow : Bool) → Jumps (behind links follow)
 unfolding behind
 all_jumps zero follow place target rest are = tt
-all_jumps (suc links) follow place target rest are =
-    either (is_text target) _ _ (steps follow (behind links follow) (all_jumps links follow) (components target ++ rest) (AreComponents-append (components target) rest (path_components target) are) (start place target)) tt
+all_jumps (suc links) follow place target rest are = go (is_text target) refl (all_jumps links follow)
+  where
+    go : (b : Bool) → is_text target ≡ b → Jumps (behind links follow) → MissesName (if b then along (behind links follow) follow (start place target) (components target ++ rest) else nowhere)
+    go true text jumps = steps follow (behind links follow) jumps (components target ++ rest) (AreParts-append (components target) rest (parts-components target text) are) (start place target)
+    go false text jumps = tt
 
-pub missed-component : (root : Names) (path : List ℕ) (follow : Bool) → MissesComponent (spot root path follow)
+pub missed-name : (root : Names) (path : List ℕ) (follow : Bool) → MissesName (spot root path follow)
 unfolding spot
-missed-component root path follow =
-    either (is_text path) _ _ (steps follow (behind 32 follow) (all_jumps 32 follow) (components path) (path_components path) (record { here = root; above = [] })) tt
+missed-name root path follow = go (is_text path) refl
+  where
+    go : (b : Bool) → is_text path ≡ b → MissesName (if b then resolve 32 follow (record { here = root; above = [] }) (components path) else nowhere)
+    go true text = steps follow (behind 32 follow) (all_jumps 32 follow) (components path) (parts-components path text) (record { here = root; above = [] })
+    go false text = tt
 
 -- the names of a tree
 named_is : (names : Names) (name : List ℕ) (node : Node) → AllByRecursion IsName (names_of names) → child names name ≡ Some node → IsName name
@@ -83,7 +84,7 @@ named_is (named n first rest) name node each e = go (bytes_eq n name) refl e (na
     go true same e ih = subst IsName (bytes_same n name same) each.0
     go false same e ih = ih e
 
-real : (names : List (List ℕ)) (from end : Node) → IsTree from → node_at names (Some from) ≡ Some end → AllByRecursion IsName names
+pub real : (names : List (List ℕ)) (from end : Node) → IsTree from → node_at names (Some from) ≡ Some end → AllByRecursion IsName names
 real [] from end tree e = tt
 real (n ∷ names) (directory inner) end tree e = go (child inner n) refl e (real names)
   where

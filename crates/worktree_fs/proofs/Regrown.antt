@@ -3,9 +3,8 @@ use Rattle.std.proofs.Common.{◌≡◌, ◌⊎◌, inl, inr, ℕ, Bool, true, f
 use Rattle.std.specs.Prelude.{option_map}
 use Rattle.std.specs.Str.{bytes_eq}
 use Rattle.std.specs.Ordering.{is_lt}
-use Rattle.std.specs.List.{IsDistinct}
-use Rattle.worktree_fs.specs.Tree.{Node, Names, file, link, directory, other, none, named, names_of, child, is_directory, is_last}
-use Rattle.worktree_fs.specs.Naming.{IsTree, AreTrees}
+use Rattle.worktree_fs.specs.Tree.{Node, Names, file, link, directory, other, none, named, child, is_directory, is_last}
+use Rattle.worktree_fs.specs.Naming.{IsTree}
 use Rattle.worktree_fs.specs.Grow.{put, grown, names_at}
 use Rattle.worktree_fs.specs.Order.{name_cmp}
 use Rattle.worktree_fs.specs.Changes.{cut, cut_names}

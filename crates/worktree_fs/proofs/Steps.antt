@@ -5,12 +5,12 @@ use Rattle.worktree_fs.specs.Step.{stepped, within, is_root_below, place_of, IsS
 use Rattle.worktree_fs.specs.declared.memory.stored.Entry.{Entry}
 use Rattle.worktree_fs.specs.declared.memory.resolve.Step.{Step}
 use Rattle.worktree_fs.specs.declared.memory.resolve.Step.TheVariants as steps
-use Rattle.worktree_fs.specs.Tree.{Node, Level, Place, Look, Spot, look_at, reached, nowhere, endless, trail, behind, resolve, start, parent, is_text, is_absolute, child, onward, absent, too_many_links, root_of, link, is_last, is_dot, is_dot_dot}
+use Rattle.worktree_fs.specs.Tree.{Node, Level, Place, Look, Spot, look_at, reached, nowhere, endless, trail, behind, resolve, start, parent, is_text, is_absolute, child, onward, walking, absent, too_many_links, root_of, link, is_last, is_dot, is_dot_dot}
 
 -- what a link leads to
 module _ (links : ℕ) (follow : Bool) (place : Place) (name target : List ℕ) (rest : List (List ℕ)) where
   abbrev behind_link : Spot
-  behind_link = onward (λ p. resolve links follow p rest) (behind links follow) follow place rest name (Some (link target))
+  behind_link = onward (walking (λ p. resolve links follow p rest) (behind links follow) follow) place rest name (Some (link target))
 
   followed : (not follow && is_last rest) ≡ false → behind_link ≡ behind links follow place target rest
   followed on = go follow (is_last rest) on
@@ -73,31 +73,31 @@ start-relative place target e = ap (λ b. if b then root_of place else place) e
 -- where a piece that is `.`, one that is `..`, and any other leads
 pub turn-dot : (links : ℕ) (follow : Bool) (place : Place) (piece : List ℕ) (rest : List (List ℕ)) → is_dot piece ≡ true → resolve links follow place (piece ∷ rest) ≡ resolve links follow place rest
 turn-dot links follow place piece rest dot =
-    ap (λ b. if b then resolve links follow place rest else if is_dot_dot piece then resolve links follow (parent place) rest else onward (λ q. resolve links follow q rest) (behind links follow) follow place rest piece (child place.here piece)) dot
+    ap (λ b. if b then resolve links follow place rest else if is_dot_dot piece then resolve links follow (parent place) rest else onward (walking (λ q. resolve links follow q rest) (behind links follow) follow) place rest piece (child place.here piece)) dot
 
 pub turn-up : (links : ℕ) (follow : Bool) (place : Place) (piece : List ℕ) (rest : List (List ℕ)) → is_dot piece ≡ false → is_dot_dot piece ≡ true → resolve links follow place (piece ∷ rest) ≡ resolve links follow (parent place) rest
 turn-up links follow place piece rest dot up =
-    ap (λ b. if b then resolve links follow place rest else if is_dot_dot piece then resolve links follow (parent place) rest else onward (λ q. resolve links follow q rest) (behind links follow) follow place rest piece (child place.here piece)) dot
-    ∙ ap (λ b. if b then resolve links follow (parent place) rest else onward (λ q. resolve links follow q rest) (behind links follow) follow place rest piece (child place.here piece)) up
+    ap (λ b. if b then resolve links follow place rest else if is_dot_dot piece then resolve links follow (parent place) rest else onward (walking (λ q. resolve links follow q rest) (behind links follow) follow) place rest piece (child place.here piece)) dot
+    ∙ ap (λ b. if b then resolve links follow (parent place) rest else onward (walking (λ q. resolve links follow q rest) (behind links follow) follow) place rest piece (child place.here piece)) up
 
 pub turn-on : (links : ℕ) (follow : Bool) (place : Place) (piece : List ℕ) (rest : List (List ℕ)) (node : Option Node) → is_dot piece ≡ false → is_dot_dot piece ≡ false → child place.here piece ≡ node
-    → resolve links follow place (piece ∷ rest) ≡ onward (λ q. resolve links follow q rest) (behind links follow) follow place rest piece node
+    → resolve links follow place (piece ∷ rest) ≡ onward (walking (λ q. resolve links follow q rest) (behind links follow) follow) place rest piece node
 turn-on links follow place piece rest node dot up there =
-    ap (λ b. if b then resolve links follow place rest else if is_dot_dot piece then resolve links follow (parent place) rest else onward (λ q. resolve links follow q rest) (behind links follow) follow place rest piece (child place.here piece)) dot
-    ∙ ap (λ b. if b then resolve links follow (parent place) rest else onward (λ q. resolve links follow q rest) (behind links follow) follow place rest piece (child place.here piece)) up
-    ∙ ap (λ o. onward (λ q. resolve links follow q rest) (behind links follow) follow place rest piece o) there
+    ap (λ b. if b then resolve links follow place rest else if is_dot_dot piece then resolve links follow (parent place) rest else onward (walking (λ q. resolve links follow q rest) (behind links follow) follow) place rest piece (child place.here piece)) dot
+    ∙ ap (λ b. if b then resolve links follow (parent place) rest else onward (walking (λ q. resolve links follow q rest) (behind links follow) follow) place rest piece (child place.here piece)) up
+    ∙ ap (λ o. onward (walking (λ q. resolve links follow q rest) (behind links follow) follow) place rest piece o) there
 
 -- a piece that is a node's name leads to what the node leads to
 pub turn : (links : ℕ) (follow : Bool) (place : Place) (before : List (List ℕ)) (piece : List ℕ) (rest : List (List ℕ)) (node : Node) (at : Look)
     → before ≡ piece ∷ rest → is_dot piece ≡ false → is_dot_dot piece ≡ false → child place.here piece ≡ Some node
-    → look_at (onward (λ p. resolve links follow p rest) (behind links follow) follow place rest piece (Some node)) ≡ at
+    → look_at (onward (walking (λ p. resolve links follow p rest) (behind links follow) follow) place rest piece (Some node)) ≡ at
     → look_at (resolve links follow place before) ≡ at
 turn links follow place before piece rest node at is dot up there leads =
     ap look_at (
     ap (resolve links follow place) is
-    ∙ ap (λ b. if b then resolve links follow place rest else if is_dot_dot piece then resolve links follow (parent place) rest else onward (λ q. resolve links follow q rest) (behind links follow) follow place rest piece (child place.here piece)) dot
-    ∙ ap (λ b. if b then resolve links follow (parent place) rest else onward (λ q. resolve links follow q rest) (behind links follow) follow place rest piece (child place.here piece)) up
-    ∙ ap (λ o. onward (λ q. resolve links follow q rest) (behind links follow) follow place rest piece o) there)
+    ∙ ap (λ b. if b then resolve links follow place rest else if is_dot_dot piece then resolve links follow (parent place) rest else onward (walking (λ q. resolve links follow q rest) (behind links follow) follow) place rest piece (child place.here piece)) dot
+    ∙ ap (λ b. if b then resolve links follow (parent place) rest else onward (walking (λ q. resolve links follow q rest) (behind links follow) follow) place rest piece (child place.here piece)) up
+    ∙ ap (λ o. onward (walking (λ q. resolve links follow q rest) (behind links follow) follow) place rest piece o) there)
     ∙ leads
 
 -- a step that does not go up leads to the same from the directory itself

@@ -2,7 +2,7 @@
 use Rattle.std.proofs.Common.{◌≡◌, ℕ, zero, suc, Bool, true, false, List, [], ◌∷◌, ◌++◌, Option, Some, None, refl, not, ◌||◌, if◌then◌else◌, subst}
 use Rattle.std.specs.Str.{bytes_eq}
 use Rattle.gitbase_core.specs.Path.{components}
-use Rattle.worktree_fs.specs.Tree.{Names, Node, Level, Place, Jump, look_at, reached, nowhere, trail, spot, found, file, link, directory, other, none, named, child, is_text, is_dot, is_dot_dot, is_absolute, along, behind, resolve, look, start, parent, root_of, enter, is_last, onward}
+use Rattle.worktree_fs.specs.Tree.{Names, Node, Level, Place, Jump, look_at, reached, nowhere, trail, spot, found, file, link, directory, other, none, named, child, is_text, is_dot, is_dot_dot, is_absolute, along, behind, resolve, look, start, parent, root_of, enter, is_last, onward, walking}
 use Rattle.worktree_fs.specs.Naming.{IsTree, AreTrees}
 
 pub IsTree-child : (names : Names) (name : List ℕ) (node : Node) → AreTrees names → child names name ≡ Some node → IsTree node
@@ -49,7 +49,7 @@ same_node a b e = subst IsTree (cc e)
 
 through : (follow : Bool) (jump : Jump) → Keeps jump → (rest : List (List ℕ)) → Goes follow jump rest → (place : Place) (node : Node) → IsPlace place → (name : List ℕ) (o : Option Node)
     → ((n : Node) → o ≡ Some n → IsTree n)
-    → look_at (onward (λ p. along jump follow p rest) jump follow place rest name o) ≡ found node → IsTree node
+    → look_at (onward (walking (λ p. along jump follow p rest) jump follow) place rest name o) ≡ found node → IsTree node
 through follow jump keeps rest goes place node is name None tree e = absurd (cc e)
 through follow jump keeps rest goes place node is name (Some (directory names)) tree e = goes (enter place name names) node (tree (directory names) refl, is) e
 through follow jump keeps rest goes place node is name (Some (link target)) tree e = go (follow || not (is_last rest)) e
@@ -73,7 +73,7 @@ steps follow jump keeps [] place node is e = same_node (directory place.here) no
 steps follow jump keeps (piece ∷ rest) place node is e = go (steps follow jump keeps rest) (is_dot piece) (is_dot_dot piece) e
   where
     go : Goes follow jump rest → (dot up : Bool)
-        → look_at (if dot then along jump follow place rest else if up then along jump follow (parent place) rest else onward (λ p. along jump follow p rest) jump follow place rest piece (child place.here piece)) ≡ found node
+        → look_at (if dot then along jump follow place rest else if up then along jump follow (parent place) rest else onward (walking (λ p. along jump follow p rest) jump follow) place rest piece (child place.here piece)) ≡ found node
         → IsTree node
     go goes true up f = goes place node is f
     go goes false true f = goes (parent place) node (in_parent place.here place.above is.0 is.1) f

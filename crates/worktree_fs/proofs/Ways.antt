@@ -5,7 +5,7 @@ use Rattle.std.proofs.lemmas.List.{length-map}
 use Rattle.std.proofs.Math.ListN.{get_or-map}
 use Rattle.std.specs.declared.cmp.Ordering.TheVariants.{Less}
 use mathlib.Core.List.{reverse-cons}
-use Rattle.worktree_fs.specs.Tree.{Node, Names, Level, Place, Spot, directory, other, none, named, names_of, child, enter, parent, root_of, trail, is_last, is_directory, is_dot, is_dot_dot, resolve, onward, behind}
+use Rattle.worktree_fs.specs.Tree.{Node, Names, Level, Place, Spot, directory, other, none, named, names_of, child, enter, parent, root_of, trail, is_last, is_directory, is_dot, is_dot_dot, resolve, onward, walking, behind}
 use Rattle.worktree_fs.specs.Grow.{names_at}
 use Rattle.worktree_fs.specs.Order.{name_cmp, name_at, IsRising, IsAt}
 use Rattle.worktree_fs.specs.Stored.{names_in, node_of, AreSorted}
@@ -219,11 +219,11 @@ third false true a b c e f = absurd (cc f)
 third true y a b c e f = absurd (cc e)
 
 pub piece-leads : (links : ℕ) (follow : Bool) (at : Place) (piece : List ℕ) (rest : List (List ℕ)) (o : Option Node) → is_dot piece ≡ false → is_dot_dot piece ≡ false → child at.here piece ≡ o
-    → resolve links follow at (piece ∷ rest) ≡ onward (λ p. resolve links follow p rest) (behind links follow) follow at rest piece o
+    → resolve links follow at (piece ∷ rest) ≡ onward (walking (λ p. resolve links follow p rest) (behind links follow) follow) at rest piece o
 piece-leads links follow at piece rest o dot up is =
     third (is_dot piece) (is_dot_dot piece) (resolve links follow at rest) (resolve links follow (parent at) rest)
-    (onward (λ p. resolve links follow p rest) (behind links follow) follow at rest piece (child at.here piece)) dot up
-    ∙ ap (λ (n : Option Node). onward (λ p. resolve links follow p rest) (behind links follow) follow at rest piece n) is
+    (onward (walking (λ p. resolve links follow p rest) (behind links follow) follow) at rest piece (child at.here piece)) dot up
+    ∙ ap (λ (n : Option Node). onward (walking (λ p. resolve links follow p rest) (behind links follow) follow) at rest piece n) is
 
 -- a file or another node that ends a path is no directory
 pub leaf_stands : (root : List Entry) (way : List ℕ) (i : ℕ) (b : Bool) (turn : Turn) → IsWay way (names_in root) × IsLeaf (here_by way (names_in root)) i → turn ≡ (if b then turns.Node i else turns.Nowhere) → TurnStands root way turn

@@ -1,6 +1,11 @@
 -- What a caller knows of a tree in which a directory was made, or from which a node was removed.
-use Rattle.std.specs.Prelude.{◌≡◌, ℕ, Bool, false, List, [], ◌∷◌, reverse, Some, None}
-use Rattle.worktree_fs.specs.Tree.{Names, Node, reached, missing, directory, none, is_directory, spot, look, absent, found}
+use Rattle.std.specs.Prelude.{◌≡◌, ℕ, Bool, true, false, List, [], reverse, Option, Some, None}
+use Rattle.gitbase_core.specs.Path.{joined}
+use Rattle.worktree_fs.specs.Tree.{Names, Node, reached, missing, directory, none, is_directory, spot, look, absent, found, child}
+use Rattle.worktree_fs.specs.Naming.{IsName}
+use Rattle.worktree_fs.specs.Composed.{as_kept}
+use Rattle.worktree_fs.specs.declared.answers.MakeAnswer.{MakeAnswer}
+use Rattle.worktree_fs.specs.declared.answers.MakeAnswer.TheVariants as makes
 use Rattle.worktree_fs.specs.ByNames.{node_at}
 use Rattle.worktree_fs.specs.Outlines.{LeadsAlike, Apart}
 
@@ -29,3 +34,19 @@ pub record Removes (path : List ℕ) (before now : Names) : Type 0 where
   pub gone : node_at (reverse names) (Some (directory now)) ≡ None
   pub apart : Apart names now before
   pub alike : (other : List ℕ) (follow : Bool) → LeadsAlike follow names node (spot now other follow) (spot before other follow)
+
+-- what is answered to the making of a directory under a name, by what has the name
+abbrev pub made_beside : Option Node → MakeAnswer
+made_beside None = makes.Made
+made_beside (Some node) = makes.Exists
+
+-- The answer to the making of a directory at a path, where that is the path of a name in a directory that is there, and
+-- the name is kept as it is: it was made, or something has the name. It is never refused for its parent.
+abbrev pub AnswersInside : Bool → Names → List ℕ → MakeAnswer → Type 0
+AnswersInside composes t path answer =
+    (above name : List ℕ) (names : Names)
+    → path ≡ joined above name
+    → IsName name
+    → as_kept composes name ≡ name
+    → look t above true ≡ found (directory names)
+    → answer ≡ made_beside (child names name)

@@ -1,5 +1,5 @@
 -- Where paths lead in two trees that differ in one node.
-use Rattle.std.specs.Prelude.{◌≡◌, ◌⊎◌, ℕ, Bool, false, List, [], reverse, Option, Some, option_map}
+use Rattle.std.specs.Prelude.{◌≡◌, ◌⊎◌, ℕ, Bool, false, List, [], reverse, Some, option_map}
 use Rattle.worktree_fs.specs.Tree.{Node, Names, Spot, reached, missing, nowhere, endless, file, link, directory, other, none}
 use Rattle.worktree_fs.specs.ByNames.{node_at}
 

@@ -101,14 +101,23 @@ pub data Spot : Type 0 where
 abbrev pub Jump : Type 0
 Jump = Place → List ℕ → List (List ℕ) → Spot
 
+-- How a resolution goes on: in a directory, behind a link, and whether a last link is followed.
+pub record Walking : Type 0 where
+  pub go : Place → Spot
+  pub jump : Jump
+  pub follow : Bool
+
+abbrev pub walking : (Place → Spot) → Jump → Bool → Walking
+walking go jump follow = record { go = go; jump = jump; follow = follow }
+
 -- from the node of a piece on: into a directory, behind a link unless it is the last and not to be followed,
 -- and no further than a file or another node
-abbrev pub onward : (Place → Spot) → Jump → Bool → Place → List (List ℕ) → List ℕ → Option Node → Spot
-onward go jump follow place rest name None = missing (name ∷ trail place) rest
-onward go jump follow place rest name (Some (directory names)) = go (enter place name names)
-onward go jump follow place rest name (Some (link target)) = if follow || not (is_last rest) then jump place target rest else reached (name ∷ trail place) (link target)
-onward go jump follow place rest name (Some (file bytes)) = if is_last rest then reached (name ∷ trail place) (file bytes) else nowhere
-onward go jump follow place rest name (Some other) = if is_last rest then reached (name ∷ trail place) other else nowhere
+abbrev pub onward : Walking → Place → List (List ℕ) → List ℕ → Option Node → Spot
+onward on place rest name None = missing (name ∷ trail place) rest
+onward on place rest name (Some (directory names)) = on.go (enter place name names)
+onward on place rest name (Some (link target)) = if on.follow || not (is_last rest) then on.jump place target rest else reached (name ∷ trail place) (link target)
+onward on place rest name (Some (file bytes)) = if is_last rest then reached (name ∷ trail place) (file bytes) else nowhere
+onward on place rest name (Some other) = if is_last rest then reached (name ∷ trail place) other else nowhere
 
 -- along the components from a place, by `jump` behind each link on the way
 abbrev pub along : Jump → Bool → Place → List (List ℕ) → Spot
@@ -116,7 +125,7 @@ along jump follow place [] = reached (trail place) (directory place.here)
 along jump follow place (piece ∷ rest) =
     if is_dot piece then along jump follow place rest
     else if is_dot_dot piece then along jump follow (parent place) rest
-    else onward (λ p. along jump follow p rest) jump follow place rest piece (child place.here piece)
+    else onward (walking (λ p. along jump follow p rest) jump follow) place rest piece (child place.here piece)
 
 -- behind a link, where so many links may still be followed; a target that is no text leads nowhere
 unfoldable pub behind : ℕ → Bool → Jump

@@ -8,6 +8,7 @@ use std::alloc::{AllocError, AllocFailed};
 use thiserror::Error;
 
 /// What stands at a path, its last link not followed unless the call says so.
+/// See docs/DIFFERENCES.md#gix-missing-variants.
 #[derive(Clone, Copy, Debug, PartialEq, Eq, PartialOrd, Ord, Hash)]
 pub enum NodeKind {
     /// A file with bytes.

@@ -55,6 +55,7 @@ impl<'a> Model for DiskWorktree<'a> {
 
 impl<'a> DiskWorktree<'a> {
     /// A worktree over all files of the system; takes no memory before its first listing.
+    /// See docs/DECISIONS.md#real-disk-paths.
     pub fn new(rt: &'a HostRuntime, composes: bool) -> DiskWorktree<'a>
         ensures { result
             ≡ record { composes = composes; faults = 0; list_faults = 0; reads = 0; lists = 0 } }

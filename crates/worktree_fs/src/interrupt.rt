@@ -30,6 +30,10 @@ pub trait Interrupt {
     /// Another one that is raised as this one is, and was not asked yet.
     ///
     /// Who takes a fork hands it back by `absorb`: it cannot be let go in generic code.
+    ///
+    /// # Errors
+    ///
+    /// - `OutOfMemory` for want of memory.
     fn fork(&self, alloc: Global) -> Result<Self, OutOfMemory>
         ensures questions { IfOk result (λ fork. questions fork ≡ 0) }
         ensures raised { IfOk result (λ fork. raised fork ≡ 0) };
@@ -150,6 +154,10 @@ impl Model for FlagInterrupt {
 
 impl FlagInterrupt {
     /// One whose flag is not raised.
+    ///
+    /// # Errors
+    ///
+    /// - `OutOfMemory` for want of memory.
     pub fn new(alloc: Global) -> Result<FlagInterrupt, OutOfMemory>
         ensures { IfOk result (λ i. i ≡ record { questions = 0; raised = 0 }) }
     {

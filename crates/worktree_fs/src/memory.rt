@@ -43,7 +43,13 @@ use std::marker::Model;
 
 /// A tree in memory, whose names are sorted in each directory and found by binary search.
 ///
+/// Paths are followed by loops, however deep the tree is. Adding, making and removing a node, forking, and letting the
+/// tree go take frames of the stack for each directory on the way.
+///
 /// Contracts see all that it holds, the planned faults, and the counts.
+///
+/// See docs/DECISIONS.md#told-tree-is-names.
+/// See docs/DECISIONS.md#fork-copies-tree.
 #[derive(Drop)]
 pub struct MemoryWorktree {
     root: Root,
@@ -111,8 +117,16 @@ impl MemoryWorktree {
 
     /// Puts a node at the end of a path, with the directories on the way that are missing.
     ///
-    /// `NotNormal`, `NoParent` and `Exists` come, in this order, exactly where `AddError` says; the tree then stays as
-    /// it was.
+    /// # Errors
+    ///
+    /// The tree stays for each; the first that fits is the answer.
+    ///
+    /// - `NotNormal` exactly where the path is not a slash and names with one slash between each two.
+    /// - `NoParent` exactly where a node on the way is no directory.
+    /// - `Exists` exactly where there is a node already.
+    /// - `OutOfMemory` for want of memory.
+    ///
+    /// See docs/DECISIONS.md#add-root.
     pub fn add(&mut self, alloc: Global, path: &[u8], node: NewNode<'_>) -> Result<(), AddError>
         ensures added { OnOk result (directory self.new.tree
             ≡ grown (components (as_kept self.old.composes path.now)) (node_of_new node.entry)
@@ -136,6 +150,10 @@ impl MemoryWorktree {
     }
 
     /// Plans that the `nth` call of a kind, counted from 1, fails, beside what was planned before.
+    ///
+    /// # Errors
+    ///
+    /// - `OutOfMemory` for want of memory; what was planned stays.
     pub fn fail(&mut self, _alloc: Global, call: CallKind, nth: u64) -> Result<(), OutOfMemory>
         ensures planned { OnOk result (self.new
             ≡ record self.old {

@@ -15,6 +15,10 @@ use std::alloc::Global;
 
 /// Whether the path without links of what a path leads to is `own`; false where it leads to nothing, and where the
 /// question failed, which is counted.
+///
+/// # Errors
+///
+/// - `OutOfMemory` for want of memory.
 pub fn real_path_is<W: Worktree>(
     alloc: Global,
     worktree: &mut W,
@@ -39,6 +43,12 @@ pub fn real_path_is<W: Worktree>(
 
 /// Whether a path, links followed, leads to a repository: to a git directory, or to a file that names one; false too
 /// where a question failed, which is counted.
+///
+/// # Errors
+///
+/// - `OutOfMemory` for want of memory.
+///
+/// See docs/DECISIONS.md#failed-repository-test.
 pub fn is_git<W: Worktree>(
     alloc: Global,
     worktree: &mut W,
@@ -115,6 +125,7 @@ fn common_of<W: Worktree>(alloc: Global, worktree: &mut W, git: &[u8]) -> Result
 }
 
 /// Whether a directory has a `HEAD`, and another has `objects` and `refs`.
+/// See docs/DECISIONS.md#whole-git-directory.
 fn is_git_directory<W: Worktree>(
     alloc: Global,
     worktree: &mut W,
@@ -191,6 +202,7 @@ fn read_file<W: Worktree>(
 }
 
 /// A path, taken from the directory of a file where it is relative.
+/// See docs/DECISIONS.md#gitdir-file.
 fn beside(alloc: Global, path: &[u8], file: &[u8]) -> Result<Bytes, OutOfMemory>
     ensures { IfOk result (λ full. full
         ≡ from_directory path.now (unwrap_or (parent file.now) [])) }

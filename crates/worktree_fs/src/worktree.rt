@@ -4,6 +4,7 @@ ghost use Rattle.worktree_fs.specs.Tree.{Names, look, spot, found, file, directo
 ghost use Rattle.worktree_fs.specs.Naming.{AreNames, IsTree};
 ghost use Rattle.worktree_fs.specs.Answers.{kind_of, read_of, UnlessRead, ListsNames, ListRefuses, OnListFault, UnlessListFault};
 ghost use Rattle.worktree_fs.specs.Changes.{real_path, make_answer, after_make, remove_answer, after_remove};
+ghost use Rattle.worktree_fs.specs.Changed.{AnswersInside};
 ghost use Rattle.worktree_fs.specs.Causes.{Incremented, Increased, with_more};
 
 use crate::{ListError, MakeAnswer, NameList, NodeKind, ReadAnswer, ReadError, RemoveAnswer};
@@ -20,6 +21,8 @@ use std::alloc::Global;
 /// `make_dir` and `remove_node` change the tree.
 ///
 /// Contracts speak of the tree where the worktree tells it, and of the counts always.
+///
+/// See docs/DIFFERENCES.md#gix-file-system.
 pub trait Worktree {
     /// What is in `/`, where the worktree tells it.
     ghost told: { Self → Option Names };
@@ -45,7 +48,12 @@ pub trait Worktree {
 
     /// The kind of the node at a path, a last link not followed; none where nothing is there.
     ///
-    /// A fault comes only where it was counted.
+    /// # Errors
+    ///
+    /// - `Fault` only where it was counted.
+    /// - `OutOfMemory` for want of memory.
+    ///
+    /// See docs/DECISIONS.md#one-look-a-name.
     fn kind(&mut self, alloc: Global, path: &[u8]) -> Result<Option<NodeKind>, ReadError>
         ensures answer { (t : Names) → told self.old ≡ Some t
             → IfOk result (λ kind. kind ≡ kind_of (look t path.now false)) }
@@ -61,7 +69,10 @@ pub trait Worktree {
     /// The kind of the node that a path leads to, a last link followed; none where nothing is there, so too for a
     /// dangling or an endless link.
     ///
-    /// A fault comes only where it was counted.
+    /// # Errors
+    ///
+    /// - `Fault` only where it was counted.
+    /// - `OutOfMemory` for want of memory.
     fn kind_following(&mut self, alloc: Global, path: &[u8]) -> Result<Option<NodeKind>, ReadError>
         ensures answer { (t : Names) → told self.old ≡ Some t
             → IfOk result (λ kind. kind ≡ kind_of (look t path.now true)) }
@@ -76,9 +87,16 @@ pub trait Worktree {
 
     /// The names of a directory, each once, in an order of the worktree's own. With `follow` a last link is followed.
     ///
-    /// `Absent` comes where the path leads nowhere, so too along a dangling or an endless link; `NotADirectory` where
-    /// it leads to another node, so too to a link that is not followed. `OpenFault` and `EntryFault` come only where
-    /// they were counted, as faults and as faults of listings.
+    /// # Errors
+    ///
+    /// - `Absent` where the path leads nowhere, so too along a dangling or an endless link.
+    /// - `NotADirectory` where it leads to another node, so too to a link that is not followed.
+    /// - `OpenFault` where the directory could not be opened, only where it was counted, as a fault and as a fault of a
+    ///   listing.
+    /// - `EntryFault` where its names could not be read, counted so too.
+    /// - `OutOfMemory` for want of memory.
+    ///
+    /// See docs/DECISIONS.md#listing-counts.
     fn list(&mut self, alloc: Global, path: &[u8], follow: bool) -> Result<NameList, ListError>
         ensures answer { (t : Names) → told self.old ≡ Some t
             → MatchResult result (ListsNames (look t path.now follow)) (ListRefuses
@@ -100,7 +118,10 @@ pub trait Worktree {
     /// Reads the bytes of a file in the place of those in `into`, which stay for any other answer. With `follow` a
     /// last link is followed, and a dangling one is absent.
     ///
-    /// A fault comes only where it was counted.
+    /// # Errors
+    ///
+    /// - `Fault` only where it was counted.
+    /// - `OutOfMemory` for want of memory.
     fn read(
         &mut self,
         alloc: Global,
@@ -127,7 +148,10 @@ pub trait Worktree {
     /// The path of the node that a path leads to, without links; none where it leads to none. A path that does not
     /// begin at `/` is taken from `cwd`.
     ///
-    /// A fault comes only where it was counted.
+    /// # Errors
+    ///
+    /// - `Fault` only where it was counted.
+    /// - `OutOfMemory` for want of memory.
     fn real_path(
         &mut self,
         alloc: Global,
@@ -146,13 +170,23 @@ pub trait Worktree {
         ensures precomposes { precomposes self.new ≡ precomposes self.old };
 
     /// Makes a directory, whose parent has to be there. A last link is not followed: it is a node. Where names are listed
-    /// composed, the name of the new directory is composed too.
+    /// composed, the name of the new directory is composed too. A name in a directory that is there, which is kept as
+    /// it is, is never refused as `NoParent`.
     ///
-    /// A fault comes only where it was counted, and the tree then stays.
+    /// # Errors
+    ///
+    /// The tree stays for each.
+    ///
+    /// - `Fault` only where it was counted.
+    /// - `OutOfMemory` for want of memory.
+    ///
+    /// See docs/DECISIONS.md#make-dir-composes.
     fn make_dir(&mut self, alloc: Global, path: &[u8]) -> Result<MakeAnswer, ReadError>
         ensures answer { (t : Names) → told self.old ≡ Some t
             → IfOk result (λ answer. answer
             ≡ make_answer (precomposes self.old) t (spot t path.now false)) }
+        ensures inside { (t : Names) → told self.old ≡ Some t
+            → IfOk result (AnswersInside (precomposes self.old) t path.now) }
         ensures made { (t : Names) → told self.old ≡ Some t
             → OnOk result (told self.new
             ≡ Some (after_make (precomposes self.old) t (spot t path.now false))) }
@@ -168,7 +202,14 @@ pub trait Worktree {
 
     /// Removes a node that is no directory. A last link is not followed: it is removed itself.
     ///
-    /// A fault comes only where it was counted, and the tree then stays.
+    /// # Errors
+    ///
+    /// The tree stays for each.
+    ///
+    /// - `Fault` only where it was counted.
+    /// - `OutOfMemory` for want of memory.
+    ///
+    /// See docs/DECISIONS.md#removal-by-names.
     fn remove_node(&mut self, alloc: Global, path: &[u8]) -> Result<RemoveAnswer, ReadError>
         ensures answer { (t : Names) → told self.old ≡ Some t
             → IfOk result (λ answer. answer ≡ remove_answer (spot t path.now false)) }
@@ -187,6 +228,10 @@ pub trait Worktree {
     /// Another worktree over the same tree, whose counts are 0.
     ///
     /// Who takes a fork hands it back by `absorb`: it cannot be let go in generic code.
+    ///
+    /// # Errors
+    ///
+    /// - `OutOfMemory` for want of memory.
     fn fork(&self, alloc: Global) -> Result<Self, OutOfMemory>
         ensures tree { IfOk result (λ fork. told fork ≡ told self.now) }
         ensures faults { IfOk result (λ fork. faults fork ≡ 0) }
@@ -196,6 +241,7 @@ pub trait Worktree {
         ensures precomposes { IfOk result (λ fork. precomposes fork ≡ precomposes self.now) };
 
     /// Adds the counts of a fork, but that of its listings, and lets it go.
+    /// See docs/DECISIONS.md#lost-fork.
     fn absorb(&mut self, other: Self)
         ensures tree { told self.new ≡ told self.old }
         ensures faults { faults self.new ≡ with_more (faults self.old) (faults other) }

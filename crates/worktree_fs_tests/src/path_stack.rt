@@ -226,13 +226,11 @@ fn goes_down(alloc: Global, stack: &mut PathStack, path: &[u8]) -> bool {
         let Some(next) = next_component(rest) else {
             return false;
         };
-        let is_there = if next.is_last {
-            stack.set_current(alloc, next.name).is_ok()
-        } else {
-            stack.enter(alloc, next.name).is_ok()
-        };
-        if !is_there {
+        if stack.set_current(alloc, next.name).is_err() {
             return false;
+        }
+        if !next.is_last {
+            stack.enter_current();
         }
         rest = next.rest;
     }

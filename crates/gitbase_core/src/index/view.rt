@@ -19,6 +19,8 @@ use std::marker::Model;
 /// What is asked for a name in the directory is searched among these entries alone, and their paths are compared
 /// behind the directory's; where there are none nothing is searched. Contracts see the entries and how many bytes are
 /// skipped; that they are those beneath a directory is `IsBeneath`.
+///
+/// See docs/DECISIONS.md#index-by-directory.
 #[derive(Drop)]
 pub struct Beneath<'a> {
     entries: &'a [IndexEntry],

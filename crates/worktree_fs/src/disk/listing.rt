@@ -1,8 +1,9 @@
 //! The names of a directory of the system.
-ghost use Rattle.std.specs.Prelude.{◌≡◌, ◌≤◌, length, IfOk, IfSome, All, IsTrue};
+ghost use Rattle.std.specs.Prelude.{◌≡◌, ◌≤◌, ◌<◌, ◌++◌, ◌∷◌, [], length, Some, None, if◌then◌else◌, IfOk, OnOk, IfNone, IfSome, All, IsTrue};
 ghost use Rattle.std.specs.List.Sorted.{IsStrictlySortedBy};
-ghost use Rattle.worktree_fs.specs.Edges.{IsKept, IsListed, AreListed};
-ghost use Rattle.worktree_fs.specs.Naming.{AreNames};
+ghost use Rattle.worktree_fs.specs.Composed.{as_kept};
+ghost use Rattle.worktree_fs.specs.Edges.{IsKept, AreListed, kept_names, names_between, given_names};
+ghost use Rattle.worktree_fs.specs.Naming.{AreNames, is_name};
 ghost use Rattle.worktree_fs.specs.Order.{name_cmp};
 
 use super::node::{is_absent, look, text_of};
@@ -106,18 +107,36 @@ fn take_names(
     names: &mut Vec<Bytes>,
 ) -> Result<(), ListError>
     requires { AreListed composes names.old.items }
-    ensures { AreListed composes names.new.items }
+    ensures listed { AreListed composes names.new.items }
+    ensures all { OnOk result (names.new.items
+        ≡ names.old.items ++ given_names composes piece.now) }
 {
-    for name in piece.split(|b| *b == 0) {
-        if name.is_empty() || is_dot(name) || is_dot_dot(name) {
-            continue;
-        }
+    let mut rest = piece;
+    while let Some((name, behind)) = cut_name(rest) {
         take_name(alloc, composes, name, names)?;
+        rest = behind;
     }
-    Ok(())
+    take_name(alloc, composes, rest, names)
 }
 
-/// Adds a name that the system gave, as it is kept.
+/// What stands before the first NUL, and what stands behind it.
+fn cut_name(piece: &[u8]) -> Option<(&[u8], &[u8])>
+    ensures none { IfNone result (names_between piece.now ≡ piece.now ∷ []) }
+    ensures some { IfSome result (λ cut. names_between piece.now
+        ≡ cut.0.now ∷ names_between cut.1.now) }
+    ensures shorter { IfSome result (λ cut. length cut.1.now < length piece.now) }
+{
+    for (i, b) in piece.iter().enumerate() {
+        if *b == 0 {
+            return Some((&piece[..i], &piece[i + 1..]));
+        }
+    }
+    None
+}
+
+/// Adds a name that the system gave, as it is kept, where it is that of a node in the directory.
+/// See docs/DIFFERENCES.md#gix-utf8-names.
+/// See docs/DIFFERENCES.md#utf8-names.
 fn take_name(
     alloc: Global,
     composes: bool,
@@ -125,7 +144,27 @@ fn take_name(
     names: &mut Vec<Bytes>,
 ) -> Result<(), ListError>
     requires { AreListed composes names.old.items }
-    ensures { AreListed composes names.new.items }
+    ensures listed { AreListed composes names.new.items }
+    ensures all { OnOk result (names.new.items
+        ≡ names.old.items ++ kept_names composes (name.now ∷ [])) }
+{
+    if name.is_empty() || is_dot(name) || is_dot_dot(name) {
+        return Ok(());
+    }
+    add_name(alloc, composes, name, names)
+}
+
+/// Adds a name as it is kept.
+fn add_name(
+    alloc: Global,
+    composes: bool,
+    name: &[u8],
+    names: &mut Vec<Bytes>,
+) -> Result<(), ListError>
+    requires { AreListed composes names.old.items }
+    ensures listed { AreListed composes names.new.items }
+    ensures added { OnOk result (names.new.items
+        ≡ names.old.items ++ as_kept composes name.now ∷ []) }
 {
     let Some(name) = listed_name(alloc, composes, name)? else {
         return Err(ListError::EntryFault);
@@ -137,9 +176,10 @@ fn take_name(
     Ok(())
 }
 
-/// A name of the system as it is kept, where it may stand in a directory.
+/// A name of the system as it is kept; none where it may not stand in a directory.
 fn listed_name(alloc: Global, composes: bool, name: &[u8]) -> Result<Option<Bytes>, OutOfMemory>
-    ensures { IfOk result (λ kept. IfSome kept (IsListed composes)) }
+    ensures { IfOk result (λ kept. kept ≡ (if is_name (as_kept composes name.now)
+        then Some (as_kept composes name.now) else None)) }
 {
     let kept = as_kept(alloc, composes, name)?;
     if is_name(kept.as_bytes()) {

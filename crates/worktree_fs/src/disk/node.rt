@@ -45,6 +45,7 @@ pub fn is_absent(error: &io::Error) -> bool {
 }
 
 /// The kind of the node at a path, where there is one.
+/// See docs/DIFFERENCES.md#gix-link-limit.
 pub fn look(rt: &HostRuntime, path: &[u8], follow: bool) -> Result<Option<NodeKind>, ReadError> {
     let Some(text) = text_of(path) else {
         return Ok(None);
@@ -131,6 +132,8 @@ pub fn real_path(
 }
 
 /// The path whose last name is as it is kept.
+/// See docs/DECISIONS.md#empty-components.
+/// See docs/DIFFERENCES.md#gix-trailing-slash.
 fn kept_path(alloc: Global, composes: bool, text: &str) -> Result<Bytes, OutOfMemory> {
     let Some((parent, name)) = text.rsplit_once('/') else {
         return as_kept(alloc, composes, text.as_bytes());

@@ -1,6 +1,6 @@
 //! The resolution of a path in a stored tree, without memory of its own.
 ghost use Rattle.std.specs.Prelude.{◌≡◌, ℕ, not, true, false, ◌&&◌, List, ◌*◌, ◌+◌, ◌^◌, ◌≤◌, length, Some};
-ghost use Rattle.worktree_fs.specs.Tree.{is_dot, is_dot_dot, is_text, is_absolute, is_last, resolve, behind, onward, Level, Place, look_at, look, found, link};
+ghost use Rattle.worktree_fs.specs.Tree.{is_dot, is_dot_dot, is_text, is_absolute, is_last, resolve, behind, onward, walking, Level, Place, look_at, look, found, link};
 ghost use Rattle.worktree_fs.specs.Stored.{names_in, AreSorted};
 ghost use Rattle.worktree_fs.specs.Step.{stepped, within, is_root_below, place_of, end_of, look_of, ListsSorted, IsSettled, IsSound};
 
@@ -45,6 +45,7 @@ enum Step<'a> {
 }
 
 /// What a path leads to from the root, through at most 32 links. A last link is followed where `follow` says so.
+/// See docs/DECISIONS.md#step-needs-directory.
 pub fn resolve<'a>(root: &'a [Entry], path: &'a [u8], follow: bool) -> Found<'a>
     requires { AreSorted root.now }
     ensures leads { look_of result ≡ look (names_in root.now) path.now follow }
@@ -126,8 +127,8 @@ fn walk<'a>(dir: &'a [Entry], is_root: bool, route: &mut Route<'a>, follow: bool
 #[cycle(walk)]
 fn onward<'a>(node: &'a Stored, route: &mut Route<'a>, follow: bool) -> Step<'a>
     ensures leads { (place : Place) (name : List ℕ)
-        → look_at (onward (λ p. resolve route.old.links follow p route.old.left)
-        (behind route.old.links follow) follow place route.old.left name (Some node.now))
+        → look_at (onward (walking (λ p. resolve route.old.links follow p route.old.left)
+        (behind route.old.links follow) follow) place route.old.left name (Some node.now))
         ≡ stepped follow (within place) route.new.links route.new.left result }
     ensures sound { IsSound result }
     ensures smaller { route.new.links * 2 ^ 64 + length route.new.left
@@ -150,8 +151,8 @@ fn onward<'a>(node: &'a Stored, route: &mut Route<'a>, follow: bool) -> Step<'a>
 fn through<'a>(node: &'a Stored, target: &'a [u8], route: &mut Route<'a>, follow: bool) -> Step<'a>
     requires { node.now ≡ link target.now }
     ensures leads { (place : Place) (name : List ℕ)
-        → look_at (onward (λ p. resolve route.old.links follow p route.old.left)
-        (behind route.old.links follow) follow place route.old.left name (Some (link target.now)))
+        → look_at (onward (walking (λ p. resolve route.old.links follow p route.old.left)
+        (behind route.old.links follow) follow) place route.old.left name (Some (link target.now)))
         ≡ stepped follow (within place) route.new.links route.new.left result }
     ensures sound { IsSound result }
     ensures smaller { route.new.links * 2 ^ 64 + length route.new.left

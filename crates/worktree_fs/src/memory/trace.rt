@@ -1,6 +1,6 @@
 //! The resolution of a path that keeps the way down to what it leads to, without memory of its own.
 ghost use Rattle.std.specs.Prelude.{◌≡◌, [], ◌∷◌, ◌++◌, Bool, Some, ◌*◌, ◌+◌, ◌^◌, ◌≤◌, ◌<◌, length, vec_len, vec_capacity, if◌then◌else◌};
-ghost use Rattle.worktree_fs.specs.Tree.{resolve, spot, parent, onward, behind, is_last};
+ghost use Rattle.worktree_fs.specs.Tree.{resolve, spot, parent, onward, walking, behind, is_last};
 ghost use Rattle.worktree_fs.specs.Stored.{names_in, AreSorted};
 ghost use Rattle.worktree_fs.specs.Way.{name_nth, node_nth, dir_nth, place_by, here_by, IsWay, StandsAt, TurnStands, turned, LeadsTo, depth_in};
 
@@ -160,8 +160,8 @@ fn on<'a>(
     requires room { depth_in (names_in root.now) ≤ vec_capacity way.old }
     requires there { at < length dir.now }
     requires node { node_nth (names_in dir.now) at ≡ node.now }
-    ensures leads { onward (λ p. resolve route.old.links follow p route.old.left)
-        (behind route.old.links follow) follow
+    ensures leads { onward (walking (λ p. resolve route.old.links follow p route.old.left)
+        (behind route.old.links follow) follow)
         (place_by (names_in root.now) way.old.items) route.old.left
         (name_nth (names_in dir.now) at) (Some node.now)
         ≡ turned follow (place_by (names_in root.now) way.new.items) route.new.links

@@ -1,5 +1,5 @@
 -- The disk tells nothing of what it holds, and its counts are those of its own clauses.
-use Rattle.std.proofs.Common.{◌≡◌, List, ℕ, Option, Some, None, Ok, Err, refl, ap, OnErr, Result}
+use Rattle.std.proofs.Common.{◌≡◌, Option, Some, None, Ok, Err, refl, ap, OnErr, Result}
 use Rattle.worktree_fs.specs.Tree.{Names}
 use Rattle.worktree_fs.specs.Edges.{Disk}
 use Rattle.worktree_fs.specs.declared.answers.ReadError.{ReadError}
@@ -84,6 +84,7 @@ read-tells g c = record {
 pub make_dir-tells : goal.make_dir-tells
 make_dir-tells g c = record {
   answer = λ t told. absurd (clash t told);
+  inside = λ t told. absurd (clash t told);
   made = λ t told. absurd (clash t told);
   kept = stays c.result;
   untold = λ none. refl;

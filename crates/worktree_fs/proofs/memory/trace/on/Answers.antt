@@ -1,5 +1,5 @@
 use Rattle.std.proofs.Common.{◌∙◌, ap, sym, arith, subst, List, Some, vec_capacity}
-use Rattle.worktree_fs.specs.Tree.{Node, Place, resolve, onward, behind, is_directory, is_last}
+use Rattle.worktree_fs.specs.Tree.{Node, Place, resolve, onward, walking, behind, is_directory, is_last}
 use Rattle.worktree_fs.specs.Stored.{names_in, node_of, AreSorted, IsSorted}
 use Rattle.worktree_fs.specs.Way.{name_nth, place_by, StandsAt}
 use Rattle.worktree_fs.specs.declared.memory.stored.Entry.{Entry}
@@ -14,7 +14,7 @@ go_down-requires c =
 pub returns-in-Directory-clause-leads : goal.returns-in-Directory-clause-leads
 returns-in-Directory-clause-leads c =
     let inner = sym c.inner.ensures.node ∙ ap node_of c.in-Directory.is in
-    ap (λ (n : Node). onward (λ (p : Place). resolve c.args.route.now.links c.args.follow p c.args.route.now.left) (behind c.args.route.now.links c.args.follow) c.args.follow
+    ap (λ (n : Node). onward (walking (λ (p : Place). resolve c.args.route.now.links c.args.follow p c.args.route.now.left) (behind c.args.route.now.links c.args.follow) c.args.follow)
     (place_by (names_in c.args.root.now) c.args.way.now.items) c.args.route.now.left (name_nth (names_in c.args.dir.now) c.args.at) (Some n)) inner
     ∙ ap (λ (p : Place). resolve c.args.route.now.links c.args.follow p c.args.route.now.left)
     (place_down c.args.root.now c.args.dir.now c.in-Directory.entries.items c.args.way.now.items c.args.at c.requires.stands (c.requires.node ∙ inner) c.go_down.new.way.items c.go_down.ensures.items)

@@ -1,5 +1,5 @@
 use Rattle.std.proofs.Common.{◌∙◌, ap, sym, List, ℕ, Some, None, slice_index_or}
-use Rattle.worktree_fs.specs.Tree.{Names, Node, Place, child, resolve, onward, behind}
+use Rattle.worktree_fs.specs.Tree.{Names, Node, Place, child, resolve, onward, walking, behind}
 use Rattle.worktree_fs.specs.Stored.{names_in}
 use Rattle.worktree_fs.specs.Way.{place_by}
 use Rattle.worktree_fs.proofs.Grown.{child_gap}
@@ -21,7 +21,7 @@ returns-in-Ok-clause-leads c =
     (ap (λ (h : Names). child h c.args.piece.now) c.requires.stands.here
     ∙ at_child dir rising c.args.piece.now c.in-Ok.at c.in-Ok.ensures.found
     ∙ ap (λ (n : Node). Some n) (nth_node dir c.in-Ok.at c.index-dir-at.result (at_range dir rising c.args.piece.now c.in-Ok.at c.in-Ok.ensures.found)))
-    ∙ ap (λ (n : List ℕ). onward (λ (p : Place). resolve links c.args.follow p left) (behind links c.args.follow) c.args.follow place left n (Some node)) (sym (at_name dir rising c.args.piece.now c.in-Ok.at c.in-Ok.ensures.found))
+    ∙ ap (λ (n : List ℕ). onward (walking (λ (p : Place). resolve links c.args.follow p left) (behind links c.args.follow) c.args.follow) place left n (Some node)) (sym (at_name dir rising c.args.piece.now c.in-Ok.at c.in-Ok.ensures.found))
     ∙ c.on.ensures.leads
 
 pub returns-in-Err-clause-leads : goal.returns-in-Err-clause-leads
