@@ -75,6 +75,8 @@ fn digits_truth(digits: &[u8]) -> Option<bool>
 }
 
 /// What a text says as a boolean. None where it is no boolean.
+/// See docs/DIFFERENCES.md#config-numbers.
+/// See docs/DIFFERENCES.md#config-blank-number.
 pub fn truth(text: &[u8]) -> Option<bool>
     ensures { result ≡ booleans.truth text.now }
 {

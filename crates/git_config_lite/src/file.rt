@@ -72,6 +72,7 @@ impl File {
     }
 
     /// A configuration of these sections, with an index where there is memory for one.
+    /// See docs/DECISIONS.md#slower-without-memory.
     fn with_index(alloc: Global, meta: Metadata, sections: Vec<Section>) -> File
         ensures sections { result.sections ≡ sections.items }
         ensures meta { result.meta ≡ meta }
@@ -206,6 +207,8 @@ impl File {
     ///
     /// A name has letters, digits, hyphens and dots, and is not empty. A subsection is any bytes; one that is read has no
     /// LF and no NUL. The configuration stays as it was where memory is refused.
+    ///
+    /// See docs/DECISIONS.md#any-subsection.
     pub fn push_section(
         &mut self,
         alloc: Global,

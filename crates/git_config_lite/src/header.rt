@@ -37,6 +37,8 @@ fn with_subsection<'a>(name: &'a [u8], found: Option<QuotedText<'a>>) -> Option<
 }
 
 /// The header of a name, by what is behind that.
+/// See docs/DIFFERENCES.md#config-nameless-header.
+/// See docs/DIFFERENCES.md#config-dotted-section.
 fn header_behind<'a>(
     alloc: Global,
     name: &'a [u8],
@@ -64,6 +66,8 @@ fn header_behind<'a>(
 }
 
 /// The header at the start of some bytes, behind its opening bracket. None where it is outside the grammar.
+/// See docs/DIFFERENCES.md#config-second-header.
+/// See docs/DIFFERENCES.md#config-open-header.
 pub fn header_at(alloc: Global, bytes: &[u8]) -> Result<Option<HeadedLine<'_>>, OutOfMemory>
     ensures { IfOk result (λ found. option_map seen.headed found ≡ headers.header_at bytes.now) }
 {

@@ -15,6 +15,7 @@ pub struct KeyedLine<'a> {
 }
 
 /// A key, by what is behind it and its blanks.
+/// See docs/DIFFERENCES.md#config-comment-behind-key.
 fn key_behind<'a>(key: &'a [u8], rest: &'a [u8]) -> Option<KeyedLine<'a>>
     ensures { option_map seen.keyed result ≡ keys.key_behind key.now rest.now }
 {

@@ -44,6 +44,7 @@ pub fn value_of(entry: &Entry) -> Option<&[u8]>
 }
 
 /// A value as a text.
+/// See docs/DIFFERENCES.md#gix-valueless-key.
 pub fn text_of(value: Option<&[u8]>) -> &[u8]
     ensures { result.now ≡ lookups.text_of (option_copied value.entry) }
 {

@@ -116,6 +116,7 @@ fn with_key(
 }
 
 /// Sections, and a line that begins with a key.
+/// See docs/DIFFERENCES.md#config-early-key.
 fn key_line(
     alloc: Global,
     sections: Vec<Section>,

@@ -3,6 +3,7 @@ ghost use Rattle.std.specs.Prelude.{◌≡◌, ◌<◌, ◌≤◌, not, drop, le
 ghost use Rattle.git_config_lite.specs.Texts as texts;
 
 /// A space or a tab.
+/// See docs/DIFFERENCES.md#config-lone-return.
 pub fn is_blank(byte: u8) -> bool
     ensures { result ≡ texts.is_blank byte }
 {

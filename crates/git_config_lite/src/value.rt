@@ -39,6 +39,8 @@ fn piece_end(elements: Vec<Element>, place: Place) -> Option<Piece>
 }
 
 /// A value with one more line, behind the elements of its earlier ones. None where the line is outside the grammar.
+/// See docs/DIFFERENCES.md#config-open-quote.
+/// See docs/DIFFERENCES.md#config-open-end.
 pub fn read_piece(mut elements: Vec<Element>, line: &[u8]) -> Result<Option<Piece>, OutOfMemory>
     ensures { IfOk result
         (λ piece. piece ≡ option_map (before_piece elements.items) (piece_of line.now)) }
@@ -111,6 +113,10 @@ fn trimmed(elements: &[Element]) -> &[Element]
 }
 
 /// The value of the elements of all its lines.
+/// See docs/DIFFERENCES.md#config-tab.
+/// See docs/DIFFERENCES.md#config-empty-quote.
+/// See docs/DIFFERENCES.md#config-blanks-before-last.
+/// See docs/DIFFERENCES.md#config-nul-value.
 pub fn value_of(alloc: Global, elements: &[Element]) -> Result<Bytes, OutOfMemory>
     ensures { IfOk result (λ value. value ≡ value_of elements.now) }
 {

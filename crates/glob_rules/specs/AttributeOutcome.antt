@@ -9,7 +9,7 @@ use Rattle.glob_rules.specs.declared.attributes.Assignment.{Assignment}
 use Rattle.glob_rules.specs.declared.attributes.outcome.Row.{Row}
 use Rattle.glob_rules.specs.declared.attributes.word.Assigned.{Assigned}
 use Rattle.glob_rules.specs.Attributes.{AttributeList}
-use Rattle.glob_rules.specs.AttributeValues.{attribute_at, state_in}
+use Rattle.glob_rules.specs.AttributeValues.{standing_at, state_in}
 
 -- What is asked for, in its order, with what was found; and whether it is a selection.
 pub record Answers : Type 0 where
@@ -48,7 +48,7 @@ answered standing row = record { name = row.name; state = state_in row.name stan
 -- the attributes of a path that are asked for, by lists of which the lowest is the first
 abbrev pub filled : List AttributeList → List ℕ → Option Bool → Case → Answers → Answers
 filled lists path is_dir case answers =
-    record { rows = map (λ (row : Row). record { name = row.name; state = attribute_at lists path is_dir case row.name }) answers.rows; is_selection = answers.is_selection }
+    record { rows = map (answered (standing_at lists path is_dir case)) answers.rows; is_selection = answers.is_selection }
 
 -- something was found of a name that is asked for
 abbrev pub finds_some : List Row → Bool

@@ -146,13 +146,48 @@ fn is_filled(alloc: Global, row: Row<'_>, case: Case) -> bool {
         return false;
     };
     let mut out = Outcome::new(alloc);
-    if out.initialize(alloc, &collection).is_err() {
-        return false;
-    }
+    out.initialize(alloc, &collection).is_ok()
+        && is_answered(alloc, &globals, &stack, row, case, &mut out)
+}
+
+/// Whether lists answer as a row says what is asked for.
+fn is_answered(
+    alloc: Global,
+    globals: &Search,
+    stack: &Search,
+    row: Row<'_>,
+    case: Case,
+    out: &mut Outcome,
+) -> bool {
     let is_dir = Some(row.path.ends_with(b"/"));
     let path = row.path.trim_end_with(|c| c == '/');
-    fill(alloc, &globals, &stack, path, case, is_dir, &mut out).is_ok()
-        && are_found(&out, row.found)
+    fill(alloc, globals, stack, path, case, is_dir, out).is_ok() && are_found(out, row.found)
+}
+
+/// Whether copies of the lists and of the collection answer as a row says, asked for all names as a selection, and once
+/// more after that was forgotten.
+fn is_answered_by_copies(alloc: Global, row: Row<'_>) -> bool {
+    let mut collection = MetadataCollection::new(alloc);
+    let Some((globals, stack)) = searches_of(alloc, row, &mut collection) else {
+        return false;
+    };
+    let Ok(globals) = globals.copy(alloc) else {
+        return false;
+    };
+    let Ok(stack) = stack.copy(alloc) else {
+        return false;
+    };
+    let Ok(names) = collection.copy(alloc) else {
+        return false;
+    };
+    let mut out = Outcome::new(alloc);
+    out.initialize_with_selection(alloc, names.names()).is_ok()
+        && is_answered(alloc, &globals, &stack, row, Case::Sensitive, &mut out)
+        && out
+            .initialize(alloc, &MetadataCollection::new(alloc))
+            .is_ok()
+        && !are_found(&out, row.found)
+        && is_answered(alloc, &globals, &stack, row, Case::Sensitive, &mut out)
 }
 
 /// The first row of a table that these definitions do not answer.
@@ -178,6 +213,17 @@ m=set,b=x,c=set;f;[attr]m a;f m;[attr]m b=x c;\n\
 fn attributes_of_paths(rt: HostRuntime) {
     let alloc = rt.alloc();
     assert_eq!(rt; first_lie(alloc, ROWS, Case::Sensitive), None);
+}
+
+#[test]
+fn attributes_by_copies_and_a_selection(rt: HostRuntime) {
+    let alloc = rt.alloc();
+    for row in ROWS.split(|byte| *byte == b'\n') {
+        assert!(rt;
+            row.is_empty() || is_answered_by_copies(alloc, row_of(row)),
+            "{row:?}"
+        );
+    }
 }
 
 #[test]

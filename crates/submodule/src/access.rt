@@ -20,6 +20,7 @@ use std::alloc::Global;
 /// Names are compared by their bytes.
 impl File {
     /// The last value of a key of a submodule.
+    /// See docs/DECISIONS.md#last-value.
     fn value(&self, name: &[u8], key: &[u8]) -> Option<&[u8]>
         ensures { option_copied result ≡ overrides.value name.now key.now self.now.sections }
     {
@@ -34,6 +35,8 @@ impl File {
     /// - `Absolute` exactly where it begins with a slash.
     /// - `OutsideOfWorktree` exactly where it leads out of the work tree otherwise.
     /// - `OutOfMemory` for want of memory.
+    ///
+    /// See docs/DECISIONS.md#values-unjudged.
     pub fn path(&self, alloc: Global, name: &[u8]) -> Result<&[u8], path::Error>
         ensures value { answers.PathGives result (access.path name.now self.now.sections) }
         ensures inside { IfOk result (λ path. IsTrue (access.is_path path.now)) }
@@ -48,6 +51,8 @@ impl File {
     /// - `Missing` exactly where it is not set or empty.
     /// - `Parse` exactly where `Url::parse` refuses it, with its refusal.
     /// - `OutOfMemory` for want of memory.
+    ///
+    /// See docs/DIFFERENCES.md#module-dash.
     pub fn url(&self, alloc: Global, name: &[u8]) -> Result<Url, url::Error>
         ensures { answers.UrlOfGives result (access.url name.now self.now.sections) }
     {

@@ -76,6 +76,7 @@ impl From<OutOfMemory> for Error {
 
 impl Branch {
     /// The branch of a submodule that names none: `HEAD`.
+    /// See docs/DIFFERENCES.md#gix-default-branch.
     pub fn default_branch(alloc: Global) -> Result<Branch, OutOfMemory>
         ensures { IfOk result (λ branch. branch ≡ variants.Name (codes "HEAD")) }
     {
@@ -92,6 +93,8 @@ impl Branch {
     /// - `Invalid` exactly where the name has a control byte, a blank, one of `~^?[\`, `..`, `@{`, `//`, a slash at either
     ///   end, a `.` or `.lock` at its end, a component that begins with a `.`, or two `*`.
     /// - `OutOfMemory` for want of memory.
+    ///
+    /// See docs/DIFFERENCES.md#gix-branch.
     pub fn try_from(alloc: Global, value: &[u8]) -> Result<Branch, RefspecError>
         ensures { BranchGives result (branches.branch_of value.now) }
     {
@@ -112,6 +115,9 @@ fn without_plus(text: &[u8]) -> &[u8]
 }
 
 /// The name in what is fetched.
+/// See docs/DECISIONS.md#branch-as-fetched.
+/// See docs/DIFFERENCES.md#branch-colon.
+/// See docs/DIFFERENCES.md#branch-plus.
 fn fetched(text: &[u8]) -> &[u8]
     ensures { result.now ≡ branches.fetched text.now }
 {
@@ -159,6 +165,7 @@ fn has_bad_start(name: &[u8]) -> bool
 }
 
 /// A slash, a dot or `.lock` at the end.
+/// See docs/DIFFERENCES.md#branch-lock.
 fn has_bad_end(name: &[u8]) -> bool
     ensures { result ≡ branches.has_bad_end name.now }
 {

@@ -31,6 +31,7 @@ impl fmt::Display for FieldName {
 }
 
 /// Why a field of a submodule says nothing.
+/// See docs/DIFFERENCES.md#gix-submodule-errors.
 #[derive(Debug, Drop, PartialEq, Eq, thiserror::Error)]
 pub enum FieldError {
     /// Its value is none of the words.

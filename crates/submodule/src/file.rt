@@ -97,6 +97,8 @@ impl File {
     /// of their bytes, this is one section with the last value of each of these keys; a key without value counts as the
     /// empty text. The section has the configuration's path and source, or `Api` where that is `Modules`. The file stays as it
     /// was where memory is refused.
+    ///
+    /// See docs/DIFFERENCES.md#gix-append-answer.
     pub fn append_submodule_overrides(
         &mut self,
         alloc: Global,
@@ -153,6 +155,7 @@ impl File {
     }
 
     /// The first name whose path, one that may be given, is this one byte for byte.
+    /// See docs/DECISIONS.md#path-as-written.
     pub fn name_by_path(
         &self,
         alloc: Global,
@@ -194,6 +197,8 @@ impl File {
     ///   from 1, and the place in it.
     /// - `NormalizePattern` exactly where it refuses that value by `Normalize`: its number, counted from 1.
     /// - `OutOfMemory` for want of memory.
+    ///
+    /// See docs/DIFFERENCES.md#module-active-unread.
     pub fn is_active_platform(
         &self,
         alloc: Global,

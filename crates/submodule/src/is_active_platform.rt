@@ -75,6 +75,8 @@ fn spec_of(alloc: Global, number: usize, text: &[u8], defaults: Defaults) -> Res
 }
 
 /// The specs of a configuration.
+/// See docs/DECISIONS.md#active-checked-whole.
+/// See docs/DIFFERENCES.md#gix-active-order.
 fn specs_of(alloc: Global, config: &config::File, defaults: Defaults) -> Result<Vec<Spec>, Error>
     ensures { let values = active.active_values config.now.sections in
         let given = active.specs_after defaults.ignore_case [] values in
@@ -115,6 +117,7 @@ impl IsActivePlatform {
     }
 
     /// Whether a submodule is active if its own value says nothing.
+    /// See docs/DIFFERENCES.md#module-active-by-name.
     fn is_active_by_specs(&self, config: &config::File, name: &[u8]) -> bool
         ensures { result ≡ active.active_by_specs self.now name.now config.now.sections }
     {
@@ -130,6 +133,8 @@ impl IsActivePlatform {
     /// `submodule.NAME.active` of the configuration decides, if it is set; the error has its text where it is no boolean.
     /// Else, where `submodule.active` has values, they decide: the submodule is active if the name, as that of a directory,
     /// is matched and not excluded. Else it is active if the configuration has a `submodule.NAME.url`.
+    ///
+    /// See docs/DIFFERENCES.md#module-url-without-value.
     pub fn is_active<'c>(
         &mut self,
         config: &'c config::File,

@@ -14,6 +14,8 @@ use std::marker::Model;
 /// The names of submodules, each once, in the order in which `.gitmodules` first tells them.
 ///
 /// Contracts see the list of those that are left.
+///
+/// See docs/DIFFERENCES.md#gix-names-types.
 #[derive(Drop)]
 pub struct Names<'a> {
     rest: &'a [Bytes],
@@ -50,6 +52,7 @@ impl<'a> Iterator for Names<'a> {
 }
 
 /// The name that a section tells, if it is one of `.gitmodules`.
+/// See docs/DIFFERENCES.md#module-odd-name.
 fn told(section: &Section) -> Option<&[u8]>
     ensures { option_copied result ≡ names.told section.now }
 {
@@ -101,6 +104,7 @@ fn with_name(alloc: Global, known: Known, name: Option<&[u8]>) -> Result<Known, 
 }
 
 /// The names that `.gitmodules` tells.
+/// See docs/DECISIONS.md#names-of-modules.
 pub(crate) fn names_of(alloc: Global, config: &config::File) -> Result<Vec<Bytes>, OutOfMemory>
     ensures { IfOk result (λ made. made.items ≡ names.module_names config.now.sections) }
 {

@@ -105,6 +105,8 @@ fn add(
 }
 
 /// The override of a submodule, as a configuration of one section or none.
+/// See docs/DECISIONS.md#empty-override.
+/// See docs/DIFFERENCES.md#module-override-without-value.
 fn override_of(
     alloc: Global,
     config: &config::File,

@@ -1,12 +1,12 @@
 //! The path of a submodule.
 ghost use Rattle.std.specs.Prelude.{◌≡◌, option_copied, is_some, IfOk};
-ghost use Rattle.gitbase_core.specs.Path.{is_absolute, normalized};
+ghost use Rattle.gitbase_core.specs.Path.{normalized};
 ghost use Rattle.submodule.specs.Access as access;
 ghost use Rattle.submodule.specs.Answers as answers;
 ghost use Rattle.submodule.specs.declared.path.Error.TheVariants as errors;
 
 use crate::shown::shown;
-use gitbase_core::{Bytes, OutOfMemory, PathText};
+use gitbase_core::{Bytes, OutOfMemory, PathText, is_absolute};
 use std::alloc::Global;
 
 /// Why a submodule has no path.
@@ -76,13 +76,6 @@ fn outside(alloc: Global, name: &[u8], path: &[u8]) -> Result<Error, OutOfMemory
     })
 }
 
-/// Whether a path begins with a slash.
-fn is_absolute(path: &[u8]) -> bool
-    ensures { result ≡ is_absolute path.now }
-{
-    matches!(path, [b'/', ..])
-}
-
 /// Whether a path leads to a place inside the work tree.
 fn is_inside(alloc: Global, path: &[u8]) -> Result<bool, OutOfMemory>
     ensures { IfOk result (λ inside. inside ≡ is_some (normalized path.now)) }
@@ -92,6 +85,7 @@ fn is_inside(alloc: Global, path: &[u8]) -> Result<bool, OutOfMemory>
 }
 
 /// Whether a path may be that of a submodule: it is not empty, not absolute, and leads to a place inside the work tree.
+/// See docs/DIFFERENCES.md#module-bad-path.
 pub(crate) fn is_path(alloc: Global, path: &[u8]) -> Result<bool, OutOfMemory>
     ensures { IfOk result (λ is. is ≡ access.is_path path.now) }
 {

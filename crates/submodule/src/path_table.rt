@@ -111,6 +111,7 @@ fn first_name(rows: &[NamedPath]) -> Option<&[u8]>
 
 impl PathTable {
     /// The table of names; fails only where memory is refused.
+    /// See docs/DECISIONS.md#slower-without-memory.
     pub fn new(
         alloc: Global,
         config: &config::File,
@@ -124,6 +125,7 @@ impl PathTable {
     }
 
     /// The first of the names whose path is this one; the table is that of these names.
+    /// See docs/DIFFERENCES.md#module-same-path.
     pub fn name_of(
         &self,
         alloc: Global,

@@ -22,6 +22,7 @@ fn with_digit(number: u16, byte: u8) -> Option<u16>
 }
 
 /// The number that a text writes in decimal digits; none where it has another byte, or the number is above 65535.
+/// See docs/DIFFERENCES.md#url-port-zeros.
 fn number(text: &[u8]) -> Option<u16>
     ensures { result ≡ urls.port_number text.now }
 {
@@ -38,6 +39,7 @@ fn number(text: &[u8]) -> Option<u16>
 }
 
 /// The port that a text writes: none where it is empty.
+/// See docs/DIFFERENCES.md#url-bad-port.
 pub fn port(text: &[u8]) -> Result<Option<u16>, UrlError>
     ensures { result ≡ urls.port_of text.now }
 {

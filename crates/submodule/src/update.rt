@@ -140,6 +140,7 @@ fn forbidden(alloc: Global, name: &[u8], command: Bytes) -> Result<Error, OutOfM
 }
 
 /// Whether a section is one of `.gitmodules`.
+/// See docs/DIFFERENCES.md#gix-modules-tag.
 pub(crate) fn is_modules(source: Source) -> bool
     ensures { result ≡ names.is_modules source }
 {
@@ -147,6 +148,7 @@ pub(crate) fn is_modules(source: Source) -> bool
 }
 
 /// An update that a value says, unless it is a command of `.gitmodules`.
+/// See docs/DECISIONS.md#forbidden-command.
 fn allowed(alloc: Global, name: &[u8], source: Source, update: Update) -> Result<Update, Error>
     ensures { answers.UpdateOfGives result (access.allowed name.now source update) }
 {
@@ -163,6 +165,7 @@ fn allowed(alloc: Global, name: &[u8], source: Source, update: Update) -> Result
 }
 
 /// The update that a value says.
+/// See docs/DIFFERENCES.md#module-command.
 fn given(alloc: Global, name: &[u8], value: &[u8], source: Source) -> Result<Update, Error>
     ensures { answers.UpdateOfGives result
         (access.update_from name.now value.now source (updates.update_of value.now)) }

@@ -13,6 +13,8 @@ use gitbase_core::{Bytes, OutOfMemory};
 use std::alloc::Global;
 
 /// The parts of a url.
+/// See docs/DIFFERENCES.md#gix-url.
+/// See docs/DIFFERENCES.md#gix-flat-modules.
 #[derive(Debug, Drop, PartialEq, Eq)]
 pub struct Url {
     /// `ssh` for `host:path`, and `file` for a path on this machine.

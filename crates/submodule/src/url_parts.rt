@@ -92,6 +92,8 @@ fn closed(part: &[u8]) -> Option<(&[u8], &[u8])>
 }
 
 /// A host in brackets.
+/// See docs/DIFFERENCES.md#url-ssh-brackets.
+/// See docs/DIFFERENCES.md#url-open-bracket.
 fn bracketed(part: &[u8]) -> HostAndPort<'_>
     ensures { seen.host_place result ≡ urls.bracketed part.now }
 {
@@ -134,6 +136,9 @@ fn host_and_port(part: &[u8]) -> HostAndPort<'_>
 }
 
 /// Whether a scheme needs a host.
+/// See docs/DECISIONS.md#scheme-by-bytes.
+/// See docs/DIFFERENCES.md#url-scheme-case.
+/// See docs/DIFFERENCES.md#url-git-ssh.
 fn needs_host(scheme: &[u8]) -> bool
     ensures { result ≡ urls.needs_host scheme.now }
 {
@@ -154,6 +159,8 @@ fn lacks_host(scheme: &[u8], host: &[u8]) -> bool
 }
 
 /// The host of a url: an empty one is none.
+/// See docs/DECISIONS.md#empty-host.
+/// See docs/DIFFERENCES.md#url-empty-host.
 fn host_of(host: &[u8]) -> Option<&[u8]>
     ensures { option_copied result ≡ urls.host_of host.now }
 {
@@ -164,6 +171,8 @@ fn host_of(host: &[u8]) -> Option<&[u8]>
 }
 
 /// A url by its scheme, its login, its host with the port, and its path.
+/// See docs/DECISIONS.md#host-before-port.
+/// See docs/DIFFERENCES.md#url-dash-host.
 fn with_host<'a>(
     scheme: &'a [u8],
     login: Option<&'a [u8]>,
@@ -188,6 +197,9 @@ fn with_host<'a>(
 }
 
 /// A url by its scheme and what is behind `://`.
+/// See docs/DIFFERENCES.md#url-home.
+/// See docs/DIFFERENCES.md#url-percent.
+/// See docs/DIFFERENCES.md#url-no-path.
 fn absolute<'a>(scheme: &'a [u8], rest: &'a [u8]) -> Result<UrlParts<'a>, UrlError>
     ensures { seen.parsed_url result ≡ urls.absolute scheme.now rest.now }
 {
@@ -201,6 +213,9 @@ fn absolute<'a>(scheme: &'a [u8], rest: &'a [u8]) -> Result<UrlParts<'a>, UrlErr
 }
 
 /// A url of `[user@]host` and a path, over ssh.
+/// See docs/DIFFERENCES.md#url-tilde.
+/// See docs/DIFFERENCES.md#url-dash-path.
+/// See docs/DIFFERENCES.md#url-two-colons.
 fn over_ssh<'a>(authority: &'a [u8], path: &'a [u8]) -> Result<UrlParts<'a>, UrlError>
     ensures { seen.parsed_url result ≡ urls.over_ssh authority.now path.now }
 {
@@ -259,6 +274,7 @@ fn begins_with_letter(text: &[u8]) -> bool
 }
 
 /// A scheme, and what is behind its `://`; none where the text begins with no scheme.
+/// See docs/DIFFERENCES.md#url-no-scheme.
 fn with_scheme(text: &[u8]) -> Option<(&[u8], &[u8])>
     ensures { seen.pair result ≡ urls.with_scheme text.now }
 {
@@ -273,6 +289,10 @@ fn with_scheme(text: &[u8]) -> Option<(&[u8], &[u8])>
 }
 
 /// `[user@]host` and a path; none where no `:` parts them.
+/// See docs/DECISIONS.md#first-colon.
+/// See docs/DIFFERENCES.md#url-short-brackets.
+/// See docs/DIFFERENCES.md#url-colon.
+/// See docs/DIFFERENCES.md#url-local-bracket.
 fn with_colon(text: &[u8]) -> Option<(&[u8], &[u8])>
     ensures { seen.pair result ≡ urls.with_colon text.now }
 {

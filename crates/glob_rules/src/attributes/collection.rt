@@ -90,8 +90,10 @@ impl MetadataCollection {
 
     /// Sees the names of which words speak.
     fn see_words(&mut self, alloc: Global, assignments: &[Assigned]) -> Result<(), OutOfMemory>
-        ensures seen { OnOk result (self.new ≡ names.with_names self.old (names.said_names assignments.now)) }
-        ensures refused { OnErr result (names.SeesPart self.old (names.said_names assignments.now) self.new) }
+        ensures seen { OnOk result (self.new
+            ≡ names.with_names self.old (names.said_names assignments.now)) }
+        ensures refused { OnErr result (names.SeesPart self.old
+            (names.said_names assignments.now) self.new) }
     {
         let mut rest = assignments;
         while let Some((assigned, after)) = rest.split_first() {
@@ -103,8 +105,10 @@ impl MetadataCollection {
 
     /// Sees the names of which a line speaks.
     fn see_line(&mut self, alloc: Global, line: &Line) -> Result<(), OutOfMemory>
-        ensures seen { OnOk result (self.new ≡ names.with_names self.old (names.line_names line.now)) }
-        ensures refused { OnErr result (names.SeesPart self.old (names.line_names line.now) self.new) }
+        ensures seen { OnOk result (self.new
+            ≡ names.with_names self.old (names.line_names line.now)) }
+        ensures refused { OnErr result (names.SeesPart self.old
+            (names.line_names line.now) self.new) }
     {
         if let Head::Macro(name) = &line.head {
             self.see(alloc, name)?;
@@ -114,8 +118,10 @@ impl MetadataCollection {
 
     /// Sees the names of which lines speak. Where memory is refused, the first of them may have been seen.
     pub(super) fn see_lines(&mut self, alloc: Global, lines: &[Line]) -> Result<(), OutOfMemory>
-        ensures seen { OnOk result (self.new ≡ names.with_names self.old (names.names_in lines.now)) }
-        ensures refused { OnErr result (names.SeesPart self.old (names.names_in lines.now) self.new) }
+        ensures seen { OnOk result (self.new
+            ≡ names.with_names self.old (names.names_in lines.now)) }
+        ensures refused { OnErr result (names.SeesPart self.old
+            (names.names_in lines.now) self.new) }
     {
         let mut rest = lines;
         while let Some((line, after)) = rest.split_first() {

@@ -39,7 +39,8 @@ impl<'a> Left<'a> {
 
     /// Takes what is said next, if anything is left.
     pub fn take(&mut self) -> Option<&'a Assigned>
-        ensures { MatchOption result (self.old ≡ []) (λ assigned. self.old ≡ assigned.now ∷ self.new) }
+        ensures { MatchOption result (self.old ≡ []) (λ assigned. self.old
+            ≡ assigned.now ∷ self.new) }
     {
         loop {
             if let Some((assigned, front)) = self.words.split_last() {

@@ -41,6 +41,7 @@ fn after_blanks(bytes: &[u8]) -> &[u8]
 }
 
 /// The name behind `[attr]`; where nothing is behind it, it is a pattern.
+/// See docs/DIFFERENCES.md#attributes-macro-name.
 fn macro_name(text: &[u8]) -> Option<&[u8]>
     ensures { option_copied result ≡ lines.macro_name text.now }
 {
@@ -107,7 +108,8 @@ fn line_of_text(
     number: usize,
     text: &[u8],
 ) -> Result<Option<Line>, OutOfMemory>
-    ensures { IfOk result (λ line. line ≡ option_and_then (lines.line_from macros number) (lines.parts_of text.now)) }
+    ensures { IfOk result (λ line. line
+        ≡ option_and_then (lines.line_from macros number) (lines.parts_of text.now)) }
 {
     match text {
         [] => Ok(None),
@@ -124,6 +126,10 @@ fn line_of_text(
 }
 
 /// What the lines of a file say.
+/// See docs/DECISIONS.md#attribute-lines.
+/// See docs/DIFFERENCES.md#attributes-returns.
+/// See docs/DIFFERENCES.md#attributes-long-line.
+/// See docs/DIFFERENCES.md#attributes-nul.
 pub fn read_lines(alloc: Global, macros: bool, bytes: &[u8]) -> Result<Vec<Line>, OutOfMemory>
     ensures { IfOk result (λ made. made.items ≡ lines.lines macros bytes.now) }
 {

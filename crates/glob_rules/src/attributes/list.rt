@@ -36,7 +36,12 @@ impl Model for List {
 
     ghost Value = { AttributeList };
 
-    ghost view = { λ l. record { lines = l.lines.items; macros = l.macros.entries; source = l.source; base = l.base } };
+    ghost view = { λ l. record {
+      lines = l.lines.items;
+      macros = l.macros.entries;
+      source = l.source;
+      base = l.base;
+    } };
 }
 
 /// Equal lines, in the same order.

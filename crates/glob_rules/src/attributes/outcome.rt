@@ -55,7 +55,8 @@ fn unanswered(alloc: Global, names: &[Bytes]) -> Result<Vec<Row>, OutOfMemory>
 
 /// The names of rows, of which nothing was found.
 fn forgotten(alloc: Global, rows: Vec<Row>) -> Result<Vec<Row>, OutOfMemory>
-    ensures { IfOk result (λ made. made.items ≡ map outcomes.unanswered (outcomes.asked_names rows.items)) }
+    ensures { IfOk result (λ made. made.items
+        ≡ map outcomes.unanswered (outcomes.asked_names rows.items)) }
 {
     let mut made = Vec::with_capacity(alloc, rows.len())?;
     for row in rows {
@@ -145,6 +146,7 @@ impl Outcome {
     }
 
     /// Asks for these names, in this order, and forgets what was found. Where memory is refused, nothing is asked for.
+    /// See docs/DECISIONS.md#attribute-names-twice.
     pub fn initialize_with_selection(
         &mut self,
         alloc: Global,
@@ -182,7 +184,8 @@ impl Outcome {
 
     /// Finds what is asked for of a path.
     fn fill(&mut self, alloc: Global, standing: &Standing<'_>) -> Result<bool, OutOfMemory>
-        ensures filled { OnOk result (self.new ≡ record self.old { rows = map (outcomes.answered standing.now) self.old.rows }) }
+        ensures filled { OnOk result (self.new
+            ≡ record self.old { rows = map (outcomes.answered standing.now) self.old.rows }) }
         ensures finds { IfOk result (λ finds. finds ≡ finds_some self.new.rows) }
         ensures refused { OnErr result (self.new ≡ nothing_asked) }
     {
@@ -208,7 +211,8 @@ pub fn fill(
     is_dir: Option<bool>,
     out: &mut Outcome,
 ) -> Result<bool, OutOfMemory>
-    ensures filled { OnOk result (out.new ≡ filled (globals.now ++ stack.now) path.now is_dir case out.old) }
+    ensures filled { OnOk result (out.new
+        ≡ filled (globals.now ++ stack.now) path.now is_dir case out.old) }
     ensures finds { IfOk result (λ finds. finds ≡ finds_some out.new.rows) }
     ensures refused { OnErr result (out.new ≡ nothing_asked) }
 {

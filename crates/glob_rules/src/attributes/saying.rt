@@ -24,7 +24,8 @@ fn say_words<'a>(
     words: &'a [Assigned],
     standing: &mut Standing<'a>,
 ) -> Result<(), OutOfMemory>
-    ensures { OnOk result (standing.new ≡ standing_after sources.now standing.old (reverse words.now)) }
+    ensures { OnOk result (standing.new
+        ≡ standing_after sources.now standing.old (reverse words.now)) }
 {
     let mut left = Left::new(alloc, words);
     while let Some(assigned) = left.take() {
@@ -60,7 +61,9 @@ impl<'a> Model for Question<'a> {
 
 /// What a line says of a path that reads `relative` from its directory.
 fn said<'a>(line: &'a PathLine, question: &Question<'_>, relative: Option<&[u8]>) -> &'a [Assigned]
-    ensures { result.now ≡ line_says (rules.last_component question.now.path) (option_copied relative.entry) question.now.is_dir question.now.case line.now }
+    ensures { result.now
+        ≡ line_says (rules.last_component question.now.path) (option_copied relative.entry)
+        question.now.is_dir question.now.case line.now }
 {
     let is_dir = question.is_dir;
     if line
@@ -83,7 +86,8 @@ fn say_lines<'a>(
     standing: &mut Standing<'a>,
 ) -> Result<(), OutOfMemory>
     ensures { OnOk result (standing.new ≡ standing_after sources.now standing.old
-        (reverse (lines_say (rules.last_component question.now.path) (option_copied relative.entry) question.now.is_dir question.now.case lines.now))) }
+        (reverse (lines_say (rules.last_component question.now.path)
+        (option_copied relative.entry) question.now.is_dir question.now.case lines.now))) }
 {
     let mut rest = lines;
     while let Some((line, before)) = rest.split_last() {
@@ -136,7 +140,8 @@ pub fn standing_at<'a>(
     is_dir: Option<bool>,
     case: Case,
 ) -> Result<Standing<'a>, OutOfMemory>
-    ensures { IfOk result (λ standing. standing ≡ values.standing_at (globals.now ++ stack.now) path.now is_dir case) }
+    ensures { IfOk result (λ standing. standing
+        ≡ values.standing_at (globals.now ++ stack.now) path.now is_dir case) }
 {
     let sources = Sources::new(globals, stack);
     let question = Question {

@@ -16,6 +16,9 @@ use std::marker::Model;
 /// Lists of what files say of attributes, the lowest first.
 ///
 /// Contracts see the list of the lists.
+///
+/// See docs/DECISIONS.md#attribute-macros.
+/// See docs/DECISIONS.md#attribute-lists.
 #[derive(Debug, Drop)]
 pub struct Search {
     lists: Vec<List>,
@@ -48,7 +51,8 @@ impl Search {
         collection: &mut MetadataCollection,
     ) -> Result<Search, OutOfMemory>
         ensures lists { IfOk result (λ search. search ≡ builtin_list ∷ []) }
-        ensures names { SeesNames result collection.old (names_in (texts.lines true builtin_text)) collection.new }
+        ensures names { SeesNames result collection.old
+            (names_in (texts.lines true builtin_text)) collection.new }
     {
         let mut search = Search::new(alloc);
         search.add_patterns_buffer(
@@ -78,9 +82,11 @@ impl Search {
         allow_macros: bool,
     ) -> Result<(), OutOfMemory>
         ensures added { OnOk result
-            (self.new ≡ self.old ++ list_from (texts.lines allow_macros bytes.now) source base ∷ []) }
+            (self.new
+            ≡ self.old ++ list_from (texts.lines allow_macros bytes.now) source base ∷ []) }
         ensures kept { OnErr result (self.new ≡ self.old) }
-        ensures names { SeesNames result collection.old (names_in (texts.lines allow_macros bytes.now)) collection.new }
+        ensures names { SeesNames result collection.old
+            (names_in (texts.lines allow_macros bytes.now)) collection.new }
     {
         let lines = read_lines(alloc, allow_macros, bytes)?;
         collection.see_lines(alloc, &lines)?;

@@ -55,7 +55,8 @@ impl<'a> Standing<'a> {
 
     /// Says something of an attribute, and tells whether it is the first.
     pub fn say(&mut self, assigned: &'a Assigned) -> Result<bool, OutOfMemory>
-        ensures first { IfOk result (λ is_first. is_first ≡ not (values.stands assigned.now.name self.old)) }
+        ensures first { IfOk result (λ is_first. is_first
+            ≡ not (values.stands assigned.now.name self.old)) }
         ensures said { OnOk result (self.new ≡ with_said self.old assigned.now) }
     {
         let name = assigned.name.as_bytes();

@@ -127,6 +127,7 @@ fn has_name_bytes(text: &[u8]) -> bool
 }
 
 /// Whether the text is the name of an attribute.
+/// See docs/DIFFERENCES.md#attributes-reserved.
 pub fn is_name(text: &[u8]) -> bool
     ensures { result ≡ words.is_name text.now }
 {
@@ -163,6 +164,7 @@ fn name_length(word: &[u8]) -> usize
 }
 
 /// What the rest of a word from its first `=` on says.
+/// See docs/DECISIONS.md#attribute-unspecified.
 fn state_from(alloc: Global, rest: &[u8]) -> Result<Assignment, OutOfMemory>
     ensures { IfOk result (λ state. state ≡ words.state_from rest.now) }
 {
@@ -194,6 +196,8 @@ fn assignment_of(alloc: Global, word: &[u8]) -> Result<Option<Assigned>, OutOfMe
 }
 
 /// What the words of a text say.
+/// See docs/DIFFERENCES.md#attributes-unknown-word.
+/// See docs/DIFFERENCES.md#attributes-comment-behind.
 pub fn read_words(alloc: Global, text: &[u8]) -> Result<Assignments, OutOfMemory>
     ensures { IfOk result (λ made. made ≡ words.assignments text.now) }
 {
