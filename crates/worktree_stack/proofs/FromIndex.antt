@@ -1,5 +1,5 @@
 -- The mappings that an index has ascend, as its entries do.
-use Rattle.std.proofs.Common.{◌≡◌, ℕ, zero, suc, ◌+◌, ◌<◌, Bool, true, false, not, ◌&&◌, ◌||◌, ◌==◌, cond, List, [], ◌∷◌, ◌++◌, length, take, map, filter, get_or, refl, sym, ap, ◌∙◌, arith, inl, inr}
+use Rattle.std.proofs.Common.{◌≡◌, ℕ, zero, suc, ◌+◌, ◌<◌, Bool, true, false, not, ◌&&◌, ◌||◌, ◌==◌, cond, List, [], ◌∷◌, ◌++◌, length, take, map, filter, get_or, Option, refl, sym, ap, ◌∙◌, arith, inl, inr}
 use Rattle.std.specs.List.{list_any, list_all}
 use Rattle.std.specs.Ordering.{nat_cmp, is_eq}
 use Rattle.std.specs.Str.{bytes_eq}
@@ -14,8 +14,8 @@ use Rattle.gitbase_core.specs.declared.entry.IndexEntry.{IndexEntry}
 use Rattle.gitbase_core.specs.Index.{path_cmp, stages_clash, IsIndex}
 use Rattle.gitbase_core.proofs.IndexRules.{passes-at, rises, not_before}
 use Rattle.glob_rules.specs.declared.Case.{Case}
-use Rattle.worktree_stack.specs.Setup.{Setup, Mapping}
-use Rattle.worktree_stack.specs.Mappings.{stands_before, are_ascending, is_rules_entry, mapping_of}
+use Rattle.worktree_stack.specs.Setup.{AttributesSetup, Setup, Mapping}
+use Rattle.worktree_stack.specs.Mappings.{stands_before, are_ascending, is_rules_entry, mapping_of, mappings_in}
 
 -- ---- two entries of an index
 
@@ -98,20 +98,21 @@ ascending-rising (e ∷ es) rising = rw (each-all (mapping_of e) es rising.0) (a
 
 -- ---- the mappings of an index
 
-stage_of : (mode stage name use_it : Bool) → (mode && stage && name && use_it) ≡ true → stage ≡ true
-stage_of true true name use_it h = refl
-stage_of true false name use_it h = absurd (cc)
-stage_of false stage name use_it h = absurd (cc)
+stage_of : (mode stage use_it : Bool) → ((mode && stage) && use_it) ≡ true → stage ≡ true
+stage_of true true use_it h = refl
+stage_of true false use_it h = absurd (cc)
+stage_of false stage use_it h = absurd (cc)
 
-pub ascending_mappings : (case : Case) (setup : Setup) (entries : List IndexEntry) → IsIndex entries → are_ascending (map mapping_of (filter (is_rules_entry case setup) entries)) ≡ true
-ascending_mappings case setup [] index = refl
-ascending_mappings case setup (d ∷ more) index =
-    let keep : IndexEntry → Bool = is_rules_entry case setup in
+pub ascending_mappings : (case : Case) (attributes : Option AttributesSetup) (ignore : Option Setup) (entries : List IndexEntry) → IsIndex entries
+    → are_ascending (mappings_in case attributes ignore entries) ≡ true
+ascending_mappings case attributes ignore [] index = refl
+ascending_mappings case attributes ignore (d ∷ more) index =
+    let keep : IndexEntry → Bool = is_rules_entry case attributes ignore in
     let entries : List IndexEntry = d ∷ more in
     ascending-rising (filter keep entries)
     (rising-kept keep Before entries
     (rising-from (λ a b. keep a ≡ true → keep b ≡ true → Before a b) entries d (λ i j low high one two.
-    pair-ascends entries i j d index low high (stage_of _ _ _ _ one) (stage_of _ _ _ _ two))))
+    pair-ascends entries i j d index low high (stage_of _ _ _ one) (stage_of _ _ _ two))))
 
 -- one entry more
 pub mappings_more : (keep : IndexEntry → Bool) (entries : List IndexEntry) (i : ℕ) (d : IndexEntry) → i < length entries

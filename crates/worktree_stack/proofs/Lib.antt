@@ -11,9 +11,13 @@ pub mod Above
 pub mod LookedUp
 pub mod Looking
 pub mod Placing
+pub mod Readings
+pub mod Asking
+pub mod Pushing
 pub mod Weaker
 pub mod FromIndex
 pub mod Mapped
 pub mod Last
 pub mod Nearest
 pub mod Pushed
+pub mod Preparing

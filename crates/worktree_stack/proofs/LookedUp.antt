@@ -15,12 +15,13 @@ use Rattle.worktree_fs.specs.Tree.{Names}
 use Rattle.worktree_fs.specs.Paths.{is_normal}
 use Rattle.worktree_stack.specs.declared.error.AtPathError.{AtPathError}
 use Rattle.worktree_stack.specs.declared.error.AtPathError.TheVariants as errors
-use Rattle.worktree_stack.specs.Counted.{count_platform}
+use Rattle.worktree_stack.specs.Counted.{count_platform, counts_of}
 use Rattle.worktree_fs.specs.Kept.{Asks, AsksStore}
 use Rattle.worktree_stack.specs.LooksUp.{LooksUp}
-use Rattle.worktree_stack.specs.Reading.{Sources, Tells}
+use Rattle.worktree_stack.specs.Reading.{Sources, Tells, RulesKind, of_attributes, of_ignore}
 use Rattle.worktree_stack.specs.Stacked.{Stacked, made_of, pushed, IsInStep, IsLevel}
 use Rattle.worktree_stack.specs.Lookups.{asks_worktree, staying}
+use Rattle.worktree_stack.specs.Setup.{has_attributes}
 use Rattle.worktree_stack.proofs.Looking.{fewer-stay}
 
 not_both : (b : Bool) → b ≡ false → b ≡ true → ⊥
@@ -29,7 +30,11 @@ not_both false e f = cc f
 
 carries-counted : (told : Option Names) (holds : Option Objects) (old : Stacked) → CarriesOut told holds [] old (count_platform old)
 carries-counted told holds old =
-    record { setup = refl; left = refl; counted = refl; attributes = refl; read = read-none told holds (made_of old) old.statistics.ignore old.statistics.ignore refl }
+    record { setup = refl; left = refl; counted = refl; read = read-none told holds (made_of old) old.statistics (count_platform old).statistics same }
+  where
+    same : (kind : RulesKind) → counts_of kind (count_platform old).statistics ≡ counts_of kind old.statistics
+    same of_attributes = refl
+    same of_ignore = refl
 
 -- a path that is not normal is refused at once
 pub not-normal : {W F T : Type 0} (w : WorktreeOf W) (f : FindOf F) (w0 : W) (o0 : F) (path : List ℕ) (kind : Option Bool) (old new : Stacked)
@@ -54,7 +59,7 @@ not-normal {W} {F} {T} w f w0 o0 path kind old new counted not_normal =
       carried = tt;
       stopped = λ normal. absurd (not_both (is_normal path) not_normal normal);
       stays = fewer-stay old.at (components path);
-      reads = omega (arith, fewer-stay old.at (components path));
+      reads = λ alone. omega (arith, fewer-stay old.at (components path));
     } in
     subst (λ (s : Stacked). LooksUp {W = W} {F = F} {T = T} w f w0 w0 o0 o0 path kind old s (Err errors.NotNormal)) (sym counted) there
 
@@ -86,7 +91,7 @@ pub look-refused : {W F T : Type 0} (w : WorktreeOf W) (f : FindOf F)
     → (asks_worktree (made_of mid) ≡ false → w1 ≡ w0) → ((made_of mid).mappings ≡ [] → o1 ≡ o0)
     → (IsLevel mid → IsLevel new) → new.is_answered ≡ mid.is_answered
     → length (pushed (staying mid.at (components path))) ≤ length (pushed new.at)
-    → w.reads w1 + length (pushed (staying mid.at (components path))) ≤ w.reads w0 + length (pushed new.at) + 1
+    → (has_attributes (made_of mid) ≡ false → w.reads w1 + length (pushed (staying mid.at (components path))) ≤ w.reads w0 + length (pushed new.at) + 1)
     → LooksUp {W = W} {F = F} {T = T} w f w0 w1 o0 o1 path kind old new (Err e)
 look-refused {W} {F} {T} w f w0 w1 o0 o1 path kind old mid new e counted normal =
     subst
@@ -97,7 +102,7 @@ look-refused {W} {F} {T} w f w0 w1 o0 o1 path kind old mid new e counted normal 
     → (asks_worktree (made_of m) ≡ false → w1 ≡ w0) → ((made_of m).mappings ≡ [] → o1 ≡ o0)
     → (IsLevel m → IsLevel new) → new.is_answered ≡ m.is_answered
     → length (pushed (staying m.at (components path))) ≤ length (pushed new.at)
-    → w.reads w1 + length (pushed (staying m.at (components path))) ≤ w.reads w0 + length (pushed new.at) + 1
+    → (has_attributes (made_of m) ≡ false → w.reads w1 + length (pushed (staying m.at (components path))) ≤ w.reads w0 + length (pushed new.at) + 1)
     → LooksUp {W = W} {F = F} {T = T} w f w0 w1 o0 o1 path kind old new (Err e))
     (sym counted)
     (λ made step way platforms stops untouched store_untouched levels answered stays reads.
@@ -125,8 +130,3 @@ look-refused {W} {F} {T} w f w0 w1 o0 o1 path kind old mid new e counted normal 
       stays = stays;
       reads = reads;
     })
-
--- what is refused is an error
-pub is_err : {T : Type 0} (r : Result T AtPathError) (e : AtPathError) → IsErrAnd r (λ x. x ≡ e) → r ≡ Err e
-is_err (Ok v) e said = absurd said
-is_err (Err x) e said = ap Err said

@@ -1,8 +1,7 @@
 -- What holds of refusals.
-use Rattle.std.specs.Prelude.{ℕ, ◌≤◌, Bool, List, Option, Result}
-use Rattle.std.proofs.Common.{arith}
+use Rattle.std.specs.Prelude.{◌≡◌, ℕ, ◌≤◌, Bool, List, Option, Result, Ok, Err, IsErrAnd}
+use Rattle.std.proofs.Common.{ap, arith}
 use Rattle.gitbase_core.specs.Objects.{Objects}
-use Rattle.glob_rules.specs.Ignore.{Rules}
 use Rattle.worktree_fs.specs.Tree.{Names}
 use Rattle.worktree_fs.specs.Causes.{Increased}
 use Rattle.worktree_stack.specs.declared.error.AtPathError.{AtPathError}
@@ -46,7 +45,7 @@ rose-earlier a b c low rose = omega (arith, low, rose)
 pub rose-later : (a b c : ℕ) → Increased a b → b ≤ c → Increased a c
 rose-later a b c rose low = omega (arith, low, rose)
 
-module _ (told : Option Names) (holds : Option Objects) (Failed Failed' : Type 0) (so : Failed → Failed') (places : List Place) (read : Sources → Result Rules Refusal) where
+module _ {A : Type 0} (told : Option Names) (holds : Option Objects) (Failed Failed' : Type 0) (so : Failed → Failed') (places : List Place) (read : Sources → Result A Refusal) where
   file-why : (path : List ℕ) (follow : Bool) (why : RulesWhy) → IsFileWhy told holds Failed read path follow why → IsFileWhy told holds Failed' read path follow why
   file-why path follow whys.Link is = is
   file-why path follow whys.LinkLimit is = is
@@ -63,3 +62,8 @@ module _ (told : Option Names) (holds : Option Objects) (Failed Failed' : Type 0
 
   pub blob-weaker : (id : List ℕ) (why : BlobWhy) → IsBlobRefused told holds Failed places read id why → IsBlobRefused told holds Failed' places read id why
   blob-weaker id why r = record { path = r.path; place = r.place; why_is = blob-why id why r.why_is }
+
+-- what is refused is an error
+pub is_err : {T : Type 0} (r : Result T AtPathError) (e : AtPathError) → IsErrAnd r (λ x. x ≡ e) → r ≡ Err e
+is_err (Ok v) e said = absurd said
+is_err (Err x) e said = ap Err said

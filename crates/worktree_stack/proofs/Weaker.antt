@@ -2,7 +2,6 @@
 use Rattle.std.proofs.Common.{ℕ, Bool, List, Option}
 use Rattle.std.specs.Prelude.{Result}
 use Rattle.gitbase_core.specs.Objects.{Objects}
-use Rattle.glob_rules.specs.Ignore.{Rules}
 use Rattle.worktree_fs.specs.Tree.{Names}
 use Rattle.worktree_stack.specs.declared.error.AtPathError.{AtPathError}
 use Rattle.worktree_stack.specs.declared.error.RulesWhy.{RulesWhy}
@@ -15,7 +14,7 @@ use Rattle.worktree_stack.specs.Refused.{IsFileWhy, IsBlobWhy, IsFileRefused, Is
 use Rattle.worktree_stack.proofs.Refusals.{on-weaker}
 
 module _ (told told' : Option Names) (holds holds' : Option Objects) (older : (s : Sources) → Tells told' holds' s → Tells told holds s) where
-  module _ (Failed Failed' : Type 0) (so : Failed → Failed') (places : List Place) (read : Sources → Result Rules Refusal) where
+  module _ {A : Type 0} (Failed Failed' : Type 0) (so : Failed → Failed') (places : List Place) (read : Sources → Result A Refusal) where
     file-why : (path : List ℕ) (follow : Bool) (why : RulesWhy) → IsFileWhy told holds Failed read path follow why → IsFileWhy told' holds' Failed' read path follow why
     file-why path follow whys.Link is = (is.0, λ s tells. is.1 s (older s tells))
     file-why path follow whys.LinkLimit is = λ s tells. is s (older s tells)

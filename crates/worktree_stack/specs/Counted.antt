@@ -8,9 +8,9 @@ use Rattle.worktree_stack.specs.declared.statistics.Statistics.{Statistics}
 use Rattle.worktree_stack.specs.declared.statistics.DelegateStatistics.{DelegateStatistics}
 use Rattle.worktree_stack.specs.declared.statistics.RulesStatistics.{RulesStatistics}
 use Rattle.glob_rules.specs.declared.Case.{Case}
-use Rattle.worktree_stack.specs.Setup.{Made, Mapping, Held, bare}
+use Rattle.worktree_stack.specs.Setup.{Made, Mapping, Held, HeldAttributes, bare, bare_attributes}
 use Rattle.worktree_stack.specs.Stacked.{Stacked}
-use Rattle.worktree_stack.specs.Reading.{Sources, Refusal, Place, in_tree, in_store, list_at, places_of}
+use Rattle.worktree_stack.specs.Reading.{Sources, Refusal, Place, in_tree, in_store, list_at, RulesKind, of_attributes, of_ignore, OneReading, readings_of}
 
 -- zeros
 abbrev pub no_rules_read : RulesStatistics
@@ -67,17 +67,10 @@ count_next (Ok None) here next = next
 count_next (Ok (Some bytes)) here next = here
 count_next (Err refusal) here next = here
 
--- the places that are asked for the rules of a directory
+-- the places that one reading asks
 abbrev pub count_places : Sources → RulesStatistics → List Place → RulesStatistics
 count_places sources s [] = s
 count_places sources s (place ∷ places) = count_next (list_at sources place) (count_at sources s place) (count_places sources (count_at sources s place) places)
-
--- and those that are asked on the way
-abbrev pub count_readings : Made → Sources → RulesStatistics → List Call → RulesStatistics
-count_readings made sources s [] = s
-count_readings made sources s (push_directory path ∷ calls) = count_readings made sources (count_places sources s (places_of made path)) calls
-count_readings made sources s (push path is_last ∷ calls) = count_readings made sources s calls
-count_readings made sources s (pop_directory ∷ calls) = count_readings made sources s calls
 
 -- how many rules files were looked for in the worktree, with those of some places
 abbrev pub try_at : ℕ → List Place → ℕ
@@ -89,14 +82,7 @@ try_at count (in_store path id ∷ places) = try_at count places
 abbrev pub tried_at : List Place → RulesStatistics → RulesStatistics
 tried_at places s = record s { tried_pattern_files = try_at s.tried_pattern_files places }
 
--- how many rules files were looked for in the worktree, with those on the way
-abbrev pub count_tried : Made → ℕ → List Call → ℕ
-count_tried made count [] = count
-count_tried made count (push_directory path ∷ calls) = count_tried made (try_at count (places_of made path)) calls
-count_tried made count (push path is_last ∷ calls) = count_tried made count calls
-count_tried made count (pop_directory ∷ calls) = count_tried made count calls
-
--- how many of some places are in the worktree, and how many in the store
+-- how many of some places are in the worktree
 abbrev pub files_in : List Place → ℕ
 files_in [] = 0
 files_in (in_tree path follow ∷ places) = 1 + files_in places
@@ -108,27 +94,82 @@ blobs_in [] = 0
 blobs_in (in_tree path follow ∷ places) = blobs_in places
 blobs_in (in_store path id ∷ places) = 1 + blobs_in places
 
--- and how many on the way
-abbrev pub files_on : Made → List Call → ℕ
-files_on made [] = 0
-files_on made (push_directory path ∷ calls) = files_in (places_of made path) + files_on made calls
-files_on made (push path is_last ∷ calls) = files_on made calls
-files_on made (pop_directory ∷ calls) = files_on made calls
+-- ---- readings, of which each is counted with those of its kind
 
--- and in the store
-abbrev pub blobs_on : Made → List Call → ℕ
-blobs_on made [] = 0
-blobs_on made (push_directory path ∷ calls) = blobs_in (places_of made path) + blobs_on made calls
-blobs_on made (push path is_last ∷ calls) = blobs_on made calls
-blobs_on made (pop_directory ∷ calls) = blobs_on made calls
+-- what is counted of a kind of rules
+abbrev pub counts_of : RulesKind → Statistics → RulesStatistics
+counts_of of_attributes s = s.attributes
+counts_of of_ignore s = s.ignore
 
--- a stack on which nothing is pushed and nothing is counted, with what its exclude state holds
-abbrev pub unpushed : List ℕ → Case → List Mapping → Option Held → Stacked
-unpushed root case mappings ignore =
+-- these places, where the kinds are the same, and none else
+abbrev pub where_same : RulesKind → RulesKind → List Place → List Place
+where_same of_attributes of_attributes places = places
+where_same of_attributes of_ignore places = []
+where_same of_ignore of_attributes places = []
+where_same of_ignore of_ignore places = places
+
+-- the places of a reading that count for a kind
+abbrev pub places_for : RulesKind → OneReading → List Place
+places_for kind r = where_same kind r.kind r.places
+
+-- the readings of a kind among some
+abbrev pub count_each : RulesKind → Sources → RulesStatistics → List OneReading → RulesStatistics
+count_each kind sources s [] = s
+count_each kind sources s (r ∷ readings) = count_each kind sources (count_places sources s (places_for kind r)) readings
+
+-- the files that they look for
+abbrev pub try_each : RulesKind → ℕ → List OneReading → ℕ
+try_each kind count [] = count
+try_each kind count (r ∷ readings) = try_each kind (try_at count (places_for kind r)) readings
+
+-- how many files they ask at most
+abbrev pub files_of : RulesKind → List OneReading → ℕ
+files_of kind [] = 0
+files_of kind (r ∷ readings) = files_in (places_for kind r) + files_of kind readings
+
+-- and how many blobs
+abbrev pub blobs_of : RulesKind → List OneReading → ℕ
+blobs_of kind [] = 0
+blobs_of kind (r ∷ readings) = blobs_in (places_for kind r) + blobs_of kind readings
+
+-- ---- the readings of the directories on the way
+
+-- those of a kind
+abbrev pub count_readings : RulesKind → Made → Sources → RulesStatistics → List Call → RulesStatistics
+count_readings kind made sources s [] = s
+count_readings kind made sources s (push_directory path ∷ calls) = count_readings kind made sources (count_each kind sources s (readings_of made path)) calls
+count_readings kind made sources s (push path is_last ∷ calls) = count_readings kind made sources s calls
+count_readings kind made sources s (pop_directory ∷ calls) = count_readings kind made sources s calls
+
+-- how many rules files were looked for in the worktree, with those on the way
+abbrev pub count_tried : RulesKind → Made → ℕ → List Call → ℕ
+count_tried kind made count [] = count
+count_tried kind made count (push_directory path ∷ calls) = count_tried kind made (try_each kind count (readings_of made path)) calls
+count_tried kind made count (push path is_last ∷ calls) = count_tried kind made count calls
+count_tried kind made count (pop_directory ∷ calls) = count_tried kind made count calls
+
+-- how many files are asked on the way at most
+abbrev pub files_on : RulesKind → Made → List Call → ℕ
+files_on kind made [] = 0
+files_on kind made (push_directory path ∷ calls) = files_of kind (readings_of made path) + files_on kind made calls
+files_on kind made (push path is_last ∷ calls) = files_on kind made calls
+files_on kind made (pop_directory ∷ calls) = files_on kind made calls
+
+-- and how many blobs
+abbrev pub blobs_on : RulesKind → Made → List Call → ℕ
+blobs_on kind made [] = 0
+blobs_on kind made (push_directory path ∷ calls) = blobs_of kind (readings_of made path) + blobs_on kind made calls
+blobs_on kind made (push path is_last ∷ calls) = blobs_on kind made calls
+blobs_on kind made (pop_directory ∷ calls) = blobs_on kind made calls
+
+-- a stack on which nothing is pushed and nothing is counted, with what its state holds
+abbrev pub unpushed : List ℕ → Case → List Mapping → Option HeldAttributes → Option Held → Stacked
+unpushed root case mappings attributes ignore =
     record {
       root = root;
       case = case;
       mappings = mappings;
+      attributes = attributes;
       ignore = ignore;
       at = None;
       current = [];
@@ -139,4 +180,4 @@ unpushed root case mappings ignore =
 
 -- a stack that was made as another one, with nothing pushed and nothing counted
 abbrev pub fresh : Stacked → Stacked
-fresh s = unpushed s.root s.case s.mappings (bare s.ignore)
+fresh s = unpushed s.root s.case s.mappings (bare_attributes s.attributes) (bare s.ignore)

@@ -5,9 +5,11 @@ pub mod Reading
 pub mod Stacked
 pub mod Refused
 pub mod Counted
+pub mod Placed
 pub mod Lookups
 pub mod Steps
-pub mod Placed
 pub mod LooksUp
 pub mod Lending
 pub mod Mappings
+pub mod Validate
+pub mod Checkout

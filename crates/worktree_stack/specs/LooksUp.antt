@@ -13,6 +13,7 @@ use Rattle.worktree_stack.specs.Counted.{count_platform}
 use Rattle.worktree_stack.specs.Lookups.{asks_worktree, IsLookedUp, staying, refused_one}
 use Rattle.worktree_stack.specs.Reading.{Sources, Tells}
 use Rattle.worktree_stack.specs.Refused.{Refuses}
+use Rattle.worktree_stack.specs.Setup.{has_attributes}
 use Rattle.worktree_stack.specs.Stacked.{Stacked, IsInStep, IsLevel, made_of, pushed}
 use Rattle.worktree_stack.specs.Steps.{CarriesOut, Stops}
 
@@ -47,11 +48,13 @@ pub record LooksUp {W F T : Type 0} (w : WorktreeOf W) (f : FindOf F) (w0 w1 : W
   -- The worktree is not asked where rules come from mappings alone, and the store is not where nothing is mapped.
   pub untouched : asks_worktree (made_of old) ≡ false → w1 ≡ w0
   pub store_untouched : (made_of old).mappings ≡ [] → o1 ≡ o0
-  -- What is counted, and how often the worktree is read: at most once for each directory that is pushed or refused.
+  -- What is counted, and how often the worktree is read: by ignore rules alone at most once for each directory that is pushed or
+  -- refused.
   pub platforms : new.statistics.platforms ≡ one_more old.statistics.platforms
   pub carried : OnOk result (CarriesOut (w.told w0) (f.holds o0) (lookup_calls old.at (components path)) old new)
   pub stopped : is_normal path ≡ true
       → IfErr result (Stops (w.told w0) (f.holds o0) (Increased (w.faults w0) (w.faults w1)) (Increased (f.faults o0) (f.faults o1)) (lookup_calls old.at (components path)) old new)
   -- What stays pushed on the way to the path is not popped, and what is pushed then lies behind it.
   pub stays : length (pushed (staying old.at (components path))) ≤ length (pushed new.at)
-  pub reads : w.reads w1 + length (pushed (staying old.at (components path))) ≤ w.reads w0 + length (pushed new.at) + refused_one result
+  pub reads : has_attributes (made_of old) ≡ false
+      → w.reads w1 + length (pushed (staying old.at (components path))) ≤ w.reads w0 + length (pushed new.at) + refused_one result

@@ -1,12 +1,14 @@
 -- Where a lookup leaves a stack.
-use Rattle.std.specs.Prelude.{◌≡◌, ℕ, ◌++◌, ◌||◌, ◌==◌, Bool, true, false, if◌then◌else◌, List, [], ◌∷◌, length, Option, Some, None, option_map, Result, Ok, Err}
+use Rattle.std.specs.Prelude.{◌≡◌, ℕ, ◌++◌, ◌||◌, ◌==◌, Bool, true, false, if◌then◌else◌, List, [], ◌∷◌, length, Option, Some, None, option_map, is_some, Result, Ok, Err}
 use Rattle.gitbase_core.specs.declared.entry.Mode.{Mode}
 use Rattle.gitbase_core.specs.Entry.{mode_bits, commit_mode, dir_mode}
 use Rattle.gitbase_core.specs.Path.{ends_in_slash}
 use Rattle.worktree_fs.specs.Paths.{spelled, without_last}
 use Rattle.worktree_fs.specs.PathStack.{push, kept, names_at}
 use Rattle.worktree_stack.specs.Counted.{count_call}
-use Rattle.worktree_stack.specs.Setup.{Made, Setup}
+use Rattle.worktree_stack.specs.Setup.{Made, AttributesSetup, Setup}
+use Rattle.worktree_stack.specs.declared.attributes_source.Source.{Source as AttributesSource}
+use Rattle.worktree_stack.specs.declared.attributes_source.Source.TheVariants as attributes_sources
 use Rattle.worktree_stack.specs.declared.ignore_source.Source.{Source}
 use Rattle.worktree_stack.specs.declared.ignore_source.Source.TheVariants.{IdMapping, WorktreeThenIdMappingIfNotSkipped}
 use Rattle.worktree_stack.specs.Stacked.{Stacked}
@@ -30,9 +32,20 @@ abbrev pub asks_if : Option Setup → Bool
 asks_if None = false
 asks_if (Some setup) = asks_for setup.source
 
+-- whether files of attributes are looked for in the worktree
+abbrev pub asks_for_attributes : AttributesSource → Bool
+asks_for_attributes attributes_sources.IdMapping = false
+asks_for_attributes attributes_sources.IdMappingThenWorktree = true
+asks_for_attributes attributes_sources.WorktreeThenIdMapping = true
+
+-- and by an attribute state, if there is one; an info file is one of the worktree
+abbrev pub asks_attributes_if : Option AttributesSetup → Bool
+asks_attributes_if None = false
+asks_attributes_if (Some setup) = is_some setup.info || asks_for_attributes setup.source
+
 -- a stack that was made so looks for rules files in the worktree
 abbrev pub asks_worktree : Made → Bool
-asks_worktree made = asks_if made.ignore
+asks_worktree made = asks_attributes_if made.attributes || asks_if made.ignore
 
 -- a path stands looked up: exactly its proper ancestors are pushed, for the empty path the root alone
 pub record IsLookedUp (s : Stacked) (names : List (List ℕ)) : Type 0 where

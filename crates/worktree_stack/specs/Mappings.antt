@@ -1,5 +1,5 @@
 -- The blobs that rules files are mapped to, and which of them an index has.
-use Rattle.std.specs.Prelude.{ℕ, ◌==◌, ◌&&◌, ◌||◌, Bool, true, List, [], ◌∷◌, map, filter, Option, Some, None, if◌then◌else◌}
+use Rattle.std.specs.Prelude.{ℕ, ◌==◌, ◌&&◌, ◌||◌, Bool, true, false, List, [], ◌∷◌, map, filter, Option, Some, None, if◌then◌else◌}
 use Rattle.std.specs.List.{list_all}
 use Rattle.std.specs.Ordering.{is_lt}
 use Rattle.std.specs.Str.{bytes_eq}
@@ -13,7 +13,7 @@ use Rattle.glob_rules.specs.declared.Case.{Case}
 use Rattle.glob_rules.specs.declared.Case.TheVariants.{Sensitive, Fold}
 use Rattle.worktree_stack.specs.declared.ignore_source.Source.{Source}
 use Rattle.worktree_stack.specs.declared.ignore_source.Source.TheVariants.{IdMapping, WorktreeThenIdMappingIfNotSkipped}
-use Rattle.worktree_stack.specs.Setup.{Setup, Mapping}
+use Rattle.worktree_stack.specs.Setup.{AttributesSetup, Setup, Mapping, attributes_name}
 
 -- ---- in order
 
@@ -38,19 +38,37 @@ abbrev pub counts_for : Source → IndexEntry → Bool
 counts_for IdMapping e = true
 counts_for WorktreeThenIdMappingIfNotSkipped e = has_flag skip_worktree_flag e
 
--- an entry is that of a rules file: of a plain file, merged or ours
-abbrev pub is_rules_entry : Case → Setup → IndexEntry → Bool
-is_rules_entry case setup e =
-    mode_bits e.mode == file_mode && (e.stage == 0 || e.stage == 2) && is_named case setup.file_name e.path && counts_for setup.source e
+-- an entry may be that of a rules file: of a plain file, merged or ours
+abbrev pub is_plain : IndexEntry → Bool
+is_plain e = mode_bits e.mode == file_mode && (e.stage == 0 || e.stage == 2)
+
+-- the blob of an entry gives ignore rules, by an exclude state, if there is one
+abbrev pub gives_ignore : Case → Option Setup → IndexEntry → Bool
+gives_ignore case None e = false
+gives_ignore case (Some setup) e = is_named case setup.file_name e.path && counts_for setup.source e
+
+-- the file of an entry is one of ignore rules, by its name
+abbrev pub is_ignore_file : Case → Option Setup → IndexEntry → Bool
+is_ignore_file case None e = false
+is_ignore_file case (Some setup) e = is_named case setup.file_name e.path
+
+-- the file of an entry is one of attributes, by its name, where there is an attribute state
+abbrev pub is_attributes_file : Case → Option AttributesSetup → IndexEntry → Bool
+is_attributes_file case None e = false
+is_attributes_file case (Some setup) e = is_named case attributes_name e.path
+
+-- an entry is that of a rules file; one that has the name of ignore rules is asked for these, whatever else it is named
+abbrev pub is_rules_entry : Case → Option AttributesSetup → Option Setup → IndexEntry → Bool
+is_rules_entry case attributes ignore e =
+    is_plain e && (if is_ignore_file case ignore e then gives_ignore case ignore e else is_attributes_file case attributes e)
 
 -- an entry's path, and the blob that it has
 abbrev pub mapping_of : IndexEntry → Mapping
 mapping_of e = (e.path, e.id)
 
--- the blobs that an index has for the rules files of an exclude state, if there is one, in the order of the index
-abbrev pub mappings_in : Case → Option Setup → List IndexEntry → List Mapping
-mappings_in case None entries = []
-mappings_in case (Some setup) entries = map mapping_of (filter (is_rules_entry case setup) entries)
+-- the blobs that an index has for the rules files of a state, in the order of the index
+abbrev pub mappings_in : Case → Option AttributesSetup → Option Setup → List IndexEntry → List Mapping
+mappings_in case attributes ignore entries = map mapping_of (filter (is_rules_entry case attributes ignore) entries)
 
 -- how letters compare
 abbrev pub case_of : Bool → Case

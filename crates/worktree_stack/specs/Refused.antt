@@ -1,6 +1,5 @@
 -- Why a lookup is refused.
 use Rattle.std.specs.Prelude.{◌≡◌, ℕ, Bool, false, List, ◌∷◌, ◌++◌, Option, Some, None, Result, Err}
-use Rattle.glob_rules.specs.Ignore.{Rules}
 use Rattle.gitbase_core.specs.Objects.{Objects}
 use Rattle.worktree_fs.specs.Tree.{Names}
 use Rattle.worktree_fs.specs.Paths.{spelled, without_last}
@@ -34,44 +33,44 @@ pub record IsAmong (places : List Place) (place : Place) : Type 0 where
 
 -- Why rules are refused for a file, where `Failed` says that the worktree failed: over a told tree and a told store that is what
 -- reading them gives, or it is the failure. A link is refused only where it is not followed.
-abbrev pub IsFileWhy : Option Names → Option Objects → Type 0 → (Sources → Result Rules Refusal) → List ℕ → Bool → RulesWhy → Type 0
+abbrev pub IsFileWhy : {A : Type 0} → Option Names → Option Objects → Type 0 → (Sources → Result A Refusal) → List ℕ → Bool → RulesWhy → Type 0
 IsFileWhy told holds Failed read path follow whys.Link = (follow ≡ false) × ((s : Sources) → Tells told holds s → read s ≡ Err (of_file path whys.Link))
 IsFileWhy told holds Failed read path follow whys.LinkLimit = (s : Sources) → Tells told holds s → read s ≡ Err (of_file path whys.LinkLimit)
 IsFileWhy told holds Failed read path follow whys.Special = (s : Sources) → Tells told holds s → read s ≡ Err (of_file path whys.Special)
 IsFileWhy told holds Failed read path follow whys.Fault = Failed
 
 -- likewise for a blob
-abbrev pub IsBlobWhy : Option Names → Option Objects → Type 0 → (Sources → Result Rules Refusal) → List ℕ → BlobWhy → Type 0
+abbrev pub IsBlobWhy : {A : Type 0} → Option Names → Option Objects → Type 0 → (Sources → Result A Refusal) → List ℕ → BlobWhy → Type 0
 IsBlobWhy told holds Failed read id blob_whys.Missing = (s : Sources) → Tells told holds s → read s ≡ Err (of_blob id blob_whys.Missing)
 IsBlobWhy told holds Failed read id blob_whys.NotABlob = (s : Sources) → Tells told holds s → read s ≡ Err (of_blob id blob_whys.NotABlob)
 IsBlobWhy told holds Failed read id blob_whys.Fault = Failed
 
 -- rules that are looked for in these places, and read so, are refused for a file
-pub record IsFileRefused (told : Option Names) (holds : Option Objects) (Failed : Type 0) (places : List Place) (read : Sources → Result Rules Refusal) (path : List ℕ) (why : RulesWhy) : Type 0 where
+pub record IsFileRefused {A : Type 0} (told : Option Names) (holds : Option Objects) (Failed : Type 0) (places : List Place) (read : Sources → Result A Refusal) (path : List ℕ) (why : RulesWhy) : Type 0 where
   pub follow : Bool
   pub place : IsAmong places (in_tree path follow)
   pub why_is : IsFileWhy told holds Failed read path follow why
 
 -- and for a blob
-pub record IsBlobRefused (told : Option Names) (holds : Option Objects) (Failed : Type 0) (places : List Place) (read : Sources → Result Rules Refusal) (id : List ℕ) (why : BlobWhy) : Type 0 where
+pub record IsBlobRefused {A : Type 0} (told : Option Names) (holds : Option Objects) (Failed : Type 0) (places : List Place) (read : Sources → Result A Refusal) (id : List ℕ) (why : BlobWhy) : Type 0 where
   pub path : List ℕ
   pub place : IsAmong places (in_store path id)
   pub why_is : IsBlobWhy told holds Failed read id why
 
 -- rules that are looked for in these places are refused for a file, for a blob, or for want of memory
-abbrev pub IsRefused : Option Names → Option Objects → Type 0 → Type 0 → List Place → (Sources → Result Rules Refusal) → AtPathError → Type 0
+abbrev pub IsRefused : {A : Type 0} → Option Names → Option Objects → Type 0 → Type 0 → List Place → (Sources → Result A Refusal) → AtPathError → Type 0
 IsRefused told holds TreeFailed StoreFailed places read =
     OnRefusal (IsFileRefused told holds TreeFailed places read) (IsBlobRefused told holds StoreFailed places read) (Unit {0})
 
--- the rules of a directory are refused for a file
+-- a reading of a directory is refused for a file
 abbrev pub IsFileOf : Option Names → Option Objects → Type 0 → Made → List ℕ → RulesWhy → List ℕ → Type 0
 IsFileOf told holds Failed made path why d = IsFileRefused told holds Failed (places_of made d) (λ s. reading made s d) path why
 
--- the rules of a directory are refused for a blob
+-- a reading of a directory is refused for a blob
 abbrev pub IsBlobOf : Option Names → Option Objects → Type 0 → Made → List ℕ → BlobWhy → List ℕ → Type 0
 IsBlobOf told holds Failed made id why d = IsBlobRefused told holds Failed (places_of made d) (λ s. reading made s d) id why
 
--- the rules of a directory are refused for a file, for a blob, or for want of memory
+-- the readings of a directory are refused for a file, for a blob, or for want of memory
 abbrev pub RefusesAt : Option Names → Option Objects → Type 0 → Type 0 → Made → List ℕ → AtPathError → Type 0
 RefusesAt told holds TreeFailed StoreFailed made d =
     OnRefusal (λ path why. IsFileOf told holds TreeFailed made path why d) (λ id why. IsBlobOf told holds StoreFailed made id why d) (Unit {0})

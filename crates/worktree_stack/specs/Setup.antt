@@ -1,11 +1,14 @@
 -- What a stack was made with, and what it holds of each directory that is pushed.
 use Rattle.std.specs.Option.{option_or}
-use Rattle.std.specs.Prelude.{ℕ, ◌-◌, Bool, List, [], ◌∷◌, ◌++◌, length, take, slice_get, Option, Some, None, option_map, is_some, false, codes, if◌then◌else◌}
+use Rattle.std.specs.Prelude.{◌≡◌, ℕ, ◌-◌, Bool, List, [], ◌∷◌, ◌++◌, length, take, slice_get, Option, Some, None, option_map, is_some, codes, if◌then◌else◌}
 use Rattle.std.specs.Str.{bytes_eq}
 use Rattle.glob_rules.specs.declared.Case.{Case}
 use Rattle.glob_rules.specs.declared.ignore.Kind.{Kind}
 use Rattle.glob_rules.specs.declared.ignore.RuleGroup.TheVariants.{Overrides, Directory, Globals}
+use Rattle.glob_rules.specs.AttributeNames.{with_names}
+use Rattle.glob_rules.specs.Attributes.{AttributeList}
 use Rattle.glob_rules.specs.Ignore.{Rules, Hit, search_hit, search_place}
+use Rattle.worktree_stack.specs.declared.attributes_source.Source.{Source as AttributesSource}
 use Rattle.worktree_stack.specs.declared.ignore_source.Source.{Source}
 use Rattle.worktree_stack.specs.Excludes.{Decision, by_group, is_positive, decisive}
 
@@ -24,20 +27,29 @@ pub record Setup : Type 0 where
 abbrev pub Mapping : Type 0
 Mapping = List ℕ × List ℕ
 
--- What a stack was made with: its root, how letters compare, the blobs of rules files, and its exclude state, if it has one.
+-- What an attribute state was made with: lists below those of directories, the path of the file that speaks of the repository
+-- beside its worktree (`info/attributes`), if there is one, and where the `.gitattributes` of directories are read.
+pub record AttributesSetup : Type 0 where
+  pub globals : List AttributeList
+  pub info : Option (List ℕ)
+  pub source : AttributesSource
+
+-- What a stack was made with: its root, how letters compare, the blobs of rules files, its attribute state, if it has one, and its
+-- exclude state, if it has one.
 pub record Made : Type 0 where
   pub root : List ℕ
   pub case : Case
   pub mappings : List Mapping
+  pub attributes : Option AttributesSetup
   pub ignore : Option Setup
 
 -- it tells which paths are excluded
 abbrev pub has_excludes : Made → Bool
 has_excludes made = is_some made.ignore
 
--- it tells the attributes of paths; no state does that yet
+-- it tells the attributes of paths
 abbrev pub has_attributes : Made → Bool
-has_attributes made = false
+has_attributes made = is_some made.attributes
 
 -- the blob that a path is mapped to
 abbrev pub mapped_to : List Mapping → List ℕ → Option (List ℕ)
@@ -49,7 +61,72 @@ abbrev pub file_name_or_default : Option (List ℕ) → List ℕ
 file_name_or_default None = codes ".gitignore"
 file_name_or_default (Some name) = name
 
--- With that, for each directory that is pushed, the root first: its rules, and its own match.
+-- the file of a directory that speaks of attributes
+abbrev pub attributes_name : List ℕ
+attributes_name = codes ".gitattributes"
+
+-- With an attribute state, the names of attributes that were seen, and the lists of each directory that is pushed, the root first.
+pub record HeldAttributes : Type 0 where
+  pub setup : AttributesSetup
+  pub names : List (List ℕ)
+  pub lists : List AttributeList
+
+-- what an attribute state was made with, if there is one
+abbrev pub attributes_setup_of : Option HeldAttributes → Option AttributesSetup
+attributes_setup_of held = option_map (λ (h : HeldAttributes). h.setup) held
+
+-- with one list more, in which these names are seen
+abbrev pub push_list : AttributeList → List (List ℕ) → Option HeldAttributes → Option HeldAttributes
+push_list list seen held = option_map (λ (h : HeldAttributes). record h { names = with_names h.names seen; lists = h.lists ++ list ∷ [] }) held
+
+-- all lists but the highest
+abbrev pub without_highest : List AttributeList → List AttributeList
+without_highest lists = take (length lists - 1) lists
+
+-- all lists but that of the info file, if there is one and it stands above those of this directory, which it does at the root
+abbrev pub without_info : Option (List ℕ) → List ℕ → List AttributeList → List AttributeList
+without_info None d lists = lists
+without_info (Some path) [] lists = without_highest lists
+without_info (Some path) (b ∷ bs) lists = lists
+
+-- with the highest list less; the names stay seen
+abbrev pub pop_list : Option HeldAttributes → Option HeldAttributes
+pop_list held = option_map (λ (h : HeldAttributes). record h { lists = without_highest h.lists }) held
+
+-- with the lists of this directory less, which are the highest
+abbrev pub pop_lists : List ℕ → Option HeldAttributes → Option HeldAttributes
+pop_lists d held = option_map (λ (h : HeldAttributes). record h { lists = without_highest (without_info h.setup.info d h.lists) }) held
+
+-- with no directory pushed
+abbrev pub bare_attributes : Option HeldAttributes → Option HeldAttributes
+bare_attributes held = option_map (λ (h : HeldAttributes). record h { lists = [] }) held
+
+-- the lists of the directories that are pushed
+abbrev pub lists_of : Option HeldAttributes → List AttributeList
+lists_of None = []
+lists_of (Some held) = held.lists
+
+-- So many lists were pushed upon some.
+pub record IsLonger (count : ℕ) (before after : List AttributeList) : Type 0 where
+  pub more : List AttributeList
+  pub longer : after ≡ before ++ more
+  pub many : length more ≡ count
+
+-- the names that were seen
+abbrev pub names_of : Option HeldAttributes → List (List ℕ)
+names_of None = []
+names_of (Some held) = held.names
+
+-- the lists below those of directories
+abbrev pub globals_of : Option AttributesSetup → List AttributeList
+globals_of None = []
+globals_of (Some setup) = setup.globals
+
+-- the lists that speak of a path beneath the directories that are pushed, the lowest first
+abbrev pub all_lists : Option HeldAttributes → List AttributeList
+all_lists held = globals_of (attributes_setup_of held) ++ lists_of held
+
+-- With an exclude state, for each directory that is pushed, the root first: its rules, and its own match.
 pub record Held : Type 0 where
   pub setup : Setup
   pub lists : List Rules

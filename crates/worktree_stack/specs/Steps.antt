@@ -1,42 +1,42 @@
 -- What the calls of a lookup make of a stack, and where a refused lookup stops.
 --
 -- A lookup pushes the root where it is not pushed, pops the directories that are not above its path, and pushes those that
--- are. Each of these calls is counted, and each push of a directory reads its rules.
+-- are. Each of these calls is counted, and each push of a directory does its readings.
 use Rattle.std.specs.Prelude.{◌≡◌, ◌⊎◌, ◌≤◌, ℕ, ◌+◌, List, [], ◌∷◌, ◌++◌, map, Option, Some, None}
 use Rattle.gitbase_core.specs.Objects.{Objects}
 use Rattle.worktree_fs.specs.Tree.{Names}
 use Rattle.worktree_fs.specs.PathStack.{Call, push_directory, granted, left_by, directories, names_at}
 use Rattle.worktree_stack.specs.declared.error.AtPathError.{AtPathError}
 use Rattle.worktree_stack.specs.declared.statistics.RulesStatistics.{RulesStatistics}
+use Rattle.worktree_stack.specs.declared.statistics.Statistics.{Statistics}
 use Rattle.worktree_stack.specs.Setup.{Made}
-use Rattle.worktree_stack.specs.Reading.{Sources, Tells, places_of}
-use Rattle.worktree_stack.specs.Counted.{count_calls, count_readings, count_tried, tried_at, files_on, blobs_on}
+use Rattle.worktree_stack.specs.Reading.{Sources, Tells, RulesKind, readings_of}
+use Rattle.worktree_stack.specs.Counted.{count_calls, counts_of, count_readings, count_tried, files_on, blobs_on}
 use Rattle.worktree_stack.specs.Refused.{OnRefusal, IsFileOf, IsBlobOf}
+use Rattle.worktree_stack.specs.Placed.{IsFileCut, IsBlobCut, IsMemoryCut, IsCutOff}
 use Rattle.worktree_stack.specs.Stacked.{Stacked, made_of}
 
--- ---- the rules that were read
+-- ---- what was read
 
--- What was counted of the rules on the way: each rules file was tried that the worktree is asked for. Those that were files
--- are among them, and the blobs among those that are mapped; which they were is told by the tree and the store, where they are
--- told.
-pub record HasRead (told : Option Names) (holds : Option Objects) (made : Made) (calls : List Call) (old new : RulesStatistics) : Type 0 where
-  pub tried : new.tried_pattern_files ≡ count_tried made old.tried_pattern_files calls
+-- What was counted of the readings of one kind on the way: each rules file was tried that the worktree is asked for. Those that were
+-- files are among them, and the blobs among those that are mapped; which they were is told by the tree and the store, where
+-- they are told.
+pub record HasReadOf (told : Option Names) (holds : Option Objects) (kind : RulesKind) (made : Made) (calls : List Call) (old new : RulesStatistics) : Type 0 where
+  pub tried : new.tried_pattern_files ≡ count_tried kind made old.tried_pattern_files calls
   pub buffers : old.patterns_buffers ≤ new.patterns_buffers
-  pub most_buffers : new.patterns_buffers ≤ old.patterns_buffers + blobs_on made calls
+  pub most_buffers : new.patterns_buffers ≤ old.patterns_buffers + blobs_on kind made calls
   pub files : old.pattern_files ≤ new.pattern_files
-  pub most_files : new.pattern_files ≤ old.pattern_files + files_on made calls
-  pub exact : (s : Sources) → Tells told holds s → new ≡ count_readings made s old calls
+  pub most_files : new.pattern_files ≤ old.pattern_files + files_on kind made calls
+  pub exact : (s : Sources) → Tells told holds s → new ≡ count_readings kind made s old calls
 
--- a directory's rules file was tried and gave no list, and what is behind it was not read
-abbrev pub tried_alone : Made → List ℕ → RulesStatistics → RulesStatistics
-tried_alone made d s = tried_at (places_of made d) s
+-- and of every kind
+abbrev pub HasRead : Option Names → Option Objects → Made → List Call → Statistics → Statistics → Type 0
+HasRead told holds made calls old new = (kind : RulesKind) → HasReadOf told holds kind made calls (counts_of kind old) (counts_of kind new)
 
--- what a refusal has counted of a directory: nothing for a file, for a blob the file before it; and all of this, or the whole
--- reading, for want of memory
-abbrev pub HasTried : Option Names → Option Objects → Made → List ℕ → RulesStatistics → RulesStatistics → AtPathError → Type 0
-HasTried told holds made d old new =
-    OnRefusal (λ path why. new ≡ old) (λ id why. new ≡ tried_alone made d old)
-    ((new ≡ old) ⊎ ((new ≡ tried_alone made d old) ⊎ HasRead told holds made (push_directory d ∷ []) old new))
+-- what a refusal has counted of a directory: the readings before the refused one, and of that nothing for a file, for a blob the file
+-- before it; and all of this, or the whole reading, for want of memory
+abbrev pub HasTried : Option Names → Option Objects → Made → List ℕ → Statistics → Statistics → AtPathError → Type 0
+HasTried told holds made d old new = IsCutOff told holds (readings_of made d) old new
 
 -- ---- a lookup that was answered
 
@@ -45,8 +45,7 @@ pub record CarriesOut (told : Option Names) (holds : Option Objects) (calls : Li
   pub setup : made_of new ≡ made_of old
   pub left : directories new.at ≡ left_by (directories old.at) (map granted calls)
   pub counted : new.statistics.delegate ≡ count_calls old.statistics.delegate calls
-  pub attributes : new.statistics.attributes ≡ old.statistics.attributes
-  pub read : HasRead told holds (made_of old) calls old.statistics.ignore new.statistics.ignore
+  pub read : HasRead told holds (made_of old) calls old.statistics new.statistics
 
 -- ---- a lookup that was refused
 
@@ -62,32 +61,30 @@ pub record IsStopped (calls : List Call) (old new : Stacked) (done : List Call) 
   pub front : calls ≡ done ++ the_call begun ++ unmade
   pub left : directories new.at ≡ left_by (directories old.at) (map granted done)
   pub counted : new.statistics.delegate ≡ count_calls old.statistics.delegate (done ++ the_call begun)
-  pub attributes : new.statistics.attributes ≡ old.statistics.attributes
   pub current : new.current ≡ names_at new.at
   pub is_dir : new.is_dir ≡ old.is_dir
 
--- It stopped at a directory of which this holds, and has read the rules of those before; of its own so much was counted.
+-- It stopped at a directory of which this holds, and has read those before; of its own readings so much was counted.
 pub record IsStoppedAt (told : Option Names) (holds : Option Objects) (calls : List Call) (old new : Stacked)
-    (Holds : List ℕ → Type 0) (Counts : List ℕ → RulesStatistics → RulesStatistics → Type 0) : Type 0 where
+    (Holds : List ℕ → Type 0) (Counts : List ℕ → Statistics → Statistics → Type 0) : Type 0 where
   pub directory : List ℕ
   pub done : List Call
-  pub before : RulesStatistics
+  pub before : Statistics
   pub stopped : IsStopped calls old new done (Some (push_directory directory))
-  pub read : HasRead told holds (made_of old) done old.statistics.ignore before
-  pub tried : Counts directory before new.statistics.ignore
+  pub read : HasRead told holds (made_of old) done old.statistics before
+  pub tried : Counts directory before new.statistics
   pub refused : Holds directory
 
 -- It stopped before a call, as no memory was left.
 pub record IsStoppedBefore (told : Option Names) (holds : Option Objects) (calls : List Call) (old new : Stacked) : Type 0 where
   pub done : List Call
   pub stopped : IsStopped calls old new done None
-  pub read : HasRead told holds (made_of old) done old.statistics.ignore new.statistics.ignore
+  pub read : HasRead told holds (made_of old) done old.statistics new.statistics
 
 -- where a lookup stopped, by its refusal
 abbrev pub Stops : Option Names → Option Objects → Type 0 → Type 0 → List Call → Stacked → Stacked → AtPathError → Type 0
 Stops told holds TreeFailed StoreFailed calls old new =
     OnRefusal
-    (λ path why. IsStoppedAt told holds calls old new (IsFileOf told holds TreeFailed (made_of old) path why) (λ d before after. after ≡ before))
-    (λ id why. IsStoppedAt told holds calls old new (IsBlobOf told holds StoreFailed (made_of old) id why) (λ d before after. after ≡ tried_alone (made_of old) d before))
-    (IsStoppedBefore told holds calls old new ⊎ IsStoppedAt told holds calls old new (λ d. Unit {0})
-    (λ d before after. (after ≡ before) ⊎ ((after ≡ tried_alone (made_of old) d before) ⊎ HasRead told holds (made_of old) (push_directory d ∷ []) before after)))
+    (λ path why. IsStoppedAt told holds calls old new (IsFileOf told holds TreeFailed (made_of old) path why) (λ d. IsFileCut told holds path (readings_of (made_of old) d)))
+    (λ id why. IsStoppedAt told holds calls old new (IsBlobOf told holds StoreFailed (made_of old) id why) (λ d. IsBlobCut told holds id (readings_of (made_of old) d)))
+    (IsStoppedBefore told holds calls old new ⊎ IsStoppedAt told holds calls old new (λ d. Unit {0}) (λ d. IsMemoryCut told holds (readings_of (made_of old) d)))

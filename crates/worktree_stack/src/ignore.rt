@@ -133,6 +133,7 @@ impl Ignore {
     }
 
     /// The name of a directory's rules file.
+    /// See docs/DIFFERENCES.md#gix-rules-file-name.
     pub(crate) fn file_name(&self) -> &[u8]
         ensures { result.now ≡ self.now.setup.file_name }
     {
@@ -196,6 +197,7 @@ impl Ignore {
     }
 
     /// The own match of the empty path, beneath no directory.
+    /// See docs/DIFFERENCES.md#empty-match.
     fn match_of_root(&self, is_dir: Option<bool>, case: Case) -> Option<Decided<'_>>
         ensures { option_map decided_of result ≡ deciding self.now [] is_dir case }
     {
@@ -278,6 +280,7 @@ impl Ignore {
 
     /// What decides about a path: the own match of a pushed directory where that excludes it, else the match of the path
     /// itself, else what such a directory has.
+    /// See docs/DIFFERENCES.md#lifted-beneath-excluded.
     pub(crate) fn deciding(
         &self,
         path: &[u8],
@@ -303,6 +306,7 @@ impl Ignore {
 }
 
 /// Which of the own matches of pushed directories decides about the paths beneath all of them.
+/// See docs/DECISIONS.md#deciding-directory.
 fn deciding_directory(matches: &[Option<Matched>], strict: bool) -> Option<usize>
     ensures { decision_of matches.now result ≡ decisive strict matches.now }
 {

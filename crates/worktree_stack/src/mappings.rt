@@ -1,10 +1,11 @@
 //! The blobs that rules files are mapped to.
-ghost use Rattle.std.specs.Prelude.{◌≡◌, ◌||◌, ◌==◌, true, IfOk, map, filter};
+ghost use Rattle.std.specs.Prelude.{◌≡◌, ◌||◌, ◌==◌, true, IfOk};
 ghost use Rattle.gitbase_core.specs.Index.{path_cmp, IsIndex};
-ghost use Rattle.worktree_stack.specs.Mappings.{are_ascending, is_named, counts_for, is_rules_entry, mapping_of};
-ghost use Rattle.worktree_stack.specs.Setup.{Setup, mapped_to};
+ghost use Rattle.worktree_stack.specs.Mappings.{are_ascending, is_named, counts_for, is_plain, is_rules_entry, mappings_in};
+ghost use Rattle.worktree_stack.specs.Setup.{mapped_to, attributes_setup_of, setup_of};
+ghost use Rattle.worktree_stack.specs.Stacked.{attributes_of, ignore_of};
 
-use crate::Ignore;
+use crate::State as Rules;
 use crate::ignore_source::Source;
 use gitbase_core::{
     Flags, IndexEntry, Mode, ObjectId, OutOfMemory, PathText, State as Index, basename,
@@ -99,17 +100,18 @@ fn compare(mapping: &PathIdMapping, path: &[u8]) -> Ordering
 /// The blobs that an index has for the rules files of directories, in the order of the index.
 pub(crate) fn in_index(
     alloc: Global,
-    ignore: &Ignore,
+    state: &Rules,
     index: &Index,
     case: Case,
 ) -> Result<Vec<PathIdMapping>, OutOfMemory>
-    ensures mappings { IfOk result (λ mappings. mappings.items ≡ map mapping_of
-        (filter (is_rules_entry case ignore.now.setup) index.now)) }
+    ensures mappings { IfOk result (λ mappings. mappings.items ≡ mappings_in case
+        (attributes_setup_of (attributes_of state.now)) (setup_of (ignore_of state.now))
+        index.now) }
     ensures ascending { IfOk result (λ mappings. are_ascending mappings.items ≡ true) }
 {
     let mut mappings = Vec::new(alloc);
     for entry in index.entries() {
-        if is_rules_entry(entry, ignore.file_name(), ignore.source(), case) {
+        if is_rules_entry(entry, state, case) {
             mappings.push((
                 PathText::from_bytes(alloc, entry.path.as_bytes())?,
                 entry.id,
@@ -119,15 +121,30 @@ pub(crate) fn in_index(
     Ok(mappings)
 }
 
-/// Whether an entry of an index is that of a rules file of this name, which rules are read from.
-fn is_rules_entry(entry: &IndexEntry, name: &[u8], source: Source, case: Case) -> bool
-    ensures { (setup : Setup) → setup.file_name ≡ name.now → setup.source ≡ source
-        → result ≡ is_rules_entry case setup entry.now }
+/// Whether an entry of an index is that of a rules file, which rules are read from.
+fn is_rules_entry(entry: &IndexEntry, state: &Rules, case: Case) -> bool
+    ensures { result ≡ is_rules_entry case (attributes_setup_of (attributes_of state.now))
+        (setup_of (ignore_of state.now)) entry.now }
 {
-    entry.mode == Mode::FILE
-        && is_merged_or_ours(entry.stage)
-        && is_named(entry.path.as_bytes(), name, case)
-        && counts_for(entry, source)
+    if !is_plain(entry) {
+        return false;
+    }
+    if let Some(ignore) = state.ignore() {
+        if is_named(entry.path.as_bytes(), ignore.file_name(), case) {
+            return counts_for(entry, ignore.source());
+        }
+    }
+    if state.attributes().is_some() {
+        return is_named(entry.path.as_bytes(), b".gitattributes", case);
+    }
+    false
+}
+
+/// Whether an entry is that of a plain file, merged or ours.
+fn is_plain(entry: &IndexEntry) -> bool
+    ensures { result ≡ is_plain entry.now }
+{
+    entry.mode == Mode::FILE && is_merged_or_ours(entry.stage)
 }
 
 /// Whether this is the stage of a merged entry, or of ours.

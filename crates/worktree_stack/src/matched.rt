@@ -22,6 +22,8 @@ pub struct Decided<'a> {
 /// The rule that holds for a directory, kept longer than the lists that it came from.
 ///
 /// Contracts see what a match refers to.
+///
+/// See docs/DECISIONS.md#own-match-copied.
 #[derive(Drop)]
 pub struct Matched {
     group: RuleGroup,

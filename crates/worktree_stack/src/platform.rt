@@ -1,19 +1,23 @@
 //! What a stack says of the path that was looked up last.
-ghost use Rattle.std.specs.Prelude.{◌≡◌, ℕ, List, true, option_map, is_some};
+ghost use Rattle.std.specs.Prelude.{◌≡◌, ℕ, List, true, option_map, is_some, IfOk, OnOk, OnErr};
 ghost use Rattle.gitbase_core.specs.Path.{components};
+ghost use Rattle.glob_rules.specs.AttributeOutcome.{asking_anew, filled, finds_some, nothing_asked};
 ghost use Rattle.glob_rules.specs.Ignore.{match_of};
 ghost use Rattle.worktree_fs.specs.Paths.{full_path, spelled};
-ghost use Rattle.worktree_stack.specs.Setup.{excluded_kind, has_excludes, deciding_if};
+ghost use Rattle.worktree_stack.specs.Setup.{excluded_kind, has_excludes, has_attributes, deciding_if, all_lists, names_of};
 ghost use Rattle.worktree_stack.specs.Decided.{decided_of};
 ghost use Rattle.worktree_stack.specs.Stacked.{IsInStep, made_of};
-ghost use Rattle.worktree_stack.specs.Reading.{Sources, rulebook};
+ghost use Rattle.worktree_stack.specs.Reading.{Sources, rulebook, attribute_lists};
 ghost use Rattle.worktree_stack.specs.Lookups.{IsLookedUp};
 ghost use Rattle.worktree_stack.specs.Excludes.{exclude, rule_of, origin_of};
 
 use crate::matched::Decided;
 use crate::stack::Stack;
 use bstr::BStr;
+use gitbase_core::OutOfMemory;
+use glob_rules::attributes::Outcome;
 use glob_rules::ignore::{Kind, Match, Origin};
+use std::alloc::Global;
 use std::fmt;
 use std::fmt::Write;
 use std::marker::Model;
@@ -125,6 +129,25 @@ impl<'a> Platform<'a> {
             },
             None => None,
         }
+    }
+
+    /// Finds which attributes the path has, and tells whether it has one of those that are asked for. `out` asks for its selection, or
+    /// for all names that the stack has seen. Fails only where memory is refused, and then `out` has lost what it asks for.
+    pub fn matching_attributes(&self, alloc: Global, out: &mut Outcome) -> Result<bool, OutOfMemory>
+        requires { has_attributes (made_of self.now) ≡ true }
+        ensures held { OnOk result (out.new ≡ filled (all_lists self.now.attributes)
+            (spelled self.now.current) self.now.is_dir self.now.case
+            (asking_anew out.old (names_of self.now.attributes))) }
+        ensures attributes { (s : Sources) → IsInStep s self.now → (relative : List ℕ)
+            → IsLookedUp self.now (components relative)
+            → OnOk result (out.new ≡ filled
+            (attribute_lists (made_of self.now) s (components relative))
+            (spelled (components relative)) self.now.is_dir self.now.case
+            (asking_anew out.old (names_of self.now.attributes))) }
+        ensures finds { IfOk result (λ finds. finds ≡ finds_some out.new.rows) }
+        ensures refused { OnErr result (out.new ≡ nothing_asked) }
+    {
+        self.parent.matching_attributes(alloc, out)
     }
 
     /// Whether the path is excluded.

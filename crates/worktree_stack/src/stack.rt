@@ -1,7 +1,8 @@
 //! A stack of the directories above a path, with the rules of each.
-ghost use Rattle.std.specs.Prelude.{◌≡◌, [], true, false, option_map, None, IfOk};
+ghost use Rattle.std.specs.Prelude.{◌≡◌, [], true, false, option_map, None, IfOk, OnOk, OnErr};
 ghost use Rattle.std.specs.Borrow.{sem};
 ghost use Rattle.worktree_fs.specs.Paths.{full_path, spelled};
+ghost use Rattle.glob_rules.specs.AttributeOutcome.{asking_anew, asking_for, filled, finds_some, nothing_asked};
 ghost use Rattle.worktree_stack.specs.Counted.{no_statistics, unpushed, fresh};
 ghost use Rattle.worktree_stack.specs.Decided.{decided_of};
 ghost use Rattle.worktree_stack.specs.Lending.{LendsState};
@@ -9,19 +10,22 @@ ghost use Rattle.worktree_fs.specs.Kept.{AsksStore};
 ghost use Rattle.worktree_stack.specs.LooksUp.{LooksUp, Leaves};
 ghost use Rattle.worktree_stack.specs.Lookups.{is_dir_of, is_dir_of_entry};
 ghost use Rattle.worktree_stack.specs.Mappings.{are_ascending, mappings_in, case_of};
-ghost use Rattle.worktree_stack.specs.Setup.{has_excludes, has_attributes, setup_of, deciding_if};
-ghost use Rattle.worktree_stack.specs.Stacked.{made_of, ignore_of, IsInStep};
+ghost use Rattle.worktree_stack.specs.Setup.{has_excludes, has_attributes, attributes_setup_of, setup_of, deciding_if, all_lists, names_of};
+ghost use Rattle.worktree_stack.specs.Stacked.{made_of, attributes_of, ignore_of, IsInStep};
 ghost use Rattle.worktree_stack.specs.Reading.{Sources};
 
+mod pushing;
 mod reading;
 mod steps;
 
+use crate::attributes::{asking_for_all, asking_for_these};
 use crate::mappings::{Mappings, PathIdMapping};
 use crate::matched::Decided;
 use crate::platform::Platform;
 use crate::{AtPathError, State, Statistics};
 use gitbase_core::{Bytes, Find, Mode, OutOfMemory, PathText, State as Index};
 use glob_rules::Case;
+use glob_rules::attributes::{MetadataCollection, Outcome};
 use std::alloc::Global;
 use std::marker::Model;
 use worktree_fs::{PathStack, Worktree, is_normal};
@@ -50,7 +54,7 @@ pub struct Stack {
 }
 
 impl Model for Stack {
-    ghost use Rattle.worktree_stack.specs.Stacked.{Stacked, ignore_of};
+    ghost use Rattle.worktree_stack.specs.Stacked.{Stacked, attributes_of, ignore_of};
 
     ghost Value = { Stacked };
 
@@ -58,6 +62,7 @@ impl Model for Stack {
       root = s.stack.root;
       case = s.case;
       mappings = s.id_mappings;
+      attributes = attributes_of s.state;
       ignore = ignore_of s.state;
       at = s.stack.deepest;
       current = s.stack.current;
@@ -73,6 +78,8 @@ impl Stack {
     /// `worktree_root` is to be absolute, without `.` and `..`, as paths in the worktree begin with it. `case` says how
     /// letters compare in all rules. `buf` is used when files are read. `id_mappings` are the blobs of rules files, by their
     /// paths below the root, which ascend strictly by their bytes.
+    ///
+    /// See docs/DECISIONS.md#mappings-ascend.
     pub fn new(
         alloc: Global,
         worktree_root: PathText,
@@ -82,7 +89,8 @@ impl Stack {
         id_mappings: Vec<PathIdMapping>,
     ) -> Stack
         requires { are_ascending id_mappings.items ≡ true }
-        ensures { result ≡ unpushed worktree_root case id_mappings.items (ignore_of state) }
+        ensures { result ≡ unpushed worktree_root case id_mappings.items (attributes_of state)
+            (ignore_of state) }
     {
         Stack {
             stack: PathStack::new(alloc, worktree_root),
@@ -110,8 +118,8 @@ impl Stack {
         index: &Index,
     ) -> Result<Stack, OutOfMemory>
         ensures { IfOk result (λ stack. stack ≡ unpushed root (case_of ignore_case)
-            (mappings_in (case_of ignore_case) (setup_of (ignore_of state)) index.now)
-            (ignore_of state)) }
+            (mappings_in (case_of ignore_case) (attributes_setup_of (attributes_of state))
+            (setup_of (ignore_of state)) index.now) (attributes_of state) (ignore_of state)) }
     {
         let case = if ignore_case {
             Case::Fold
@@ -169,9 +177,7 @@ impl Stack {
     pub fn has_attributes(&self) -> bool
         ensures { result ≡ has_attributes (made_of self.now) }
     {
-        match &self.state {
-            State::IgnoreStack(_) => false,
-        }
+        self.state.attributes().is_some()
     }
 
     /// What was counted since the stack was made, or since the statistics were taken.
@@ -193,17 +199,30 @@ impl Stack {
 
     /// What the stack keeps for its directories.
     pub fn state(&self) -> &State
-        ensures { ignore_of result.now ≡ self.now.ignore }
+        ensures attributes { attributes_of result.now ≡ self.now.attributes }
+        ensures ignore { ignore_of result.now ≡ self.now.ignore }
     {
         &self.state
     }
 
     /// What the stack says of the path that was looked up last, where that lookup was answered.
+    /// See docs/DECISIONS.md#platform-after-lookup.
     pub fn platform(&self) -> Platform<'_>
         requires { self.now.is_answered ≡ true }
         ensures { result ≡ self.now }
     {
         Platform::new(self)
+    }
+
+    /// The names of attributes that were seen, in the lists of the caller and in those that were read.
+    pub fn attributes_collection(&self) -> &MetadataCollection
+        requires { has_attributes (made_of self.now) ≡ true }
+        ensures { result.now ≡ names_of self.now.attributes }
+    {
+        match self.state.attributes() {
+            Some(attributes) => attributes.collection(),
+            None => unreachable!(),
+        }
     }
 
     /// The whole path that was looked up last.
@@ -224,9 +243,57 @@ impl Stack {
         }
     }
 
+    /// Finds which attributes the path has that was looked up last, among those that `out` asks for.
+    pub(crate) fn matching_attributes(
+        &self,
+        alloc: Global,
+        out: &mut Outcome,
+    ) -> Result<bool, OutOfMemory>
+        requires { has_attributes (made_of self.now) ≡ true }
+        ensures filled { OnOk result (out.new ≡ filled (all_lists self.now.attributes)
+            (spelled self.now.current) self.now.is_dir self.now.case
+            (asking_anew out.old (names_of self.now.attributes))) }
+        ensures finds { IfOk result (λ finds. finds ≡ finds_some out.new.rows) }
+        ensures refused { OnErr result (out.new ≡ nothing_asked) }
+    {
+        match self.state.attributes() {
+            Some(attributes) => attributes.matching(
+                alloc,
+                self.stack.current_relative(),
+                self.is_dir,
+                self.case,
+                out,
+            ),
+            None => Ok(false),
+        }
+    }
+
+    /// An outcome that asks for the attributes that were seen so far, of which nothing is found yet. Fails only where memory is
+    /// refused.
+    pub fn attribute_matches(&self, alloc: Global) -> Result<Outcome, OutOfMemory>
+        requires { has_attributes (made_of self.now) ≡ true }
+        ensures { IfOk result (λ outcome. outcome ≡ asking_anew nothing_asked
+            (names_of self.now.attributes)) }
+    {
+        asking_for_all(alloc, self.attributes_collection())
+    }
+
+    /// An outcome that asks for these attributes, in this order, of which nothing is found yet. Fails only where memory is refused.
+    pub fn selected_attribute_matches(
+        &self,
+        alloc: Global,
+        given: &[Bytes],
+    ) -> Result<Outcome, OutOfMemory>
+        requires { has_attributes (made_of self.now) ≡ true }
+        ensures { IfOk result (λ outcome. outcome ≡ asking_for true given.now) }
+    {
+        asking_for_these(alloc, given)
+    }
+
     /// What the stack keeps for its directories, to be changed. Nothing is promised of directories that are pushed already.
     pub fn state_mut(&mut self) -> &mut State
         ensures* lends { sem 𝓛 (LendsState self.entry result) }
+        ensures attributes { attributes_of result.now ≡ self.old.attributes }
         ensures state { ignore_of result.now ≡ self.old.ignore }
     {
         self.is_answered = false;
@@ -249,22 +316,26 @@ impl Stack {
     /// Empty components mean nothing. `mode` is that of the path in an index, where it is known, and says whether the path is a
     /// directory. Whether anything is at the path makes no difference.
     ///
-    /// `objects` are asked for the blobs that rules files are mapped to. The worktree is read at most once for each directory that
-    /// is pushed, or was to be. In the directory that is pushed already a lookup begins at the last name; no clause speaks of that.
+    /// Attributes are read before ignore rules, and the information file with the root, behind its own `.gitattributes`. `objects` are
+    /// asked for the blobs that rules files are mapped to. Where the stack tells no attributes, the worktree is read at most once for
+    /// each directory that is pushed, or was to be. In the directory that is pushed already a lookup begins at the last name; no clause
+    /// speaks of that.
     ///
     /// # Errors
     ///
     /// - `NotNormal`: exactly where the path begins with `/` or has a component `.` or `..`. Nothing changes then but the count of
     ///   lookups, and that `platform` may not be asked.
-    /// - `RulesFile`: the rules file of a directory above the path, or of the root where the path is empty, is a link, and mapped to
-    ///   a blob (`Link`), leads along too many links (`LinkLimit`), is neither file nor directory (`Special`), or could not be read,
-    ///   which the worktree counted (`Fault`).
+    /// - `RulesFile`: a rules file of a directory above the path, or of the root where the path is empty, or the information file, is
+    ///   a link that is not followed, since it is mapped to a blob or speaks of attributes (`Link`), leads along too many links
+    ///   (`LinkLimit`), is neither file nor directory (`Special`), or could not be read, which the worktree counted (`Fault`).
     /// - `Blob`: the blob that such a file is mapped to is not in the store (`Missing`), is no blob (`NotABlob`), or could not be
     ///   read, which the store counted (`Fault`).
     /// - `OutOfMemory`: memory is refused.
     ///
     /// After `RulesFile` and `Blob` the directories above that one are pushed, and after `OutOfMemory` those up to some directory on
-    /// the way; the next lookup goes on from there. After any of these `platform` may not be asked until a lookup is answered.
+    /// the way; the next lookup goes on from there, and reads the information file where the root is still to be pushed. After any of these `platform` may not be asked until a lookup is answered.
+    ///
+    /// See docs/DIFFERENCES.md#gix-at-path.
     pub fn at_path<W: Worktree, F: Find>(
         &mut self,
         alloc: Global,

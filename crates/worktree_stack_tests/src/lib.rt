@@ -4,7 +4,11 @@
 #[cfg(test)]
 mod answers;
 #[cfg(test)]
+mod attributes;
+#[cfg(test)]
 mod cases;
+#[cfg(test)]
+mod checkout;
 #[cfg(test)]
 mod failing;
 #[cfg(test)]

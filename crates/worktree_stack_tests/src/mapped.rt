@@ -68,7 +68,7 @@ fn entries_of(alloc: Global, rows: &[u8]) -> Result<Vec<IndexEntry>, OutOfMemory
     Ok(entries)
 }
 
-fn index_of(alloc: Global, rows: &[u8]) -> Option<Index> {
+pub fn index_of(alloc: Global, rows: &[u8]) -> Option<Index> {
     match entries_of(alloc, rows) {
         Ok(entries) => Index::from_entries(entries).ok(),
         Err(_) => None,

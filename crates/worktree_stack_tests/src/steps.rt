@@ -5,6 +5,7 @@ ghost use Rattle.std.specs.Prelude.{◌≡◌, true};
 ghost use Rattle.worktree_stack.specs.Setup.{has_excludes};
 ghost use Rattle.worktree_stack.specs.Stacked.{made_of};
 
+use crate::attributes;
 use bstr::ByteSlice;
 use gitbase_core::{MemoryStore, Mode, ObjectId, OutOfMemory, PathText};
 use glob_rules::Case;
@@ -214,6 +215,9 @@ fn has_count(counts: &Statistics, name: &[u8], want: &[u8]) -> bool {
         b"tried_pattern_files" => counts.ignore.tried_pattern_files,
         b"pattern_files" => counts.ignore.pattern_files,
         b"patterns_buffers" => counts.ignore.patterns_buffers,
+        b"tried attributes" => counts.attributes.tried_pattern_files,
+        b"files of attributes" => counts.attributes.pattern_files,
+        b"blobs of attributes" => counts.attributes.patterns_buffers,
         _ => return false,
     };
     is_digit(count, want)
@@ -315,6 +319,8 @@ fn holds(alloc: Global, scene: &mut Scene<'_>, step: &[u8]) -> bool {
         b"entry of a file" => says_of_entry(alloc, scene, one, Some(Mode::FILE), false),
         b"entry of a submodule" => says_of_entry(alloc, scene, one, Some(Mode::COMMIT), true),
         b"shown" => is_shown(alloc, scene, one, two, three),
+        b"has" => attributes::has(alloc, scene, one, two, three),
+        b"selected" => attributes::has_selected(alloc, scene, one, two, three),
         _ => is_set(alloc, scene.stack, what, one),
     }
 }

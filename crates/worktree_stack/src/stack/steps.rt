@@ -3,7 +3,7 @@ ghost use Rattle.std.specs.Prelude.{◌≡◌, ◌≤◌, ◌+◌, ◌++◌, ◌
 ghost use Rattle.gitbase_core.specs.Objects.{Objects};
 ghost use Rattle.gitbase_core.specs.Path.{components};
 ghost use Rattle.worktree_fs.specs.Causes.{Increased};
-ghost use Rattle.worktree_fs.specs.Paths.{spelled, fronts, IsComponent};
+ghost use Rattle.worktree_fs.specs.Paths.{spelled, IsComponent};
 ghost use Rattle.worktree_fs.specs.PathStack.{names_at, one_up, surplus, lookup_calls, root_calls, calls_for, calls_below, push_directory, pop_directory, IsOnWay};
 ghost use Rattle.worktree_fs.specs.Tree.{Names};
 ghost use Rattle.worktree_stack.specs.Counted.{count_platform, count_call};
@@ -11,13 +11,12 @@ ghost use Rattle.worktree_stack.specs.Excludes.{ancestors};
 ghost use Rattle.worktree_fs.specs.Kept.{Asks, AsksStore};
 ghost use Rattle.worktree_stack.specs.Lookups.{IsIn, asks_worktree, is_dir_of, IsLookedUp, staying, stepped, refused_one};
 ghost use Rattle.worktree_stack.specs.Reading.{Sources, Tells};
-ghost use Rattle.worktree_stack.specs.Refused.{RefusesAt};
-ghost use Rattle.worktree_stack.specs.Stacked.{HoldsFor, IsInStep, HasAsMany, IsLevel, made_of, pushed};
-ghost use Rattle.worktree_stack.specs.Steps.{HasRead, HasTried, CarriesOut, Stops};
+ghost use Rattle.worktree_stack.specs.Stacked.{IsInStep, IsLevel, made_of, pushed};
+ghost use Rattle.worktree_stack.specs.Setup.{has_attributes};
+ghost use Rattle.worktree_stack.specs.Steps.{CarriesOut, Stops};
 
 use super::Stack;
 use crate::AtPathError;
-use crate::matched::Matched;
 use gitbase_core::{Find, Mode, OutOfMemory, relative_to};
 use std::alloc::Global;
 use worktree_fs::{Worktree, next_component};
@@ -35,7 +34,8 @@ impl Stack {
         ensures carried { (told : Option Names) (holds : Option Objects)
             → CarriesOut told holds (pop_directory ∷ []) self.old self.new }
     {
-        self.state.pop_directory();
+        self.state.pop_ignore();
+        self.state.pop_attributes(self.stack.deepest());
         self.stack.pop();
         self.count_pop();
     }
@@ -52,7 +52,7 @@ impl Stack {
     }
 
     /// Counts a directory that is to be pushed.
-    fn count_push(&mut self)
+    pub(super) fn count_push(&mut self)
         ensures { self.new ≡ record self.old {
           statistics = record self.old.statistics {
             delegate = count_call self.old.statistics.delegate
@@ -62,53 +62,6 @@ impl Stack {
     {
         let counts = &mut self.statistics.delegate;
         counts.push_directory = counts.push_directory.saturating_add(1);
-    }
-
-    /// Pushes the rules of the current path, without the path.
-    fn push_rules<W: Worktree, F: Find>(
-        &mut self,
-        alloc: Global,
-        worktree: &mut W,
-        objects: &mut F,
-    ) -> Result<(), AtPathError>
-        ensures made { made_of self.new ≡ made_of self.old }
-        ensures at { self.new.at ≡ self.old.at }
-        ensures current { self.new.current ≡ self.old.current }
-        ensures is_dir { self.new.is_dir ≡ self.old.is_dir }
-        ensures answered { self.new.is_answered ≡ self.old.is_answered }
-        ensures platforms { self.new.statistics.platforms ≡ self.old.statistics.platforms }
-        ensures attributes { self.new.statistics.attributes ≡ self.old.statistics.attributes }
-        ensures delegate { self.new.statistics.delegate ≡ count_call self.old.statistics.delegate
-            (push_directory (spelled self.old.current)) }
-        ensures held { OnErr result (self.new.ignore ≡ self.old.ignore) }
-        ensures in_step { (s : Sources) → Tells (W.told worktree.old) (F.holds objects.old) s
-            → HoldsFor (made_of self.old) s (ancestors self.old.current) self.old.ignore
-            → OnOk result (HoldsFor (made_of self.old) s (fronts self.old.current)
-            self.new.ignore) }
-        ensures levels { HasAsMany (ancestors self.old.current) self.old.ignore
-            → OnOk result (HasAsMany (fronts self.old.current) self.new.ignore) }
-        ensures read { OnOk result (HasRead (W.told worktree.old) (F.holds objects.old)
-            (made_of self.old) (push_directory (spelled self.old.current) ∷ [])
-            self.old.statistics.ignore self.new.statistics.ignore) }
-        ensures tried { IfErr result (HasTried (W.told worktree.old) (F.holds objects.old)
-            (made_of self.old) (spelled self.old.current) self.old.statistics.ignore
-            self.new.statistics.ignore) }
-        ensures refused { IfErr result (RefusesAt (W.told worktree.old) (F.holds objects.old)
-            (Increased (W.faults worktree.old) (W.faults worktree.new))
-            (Increased (F.faults objects.old) (F.faults objects.new)) (made_of self.old)
-            (spelled self.old.current)) }
-        ensures untouched { asks_worktree (made_of self.old) ≡ false → worktree.new ≡ worktree.old }
-        ensures store_untouched { (made_of self.old).mappings ≡ [] → objects.new ≡ objects.old }
-        ensures leaves { Asks W.Worktree worktree.old worktree.new }
-        ensures leaves_store { AsksStore F.Find objects.old objects.new }
-        ensures reads { W.reads worktree.new ≤ W.reads worktree.old + 1 }
-    {
-        self.count_push();
-        let directory = self.stack.current_relative();
-        let matched = Matched::of_directory(alloc, self.state.ignore(), directory, self.case)?;
-        let list = self.read_rules(alloc, worktree, objects)?;
-        self.state.push_directory(alloc, list, matched)?;
-        Ok(())
     }
 
     /// Pops the directories that are not above a path.
@@ -131,6 +84,7 @@ impl Stack {
 
     /// Pushes the current path as a directory, with its rules. Where that is refused nothing is pushed, and the deepest
     /// directory is the current path.
+    /// See docs/DECISIONS.md#refused-directory-counted.
     fn push_directory<W: Worktree, F: Find>(
         &mut self,
         alloc: Global,
@@ -160,7 +114,7 @@ impl Stack {
         ensures store_untouched { (made_of self.old).mappings ≡ [] → objects.new ≡ objects.old }
         ensures leaves { Asks W.Worktree worktree.old worktree.new }
         ensures leaves_store { AsksStore F.Find objects.old objects.new }
-        ensures reads { W.reads worktree.new ≤ W.reads worktree.old + 1 }
+        ensures reads { has_attributes (made_of self.old) ≡ false → W.reads worktree.new ≤ W.reads worktree.old + 1 }
     {
         if let Err(refused) = self.push_rules(alloc, worktree, objects) {
             self.leave();
@@ -231,7 +185,7 @@ impl Stack {
         ensures store_untouched { (made_of self.old).mappings ≡ [] → objects.new ≡ objects.old }
         ensures leaves { Asks W.Worktree worktree.old worktree.new }
         ensures leaves_store { AsksStore F.Find objects.old objects.new }
-        ensures reads { W.reads worktree.new ≤ W.reads worktree.old + length
+        ensures reads { has_attributes (made_of self.old) ≡ false → W.reads worktree.new ≤ W.reads worktree.old + length
             (root_calls self.old.at) }
     {
         if self.is_root_pushed() {
@@ -270,7 +224,7 @@ impl Stack {
         ensures store_untouched { (made_of self.old).mappings ≡ [] → objects.new ≡ objects.old }
         ensures leaves { Asks W.Worktree worktree.old worktree.new }
         ensures leaves_store { AsksStore F.Find objects.old objects.new }
-        ensures reads { W.reads worktree.new ≤ W.reads worktree.old + 1 }
+        ensures reads { has_attributes (made_of self.old) ≡ false → W.reads worktree.new ≤ W.reads worktree.old + 1 }
     {
         self.push(alloc, name)?;
         self.push_directory(alloc, worktree, objects)
@@ -309,7 +263,7 @@ impl Stack {
         ensures leaves { Asks W.Worktree worktree.old worktree.new }
         ensures leaves_store { AsksStore F.Find objects.old objects.new }
         ensures stays { length (names_at self.old.at) ≤ length (names_at self.new.at) }
-        ensures reads { W.reads worktree.new + length (names_at self.old.at) ≤ W.reads
+        ensures reads { has_attributes (made_of self.old) ≡ false → W.reads worktree.new + length (names_at self.old.at) ≤ W.reads
             worktree.old + length (names_at self.new.at) + refused_one result }
     {
         let mut rest = left;
@@ -354,7 +308,7 @@ impl Stack {
         ensures leaves_store { AsksStore F.Find objects.old objects.new }
         ensures stays { length (pushed (staying self.old.at (components relative.now))) ≤ length
             (pushed self.new.at) }
-        ensures reads { W.reads worktree.new + length
+        ensures reads { has_attributes (made_of self.old) ≡ false → W.reads worktree.new + length
             (pushed (staying self.old.at (components relative.now))) ≤ W.reads worktree.old + length
             (pushed self.new.at) + refused_one result }
     {

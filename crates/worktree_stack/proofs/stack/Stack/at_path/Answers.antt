@@ -3,7 +3,8 @@ use Rattle.std.specs.Prelude.{IsErrAnd, Result}
 use Rattle.worktree_stack.specs.LooksUp.{LooksUp}
 use Rattle.worktree_stack.specs.Lookups.{is_dir_of}
 use Rattle.worktree_stack.specs.declared.error.AtPathError.{AtPathError}
-use Rattle.worktree_stack.proofs.LookedUp.{not-normal, look-refused, is_err}
+use Rattle.worktree_stack.proofs.LookedUp.{not-normal, look-refused}
+use Rattle.worktree_stack.proofs.Refusals.{is_err}
 use Rattle.worktree_stack.proofs.stack.Stack.at_path.Goals as goal
 
 pub returns-then-not-is_normal-clause-looks_up : goal.returns-then-not-is_normal-clause-looks_up

@@ -1,4 +1,4 @@
-use Rattle.std.proofs.Common.{◌∙◌, ◌++◌, [], List, replicate, OnOk, OnErr, sym, ap, subst, length, arith}
+use Rattle.std.proofs.Common.{◌≡◌, ◌∙◌, ◌++◌, [], List, replicate, OnOk, OnErr, sym, ap, subst, length, arith}
 use Rattle.std.proofs.lemmas.List.{append-nil}
 use Rattle.std.proofs.lemmas.Result.{IfErr-weaker}
 use Rattle.worktree_fs.proofs.Lookups.{on_ok}
@@ -8,6 +8,8 @@ use Rattle.worktree_fs.specs.Causes.{Increased}
 use Rattle.worktree_stack.specs.Lookups.{IsLookedUp}
 use Rattle.worktree_stack.proofs.Refusals.{rose-earlier}
 use Rattle.worktree_stack.proofs.LookedUp.{tells-before}
+use Rattle.worktree_stack.specs.Setup.{has_attributes}
+use Rattle.worktree_stack.specs.Stacked.{made_of}
 use Rattle.worktree_stack.specs.Steps.{CarriesOut, Stops}
 use Rattle.worktree_stack.proofs.Carrying.{carries-as, carries-then, stops-after}
 use Rattle.worktree_stack.proofs.Looking.{whole, ends, stay_names, calls_are, root-length, length-pushed}
@@ -70,14 +72,15 @@ returns-clause-stopped g c =
     c.push_rest.ensures.stopped
 
 pub returns-clause-reads : goal.returns-clause-reads
-returns-clause-reads g c =
+returns-clause-reads g c alone =
+    let made : made_of c.pop_surplus.new.self ≡ made_of c.args.self.now = c.pop_surplus.ensures.made ∙ c.push_root.ensures.made in
     let stay =
     stay_names c.args.self.now.at c.push_root.new.self.at c.pop_surplus.new.self.at (components c.args.relative.now) (components c.rest-left.result.now)
     (record { rooted = c.in_ok-push_root.ensures.at; popped = c.pop_surplus.ensures.at; left_is = c.rest-left.ensures }) in
     omega (
       arith,
-      c.push_root.ensures.reads,
-      c.push_rest.ensures.reads,
+      c.push_root.ensures.reads alone,
+      c.push_rest.ensures.reads (ap has_attributes made ∙ alone),
       root-length c.args.self.now.at (components c.args.relative.now),
       length-pushed c.push_rest.new.self.at c.push_rest.ensures.some,
       ap length stay,

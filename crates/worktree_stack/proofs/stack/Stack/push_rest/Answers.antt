@@ -8,7 +8,7 @@ use Rattle.worktree_fs.specs.PathStack.{names_at, calls_for, calls_below}
 use Rattle.worktree_fs.proofs.Calls.{handed_on}
 use Rattle.worktree_stack.specs.declared.error.AtPathError.TheVariants as errors
 use Rattle.worktree_stack.specs.Lookups.{asks_worktree}
-use Rattle.worktree_stack.specs.Setup.{Made}
+use Rattle.worktree_stack.specs.Setup.{Made, has_attributes}
 use Rattle.worktree_stack.specs.Stacked.{Stacked}
 use Rattle.worktree_stack.specs.Steps.{CarriesOut, Stops}
 use Rattle.worktree_stack.proofs.Stepping.{on_err, carries-stepped}
@@ -37,7 +37,7 @@ loop-next-init g c =
       leaves = record { tree = refl; faults = omega arith; list_faults = refl; reads = omega arith; lists = refl; precomposes = refl };
       leaves_store = record { holds = refl; faults = omega arith };
       stays = omega arith;
-      reads = omega arith;
+      reads = λ alone. omega arith;
     }
 
 pub returns-in_err-push-clause-on_way : goal.returns-in_err-push-clause-on_way
@@ -141,5 +141,5 @@ loop-next-preserved g c =
       leaves = leaves-then W c.args.worktree.now c.loop-next.worktree c.descend.new.worktree before.leaves c.descend.ensures.leaves;
       leaves_store = store-then F c.args.objects.now c.loop-next.objects c.descend.new.objects before.leaves_store c.descend.ensures.leaves_store;
       stays = omega (arith, before.stays, ap length names_is, length-append names (name ∷ []));
-      reads = omega (arith, c.descend.ensures.reads, before.reads, ap length names_is, length-append names (name ∷ []));
+      reads = λ alone. omega (arith, c.descend.ensures.reads (ap (λ (m : Made). has_attributes m) before.setup ∙ alone), before.reads alone, ap length names_is, length-append names (name ∷ []));
     }

@@ -5,6 +5,7 @@ use Rattle.worktree_fs.specs.Kept.{Asks, AsksStore}
 use Rattle.worktree_stack.specs.Lookups.{asks_worktree}
 use Rattle.worktree_stack.specs.Reading.{Sources, Tells}
 use Rattle.worktree_stack.specs.Stacked.{IsInStep, IsLevel, made_of}
+use Rattle.worktree_stack.specs.Setup.{has_attributes}
 use Rattle.worktree_stack.specs.Steps.{CarriesOut}
 use Rattle.worktree_stack.proofs.Descent.{IsBelow}
 use Rattle.worktree_stack.proofs.stack.Stack.push_rest.Given as goal
@@ -32,7 +33,7 @@ invariant-loop-next g l =
       leaves : Asks W l.fn.worktree l.worktree;
       leaves_store : AsksStore F l.fn.objects l.objects;
       stays : length names ≤ length (names_at l.self.at);
-      reads : W.reads l.worktree + length names ≤ W.reads l.fn.worktree + length (names_at l.self.at);
+      reads : has_attributes (made_of l.fn.self) ≡ false → W.reads l.worktree + length names ≤ W.reads l.fn.worktree + length (names_at l.self.at);
     }
 
 abbrev pub decreases-loop-next : goal.decreases-loop-next

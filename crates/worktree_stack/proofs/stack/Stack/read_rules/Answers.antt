@@ -1,57 +1,95 @@
-use Rattle.std.proofs.Common.{◌≡◌, ◌∙◌, ℕ, List, Bool, Some, None, Ok, sym, ap, rules}
-use Rattle.std.proofs.lemmas.Result.{IfOk-weaker, IfErr-weaker}
-use Rattle.worktree_fs.specs.Paths.{full_path, spelled}
-use Rattle.worktree_stack.specs.Reading.{Place, first_rules, ignore_places, rules_path, places_of, reading}
-use Rattle.worktree_stack.specs.Setup.{Setup, Made, Mapping, setup_of, mapped_to}
-use Rattle.worktree_stack.specs.Stacked.{made_of}
-use Rattle.worktree_stack.proofs.Placing.{places-some, reading-some, reading-none, places-as, refused-as}
+use Rattle.std.proofs.Common.{◌≡◌, ◌∙◌, ◌∷◌, [], ℕ, List, Option, Some, None, Result, Ok, Err, refl, sym, ap, subst, rules}
+use Rattle.std.specs.Prelude.{IsErrAnd}
+use Rattle.worktree_fs.specs.Paths.{spelled}
+use Rattle.worktree_stack.specs.declared.error.AtPathError.{AtPathError}
+use Rattle.worktree_stack.specs.declared.error.AtPathError.TheVariants as errors
+use Rattle.worktree_stack.specs.declared.statistics.Statistics.{Statistics}
+use Rattle.worktree_stack.specs.declared.statistics.RulesStatistics.{RulesStatistics}
+use Rattle.worktree_stack.specs.Placed.{Reads}
+use Rattle.worktree_stack.specs.Reading.{Place, Text, OneReading, RulesKind, of_attributes, of_ignore, text_of, places_by, ignore_readings, own_readings, info_readings, info_readings_if, info_places, ignore_places_of, attribute_places_of}
+use Rattle.worktree_stack.specs.Setup.{AttributesSetup, Setup, Made, attributes_setup_of, setup_of, mapped_to}
+use Rattle.worktree_stack.specs.Stacked.{Stacked, made_of}
+use Rattle.gitbase_core.specs.Path.{joined}
+use Rattle.worktree_fs.specs.Paths.{full_path}
+use Rattle.worktree_stack.proofs.Readings.{reads-unread, reads-lost, only-ignore}
+use Rattle.worktree_stack.proofs.Pushing.{ignore-placed, ignore-some, reads-as, reads-placed}
 use Rattle.worktree_stack.proofs.stack.Stack.read_rules.Goals as goal
 
-pub returns-clause-rules : goal.returns-clause-rules
-returns-clause-rules g c s tells =
+pub returns-in_err-set_paths-clause-reads : goal.returns-in_err-set_paths-clause-reads
+returns-in_err-set_paths-clause-reads g c =
+    let W = g.W.Worktree in
+    let F = g.F.Find in
     let made : Made = made_of c.args.self.now in
     let setup : Setup = c.in-Some.ignore.now.setup in
     let held_is : c.args.self.now.ignore ≡ Some c.in-Some.ignore.now = search rules in
     let setup_is : made.ignore ≡ Some setup = ap setup_of held_is in
     let d : List ℕ = spelled c.args.self.now.current in
-    let dir_is : c.current_relative-directory.result.now ≡ d = search rules in
-    let path_is : c.as_bytes-path.result.now ≡ rules_path setup d = search rules in
-    let root_is : c.root.result.now ≡ made.root = search rules in
-    let mapped_is : c.id_of-mapped.result ≡ mapped_to made.mappings (rules_path setup d) = search rules in
-    let places = places-as c.source.result setup.source c.root.result.now made.root c.as_bytes-path.result.now (rules_path setup d) c.id_of-mapped.result _ c.source.ensures root_is path_is mapped_is
-    ∙ sym (places-some made setup d setup_is) in
-    IfOk-weaker c.read_places.result _ _
-    (λ list e. reading-some made setup s d setup_is
-    ∙ sym (ap (λ (p : Bool). first_rules p c.current_relative-directory.result.now s (ignore_places c.source.result (full_path c.root.result.now c.as_bytes-path.result.now) c.as_bytes-path.result.now c.id_of-mapped.result)) c.parse.ensures
-    ∙ ap (λ (x : List ℕ). first_rules setup.precious x s (ignore_places c.source.result (full_path c.root.result.now c.as_bytes-path.result.now) c.as_bytes-path.result.now c.id_of-mapped.result)) dir_is
-    ∙ ap (λ (ps : List Place). first_rules setup.precious d s ps) places) ∙ e)
-    (c.read_places.ensures.rules s tells)
+    let s0 : Statistics = c.args.self.now.statistics in
+    let s : Statistics = c.self.inside.statistics in
+    let same : s ≡ s0 = search rules in
+    let readings : List OneReading = ignore_readings made made.ignore d in
+    let readings_are : readings ≡ record { kind = of_ignore; places = ignore_places_of made setup d } ∷ [] = ignore-some made setup d made.ignore setup_is in
+    let memory : IsErrAnd c.from_residual.result (λ x. x ≡ errors.OutOfMemory) = search rules in
+    reads-unread W F c.args.worktree.now c.args.objects.now readings [] (record { kind = of_ignore; places = ignore_places_of made setup d }) s0 s c.from_residual.result memory readings_are same
 
-pub returns-clause-refused : goal.returns-clause-refused
-returns-clause-refused g c =
+pub returns-in_err-source-clause-reads : goal.returns-in_err-source-clause-reads
+returns-in_err-source-clause-reads g c =
+    let W = g.W.Worktree in
+    let F = g.F.Find in
     let made : Made = made_of c.args.self.now in
     let setup : Setup = c.in-Some.ignore.now.setup in
     let held_is : c.args.self.now.ignore ≡ Some c.in-Some.ignore.now = search rules in
     let setup_is : made.ignore ≡ Some setup = ap setup_of held_is in
     let d : List ℕ = spelled c.args.self.now.current in
-    let dir_is : c.current_relative-directory.result.now ≡ d = search rules in
-    let path_is : c.as_bytes-path.result.now ≡ rules_path setup d = search rules in
-    let root_is : c.root.result.now ≡ made.root = search rules in
-    let mapped_is : c.id_of-mapped.result ≡ mapped_to made.mappings (rules_path setup d) = search rules in
-    let places = places-as c.source.result setup.source c.root.result.now made.root c.as_bytes-path.result.now (rules_path setup d) c.id_of-mapped.result _ c.source.ensures root_is path_is mapped_is
-    ∙ sym (places-some made setup d setup_is) in
-    IfErr-weaker c.read_places.result _ _
-    (λ e said. refused-as (g.W.Worktree.told c.args.worktree.now) (g.F.Find.holds c.args.objects.now) _ _ c.parse.result.support_precious setup.precious c.current_relative-directory.result.now d _ (places_of made d) (λ s. reading made s d) e
-    c.parse.ensures dir_is places (λ s. reading-some made setup s d setup_is) said)
-    c.read_places.ensures.refused
-
-pub returns-in_default-clause-rules : goal.returns-in_default-clause-rules
-returns-in_default-clause-rules g c s tells =
-    let held_is : c.args.self.now.ignore ≡ None = search rules in
-    reading-none (made_of c.args.self.now) s (spelled c.args.self.now.current) (ap setup_of held_is) ∙ ap Ok (sym c.new.ensures)
-
-pub returns-clause-store_untouched : goal.returns-clause-store_untouched
-returns-clause-store_untouched g c none =
+    let s0 : Statistics = c.args.self.now.statistics in
+    let s : Statistics = c.self.inside.statistics in
+    let same : s ≡ s0 = search rules in
+    let readings : List OneReading = ignore_readings made made.ignore d in
+    let readings_are : readings ≡ record { kind = of_ignore; places = ignore_places_of made setup d } ∷ [] = ignore-some made setup d made.ignore setup_is in
+    let s1 : Statistics = record s { ignore = c.read_text.new.statistics } in
     let path : List ℕ = c.as_bytes-path.result.now in
-    let mapped_is : c.id_of-mapped.result ≡ mapped_to (made_of c.args.self.now).mappings path = search rules in
-    c.read_places.ensures.unasked (mapped_is ∙ ap (λ (mappings : List Mapping). mapped_to mappings path) none)
+    let whole : List ℕ = c.as_bytes.result.now in
+    let whole_is : whole ≡ full_path made.root (joined d setup.file_name) = search rules in
+    let path_is : path ≡ joined d setup.file_name = search rules in
+    let mapped_is : c.id_of.result ≡ mapped_to made.mappings path = search rules in
+    let places_are : places_by c.of_ignore-order.result whole path ≡ ignore_places_of made setup d =
+    c.of_ignore-order.ensures whole path ∙ ignore-placed made d whole path c.id_of.result setup c.source.result c.source.ensures whole_is path_is mapped_is in
+    let all : Reads W F c.args.worktree.now c.read_text.new.worktree c.args.objects.now c.read_text.new.objects readings s0 s1 c.read_text.result =
+    reads-placed W F c.args.worktree.now c.read_text.new.worktree c.args.objects.now c.read_text.new.objects of_ignore (places_by c.of_ignore-order.result whole path) (ignore_places_of made setup d) readings s0 s s1
+    (λ source. text_of source c.read_text.new.buffer) c.read_text.result (only-ignore s s1 refl) same places_are readings_are
+    c.read_text.ensures.text c.read_text.ensures.refused c.read_text.ensures.counted c.read_text.ensures.tried c.read_text.ensures.untouched c.read_text.ensures.store_untouched c.read_text.ensures.leaves c.read_text.ensures.leaves_store c.read_text.ensures.reads in
+    let e : AtPathError = c.in_err-source.field-0.0 in
+    let said : IsErrAnd c.from_residual-in_err-source.result (λ x. x ≡ e) = search rules in
+    reads-as W F c.args.worktree.now c.read_text.new.worktree c.args.objects.now c.read_text.new.objects readings s0 s1 c.read_text.result e c.from_residual-in_err-source.result c.in_err-source.was said all
+
+pub returns-in_err-list_of-clause-reads : goal.returns-in_err-list_of-clause-reads
+returns-in_err-list_of-clause-reads g c =
+    let W = g.W.Worktree in
+    let F = g.F.Find in
+    let made : Made = made_of c.args.self.now in
+    let setup : Setup = c.in-Some.ignore.now.setup in
+    let held_is : c.args.self.now.ignore ≡ Some c.in-Some.ignore.now = search rules in
+    let setup_is : made.ignore ≡ Some setup = ap setup_of held_is in
+    let d : List ℕ = spelled c.args.self.now.current in
+    let s0 : Statistics = c.args.self.now.statistics in
+    let s : Statistics = c.self.inside.statistics in
+    let same : s ≡ s0 = search rules in
+    let readings : List OneReading = ignore_readings made made.ignore d in
+    let readings_are : readings ≡ record { kind = of_ignore; places = ignore_places_of made setup d } ∷ [] = ignore-some made setup d made.ignore setup_is in
+    let s1 : Statistics = record s { ignore = c.read_text.new.statistics } in
+    let path : List ℕ = c.as_bytes-path.result.now in
+    let whole : List ℕ = c.as_bytes.result.now in
+    let whole_is : whole ≡ full_path made.root (joined d setup.file_name) = search rules in
+    let path_is : path ≡ joined d setup.file_name = search rules in
+    let mapped_is : c.id_of.result ≡ mapped_to made.mappings path = search rules in
+    let places_are : places_by c.of_ignore-order.result whole path ≡ ignore_places_of made setup d =
+    c.of_ignore-order.ensures whole path ∙ ignore-placed made d whole path c.id_of.result setup c.source.result c.source.ensures whole_is path_is mapped_is in
+    let all : Reads W F c.args.worktree.now c.read_text.new.worktree c.args.objects.now c.read_text.new.objects readings s0 s1 c.read_text.result =
+    reads-placed W F c.args.worktree.now c.read_text.new.worktree c.args.objects.now c.read_text.new.objects of_ignore (places_by c.of_ignore-order.result whole path) (ignore_places_of made setup d) readings s0 s s1
+    (λ source. text_of source c.read_text.new.buffer) c.read_text.result (only-ignore s s1 refl) same places_are readings_are
+    c.read_text.ensures.text c.read_text.ensures.refused c.read_text.ensures.counted c.read_text.ensures.tried c.read_text.ensures.untouched c.read_text.ensures.store_untouched c.read_text.ensures.leaves c.read_text.ensures.leaves_store c.read_text.ensures.reads in
+    let memory : IsErrAnd c.from_residual-in_err-list_of.result (λ x. x ≡ errors.OutOfMemory) = search rules in
+    let v : Option (List ℕ) = c.in_ok-source.source in
+    reads-lost W F c.args.worktree.now c.read_text.new.worktree c.args.objects.now c.read_text.new.objects readings (record { kind = of_ignore; places = ignore_places_of made setup d }) s0 s1 v
+    c.from_residual-in_err-list_of.result readings_are memory
+    (subst (λ (r : Result (Option (List ℕ)) AtPathError). Reads W F c.args.worktree.now c.read_text.new.worktree c.args.objects.now c.read_text.new.objects readings s0 s1 r) c.in_ok-source.was all)

@@ -1,0 +1,189 @@
+-- How the steps by which a directory comes to be at a path follow each other.
+use Rattle.std.proofs.Common.{◌≡◌, inl, inr, ◌≤◌, ◌+◌, ℕ, Bool, true, false, Option, Some, None, List, [], ◌∷◌, Result, Ok, Err, IfOk, refl, sym, ap, subst, ◌∙◌, arith}
+use Rattle.std.specs.Prelude.{OnOk, OnErr, IsErrOf}
+use Rattle.std.proofs.lemmas.Result.{on_err_weaker, IfOk-weaker}
+use Rattle.worktree_fs.specs.Answers.{kind_of}
+use Rattle.worktree_fs.specs.Changed.{Makes}
+use Rattle.worktree_fs.specs.Changes.{make_answer, after_make, after_remove, kept_last, slashed, made_unless, with_directory}
+use Rattle.worktree_fs.specs.Grow.{add_refusal}
+use Rattle.worktree_fs.specs.declared.memory.grow.AddError.{AddError}
+use Rattle.worktree_fs.specs.Naming.{IsTree}
+use Rattle.worktree_fs.specs.Tree.{Names, Spot, reached, missing, nowhere, endless, file, link, directory, other, none, spot, look, look_at}
+use Rattle.worktree_fs.specs.declared.answers.MakeAnswer.{MakeAnswer}
+use Rattle.worktree_fs.specs.declared.answers.ReadError.{ReadError}
+use Rattle.worktree_fs.specs.declared.worktree.Worktree.{Ghosts as WorktreeOf}
+use Rattle.worktree_fs.specs.declared.answers.MakeAnswer.TheVariants as makes
+use Rattle.worktree_fs.specs.declared.answers.NodeKind.{NodeKind}
+use Rattle.worktree_fs.specs.declared.answers.NodeKind.TheVariants as kinds
+use Rattle.worktree_fs.proofs.Changed.{makes-there}
+use Rattle.worktree_stack.specs.declared.error.AtPathError.{AtPathError}
+use Rattle.worktree_stack.specs.Checkout.{Prepared, IsOutcome, IsPartly, Changes, Prepares, LeadsToDirectory, KeepsName, NoDirectory, Creates, making, unlinking, colliding}
+use Rattle.worktree_stack.proofs.Refusals.{rose-earlier}
+
+module _ {W : Type 0} (w : WorktreeOf W) where
+  pub Changes-join : {a b c : W} → Changes w a b → Changes w b c → Changes w a c
+  Changes-join x y = record {
+    untold = λ none. y.untold (x.untold none);
+    faults = omega (arith, x.faults, y.faults);
+    list_faults = y.list_faults ∙ x.list_faults;
+    reads = y.reads ∙ x.reads;
+    lists = y.lists ∙ x.lists;
+    precomposes = y.precomposes ∙ x.precomposes;
+  }
+
+-- an answer, with what was told and counted
+pub outcome-told : (result : Result MakeAnswer ReadError) (outcome : Prepared) (told : Option Names) (calls : ℕ) → IfOk result (λ answer. answer ≡ outcome.answer)
+    → OnOk result (told ≡ Some outcome.tree) → calls ≡ outcome.calls → IfOk result (IsOutcome outcome told calls)
+outcome-told (Ok answer) outcome told calls is tree counted = record { answer_is = is; tree_is = tree; calls_are = counted }
+outcome-told (Err error) outcome told calls is tree counted = tt
+
+-- a tree that stayed where a call failed
+pub partly-kept : {T E : Type 0} (result : Result T E) (unlinks : Bool) (t : Names) (path : List ℕ) (before now : Option Names) → before ≡ Some t → OnErr result (now ≡ before)
+    → OnErr result (IsPartly unlinks t path now)
+partly-kept (Ok x) unlinks t path before now told kept = tt
+partly-kept (Err e) unlinks t path before now told kept = inl (kept ∙ told)
+
+-- a directory that was made is there
+pub made-there : (result : Result MakeAnswer ReadError) (composes : Bool) (t : Names) (path : List ℕ) → IsTree (directory t) → KeepsName composes path
+    → IfOk result (λ answer. answer ≡ make_answer composes t (spot t path false))
+    → IfOk result (λ answer. answer ≡ makes.Made → LeadsToDirectory (after_make composes t (spot t path false)) path)
+made-there result composes t path tree keeps = IfOk-weaker result _ _ (λ answer given is.
+    let made : Makes path t (after_make composes t (spot t path false)) = makes-there composes t path tree (keeps t) (sym given ∙ is) in
+    (made.names, none, made.is))
+
+-- a path with the kind of a directory leads to one
+pub directory-leads : (t : Names) (path : List ℕ) → kind_of (look t path false) ≡ Some kinds.Directory → LeadsToDirectory t path
+directory-leads t path = go (spot t path false)
+  where
+    go : (at : Spot) → kind_of (look_at at) ≡ Some kinds.Directory → (names : List (List ℕ)) × (inner : Names) × (at ≡ reached names (directory inner))
+    go (reached names (file bytes)) e = absurd (cc e)
+    go (reached names (link target)) e = absurd (cc e)
+    go (reached names (directory inner)) e = (names, inner, refl)
+    go (reached names other) e = absurd (cc e)
+    go (missing names rest) e = absurd (cc e)
+    go nowhere e = absurd (cc e)
+    go endless e = absurd (cc e)
+
+-- where something is no directory is made, and the tree stays
+pub exists-stays : (composes : Bool) (t : Names) (at : Spot) → make_answer composes t at ≡ makes.Exists → after_make composes t at ≡ t
+exists-stays composes t (reached names node) e = refl
+exists-stays composes t (missing names []) e = go (add_refusal t (slashed (kept_last composes names))) e
+  where
+    go : (refusal : Option AddError) → made_unless refusal ≡ makes.Exists → with_directory refusal t (slashed (kept_last composes names)) ≡ t
+    go None e = absurd (cc e)
+    go (Some refusal) e = refl
+exists-stays composes t (missing names (piece ∷ rest)) e = refl
+exists-stays composes t nowhere e = refl
+exists-stays composes t endless e = refl
+
+-- a node that is no directory is in the way
+pub in-the-way : (unlinks composes : Bool) (t : Names) (path : List ℕ) (calls : ℕ) (kind : NodeKind) → (kind ≡ kinds.Directory → ⊥)
+    → unlinking unlinks composes t path calls ≡ colliding unlinks composes t path calls (Some kind)
+in-the-way unlinks composes t path calls kinds.File differs = refl
+in-the-way unlinks composes t path calls kinds.Symlink differs = refl
+in-the-way unlinks composes t path calls kinds.Directory differs = absurd (differs refl)
+in-the-way unlinks composes t path calls kinds.Untrackable differs = refl
+
+-- what an answer says where a call gave it
+pub given : {T E : Type 0} (P : T → Type 0) (result : Result T E) (answer : T) → result ≡ Ok answer → IfOk result P → P answer
+given P result answer is holds = subst (λ (r : Result _ _). IfOk r P) is holds
+
+-- an error that was handed on is the one that was met
+pub met-error : {T U E : Type 0} (met error : E) → IsErrOf {T = T} (Err met) error → IsErrOf {T = U} (Err met) error
+met-error met error is = ap Err (same is)
+  where
+    same : {T : Type 0} → IsErrOf {T = T} (Err met) error → met ≡ error
+    same e = cc e
+
+-- an answer is no error
+pub is-answer : {T E : Type 0} (answer : T) (error : E) → IsErrOf (Ok answer) error → ⊥
+is-answer answer error e = cc e
+
+-- what is done of a tree is what is done of an equal outcome
+pub outcome-same : (result : Result MakeAnswer ReadError) (a b : Prepared) (told : Option Names) (calls : ℕ) → a ≡ b → IfOk result (IsOutcome a told calls) → IfOk result (IsOutcome b told calls)
+outcome-same result a b told calls e was = subst (λ (p : Prepared). IfOk result (IsOutcome p told calls)) e was
+
+module _ {W : Type 0} (w : WorktreeOf W) (path : List ℕ) where
+  -- a directory is made behind a removal
+  pub prepares-removed : {w0 w1 w2 : W} {calls0 calls1 : ℕ} {result : Result MakeAnswer ReadError} → Changes w w0 w1
+      → ((t : Names) → w.told w0 ≡ Some t → w.told w1 ≡ Some (after_remove t (spot t path false)))
+      → Prepares w w1 w2 false path (λ t. making (w.precomposes w1) t path calls0) calls0 calls1 (calls0 + 1) result
+      → Prepares w w0 w2 true path (λ t. unlinking true (w.precomposes w0) t path calls0) calls0 calls1 (calls0 + 1) result
+  prepares-removed {w0} {w1} {w2} {calls0} {calls1} {result} first removed made = record {
+    done = λ t told. outcome-same result _ _ (w.told w2) calls1 (ap (λ b. making b (after_remove t (spot t path false)) path calls0) first.precomposes)
+        (made.done (after_remove t (spot t path false)) (removed t told));
+    there = λ t told keeps. IfOk-weaker result _ _ (λ answer there is. subst (λ b. LeadsToDirectory (making b (after_remove t (spot t path false)) path calls0).tree path) first.precomposes (there is))
+        (made.there (after_remove t (spot t path false)) (removed t told) (subst (λ b. KeepsName b path) (sym first.precomposes) keeps));
+    partly = λ t told. on_err_weaker result (left t) (made.partly (after_remove t (spot t path false)) (removed t told));
+    cause = λ is. rose-earlier (w.faults w0) (w.faults w1) (w.faults w2) first.faults (made.cause is);
+    calls = made.calls;
+    most_calls = made.most_calls;
+    changes = Changes-join w first made.changes;
+  }
+    where
+      left : (t : Names) → IsPartly false (after_remove t (spot t path false)) path (w.told w2) → IsPartly true t path (w.told w2)
+      left t partly = elim partly [
+        | inl is ↦ inr (refl, is)
+        | inr (never, is) ↦ absurd (cc never)
+      ]
+
+  -- a step behind others that left the tree as it was
+  pub prepares-behind : {w0 w1 w2 : W} {calls0 calls1 calls2 middle most : ℕ} {result : Result MakeAnswer ReadError} (unlinks : Bool) (outcome before : Names → Prepared) → Changes w w0 w1
+      → ((t : Names) → w.told w0 ≡ Some t → (w.told w1 ≡ Some t) × (outcome t ≡ before t)) → calls0 ≤ calls1 → middle ≤ most
+      → Prepares w w1 w2 unlinks path outcome calls1 calls2 middle result → Prepares w w0 w2 unlinks path before calls0 calls2 most result
+  prepares-behind {w0} {w1} {w2} {calls0} {calls1} {calls2} {middle} {most} {result} unlinks outcome before first same begun less next = record {
+    done = λ t told. outcome-same result _ _ (w.told w2) calls2 (same t told).1 (next.done t (same t told).0);
+    there = λ t told keeps. IfOk-weaker result _ _ (λ answer leads is. subst (λ (p : Prepared). LeadsToDirectory p.tree path) (same t told).1 (leads is))
+        (next.there t (same t told).0 (subst (λ b. KeepsName b path) (sym first.precomposes) keeps));
+    partly = λ t told. next.partly t (same t told).0;
+    cause = λ is. rose-earlier (w.faults w0) (w.faults w1) (w.faults w2) first.faults (next.cause is);
+    calls = omega (arith, begun, next.calls);
+    most_calls = omega (arith, less, next.most_calls);
+    changes = Changes-join w first next.changes;
+  }
+
+  -- a call that fails leaves what was, and where nothing may be removed no more is said of it
+  pub prepares-more : {w0 w1 : W} {calls0 calls1 most : ℕ} {result : Result MakeAnswer ReadError} (unlinks : Bool) (outcome : Names → Prepared)
+      → Prepares w w0 w1 false path outcome calls0 calls1 most result → Prepares w w0 w1 unlinks path outcome calls0 calls1 most result
+  prepares-more {w0} {w1} {calls0} {calls1} {most} {result} unlinks outcome made = record {
+    done = made.done;
+    there = made.there;
+    partly = λ t told. on_err_weaker result (λ (partly : IsPartly false t path (w.told w1)). elim partly [
+      | inl is ↦ inl is
+      | inr (never, is) ↦ absurd (cc never)
+    ]) (made.partly t told);
+    cause = made.cause;
+    calls = made.calls;
+    most_calls = made.most_calls;
+    changes = made.changes;
+  }
+
+  -- nothing is made, and the tree stays
+  pub prepares-nothing : {w0 w1 : W} (calls : ℕ) (answer : MakeAnswer) (unlinks : Bool) (outcome : Names → Prepared) → Changes w w0 w1 → w.told w1 ≡ w.told w0
+      → ((t : Names) → w.told w0 ≡ Some t → outcome t ≡ record { answer = answer; tree = t; calls = calls })
+      → ((t : Names) → w.told w0 ≡ Some t → answer ≡ makes.Made → LeadsToDirectory t path)
+      → Prepares w w0 w1 unlinks path outcome calls calls (calls + 1) (Ok answer)
+  prepares-nothing {w0} {w1} calls answer unlinks outcome changes told_is same leads = record {
+    done = λ t told.
+        let is : outcome t ≡ record { answer = answer; tree = t; calls = calls } = same t told in
+        record { answer_is = sym (ap (λ (p : Prepared). p.answer) is); tree_is = told_is ∙ told ∙ sym (ap (λ (p : Prepared). Some p.tree) is); calls_are = sym (ap (λ (p : Prepared). p.calls) is) };
+    there = λ t told keeps is. subst (λ (tree : Names). LeadsToDirectory tree path) (sym (ap (λ (p : Prepared). p.tree) (same t told))) (leads t told is);
+    partly = λ t told. tt;
+    cause = λ is. absurd (is-answer answer _ is);
+    calls = omega arith;
+    most_calls = omega arith;
+    changes = changes;
+  }
+
+  -- a directory that is to be there is refused
+  pub creates-refused : {w0 w1 : W} {calls0 calls1 : ℕ} {result : Result MakeAnswer ReadError} {unlinks : Bool} {outcome : Names → Prepared} (error : AtPathError)
+      → Prepares w w0 w1 unlinks path outcome calls0 calls1 (calls0 + 2) result
+      → NoDirectory w w0 w1 unlinks path calls0 calls1 error → Creates w w0 w1 unlinks path calls0 calls1 (Err error)
+  creates-refused error prepares refused = record {
+    made = λ t told. tt;
+    there = λ t told keeps. tt;
+    refused = refused;
+    calls = prepares.calls;
+    most_calls = prepares.most_calls;
+    changes = prepares.changes;
+  }

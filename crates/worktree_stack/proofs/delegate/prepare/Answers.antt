@@ -1,0 +1,24 @@
+use Rattle.std.proofs.Common.{◌∙◌, ◌≡◌, sym, ap, arith, Some, false}
+use Rattle.worktree_fs.specs.Answers.{kind_of}
+use Rattle.worktree_fs.specs.Tree.{look, spot}
+use Rattle.worktree_fs.specs.declared.answers.MakeAnswer.TheVariants as makes
+use Rattle.worktree_stack.specs.Checkout.{IsOutcome, making, colliding, by_answer}
+use Rattle.worktree_stack.proofs.Preparing.{prepares-behind, exists-stays}
+use Rattle.worktree_stack.proofs.delegate.prepare.Goals as goal
+
+pub returns-in-Exists : goal.returns-in-Exists
+returns-in-Exists g c =
+    let W = g.W.Worktree in
+    let a = c.args in
+    let made = c.in_ok-answer.ensures in
+    prepares-behind W a.path.now a.unlink_on_collision _ _ made.changes
+    (λ t told.
+    let p = making (W.precomposes a.worktree.now) t a.path.now a.mkdir_calls.now in
+    let is : IsOutcome p (W.told c.make_dir.new.worktree) c.make_dir.new.mkdir_calls c.in_ok-answer.answer = made.done t told in
+    let exists : makes.Exists ≡ p.answer = sym c.in-Exists.is ∙ is.answer_is in (
+      is.tree_is ∙ ap Some (exists-stays (W.precomposes a.worktree.now) t (spot t a.path.now false) (sym exists)),
+      ap (λ b. colliding a.unlink_on_collision b t a.path.now c.make_dir.new.mkdir_calls (kind_of (look t a.path.now false))) made.changes.precomposes
+          ∙ ap (λ n. colliding a.unlink_on_collision (W.precomposes a.worktree.now) t a.path.now n (kind_of (look t a.path.now false))) is.calls_are
+          ∙ ap (by_answer a.unlink_on_collision (W.precomposes a.worktree.now) t a.path.now p) exists,
+    ))
+    made.calls (omega (arith, made.most_calls)) c.collide.ensures

@@ -1,0 +1,36 @@
+use Rattle.std.proofs.Common.{◌∙◌, false, refl, inl, arith}
+use Rattle.std.proofs.lemmas.Result.{err_from_is_err_and}
+use Rattle.worktree_fs.specs.declared.answers.MakeAnswer.TheVariants as makes
+use Rattle.worktree_stack.proofs.Preparing.{prepares-removed, prepares-nothing, met-error}
+use Rattle.worktree_stack.proofs.delegate.unlink.Goals as goal
+
+pub returns-then-not-unlink_on_collision : goal.returns-then-not-unlink_on_collision
+returns-then-not-unlink_on_collision g c =
+    let a = c.args in
+    rw (c.if-not-unlink_on_collision.true)
+    (prepares-nothing g.W.Worktree a.path.now a.mkdir_calls.now makes.Exists false _
+    (record { untold = λ none. none; faults = omega arith; list_faults = refl; reads = refl; lists = refl; precomposes = refl })
+    refl (λ t told. refl) (λ t told is. absurd (cc is)))
+
+pub returns-in_err-remove_node : goal.returns-in_err-remove_node
+returns-in_err-remove_node g c =
+    let p = err_from_is_err_and c.from_residual.result c.from_residual.ensures.1 in
+    let now = c.in_err-remove_node.ensures in
+    rw (p.1, p.2)
+    (record {
+      done = λ t told. tt;
+      there = λ t told keeps. tt;
+      partly = λ t told. inl (now.kept ∙ told);
+      cause = λ is. now.cause (met-error _ _ is);
+      calls = omega arith;
+      most_calls = omega arith;
+      changes = record { untold = now.untold; faults = now.faults; list_faults = now.list_faults; reads = now.reads; lists = now.lists; precomposes = now.precomposes };
+    })
+
+pub returns : goal.returns
+returns g c =
+    let now = c.in_ok-remove_node.ensures in
+    rw (c.if-not-unlink_on_collision.false)
+    (prepares-removed g.W.Worktree c.args.path.now
+    (record { untold = now.untold; faults = now.faults; list_faults = now.list_faults; reads = now.reads; lists = now.lists; precomposes = now.precomposes })
+    now.removed c.make_dir.ensures)

@@ -1,0 +1,47 @@
+use Rattle.std.proofs.Common.{◌≡◌, ◌∙◌, ◌∷◌, [], ℕ, List, Option, Some, None, Result, Ok, Err, refl, sym, ap, subst, rules}
+use Rattle.std.specs.Prelude.{IsErrAnd}
+use Rattle.worktree_fs.specs.Paths.{spelled}
+use Rattle.worktree_stack.specs.declared.error.AtPathError.{AtPathError}
+use Rattle.worktree_stack.specs.declared.error.AtPathError.TheVariants as errors
+use Rattle.worktree_stack.specs.declared.statistics.Statistics.{Statistics}
+use Rattle.worktree_stack.specs.declared.statistics.RulesStatistics.{RulesStatistics}
+use Rattle.worktree_stack.specs.Placed.{Reads}
+use Rattle.worktree_stack.specs.Reading.{Place, Text, OneReading, RulesKind, of_attributes, of_ignore, text_of, places_by, ignore_readings, own_readings, info_readings, info_readings_if, info_places, ignore_places_of, attribute_places_of}
+use Rattle.worktree_stack.specs.Setup.{AttributesSetup, Setup, Made, attributes_setup_of, setup_of, mapped_to}
+use Rattle.worktree_stack.specs.Stacked.{Stacked, made_of}
+use Rattle.worktree_stack.specs.Stacked.{ignore_of}
+use Rattle.worktree_stack.proofs.InStep.{pushed_more}
+use Rattle.worktree_stack.proofs.Levels.{pushed-level}
+use Rattle.worktree_stack.proofs.Readings.{reads-unread, reads-lost}
+use Rattle.worktree_stack.proofs.Pushing.{the-ignore}
+use Rattle.worktree_stack.proofs.stack.Stack.push_ignore.Goals as goal
+
+pub returns-in_err-matched-clause-reads : goal.returns-in_err-matched-clause-reads
+returns-in_err-matched-clause-reads g c =
+    let made : Made = made_of c.args.self.now in
+    let d : List ℕ = spelled c.args.self.now.current in
+    let the = the-ignore made d made.ignore refl (search rules) in
+    let memory : IsErrAnd c.from_residual.result (λ x. x ≡ errors.OutOfMemory) = search rules in
+    reads-unread g.W.Worktree g.F.Find c.args.worktree.now c.args.objects.now (ignore_readings made made.ignore d) [] the.0 c.args.self.now.statistics _ c.from_residual.result memory the.1 (search rules)
+
+pub returns-in_err-push_directory-clause-reads : goal.returns-in_err-push_directory-clause-reads
+returns-in_err-push_directory-clause-reads g c =
+    let W = g.W.Worktree in
+    let F = g.F.Find in
+    let made : Made = made_of c.args.self.now in
+    let d : List ℕ = spelled c.args.self.now.current in
+    let the = the-ignore made d made.ignore refl (search rules) in
+    let memory : IsErrAnd c.from_residual-in_err-push_directory.result (λ x. x ≡ errors.OutOfMemory) = search rules in
+    let counted : c.self-2.inside.statistics ≡ c.read_rules.new.self.statistics = search rules in
+    subst (λ (x : Statistics). Reads W F c.args.worktree.now c.read_rules.new.worktree c.args.objects.now c.read_rules.new.objects (ignore_readings made made.ignore d) c.args.self.now.statistics x c.from_residual-in_err-push_directory.result) (sym counted)
+    (reads-lost W F c.args.worktree.now c.read_rules.new.worktree c.args.objects.now c.read_rules.new.objects (ignore_readings made made.ignore d) the.0 c.args.self.now.statistics c.read_rules.new.self.statistics c.in_ok-list.list
+    c.from_residual-in_err-push_directory.result the.1 memory c.in_ok-list.ensures.reads)
+
+pub returns-clause-rules : goal.returns-clause-rules
+returns-clause-rules g c s tells =
+    pushed_more s c.args.self.now (ignore_of c.push_directory.new.self) c.current_relative-directory.result.now c.in_ok-list.list c.in_ok-matched.matched
+    (search rules) (c.in_ok-list.ensures.rules s tells) (search rules) (search rules)
+
+pub returns-clause-levels : goal.returns-clause-levels
+returns-clause-levels g c =
+    pushed-level c.args.self.now.ignore (ignore_of c.push_directory.new.self) c.args.self.now.current c.in_ok-list.list c.in_ok-matched.matched (search rules)

@@ -1,0 +1,68 @@
+use Rattle.std.proofs.Common.{◌≡◌, ◌∙◌, ◌∷◌, [], ℕ, List, Option, Some, None, Result, Ok, Err, refl, sym, ap, subst, rules}
+use Rattle.std.specs.Prelude.{IsErrAnd}
+use Rattle.worktree_fs.specs.Paths.{spelled}
+use Rattle.worktree_stack.specs.declared.error.AtPathError.{AtPathError}
+use Rattle.worktree_stack.specs.declared.error.AtPathError.TheVariants as errors
+use Rattle.worktree_stack.specs.declared.statistics.Statistics.{Statistics}
+use Rattle.worktree_stack.specs.declared.statistics.RulesStatistics.{RulesStatistics}
+use Rattle.worktree_stack.specs.Placed.{Reads}
+use Rattle.worktree_stack.specs.Reading.{Place, Text, OneReading, RulesKind, of_attributes, of_ignore, text_of, places_by, ignore_readings, own_readings, info_readings, info_readings_if, info_places, ignore_places_of, attribute_places_of}
+use Rattle.worktree_stack.specs.Setup.{AttributesSetup, Setup, Made, attributes_name, attributes_setup_of, setup_of, mapped_to}
+use Rattle.worktree_stack.specs.Stacked.{Stacked, made_of}
+use Rattle.worktree_stack.proofs.Readings.{reads-unread, reads-lost, only-attributes}
+use Rattle.worktree_stack.proofs.Pushing.{info-some, empty-nil, reads-as, reads-done, reads-placed}
+use Rattle.worktree_stack.proofs.stack.Stack.push_info.Goals as goal
+
+pub returns-in_err-source-clause-reads : goal.returns-in_err-source-clause-reads
+returns-in_err-source-clause-reads g c =
+    let W = g.W.Worktree in
+    let F = g.F.Find in
+    let made : Made = made_of c.args.self.now in
+    let setup : AttributesSetup = c.in-Some.attributes.now.setup in
+    let held_is : c.args.self.now.attributes ≡ Some c.in-Some.attributes.now = search rules in
+    let setup_is : made.attributes ≡ Some setup = ap attributes_setup_of held_is in
+    let d : List ℕ = spelled c.args.self.now.current in
+    let s0 : Statistics = c.args.self.now.statistics in
+    let s : Statistics = c.self.inside.statistics in
+    let same : s ≡ s0 = search rules in
+    let path : List ℕ = c.as_bytes-path.result.now in
+    let info_is : setup.info ≡ Some path = search rules in
+    let root : d ≡ [] = empty-nil d (search rules) in
+    let readings : List OneReading = info_readings_if made.attributes d in
+    let readings_are : readings ≡ record { kind = of_attributes; places = info_places path } ∷ [] = info-some setup d path made.attributes setup_is info_is root in
+    let s1 : Statistics = record s { attributes = c.read_text.new.statistics } in
+    let all : Reads W F c.args.worktree.now c.read_text.new.worktree c.args.objects.now c.read_text.new.objects readings s0 s1 c.read_text.result =
+    reads-placed W F c.args.worktree.now c.read_text.new.worktree c.args.objects.now c.read_text.new.objects of_attributes (info_places path) (info_places path) readings s0 s s1
+    (λ source. text_of source c.read_text.new.buffer) c.read_text.result (only-attributes s s1 refl) same refl readings_are
+    c.read_text.ensures.text c.read_text.ensures.refused c.read_text.ensures.counted c.read_text.ensures.tried c.read_text.ensures.untouched c.read_text.ensures.store_untouched c.read_text.ensures.leaves c.read_text.ensures.leaves_store c.read_text.ensures.reads in
+    let e : AtPathError = c.in_err-source.field-0.0 in
+    let said : IsErrAnd c.from_residual.result (λ x. x ≡ e) = search rules in
+    reads-as W F c.args.worktree.now c.read_text.new.worktree c.args.objects.now c.read_text.new.objects readings s0 s1 c.read_text.result e c.from_residual.result c.in_err-source.was said all
+
+pub returns-in_err-push_text-clause-reads : goal.returns-in_err-push_text-clause-reads
+returns-in_err-push_text-clause-reads g c =
+    let W = g.W.Worktree in
+    let F = g.F.Find in
+    let made : Made = made_of c.args.self.now in
+    let setup : AttributesSetup = c.in-Some.attributes.now.setup in
+    let held_is : c.args.self.now.attributes ≡ Some c.in-Some.attributes.now = search rules in
+    let setup_is : made.attributes ≡ Some setup = ap attributes_setup_of held_is in
+    let d : List ℕ = spelled c.args.self.now.current in
+    let s0 : Statistics = c.args.self.now.statistics in
+    let s : Statistics = c.self.inside.statistics in
+    let same : s ≡ s0 = search rules in
+    let path : List ℕ = c.as_bytes-path.result.now in
+    let info_is : setup.info ≡ Some path = search rules in
+    let root : d ≡ [] = empty-nil d (search rules) in
+    let readings : List OneReading = info_readings_if made.attributes d in
+    let readings_are : readings ≡ record { kind = of_attributes; places = info_places path } ∷ [] = info-some setup d path made.attributes setup_is info_is root in
+    let s1 : Statistics = record s { attributes = c.read_text.new.statistics } in
+    let all : Reads W F c.args.worktree.now c.read_text.new.worktree c.args.objects.now c.read_text.new.objects readings s0 s1 c.read_text.result =
+    reads-placed W F c.args.worktree.now c.read_text.new.worktree c.args.objects.now c.read_text.new.objects of_attributes (info_places path) (info_places path) readings s0 s s1
+    (λ source. text_of source c.read_text.new.buffer) c.read_text.result (only-attributes s s1 refl) same refl readings_are
+    c.read_text.ensures.text c.read_text.ensures.refused c.read_text.ensures.counted c.read_text.ensures.tried c.read_text.ensures.untouched c.read_text.ensures.store_untouched c.read_text.ensures.leaves c.read_text.ensures.leaves_store c.read_text.ensures.reads in
+    let memory : IsErrAnd c.from_residual-in_err-push_text.result (λ x. x ≡ errors.OutOfMemory) = search rules in
+    let v : Option (List ℕ) = c.in_ok-source.source in
+    reads-lost W F c.args.worktree.now c.read_text.new.worktree c.args.objects.now c.read_text.new.objects readings (record { kind = of_attributes; places = info_places path }) s0 s1 v
+    c.from_residual-in_err-push_text.result readings_are memory
+    (subst (λ (r : Result (Option (List ℕ)) AtPathError). Reads W F c.args.worktree.now c.read_text.new.worktree c.args.objects.now c.read_text.new.objects readings s0 s1 r) c.in_ok-source.was all)

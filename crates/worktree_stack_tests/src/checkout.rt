@@ -1,0 +1,160 @@
+//! Components that may be checked out, and directories that are made on the way to them.
+use bstr::ByteSlice;
+use gitbase_core::OutOfMemory;
+use std::alloc::Global;
+use worktree_fs::{AddError, CallKind, MemoryWorktree, NewNode, NodeKind, Worktree};
+use worktree_stack::delegate::create_leading_directory;
+use worktree_stack::validate::{ComponentError, Options, component};
+use worktree_stack::{AtPathError, DirectoryWhy};
+
+/// Names, whether each is to be a link (`l`), whether names are refused that mean more on Windows (`w`), and what is answered.
+const NAMES: &[u8] = b"\
+`-`-`empty\n\
+a/b`-`-`slash\n\
+/`-`w`slash\n\
+.`-`-`dots\n\
+..`l`-`dots\n\
+...`-`-`ok\n\
+.git`-`-`dot git\n\
+.GIT`l`w`dot git\n\
+.gitx`-`-`ok\n\
+.gitModules`l`-`modules link\n\
+.gitModules`-`-`ok\n\
+a:b`-`w`windows\n\
+a:b`-`-`ok\n\
+a\\b`-`w`windows\n\
+a\\b`l`-`ok\n";
+
+/// What stands at `/w/a` (`f` a file, `l` a link to a directory, `o` another node, `d` a directory), whether it may be removed (`u`), the
+/// call that fails with its number, the path, and what is answered: a word, how often a directory was asked for, and the node there.
+const PATHS: &[u8] = b"\
+-`-`-`/w/a`made`1`d\n\
+d`-`-`/w/a`made`1`d\n\
+d`u`-`/w/a`made`1`d\n\
+f`-`-`/w/a`collision`1`f\n\
+f`u`-`/w/a`made`2`d\n\
+l`-`-`/w/a`collision`1`l\n\
+l`u`-`/w/a`made`2`d\n\
+o`-`-`/w/a`collision`1`o\n\
+o`u`-`/w/a`made`2`d\n\
+-`u`-`/w/x/a`no parent`1`-\n\
+f`u`-`/w/a/b`no parent`1`-\n\
+-`-`m1`/w/a`fault`1`-\n\
+f`u`m2`/w/a`fault`2`-\n\
+f`u`r1`/w/a`fault`1`f\n\
+f`-`k1`/w/a`fault`1`f\n";
+
+/// The first field of a row, and those behind it.
+fn parted(row: &[u8]) -> (&[u8], &[u8]) {
+    row.split_once_str(b"`").unwrap_or((row, b""))
+}
+
+fn component_word(answer: Result<(), ComponentError>) -> &'static [u8] {
+    match answer {
+        Ok(()) => b"ok",
+        Err(ComponentError::Empty) => b"empty",
+        Err(ComponentError::Slash) => b"slash",
+        Err(ComponentError::Dots) => b"dots",
+        Err(ComponentError::DotGit) => b"dot git",
+        Err(ComponentError::ModulesLink) => b"modules link",
+        Err(ComponentError::Windows) => b"windows",
+    }
+}
+
+fn is_answered(row: &[u8]) -> bool {
+    let (name, rest) = parted(row);
+    let (link, rest) = parted(rest);
+    let (windows, want) = parted(rest);
+    let protect_windows = windows == b"w".as_slice();
+    component_word(component(name, link == b"l".as_slice(), Options { protect_windows })) == want
+}
+
+#[test]
+fn components(rt: HostRuntime) {
+    for row in NAMES.lines() {
+        assert!(rt; is_answered(row), "{row:?}");
+    }
+}
+
+/// The tree of a row: what stands at `/w/a`, and a directory `/w/d`.
+fn tree_of(alloc: Global, node: &[u8]) -> Result<MemoryWorktree, AddError> {
+    let mut tree = MemoryWorktree::new(alloc, false);
+    tree.add(alloc, b"/w", NewNode::Directory)?;
+    tree.add(alloc, b"/w/d", NewNode::Directory)?;
+    match node {
+        b"f" => tree.add(alloc, b"/w/a", NewNode::File(b"x"))?,
+        b"l" => tree.add(alloc, b"/w/a", NewNode::Link(b"d"))?,
+        b"o" => tree.add(alloc, b"/w/a", NewNode::Other)?,
+        b"d" => tree.add(alloc, b"/w/a", NewNode::Directory)?,
+        _ => (),
+    }
+    Ok(tree)
+}
+
+/// Lets a call fail, where one is named.
+fn plan(alloc: Global, tree: &mut MemoryWorktree, call: &[u8]) -> Result<(), OutOfMemory> {
+    match call {
+        b"m1" => tree.fail(alloc, CallKind::MakeDir, 1),
+        b"m2" => tree.fail(alloc, CallKind::MakeDir, 2),
+        b"r1" => tree.fail(alloc, CallKind::RemoveNode, 1),
+        b"k1" => tree.fail(alloc, CallKind::Kind, 1),
+        _ => Ok(()),
+    }
+}
+
+/// The word of an answer, where a refusal names the path.
+fn answer_word(answer: &Result<(), AtPathError>, path: &[u8]) -> &'static [u8] {
+    match answer {
+        Ok(()) => b"made",
+        Err(AtPathError::Collision { path: at }) if at.as_bytes() == path => b"collision",
+        Err(AtPathError::Directory { path: at, why }) if at.as_bytes() == path => match why {
+            DirectoryWhy::NoParent => b"no parent",
+            DirectoryWhy::Fault => b"fault",
+        },
+        Err(_) => b"another",
+    }
+}
+
+fn kind_word(kind: Option<NodeKind>) -> &'static [u8] {
+    match kind {
+        Some(NodeKind::File) => b"f",
+        Some(NodeKind::Symlink) => b"l",
+        Some(NodeKind::Directory) => b"d",
+        Some(NodeKind::Untrackable) => b"o",
+        None => b"-",
+    }
+}
+
+fn is_made(alloc: Global, row: &[u8]) -> bool {
+    let (node, rest) = parted(row);
+    let (unlinks, rest) = parted(rest);
+    let (call, rest) = parted(rest);
+    let (path, rest) = parted(rest);
+    let (want, rest) = parted(rest);
+    let (count, kind) = parted(rest);
+    let Ok(mut tree) = tree_of(alloc, node) else {
+        return false;
+    };
+    if plan(alloc, &mut tree, call).is_err() {
+        return false;
+    }
+    let mut calls = 0;
+    let answer = create_leading_directory(
+        alloc,
+        path,
+        unlinks == b"u".as_slice(),
+        &mut tree,
+        &mut calls,
+    );
+    let after = tree.kind(alloc, path).unwrap_or(None);
+    answer_word(&answer, path) == want
+        && crate::steps::is_digit(calls, count)
+        && kind_word(after) == kind
+}
+
+#[test]
+fn directories(rt: HostRuntime) {
+    for row in PATHS.lines() {
+        assert!(rt; is_made(rt.alloc(), row), "{row:?}");
+    }
+}
