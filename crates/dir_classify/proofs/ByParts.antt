@@ -1,5 +1,5 @@
 -- The cases of a class, by the parts that they are made of.
-use Rattle.std.proofs.Common.{◌≡◌, ◌∙◌, ap, sym, subst, ℕ, List, Bool, true, false, Option, None, refl}
+use Rattle.std.proofs.Common.{◌≡◌, ◌≤◌, ◌∙◌, ap, sym, subst, ℕ, List, Bool, true, false, Option, None, refl}
 use Rattle.std.specs.Prelude.{if◌then◌else◌, is_none}
 use Rattle.gitbase_core.specs.Path.{joined}
 use Rattle.glob_rules.specs.declared.ignore.Kind.{Kind as IgnoredAs}
@@ -14,7 +14,7 @@ use Rattle.dir_classify.specs.declared.index.InIndex.{InIndex}
 use Rattle.dir_classify.specs.Chosen.{Chosen}
 use Rattle.dir_classify.specs.Class.{dot_git, match_of, class_in_index, class_indexed, indexed_kind, class_seen, class_ignored, ignored_kind, class_free, class_directory, class_other, class_by_rules, upgraded}
 use Rattle.dir_classify.specs.Evidence.{Evidence, GitAt}
-use Rattle.dir_classify.specs.Faults.{IsJudged, IsSeenAs, read_as}
+use Rattle.dir_classify.specs.Faults.{FailedAt, IsJudged, IsSeenAs, at_read, none_failed, read_as}
 use Rattle.dir_classify.specs.Kinds.{holds_names}
 use Rattle.dir_classify.specs.Layers.{Setting, evidence, git_at, indexed_as}
 use Rattle.dir_classify.proofs.Upgrades.{judged-by, judged-unread}
@@ -40,8 +40,17 @@ module _ (given : Setting) (made : Option Made) (s : Sources) (path full : List 
   unfolding evidence
   in_index_is = entry_is
 
-  seen : (see : GitAt → GitAt → Option Kind) (k : Option Kind) → IsSeenAs see at below k → IsSeenAs see ((evidence given made s).repository_at path) ((evidence given made s).repository_in path) k
-  seen see k is = subst (λ (b : GitAt). IsSeenAs see ((evidence given made s).repository_at path) b k) below_is (subst (λ (a : GitAt). IsSeenAs see a below k) at_is is)
+  seen : (n0 n1 : ℕ) (see : GitAt → GitAt → Option Kind) (k : Option Kind) → IsSeenAs n0 n1 see at below k
+      → IsSeenAs n0 n1 see ((evidence given made s).repository_at path) ((evidence given made s).repository_in path) k
+  seen n0 n1 see k is =
+      subst (λ (b : GitAt). IsSeenAs n0 n1 see ((evidence given made s).repository_at path) b k) below_is (subst (λ (a : GitAt). IsSeenAs n0 n1 see a below k) at_is is)
+
+  -- what was read of where the path leads
+  abbrev at_as : FailedAt → GitAt
+  at_as failed = at_read failed ((evidence given made s).repository_at path)
+
+  abbrev below_as : FailedAt → GitAt
+  below_as failed = at_read failed ((evidence given made s).repository_in path)
 
   -- a kind that was seen without a fault
   pub exactly : (see : GitAt → GitAt → Option Kind) (k : Option Kind) → k ≡ see at below → k ≡ see ((evidence given made s).repository_at path) ((evidence given made s).repository_in path)
@@ -56,11 +65,11 @@ module _ (given : Setting) (made : Option Made) (s : Sources) (path full : List 
       ap (λ (x : Option Kind). class_in_index entry x found) (exactly (indexed_kind given.options entry kind) k k_is)
       ∙ parts (λ e f. class_in_index e (indexed_kind given.options e kind ((evidence given made s).repository_at path) ((evidence given made s).repository_in path)) f)
 
-  pub indexed-judged : (on_disk k : Option Kind) → IsSeenAs (indexed_kind given.options entry kind) at below k
-      → IsJudged (λ _ ev. class_indexed given.options ev path kind) (evidence given made s) path on_disk (class_in_index entry k found)
-  indexed-judged on_disk k is =
-      judged-by (indexed_kind given.options entry kind) (λ x. class_in_index entry x found) (λ _ ev. class_indexed given.options ev path kind) (evidence given made s) path on_disk
-      (λ a b. parts (λ e f. class_in_index e (indexed_kind given.options e kind a b) f)) k (seen (indexed_kind given.options entry kind) k is)
+  pub indexed-judged : (n0 n1 : ℕ) (on_disk k : Option Kind) → IsSeenAs n0 n1 (indexed_kind given.options entry kind) at below k
+      → IsJudged n0 n1 (λ _ ev. class_indexed given.options ev path kind) (evidence given made s) on_disk (class_in_index entry k found)
+  indexed-judged n0 n1 on_disk k is =
+      judged-by n0 n1 (indexed_kind given.options entry kind) (λ x. class_in_index entry x found) (λ _ ev. class_indexed given.options ev path kind) (evidence given made s) path on_disk
+      (λ a b. parts (λ e f. class_in_index e (indexed_kind given.options e kind (at_as a) (below_as b)) f)) k (seen n0 n1 (indexed_kind given.options entry kind) k is)
 
   pub ignored-class : (excluded : IgnoredAs) (k : Option Kind) → k ≡ ignored_kind given.options kind at below
       → class_seen given.options path excluded entry found k ≡ class_ignored given.options (evidence given made s) path kind excluded
@@ -68,11 +77,11 @@ module _ (given : Setting) (made : Option Made) (s : Sources) (path full : List 
       ap (λ (x : Option Kind). class_seen given.options path excluded entry found x) (exactly (ignored_kind given.options kind) k k_is)
       ∙ parts (λ e f. class_seen given.options path excluded e f (ignored_kind given.options kind ((evidence given made s).repository_at path) ((evidence given made s).repository_in path)))
 
-  pub ignored-judged : (excluded : IgnoredAs) (on_disk k : Option Kind) → IsSeenAs (ignored_kind given.options kind) at below k
-      → IsJudged (λ _ ev. class_ignored given.options ev path kind excluded) (evidence given made s) path on_disk (class_seen given.options path excluded entry found k)
-  ignored-judged excluded on_disk k is =
-      judged-by (ignored_kind given.options kind) (λ x. class_seen given.options path excluded entry found x) (λ _ ev. class_ignored given.options ev path kind excluded) (evidence given made s) path on_disk
-      (λ a b. parts (λ e f. class_seen given.options path excluded e f (ignored_kind given.options kind a b))) k (seen (ignored_kind given.options kind) k is)
+  pub ignored-judged : (n0 n1 : ℕ) (excluded : IgnoredAs) (on_disk k : Option Kind) → IsSeenAs n0 n1 (ignored_kind given.options kind) at below k
+      → IsJudged n0 n1 (λ _ ev. class_ignored given.options ev path kind excluded) (evidence given made s) on_disk (class_seen given.options path excluded entry found k)
+  ignored-judged n0 n1 excluded on_disk k is =
+      judged-by n0 n1 (ignored_kind given.options kind) (λ x. class_seen given.options path excluded entry found x) (λ _ ev. class_ignored given.options ev path kind excluded) (evidence given made s) path on_disk
+      (λ a b. parts (λ e f. class_seen given.options path excluded e f (ignored_kind given.options kind (at_as a) (below_as b)))) k (seen n0 n1 (ignored_kind given.options kind) k is)
 
   abbrev looked : GitAt → GitAt → Option Kind
   looked = upgraded given.options.recurse_repositories given.options.classify_untracked_bare_repositories kind
@@ -82,11 +91,11 @@ module _ (given : Setting) (made : Option Made) (s : Sources) (path full : List 
       ap (λ (x : Option Kind). class_free Untracked entry x found) (exactly looked k k_is)
       ∙ parts (λ e f. class_free Untracked e (looked ((evidence given made s).repository_at path) ((evidence given made s).repository_in path)) f)
 
-  pub directory-judged : (on_disk k : Option Kind) → IsSeenAs looked at below k
-      → IsJudged (λ _ ev. class_directory given.options ev path kind) (evidence given made s) path on_disk (class_free Untracked entry k found)
-  directory-judged on_disk k is =
-      judged-by looked (λ x. class_free Untracked entry x found) (λ _ ev. class_directory given.options ev path kind) (evidence given made s) path on_disk
-      (λ a b. parts (λ e f. class_free Untracked e (looked a b) f)) k (seen looked k is)
+  pub directory-judged : (n0 n1 : ℕ) (on_disk k : Option Kind) → IsSeenAs n0 n1 looked at below k
+      → IsJudged n0 n1 (λ _ ev. class_directory given.options ev path kind) (evidence given made s) on_disk (class_free Untracked entry k found)
+  directory-judged n0 n1 on_disk k is =
+      judged-by n0 n1 looked (λ x. class_free Untracked entry x found) (λ _ ev. class_directory given.options ev path kind) (evidence given made s) path on_disk
+      (λ a b. parts (λ e f. class_free Untracked e (looked (at_as a) (below_as b)) f)) k (seen n0 n1 looked k is)
 
   -- anything but a directory, with evidence that says the same of the index and of the path specs
   other-by : (ev : Evidence) → holds_names kind ≡ false
@@ -100,12 +109,11 @@ module _ (given : Setting) (made : Option Made) (s : Sources) (path full : List 
   pub other-class : holds_names kind ≡ false → class_free (if is_none found then Pruned else Untracked) entry kind found ≡ class_by_rules given.options (evidence given made s) path kind None
   other-class none = parts (λ e f. class_free (if is_none f then Pruned else Untracked) e kind f) ∙ other-by (evidence given made s) none
 
-  pub other-judged : holds_names kind ≡ false → (on_disk : Option Kind)
-      → IsJudged (λ _ ev. class_by_rules given.options ev path kind None) (evidence given made s) path on_disk (class_free (if is_none found then Pruned else Untracked) entry kind found)
-  other-judged none on_disk =
-      judged-unread (λ _ ev. class_by_rules given.options ev path kind None) (evidence given made s) path on_disk (class_free (if is_none found then Pruned else Untracked) entry kind found)
-      (parts (λ e f. class_free (if is_none f then Pruned else Untracked) e kind f)
-      ∙ other-by (read_as (evidence given made s) ((evidence given made s).followed path) ((evidence given made s).repository_at path) ((evidence given made s).repository_in path)) none)
+  pub other-judged : (n0 n1 : ℕ) → n0 ≤ n1 → holds_names kind ≡ false → (on_disk : Option Kind)
+      → IsJudged n0 n1 (λ _ ev. class_by_rules given.options ev path kind None) (evidence given made s) on_disk (class_free (if is_none found then Pruned else Untracked) entry kind found)
+  other-judged n0 n1 more none on_disk =
+      judged-unread n0 n1 (λ _ ev. class_by_rules given.options ev path kind None) (evidence given made s) on_disk (class_free (if is_none found then Pruned else Untracked) entry kind found) more
+      (parts (λ e f. class_free (if is_none f then Pruned else Untracked) e kind f) ∙ other-by (read_as none_failed (evidence given made s)) none)
 
 -- a directory that no rule excludes
 pub directory-by-rules : (o : Chosen) (ev : Evidence) (path : List ℕ) (kind : Option Kind) → holds_names kind ≡ true → class_directory o ev path kind ≡ class_by_rules o ev path kind None

@@ -18,13 +18,13 @@ use Rattle.dir_classify.specs.Class.{asks, asks_nothing, class, class_unmatched,
 use Rattle.dir_classify.specs.Classes.{Judges}
 use Rattle.dir_classify.specs.Evidence.{Evidence}
 use Rattle.dir_classify.specs.Excludes.{made_with, TellsIf}
-use Rattle.dir_classify.specs.Faults.{IsJudged, IsReadKind, read_as}
+use Rattle.dir_classify.specs.Faults.{AreCounted, IsJudged, kind_read, none_failed, one_if, read_as}
 use Rattle.dir_classify.specs.Kinds.{first_of_kinds, is_dir}
 use Rattle.dir_classify.specs.Layers.{Setting, evidence, indexed_as, kind_at, on_disk}
 use Rattle.dir_classify.proofs.Fitting.{asks-dot_git, can_match-of, dot_git-case, in_index-of, kind-asks, kind-case, nothing-dot_git, nothing-kind, unmatched-asks, unmatched-case}
-use Rattle.dir_classify.proofs.Keeping.{asks-rules, asks-same, asks-then, at-most-later, increased-later, quiet-first, quiet-second, tells-then, unasked-later}
+use Rattle.dir_classify.proofs.Keeping.{asks-same, asks-then, at-most-later, increased-later, quiet-first, quiet-second, tells-then, unasked-later}
 use Rattle.dir_classify.proofs.Refusals.{OnAccess-weaker, OnFault-weaker}
-use Rattle.dir_classify.proofs.Upgrades.{judged-as, judged-kind, judged-unread}
+use Rattle.dir_classify.proofs.Upgrades.{judged-as, judged-kind, judged-unread, rose-or}
 
 -- ---- the rules were not asked
 
@@ -32,7 +32,7 @@ pub unruled : {W F : Type 0} (w : WorktreeOf W) (f : FindOf F) (w0 w1 : W) (o0 :
     (judge : Option Kind → Evidence → Outcome) (asks : Option Kind → Evidence → Bool) (nothing : Evidence → Bool) (ask_disk : Bool) (c : Outcome)
     → Asks w w0 w1 → (given.options.recurse_repositories ≡ true → w.reads w1 ≡ w.reads w0)
     → ((s : Sources) → w.told w0 ≡ Some s.tree → NotIncreased (w.faults w0) (w.faults w1) → c ≡ judge (on_disk given s.tree path ask_disk) (evidence given (made_with old) s))
-    → ((s : Sources) → w.told w0 ≡ Some s.tree → IsJudged judge (evidence given (made_with old) s) path (on_disk given s.tree path ask_disk) c)
+    → ((s : Sources) → w.told w0 ≡ Some s.tree → IsJudged (w.faults w0) (w.faults w1) judge (evidence given (made_with old) s) (on_disk given s.tree path ask_disk) c)
     → ((s : Sources) → asks (on_disk given s.tree path ask_disk) (evidence given (made_with old) s) ≡ false)
     → ((s : Sources) → nothing (evidence given (made_with old) s) ≡ true → w1 ≡ w0)
     → Judges w f w0 w1 o0 o0 old old given path judge asks nothing ask_disk (Ok c)
@@ -46,8 +46,9 @@ unruled w f w0 w1 o0 old given path judge asks nothing ask_disk c kept reads is 
       refused = λ s tells. tt;
       asked = λ s told quiet. tt;
       cause = tt;
-      keeps = asks-rules w w0 w1 kept;
+      keeps = kept;
       store = record { holds = refl; faults = omega arith };
+      unmapped = λ none. refl;
       rules = record { made = refl; in_step = λ s tells step. step };
       reads = inl (record { same = refl; store = refl; reads = reads });
       spared = λ s never. record { same = refl; store = refl; reads = reads };
@@ -68,8 +69,9 @@ module _ {W F : Type 0} (w : WorktreeOf W) (f : FindOf F) (w0 w1 : W) (o0 o1 : F
             ap (λ b. b && (evidence given (made_with old) s).is_unread path) (sym (asks-dot_git given.options (evidence given (made_with old) s) path known (on_disk given s.tree path ask_disk) is))
             ∙ j.read s tells step quiet;
         swallowed = λ s tells step.
-            judged-as (λ _ ev. class_dot_git given.options ev path known (dot_git_ruling given.options ev path known)) (λ k ev. class given.options ev path known k)
-            (evidence given (made_with old) s) path (on_disk given s.tree path ask_disk) c (λ k read. dot_git-case given.options read path known k is) (j.swallowed s tells step);
+            judged-as (w.faults w0) (w.faults w1) (λ _ ev. class_dot_git given.options ev path known (dot_git_ruling given.options ev path known)) (λ k ev. class given.options ev path known k)
+            (evidence given (made_with old) s) (on_disk given s.tree path ask_disk) c
+            (λ k failed. dot_git-case given.options (read_as failed (evidence given (made_with old) s)) path known k is) (j.swallowed s tells step);
         unruled = λ s told quiet no.
             j.unruled s told quiet (asks-dot_git given.options (evidence given (made_with old) s) path known (on_disk given s.tree path ask_disk) is ∙ no)
             ∙ dot_git-case given.options (evidence given (made_with old) s) path known (on_disk given s.tree path ask_disk) is;
@@ -79,6 +81,7 @@ module _ {W F : Type 0} (w : WorktreeOf W) (f : FindOf F) (w0 w1 : W) (o0 o1 : F
         cause = tt;
         keeps = j.keeps;
         store = j.store;
+        unmapped = j.unmapped;
         rules = j.rules;
         reads = j.reads;
         spared = λ s never. j.spared s (λ k. asks-dot_git given.options (evidence given (made_with old) s) path known (if ask_disk then k else None) is ∙ never k);
@@ -107,6 +110,7 @@ module _ {W F : Type 0} (w : WorktreeOf W) (f : FindOf F) (w0 w1 : W) (o0 o1 : F
         cause = j.cause;
         keeps = j.keeps;
         store = j.store;
+        unmapped = j.unmapped;
         rules = j.rules;
         reads = j.reads;
         spared = λ s never. j.spared s (λ k. asks-dot_git given.options (evidence given (made_with old) s) path known (if ask_disk then k else None) is ∙ never k);
@@ -125,8 +129,8 @@ at-unmatched w f w0 o0 old given path known ask_disk c none cannot is =
     (λ s told quiet. let ev = evidence given (made_with old) s in
     is ∙ unmatched-case given.options ev path known (on_disk given s.tree path ask_disk) none (can_match-of given (made_with old) s path (is_dir known) ∙ cannot))
     (λ s told. let ev = evidence given (made_with old) s in
-    judged-unread (λ k read. class given.options read path known k) ev path (on_disk given s.tree path ask_disk) c
-    (is ∙ unmatched-case given.options (read_as ev (ev.followed path) (ev.repository_at path) (ev.repository_in path)) path known (on_disk given s.tree path ask_disk) none
+    judged-unread (w.faults w0) (w.faults w0) (λ k read. class given.options read path known k) ev (on_disk given s.tree path ask_disk) c (omega arith)
+    (is ∙ unmatched-case given.options (read_as none_failed ev) path known (on_disk given s.tree path ask_disk) none
     (can_match-of given (made_with old) s path (is_dir known) ∙ cannot)))
     (λ s. unmatched-asks given.options (evidence given (made_with old) s) path known (on_disk given s.tree path ask_disk) none (can_match-of given (made_with old) s path (is_dir known) ∙ cannot))
     (λ s no. refl)
@@ -188,22 +192,32 @@ module _ {W F : Type 0} (w : WorktreeOf W) (f : FindOf F) (w0 w1 w2 : W) (o0 o1 
   tells-now : (s : Sources) → TellsIf (w.told w0) (f.holds o0) (made_with old) s → TellsIf (w.told w1) (f.holds o0) (made_with old) s
   tells-now s tells = tells-then (w.told w0) (w.told w1) (f.holds o0) (made_with old) s first.tree tells
 
-  judged-at : (s : Sources) (k : Option Kind) → IsReadKind (seen s.tree) k → kind ≡ settled_kind (evidence given (made_with old) s) path known k
-      → IsJudged (λ _ ev. class_of_kind given.options ev path kind) (evidence given (made_with old) s) path (seen s.tree) c
-      → IsJudged (λ d ev. class given.options ev path known d) (evidence given (made_with old) s) path (seen s.tree) c
-  judged-at s k read is judged =
-      judged-kind (λ _ ev. class_of_kind given.options ev path kind) (λ d ev. class given.options ev path known d) (evidence given (made_with old) s) path (seen s.tree) (seen s.tree) k c read
-      (λ d g a b. ap (λ (x : Option Kind). class_of_kind given.options (read_as (evidence given (made_with old) s) g a b) path x) is
-      ∙ kind-case given.options (read_as (evidence given (made_with old) s) g a b) path known k none (can-of s)) judged
+  judged-at : (s : Sources) (failed : Bool) → AreCounted (w.faults w0) (w.faults w1) (one_if failed) → kind ≡ settled_kind (evidence given (made_with old) s) path known (kind_read failed (seen s.tree))
+      → IsJudged (w.faults w1) (w.faults w2) (λ _ ev. class_of_kind given.options ev path kind) (evidence given (made_with old) s) (seen s.tree) c
+      → IsJudged (w.faults w0) (w.faults w2) (λ d ev. class given.options ev path known d) (evidence given (made_with old) s) (seen s.tree) c
+  judged-at s failed counted is judged =
+      judged-kind (w.faults w0) (w.faults w1) (w.faults w2) (λ _ ev. class_of_kind given.options ev path kind) (λ d ev. class given.options ev path known d) (evidence given (made_with old) s) (seen s.tree)
+      (seen s.tree) failed c counted
+      (λ f. ap (λ (x : Option Kind). class_of_kind given.options (read_as f (evidence given (made_with old) s)) path x) is
+      ∙ kind-case given.options (read_as f (evidence given (made_with old) s)) path known (kind_read failed (seen s.tree)) none (can-of s)) judged
 
-  judged-read : (s : Sources) → ((kind ≡ first_of_kinds entry.up_to_date (first_of_kinds known (if ask_disk then kind_at s.tree full false else None)))
-      ⊎ (kind ≡ first_of_kinds entry.up_to_date (first_of_kinds known None)))
-      → IsJudged (λ _ ev. class_of_kind given.options ev path kind) (evidence given (made_with old) s) path (seen s.tree) c
-      → IsJudged (λ d ev. class given.options ev path known d) (evidence given (made_with old) s) path (seen s.tree) c
-  judged-read s (inl is) judged =
-      judged-at s (seen s.tree) (inl refl)
-      (settled s kind (seen s.tree) (is ∙ ap (λ (d : Option Kind). first_of_kinds entry.up_to_date (first_of_kinds known d)) (disk_is s.tree))) judged
-  judged-read s (inr is) judged = judged-at s None (inr refl) (settled s kind None is) judged
+  judged-read : (s : Sources) → w.told w0 ≡ Some s.tree
+      → IsJudged (w.faults w1) (w.faults w2) (λ _ ev. class_of_kind given.options ev path kind) (evidence given (made_with old) s) (seen s.tree) c
+      → IsJudged (w.faults w0) (w.faults w2) (λ d ev. class given.options ev path known d) (evidence given (made_with old) s) (seen s.tree) c
+  judged-read s told judged = go (swallowed s.tree told) (rose-or (w.faults w0) (w.faults w1))
+    where
+      exactly : kind ≡ first_of_kinds entry.up_to_date (first_of_kinds known (if ask_disk then kind_at s.tree full false else None))
+          → IsJudged (w.faults w0) (w.faults w2) (λ d ev. class given.options ev path known d) (evidence given (made_with old) s) (seen s.tree) c
+      exactly is =
+          judged-at s false (let more = first.faults in omega (arith, more))
+          (settled s kind (seen s.tree) (is ∙ ap (λ (d : Option Kind). first_of_kinds entry.up_to_date (first_of_kinds known d)) (disk_is s.tree))) judged
+
+      go : ((kind ≡ first_of_kinds entry.up_to_date (first_of_kinds known (if ask_disk then kind_at s.tree full false else None)))
+          ⊎ (kind ≡ first_of_kinds entry.up_to_date (first_of_kinds known None))) → NotIncreased (w.faults w0) (w.faults w1) ⊎ Increased (w.faults w0) (w.faults w1)
+          → IsJudged (w.faults w0) (w.faults w2) (λ d ev. class given.options ev path known d) (evidence given (made_with old) s) (seen s.tree) c
+      go (inl is) said = exactly is
+      go (inr is) (inl quiet) = exactly (exact s.tree told quiet)
+      go (inr is) (inr rose) = judged-at s true rose (settled s kind None is) judged
 
   -- told or not, it is settled by some kind
   seen-as : (seen_kind : Option Kind) × (kind ≡ first_of_kinds entry.up_to_date (first_of_kinds known (if ask_disk then seen_kind else None)))
@@ -220,7 +234,7 @@ module _ {W F : Type 0} (w : WorktreeOf W) (f : FindOf F) (w0 w1 w2 : W) (o0 o1 
             ap (λ b. b && ev.is_unread path)
             (sym (ap (λ (x : Option Kind). asks_of_kind given.options ev path x) (exactly-settled s tells.tree_is quiet) ∙ kind-asks given.options ev path known (seen s.tree) none (can-of s)))
             ∙ later.read s (tells-now s tells) step (quiet-second _ _ _ first.faults later.keeps.faults quiet);
-        swallowed = λ s tells step. judged-read s (swallowed s.tree tells.tree_is) (later.swallowed s (tells-now s tells) step);
+        swallowed = λ s tells step. judged-read s tells.tree_is (later.swallowed s (tells-now s tells) step);
         unruled = λ s told quiet no. let ev = evidence given (made_with old) s in
             later.unruled s (first.tree ∙ told) (quiet-second _ _ _ first.faults later.keeps.faults quiet)
             (ap (λ (x : Option Kind). asks_of_kind given.options ev path x) (exactly-settled s told quiet) ∙ kind-asks given.options ev path known (seen s.tree) none (can-of s) ∙ no)
@@ -230,8 +244,9 @@ module _ {W F : Type 0} (w : WorktreeOf W) (f : FindOf F) (w0 w1 w2 : W) (o0 o1 
         refused = λ s tells. tt;
         asked = λ s told quiet. tt;
         cause = tt;
-        keeps = asks-then w w0 w1 w2 (asks-rules w w0 w1 first) later.keeps;
+        keeps = asks-then w w0 w1 w2 first later.keeps;
         store = later.store;
+        unmapped = later.unmapped;
         rules = record { made = later.rules.made; in_step = λ s tells step. later.rules.in_step s (tells-now s tells) step };
         reads = at-most-later given.options.recurse_repositories path (w.reads w0) (w.reads w1) (w.reads w2) o0 o1 old new (Ok c) unread later.reads;
         spared = λ s never. let ev = evidence given (made_with old) s in
@@ -282,8 +297,9 @@ at-kind-refused w f w0 w1 w2 o0 o1 old new given path full known ask_disk entry 
       cause =
           OnFault-weaker (Increased (w.faults w1) (w.faults w2)) (Increased (f.faults o0) (f.faults o1)) (Increased (w.faults w0) (w.faults w2)) (Increased (f.faults o0) (f.faults o1)) e
           (increased-later (w.faults w0) (w.faults w1) (w.faults w2) first.faults) (λ x. x) later.cause;
-      keeps = asks-then w w0 w1 w2 (asks-rules w w0 w1 first) later.keeps;
+      keeps = asks-then w w0 w1 w2 first later.keeps;
       store = later.store;
+      unmapped = later.unmapped;
       rules = record { made = later.rules.made; in_step = λ s tells step. later.rules.in_step s (tells-then (w.told w0) (w.told w1) (f.holds o0) (made_with old) s first.tree tells) step };
       reads = at-most-later given.options.recurse_repositories path (w.reads w0) (w.reads w1) (w.reads w2) o0 o1 old new (Err e) unread later.reads;
       spared = λ s never. let ev = evidence given (made_with old) s in

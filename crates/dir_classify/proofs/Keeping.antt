@@ -1,19 +1,17 @@
 -- What stays, and what was asked, when steps follow one another.
-use Rattle.std.proofs.Common.{◌≡◌, ◌≤◌, ◌∙◌, ℕ, List, true, Bool, Option, Ok, Err, refl, inl, inr, arith}
-use Rattle.std.specs.Prelude.{Result}
+use Rattle.std.proofs.Common.{◌≡◌, ◌≤◌, ◌∙◌, ap, ℕ, List, [], ◌∷◌, true, false, Bool, Option, Some, Ok, Err, refl, inl, inr, arith}
+use Rattle.std.specs.Prelude.{not, Result}
 use Rattle.gitbase_core.specs.Objects.{Objects}
 use Rattle.worktree_fs.specs.Causes.{Increased, NotIncreased}
 use Rattle.worktree_fs.specs.Kept.{Asks}
+use Rattle.worktree_fs.specs.Paths.{is_nil}
 use Rattle.worktree_fs.specs.Tree.{Names}
 use Rattle.worktree_fs.specs.declared.worktree.Worktree.{Ghosts as WorktreeOf}
 use Rattle.worktree_stack.specs.Reading.{Sources}
-use Rattle.worktree_stack.specs.Setup.{Made}
+use Rattle.worktree_stack.specs.Setup.{Made, Mapping}
 use Rattle.worktree_stack.specs.Stacked.{Stacked}
-use Rattle.dir_classify.specs.Excludes.{TellsIf}
+use Rattle.dir_classify.specs.Excludes.{made_with, maps_blobs, TellsIf}
 use Rattle.dir_classify.specs.Kept.{AsksRules, AsksAtMost, Unasked}
-
-pub asks-rules : {W : Type 0} (w : WorktreeOf W) (w0 w1 : W) → Asks w w0 w1 → AsksRules w w0 w1
-asks-rules w w0 w1 asks = record { tree = asks.tree; faults = asks.faults; list_faults = asks.list_faults; lists = asks.lists; precomposes = asks.precomposes }
 
 pub asks-same : {W : Type 0} (w : WorktreeOf W) (w0 : W) → Asks w w0 w0
 asks-same w w0 = record { tree = refl; faults = omega arith; list_faults = refl; reads = omega arith; lists = refl; precomposes = refl }
@@ -24,6 +22,7 @@ asks-then w w0 w1 w2 a b =
       tree = b.tree ∙ a.tree;
       faults = omega (arith, a.faults, b.faults);
       list_faults = b.list_faults ∙ a.list_faults;
+      reads = omega (arith, a.reads, b.reads);
       lists = b.lists ∙ a.lists;
       precomposes = b.precomposes ∙ a.precomposes;
     }
@@ -43,6 +42,18 @@ tells-then told0 told1 holds made s same tells = record { tree_is = same ∙ tel
 pub increased-later : (n0 n1 n2 : ℕ) → n0 ≤ n1 → Increased n1 n2 → Increased n0 n2
 increased-later n0 n1 n2 a more = omega (arith, a, more)
 
+-- no rules file is mapped to a blob, then the store is not asked
+pub nothing-mapped : (made : Made) → maps_blobs (Some made) ≡ false → made.mappings ≡ []
+nothing-mapped made none = go made.mappings none
+  where
+    go : (mappings : List Mapping) → not (is_nil mappings) ≡ false → mappings ≡ []
+    go [] e = refl
+    go (m ∷ rest) e = absurd (cc e)
+
+pub unmapped-then : {F : Type 0} {o0 o1 o2 : F} (old now : Option Stacked) → made_with now ≡ made_with old
+    → (maps_blobs (made_with old) ≡ false → o1 ≡ o0) → (maps_blobs (made_with now) ≡ false → o2 ≡ o1) → maps_blobs (made_with old) ≡ false → o2 ≡ o0
+unmapped-then old now same a b none = b (ap (λ (m : Option Made). maps_blobs m) same ∙ none) ∙ a none
+
 -- ---- about which path the rules were asked
 
 pub unasked-later : {F : Type 0} (recurses : Bool) (r0 r1 r2 : ℕ) (o0 o1 : F) (old new : Option Stacked) → r1 ≡ r0 → Unasked recurses r1 r2 o0 o1 old new → Unasked recurses r0 r2 o0 o1 old new
@@ -53,14 +64,14 @@ pub at-most : {F T U E : Type 0} (recurses : Bool) (path : List ℕ) (r0 r1 r2 :
     → AsksAtMost {T = T} {E = E} true path r0 r1 o0 o1 old new (Ok t) → AsksAtMost {T = U} {E = E} recurses path r0 r2 o0 o1 old new (Ok u)
 at-most recurses path r0 r1 r2 o0 o1 old new t u same (inl asked) = inl (record { same = asked.same; store = asked.store; reads = λ on. same on ∙ asked.reads refl })
 at-most recurses path r0 r1 r2 o0 o1 old new t u same (inr asked) =
-    inr (record { given = asked.given; looked_up = asked.looked_up; on_way = asked.on_way; leaves = asked.leaves; reads = λ on. let r = same on in let most = asked.reads refl in omega (arith, r, most) })
+    inr (record { given = asked.given; looked_up = asked.looked_up; on_way = asked.on_way; leaves = asked.leaves; reads = λ on alone. let r = same on in let most = asked.reads refl alone in omega (arith, r, most) })
 
 -- they were, and a later step was refused
 pub at-most-stopped : {F T U E : Type 0} (recurses : Bool) (path : List ℕ) (r0 r1 r2 : ℕ) (o0 o1 : F) (old new : Option Stacked) (t : T) (e : E) → (recurses ≡ true → r2 ≡ r1)
     → AsksAtMost {T = T} {E = E} true path r0 r1 o0 o1 old new (Ok t) → AsksAtMost {T = U} {E = E} recurses path r0 r2 o0 o1 old new (Err e)
 at-most-stopped recurses path r0 r1 r2 o0 o1 old new t e same (inl asked) = inl (record { same = asked.same; store = asked.store; reads = λ on. same on ∙ asked.reads refl })
 at-most-stopped recurses path r0 r1 r2 o0 o1 old new t e same (inr asked) =
-    inr (record { given = asked.given; looked_up = tt; on_way = asked.on_way; leaves = asked.leaves; reads = λ on. let r = same on in let most = asked.reads refl in omega (arith, r, most) })
+    inr (record { given = asked.given; looked_up = tt; on_way = asked.on_way; leaves = asked.leaves; reads = λ on alone. let r = same on in let most = asked.reads refl alone in omega (arith, r, most) })
 
 -- they were asked and refused
 pub at-most-refused : {F T U E : Type 0} (recurses : Bool) (path : List ℕ) (r0 r1 : ℕ) (o0 o1 : F) (old new : Option Stacked) (e : E)
@@ -73,4 +84,4 @@ pub at-most-later : {F T E : Type 0} (recurses : Bool) (path : List ℕ) (r0 r1 
     → AsksAtMost recurses path r1 r2 o0 o1 old new result → AsksAtMost recurses path r0 r2 o0 o1 old new result
 at-most-later recurses path r0 r1 r2 o0 o1 old new result same (inl asked) = inl (unasked-later recurses r0 r1 r2 o0 o1 old new same asked)
 at-most-later recurses path r0 r1 r2 o0 o1 old new result same (inr asked) =
-    inr (record { given = asked.given; looked_up = asked.looked_up; on_way = asked.on_way; leaves = asked.leaves; reads = λ on. let most = asked.reads on in omega (arith, same, most) })
+    inr (record { given = asked.given; looked_up = asked.looked_up; on_way = asked.on_way; leaves = asked.leaves; reads = λ on alone. let most = asked.reads on alone in omega (arith, same, most) })

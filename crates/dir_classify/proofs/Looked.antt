@@ -1,6 +1,5 @@
 -- What a stack says of the path that it stands at.
-use Rattle.std.proofs.Common.{◌≡◌, ℕ, List, [], ◌++◌, append_assoc, inl, inr, Bool, true, false, not, Option, Some, None, refl, sym, ap, ◌∙◌}
-use Rattle.std.specs.Prelude.{is_some}
+use Rattle.std.proofs.Common.{◌≡◌, ℕ, List, [], ◌++◌, append_assoc, inl, inr, Bool, true, false, not, Option, Some, refl, sym, ap, ◌∙◌}
 use Rattle.std.specs.List.{list_all}
 use Rattle.gitbase_core.specs.Objects.{Objects}
 use Rattle.gitbase_core.specs.Path.{components}
@@ -8,10 +7,10 @@ use Rattle.glob_rules.specs.declared.ignore.Kind.{Kind as IgnoredAs}
 use Rattle.glob_rules.specs.declared.ignore.Origin.{Origin}
 use Rattle.worktree_fs.specs.Tree.{Names}
 use Rattle.worktree_fs.specs.Paths.{spelled, fronts, without_last}
-use Rattle.worktree_stack.specs.Setup.{Made, Held, setup_of, has_excludes, excluded_kind}
+use Rattle.worktree_stack.specs.Setup.{Made, has_excludes, excluded_kind}
 use Rattle.worktree_stack.specs.Excludes.{exclude, rule_of, origin_of}
 use Rattle.worktree_stack.specs.Reading.{Sources, Tells, reading, is_read, rulebook}
-use Rattle.worktree_stack.specs.Stacked.{Stacked, made_of, pushed, HoldsFor, IsInStep}
+use Rattle.worktree_stack.specs.Stacked.{Stacked, made_of, pushed, IsInStep}
 use Rattle.worktree_fs.specs.PathStack.{Call, lookup_calls}
 use Rattle.std.proofs.lemmas.List.{append-nil}
 use Rattle.worktree_stack.specs.declared.error.AtPathError.{AtPathError}
@@ -43,18 +42,12 @@ ruling-looked sources made s path is_dir kind origin made_is dir_is kind_is orig
     ∙ ap (λ (m : Made). ruling_by (exclude (rulebook m sources) (components path) s.is_dir)) made_is
     ∙ ap (λ (d : Option Bool). ruling_by (exclude (rulebook made sources) (components path) d)) dir_is
 
--- a stack in step, with an exclude state, has read the rules of all directories that are pushed
-read-all : (s : Sources) (made : Made) (directories : List (List (List ℕ))) (held : Option Held) → is_some (setup_of held) ≡ true → HoldsFor made s directories held
-    → list_all (λ directory. is_read (reading made s (spelled directory))) directories ≡ true
-read-all s made directories None some holds = absurd (cc some)
-read-all s made directories (Some held) some holds = holds.are_read
-
 -- the rules of all directories above it were read
 pub read-looked : (sources : Sources) (made : Made) (s : Stacked) (path : List ℕ) → has_excludes made ≡ true → made_of s ≡ made → IsInStep sources s → IsLookedUp s (components path) → is_unread_in (Some made) sources path ≡ false
 unfolding is_unread_in
 read-looked sources made s path some made_is step at =
     let read : Made → List (List (List ℕ)) → Bool = λ m directories. list_all (λ directory. is_read (reading m sources (spelled directory))) directories in
-    let now : read (made_of s) (pushed s.at) ≡ true = read-all sources (made_of s) (pushed s.at) s.ignore (ap has_excludes made_is ∙ some) step in
+    let now : read (made_of s) (pushed s.at) ≡ true = step.are_read in
     let all : read (made_of s) (fronts (without_last (components path))) ≡ true = ap (λ (a : Option (List (List ℕ))). read (made_of s) (pushed a)) (sym at.at) ∙ now in
     ap (λ (m : Made). not (read m (fronts (without_last (components path))))) (sym made_is) ∙ ap not all
 

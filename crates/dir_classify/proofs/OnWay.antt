@@ -1,5 +1,5 @@
 -- The class of a path on the way to a traversal root, whose kind is asked first.
-use Rattle.std.proofs.Common.{◌≡◌, ◌≤◌, ◌∙◌, ap, sym, ℕ, List, Bool, true, false, Option, Some, None, Ok, Err, inl, inr}
+use Rattle.std.proofs.Common.{◌≡◌, ◌≤◌, ◌∙◌, ap, sym, ℕ, List, Bool, true, false, Option, Some, None, Ok, Err, refl, inl, inr, arith}
 use Rattle.std.specs.Prelude.{◌⊎◌, ◌&&◌}
 use Rattle.gitbase_core.specs.declared.find.Find.{Ghosts as FindOf}
 use Rattle.worktree_fs.specs.Causes.{Increased, NotIncreased}
@@ -16,14 +16,16 @@ use Rattle.dir_classify.specs.Class.{class, asks}
 use Rattle.dir_classify.specs.Classes.{Judges}
 use Rattle.dir_classify.specs.Evidence.{Evidence}
 use Rattle.dir_classify.specs.Excludes.{made_with, TellsIf}
-use Rattle.dir_classify.specs.Faults.{IsJudged, IsReadKind, read_as}
+use Rattle.dir_classify.specs.Faults.{AreCounted, IsJudged, kind_read, one_if, read_as}
 use Rattle.dir_classify.specs.Layers.{Setting, evidence, kind_at, on_disk}
-use Rattle.dir_classify.proofs.Keeping.{asks-rules, asks-then, at-most-later, increased-later, quiet-first, quiet-second, tells-then, unasked-later}
+use Rattle.dir_classify.proofs.Keeping.{asks-then, at-most-later, increased-later, quiet-first, quiet-second, tells-then, unasked-later}
 use Rattle.dir_classify.proofs.Refusals.{OnAccess-weaker, OnFault-weaker}
+use Rattle.dir_classify.proofs.Upgrades.{judged-kind, rose-or}
 
-none-read : (k : Option Kind) → IsReadKind None k → k ≡ None
-none-read k (inl e) = e
-none-read k (inr e) = e
+-- nothing reads as nothing
+none-read : (failed : Bool) → kind_read failed None ≡ None
+none-read true = refl
+none-read false = refl
 
 module _ {W F : Type 0} (w : WorktreeOf W) (f : FindOf F) (w0 w1 w2 : W) (o0 o1 : F) (old new : Option Stacked) (given : Setting) (path full : List ℕ) (kind : Option Kind)
     (full_is : full ≡ full_path given.root path) (first : Asks w w0 w1) (unread : w.reads w1 ≡ w.reads w0)
@@ -41,26 +43,26 @@ module _ {W F : Type 0} (w : WorktreeOf W) (f : FindOf F) (w0 w1 w2 : W) (o0 o1 
   disk_is : (t : Names) → kind_at t full false ≡ on_disk given t path true
   disk_is t = ap (λ (p : List ℕ). kind_at t p false) full_is
 
-  read-kind : (t : Names) → (kind ≡ kind_at t full false) ⊎ (kind ≡ None) → IsReadKind (on_disk given t path true) kind
-  read-kind t (inl is) = inl (is ∙ disk_is t)
-  read-kind t (inr is) = inr is
+  judged-at : (s : Sources) (failed : Bool) (c : Outcome) → AreCounted (w.faults w0) (w.faults w1) (one_if failed) → kind ≡ kind_read failed (on_disk given s.tree path true)
+      → IsJudged (w.faults w1) (w.faults w2) known (evidence given (made_with old) s) None c
+      → IsJudged (w.faults w0) (w.faults w2) first_asked (evidence given (made_with old) s) (on_disk given s.tree path true) c
+  judged-at s failed c counted is judged =
+      judged-kind (w.faults w0) (w.faults w1) (w.faults w2) known first_asked (evidence given (made_with old) s) None (on_disk given s.tree path true) failed c counted
+      (λ f. ap (λ (d : Option Kind). class given.options (read_as f (evidence given (made_with old) s)) path kind d) (none-read f.kind)
+      ∙ ap (λ (k : Option Kind). class given.options (read_as f (evidence given (made_with old) s)) path k None) is) judged
 
-  judged-way : (s : Sources) (c : Outcome) → w.told w0 ≡ Some s.tree → IsJudged known (evidence given (made_with old) s) path None c
-      → IsJudged first_asked (evidence given (made_with old) s) path (on_disk given s.tree path true) c
-  judged-way s c told judged =
-      record {
-        kind = kind;
-        followed = judged.followed;
-        at = judged.at;
-        below = judged.below;
-        kind_is = read-kind s.tree (swallowed s.tree told);
-        followed_is = judged.followed_is;
-        at_is = judged.at_is;
-        below_is = judged.below_is;
-        class_is =
-            judged.class_is
-            ∙ ap (λ (d : Option Kind). class given.options (read_as (evidence given (made_with old) s) judged.followed judged.at judged.below) path kind d) (none-read judged.kind judged.kind_is);
-      }
+  judged-way : (s : Sources) (c : Outcome) → w.told w0 ≡ Some s.tree → IsJudged (w.faults w1) (w.faults w2) known (evidence given (made_with old) s) None c
+      → IsJudged (w.faults w0) (w.faults w2) first_asked (evidence given (made_with old) s) (on_disk given s.tree path true) c
+  judged-way s c told judged = go (swallowed s.tree told) (rose-or (w.faults w0) (w.faults w1))
+    where
+      exact_kind : kind ≡ kind_at s.tree full false → IsJudged (w.faults w0) (w.faults w2) first_asked (evidence given (made_with old) s) (on_disk given s.tree path true) c
+      exact_kind is = judged-at s false c (let more = first.faults in omega (arith, more)) (is ∙ disk_is s.tree) judged
+
+      go : (kind ≡ kind_at s.tree full false) ⊎ (kind ≡ None) → NotIncreased (w.faults w0) (w.faults w1) ⊎ Increased (w.faults w0) (w.faults w1)
+          → IsJudged (w.faults w0) (w.faults w2) first_asked (evidence given (made_with old) s) (on_disk given s.tree path true) c
+      go (inl is) said = exact_kind is
+      go (inr is) (inl quiet) = exact_kind (exact s.tree told quiet)
+      go (inr is) (inr rose) = judged-at s true c rose is judged
 
   exactly : (s : Sources) → w.told w0 ≡ Some s.tree → NotIncreased (w.faults w0) (w.faults w1) → kind ≡ on_disk given s.tree path true
   exactly s told quiet = exact s.tree told quiet ∙ disk_is s.tree
@@ -91,8 +93,9 @@ module _ {W F : Type 0} (w : WorktreeOf W) (f : FindOf F) (w0 w1 w2 : W) (o0 o1 
         refused = λ s tells. tt;
         asked = λ s told quiet. tt;
         cause = tt;
-        keeps = asks-then w w0 w1 w2 (asks-rules w w0 w1 first) later.keeps;
+        keeps = asks-then w w0 w1 w2 first later.keeps;
         store = later.store;
+        unmapped = later.unmapped;
         rules = record { made = later.rules.made; in_step = λ s tells step. later.rules.in_step s (tells-now s tells) step };
         reads = at-most-later given.options.recurse_repositories path (w.reads w0) (w.reads w1) (w.reads w2) o0 o1 old new (Ok c) unread later.reads;
         spared = λ s never. unasked-later given.options.recurse_repositories (w.reads w0) (w.reads w1) (w.reads w2) o0 o1 old new unread (later.spared s (λ k. never kind));
@@ -120,8 +123,9 @@ module _ {W F : Type 0} (w : WorktreeOf W) (f : FindOf F) (w0 w1 w2 : W) (o0 o1 
         cause =
             OnFault-weaker (Increased (w.faults w1) (w.faults w2)) (Increased (f.faults o0) (f.faults o1)) (Increased (w.faults w0) (w.faults w2)) (Increased (f.faults o0) (f.faults o1)) e
             (increased-later (w.faults w0) (w.faults w1) (w.faults w2) first.faults) (λ x. x) later.cause;
-        keeps = asks-then w w0 w1 w2 (asks-rules w w0 w1 first) later.keeps;
+        keeps = asks-then w w0 w1 w2 first later.keeps;
         store = later.store;
+        unmapped = later.unmapped;
         rules = record { made = later.rules.made; in_step = λ s tells step. later.rules.in_step s (tells-now s tells) step };
         reads = at-most-later given.options.recurse_repositories path (w.reads w0) (w.reads w1) (w.reads w2) o0 o1 old new (Err e) unread later.reads;
         spared = λ s never. unasked-later given.options.recurse_repositories (w.reads w0) (w.reads w1) (w.reads w2) o0 o1 old new unread (later.spared s (λ k. never kind));

@@ -19,7 +19,7 @@ use Rattle.worktree_stack.specs.Setup.{Made}
 use Rattle.worktree_stack.specs.Stacked.{Stacked}
 use Rattle.dir_classify.specs.declared.classify.Outcome.{Outcome}
 use Rattle.dir_classify.specs.declared.classify.RootOutcome.{RootOutcome}
-use Rattle.dir_classify.specs.Excludes.{made_with, TellsIf, InStepIf}
+use Rattle.dir_classify.specs.Excludes.{made_with, maps_blobs, TellsIf, InStepIf}
 use Rattle.dir_classify.specs.Kept.{AsksRules, KeepsRules, Unasked}
 use Rattle.dir_classify.specs.Layers.{Setting, evidence, is_unread_in, on_disk}
 use Rattle.dir_classify.specs.declared.error.Error.{Error}
@@ -29,7 +29,7 @@ use Rattle.dir_classify.specs.Classes.{Judges}
 use Rattle.dir_classify.specs.Refused.{IsAbout, Refuses, OnAccess}
 use Rattle.dir_classify.specs.Rooted.{AsksOnWay, LeadsTo, Reaches, reached_by, way_to}
 use Rattle.dir_classify.proofs.NormalPaths.{normal-front}
-use Rattle.dir_classify.proofs.Keeping.{asks-then, increased-later, quiet-first, quiet-second}
+use Rattle.dir_classify.proofs.Keeping.{asks-then, increased-later, quiet-first, quiet-second, unmapped-then}
 use Rattle.dir_classify.proofs.Refusals.{OnAccess-both, OnFault-weaker, unread-refused}
 use Rattle.dir_classify.proofs.WayUnread.{either-unread, quiet-not, unread-onward, unread-step, unread-way, yes-no}
 use Rattle.dir_classify.proofs.WayAsked.{leads-further, nothing-more, way-answered, way-asked, way-refused, way-root, way-stopped}
@@ -44,6 +44,7 @@ pub record IsOnward {W F : Type 0} (w : WorktreeOf W) (f : FindOf F) (w0 w1 : W)
     (root path : List ℕ) (class : Outcome) (in_repository : Bool) (rest : List ℕ) : Type 0 where
   pub keeps : AsksRules w w0 w1
   pub store : AsksStore f o0 o1
+  pub unmapped : maps_blobs (made_with old) ≡ false → o1 ≡ o0
   pub rules : KeepsRules w f w0 w1 o0 old new
   pub spelled_is : path ≡ spelled (components path)
   pub split : components root ≡ components path ++ components rest
@@ -52,9 +53,9 @@ pub record IsOnward {W F : Type 0} (w : WorktreeOf W) (f : FindOf F) (w0 w1 : W)
       ≡ way_to given (made_with old) s root
   pub top : components root ≡ [] → (s : Sources) → w.told w0 ≡ Some s.tree → NotIncreased (w.faults w0) (w.faults w1)
       → reached_so path class in_repository true ≡ reached_root given.options (evidence given (made_with old) s) (λ p. on_disk given s.tree p true)
-  pub ends : (s : Sources) → TellsIf (w.told w0) (f.holds o0) (made_with old) s → InStepIf s old → (r : Reached)
-      → EndsAt given.options (evidence given (made_with old) s) (λ p. on_disk given s.tree p true) path class in_repository (components rest) r
-      → IsReached given.options (evidence given (made_with old) s) (λ p. on_disk given s.tree p true) (components root) r
+  pub ends : (s : Sources) → TellsIf (w.told w0) (f.holds o0) (made_with old) s → InStepIf s old → (now : ℕ) (r : Reached)
+      → EndsAt (w.faults w1) now given.options (evidence given (made_with old) s) (λ p. on_disk given s.tree p true) path class in_repository (components rest) r
+      → IsReached (w.faults w0) now given.options (evidence given (made_with old) s) (λ p. on_disk given s.tree p true) (components root) r
   pub reads : AsksOnWay {T = Unit {0}} {E = Error} given.options.recurse_repositories path (w.reads w0) (w.reads w1) o0 o1 old new (Ok tt)
   pub spared : (s : Sources) → ((p : List ℕ) → LeadsTo path p → (kind : Option Kind) → asks_of given.options (evidence given (made_with old) s) p kind None ≡ false)
       → Unasked given.options.recurse_repositories (w.reads w0) (w.reads w1) o0 o1 old new
@@ -88,10 +89,11 @@ way-init given made s root c in_repository c_is read in_is =
     ∙ ap (λ (b : Bool). go (record (reached_so [] (way_class given.options ev at []) (is_repository (way_class given.options ev at []).disk_kind) true) { is_unread = b })) (sym read)
 
 -- by what was read
-pub ends-init : (o : Chosen) (ev : Evidence) (kinds : List ℕ → Option Kind) (names : List (List ℕ)) (path : List ℕ) (c : Outcome) (in_repository : Bool) (r : Reached)
-    → path ≡ [] → in_repository ≡ is_repository c.disk_kind → IsClassOnWay o ev kinds [] c → EndsAt o ev kinds path c in_repository names r → IsReached o ev kinds names r
-ends-init o ev kinds names path c in_repository r path_is in_is judged end =
-    (c, judged, subst (λ (b : Bool). EndsAt o ev kinds [] c b names r) in_is (subst (λ (p : List ℕ). EndsAt o ev kinds p c in_repository names r) path_is end))
+pub ends-init : (before then_ now : ℕ) (o : Chosen) (ev : Evidence) (kinds : List ℕ → Option Kind) (names : List (List ℕ)) (path : List ℕ) (c : Outcome) (in_repository : Bool) (r : Reached)
+    → path ≡ [] → in_repository ≡ is_repository c.disk_kind → IsClassOnWay before then_ o ev kinds [] c → EndsAt then_ now o ev kinds path c in_repository names r
+    → IsReached before now o ev kinds names r
+ends-init before then_ now o ev kinds names path c in_repository r path_is in_is judged end =
+    (c, then_, judged, subst (λ (b : Bool). EndsAt then_ now o ev kinds [] c b names r) in_is (subst (λ (p : List ℕ). EndsAt then_ now o ev kinds p c in_repository names r) path_is end))
 
 -- the rules are not asked of the worktree root
 pub no-dot_git : (ignore_case : Bool) → is_dot_git ignore_case [] ≡ false
@@ -230,6 +232,7 @@ module _ {W F : Type 0} (w : WorktreeOf W) (f : FindOf F) (w0 w1 w2 : W) (o0 o1 
         record {
           keeps = asks-then w w0 w1 w2 at.keeps step.keeps;
           store = record { holds = step.store.holds ∙ at.store.holds; faults = omega (arith, at.store.faults, step.store.faults) };
+          unmapped = unmapped-then old now at.rules.made at.unmapped step.unmapped;
           rules = record {
             made = step.rules.made ∙ at.rules.made;
             in_step = λ s tells stepped. step.rules.in_step s (tells-here s tells) (at.rules.in_step s tells stepped);
@@ -248,17 +251,17 @@ module _ {W F : Type 0} (w : WorktreeOf W) (f : FindOf F) (w0 w1 w2 : W) (o0 o1 
               ∙ ap (λ (l : List (List ℕ)). onward given.options ev kinds (reached_so path c in_repository true) l) (sym rest_is)
               ∙ at.leads s tells stepped (quiet-first (w.faults w0) (w.faults w1) (w.faults w2) at.keeps.faults step.keeps.faults quiet);
           top = λ is s told quiet. absurd (nothing-more (components path) (components left) name (sym is ∙ at.split ∙ ap (λ (l : List (List ℕ)). components path ++ l) rest_is));
-          ends = λ s tells stepped r end.
+          ends = λ s tells stepped now_faults r end.
               let kinds = λ (p : List ℕ). on_disk given s.tree p true in
-              let judged = subst (λ (m : Option Made). IsClassOnWay given.options (evidence given m s) kinds (joined path name) next) at.rules.made
+              let judged = subst (λ (m : Option Made). IsClassOnWay (w.faults w1) (w.faults w2) given.options (evidence given m s) kinds (joined path name) next) at.rules.made
               (step.swallowed s (tells-here s tells) (at.rules.in_step s tells stepped)) in
-              at.ends s tells stepped r
-              (subst (λ (l : List (List ℕ)). EndsAt given.options (evidence given (made_with old) s) kinds path c in_repository l r) (sym rest_is)
-              ((λ yes. (next, judged, end), λ no. absurd (yes-no (goes_on given.options path c in_repository) goes no))));
+              at.ends s tells stepped now_faults r
+              (subst (λ (l : List (List ℕ)). EndsAt (w.faults w1) now_faults given.options (evidence given (made_with old) s) kinds path c in_repository l r) (sym rest_is)
+              ((λ yes. (next, w.faults w2, judged, end), λ no. absurd (yes-no (goes_on given.options path c in_repository) goes no))));
           reads =
               way-answered given.options.recurse_repositories (joined path name) (w.reads w0) (w.reads w2) o0 o2 old new next tt
               (way-asked given.options.recurse_repositories path name (joined path name) (w.reads w0) (w.reads w1) (w.reads w2) o0 o1 o2 old now new (Ok next)
-              (grown-components path name at.spelled_is component) grown-spelled at.reads step.reads);
+              at.rules.made (grown-components path name at.spelled_is component) grown-spelled at.reads step.reads);
           spared = grown-spared (Ok next) step;
           unasked = grown-unasked (Ok next) step;
         }
@@ -303,6 +306,7 @@ module _ {W F : Type 0} (w : WorktreeOf W) (f : FindOf F) (w0 w1 w2 : W) (o0 o1 
             (increased-later (w.faults w0) (w.faults w1) (w.faults w2) at.keeps.faults) (increased-later (f.faults o0) (f.faults o1) (f.faults o2) at.store.faults) step.cause;
         keeps = asks-then w w0 w1 w2 at.keeps step.keeps;
         store = record { holds = step.store.holds ∙ at.store.holds; faults = omega (arith, at.store.faults, step.store.faults) };
+        unmapped = unmapped-then old now at.rules.made at.unmapped step.unmapped;
         rules = record {
           made = step.rules.made ∙ at.rules.made;
           in_step = λ s tells stepped. step.rules.in_step s (tells-here s tells) (at.rules.in_step s tells stepped);
@@ -310,7 +314,7 @@ module _ {W F : Type 0} (w : WorktreeOf W) (f : FindOf F) (w0 w1 w2 : W) (o0 o1 
         reads = way-root given.options.recurse_repositories root (joined path name) (components left) (w.reads w0) (w.reads w2) o0 o2 old new (Err e) grown-split
             (way-refused given.options.recurse_repositories (joined path name) (w.reads w0) (w.reads w2) o0 o2 old new e
             (way-asked given.options.recurse_repositories path name (joined path name) (w.reads w0) (w.reads w1) (w.reads w2) o0 o1 o2 old now new (Err e)
-            (grown-components path name at.spelled_is component) grown-spelled at.reads step.reads));
+            at.rules.made (grown-components path name at.spelled_is component) grown-spelled at.reads step.reads));
         spared = λ s never.
             let grown : (p : List ℕ) → LeadsTo (joined path name) p → (kind : Option Kind) → asks_of given.options (evidence given (made_with old) s) p kind None ≡ false =
             λ p on. never p (leads-further root (joined path name) p (components left) grown-split on) in
@@ -355,7 +359,7 @@ module _ {W F : Type 0} (w : WorktreeOf W) (f : FindOf F) (w0 w1 : W) (o0 o1 : F
     (whole_is : whole ≡ is_nil (components rest))
     (onward_is : (s : Sources) → onward given.options (evidence given (made_with old) s) (λ p. on_disk given s.tree p true) (reached_so path c in_repository true) (components rest)
     ≡ reached_so path c in_repository whole)
-    (ends_at : (s : Sources) → EndsAt given.options (evidence given (made_with old) s) (λ p. on_disk given s.tree p true) path c in_repository (components rest) (reached_so path c in_repository whole)) where
+    (ends_at : (s : Sources) → EndsAt (w.faults w1) (w.faults w1) given.options (evidence given (made_with old) s) (λ p. on_disk given s.tree p true) path c in_repository (components rest) (reached_so path c in_repository whole)) where
   path_is : r.path ≡ path
   path_is = ap (λ (x : Reached). x.path) r_is
 
@@ -372,8 +376,8 @@ module _ {W F : Type 0} (w : WorktreeOf W) (f : FindOf F) (w0 w1 : W) (o0 o1 : F
             ∙ ap (λ (l : List (List ℕ)). onward given.options ev kinds (reached_so path c in_repository true) l) (nothing-left (components path) (components rest) (sym bare ∙ at.split))
             ∙ at.top bare s told quiet
             ∙ way-top given (made_with old) s root bare;
-        swallowed = λ s tells stepped. at.ends s tells stepped (reached_by r false)
-            (subst (λ (x : Reached). EndsAt given.options (evidence given (made_with old) s) (λ p. on_disk given s.tree p true) path c in_repository (components rest) x) (sym r_is) (ends_at s));
+        swallowed = λ s tells stepped. at.ends s tells stepped (w.faults w1) (reached_by r false)
+            (subst (λ (x : Reached). EndsAt (w.faults w1) (w.faults w1) given.options (evidence given (made_with old) s) (λ p. on_disk given s.tree p true) path c in_repository (components rest) x) (sym r_is) (ends_at s));
         prefix = subst (LeadsTo root) (sym path_is) (record { spelled_is = at.spelled_is; rest = components rest; components_are = at.split });
         whole =
             ap (λ (x : Reached). x.whole) r_is
@@ -386,6 +390,7 @@ module _ {W F : Type 0} (w : WorktreeOf W) (f : FindOf F) (w0 w1 : W) (o0 o1 : F
         cause = tt;
         keeps = at.keeps;
         store = at.store;
+        unmapped = at.unmapped;
         rules = at.rules;
         reads =
             subst (λ (p : List ℕ). AsksOnWay {E = Error} given.options.recurse_repositories p (w.reads w0) (w.reads w1) o0 o1 old new (Ok r)) (sym path_is)
@@ -395,18 +400,18 @@ module _ {W F : Type 0} (w : WorktreeOf W) (f : FindOf F) (w0 w1 : W) (o0 o1 : F
       }
 
 -- no component is left
-pub ended-whole : (o : Chosen) (ev : Evidence) (kinds : List ℕ → Option Kind) (path : List ℕ) (c : Outcome) (in_repository : Bool) (names : List (List ℕ)) → names ≡ []
-    → (onward o ev kinds (reached_so path c in_repository true) names ≡ reached_so path c in_repository true) × EndsAt o ev kinds path c in_repository names (reached_so path c in_repository true)
-ended-whole o ev kinds path c in_repository [] e = (refl, refl)
-ended-whole o ev kinds path c in_repository (name ∷ names) e = absurd (cc e)
+pub ended-whole : (now : ℕ) (o : Chosen) (ev : Evidence) (kinds : List ℕ → Option Kind) (path : List ℕ) (c : Outcome) (in_repository : Bool) (names : List (List ℕ)) → names ≡ []
+    → (onward o ev kinds (reached_so path c in_repository true) names ≡ reached_so path c in_repository true) × EndsAt now now o ev kinds path c in_repository names (reached_so path c in_repository true)
+ended-whole now o ev kinds path c in_repository [] e = (refl, (omega arith, refl))
+ended-whole now o ev kinds path c in_repository (name ∷ names) e = absurd (cc e)
 
 -- the way does not go on
-pub ended-short : (o : Chosen) (ev : Evidence) (kinds : List ℕ → Option Kind) (path name : List ℕ) (c : Outcome) (in_repository : Bool) (names left : List (List ℕ)) → names ≡ name ∷ left
+pub ended-short : (now : ℕ) (o : Chosen) (ev : Evidence) (kinds : List ℕ → Option Kind) (path name : List ℕ) (c : Outcome) (in_repository : Bool) (names left : List (List ℕ)) → names ≡ name ∷ left
     → goes_on o path c in_repository ≡ false
-    → (onward o ev kinds (reached_so path c in_repository true) names ≡ reached_so path c in_repository false) × EndsAt o ev kinds path c in_repository names (reached_so path c in_repository false)
-ended-short o ev kinds path name c in_repository [] left e stays = absurd (cc e)
-ended-short o ev kinds path name c in_repository (n ∷ names) left e stays =
-    (shut (goes_on o path c in_repository) stays, (λ goes. absurd (yes-no (goes_on o path c in_repository) goes stays), λ stay. refl))
+    → (onward o ev kinds (reached_so path c in_repository true) names ≡ reached_so path c in_repository false) × EndsAt now now o ev kinds path c in_repository names (reached_so path c in_repository false)
+ended-short now o ev kinds path name c in_repository [] left e stays = absurd (cc e)
+ended-short now o ev kinds path name c in_repository (n ∷ names) left e stays =
+    (shut (goes_on o path c in_repository) stays, (λ goes. absurd (yes-no (goes_on o path c in_repository) goes stays), λ stay. (omega arith, refl)))
   where
     shut : (b : Bool) → b ≡ false
         → (if b then onward o ev kinds (reached_at o ev kinds in_repository false (joined path n)) names else record (reached_so path c in_repository true) { whole = false })
@@ -431,6 +436,7 @@ Reaches-stopped w f w0 w1 o0 o1 old new given root path rest c in_repository at 
       cause = tt;
       keeps = at.keeps;
       store = at.store;
+      unmapped = at.unmapped;
       rules = at.rules;
       reads = way-root given.options.recurse_repositories root path (components rest) (w.reads w0) (w.reads w1) o0 o1 old new (Err errors.OutOfMemory) at.split
           (way-stopped given.options.recurse_repositories path (w.reads w0) (w.reads w1) o0 o1 old new errors.OutOfMemory at.reads);
@@ -473,6 +479,7 @@ Reaches-unrooted w f w0 w1 o0 o1 old new given root e step =
       cause = step.cause;
       keeps = step.keeps;
       store = step.store;
+      unmapped = step.unmapped;
       rules = step.rules;
       reads = inl (root-unasked step);
       spared = λ s never. (root-unasked step, root-memory step);

@@ -1,8 +1,9 @@
 -- What the rules say of a path, and of one named `.git`.
-use Rattle.std.proofs.Common.{◌≡◌, ◌∙◌, ap, ℕ, List, Bool, true, false, not, ◌&&◌, Option, Some, None, refl, inl, inr}
+use Rattle.std.proofs.Common.{◌≡◌, ◌≤◌, ◌∙◌, ap, ℕ, List, Bool, true, false, not, ◌&&◌, Option, Some, None, refl, inl, inr, arith}
 use Rattle.std.specs.Prelude.{if◌then◌else◌, is_some, is_none, ◌⊎◌}
 use Rattle.gitbase_core.specs.Path.{is_empty}
 use Rattle.glob_rules.specs.declared.ignore.Kind.{Kind as IgnoredAs}
+use Rattle.worktree_fs.specs.Causes.{Increased, NotIncreased}
 use Rattle.worktree_fs.specs.Paths.{full_path}
 use Rattle.worktree_stack.specs.Reading.{Sources}
 use Rattle.worktree_stack.specs.Setup.{Made}
@@ -12,39 +13,35 @@ use Rattle.dir_classify.specs.declared.entry.Kind.{Kind}
 use Rattle.dir_classify.specs.declared.excludes.Ruling.{Ruling}
 use Rattle.dir_classify.specs.Chosen.{Chosen}
 use Rattle.dir_classify.specs.Class.{class_by_rules, class_dot_git, dot_git_ruling, class_of_kind, class_unindexed, is_indexed, is_worktree, ruled_by, ruling_of}
-use Rattle.dir_classify.specs.Evidence.{Evidence, GitAt, no_ruling}
+use Rattle.dir_classify.specs.Evidence.{Evidence, no_ruling}
 use Rattle.dir_classify.specs.Excludes.{made_with}
-use Rattle.dir_classify.specs.Faults.{IsJudged, IsRuled, read_as}
+use Rattle.dir_classify.specs.Faults.{Failed, IsJudged, IsRuled, kind_read, none_failed, read_as}
 use Rattle.dir_classify.specs.Kinds.{is_dir}
 use Rattle.dir_classify.specs.Layers.{Setting, evidence, is_unread_in, kind_at, ruling_in}
 use Rattle.dir_classify.proofs.Fitting.{unindexed-case}
+use Rattle.dir_classify.proofs.Upgrades.{rose-or}
 
 -- what the rules say of a path is all that hangs on where a link leads
-rules-same : (o : Chosen) (ev : Evidence) (path : List ℕ) (kind f g : Option Kind) (at below : GitAt) (ruled : Option IgnoredAs)
-    → class_by_rules o (read_as ev f at below) path kind ruled ≡ class_by_rules o (read_as ev g at below) path kind ruled
-rules-same o ev path kind f g at below None = refl
-rules-same o ev path kind f g at below (Some excluded) = refl
+rules-same : (o : Chosen) (ev : Evidence) (path : List ℕ) (kind : Option Kind) (failed : Failed) (b : Bool) (ruled : Option IgnoredAs)
+    → class_by_rules o (read_as failed ev) path kind ruled ≡ class_by_rules o (read_as (record failed { followed = b }) ev) path kind ruled
+rules-same o ev path kind failed b None = refl
+rules-same o ev path kind failed b (Some excluded) = refl
 
 -- the class of a path that the index does not have, by what the rules said and by what was read
-pub judged-unindexed : (o : Chosen) (ev : Evidence) (path : List ℕ) (kind on_disk : Option Kind) (ruling : Ruling) (c : Outcome)
+pub judged-unindexed : (n0 n1 n2 : ℕ) (o : Chosen) (ev : Evidence) (path : List ℕ) (kind on_disk : Option Kind) (ruling : Ruling) (c : Outcome)
     → is_worktree o path ≡ false → is_indexed (ev.in_index path) kind ≡ false
-    → IsRuled (λ read. ruling_of o read path kind) ev path ruling → IsJudged (λ _ read. class_unindexed o read path kind ruling) ev path on_disk c
-    → IsJudged (λ _ read. class_of_kind o read path kind) ev path on_disk c
-judged-unindexed o ev path kind on_disk ruling c none not_indexed ruled judged =
+    → IsRuled n0 n1 (λ read. ruling_of o read path kind) ev ruling → IsJudged n1 n2 (λ _ read. class_unindexed o read path kind ruling) ev on_disk c
+    → IsJudged n0 n2 (λ _ read. class_of_kind o read path kind) ev on_disk c
+judged-unindexed n0 n1 n2 o ev path kind on_disk ruling c none not_indexed ruled judged =
+    let failed : Failed = record judged.failed { followed = ruled.failed } in
     record {
-      kind = judged.kind;
-      followed = ruled.followed;
-      at = judged.at;
-      below = judged.below;
-      kind_is = judged.kind_is;
-      followed_is = ruled.followed_is;
-      at_is = judged.at_is;
-      below_is = judged.below_is;
+      failed = failed;
+      counted = (let a = ruled.counted in let b = judged.counted in omega (arith, a, b));
       class_is =
           judged.class_is
-          ∙ ap (λ (x : Outcome). record x { origin = ruling.origin }) (rules-same o ev path kind judged.followed ruled.followed judged.at judged.below ruling.kind)
-          ∙ ap (λ (r : Ruling). class_unindexed o (read_as ev ruled.followed judged.at judged.below) path kind r) ruled.ruling_is
-          ∙ unindexed-case o (read_as ev ruled.followed judged.at judged.below) path kind none not_indexed;
+          ∙ ap (λ (x : Outcome). record x { origin = ruling.origin }) (rules-same o ev path kind judged.failed ruled.failed ruling.kind)
+          ∙ ap (λ (r : Ruling). class_unindexed o (read_as failed ev) path kind r) ruled.ruling_is
+          ∙ unindexed-case o (read_as failed ev) path kind none not_indexed;
     }
 
 pub made-some : (excludes : Option Stacked) → is_none excludes ≡ false → is_some (made_with excludes) ≡ true
@@ -52,30 +49,36 @@ made-some None e = absurd (cc e)
 made-some (Some stack) e = refl
 
 -- what the rules say of a path, by the kind that a link there leads to
-pub ruled-as : (given : Setting) (made : Option Made) (s : Sources) (path : List ℕ) (kind followed : Option Kind) (is_dir : Option Bool) (ruling : Ruling)
-    → is_some made ≡ true → is_empty path ≡ false → is_dir ≡ ruled_by given.options kind followed → ruling ≡ ruling_in made s path is_dir
-    → ruling ≡ ruling_of given.options (record (evidence given made s) { followed = λ p. followed }) path kind
+ruled-as : (given : Setting) (made : Option Made) (s : Sources) (path : List ℕ) (kind : Option Kind) (failed : Bool) (is_dir : Option Bool) (ruling : Ruling)
+    → is_some made ≡ true → is_empty path ≡ false → is_dir ≡ ruled_by given.options kind (kind_read failed (kind_at s.tree (full_path given.root path) true)) → ruling ≡ ruling_in made s path is_dir
+    → ruling ≡ ruling_of given.options (read_as (record none_failed { followed = failed }) (evidence given made s)) path kind
 unfolding evidence
-ruled-as given made s path kind followed is_dir ruling some not_empty is_dir_is ruling_is =
+ruled-as given made s path kind failed is_dir ruling some not_empty is_dir_is ruling_is =
     ruling_is ∙ ap (ruling_in made s path) is_dir_is ∙ rw (some, not_empty) refl
 
-pub ruled-read : (given : Setting) (made : Option Made) (s : Sources) (path full : List ℕ) (kind : Option Kind) (is_dir : Option Bool) (ruling : Ruling)
-    → full ≡ full_path given.root path → is_some made ≡ true → is_empty path ≡ false
+-- that was asked first, and the rules then
+pub ruled-read : (n0 n1 n2 : ℕ) (given : Setting) (made : Option Made) (s : Sources) (path full : List ℕ) (kind : Option Kind) (is_dir : Option Bool) (ruling : Ruling)
+    → n0 ≤ n1 → n1 ≤ n2 → full ≡ full_path given.root path → is_some made ≡ true → is_empty path ≡ false
+    → (NotIncreased n0 n1 → is_dir ≡ ruled_by given.options kind (kind_at s.tree full true))
     → (is_dir ≡ ruled_by given.options kind (kind_at s.tree full true)) ⊎ (is_dir ≡ ruled_by given.options kind None) → ruling ≡ ruling_in made s path is_dir
-    → IsRuled (λ ev. ruling_of given.options ev path kind) (evidence given made s) path ruling
-unfolding evidence
-ruled-read given made s path full kind is_dir ruling full_is some not_empty (inl is) ruling_is =
-    record {
-      followed = kind_at s.tree full true;
-      followed_is = inl (ap (λ (f : List ℕ). kind_at s.tree f true) full_is);
-      ruling_is = ruled-as given made s path kind (kind_at s.tree full true) is_dir ruling some not_empty is ruling_is;
-    }
-ruled-read given made s path full kind is_dir ruling full_is some not_empty (inr is) ruling_is =
-    record {
-      followed = None;
-      followed_is = inr refl;
-      ruling_is = ruled-as given made s path kind None is_dir ruling some not_empty is ruling_is;
-    }
+    → IsRuled n0 n2 (λ ev. ruling_of given.options ev path kind) (evidence given made s) ruling
+ruled-read n0 n1 n2 given made s path full kind is_dir ruling a b full_is some not_empty exact seen ruling_is = go seen (rose-or n0 n1)
+  where
+    Ruled : Type 0
+    Ruled = IsRuled n0 n2 (λ ev. ruling_of given.options ev path kind) (evidence given made s) ruling
+
+    followed : is_dir ≡ ruled_by given.options kind (kind_at s.tree full true) → Ruled
+    followed is =
+        record {
+          failed = false;
+          counted = omega (arith, a, b);
+          ruling_is = ruled-as given made s path kind false is_dir ruling some not_empty (is ∙ ap (λ (f : List ℕ). ruled_by given.options kind (kind_at s.tree f true)) full_is) ruling_is;
+        }
+
+    go : (is_dir ≡ ruled_by given.options kind (kind_at s.tree full true)) ⊎ (is_dir ≡ ruled_by given.options kind None) → NotIncreased n0 n1 ⊎ Increased n0 n1 → Ruled
+    go (inl is) said = followed is
+    go (inr is) (inl quiet) = followed (exact quiet)
+    go (inr is) (inr rose) = record { failed = true; counted = omega (arith, rose, b); ruling_is = ruled-as given made s path kind true is_dir ruling some not_empty is ruling_is }
 
 -- where they are not asked they say nothing
 pub ruling-none : (given : Setting) (made : Option Made) (s : Sources) (path : List ℕ) (kind : Option Kind) → (is_some made && not (is_empty path)) ≡ false

@@ -11,7 +11,7 @@ use Rattle.worktree_stack.specs.Lookups.{staying}
 use Rattle.worktree_stack.specs.Stacked.{Stacked, pushed}
 use Rattle.dir_classify.specs.declared.classify.RootOutcome.{RootOutcome}
 use Rattle.dir_classify.specs.declared.error.Error.{Error}
-use Rattle.dir_classify.specs.Excludes.{pushed_in}
+use Rattle.dir_classify.specs.Excludes.{made_with, pushed_in, tells_attributes}
 use Rattle.dir_classify.specs.Kept.{AskedAbout, AsksAtMost, LeavesPushed, StandsAt, Unasked}
 use Rattle.dir_classify.specs.Rooted.{AskedOnWay, AsksOnWay, LeadsTo}
 
@@ -68,7 +68,7 @@ grown-some (b ∷ bytes) front name e = refl
 -- ---- one path further
 
 module _ {F T E : Type 0} (recurses : Bool) (path name next : List ℕ) (r0 r1 r2 : ℕ) (o0 o1 o2 : F) (old now new : Option Stacked) (result : Result T E)
-    (grown : components next ≡ components path ++ name ∷ []) (next_is : next ≡ spelled (components next)) where
+    (made : made_with now ≡ made_with old) (grown : components next ≡ components path ++ name ∷ []) (next_is : next ≡ spelled (components next)) where
   next-itself : LeadsTo next next
   next-itself = record { spelled_is = next_is; rest = []; components_are = sym (append-nil (components next)) }
 
@@ -86,10 +86,10 @@ module _ {F T E : Type 0} (recurses : Bool) (path name next : List ℕ) (r0 r1 r
         before = a.before;
         before_is = a.before_is;
         leaves = subst (λ (o : Option Stacked). LeavesPushed a.last a.before (pushed_in o)) (sym b.same) a.leaves;
-        reads = λ on.
+        reads = λ on alone.
             let same = b.reads on in
             let all : length (pushed (pushed_in new)) ≡ length (pushed (pushed_in now)) = ap (λ (o : Option Stacked). length (pushed (pushed_in o))) b.same in
-            let most = a.reads on in
+            let most = a.reads on alone in
             omega (arith, same, all, most);
       }
 
@@ -107,11 +107,11 @@ module _ {F T E : Type 0} (recurses : Bool) (path name next : List ℕ) (r0 r1 r
         before = pushed_in now;
         before_is = inl (refl, ap pushed_in a.same);
         leaves = b.leaves;
-        reads = λ on.
+        reads = λ on alone.
             let same = a.reads on in
             let stay : length (pushed (staying (pushed_in now) (components next))) ≡ length (pushed (staying (pushed_in old) (components next))) =
             ap (λ (o : Option Stacked). length (pushed (staying (pushed_in o) (components next)))) a.same in
-            let most = b.reads on in
+            let most = b.reads on (ap (λ (o : Option Stacked). tells_attributes (made_with o)) a.same ∙ alone) in
             omega (arith, same, stay, most);
       }
 
@@ -130,12 +130,12 @@ module _ {F T E : Type 0} (recurses : Bool) (path name next : List ℕ) (r0 r1 r
         before = pushed_in now;
         before_is = inr (a.last, a.behind, leads, pushed-above now a.last a.looked_up);
         leaves = b.leaves;
-        reads = λ on.
+        reads = λ on alone.
             let way : IsOnWay (pushed_in now) (components next) = subst (IsOnWay (pushed_in now)) (sym leads.components_are) (on-way-further (pushed_in now) (components a.last) leads.rest a.on_way) in
             let stay : length (pushed (staying (pushed_in now) (components next))) ≡ length (pushed (pushed_in now)) =
             ap (λ (at : Option (List (List ℕ))). length (pushed at)) (stays-on-way (pushed_in now) (components next) way) in
-            let first = a.reads on in
-            let then_ = b.reads on in
+            let first = a.reads on alone in
+            let then_ = b.reads on (ap tells_attributes made ∙ alone) in
             omega (arith, stay, first, then_);
       }
 
@@ -222,5 +222,5 @@ way-stopped recurses path r0 r1 o0 o1 old new e (inr a) =
       before = a.before;
       before_is = a.before_is;
       leaves = a.leaves;
-      reads = λ on. let most = a.reads on in omega (arith, most);
+      reads = λ on alone. let most = a.reads on alone in omega (arith, most);
     })

@@ -65,7 +65,7 @@ upgrade o ev kind path hard = upgraded o.recurse_repositories hard kind (ev.repo
 abbrev pub settled_kind : Evidence → List ℕ → Option Kind → Option Kind → Option Kind
 settled_kind ev path known on_disk = first_of_kinds (ev.in_index path).up_to_date (first_of_kinds known on_disk)
 
--- outside a sparse checkout, or where index and disk agree on whether the path holds names; nothing in both is
+-- left out by a sparse checkout, or where index and disk agree on whether the path holds names; nothing in both is
 -- agreement too
 abbrev pub is_indexed : InIndex → Option Kind → Bool
 is_indexed entry kind = is_some entry.sparse || answers_alike (is_dir entry.kind) (is_dir kind)
@@ -119,7 +119,7 @@ class_unmatched known = record (plain_class Pruned) { disk_kind = known }
 abbrev pub class_worktree : Evidence → List ℕ → Option Kind → Outcome
 class_worktree ev path kind = record (plain_class Tracked) { disk_kind = Some Repository; pathspec_match = match_of ev path kind }
 
--- the index has the path in the shape that it has on disk: tracked, or pruned outside a sparse checkout
+-- the index has the path in the shape that it has on disk: tracked, or pruned where a sparse checkout leaves it out
 abbrev pub class_in_index : InIndex → Option Kind → Option PathspecMatch → Outcome
 class_in_index entry kind found =
     record (plain_class (if is_some entry.sparse then Pruned else Tracked)) {
@@ -168,7 +168,7 @@ abbrev pub class_ignored : Chosen → Evidence → List ℕ → Option Kind → 
 class_ignored o ev path kind excluded =
     class_seen o path excluded (ev.in_index path) (match_of ev path kind) (ignored_kind o kind (ev.repository_at path) (ev.repository_in path))
 
--- a directory is untracked
+-- neither the index nor the rules have the path
 abbrev pub class_free : Status → InIndex → Option Kind → Option PathspecMatch → Outcome
 class_free status entry kind found = record (plain_class status) { disk_kind = kind; index_kind = entry.kind; pathspec_match = found }
 

@@ -11,7 +11,7 @@ use Rattle.dir_classify.specs.declared.entry.Kind.{Kind}
 use Rattle.dir_classify.specs.declared.error.Error.{Error}
 use Rattle.dir_classify.specs.Class.{class as class_of, asks as asks_rules, asks_nothing}
 use Rattle.dir_classify.specs.Evidence.{Evidence}
-use Rattle.dir_classify.specs.Excludes.{made_with, TellsIf, InStepIf}
+use Rattle.dir_classify.specs.Excludes.{made_with, maps_blobs, TellsIf, InStepIf}
 use Rattle.dir_classify.specs.Faults.{IsJudged}
 use Rattle.dir_classify.specs.Kept.{AsksRules, KeepsRules, AsksAtMost, AreUntouched, Unasked}
 use Rattle.dir_classify.specs.Layers.{Setting, evidence, on_disk}
@@ -29,9 +29,9 @@ pub record Judges {W F : Type 0} (w : WorktreeOf W) (f : FindOf F) (w0 w1 : W) (
       → IfOk result (λ c. c ≡ judge (on_disk given s.tree path ask_disk) (evidence given (made_with old) s))
   pub read : (s : Sources) → TellsIf (w.told w0) (f.holds o0) (made_with old) s → InStepIf s old → NotIncreased (w.faults w0) (w.faults w1)
       → OnOk result ((asks (on_disk given s.tree path ask_disk) (evidence given (made_with old) s) && (evidence given (made_with old) s).is_unread path) ≡ false)
-  -- With a fault it is the class by what was read.
+  -- With faults it is the class by what was read, and a fault was counted for each question that was misread.
   pub swallowed : (s : Sources) → TellsIf (w.told w0) (f.holds o0) (made_with old) s → InStepIf s old
-      → IfOk result (IsJudged judge (evidence given (made_with old) s) path (on_disk given s.tree path ask_disk))
+      → IfOk result (IsJudged (w.faults w0) (w.faults w1) judge (evidence given (made_with old) s) (on_disk given s.tree path ask_disk))
   -- So it is where the rules are not asked, whether or not they and the store are told and in step.
   pub unruled : (s : Sources) → w.told w0 ≡ Some s.tree → NotIncreased (w.faults w0) (w.faults w1)
       → asks (on_disk given s.tree path ask_disk) (evidence given (made_with old) s) ≡ false
@@ -45,6 +45,7 @@ pub record Judges {W F : Type 0} (w : WorktreeOf W) (f : FindOf F) (w0 w1 : W) (
   -- What stays.
   pub keeps : AsksRules w w0 w1
   pub store : AsksStore f o0 o1
+  pub unmapped : maps_blobs (made_with old) ≡ false → o1 ≡ o0
   pub rules : KeepsRules w f w0 w1 o0 old new
   -- Told or not, the rules were asked about this path alone.
   pub reads : AsksAtMost given.options.recurse_repositories path (w.reads w0) (w.reads w1) o0 o1 old new result

@@ -1,8 +1,10 @@
 -- The ignore rules that a class may ask.
-use Rattle.std.specs.Prelude.{◌≡◌, ℕ, Bool, true, List, Option, Some, None, option_map, option_and_then, is_some}
+use Rattle.std.specs.Prelude.{◌≡◌, ℕ, Bool, true, false, not, List, Option, Some, None, option_map, option_and_then, is_some}
 use Rattle.gitbase_core.specs.Objects.{Objects}
+use Rattle.worktree_fs.specs.Paths.{is_nil}
 use Rattle.worktree_fs.specs.Tree.{Names}
-use Rattle.worktree_stack.specs.Setup.{Made, has_excludes}
+use Rattle.worktree_stack.specs.Lookups.{asks_worktree}
+use Rattle.worktree_stack.specs.Setup.{Made, has_attributes, has_excludes}
 use Rattle.worktree_stack.specs.Reading.{Sources}
 use Rattle.worktree_stack.specs.Stacked.{Stacked, made_of, IsInStep}
 
@@ -14,6 +16,21 @@ made_with excludes = option_map made_of excludes
 abbrev pub tells_excludes : Option Made → Bool
 tells_excludes None = true
 tells_excludes (Some made) = has_excludes made
+
+-- they tell the attributes of paths too, where they are given
+abbrev pub tells_attributes : Option Made → Bool
+tells_attributes None = false
+tells_attributes (Some made) = has_attributes made
+
+-- they are given, and some rules file is mapped to a blob
+abbrev pub maps_blobs : Option Made → Bool
+maps_blobs None = false
+maps_blobs (Some made) = not (is_nil made.mappings)
+
+-- they are given, and a lookup may read rules files from the worktree
+abbrev pub reads_rules : Option Made → Bool
+reads_rules None = false
+reads_rules (Some made) = asks_worktree made
 
 -- the directories that are pushed, where rules are given
 abbrev pub pushed_in : Option Stacked → Option (List (List ℕ))

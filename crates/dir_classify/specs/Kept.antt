@@ -1,21 +1,18 @@
 -- What the class of a path leaves of a worktree and of the ignore rules.
-use Rattle.std.specs.Prelude.{◌≡◌, ◌≤◌, ◌⊎◌, ℕ, ◌+◌, ◌++◌, Bool, true, List, length, map, Option, Result, OnOk, IsSomeAnd, is_some}
+use Rattle.std.specs.Prelude.{◌≡◌, ◌≤◌, ◌⊎◌, ℕ, ◌+◌, ◌++◌, Bool, true, false, List, length, map, Option, Result, OnOk, IsSomeAnd, is_some}
 use Rattle.gitbase_core.specs.Path.{components}
 use Rattle.gitbase_core.specs.declared.find.Find.{Ghosts as FindOf}
 use Rattle.worktree_fs.specs.declared.worktree.Worktree.{Ghosts as WorktreeOf}
+use Rattle.worktree_fs.specs.Kept.{Asks}
 use Rattle.worktree_fs.specs.PathStack.{Call, IsOnWay, directories, granted, left_by, lookup_calls}
 use Rattle.worktree_stack.specs.Lookups.{IsLookedUp, staying, refused_one}
 use Rattle.worktree_stack.specs.Reading.{Sources}
 use Rattle.worktree_stack.specs.Stacked.{Stacked, pushed}
-use Rattle.dir_classify.specs.Excludes.{made_with, pushed_in, TellsIf, InStepIf}
+use Rattle.dir_classify.specs.Excludes.{made_with, pushed_in, tells_attributes, TellsIf, InStepIf}
 
--- a worktree that was asked for kinds, for repositories and for rules; it was not listed
-pub record AsksRules {W : Type 0} (w : WorktreeOf W) (before now : W) : Type 0 where
-  pub tree : w.told now ≡ w.told before
-  pub faults : w.faults before ≤ w.faults now
-  pub list_faults : w.list_faults now ≡ w.list_faults before
-  pub lists : w.lists now ≡ w.lists before
-  pub precomposes : w.precomposes now ≡ w.precomposes before
+-- A worktree that was asked for kinds, for repositories and for rules. It was not listed, and its counts did not fall.
+abbrev pub AsksRules : {W : Type 0} → WorktreeOf W → W → W → Type 0
+AsksRules w before now = Asks w before now
 
 -- Rules that are given stay what they were made with, and in step with a tree and a store where a worktree was `w0` and is
 -- `w1`, and a store was `o0`.
@@ -34,7 +31,7 @@ pub record Unasked {F : Type 0} (recurses : Bool) (reads0 reads1 : ℕ) (o0 o1 :
 abbrev pub StandsAt : Option Stacked → List ℕ → Type 0
 StandsAt excludes path = IsSomeAnd excludes (λ s. IsLookedUp s (components path))
 
--- What is pushed after a lookup is what the first ones of its calls leave: where it was refused, those before the refusal.
+-- What is pushed after a lookup is what some first ones of its calls leave; all of them, where it was answered.
 pub record LeavesPushed (path : List ℕ) (old new : Option (List (List ℕ))) : Type 0 where
   pub done : List Call
   pub undone : List Call
@@ -42,14 +39,15 @@ pub record LeavesPushed (path : List ℕ) (old new : Option (List (List ℕ))) :
   pub left : directories new ≡ left_by (directories old) (map granted done)
 
 -- Rules that are given were asked about one path. Answered they stand at it, so that exactly the directories above it are pushed;
--- refused, what is pushed lies on the way to it, as its lookup left it. Where repositories are walked into, the worktree was read
--- at most once for each directory that was pushed or refused.
+-- refused, what is pushed lies on the way to it, as its lookup left it. Where repositories are walked into, and the rules
+-- are ignore rules alone, the worktree was read at most once for each directory that was pushed or refused.
 pub record AskedAbout {T E : Type 0} (recurses : Bool) (path : List ℕ) (reads0 reads1 : ℕ) (old new : Option Stacked) (result : Result T E) : Type 0 where
   pub given : is_some old ≡ true
   pub looked_up : OnOk result (StandsAt new path)
   pub on_way : IsOnWay (pushed_in new) (components path)
   pub leaves : LeavesPushed path (pushed_in old) (pushed_in new)
-  pub reads : recurses ≡ true → reads1 + length (pushed (staying (pushed_in old) (components path))) ≤ reads0 + length (pushed (pushed_in new)) + refused_one result
+  pub reads : recurses ≡ true → tells_attributes (made_with old) ≡ false
+      → reads1 + length (pushed (staying (pushed_in old) (components path))) ≤ reads0 + length (pushed (pushed_in new)) + refused_one result
 
 -- The rules were asked about one path, or they were not asked.
 abbrev pub AsksAtMost : {F T E : Type 0} → Bool → List ℕ → ℕ → ℕ → F → F → Option Stacked → Option Stacked → Result T E → Type 0

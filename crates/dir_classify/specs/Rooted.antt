@@ -16,7 +16,7 @@ use Rattle.dir_classify.specs.declared.classify.RootOutcome.{RootOutcome}
 use Rattle.dir_classify.specs.declared.entry.Kind.{Kind}
 use Rattle.dir_classify.specs.declared.error.Error.{Error}
 use Rattle.dir_classify.specs.Class.{asks}
-use Rattle.dir_classify.specs.Excludes.{made_with, pushed_in, TellsIf, InStepIf}
+use Rattle.dir_classify.specs.Excludes.{made_with, maps_blobs, pushed_in, tells_attributes, TellsIf, InStepIf}
 use Rattle.dir_classify.specs.Kept.{AsksRules, KeepsRules, LeavesPushed, StandsAt, Unasked}
 use Rattle.dir_classify.specs.Layers.{Setting, evidence, on_disk}
 use Rattle.dir_classify.specs.Refused.{IsAbout, Refuses, OnAccess, OnFault}
@@ -47,8 +47,9 @@ IsPushedBefore first last old before =
     ((last ≡ first) × (before ≡ old)) ⊎ ((path : List ℕ) × LeadsTo path first × LeadsTo last path × (before ≡ Some (without_last (components path))))
 
 -- The rules were asked about paths on the way to one, and not about the worktree root. Answered they stand at the last of these
--- paths; and what is pushed is what its lookup left, on the way there. Where repositories are walked into, the worktree was read
--- at most once for each directory that was pushed or refused from the first of these paths on.
+-- paths; and what is pushed is what its lookup left, on the way there. Where repositories are walked into, and
+-- the rules are ignore rules alone, the worktree was read at most once for each directory that was pushed or refused from the first of
+-- these paths on.
 pub record AskedOnWay {T E : Type 0} (recurses : Bool) (root : List ℕ) (reads0 reads1 : ℕ) (old new : Option Stacked) (result : Result T E) : Type 0 where
   pub given : is_some old ≡ true
   pub first : List ℕ
@@ -61,7 +62,7 @@ pub record AskedOnWay {T E : Type 0} (recurses : Bool) (root : List ℕ) (reads0
   pub before : Option (List (List ℕ))
   pub before_is : IsPushedBefore first last (pushed_in old) before
   pub leaves : LeavesPushed last before (pushed_in new)
-  pub reads : recurses ≡ true
+  pub reads : recurses ≡ true → tells_attributes (made_with old) ≡ false
       → reads1 + length (pushed (staying (pushed_in old) (components first))) ≤ reads0 + length (pushed (pushed_in new)) + refused_one result
 
 -- The rules were asked about paths on the way to one, or they were not asked.
@@ -85,9 +86,9 @@ pub record Reaches {W F : Type 0} (w : WorktreeOf W) (f : FindOf F) (w0 w1 : W) 
   -- So it is for the empty path, of which the rules are not asked, whether or not they and the store are told and in step.
   pub top : root ≡ [] → (s : Sources) → w.told w0 ≡ Some s.tree → NotIncreased (w.faults w0) (w.faults w1)
       → IfOk result (λ r. reached_by r false ≡ way_to given (made_with old) s root)
-  -- With faults it is where the way ends by what was read.
+  -- With faults it is where the way ends by what was read, and a fault was counted for each question that was misread.
   pub swallowed : (s : Sources) → TellsIf (w.told w0) (f.holds o0) (made_with old) s → InStepIf s old
-      → IfOk result (λ r. IsReached given.options (evidence given (made_with old) s) (λ path. on_disk given s.tree path true) (components root) (reached_by r false))
+      → IfOk result (λ r. IsReached (w.faults w0) (w.faults w1) given.options (evidence given (made_with old) s) (λ path. on_disk given s.tree path true) (components root) (reached_by r false))
   -- Told or not, the path is one on the way, and it is said whether it is the whole one.
   pub prefix : IfOk result (λ r. LeadsTo root r.path)
   pub whole : IfOk result (λ r. r.whole ≡ bytes_eq r.path root)
@@ -101,6 +102,7 @@ pub record Reaches {W F : Type 0} (w : WorktreeOf W) (f : FindOf F) (w0 w1 : W) 
   -- What stays.
   pub keeps : AsksRules w w0 w1
   pub store : AsksStore f o0 o1
+  pub unmapped : maps_blobs (made_with old) ≡ false → o1 ≡ o0
   pub rules : KeepsRules w f w0 w1 o0 old new
   pub reads : AsksOnWay given.options.recurse_repositories (ended_at root result) (w.reads w0) (w.reads w1) o0 o1 old new result
   -- The rules are not asked where no path on the way asks them whatever its kind is, and then it is refused for want of memory

@@ -1,5 +1,5 @@
 -- The classes on the way from the worktree root to a traversal root.
-use Rattle.std.specs.Prelude.{◌≡◌, ℕ, Bool, true, false, ◌||◌, if◌then◌else◌, List, [], ◌∷◌, Option, None}
+use Rattle.std.specs.Prelude.{◌≡◌, ◌≤◌, ℕ, Bool, true, false, ◌||◌, if◌then◌else◌, List, [], ◌∷◌, Option, None}
 use Rattle.gitbase_core.specs.Path.{is_empty, joined}
 use Rattle.dir_classify.specs.declared.entry.Kind.{Kind}
 use Rattle.dir_classify.specs.declared.classify.Outcome.{Outcome}
@@ -57,20 +57,21 @@ reached o ev kind_at names = onward o ev kind_at (reached_root o ev kind_at) nam
 
 -- ---- with faults
 
--- The class of a path on the way by what was read: a fault reads as no kind, or as no repository.
-abbrev pub IsClassOnWay : Chosen → Evidence → (List ℕ → Option Kind) → List ℕ → Outcome → Type 0
-IsClassOnWay o ev kind_at path c = IsJudged (λ kind read. class o read path kind None) ev path (kind_at path) c
+-- The class of a path on the way by what was read, where the faults were `before` and are `now`.
+abbrev pub IsClassOnWay : (before now : ℕ) → Chosen → Evidence → (List ℕ → Option Kind) → List ℕ → Outcome → Type 0
+IsClassOnWay before now o ev kind_at path c = IsJudged before now (λ kind read. class o read path kind None) ev (kind_at path) c
 
 -- The way ends there by what was read, where it stands at a path with this class and these components are left: on through the next
--- one exactly as long as the path reached is one that is entered.
-abbrev pub EndsAt : Chosen → Evidence → (List ℕ → Option Kind) → List ℕ → Outcome → Bool → List (List ℕ) → Reached → Type 0
-EndsAt o ev kind_at path c in_repository [] r = r ≡ reached_so path c in_repository true
-EndsAt o ev kind_at path c in_repository (name ∷ names) r =
+-- one exactly as long as the path reached is one that is entered. The faults were `before` at the path and are `now` at the end, so
+-- that a fault was counted for each question that was misread.
+abbrev pub EndsAt : (before now : ℕ) → Chosen → Evidence → (List ℕ → Option Kind) → List ℕ → Outcome → Bool → List (List ℕ) → Reached → Type 0
+EndsAt before now o ev kind_at path c in_repository [] r = (before ≤ now) × (r ≡ reached_so path c in_repository true)
+EndsAt before now o ev kind_at path c in_repository (name ∷ names) r =
     (goes_on o path c in_repository ≡ true
-    → (next : Outcome) × IsClassOnWay o ev kind_at (joined path name) next × EndsAt o ev kind_at (joined path name) next in_repository names r)
-    × (goes_on o path c in_repository ≡ false → r ≡ reached_so path c in_repository false)
+    → (next : Outcome) × (then_ : ℕ) × IsClassOnWay before then_ o ev kind_at (joined path name) next × EndsAt then_ now o ev kind_at (joined path name) next in_repository names r)
+    × (goes_on o path c in_repository ≡ false → (before ≤ now) × (r ≡ reached_so path c in_repository false))
 
 -- Where the way from the worktree root through some components ends by what was read.
-abbrev pub IsReached : Chosen → Evidence → (List ℕ → Option Kind) → List (List ℕ) → Reached → Type 0
-IsReached o ev kind_at names r =
-    (first : Outcome) × IsClassOnWay o ev kind_at [] first × EndsAt o ev kind_at [] first (is_repository first.disk_kind) names r
+abbrev pub IsReached : (before now : ℕ) → Chosen → Evidence → (List ℕ → Option Kind) → List (List ℕ) → Reached → Type 0
+IsReached before now o ev kind_at names r =
+    (first : Outcome) × (then_ : ℕ) × IsClassOnWay before then_ o ev kind_at [] first × EndsAt then_ now o ev kind_at [] first (is_repository first.disk_kind) names r

@@ -45,7 +45,7 @@ fn is_nested(path: &[u8]) -> bool
     }
 }
 
-/// Whether the index has a path: it lies outside a sparse checkout, or index and disk agree on whether it holds names.
+/// Whether the index has a path: it is left out of a sparse worktree, or index and disk agree on whether it holds names.
 pub(crate) fn is_indexed(entry: InIndex, kind: Option<Kind>) -> bool
     ensures { result ≡ is_indexed entry kind }
 {

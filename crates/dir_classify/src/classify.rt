@@ -31,17 +31,21 @@ pub struct Outcome {
     pub status: Status,
     /// What sets the path apart, where something does.
     pub property: Option<Property>,
-    /// The kind of the node on disk, by an up-to-date entry of the index, by the caller, or by the worktree; a repository where
-    /// one was looked for and found. None where nothing is there, where it could not be learnt, and where nobody was asked.
+    /// The kind of the node on disk, by an up-to-date entry of the index, by the caller, or by the worktree; a repository for a
+    /// path of the worktree set, and where one was looked for and found. None where nothing is there, where it could not be
+    /// learnt, and where nobody was asked.
     pub disk_kind: Option<Kind>,
-    /// The kind that the index has at the path; none where it has nothing there, and for a path named `.git`, for one that no
-    /// path spec can match, and for one of the worktree set.
+    /// The kind that the index has at the path; none where it has nothing there, or at the path itself an entry whose mode is no
+    /// file, link or submodule, and for a path named `.git`, for one that no path spec can match, and for one of the worktree
+    /// set.
     pub index_kind: Option<Kind>,
     /// How the path specs match, or `Prefix` for an ignored directory that may lie above what is looked for; none where none
     /// does.
     pub pathspec_match: Option<PathspecMatch>,
     /// The ignore rule that decided about the path, which may be a negative one; none where none was asked or none did, and for a
     /// path named `.git` that is not ignored.
+    ///
+    /// See docs/DECISIONS.md#deciding-rule.
     pub origin: Option<Origin>,
 }
 
@@ -79,13 +83,18 @@ pub struct RootOutcome {
 /// The class of `rela_path`, which is relative to `worktree_root`, as gitoxide's `classify::path`.
 ///
 /// `disk_kind` is the kind of its node where the caller knows it. Where neither that nor an up-to-date entry of the
-/// index tells the kind, the worktree is asked, if `ask_disk` allows it; a fault of that question reads as no kind,
-/// and is counted by the worktree. So are faults of the other questions about the node: whether it leads to a repository,
+/// index tells the kind, the worktree is asked, if `ask_disk` allows it; of a path named `.git`, or that no path spec can
+/// match, it is not asked. A fault of that question reads as no kind, and is counted by the worktree. So are faults of the other questions about the node: whether it leads to a repository,
 /// and what a link leads to.
 ///
-/// The ignore rules are asked for a path that the index does not have, or has in another shape (a directory in a file's place,
-/// or the other way round), and in deletion for one named `.git`: they are read as they are needed, and kept for the next path.
-/// They are to tell which paths are excluded. The store is asked for the blobs that rules files are mapped to.
+/// The ignore rules are asked for a path below the worktree root that a path spec can match, that is not of the worktree set, and
+/// that the index does not have, or has in another shape (a directory in a file's place, or the other way round), and in
+/// deletion for one named `.git`: they are read as they are needed, and kept for the next path. They are to tell which paths are
+/// excluded. The store is asked for the blobs that rules files are mapped to, and for nothing where none is.
+///
+/// See docs/DECISIONS.md#when-rules-are-asked.
+/// See docs/DECISIONS.md#swallowed-faults.
+/// See docs/DECISIONS.md#class-under-faults.
 ///
 /// `worktree_root` is absolute, without `.` and `..`. `rela_path` is relative and normalised, as `PathText::normalize` leaves a
 /// path: no component is `.` or `..`, one slash stands between each two, and none at the end.
@@ -94,8 +103,11 @@ pub struct RootOutcome {
 ///
 /// - `ExcludesAccess`: the rules of a directory above the path were asked, and the rules file is a link without an end, a link
 ///   that is not followed as the file is mapped to a blob, or neither file nor directory, or could not be read; or its blob is
-///   missing, is no blob, or could not be had.
+///   missing, is no blob, or could not be had. See docs/DECISIONS.md#rules-file-fault.
 /// - `OutOfMemory`: memory was refused.
+///
+/// After a refusal rules that were in step are in step, and what they have pushed is what it was or lies on the way to the path; see
+/// docs/DECISIONS.md#rules-serve-on.
 pub fn path<W: Worktree, F: Find, I: Interrupt, M: Matcher>(
     alloc: Global,
     worktree_root: &[u8],
@@ -157,9 +169,12 @@ pub fn path<W: Worktree, F: Find, I: Interrupt, M: Matcher>(
 /// The kind of each path is asked first, its last link not followed; a fault of that question reads as no kind.
 /// `worktree_relative_root` is relative and normalised as `rela_path` of [`path`] is.
 ///
+/// See docs/DECISIONS.md#way-to-root.
+///
 /// # Errors
 ///
-/// As of [`path`], for a path on the way.
+/// - `ExcludesAccess`: the rules of a directory above a path on the way were asked, and were not read, as [`path`] says it.
+/// - `OutOfMemory`: memory was refused.
 pub fn root<W: Worktree, F: Find, I: Interrupt, M: Matcher>(
     alloc: Global,
     worktree_root: &[u8],
@@ -210,6 +225,11 @@ pub fn root<W: Worktree, F: Find, I: Interrupt, M: Matcher>(
 }
 
 /// The classes on the way to a traversal root as [`root`] says them, for a caller that has the parts of a context.
+///
+/// # Errors
+///
+/// - `ExcludesAccess`: the rules of a directory above a path on the way were asked, and were not read, as [`path`] says it.
+/// - `OutOfMemory`: memory was refused.
 pub fn root_at<W: Worktree, F: Find, M: Matcher>(
     alloc: Global,
     worktree_relative_root: &[u8],

@@ -4,6 +4,8 @@ use gitbase_core::{AccelerateLookup, Bytes, State};
 use worktree_stack::Stack;
 
 /// What a walk and the class of a path work on, after gitoxide's `gix_dir::walk::Context`.
+///
+/// See docs/DECISIONS.md#loans-of-options.
 #[derive(Drop)]
 pub struct Context<'a, W, F, I, M> {
     /// The worktree, which is asked for kinds, names, rules files and repositories.
@@ -32,6 +34,8 @@ pub struct Context<'a, W, F, I, M> {
 }
 
 /// The parts of a context that are only read, with the worktree root and the options.
+///
+/// See docs/DECISIONS.md#shared-context.
 #[derive(Drop)]
 pub struct Shared<'a, M> {
     /// The worktree root: absolute, without `.` and `..`.

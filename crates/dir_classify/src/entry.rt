@@ -21,7 +21,8 @@ pub enum Property {
     EmptyDirectory,
     /// The same, where it must not go, as it is the current directory.
     EmptyDirectoryAndCWD,
-    /// The path lies outside a sparse checkout, which the index says.
+    /// The path is a directory that a sparse checkout leaves out as a whole, by the index: one sparse entry stands for it, or two
+    /// or more entries do lie beneath and all are skipped; and none of them is up to date.
     TrackedExcluded,
 }
 
@@ -36,8 +37,8 @@ pub enum Kind {
     Symlink,
     /// A directory in which no repository was looked for, or none was found; in the index one that has entries, or a sparse one.
     Directory,
-    /// A repository of its own: in the index a submodule, on disk what was found to lead to one, mostly a directory with `.git`
-    /// in it, or what the worktree set names.
+    /// A repository of its own: in the index a submodule; on disk what was found to lead to one, mostly a directory with `.git`
+    /// in it, and with no look what an up-to-date entry of the index or the caller says is one, or the worktree set names.
     Repository,
 }
 
@@ -85,8 +86,8 @@ impl From<EntryKind> for Kind {
 /// How a path stands to the index and the rules.
 #[derive(Clone, Copy, Debug, PartialEq, Eq, PartialOrd, Ord, Hash)]
 pub enum Status {
-    /// Left out: it is named `.git`, no path spec can match it or what lies beneath it, the index has it outside a sparse
-    /// checkout, or it is no directory, neither tracked nor ignored, and no path spec matches it.
+    /// Left out: it is named `.git`, no path spec can match it or what lies beneath it, it is left out of a sparse
+    /// worktree, or it is no directory, neither tracked nor ignored, and no path spec matches it.
     Pruned,
     /// The index has it, and agrees with the disk on whether it holds names; also what neither of them has. Or it is one of the
     /// worktree set.
@@ -254,11 +255,13 @@ pub struct Entry {
     pub status: Status,
     /// What sets the path apart, where something does.
     pub property: Option<Property>,
-    /// The kind of the node on disk, by an up-to-date entry of the index, by the caller, or by the worktree; a repository where
-    /// one was looked for and found. None where nothing is there, where it could not be learnt, and where nobody was asked.
+    /// The kind of the node on disk, by an up-to-date entry of the index, by the caller, or by the worktree; a repository for a
+    /// path of the worktree set, and where one was looked for and found. None where nothing is there, where it could not be
+    /// learnt, and where nobody was asked.
     pub disk_kind: Option<Kind>,
-    /// The kind that the index has at the path; none where it has nothing there, and for a path named `.git`, for one that no
-    /// path spec can match, and for one of the worktree set.
+    /// The kind that the index has at the path; none where it has nothing there, or at the path itself an entry whose mode is no
+    /// file, link or submodule, and for a path named `.git`, for one that no path spec can match, and for one of the worktree
+    /// set.
     pub index_kind: Option<Kind>,
     /// How the path specs match, or `Prefix` for an ignored directory that may lie above what is looked for; none where none
     /// does.
@@ -277,11 +280,13 @@ pub struct EntryRef<'a> {
     pub status: Status,
     /// What sets the path apart, where something does.
     pub property: Option<Property>,
-    /// The kind of the node on disk, by an up-to-date entry of the index, by the caller, or by the worktree; a repository where
-    /// one was looked for and found. None where nothing is there, where it could not be learnt, and where nobody was asked.
+    /// The kind of the node on disk, by an up-to-date entry of the index, by the caller, or by the worktree; a repository for a
+    /// path of the worktree set, and where one was looked for and found. None where nothing is there, where it could not be
+    /// learnt, and where nobody was asked.
     pub disk_kind: Option<Kind>,
-    /// The kind that the index has at the path; none where it has nothing there, and for a path named `.git`, for one that no
-    /// path spec can match, and for one of the worktree set.
+    /// The kind that the index has at the path; none where it has nothing there, or at the path itself an entry whose mode is no
+    /// file, link or submodule, and for a path named `.git`, for one that no path spec can match, and for one of the worktree
+    /// set.
     pub index_kind: Option<Kind>,
     /// How the path specs match, or `Prefix` for an ignored directory that may lie above what is looked for; none where none
     /// does.
@@ -293,6 +298,10 @@ pub struct EntryRef<'a> {
 
 impl EntryRef<'_> {
     /// The same entry with a path of its own.
+    ///
+    /// # Errors
+    ///
+    /// - `OutOfMemory`: memory was refused.
     pub fn to_owned(&self, alloc: Global) -> Result<Entry, OutOfMemory>
         ensures { IfOk result (λ entry. entry ≡ entry_of self.now) }
     {
@@ -308,6 +317,10 @@ impl EntryRef<'_> {
     }
 
     /// The same entry with a path of its own.
+    ///
+    /// # Errors
+    ///
+    /// - `OutOfMemory`: memory was refused.
     pub fn into_owned(self, alloc: Global) -> Result<Entry, OutOfMemory>
         ensures { IfOk result (λ entry. entry ≡ entry_of self.entry) }
     {

@@ -8,7 +8,7 @@ ghost use Rattle.worktree_stack.specs.Reading.{Sources};
 ghost use Rattle.worktree_stack.specs.Setup.{has_excludes};
 ghost use Rattle.worktree_stack.specs.Stacked.{made_of};
 ghost use Rattle.dir_classify.specs.Evidence.{no_ruling};
-ghost use Rattle.dir_classify.specs.Excludes.{made_with, tells_excludes, TellsIf, InStepIf};
+ghost use Rattle.dir_classify.specs.Excludes.{made_with, maps_blobs, reads_rules, tells_excludes, TellsIf, InStepIf};
 ghost use Rattle.dir_classify.specs.Kept.{AsksRules, KeepsRules, AsksAtMost, AreUntouched};
 ghost use Rattle.dir_classify.specs.Layers.{ruling_in, is_unread_in};
 ghost use Rattle.dir_classify.specs.Refused.{IsAbout, Refuses, OnFault};
@@ -74,6 +74,9 @@ pub(crate) fn ruling_of<W: Worktree, F: Find>(
         (Increased (F.faults objects.old) (F.faults objects.new))) }
     ensures keeps { AsksRules W.Worktree worktree.old worktree.new }
     ensures store { AsksStore F.Find objects.old objects.new }
+    ensures unmapped { maps_blobs (made_with excludes.old) ≡ false → objects.new ≡ objects.old }
+    ensures by_mappings { reads_rules (made_with excludes.old) ≡ false
+        → worktree.new ≡ worktree.old }
     ensures rules { KeepsRules W.Worktree F.Find worktree.old worktree.new objects.old excludes.old
         excludes.new }
     ensures reads { AsksAtMost true rela_path.now (W.reads worktree.old) (W.reads worktree.new)
@@ -115,6 +118,9 @@ fn ruling_by<W: Worktree, F: Find>(
         (Increased (F.faults objects.old) (F.faults objects.new))) }
     ensures keeps { AsksRules W.Worktree worktree.old worktree.new }
     ensures store { AsksStore F.Find objects.old objects.new }
+    ensures unmapped { maps_blobs (Some (made_of stack.old)) ≡ false → objects.new ≡ objects.old }
+    ensures by_mappings { reads_rules (Some (made_of stack.old)) ≡ false
+        → worktree.new ≡ worktree.old }
     ensures rules { KeepsRules W.Worktree F.Find worktree.old worktree.new objects.old
         (Some stack.old) (Some stack.new) }
     ensures reads { AsksAtMost true rela_path.now (W.reads worktree.old) (W.reads worktree.new)

@@ -10,9 +10,10 @@ use gitbase_core::{AccelerateLookup, IndexKinds, State};
 pub struct InIndex {
     /// The kind of an entry that is known to be as on disk; none where no entry is.
     pub up_to_date: Option<Kind>,
-    /// The kind that the index has at the path; none where it has nothing there.
+    /// The kind that the index has at the path; none where it has nothing there, or an entry whose mode is no
+    /// file, link or submodule.
     pub kind: Option<Kind>,
-    /// `TrackedExcluded` outside a sparse checkout.
+    /// `TrackedExcluded` for a directory that a sparse checkout leaves out as a whole.
     pub sparse: Option<Property>,
 }
 

@@ -50,7 +50,8 @@ pub struct Options<'a> {
     pub precompose_unicode: bool,
     /// Whether ASCII letters compare without regard to their case, as `core.ignoreCase` says.
     pub ignore_case: bool,
-    /// Whether repositories in the worktree are walked like other directories.
+    /// Whether no repository is looked for on disk, so that repositories are walked like other directories; what an up-to-date
+    /// entry of the index or the worktree set says is one stays one, and is not walked.
     pub recurse_repositories: bool,
     /// Whether pruned paths are emitted too, and of the other paths those that no path spec matches or that one takes out.
     pub emit_pruned: bool,
@@ -70,7 +71,8 @@ pub struct Options<'a> {
     pub emit_collapsed: Option<CollapsedEntriesEmissionMode>,
     /// Whether the ignore rules see a link as what it leads to.
     pub symlinks_to_directories_are_ignored_like_directories: bool,
-    /// The directories that are worktrees of their own, relative to the worktree root: they are tracked as repositories.
+    /// The directories that are worktrees of their own, relative to the worktree root: they are tracked as repositories. In
+    /// deletion an ignored directory above one of them is matched as `Prefix`.
     pub worktree_relative_worktree_dirs: Option<&'a BTreeSet<PathText>>,
 }
 

@@ -7,6 +7,10 @@ use std::alloc::Global;
 
 /// The whole path of one that is relative to the worktree root: the root itself for the empty path. A slash stands between
 /// the two, unless the root ends in one.
+///
+/// # Errors
+///
+/// - `OutOfMemory`: memory was refused.
 pub fn full_path(alloc: Global, worktree_root: &[u8], path: &[u8]) -> Result<PathText, OutOfMemory>
     ensures { IfOk result (λ full. full ≡ full_path worktree_root.now path.now) }
 {

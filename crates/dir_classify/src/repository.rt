@@ -1,12 +1,12 @@
 //! Whether a path leads to a repository of its own.
-ghost use Rattle.std.specs.Prelude.{◌≡◌, ◌&&◌, true, false, Some, None, IfOk};
+ghost use Rattle.std.specs.Prelude.{◌≡◌, ◌⊎◌, ◌&&◌, true, false, Some, None, IfOk};
 ghost use Rattle.gitbase_core.specs.Path.{joined};
 ghost use Rattle.worktree_fs.specs.Tree.{Names};
 ghost use Rattle.worktree_fs.specs.Causes.{NotIncreased};
 ghost use Rattle.worktree_fs.specs.Kept.{Asks};
 ghost use Rattle.dir_classify.specs.Class.{upgraded, dot_git};
 ghost use Rattle.dir_classify.specs.Evidence.{is_foreign};
-ghost use Rattle.dir_classify.specs.Faults.{IsSeenAs};
+ghost use Rattle.dir_classify.specs.Faults.{IsSeenAs, IsTested};
 ghost use Rattle.dir_classify.specs.Layers.{git_at};
 
 use crate::entry::Kind;
@@ -20,6 +20,13 @@ use worktree_fs::{Worktree, is_git, real_path_is};
 ///
 /// `path` is whole; `current_dir` and `git_dir_realpath` are the real paths of the current directory and of the git directory
 /// of the worktree. A fault of a question reads as no repository, or as one that is not the worktree's own, and is counted.
+///
+/// See docs/DECISIONS.md#whole-git-directory.
+/// See docs/DECISIONS.md#failed-repository-test.
+///
+/// # Errors
+///
+/// - `OutOfMemory`: memory was refused.
 pub fn maybe_upgrade_to_repository<W: Worktree>(
     alloc: Global,
     current_kind: Option<Kind>,
@@ -36,9 +43,11 @@ pub fn maybe_upgrade_to_repository<W: Worktree>(
         (git_at t current_dir.now git_dir_realpath.now path.now)
         (git_at t current_dir.now git_dir_realpath.now (joined path.now dot_git))) }
     ensures swallowed { (t : Names) → W.told worktree.old ≡ Some t
-        → IfOk result (IsSeenAs (upgraded recurse_repositories find_harder current_kind)
+        → IfOk result (IsSeenAs (W.faults worktree.old) (W.faults worktree.new)
+        (upgraded recurse_repositories find_harder current_kind)
         (git_at t current_dir.now git_dir_realpath.now path.now)
         (git_at t current_dir.now git_dir_realpath.now (joined path.now dot_git))) }
+    ensures either { IfOk result (λ kind. (kind ≡ current_kind) ⊎ (kind ≡ Some Kind.Repository)) }
     ensures keeps { Asks W.Worktree worktree.old worktree.new }
     ensures unasked { recurse_repositories ≡ true → worktree.new ≡ worktree.old }
     ensures same_kind { recurse_repositories ≡ true
@@ -84,9 +93,10 @@ fn is_foreign_if<W: Worktree>(
         → NotIncreased (W.faults worktree.old) (W.faults worktree.new)
         → IfOk result (λ is. is ≡ (asked && is_foreign
         (git_at t current_dir.now git_dir_realpath.now path.now))) }
-    ensures true_only { (t : Names) → W.told worktree.old ≡ Some t → IfOk result (λ is. is ≡ true
-        → (git_at t current_dir.now git_dir_realpath.now path.now).is_git ≡ true) }
-    ensures asked { IfOk result (λ is. is ≡ true → asked ≡ true) }
+    ensures swallowed { (t : Names) → W.told worktree.old ≡ Some t
+        → IfOk result (IsTested (W.faults worktree.old) (W.faults worktree.new)
+        (λ at. asked && is_foreign at)
+        (git_at t current_dir.now git_dir_realpath.now path.now)) }
     ensures keeps { Asks W.Worktree worktree.old worktree.new }
 {
     if !asked {
@@ -108,8 +118,9 @@ fn is_foreign<W: Worktree>(
         → NotIncreased (W.faults worktree.old) (W.faults worktree.new)
         → IfOk result (λ is. is ≡ is_foreign
         (git_at t current_dir.now git_dir_realpath.now path.now)) }
-    ensures true_only { (t : Names) → W.told worktree.old ≡ Some t → IfOk result (λ is. is ≡ true
-        → (git_at t current_dir.now git_dir_realpath.now path.now).is_git ≡ true) }
+    ensures swallowed { (t : Names) → W.told worktree.old ≡ Some t
+        → IfOk result (IsTested (W.faults worktree.old) (W.faults worktree.new) is_foreign
+        (git_at t current_dir.now git_dir_realpath.now path.now)) }
     ensures keeps { Asks W.Worktree worktree.old worktree.new }
 {
     if !is_git(alloc, worktree, path)? {

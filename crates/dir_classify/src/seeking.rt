@@ -46,7 +46,7 @@ fn upgrade<W: Worktree, M: Matcher>(
         (git_at t shared.now.current_dir.now shared.now.git_dir_realpath.now
         (joined full.now dot_git))) }
     ensures swallowed { (t : Names) → W.told worktree.old ≡ Some t
-        → IfOk result (IsSeenAs
+        → IfOk result (IsSeenAs (W.faults worktree.old) (W.faults worktree.new)
         (upgraded (chosen shared.now.options).recurse_repositories hard kind)
         (git_at t shared.now.current_dir.now shared.now.git_dir_realpath.now full.now)
         (git_at t shared.now.current_dir.now shared.now.git_dir_realpath.now
@@ -84,7 +84,8 @@ fn indexed_kind<W: Worktree, M: Matcher>(
         (git_at t shared.now.current_dir.now shared.now.git_dir_realpath.now
         (joined full.now dot_git))) }
     ensures swallowed { (t : Names) → W.told worktree.old ≡ Some t
-        → IfOk result (IsSeenAs (indexed_kind (chosen shared.now.options) entry kind)
+        → IfOk result (IsSeenAs (W.faults worktree.old) (W.faults worktree.new)
+        (indexed_kind (chosen shared.now.options) entry kind)
         (git_at t shared.now.current_dir.now shared.now.git_dir_realpath.now full.now)
         (git_at t shared.now.current_dir.now shared.now.git_dir_realpath.now
         (joined full.now dot_git))) }
@@ -100,6 +101,7 @@ fn indexed_kind<W: Worktree, M: Matcher>(
 }
 
 /// The kind of an ignored path: where ignored paths are shown, deletion that looks for repositories looks at it.
+/// See docs/DECISIONS.md#upgrade-by-dot-git.
 #[tactic(auto, unfolding(crate::specs::Chosen::chosen))]
 fn ignored_kind<W: Worktree, M: Matcher>(
     alloc: Global,
@@ -115,7 +117,8 @@ fn ignored_kind<W: Worktree, M: Matcher>(
         (git_at t shared.now.current_dir.now shared.now.git_dir_realpath.now
         (joined full.now dot_git))) }
     ensures swallowed { (t : Names) → W.told worktree.old ≡ Some t
-        → IfOk result (IsSeenAs (ignored_kind (chosen shared.now.options) kind)
+        → IfOk result (IsSeenAs (W.faults worktree.old) (W.faults worktree.new)
+        (ignored_kind (chosen shared.now.options) kind)
         (git_at t shared.now.current_dir.now shared.now.git_dir_realpath.now full.now)
         (git_at t shared.now.current_dir.now shared.now.git_dir_realpath.now
         (joined full.now dot_git))) }
@@ -150,9 +153,9 @@ pub(crate) fn of_indexed<W: Worktree, M: Matcher>(
         (evidence (setting_of M.Matcher shared.now) made s) rela_path.now kind) }
     ensures swallowed { (s : Sources) → W.told worktree.old ≡ Some s.tree → (made : Option Made)
         → (on_disk : Option Kind)
-        → IfOk result (IsJudged (λ _ ev. class_indexed (chosen shared.now.options) ev
-        rela_path.now kind)
-        (evidence (setting_of M.Matcher shared.now) made s) rela_path.now on_disk) }
+        → IfOk result (IsJudged (W.faults worktree.old) (W.faults worktree.new)
+        (λ _ ev. class_indexed (chosen shared.now.options) ev rela_path.now kind)
+        (evidence (setting_of M.Matcher shared.now) made s) on_disk) }
     ensures keeps { Asks W.Worktree worktree.old worktree.new }
     ensures unasked { is_idle (chosen shared.now.options) (seeks_indexed entry kind) ≡ true
         → worktree.new ≡ worktree.old }
@@ -181,9 +184,9 @@ pub(crate) fn of_ignored<W: Worktree, M: Matcher>(
         (evidence (setting_of M.Matcher shared.now) made s) rela_path.now kind excluded) }
     ensures swallowed { (s : Sources) → W.told worktree.old ≡ Some s.tree → (made : Option Made)
         → (on_disk : Option Kind)
-        → IfOk result (IsJudged (λ _ ev. class_ignored (chosen shared.now.options) ev
-        rela_path.now kind excluded)
-        (evidence (setting_of M.Matcher shared.now) made s) rela_path.now on_disk) }
+        → IfOk result (IsJudged (W.faults worktree.old) (W.faults worktree.new)
+        (λ _ ev. class_ignored (chosen shared.now.options) ev rela_path.now kind excluded)
+        (evidence (setting_of M.Matcher shared.now) made s) on_disk) }
     ensures keeps { Asks W.Worktree worktree.old worktree.new }
     ensures unasked { is_idle (chosen shared.now.options)
         (finds_in_ignored (chosen shared.now.options)) ≡ true
@@ -219,9 +222,9 @@ pub(crate) fn of_directory<W: Worktree, M: Matcher>(
         (evidence (setting_of M.Matcher shared.now) made s) rela_path.now kind) }
     ensures swallowed { (s : Sources) → W.told worktree.old ≡ Some s.tree → (made : Option Made)
         → (on_disk : Option Kind)
-        → IfOk result (IsJudged (λ _ ev. class_directory (chosen shared.now.options) ev
-        rela_path.now kind)
-        (evidence (setting_of M.Matcher shared.now) made s) rela_path.now on_disk) }
+        → IfOk result (IsJudged (W.faults worktree.old) (W.faults worktree.new)
+        (λ _ ev. class_directory (chosen shared.now.options) ev rela_path.now kind)
+        (evidence (setting_of M.Matcher shared.now) made s) on_disk) }
     ensures keeps { Asks W.Worktree worktree.old worktree.new }
     ensures unasked { is_idle (chosen shared.now.options) true ≡ true
         → worktree.new ≡ worktree.old }
@@ -250,9 +253,9 @@ pub(crate) fn of_free<W: Worktree, M: Matcher>(
         (evidence (setting_of M.Matcher shared.now) made s) rela_path.now kind None) }
     ensures swallowed { (s : Sources) → W.told worktree.old ≡ Some s.tree → (made : Option Made)
         → (on_disk : Option Kind)
-        → IfOk result (IsJudged (λ _ ev. class_by_rules (chosen shared.now.options) ev
-        rela_path.now kind None)
-        (evidence (setting_of M.Matcher shared.now) made s) rela_path.now on_disk) }
+        → IfOk result (IsJudged (W.faults worktree.old) (W.faults worktree.new)
+        (λ _ ev. class_by_rules (chosen shared.now.options) ev rela_path.now kind None)
+        (evidence (setting_of M.Matcher shared.now) made s) on_disk) }
     ensures keeps { Asks W.Worktree worktree.old worktree.new }
     ensures unasked { is_idle (chosen shared.now.options) (holds_names kind) ≡ true
         → worktree.new ≡ worktree.old }
@@ -284,9 +287,9 @@ pub(crate) fn of_unindexed<W: Worktree, M: Matcher>(
         (evidence (setting_of M.Matcher shared.now) made s) rela_path.now kind ruling) }
     ensures swallowed { (s : Sources) → W.told worktree.old ≡ Some s.tree → (made : Option Made)
         → (on_disk : Option Kind)
-        → IfOk result (IsJudged (λ _ ev. class_unindexed (chosen shared.now.options) ev
-        rela_path.now kind ruling)
-        (evidence (setting_of M.Matcher shared.now) made s) rela_path.now on_disk) }
+        → IfOk result (IsJudged (W.faults worktree.old) (W.faults worktree.new)
+        (λ _ ev. class_unindexed (chosen shared.now.options) ev rela_path.now kind ruling)
+        (evidence (setting_of M.Matcher shared.now) made s) on_disk) }
     ensures keeps { Asks W.Worktree worktree.old worktree.new }
     ensures unasked { is_idle (chosen shared.now.options)
         (seeks_by_rules (chosen shared.now.options) kind ruling.kind) ≡ true

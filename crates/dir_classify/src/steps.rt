@@ -10,7 +10,7 @@ ghost use Rattle.dir_classify.specs.Chosen.{chosen};
 ghost use Rattle.dir_classify.specs.Class.{class_dot_git, class_of_kind, asks_of_kind, dot_git_ruling, is_idle_of_kind, is_kind_known, ruled_by, ruling_of};
 ghost use Rattle.dir_classify.specs.Classes.{Classes, Judges};
 ghost use Rattle.dir_classify.specs.Evidence.{no_ruling};
-ghost use Rattle.dir_classify.specs.Excludes.{made_with, tells_excludes, TellsIf, InStepIf};
+ghost use Rattle.dir_classify.specs.Excludes.{made_with, maps_blobs, tells_excludes, TellsIf, InStepIf};
 ghost use Rattle.dir_classify.specs.Faults.{IsRuled};
 ghost use Rattle.dir_classify.specs.Kept.{AsksRules, KeepsRules, AsksAtMost, AreUntouched};
 ghost use Rattle.dir_classify.specs.Kinds.{first_of_kinds};
@@ -34,6 +34,11 @@ use worktree_stack::Stack;
 
 /// The class of `rela_path` as [`crate::classify::path`] says it, for a caller that has the parts of a context and the whole
 /// path.
+///
+/// # Errors
+///
+/// - `ExcludesAccess`: the rules of a directory above the path were asked, and were not read, as [`crate::classify::path`] says it.
+/// - `OutOfMemory`: memory was refused.
 #[tactic(auto, unfolding(crate::specs::Class::class, crate::specs::Class::asks, crate::specs::Class::asks_nothing, crate::specs::Layers::evidence))]
 pub fn at<W: Worktree, F: Find, M: Matcher>(
     alloc: Global,
@@ -76,6 +81,7 @@ pub fn at<W: Worktree, F: Find, M: Matcher>(
 }
 
 /// The class of a path named `.git`: the rules are asked in deletion alone.
+/// See docs/DECISIONS.md#dot-git-in-deletion.
 fn of_dot_git<W: Worktree, F: Find, M: Matcher>(
     alloc: Global,
     rela_path: &[u8],
@@ -170,8 +176,9 @@ fn ruling_at<W: Worktree, F: Find, M: Matcher>(
         && is_unread_in (made_with excludes.old) s rela_path.now) ≡ false) }
     ensures swallowed { (s : Sources) → TellsIf (W.told worktree.old) (F.holds objects.old)
         (made_with excludes.old) s → InStepIf s excludes.old
-        → IfOk result (IsRuled (λ ev. ruling_of (chosen shared.now.options) ev rela_path.now kind)
-        (evidence (setting_of M.Matcher shared.now) (made_with excludes.old) s) rela_path.now) }
+        → IfOk result (IsRuled (W.faults worktree.old) (W.faults worktree.new)
+        (λ ev. ruling_of (chosen shared.now.options) ev rela_path.now kind)
+        (evidence (setting_of M.Matcher shared.now) (made_with excludes.old) s)) }
     ensures about { IfErr result (IsAbout (made_with excludes.old) rela_path.now) }
     ensures refused { (s : Sources)
         → TellsIf (W.told worktree.old) (F.holds objects.old) (made_with excludes.old) s
@@ -183,6 +190,7 @@ fn ruling_at<W: Worktree, F: Find, M: Matcher>(
         (Increased (F.faults objects.old) (F.faults objects.new))) }
     ensures keeps { AsksRules W.Worktree worktree.old worktree.new }
     ensures store { AsksStore F.Find objects.old objects.new }
+    ensures unmapped { maps_blobs (made_with excludes.old) ≡ false → objects.new ≡ objects.old }
     ensures rules { KeepsRules W.Worktree F.Find worktree.old worktree.new objects.old excludes.old
         excludes.new }
     ensures reads { AsksAtMost true rela_path.now (W.reads worktree.old) (W.reads worktree.new)
@@ -201,6 +209,7 @@ fn ruling_at<W: Worktree, F: Find, M: Matcher>(
 }
 
 /// As what the rules are asked about a path: a link may count as what it leads to. A fault reads as nothing.
+/// See docs/DECISIONS.md#directory-for-rules.
 #[tactic(auto, unfolding(crate::specs::Chosen::chosen))]
 fn ruled_as<W: Worktree, M: Matcher>(
     alloc: Global,

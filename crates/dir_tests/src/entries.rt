@@ -95,6 +95,25 @@ fn becomes(kind: MatchKind, want: PathspecMatch) -> bool {
         && PathspecMatch::from(found(true)) == PathspecMatch::Excluded
 }
 
+/// Options that ask for nothing, field by field.
+fn all_off() -> Options<'static> {
+    Options {
+        precompose_unicode: false,
+        ignore_case: false,
+        recurse_repositories: false,
+        emit_pruned: false,
+        emit_ignored: None,
+        for_deletion: None,
+        classify_untracked_bare_repositories: false,
+        emit_tracked: false,
+        emit_untracked: EmissionMode::Matching,
+        emit_empty_directories: false,
+        emit_collapsed: None,
+        symlinks_to_directories_are_ignored_like_directories: false,
+        worktree_relative_worktree_dirs: None,
+    }
+}
+
 /// The tests of kinds and statuses, and what options are where nothing is said.
 #[test]
 fn kinds_statuses_and_defaults(rt: HostRuntime) {
@@ -104,5 +123,5 @@ fn kinds_statuses_and_defaults(rt: HostRuntime) {
     assert!(rt; are_looked_into());
     assert!(rt; becomes(MatchKind::WildcardMatch, PathspecMatch::WildcardMatch));
     assert!(rt; EmissionMode::default() == EmissionMode::Matching);
-    assert!(rt; Options::default().emit_ignored.is_none() && !Options::default().emit_tracked);
+    assert!(rt; Options::default() == all_off());
 }

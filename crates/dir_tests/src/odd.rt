@@ -29,6 +29,7 @@ pub struct Odd {
     /// The entry at which Break is answered, from 1; 0 for never.
     last: usize,
     breaks: u64,
+    refusals: u64,
     is_stopped: bool,
 }
 
@@ -40,6 +41,7 @@ impl Odd {
             is_turn: false,
             last,
             breaks: 0,
+            refusals: 0,
             is_stopped: false,
         }
     }
@@ -53,6 +55,8 @@ impl Delegate for Odd {
     ghost is_default = { λ odd. not (is_some odd.looks) };
 
     ghost breaks = { λ odd. odd.breaks };
+
+    ghost refusals = { λ odd. odd.refusals };
 
     ghost is_stopped = { λ odd. odd.is_stopped };
 
@@ -77,13 +81,14 @@ impl Delegate for Odd {
         for_deletion: Option<ForDeletionMode>,
         worktree_root_is_repository: bool,
     ) -> bool {
-        match self.looks {
-            None => entry.status.can_recurse(
-                entry.disk_kind,
-                entry.pathspec_match,
-                for_deletion,
-                worktree_root_is_repository,
-            ),
+        let by_status = entry.status.can_recurse(
+            entry.disk_kind,
+            entry.pathspec_match,
+            for_deletion,
+            worktree_root_is_repository,
+        );
+        let looks = match self.looks {
+            None => by_status,
             Some(Looks::Always) => true,
             Some(Looks::Never) => false,
             Some(Looks::InTurn) => {
@@ -94,6 +99,10 @@ impl Delegate for Odd {
                 let asked = entry.rela_path;
                 asked.is_empty() || asked == path
             }
+        };
+        if by_status && !looks {
+            self.refusals = self.refusals.saturating_add(1);
         }
+        looks
     }
 }

@@ -36,7 +36,7 @@ pub record Before {W F : Type 0} (w : WorktreeOf W) (f : FindOf F) (w0 w1 : W) (
 pub Before-asked : {W F : Type 0} {w : WorktreeOf W} {f : FindOf F} {w0 w1 : W} {o : F} {rules : Option Stacked} → Asks w w0 w1 → Before w f w0 w1 o o rules rules
 Before-asked asks =
     record {
-      worktree = record { tree = asks.tree; faults = asks.faults; list_faults = asks.list_faults; lists = asks.lists; precomposes = asks.precomposes };
+      worktree = record { tree = asks.tree; faults = asks.faults; list_faults = asks.list_faults; reads = asks.reads; lists = asks.lists; precomposes = asks.precomposes };
       store = AsksStore-same;
       rules = KeepsRules-same;
     }
@@ -63,6 +63,7 @@ Before-then a b =
         tree = b.worktree.tree ∙ a.worktree.tree;
         faults = omega (arith, a.worktree.faults, b.worktree.faults);
         list_faults = b.worktree.list_faults ∙ a.worktree.list_faults;
+        reads = omega (arith, a.worktree.reads, b.worktree.reads);
         lists = b.worktree.lists ∙ a.worktree.lists;
         precomposes = b.worktree.precomposes ∙ a.worktree.precomposes;
       };
@@ -72,7 +73,7 @@ Before-then a b =
 
 pub unlisted : {W : Type 0} {w : WorktreeOf W} {w0 w1 : W} → AsksRules w w0 w1 → KeepsTree w w0 w1
 unlisted {W} {w} {w0} {w1} a =
-    record { tree = a.tree; faults = a.faults; list_faults = omega (arith, a.list_faults); lists = omega (arith, a.lists); precomposes = a.precomposes }
+    record { tree = a.tree; faults = a.faults; list_faults = omega (arith, a.list_faults); reads = a.reads; lists = omega (arith, a.lists); precomposes = a.precomposes }
 
 module _ {W F I D T : Type 0} (w : WorktreeOf W) (f : FindOf F) (i : InterruptOf I) (d : DelegateOf D) where
   pub Ends-after : {w0 w1 w2 : W} {o0 o1 o2 : F} {i0 i1 : I} {r0 r1 r2 : Option Stacked} {d0 d1 : D} (result : Result T Stop)
@@ -109,7 +110,7 @@ module _ {W F I D T : Type 0} (w : WorktreeOf W) (f : FindOf F) (i : InterruptOf
       → Ends w f i d w0 w0 o0 o0 i0 i0 r0 r0 d0 d1 result
   Ends-put {w0} {o0} {i0} result keeps heeds fault interrupt listing =
       record {
-        worktree = record { tree = refl; faults = omega arith; list_faults = omega arith; lists = omega arith; precomposes = refl };
+        worktree = record { tree = refl; faults = omega arith; list_faults = omega arith; reads = omega arith; lists = omega arith; precomposes = refl };
         store = AsksStore-same;
         rules = KeepsRules-same;
         interrupt = record { questions = omega arith; raised = omega arith };

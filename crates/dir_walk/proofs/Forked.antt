@@ -104,10 +104,10 @@ module _ {W F I D : Type 0} (w : WorktreeOf W) (f : FindOf F) (i : InterruptOf I
         found = λ s told. tt;
         refused = λ made s stands default limit level. inl tt;
         caused = record { fault = tt; interrupt = tt; listing = tt; listed = tt; calm = tt };
-        worktree = record { tree = refl; faults = omega arith; list_faults = omega arith; lists = omega arith; precomposes = refl };
+        worktree = record { tree = refl; faults = omega arith; list_faults = omega arith; reads = omega arith; lists = omega arith; precomposes = refl };
         store = AsksStore-same;
         interrupt = record { questions = omega arith; raised = omega arith };
-        enters = record { opened = 0; counted = λ small. omega (arith, small); asked = omega arith };
+        enters = record { opened = 0; counted = λ small. omega (arith, small); asked = omega arith; within = λ made s stands quiet default. omega arith };
         hands = Hands-none refl refl refl;
         delegate = KeepsDelegate-same;
         heeds = record { broken = tt; stopped = tt; unbroken = refl; kept_on = tt };
@@ -118,7 +118,7 @@ module _ {W F I D : Type 0} (w : WorktreeOf W) (f : FindOf F) (i : InterruptOf I
   module _ {x0 x1 w1 : W} (w0 : W) {o0 o1 : F} {i0 i1 : I} {rules : Option Stacked} {d0 d1 : D} {start stop : Outcome} (given : Setting) {blocked : Option (List ℕ)} {levels : ℕ} (path : List ℕ) (class : Class) (result : Result Handed Stop)
       (tree0 : w.told x0 ≡ w.told w0) (faults0 : w.faults x0 ≡ 0) (list_faults0 : w.list_faults x0 ≡ 0)
       (tree1 : w.told w1 ≡ w.told w0) (faults1 : w.faults w1 ≡ with_more (w.faults w0) (w.faults x1)) (later : w.faults w0 ≤ w.faults w1)
-      (list_faults1 : w.list_faults w1 ≡ with_more (w.list_faults w0) (w.list_faults x1)) (list_later : w.list_faults w0 ≤ w.list_faults w1) (lists1 : w.lists w1 ≡ w.lists w0) (precomposes1 : w.precomposes w1 ≡ w.precomposes w0) where
+      (list_faults1 : w.list_faults w1 ≡ with_more (w.list_faults w0) (w.list_faults x1)) (list_later : w.list_faults w0 ≤ w.list_faults w1) (read_later : w.reads w0 ≤ w.reads w1) (lists1 : w.lists w1 ≡ w.lists w0) (precomposes1 : w.precomposes w1 ≡ w.precomposes w0) where
     pub job-worktree : WalksJob w f i d x0 x1 o0 o1 i0 i1 rules d0 d1 start stop given blocked levels path class result → WalksJob w f i d w0 w1 o0 o1 i0 i1 rules d0 d1 start stop given blocked levels path class result
     job-worktree job =
         let on_fork : (made : Option Made) (s : Sources) → Stands given (w.told w0) (f.holds o0) rules blocked made s → Stands given (w.told x0) (f.holds o0) rules blocked made s =
@@ -144,10 +144,10 @@ module _ {W F I D : Type 0} (w : WorktreeOf W) (f : FindOf F) (i : InterruptOf I
             listed = unless-weaker result (stays-more (w.list_faults w0) (w.list_faults x0) (w.list_faults w1) (w.list_faults x1) list_faults0 list_faults1 list_later) job.caused.listed;
             calm = job.caused.calm;
           };
-          worktree = record { tree = tree1; faults = later; list_faults = list_later; lists = omega (arith, lists1); precomposes = precomposes1 };
+          worktree = record { tree = tree1; faults = later; list_faults = list_later; reads = read_later; lists = omega (arith, lists1); precomposes = precomposes1 };
           store = job.store;
           interrupt = job.interrupt;
-          enters = job.enters;
+          enters = record { opened = job.enters.opened; counted = job.enters.counted; asked = job.enters.asked; within = λ made s stands quiet default. job.enters.within made s (on_fork made s stands) (no_fault quiet) default };
           hands = job.hands;
           delegate = job.delegate;
           heeds = job.heeds;
@@ -179,7 +179,7 @@ module _ {W F I D : Type 0} (w : WorktreeOf W) (f : FindOf F) (i : InterruptOf I
           worktree = job.worktree;
           store = record { holds = holds1; faults = later };
           interrupt = job.interrupt;
-          enters = job.enters;
+          enters = record { opened = job.enters.opened; counted = job.enters.counted; asked = job.enters.asked; within = λ made s stands quiet default. job.enters.within made s (in_fork made s stands) quiet default };
           hands = job.hands;
           delegate = job.delegate;
           heeds = job.heeds;
@@ -208,7 +208,7 @@ module _ {W F I D : Type 0} (w : WorktreeOf W) (f : FindOf F) (i : InterruptOf I
           worktree = job.worktree;
           store = job.store;
           interrupt = record { questions = omega (arith, questions1); raised = later };
-          enters = record { opened = job.enters.opened; counted = job.enters.counted; asked = omega (arith, job.enters.asked, questions0, questions1) };
+          enters = record { opened = job.enters.opened; counted = job.enters.counted; asked = omega (arith, job.enters.asked, questions0, questions1); within = job.enters.within };
           hands = job.hands;
           delegate = job.delegate;
           heeds = job.heeds;
@@ -232,7 +232,7 @@ module _ {W F I D : Type 0} (w : WorktreeOf W) (f : FindOf F) (i : InterruptOf I
         worktree = job.worktree;
         store = job.store;
         interrupt = job.interrupt;
-        enters = job.enters;
+        enters = record { opened = job.enters.opened; counted = job.enters.counted; asked = job.enters.asked; within = λ made s stands quiet default. job.enters.within made s (with_fresh made s stands) quiet default };
         hands = job.hands;
         delegate = job.delegate;
         heeds = job.heeds;

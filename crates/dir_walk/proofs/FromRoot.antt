@@ -12,7 +12,7 @@ use Rattle.worktree_stack.specs.Lookups.{refused_one}
 use Rattle.worktree_stack.specs.Stacked.{Stacked, pushed}
 use Rattle.dir_classify.specs.declared.entry.Entry.{Entry}
 use Rattle.dir_classify.specs.Chosen.{Chosen}
-use Rattle.dir_classify.specs.Excludes.{pushed_in}
+use Rattle.dir_classify.specs.Excludes.{made_with, pushed_in, tells_attributes}
 use Rattle.dir_classify.specs.Rooted.{AsksOnWay, LeadsTo}
 use Rattle.dir_classify.proofs.WayAsked.{on-way-further, way-root}
 use Rattle.dir_walk.specs.declared.handed.Stop.{Stop}
@@ -24,7 +24,7 @@ use Rattle.dir_walk.specs.Emissions.{Emission}
 use Rattle.dir_walk.specs.Opens.{IsListed, OpensFrom, OpensRoot, pushed_to, refused_walk}
 use Rattle.dir_walk.specs.Puts.{Puts, held_at}
 use Rattle.dir_walk.proofs.Lists.{and_left}
-use Rattle.dir_walk.proofs.Opening.{front-all, opens-refused, pushed-most}
+use Rattle.dir_walk.proofs.Opening.{front-all, pushed-most}
 use Rattle.dir_walk.proofs.Putting.{Puts-as, Puts-over}
 
 -- ---- the way to the traversal root
@@ -48,10 +48,10 @@ on-way-to : (root : List ℕ) {path : List ℕ} (new : Option Stacked) → Leads
 on-way-to root {path} new leads way = subst (IsOnWay (pushed_in new)) (sym leads.components_are) (on-way-further (pushed_in new) (components path) leads.rest way)
 
 -- the classes on the way read at most once for each directory there whose rules are held then
-asks-on-way : {F T E : Type 0} (recurses : Bool) (root : List ℕ) (reads0 reads1 : ℕ) (o0 o1 : F) (old new : Option Stacked) (result : Result T E) → recurses ≡ true
+asks-on-way : {F T E : Type 0} (recurses : Bool) (root : List ℕ) (reads0 reads1 : ℕ) (o0 o1 : F) (old new : Option Stacked) (result : Result T E) → recurses ≡ true → tells_attributes (made_with old) ≡ false
     → AsksOnWay recurses root reads0 reads1 o0 o1 old new result → reads1 ≤ reads0 + pushed_to (pushed_in new) (components root) + refused_one result
-asks-on-way recurses root reads0 reads1 o0 o1 old new result on (inl unasked) = omega (arith, unasked.reads on)
-asks-on-way recurses root reads0 reads1 o0 o1 old new result on (inr asked) = omega (arith, asked.reads on, held-on-way (pushed_in new) (components root) (on-way-to root new asked.leads asked.on_way))
+asks-on-way recurses root reads0 reads1 o0 o1 old new result on alone (inl unasked) = omega (arith, unasked.reads on)
+asks-on-way recurses root reads0 reads1 o0 o1 old new result on alone (inr asked) = omega (arith, asked.reads on alone, held-on-way (pushed_in new) (components root) (on-way-to root new asked.leads asked.on_way))
 
 -- what is pushed on the way to a directory lies above it, or is the worktree root
 above-last : (names : List (List ℕ)) → length (without_last names) ≤ length names - 1
@@ -69,14 +69,14 @@ some-names [] rest first is some = absurd (let e : is_empty first ≡ true = ap 
 some-names (name ∷ names) rest first is some = omega arith
 
 -- so the classes on the way read at most once for each component
-asks-above : {F T E : Type 0} (recurses : Bool) (root : List ℕ) (reads0 reads1 : ℕ) (o0 o1 : F) (old new : Option Stacked) (result : Result T E) → recurses ≡ true
+asks-above : {F T E : Type 0} (recurses : Bool) (root : List ℕ) (reads0 reads1 : ℕ) (o0 o1 : F) (old new : Option Stacked) (result : Result T E) → recurses ≡ true → tells_attributes (made_with old) ≡ false
     → AsksOnWay recurses root reads0 reads1 o0 o1 old new result → reads1 ≤ reads0 + length (components root) + refused_one result
-asks-above recurses root reads0 reads1 o0 o1 old new result on (inl unasked) = omega (arith, unasked.reads on)
-asks-above recurses root reads0 reads1 o0 o1 old new result on (inr asked) =
+asks-above recurses root reads0 reads1 o0 o1 old new result on alone (inl unasked) = omega (arith, unasked.reads on)
+asks-above recurses root reads0 reads1 o0 o1 old new result on alone (inr asked) =
     let some : 1 ≤ length (components asked.first ++ asked.behind.rest) = some-names (components asked.first) asked.behind.rest asked.first asked.behind.spelled_is asked.beneath in
     let last : length (components asked.last) ≡ length (components asked.first ++ asked.behind.rest) = ap {B = ℕ} (λ (l : List (List ℕ)). length l) asked.behind.components_are in
     let same : length (components root) ≡ length (components asked.last ++ asked.leads.rest) = ap {B = ℕ} (λ (l : List (List ℕ)). length l) asked.leads.components_are in
-    omega (arith, asked.reads on, pushed-above (pushed_in new) (components root) (on-way-to root new asked.leads asked.on_way), some, last, same, length-append (components asked.last) asked.leads.rest)
+    omega (arith, asked.reads on alone, pushed-above (pushed_in new) (components root) (on-way-to root new asked.leads asked.on_way), some, last, same, length-append (components asked.last) asked.leads.rest)
 
 -- what was asked on the way to where it ended was asked on the way to the traversal root
 pub asks-from : {F T E : Type 0} {recurses : Bool} {root path : List ℕ} {reads0 reads1 : ℕ} {o0 o1 : F} {old new : Option Stacked} {result : Result T E} → LeadsTo root path
@@ -97,29 +97,38 @@ listed-later Held now opened same listed = λ small. omega (arith, same, small, 
 listed-later AtOnce now opened same listed = omega (arith, same, listed)
 
 -- a traversal root is to be entered, and a refusal comes first
-pub opens-not : {W I : Type 0} (strategy : Strategy) (w : WorktreeOf W) (i : InterruptOf I) (o : Chosen) (w0 w1 : W) (i0 i1 : I) (a : Outcome) (at : Option Stacked) (names : List (List ℕ)) → w.lists w1 ≡ w.lists w0 → w.reads w1 ≡ w.reads w0
-    → with_more (i.questions i0) 0 ≤ i.questions i1 → OpensRoot w i w0 w1 i0 i1 a a strategy o at at names 1
-opens-not AtOnce w i o w0 w1 i0 i1 a at names lists reads asked = record { enters = record { opened = 0; counted = λ small. omega (arith, small); asked = asked }; listed = omega (arith, lists) }
-opens-not Held w i o w0 w1 i0 i1 a at names lists reads asked = opens-refused (0, record { listed = λ small. omega (arith, lists, small); counted = λ small. omega (arith, small); asked = asked }) reads
+pub opens-not : {W I : Type 0} (strategy : Strategy) (w : WorktreeOf W) (i : InterruptOf I) (o : Chosen) (w0 w1 : W) (i0 i1 : I) (a : Outcome) (at : Option Stacked) (names : List (List ℕ)) {Within : ℕ → Type 0} → ((n : ℕ) → n ≡ 0 → Within n) → w.lists w1 ≡ w.lists w0
+    → w.reads w1 ≡ w.reads w0 → with_more (i.questions i0) 0 ≤ i.questions i1 → OpensRoot w i w0 w1 i0 i1 a a strategy o at at names 1 Within
+opens-not AtOnce w i o w0 w1 i0 i1 a at names none lists reads asked =
+    record { enters = record { opened = 0; counted = λ small. omega (arith, small); asked = asked; within = none 0 refl }; listed = omega (arith, lists) }
+opens-not Held w i o w0 w1 i0 i1 a at names none lists reads asked =
+    record {
+      opened = 0;
+      opens = record { listed = λ small. omega (arith, lists, small); counted = λ small. omega (arith, small); asked = asked };
+      within = none 0 refl;
+      reads = λ on alone. omega (arith, reads);
+    }
 
 module _ {W F I T U E : Type 0} {w : WorktreeOf W} {i : InterruptOf I} {o : Chosen} {w0 w2 : W} (w1 : W) {o0 o1 : F} (strategy : Strategy) {i0 : I} {a b : Outcome} {old mid : Option Stacked} {root : List ℕ} {reached : Result U E}
     (asks : AsksOnWay o.recurse_repositories root (w.reads w0) (w.reads w1) o0 o1 old mid reached) where
   -- the way to the traversal root ended before it, or it is not entered
-  pub opens-short : (result : Result T Stop) → w.lists w2 ≡ w.lists w0 → w.reads w2 ≡ w.reads w1 → b.read_dir_calls ≡ a.read_dir_calls → refused_one reached ≤ refused_walk result
-      → OpensFrom w i w0 w2 i0 i0 a b strategy o root result
-  opens-short result lists reads counted fits =
+  pub opens-short : {Within : ℕ → Type 0} → Within 0 → (result : Result T Stop) → w.lists w2 ≡ w.lists w0 → w.reads w2 ≡ w.reads w1 → b.read_dir_calls ≡ a.read_dir_calls → refused_one reached ≤ refused_walk result
+      → OpensFrom w i w0 w2 i0 i0 a b strategy o (made_with old) root result Within
+  opens-short none result lists reads counted fits =
       record {
         opened = 0;
         listed = listed-none strategy lists;
         counted = λ small. omega (arith, counted, small);
         asked = omega arith;
-        reads = λ held on. omega (arith, asks-above o.recurse_repositories root (w.reads w0) (w.reads w1) o0 o1 old mid reached (and_left o.recurse_repositories _ on) asks, reads, fits);
+        within = none;
+        reads = λ held on alone. omega (arith, asks-above o.recurse_repositories root (w.reads w0) (w.reads w1) o0 o1 old mid reached (and_left o.recurse_repositories _ on) alone asks, reads, fits);
       }
 
 -- what is opened is opened between calls that list and read nothing
 pub opens-around : {W I : Type 0} (strategy : Strategy) (w : WorktreeOf W) (i : InterruptOf I) (o : Chosen) (w0 w1 w2 : W) (i0 i1 : I) (a b c : Outcome) (old new : Option Stacked) (names : List (List ℕ)) (less spare : ℕ)
-    → w.lists w1 ≡ w.lists w0 → w.reads w1 ≡ w.reads w0 → c.read_dir_calls ≡ b.read_dir_calls → less ≤ spare → OpensRoot w i w1 w2 i0 i1 a b strategy o old new names less → OpensRoot w i w0 w2 i0 i1 a c strategy o old new names spare
-opens-around Held w i o w0 w1 w2 i0 i1 a b c old new names less spare lists reads read fits one =
+    {First Within : ℕ → Type 0} → ((n : ℕ) → First n → Within n) → w.lists w1 ≡ w.lists w0 → w.reads w1 ≡ w.reads w0 → c.read_dir_calls ≡ b.read_dir_calls → less ≤ spare
+    → OpensRoot w i w1 w2 i0 i1 a b strategy o old new names less First → OpensRoot w i w0 w2 i0 i1 a c strategy o old new names spare Within
+opens-around Held w i o w0 w1 w2 i0 i1 a b c old new names less spare so lists reads read fits one =
     record {
       opened = one.opened;
       opens = record {
@@ -127,11 +136,12 @@ opens-around Held w i o w0 w1 w2 i0 i1 a b c old new names less spare lists read
         counted = λ small. omega (arith, read, one.opens.counted small);
         asked = one.opens.asked;
       };
-      reads = λ on. omega (arith, reads, fits, one.reads on);
+      within = so one.opened one.within;
+      reads = λ on alone. omega (arith, reads, fits, one.reads on alone);
     }
-opens-around AtOnce w i o w0 w1 w2 i0 i1 a b c old new names less spare lists reads read fits one =
+opens-around AtOnce w i o w0 w1 w2 i0 i1 a b c old new names less spare so lists reads read fits one =
     record {
-      enters = record { opened = one.enters.opened; counted = λ small. omega (arith, read, one.enters.counted small); asked = one.enters.asked };
+      enters = record { opened = one.enters.opened; counted = λ small. omega (arith, read, one.enters.counted small); asked = one.enters.asked; within = so one.enters.opened one.enters.within };
       listed = omega (arith, lists, one.listed);
     }
 
@@ -142,30 +152,32 @@ refused-same S T Broken = omega arith
 -- it is entered
 pub opens-entered : {W F I T U E : Type 0} {w : WorktreeOf W} {i : InterruptOf I} {o : Chosen} {w0 : W} (w1 w2 : W) {o0 o1 : F} (strategy : Strategy) {i0 : I} {a b : Outcome} {old mid : Option Stacked} {root : List ℕ} {reached : Result U E}
     → AsksOnWay o.recurse_repositories root (w.reads w0) (w.reads w1) o0 o1 old mid reached
-    → {w3 : W} {i1 : I} (new : Option Stacked) (result : Result T Stop) → w.lists w2 ≡ w.lists w0 → w.reads w2 ≡ w.reads w1 → refused_one reached ≡ 0
-    → OpensRoot w i w2 w3 i0 i1 a b strategy o mid new (components root) (refused_walk result) → OpensFrom w i w0 w3 i0 i1 a b strategy o root result
-opens-entered {w = w} {o = o} {w0 = w0} w1 w2 {o0 = o0} {o1 = o1} Held {old = old} {mid = mid} {root = root} {reached = reached} asks new result lists reads answered one =
+    → {w3 : W} {i1 : I} (new : Option Stacked) (result : Result T Stop) {First Within : ℕ → Type 0} → ((n : ℕ) → First n → Within n) → made_with mid ≡ made_with old → w.lists w2 ≡ w.lists w0 → w.reads w2 ≡ w.reads w1 → refused_one reached ≡ 0
+    → OpensRoot w i w2 w3 i0 i1 a b strategy o mid new (components root) (refused_walk result) First → OpensFrom w i w0 w3 i0 i1 a b strategy o (made_with old) root result Within
+opens-entered {w = w} {o = o} {w0 = w0} w1 w2 {o0 = o0} {o1 = o1} Held {old = old} {mid = mid} {root = root} {reached = reached} asks new result so made lists reads answered one =
     record {
       opened = one.opened;
       listed = λ small. omega (arith, lists, small, one.opens.listed (omega (arith, lists, small)));
       counted = one.opens.counted;
       asked = one.opens.asked;
-      reads = λ held on.
+      within = so one.opened one.within;
+      reads = λ held on alone.
           omega (
             arith,
-            asks-on-way o.recurse_repositories root (w.reads w0) (w.reads w1) o0 o1 old mid reached (and_left o.recurse_repositories _ on) asks,
-            one.reads on,
+            asks-on-way o.recurse_repositories root (w.reads w0) (w.reads w1) o0 o1 old mid reached (and_left o.recurse_repositories _ on) alone asks,
+            one.reads on (ap tells_attributes made ∙ alone),
             pushed-most (pushed_in new) (components root),
             reads,
             answered,
           );
     }
-opens-entered w1 w2 AtOnce asks new result lists reads answered one =
+opens-entered w1 w2 AtOnce asks new result so made lists reads answered one =
     record {
       opened = one.enters.opened;
       listed = omega (arith, lists, one.listed);
       counted = one.enters.counted;
       asked = one.enters.asked;
+      within = so one.enters.opened one.enters.within;
       reads = λ held. absurd (cc held);
     }
 

@@ -1,5 +1,5 @@
 -- The class of a path that is entered, also by what a fault left to be read.
-use Rattle.std.proofs.Common.{◌≡◌, ◌⊎◌, inl, inr, ℕ, List, Bool, true, false, cond, not, ◌&&◌, Option, Some, None, option_map, Err, refl, sym, ap, ◌∙◌}
+use Rattle.std.proofs.Common.{◌≡◌, ℕ, List, Bool, true, false, cond, not, ◌&&◌, Option, Some, None, option_map, Err, refl, sym, ap, ◌∙◌}
 use Rattle.std.proofs.lemmas.Bool.{and_parts}
 use Rattle.worktree_fs.specs.declared.answers.ListError.{ListError}
 use Rattle.worktree_fs.specs.Answers.{kind_of, list_of}
@@ -12,7 +12,7 @@ use Rattle.dir_classify.specs.Chosen.{Chosen, finds_bare_repositories}
 use Rattle.dir_classify.specs.Class.{class, class_by_rules, class_directory, class_dot_git, class_indexed, class_of_kind, class_other, class_unindexed, class_unmatched, class_worktree, dot_git_ruling, enters, is_dot_git, is_indexed, is_worktree, ruling_of, upgrade}
 use Rattle.dir_classify.specs.Enters.{is_open, is_looked_into}
 use Rattle.dir_classify.specs.Evidence.{Evidence}
-use Rattle.dir_classify.specs.Faults.{IsJudged, read_as}
+use Rattle.dir_classify.specs.Faults.{IsJudged, kind_read, read_as}
 use Rattle.dir_classify.specs.Kinds.{first_of_kinds, from_node, holds_names, is_directory, is_repository}
 
 open-directory : (kind : Option Kind) → is_open kind false ≡ true → kind ≡ Some Directory
@@ -67,12 +67,12 @@ kind-entered o ev p on_disk into = go (is_dot_git o.ignore_case p) (ev.can_match
     go false false f = absurd (cc f)
 
 -- where the names of what is entered cannot be listed, the index has an up-to-date directory there
-pub indexed-unlisted : (o : Chosen) (ev : Evidence) (p : List ℕ) (at : Look) (c : Class) (why : ListError) → IsJudged (λ kind read. class o read p None kind) ev p (option_map from_node (kind_of at)) c → enters o c false ≡ true → list_of at ≡ Err why
+pub indexed-unlisted : (before now : ℕ) (o : Chosen) (ev : Evidence) (p : List ℕ) (at : Look) (c : Class) (why : ListError) → IsJudged before now (λ kind read. class o read p None kind) ev (option_map from_node (kind_of at)) c → enters o c false ≡ true → list_of at ≡ Err why
     → (ev.in_index p).up_to_date ≡ Some Directory
-indexed-unlisted o ev p at c why judged into unlisted = go (ev.in_index p).up_to_date judged.kind judged.kind_is by_kind
+indexed-unlisted before now o ev p at c why judged into unlisted = go (ev.in_index p).up_to_date judged.failed.kind by_kind
   where
-    by_kind : first_of_kinds (ev.in_index p).up_to_date judged.kind ≡ Some Directory
-    by_kind = kind-entered o (read_as ev judged.followed judged.at judged.below) p judged.kind (ap (λ (k : Class). enters o k false) (sym judged.class_is) ∙ into)
+    by_kind : first_of_kinds (ev.in_index p).up_to_date (kind_read judged.failed.kind (option_map from_node (kind_of at))) ≡ Some Directory
+    by_kind = kind-entered o (read_as judged.failed ev) p (kind_read judged.failed.kind (option_map from_node (kind_of at))) (ap (λ (k : Class). enters o k false) (sym judged.class_is) ∙ into)
 
     no_directory : (l : Look) → list_of l ≡ Err why → option_map from_node (kind_of l) ≡ Some Directory → (k : Option Kind) → k ≡ Some Directory
     no_directory absent e d k = absurd (cc d)
@@ -82,7 +82,7 @@ indexed-unlisted o ev p at c why judged into unlisted = go (ev.in_index p).up_to
     no_directory (found other) e d k = absurd (cc d)
     no_directory (found (directory names)) e d k = absurd (cc e)
 
-    go : (indexed kind : Option Kind) → (kind ≡ option_map from_node (kind_of at)) ⊎ (kind ≡ None) → first_of_kinds indexed kind ≡ Some Directory → indexed ≡ Some Directory
-    go (Some k) kind is e = e
-    go None kind (inl is) e = no_directory at unlisted (sym is ∙ e) None
-    go None kind (inr is) e = absurd (cc (e, is))
+    go : (indexed : Option Kind) (failed : Bool) → first_of_kinds indexed (kind_read failed (option_map from_node (kind_of at))) ≡ Some Directory → indexed ≡ Some Directory
+    go (Some k) failed e = e
+    go None false e = no_directory at unlisted e None
+    go None true e = absurd (cc e)

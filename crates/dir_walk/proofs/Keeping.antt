@@ -23,6 +23,7 @@ KeepsTree-then first second =
       tree = second.tree ∙ first.tree;
       faults = omega (arith, first.faults, second.faults);
       list_faults = omega (arith, first.list_faults, second.list_faults);
+      reads = omega (arith, first.reads, second.reads);
       lists = omega (arith, first.lists, second.lists);
       precomposes = second.precomposes ∙ first.precomposes;
     }
@@ -64,6 +65,7 @@ KeepsDelegate-then {D} {d} {a} {b} {c} first second =
       default = second.default ∙ first.default;
       given = Extends-then (d.given a) (d.given b) (d.given c) first.given second.given;
       breaks = omega (arith, first.breaks, second.breaks);
+      refusals = omega (arith, first.refusals, second.refusals);
     }
 
 -- after a call that left the delegate as it was but for its answers
@@ -73,7 +75,7 @@ Heeds-after d a b c (Err Broken) same heeds = record { broken = rw (sym same) he
 Heeds-after d a b c (Err (Refused e)) same heeds = record { broken = tt; stopped = tt; unbroken = heeds.unbroken ∙ same; kept_on = tt }
 
 pub KeepsDelegate-same : {D : Type 0} {d : DelegateOf D} {a : D} → KeepsDelegate d a a
-KeepsDelegate-same {D} {d} {a} = record { default = refl; given = Extends-same (d.given a) (d.given a) refl; breaks = omega arith }
+KeepsDelegate-same {D} {d} {a} = record { default = refl; given = Extends-same (d.given a) (d.given a) refl; breaks = omega arith; refusals = omega arith }
 
 pub KeepsRules-same : {W F : Type 0} {w : WorktreeOf W} {f : FindOf F} {a b : W} {k : F} {r : Option Stacked} → KeepsRules w f a b k r r
 KeepsRules-same = record { made = refl; in_step = λ u told step. step }

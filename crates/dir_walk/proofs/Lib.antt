@@ -18,6 +18,7 @@ pub mod DistinctPaths
 pub mod Distinctly
 pub mod Emitting
 pub mod Ending
+pub mod Entered
 pub mod Entering
 pub mod FeedsSo
 pub mod Flat

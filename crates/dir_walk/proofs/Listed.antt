@@ -1,5 +1,5 @@
 -- The names of a directory, in whatever order they were walked, lead to what the directory gives.
-use Rattle.std.proofs.Common.{◌≡◌, ℕ, zero, suc, ◌<◌, ◌≤◌, List, [], ◌∷◌, ◌++◌, Bool, true, false, cond, ◌&&◌, ◌||◌, Option, Some, None, sum_by, count_by, take, take_all, get_or, length, refl, sym, ap, subst, ◌∙◌, arith}
+use Rattle.std.proofs.Common.{◌≡◌, ℕ, zero, suc, ◌+◌, ◌<◌, ◌≤◌, List, [], ◌∷◌, ◌++◌, Bool, true, false, cond, ◌&&◌, ◌||◌, Option, Some, None, sum_by, count_by, take, take_all, get_or, length, refl, sym, ap, subst, ◌∙◌, arith}
 use borrow.Author.Tests.{ltb-true}
 use Rattle.std.specs.Prelude.{◌==◌, option_to_list, nat_lt}
 use Rattle.std.specs.Str.{bytes_eq}
@@ -35,7 +35,7 @@ use Rattle.dir_walk.proofs.Counts.{SameCounts, count_by-append, count_by-cons, l
 use Rattle.dir_walk.proofs.Emitting.{Emits-then, Within-then, front-sum}
 use Rattle.dir_walk.proofs.Folds.{Alike, closed_alike, tally_same}
 use Rattle.dir_walk.proofs.Lists.{all_weaker}
-use Rattle.dir_walk.proofs.Named.{SoFar}
+use Rattle.dir_walk.proofs.Named.{SoFar, entered_by}
 use Rattle.dir_walk.proofs.Once.{item_named, IsSum, IsOr, sum_by-agree, any-agree, sum_once, any_once}
 use Rattle.dir_walk.proofs.Refusals.{HasPaths}
 use Rattle.dir_walk.proofs.Placed.{full_path-child, look-joined, look-directory}
@@ -177,6 +177,10 @@ module _ (given : Setting) (made : Option Made) (s : Sources) (d : List ℕ) (c 
         ap (entered_at given.options (evidence given made s) d c) lists.directory_found
         ∙ report_of-empty given.options (evidence given made s) d c lists.names (length_permutation listed (names_of lists.names) lists.permutation ∙ bare)
 
+    pub entered-empty : size (directory_told given made s d c).entered ≡ 1
+    unfolding empty_directory
+    entered-empty = ap {B = ℕ} (λ (w : Walked). size w.entered) told-empty
+
     pub Gives-empty : (limit : ℕ) (before mid after : Option (List Emission)) (start middle stop : Outcome) (handed : Handed) → depth_of d ≤ limit → Emits before mid start middle (λ p. 0) 0 1
         → Closes given.options (empty_directory given.options (evidence given made s) d c) mid after middle stop handed
         → Gives given.options limit (evidence given made s) (directory_told given made s d c) before after start stop handed
@@ -227,6 +231,24 @@ module _ (given : Setting) (made : Option Made) (s : Sources) (d : List ℕ) (c 
       told-listed =
           ap (entered_at given.options (evidence given made s) d c) lists.directory_found
           ∙ report_of-listed given.options (evidence given made s) d c lists.names (omega (arith, length_permutation listed (names_of lists.names) lists.permutation, some))
+
+      -- it enters itself and what its names enter
+      entered-all : size (directory_told given made s d c).entered ≡ 1 + sum_by (λ q. size (item_told given made s (joined d q)).entered) listed
+      entered-all =
+          let w : Walked = items given.options (evidence given made s) d lists.names in
+          let itself : size (directory_told given made s d c).entered ≡ size (d ∷ w.entered) =
+          ap {B = ℕ} (λ (v : Walked). size v.entered) told-listed ∙ ap {B = ℕ} (λ (xs : List (List ℕ)). size xs) (closed-adds given.options (evidence given made s) d c w).entered in
+          omega (arith, itself, all_sum (λ y. size y.entered) entered-sum, count_by-cons (λ _. true) d w.entered)
+
+      -- so many directories are opened at most up to a name, and with those of all names
+      pub entered-name : (i m n spare : ℕ) (q : List ℕ) → i < length listed → q ≡ get_or listed i q → m ≤ entered_by given made s d (take i listed) → n ≤ size (item_told given made s (joined d q)).entered + spare
+          → m + n ≤ size (directory_told given made s d c).entered + spare
+      entered-name i m n spare q inside is so_far here = omega (arith, entered-all, so_far, here, front-sum (λ r. size (item_told given made s (joined d r)).entered) listed i q inside is)
+
+      pub entered-close : (i m spare : ℕ) → length listed ≤ i → m ≤ entered_by given made s d (take i listed) → m ≤ size (directory_told given made s d c).entered + spare
+      entered-close i m spare past so_far =
+          let whole : m ≤ 1 + sum_by (λ q. size (item_told given made s (joined d q)).entered) listed = rw take_all at so_far in
+          omega (arith, entered-all, whole)
 
       -- a part of what a name gives, after the names before it
       pub part-name : (limit i : ℕ) (q : List ℕ) (before mid after : Option (List Emission)) (start middle : Outcome) (held : List Entry) (blocked : Bool) → i < length listed → q ≡ get_or listed i q

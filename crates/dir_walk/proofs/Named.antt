@@ -1,5 +1,5 @@
 -- What was walked under the names of a directory so far.
-use Rattle.std.proofs.Common.{◌≡◌, ℕ, ◌+◌, ◌<◌, List, [], ◌++◌, Bool, false, ◌||◌, Option, sum_by, count_by, take, get_or, length, refl, sym, ap, ◌∙◌, arith}
+use Rattle.std.proofs.Common.{◌≡◌, ℕ, ◌+◌, ◌<◌, ◌≤◌, List, [], ◌++◌, Bool, false, ◌||◌, Option, sum_by, count_by, take, get_or, length, refl, sym, ap, ◌∙◌, arith}
 use Rattle.std.specs.Prelude.{option_to_list}
 use Rattle.std.specs.List.{list_any}
 use Rattle.std.proofs.lemmas.List.Sums.{sum_by_more}
@@ -18,6 +18,16 @@ use Rattle.dir_walk.specs.Told.{item_told}
 use Rattle.dir_walk.specs.Walked.{Walked}
 use Rattle.dir_walk.proofs.Counts.{count_by-append}
 use Rattle.dir_walk.proofs.Emitting.{Emits-then}
+
+-- how many directories are entered by a directory and these of its names
+abbrev pub entered_by : Setting → Option Made → Sources → List ℕ → List (List ℕ) → ℕ
+entered_by given made s d taken = 1 + sum_by (λ q. size (item_told given made s (joined d q)).entered) taken
+
+-- one name more
+pub entered_more : (given : Setting) (made : Option Made) (s : Sources) (d : List ℕ) (names : List (List ℕ)) (i m n : ℕ) (q : List ℕ) → i < length names → q ≡ get_or names i q → m ≤ entered_by given made s d (take i names)
+    → n ≤ size (item_told given made s (joined d q)).entered → m + n ≤ entered_by given made s d (take (i + 1) names)
+entered_more given made s d names i m n q inside is so_far here =
+    let f : List ℕ → ℕ = λ r. size (item_told given made s (joined d r)).entered in omega (arith, so_far, here, sum_by_more f names i q inside, ap f is)
 
 pub record SoFar (given : Setting) (made : Option Made) (s : Sources) (limit : ℕ) (d : List ℕ) (taken : List (List ℕ)) (before after : Option (List Emission)) (start stop : Outcome) (held : List Entry) (blocked : Bool) : Type 0 where
   pub emits : Emits before after start stop (λ p. sum_by (λ q. shown_by given.options p (item_told given made s (joined d q)).out) taken) (sum_by (λ q. seen_by (item_told given made s (joined d q))) taken)

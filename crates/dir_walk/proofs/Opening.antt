@@ -14,7 +14,7 @@ use Rattle.worktree_stack.proofs.Looking.{length-fronts}
 use Rattle.worktree_stack.specs.Lookups.{staying, refused_one}
 use Rattle.worktree_stack.specs.Stacked.{Stacked, pushed}
 use Rattle.dir_classify.specs.Chosen.{Chosen, may_hide_repositories}
-use Rattle.dir_classify.specs.Excludes.{pushed_in}
+use Rattle.dir_classify.specs.Excludes.{made_with, pushed_in, tells_attributes}
 use Rattle.dir_classify.specs.Kept.{AsksAtMost}
 use Rattle.dir_walk.specs.declared.outcome.Outcome.{Outcome}
 use Rattle.dir_walk.specs.Opens.{Opens, OpensWithin, pushed_to, reads_rules_alone}
@@ -84,55 +84,76 @@ module _ {W I : Type 0} {w : WorktreeOf W} {i : InterruptOf I} where
 
   module _ {o : Chosen} where
     -- nothing is opened
-    pub opens-none : {w0 w1 : W} {i0 i1 : I} {a b : Outcome} {old new : Option Stacked} {names : List (List ℕ)} {spare : ℕ} → w.lists w1 ≡ w.lists w0 → b.read_dir_calls ≡ a.read_dir_calls
+    pub opens-none : {w0 w1 : W} {i0 i1 : I} {a b : Outcome} {old new : Option Stacked} {names : List (List ℕ)} {spare : ℕ} {Within : ℕ → Type 0} → Within 0 → w.lists w1 ≡ w.lists w0 → b.read_dir_calls ≡ a.read_dir_calls
         → with_more (i.questions i0) 0 ≤ i.questions i1
-        → (reads_rules_alone o ≡ true → w.reads w1 + pushed_to (pushed_in old) names ≤ w.reads w0 + pushed_to (pushed_in new) names + spare)
-        → OpensWithin w i w0 w1 i0 i1 a b o old new names 0 spare
-    opens-none lists read asked reads =
+        → (reads_rules_alone o ≡ true → tells_attributes (made_with old) ≡ false → w.reads w1 + pushed_to (pushed_in old) names ≤ w.reads w0 + pushed_to (pushed_in new) names + spare)
+        → OpensWithin w i w0 w1 i0 i1 a b o old new names 0 spare Within
+    opens-none none lists read asked reads =
         record {
           opened = 0;
           opens = record { listed = λ small. omega (arith, lists, small); counted = λ small. omega (arith, read, small); asked = asked };
-          reads = λ on. omega (arith, reads on);
+          within = none;
+          reads = λ on alone. omega (arith, reads on alone);
         }
 
-    pub opens-then : {w0 w1 w2 : W} {i0 i1 i2 : I} {a b c : Outcome} {old mid new : Option Stacked} {names : List (List ℕ)} {own spare : ℕ}
-        → OpensWithin w i w0 w1 i0 i1 a b o old mid names own 0 → OpensWithin w i w1 w2 i1 i2 b c o mid new names 0 spare → OpensWithin w i w0 w2 i0 i2 a c o old new names own spare
-    opens-then one two =
+    pub opens-then : {w0 w1 w2 : W} {i0 i1 i2 : I} {a b c : Outcome} {old mid new : Option Stacked} {names : List (List ℕ)} {own less spare : ℕ} {First Then Within : ℕ → Type 0}
+        → ((m n : ℕ) → First m → Then n → Within (m + n)) → made_with mid ≡ made_with old → less ≤ spare
+        → OpensWithin w i w0 w1 i0 i1 a b o old mid names own 0 First → OpensWithin w i w1 w2 i1 i2 b c o mid new names 0 less Then → OpensWithin w i w0 w2 i0 i2 a c o old new names own spare Within
+    opens-then both made fits one two =
         record {
           opened = one.opened + two.opened;
           opens = Opens-then one.opened two.opened one.opens two.opens;
-          reads = λ on. omega (arith, one.reads on, two.reads on);
+          within = both one.opened two.opened one.within two.within;
+          reads = λ on alone. omega (arith, fits, one.reads on alone, two.reads on (ap tells_attributes made ∙ alone));
         }
 
     -- and then nothing more
-    pub opens-still : {w0 w1 w2 : W} {i0 i1 i2 : I} {a b c : Outcome} {old new : Option Stacked} {names : List (List ℕ)} {own spare : ℕ}
-        → OpensWithin w i w0 w1 i0 i1 a b o old new names own 0 → w.lists w2 ≡ w.lists w1 → c.read_dir_calls ≡ b.read_dir_calls → with_more (i.questions i1) 0 ≤ i.questions i2
-        → (reads_rules_alone o ≡ true → w.reads w2 ≡ w.reads w1) → OpensWithin w i w0 w2 i0 i2 a c o old new names own spare
-    opens-still one lists read asked reads = opens-then one (opens-none lists read asked (λ on. omega (arith, reads on)))
+    pub opens-still : {w0 w1 w2 : W} {i0 i1 i2 : I} {a b c : Outcome} {old new : Option Stacked} {names : List (List ℕ)} {own spare : ℕ} {First Within : ℕ → Type 0} → ((n : ℕ) → First n → Within n)
+        → OpensWithin w i w0 w1 i0 i1 a b o old new names own 0 First → w.lists w2 ≡ w.lists w1 → c.read_dir_calls ≡ b.read_dir_calls → with_more (i.questions i1) 0 ≤ i.questions i2
+        → (reads_rules_alone o ≡ true → w.reads w2 ≡ w.reads w1) → OpensWithin w i w0 w2 i0 i2 a c o old new names own spare Within
+    opens-still so one lists read asked reads =
+        record {
+          opened = one.opened;
+          opens = record {
+            listed = λ small. let first = one.opens.listed small in omega (arith, lists, first);
+            counted = λ small. let first = one.opens.counted small in omega (arith, read, first);
+            asked = omega (arith, one.opens.asked, asked);
+          };
+          within = so one.opened one.within;
+          reads = λ on alone. omega (arith, one.reads on alone, reads on);
+        }
 
     -- not even of a worktree or an interrupt
-    pub opens-end : {w0 w1 : W} {i0 i1 : I} {a b c : Outcome} {old new : Option Stacked} {names : List (List ℕ)} {own spare : ℕ}
-        → OpensWithin w i w0 w1 i0 i1 a b o old new names own 0 → c.read_dir_calls ≡ b.read_dir_calls → OpensWithin w i w0 w1 i0 i1 a c o old new names own spare
-    opens-end one read = opens-still one refl read (omega arith) (λ on. refl)
+    pub opens-end : {w0 w1 : W} {i0 i1 : I} {a b c : Outcome} {old new : Option Stacked} {names : List (List ℕ)} {own spare : ℕ} {First Within : ℕ → Type 0} → ((n : ℕ) → First n → Within n)
+        → OpensWithin w i w0 w1 i0 i1 a b o old new names own 0 First → c.read_dir_calls ≡ b.read_dir_calls → OpensWithin w i w0 w1 i0 i1 a c o old new names own spare Within
+    opens-end so one read = opens-still so one refl read (omega arith) (λ on. refl)
+
+    -- the same, of which more may be said
+    pub opens-least : {w0 w1 : W} {i0 i1 : I} {a b : Outcome} {old new : Option Stacked} {names : List (List ℕ)} {own spare : ℕ} {First Within : ℕ → Type 0} → ((n : ℕ) → First n → Within n)
+        → OpensWithin w i w0 w1 i0 i1 a b o old new names own spare First → OpensWithin w i w0 w1 i0 i1 a b o old new names own spare Within
+    opens-least so one = record { opened = one.opened; opens = one.opens; within = so one.opened one.within; reads = one.reads }
 
     -- the directory itself is opened, and before it nothing was read
     pub opens-one : {w0 w1 : W} {i0 i1 : I} {a b : Outcome} {at : Option Stacked} {names : List (List ℕ)} → Opens w i w0 w1 i0 i1 a b 1 → w.reads w1 ≡ w.reads w0
-        → OpensWithin w i w0 w1 i0 i1 a b o at at names 1 0
-    opens-one opens reads = record { opened = 1; opens = opens; reads = λ on. omega (arith, reads) }
+        → OpensWithin w i w0 w1 i0 i1 a b o at at names 1 0 (λ n. n ≡ 1)
+    opens-one opens reads = record { opened = 1; opens = opens; within = refl; reads = λ on alone. omega (arith, reads) }
 
     -- or that is refused
-    pub opens-refused : {w0 w1 : W} {i0 i1 : I} {a b : Outcome} {at : Option Stacked} {names : List (List ℕ)} → (n : ℕ) × Opens w i w0 w1 i0 i1 a b n → w.reads w1 ≡ w.reads w0
-        → OpensWithin w i w0 w1 i0 i1 a b o at at names 1 1
-    opens-refused opens reads = record { opened = opens.0; opens = opens.1; reads = λ on. omega (arith, reads) }
+    pub opens-refused : {w0 w1 : W} {i0 i1 : I} {a b : Outcome} {at : Option Stacked} {names : List (List ℕ)} {Within : ℕ → Type 0} → ((n : ℕ) → n ≤ 1 → Within n)
+        → (n : ℕ) × (n ≤ 1) × Opens w i w0 w1 i0 i1 a b n → w.reads w1 ≡ w.reads w0 → OpensWithin w i w0 w1 i0 i1 a b o at at names 1 1 Within
+    opens-refused most opens reads = record { opened = opens.0; opens = opens.2; within = most opens.0 opens.1; reads = λ on alone. omega (arith, reads) }
 
     -- what is opened in a directory below another is opened below that one
-    pub opens-below : {w0 w1 : W} {i0 i1 : I} {a b : Outcome} {old new : Option Stacked} (d name : List ℕ) {spare : ℕ} → IsName name
-        → OpensWithin w i w0 w1 i0 i1 a b o old new (components (joined d name)) 1 spare → OpensWithin w i w0 w1 i0 i1 a b o old new (components d) 0 spare
-    opens-below {old = old} {new = new} d name is one =
+    pub opens-below : {w0 w1 : W} {i0 i1 : I} {a b : Outcome} {old new : Option Stacked} (d name path : List ℕ) {spare : ℕ} {Within : ℕ → Type 0} → IsName name → path ≡ joined d name
+        → OpensWithin w i w0 w1 i0 i1 a b o old new (components path) 1 spare Within → OpensWithin w i w0 w1 i0 i1 a b o old new (components d) 0 spare Within
+    opens-below {old = old} {new = new} d name path is at one =
+        let was : pushed_to (pushed_in old) (components path) ≡ pushed_to (pushed_in old) (components (joined d name)) = ap {B = ℕ} (λ (p : List ℕ). pushed_to (pushed_in old) (components p)) at in
+        let are : pushed_to (pushed_in new) (components path) ≡ pushed_to (pushed_in new) (components (joined d name)) = ap {B = ℕ} (λ (p : List ℕ). pushed_to (pushed_in new) (components p)) at in
         record {
           opened = one.opened;
           opens = one.opens;
-          reads = λ on. omega (arith, one.reads on, (pushed-grows (pushed_in old) d name is).0, (pushed-grows (pushed_in new) d name is).1);
+          within = one.within;
+          reads = λ on alone. omega (arith, was, are, one.reads on alone, (pushed-grows (pushed_in old) d name is).0, (pushed-grows (pushed_in new) d name is).1);
         }
 
 -- ---- the class of a path
@@ -152,17 +173,17 @@ module _ (d name : List ℕ) (is : IsName name) where
       length-fronts held ∙ ap {B = ℕ} (λ (names : List (List ℕ)). length names + 1) (sym front)
 
   -- a look-up reads at most once for each directory above the path whose rules were not held and are held then
-  pub asks-reads : {F T E : Type 0} (recurses : Bool) (reads0 reads1 : ℕ) (o0 o1 : F) (old new : Option Stacked) (result : Result T E) → recurses ≡ true → AsksAtMost recurses (joined d name) reads0 reads1 o0 o1 old new result
-      → reads1 + pushed_to (pushed_in old) (components d) ≤ reads0 + pushed_to (pushed_in new) (components d) + refused_one result
-  asks-reads recurses reads0 reads1 o0 o1 old new result on (inl unasked) = omega (arith, unasked.reads on, ap {B = ℕ} (λ (x : Option Stacked). pushed_to (pushed_in x) (components d)) unasked.same)
-  asks-reads recurses reads0 reads1 o0 o1 old new result on (inr asked) = omega (arith, asked.reads on, stays (pushed_in old), on-way (pushed_in new) asked.on_way)
+  pub asks-reads : {F T E : Type 0} (recurses : Bool) (reads0 reads1 : ℕ) (o0 o1 : F) (old new : Option Stacked) (result : Result T E) → recurses ≡ true → tells_attributes (made_with old) ≡ false
+      → AsksAtMost recurses (joined d name) reads0 reads1 o0 o1 old new result → reads1 + pushed_to (pushed_in old) (components d) ≤ reads0 + pushed_to (pushed_in new) (components d) + refused_one result
+  asks-reads recurses reads0 reads1 o0 o1 old new result on alone (inl unasked) = omega (arith, unasked.reads on, ap {B = ℕ} (λ (x : Option Stacked). pushed_to (pushed_in x) (components d)) unasked.same)
+  asks-reads recurses reads0 reads1 o0 o1 old new result on alone (inr asked) = omega (arith, asked.reads on alone, stays (pushed_in old), on-way (pushed_in new) asked.on_way)
 
 -- the rules are asked for a class, where files are read for rules alone
 pub opens-class : {W F I T E : Type 0} {w : WorktreeOf W} {i : InterruptOf I} {o : Chosen} {w0 w1 : W} {o0 o1 : F} {i0 : I} {a : Outcome} {old new : Option Stacked} (d name : List ℕ) {result : Result T E} → IsName name
     → w.lists w1 ≡ w.lists w0 → AsksAtMost o.recurse_repositories (joined d name) (w.reads w0) (w.reads w1) o0 o1 old new result
-    → OpensWithin w i w0 w1 i0 i0 a a o old new (components d) 0 (refused_one result)
+    → OpensWithin w i w0 w1 i0 i0 a a o old new (components d) 0 (refused_one result) (λ n. n ≡ 0)
 opens-class {w = w} {o = o} {w0 = w0} {w1 = w1} {o0 = o0} {o1 = o1} {old = old} {new = new} d name {result = result} is lists asks =
-    opens-none lists refl (omega arith) (λ on. asks-reads d name is o.recurse_repositories (w.reads w0) (w.reads w1) o0 o1 old new result (and_left o.recurse_repositories _ on) asks)
+    opens-none refl lists refl (omega arith) (λ on alone. asks-reads d name is o.recurse_repositories (w.reads w0) (w.reads w1) o0 o1 old new result (and_left o.recurse_repositories _ on) alone asks)
 
 pub hides-none : (o : Chosen) → reads_rules_alone o ≡ true → may_hide_repositories o.for_deletion ≡ false
 hides-none o on = go (may_hide_repositories o.for_deletion) (and_right o.recurse_repositories _ on)

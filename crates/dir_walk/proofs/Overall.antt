@@ -1,11 +1,19 @@
 -- What a whole walk opens, reads and gives, by what it does from its traversal root on.
-use Rattle.std.proofs.Common.{◌≡◌, ℕ, ◌-◌, ◌^◌, ◌≤◌, min, List, [], true, Option, Result, Ok, Err, inl, inr, length, is_some, ap, ◌∙◌, arith}
+use Rattle.std.proofs.Common.{◌≡◌, ℕ, ◌-◌, ◌^◌, ◌≤◌, min, List, [], true, Option, Some, Result, Ok, Err, inl, inr, length, is_some, ap, ◌∙◌, arith}
 use Rattle.std.specs.Prelude.{IfOk}
 use Rattle.worktree_fs.specs.declared.interrupt.Interrupt.{Ghosts as InterruptOf}
 use Rattle.worktree_fs.specs.declared.worktree.Worktree.{Ghosts as WorktreeOf}
+use Rattle.gitbase_core.specs.declared.find.Find.{Ghosts as FindOf}
+use Rattle.worktree_fs.specs.Causes.{NotIncreased}
+use Rattle.worktree_fs.specs.Kept.{Asks}
+use Rattle.worktree_fs.specs.Tree.{Names}
 use Rattle.worktree_stack.specs.Lookups.{refused_one}
+use Rattle.worktree_stack.specs.Setup.{Made}
+use Rattle.worktree_stack.specs.Stacked.{Stacked}
 use Rattle.dir_classify.specs.declared.error.Error.{Error}
+use Rattle.dir_classify.specs.Excludes.{made_with}
 use Rattle.dir_classify.specs.Layers.{Setting}
+use Rattle.dir_walk.specs.declared.delegate.Delegate.{Ghosts as DelegateOf}
 use Rattle.dir_walk.specs.declared.handed.Stop.{Stop}
 use Rattle.dir_walk.specs.declared.handed.Stop.TheVariants.{Refused, Broken}
 use Rattle.dir_walk.specs.declared.outcome.Outcome.{Outcome}
@@ -15,7 +23,10 @@ use Rattle.dir_walk.specs.Given.{listed}
 use Rattle.dir_walk.specs.Opens.{OpensFrom, refused_walk}
 use Rattle.dir_walk.specs.Puts.{AddsAtMost, Puts, PutsFrom}
 use Rattle.dir_walk.proofs.FromRoot.{listed-later, listed-none}
-use Rattle.dir_walk.specs.Walks.{GivesOnce, IsRootOf, OpensDirectories}
+use Rattle.dir_walk.specs.Root.{rooted, traversal_root}
+use Rattle.dir_walk.specs.WalkRefused.{Recursion}
+use Rattle.dir_walk.specs.Walks.{EntersFrom, EntersInWalk, GivesOnce, IsRootOf, OpensDirectories}
+use Rattle.dir_walk.proofs.WalkedAt.{most-walked}
 
 -- ---- what is opened
 
@@ -24,27 +35,39 @@ refused-most (Ok done) = omega arith
 refused-most (Err (Refused error)) = omega arith
 refused-most (Err Broken) = omega arith
 
-module _ {W I T : Type 0} {w : WorktreeOf W} {i : InterruptOf I} {w0 w1 : W} {i0 : I} (strategy : Strategy) {given : Setting} {explicit : Option (List ℕ)} {outcome_of : T → Outcome} {path_of : T → List ℕ}
+module _ {W I T : Type 0} {w : WorktreeOf W} {i : InterruptOf I} {w0 w1 : W} {i0 : I} (strategy : Strategy) {given : Setting} {made : Option Made} {explicit : Option (List ℕ)} {outcome_of : T → Outcome} {path_of : T → List ℕ}
     (lists : w.lists w1 ≡ w.lists w0) (reads : w.reads w1 ≡ w.reads w0) where
   -- it was refused before
-  pub opens-nothing : {e : Error} → OpensDirectories w i w0 w1 i0 i0 strategy given explicit outcome_of path_of (Err e)
-  opens-nothing = record { opened = 0; listed = listed-none strategy lists; asked = omega arith; counted = tt; reads = λ held on. inl reads }
+  pub opens-nothing : {e : Error} {Within : ℕ → Type 0} → Within 0 → OpensDirectories w i w0 w1 i0 i0 strategy given made explicit outcome_of path_of (Err e) Within
+  opens-nothing none = record { opened = 0; within = none; listed = listed-none strategy lists; asked = omega arith; counted = tt; reads = λ held on alone. inl reads }
 
-  pub opens-whole : {U : Type 0} {w2 : W} {i1 : I} {a b : Outcome} {root : List ℕ} (ended : Result U Stop) (result : Result T Error) → a.read_dir_calls ≡ 0 → IsRootOf given explicit path_of result root
-      → IfOk result (λ r. outcome_of r ≡ b) → refused_walk ended ≤ refused_one result → OpensFrom w i w1 w2 i0 i1 a b strategy given.options root ended
-      → OpensDirectories w i w0 w2 i0 i1 strategy given explicit outcome_of path_of result
-  opens-whole {b = b} {root = root} ended result zero is outcome_is fits one =
+  pub opens-whole : {U : Type 0} {First Within : ℕ → Type 0} → ((n : ℕ) → First n → Within n) → {w2 : W} {i1 : I} {a b : Outcome} {root : List ℕ} (ended : Result U Stop) (result : Result T Error) → a.read_dir_calls ≡ 0 → IsRootOf given explicit path_of result root
+      → IfOk result (λ r. outcome_of r ≡ b) → refused_walk ended ≤ refused_one result → OpensFrom w i w1 w2 i0 i1 a b strategy given.options made root ended First
+      → OpensDirectories w i w0 w2 i0 i1 strategy given made explicit outcome_of path_of result Within
+  opens-whole so {b = b} {root = root} ended result zero is outcome_is fits one =
       record {
         opened = one.opened;
+        within = so one.opened one.within;
         listed = listed-later strategy _ _ lists one.listed;
         asked = one.asked;
         counted = in_numbers one.opened result outcome_is (omega (arith, zero, one.counted (omega (arith, zero))));
-        reads = λ held on. inr (root, is, omega (arith, one.reads held on, reads, fits));
+        reads = λ held on alone. inr (root, is, omega (arith, one.reads held on alone, reads, fits));
       }
     where
       in_numbers : (opened : ℕ) (result : Result T Error) → IfOk result (λ r. outcome_of r ≡ b) → b.read_dir_calls ≡ min opened (2 ^ 32 - 1) → IfOk result (λ r. (outcome_of r).read_dir_calls ≡ min opened (2 ^ 32 - 1))
       in_numbers opened (Ok r) is so_far = ap {B = ℕ} (λ (x : Outcome). x.read_dir_calls) is ∙ so_far
       in_numbers opened (Err e) is so_far = tt
+
+-- no more are opened than the walk enters
+pub enters-walk : {W F D T : Type 0} (w : WorktreeOf W) (f : FindOf F) (d : DelegateOf D) {w0 w1 w2 : W} {o0 : F} {old : Option Stacked} {d0 : D} (recursion : Recursion) (given : Setting) (explicit : Option (List ℕ)) (root : List ℕ) (result : Result T Error) (less : ℕ)
+    → Asks w w0 w1 → w.faults w1 ≤ w.faults w2 → d.is_default d0 ≡ recursion.is_default
+    → ((t : Names) → w.told w0 ≡ Some t → NotIncreased (w.faults w0) (w.faults w1) → traversal_root given t explicit ≡ rooted root) → less ≤ refused_one result
+    → (n : ℕ) → EntersFrom w f d w1 w2 o0 old d0 given root less n → EntersInWalk w f w0 w2 o0 old recursion given explicit result n
+enters-walk w f d {w0 = w0} {w1 = w1} {w2 = w2} {old = old} recursion given explicit root result less keeps more by rooted_is fits n few = λ s tells default quiet.
+    let first : NotIncreased (w.faults w0) (w.faults w1) = omega (arith, quiet, more) in
+    let second : NotIncreased (w.faults w1) (w.faults w2) = let k = keeps.faults in omega (arith, quiet, k) in
+    let most = few s (record { tells = record { tree_is = keeps.tree ∙ tells.tells.tree_is; objects_are = tells.tells.objects_are }; in_step = tells.in_step }) (by ∙ default) second in
+    omega (arith, most, most-walked given (made_with old) s explicit root less (refused_one result) (rooted_is s.tree tells.tells.tree_is first) fits)
 
 -- ---- what is given
 

@@ -96,6 +96,11 @@ module _ (given : Setting) (made : Option Made) (s : Sources) (p : List ℕ) (c 
       ∙ ap (λ (k : Class). asking (child_asks given.options ev p at) p (entered_at given.options ev p k at)) (sym is)
       ∙ ap (λ (b : Bool). asking (child_asks given.options ev p at) p (entered_at given.options ev p c (look s.tree (full_path given.root p) b))) (sym some)
 
+  -- the directories that it enters are entered under its name
+  pub entered-directory : (q : List ℕ) → p ≡ q → is_empty p ≡ false → enters given.options c false ≡ true → size (directory_told given made s p c).entered ≡ size (item_told given made s q).entered
+  entered-directory q at some into =
+      let P : List ℕ → Type 0 = λ r. size (directory_told given made s p c).entered ≡ size (item_told given made s r).entered in subst P at (ap {B = ℕ} (λ (w : Walked). size w.entered) (sym (told-entered some into)))
+
   module _ (q : List ℕ) (at : p ≡ q) (before after : Option (List Emission)) where
     pub part-leaf : enters given.options c false ≡ false → IsPart given.options (leaf_at given.options (evidence given made s) p c).out before after → IsPart given.options (item_told given made s q).out before after
     part-leaf out part =

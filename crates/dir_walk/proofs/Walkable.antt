@@ -1,5 +1,5 @@
 -- What can be walked is walked, unless something fails, is raised, or wants memory.
-use Rattle.std.proofs.Common.{◌≡◌, ◌⊎◌, inl, inr, ℕ, ◌≤◌, List, [], ◌∷◌, Bool, true, false, Option, Some, None, Result, Ok, Err, refl, sym, ap, subst, ◌∙◌, arith}
+use Rattle.std.proofs.Common.{◌≡◌, ◌⊎◌, inl, inr, ℕ, ◌≤◌, List, [], ◌∷◌, ◌++◌, ◌&&◌, Bool, true, false, Option, Some, None, Result, Ok, Err, refl, sym, ap, subst, ◌∙◌, arith}
 use Rattle.std.specs.Prelude.{IsSomeAnd, IfSome, option_map}
 use Rattle.std.specs.List.{list_all}
 use Rattle.gitbase_core.specs.Objects.{Object, object_at, blob, other as other_object}
@@ -17,10 +17,9 @@ use Rattle.worktree_stack.specs.declared.error.AtPathError.{AtPathError}
 use Rattle.worktree_stack.specs.declared.error.AtPathError.TheVariants as inner
 use Rattle.worktree_stack.specs.declared.error.RulesWhy.TheVariants as whys
 use Rattle.worktree_stack.specs.declared.error.BlobWhy.TheVariants as blob_whys
-use Rattle.worktree_stack.specs.Reading.{Place, Refusal, Sources, blob_at, file_at, first_rules, in_store, in_tree, is_read, list_at, of_blob, of_file, or_next, path_of, places_of, reading, reading_if, rules_at}
+use Rattle.worktree_stack.specs.Reading.{OneReading, Place, Refusal, Sources, Text, Texts, blob_at, file_at, first_text, in_store, in_tree, is_read, list_at, of_blob, of_file, or_next, path_of, places_in, places_of, reading, readings_of, text_at, texts_of, with_text}
 use Rattle.worktree_stack.specs.Refused as lookups
-use Rattle.worktree_stack.specs.Setup.{Made, Setup}
-use Rattle.glob_rules.specs.Ignore.{Rules}
+use Rattle.worktree_stack.specs.Setup.{Made}
 use Rattle.dir_classify.specs.declared.error.Error.{Error}
 use Rattle.dir_classify.specs.declared.error.Error.TheVariants as errors
 use Rattle.dir_classify.specs.declared.error.MetadataWhy.TheVariants as metadata
@@ -64,25 +63,44 @@ fit-list : (s : Sources) (place : Place) → is_fit s place ≡ true → (l : Op
 fit-list s (in_tree path follow) e = fit-file s path (look s.tree path follow) e
 fit-list s (in_store path id) e = fit-object id (object_at s.objects id) e
 
-list-read : (precious : Bool) (d path : List ℕ) (l : Option (List ℕ)) (rest : Result Rules Refusal) → is_read rest ≡ true → is_read (or_next (rules_at precious d path (Ok l)) rest) ≡ true
-list-read precious d path None rest e = e
-list-read precious d path (Some bytes) rest e = refl
+-- the text of the first place that has one
+fit-first : (path : List ℕ) (l : Option (List ℕ)) (rest : Option Text) → (t : Option Text) × (or_next (text_at path (Ok l)) (Ok rest) ≡ Ok t)
+fit-first path None rest = (rest, refl)
+fit-first path (Some bytes) rest = (Some (record { source = path; bytes = bytes }), refl)
 
-places-read : (precious : Bool) (d : List ℕ) (s : Sources) (places : List Place) → list_all (is_fit s) places ≡ true → is_read (first_rules precious d s places) ≡ true
-places-read precious d s [] e = refl
-places-read precious d s (place ∷ places) e =
+fit-text : (s : Sources) (places : List Place) → list_all (is_fit s) places ≡ true → (t : Option Text) × (first_text s places ≡ Ok t)
+fit-text s [] e = (None, refl)
+fit-text s (place ∷ places) e =
     let parts = and-split (is_fit s place) (list_all (is_fit s) places) e in
     let fit = fit-list s place parts.0 in
-    ap (λ (l : Result (Option (List ℕ)) Refusal). is_read (or_next (rules_at precious d (path_of place) l) (first_rules precious d s places))) fit.1
-    ∙ list-read precious d (path_of place) fit.0 (first_rules precious d s places) (places-read precious d s places parts.1)
+    let rest = fit-text s places parts.1 in
+    let first = fit-first (path_of place) fit.0 rest.0 in (
+      first.0,
+      ap (λ (l : Result (Option (List ℕ)) Refusal). or_next (text_at (path_of place) l) (first_text s places)) fit.1
+          ∙ ap (λ (r : Result (Option Text) Refusal). or_next (text_at (path_of place) (Ok fit.0)) r) rest.1
+          ∙ first.1,
+    )
 
-state-read : (ignore : Option Setup) (s : Sources) (d : List ℕ) (places : List Place) → list_all (is_fit s) places ≡ true → is_read (reading_if ignore s d places) ≡ true
-state-read None s d places e = refl
-state-read (Some setup) s d places e = places-read setup.precious d s places e
+fit-split : (s : Sources) (a b : List Place) → list_all (is_fit s) (a ++ b) ≡ true → (list_all (is_fit s) a ≡ true) × (list_all (is_fit s) b ≡ true)
+fit-split s [] b e = (refl, e)
+fit-split s (place ∷ a) b e =
+    let parts = and-split (is_fit s place) (list_all (is_fit s) (a ++ b)) e in
+    let rest = fit-split s a b parts.1 in
+    (ap (λ c. c && list_all (is_fit s) a) parts.0 ∙ rest.0, rest.1)
+
+fit-texts : (s : Sources) (readings : List OneReading) → list_all (is_fit s) (places_in readings) ≡ true → (ts : List (Option Text)) × (texts_of s readings ≡ Ok ts)
+fit-texts s [] e = ([], refl)
+fit-texts s (r ∷ readings) e =
+    let parts = fit-split s r.places (places_in readings) e in
+    let text = fit-text s r.places parts.0 in
+    let rest = fit-texts s readings parts.1 in (
+      text.0 ∷ rest.0,
+      ap (λ (t : Result (Option Text) Refusal). with_text t (texts_of s readings)) text.1 ∙ ap (λ (ts : Texts). with_text (Ok text.0) ts) rest.1,
+    )
 
 fit-read : (s : Sources) (rules : Made) (d : List ℕ) → list_all (is_fit s) (places_of rules d) ≡ true → is_read (reading rules s d) ≡ true
 unfolding reading
-fit-read s rules d e = state-read rules.ignore s d (places_of rules d) e
+fit-read s rules d e = let read = fit-texts s (readings_of rules d) e in ap is_read read.1
 
 module _ (s : Sources) (rules : Made) (path : List ℕ) (fits : AreFitAbove s rules path) where
   no-ancestor : {X : Type 0} (Holds : List ℕ → Type 0) (refusal : Refusal) → lookups.OfAncestor (components path) Holds → ((d : List ℕ) → Holds d → reading rules s d ≡ Err refusal) → X

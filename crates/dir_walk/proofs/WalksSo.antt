@@ -1,5 +1,5 @@
 -- What every walk says, by how it ended.
-use Rattle.std.proofs.Common.{◌≡◌, inl, inr, ℕ, List, [], Bool, true, Option, Some, Result, Ok, Err, refl, ap, ◌∙◌, ◌≤◌, arith}
+use Rattle.std.proofs.Common.{◌≡◌, inl, inr, ℕ, List, [], true, Option, Some, None, Result, Ok, Err, refl, ap, ◌∙◌, ◌≤◌, arith}
 use Rattle.gitbase_core.specs.declared.find.Find.{Ghosts as FindOf}
 use Rattle.worktree_fs.specs.declared.interrupt.Interrupt.{Ghosts as InterruptOf}
 use Rattle.worktree_fs.specs.declared.worktree.Worktree.{Ghosts as WorktreeOf}
@@ -22,10 +22,10 @@ use Rattle.dir_walk.specs.declared.outcome.Outcome.{Outcome}
 use Rattle.dir_walk.specs.declared.strategy.Strategy.{Strategy}
 use Rattle.dir_walk.specs.declared.delegate.Delegate.{Ghosts as DelegateOf}
 use Rattle.dir_walk.specs.Kept.{OnInterrupt, OnListingFault}
-use Rattle.dir_walk.specs.Root.{rooted, traversal_root}
+use Rattle.dir_walk.specs.Root.{Walk, rooted, traversal_root, walk_in}
 use Rattle.dir_walk.specs.Rooting.{EndsIn, IsNormalized, RootAbout}
-use Rattle.dir_walk.specs.WalkRefused.{IsNoTop, OnNoRoot, StartAbout, StartFound, StartRefuses}
-use Rattle.dir_walk.specs.Walks.{Ends, OpensDirectories, ReadsAtMost, Tells, WalksWorktree}
+use Rattle.dir_walk.specs.WalkRefused.{IsNoTop, OnNoRoot, Recursion, StartAbout, StartFound, StartRefuses}
+use Rattle.dir_walk.specs.Walks.{Ends, EntersInWalk, OpensDirectories, most_opened, ReadsAtMost, Tells, WalksWorktree}
 use Rattle.dir_walk.proofs.CallByCall.{Before-asked, Ends-after, unlisted}
 use Rattle.dir_walk.proofs.Walkable.{valid-memory}
 use Rattle.dir_walk.proofs.Keeping.{AsksStore-same, KeepsRules-same}
@@ -69,10 +69,10 @@ no_root-outside P given explicit (errors.ReadDir at why) h = tt
 no_root-outside P given explicit (errors.DirEntry at) h = tt
 no_root-outside P given explicit errors.OutOfMemory h = tt
 
-module _ {W F I T : Type 0} (w : WorktreeOf W) (f : FindOf F) (i : InterruptOf I) {w0 w1 : W} {o0 : F} {i0 : I} {r0 : Option Stacked} (strategy : Strategy) (given : Setting) (explicit : Option (List ℕ)) (limit : ℕ) (default : Bool) (outcome_of : T → Outcome) (path_of : T → List ℕ)
+module _ {W F I T : Type 0} (w : WorktreeOf W) (f : FindOf F) (i : InterruptOf I) {w0 w1 : W} {o0 : F} {i0 : I} {r0 : Option Stacked} (strategy : Strategy) (given : Setting) (explicit : Option (List ℕ)) (limit : ℕ) (recursion : Recursion) (outcome_of : T → Outcome) (path_of : T → List ℕ)
     (keeps : Asks w w0 w1) (reads : w.reads w1 ≡ w.reads w0) where
   pub walks-outside : (e : Error) → RootAbout given explicit e → ((t : Names) → w.told w0 ≡ Some t → EndsIn (traversal_root given t explicit) e)
-      → ((before now : ℕ) → OnFault (Increased (w.faults w0) (w.faults w1)) (Increased before now) e) → WalksWorktree w f i w0 w1 o0 o0 i0 i0 r0 r0 strategy given explicit limit default outcome_of path_of (Err e)
+      → ((before now : ℕ) → OnFault (Increased (w.faults w0) (w.faults w1)) (Increased before now) e) → WalksWorktree w f i w0 w1 o0 o0 i0 i0 r0 r0 strategy given explicit limit recursion outcome_of path_of (Err e)
   walks-outside e about ends fault =
       record {
         about = inl about;
@@ -81,7 +81,7 @@ module _ {W F I T : Type 0} (w : WorktreeOf W) (f : FindOf F) (i : InterruptOf I
         listing = listing-outside (Increased (w.list_faults w0) (w.list_faults w1)) given explicit e about;
         found = λ s told. inl (ends s.tree told);
         refused = λ s tells by quiet. inl (ends s.tree tells.tells.tree_is);
-        no_root = λ s told quiet. no_root-outside ((traversal_root given s.tree explicit ≡ rooted []) × IsNoTop given (made_with r0) s default) given explicit e about;
+        no_root = λ s told quiet. no_root-outside ((traversal_root given s.tree explicit ≡ rooted []) × IsNoTop given (made_with r0) s recursion) given explicit e about;
         complete = λ s tells by quiet store_quiet calm is.
             valid-memory s (made_with r0) given explicit limit (w.faults w0) (w.faults w1) (f.faults o0) (f.faults o0) (i.raised i0) (i.raised i0) e (fault (f.faults o0) (f.faults o0))
             (interrupt-outside (Increased (i.raised i0) (i.raised i0)) given explicit e about) (inl (ends s.tree tells.tells.tree_is)) quiet store_quiet calm is;
@@ -92,7 +92,7 @@ module _ {W F I T : Type 0} (w : WorktreeOf W) (f : FindOf F) (i : InterruptOf I
         interrupt = record { questions = omega arith; raised = omega arith };
         listed = tt;
         calm = tt;
-        opens = opens-nothing strategy keeps.lists reads;
+        opens = opens-nothing strategy keeps.lists reads (λ s tells by quiet. omega arith);
       }
 
 -- ---- it was refused on the way from there
@@ -110,15 +110,15 @@ no_root-start P Q made top root limit (errors.DirEntry path) about f h = tt
 no_root-start P Q made top root limit errors.OutOfMemory about f h = tt
 
 module _ {W F I D T : Type 0} (w : WorktreeOf W) (f : FindOf F) (i : InterruptOf I) (d : DelegateOf D) {w0 w1 w2 : W} {o0 o2 : F} {i0 i2 : I} {r0 r2 : Option Stacked} {d0 d2 : D}
-    (strategy : Strategy) (given : Setting) (explicit : Option (List ℕ)) (limit : ℕ) (default : Bool) (outcome_of : T → Outcome) (path_of : T → List ℕ) (root : List ℕ) (keeps : Asks w w0 w1) (normalized_is : IsNormalized given explicit root)
+    (strategy : Strategy) (given : Setting) (explicit : Option (List ℕ)) (limit : ℕ) (recursion : Recursion) (outcome_of : T → Outcome) (path_of : T → List ℕ) (root : List ℕ) (keeps : Asks w w0 w1) (normalized_is : IsNormalized given explicit root)
     (rooted_is : (t : Names) → w.told w0 ≡ Some t → NotIncreased (w.faults w0) (w.faults w1) → traversal_root given t explicit ≡ rooted root) where
   pub walks-refused : (e : Error) → Ends {T = Unit {0}} w f i d w1 w2 o0 o2 i0 i2 r0 r2 d0 d2 (Err (Refused e)) → StartAbout (made_with r0) given.root root limit e
       → ((s : Sources) → w.told w1 ≡ Some s.tree → StartFound given.root (f.holds o0) s (made_with r0) e)
-      → ((s : Sources) → Tells w f w1 o0 r0 s → default ≡ true → NotIncreased (w.faults w1) (w.faults w2)
+      → ((s : Sources) → Tells w f w1 o0 r0 s → recursion.is_default ≡ true → NotIncreased (w.faults w1) (w.faults w2)
       → StartRefuses given (made_with r0) s root limit (Increased (f.faults o0) (f.faults o2)) e)
-      → ((s : Sources) → w.told w1 ≡ Some s.tree → NotIncreased (w.faults w1) (w.faults w2) → OnNoRoot (IsNoTop given (made_with r0) s default) e)
-      → OpensDirectories w i w0 w2 i0 i2 strategy given explicit outcome_of path_of (Err e)
-      → WalksWorktree w f i w0 w2 o0 o2 i0 i2 r0 r2 strategy given explicit limit default outcome_of path_of (Err e)
+      → ((s : Sources) → w.told w1 ≡ Some s.tree → NotIncreased (w.faults w1) (w.faults w2) → OnNoRoot (IsNoTop given (made_with r0) s recursion) e)
+      → OpensDirectories w i w0 w2 i0 i2 strategy given (made_with r0) explicit outcome_of path_of (Err e) (EntersInWalk {T = T} w f w0 w2 o0 r0 recursion given explicit (Err e))
+      → WalksWorktree w f i w0 w2 o0 o2 i0 i2 r0 r2 strategy given explicit limit recursion outcome_of path_of (Err e)
   walks-refused e here about found refused no_root opens =
       let ends = Ends-after w f i d (Err (Refused e)) (Before-asked keeps) here in
       let later : (s : Sources) → Tells w f w0 o0 r0 s → Tells w f w1 o0 r0 s =
@@ -133,7 +133,7 @@ module _ {W F I D T : Type 0} (w : WorktreeOf W) (f : FindOf F) (i : InterruptOf
         found = λ s told. inr (found s (keeps.tree ∙ told));
         refused = λ s tells by quiet. inr (root, rooted_is s.tree tells.tells.tree_is (first quiet), refused s (later s tells) by (second quiet));
         no_root = λ s told quiet.
-            no_root-start (IsNoTop given (made_with r0) s default) ((traversal_root given s.tree explicit ≡ rooted []) × IsNoTop given (made_with r0) s default) (made_with r0) given.root root limit e about
+            no_root-start (IsNoTop given (made_with r0) s recursion) ((traversal_root given s.tree explicit ≡ rooted []) × IsNoTop given (made_with r0) s recursion) (made_with r0) given.root root limit e about
             (λ top node. (rooted_is s.tree told (first quiet) ∙ ap rooted top, node)) (no_root s (keeps.tree ∙ told) (second quiet));
         complete = λ s tells by quiet store_quiet calm is.
             valid-memory s (made_with r0) given explicit limit (w.faults w0) (w.faults w2) (f.faults o0) (f.faults o2) (i.raised i0) (i.raised i2) e ends.caused.fault ends.caused.interrupt
@@ -150,7 +150,7 @@ module _ {W F I D T : Type 0} (w : WorktreeOf W) (f : FindOf F) (i : InterruptOf
 
   -- or it was done, or broken off
   pub walks-done : (r : T) → path_of r ≡ full_path given.root root → (stop : Result (Unit {0}) Stop) → Ends w f i d w1 w2 o0 o2 i0 i2 r0 r2 d0 d2 stop → w.list_faults w2 ≡ w.list_faults w1 → i.raised i2 ≡ i.raised i0
-      → OpensDirectories w i w0 w2 i0 i2 strategy given explicit outcome_of path_of (Ok r) → WalksWorktree w f i w0 w2 o0 o2 i0 i2 r0 r2 strategy given explicit limit default outcome_of path_of (Ok r)
+      → OpensDirectories w i w0 w2 i0 i2 strategy given (made_with r0) explicit outcome_of path_of (Ok r) (EntersInWalk {T = T} w f w0 w2 o0 r0 recursion given explicit (Ok r)) → WalksWorktree w f i w0 w2 o0 o2 i0 i2 r0 r2 strategy given explicit limit recursion outcome_of path_of (Ok r)
   walks-done r full_is stop here lists calm opens =
       let ends = Ends-after w f i d stop (Before-asked keeps) here in
       record {
@@ -174,6 +174,11 @@ module _ {W F I D T : Type 0} (w : WorktreeOf W) (f : FindOf F) (i : InterruptOf
 
 -- ---- a walk by another name
 
+-- a refusal may come with one more
+spare-more : (walk : Option Walk) → most_opened walk 0 ≤ most_opened walk 1
+spare-more None = omega arith
+spare-more (Some walk) = omega arith
+
 -- a refusal names no root
 reads-refused : {S T : Type 0} (given : Setting) (explicit : Option (List ℕ)) (path_of : S → List ℕ) (other_path_of : T → List ℕ) (result : Result S Error) (e : Error) (before now opened : ℕ)
     → refused_one result ≤ 1 → ReadsAtMost given explicit path_of result before now opened → ReadsAtMost given explicit other_path_of (Err e) before now opened
@@ -186,10 +191,10 @@ reads-more : {S T : Type 0} (given : Setting) (explicit : Option (List ℕ)) (pa
 reads-more given explicit path_of other_path_of r t before now opened path (inl same) = inl same
 reads-more given explicit path_of other_path_of r t before now opened path (inr h) = inr (h.0, record { normalized = h.1.normalized; named = path ∙ h.1.named }, h.2)
 
-module _ {W F I S T : Type 0} (w : WorktreeOf W) (f : FindOf F) (i : InterruptOf I) {w0 w1 : W} {o0 o1 : F} {i0 i1 : I} {r0 r1 : Option Stacked} (strategy : Strategy) (given : Setting) (explicit : Option (List ℕ)) (limit : ℕ) (default : Bool)
+module _ {W F I S T : Type 0} (w : WorktreeOf W) (f : FindOf F) (i : InterruptOf I) {w0 w1 : W} {o0 o1 : F} {i0 i1 : I} {r0 r1 : Option Stacked} (strategy : Strategy) (given : Setting) (explicit : Option (List ℕ)) (limit : ℕ) (recursion : Recursion)
     (outcome_of : S → Outcome) (path_of : S → List ℕ) (other_of : T → Outcome) (other_path_of : T → List ℕ) where
   -- what is refused is handed on
-  pub walks-other : (e : Error) → WalksWorktree {T = S} w f i w0 w1 o0 o1 i0 i1 r0 r1 strategy given explicit limit default outcome_of path_of (Err e) → WalksWorktree {T = T} w f i w0 w1 o0 o1 i0 i1 r0 r1 strategy given explicit limit default other_of other_path_of (Err e)
+  pub walks-other : (e : Error) → WalksWorktree {T = S} w f i w0 w1 o0 o1 i0 i1 r0 r1 strategy given explicit limit recursion outcome_of path_of (Err e) → WalksWorktree {T = T} w f i w0 w1 o0 o1 i0 i1 r0 r1 strategy given explicit limit recursion other_of other_path_of (Err e)
   walks-other e h =
       record {
         about = h.about;
@@ -212,13 +217,14 @@ module _ {W F I S T : Type 0} (w : WorktreeOf W) (f : FindOf F) (i : InterruptOf
           listed = h.opens.listed;
           asked = h.opens.asked;
           counted = tt;
-          reads = λ held on. reads-refused given explicit path_of other_path_of (Err e) e (w.reads w0) (w.reads w1) h.opens.opened (omega arith) (h.opens.reads held on);
+          within = h.opens.within;
+          reads = λ held on alone. reads-refused given explicit path_of other_path_of (Err e) e (w.reads w0) (w.reads w1) h.opens.opened (omega arith) (h.opens.reads held on alone);
         };
       }
 
   -- what is done is done with something more in the answer
-  pub walks-more : (r : S) (t : T) → other_of t ≡ outcome_of r → other_path_of t ≡ path_of r → WalksWorktree {T = S} w f i w0 w1 o0 o1 i0 i1 r0 r1 strategy given explicit limit default outcome_of path_of (Ok r)
-      → WalksWorktree {T = T} w f i w0 w1 o0 o1 i0 i1 r0 r1 strategy given explicit limit default other_of other_path_of (Ok t)
+  pub walks-more : (r : S) (t : T) → other_of t ≡ outcome_of r → other_path_of t ≡ path_of r → WalksWorktree {T = S} w f i w0 w1 o0 o1 i0 i1 r0 r1 strategy given explicit limit recursion outcome_of path_of (Ok r)
+      → WalksWorktree {T = T} w f i w0 w1 o0 o1 i0 i1 r0 r1 strategy given explicit limit recursion other_of other_path_of (Ok t)
   walks-more r t counts path h =
       record {
         about = tt;
@@ -241,13 +247,14 @@ module _ {W F I S T : Type 0} (w : WorktreeOf W) (f : FindOf F) (i : InterruptOf
           listed = h.opens.listed;
           asked = h.opens.asked;
           counted = ap {B = ℕ} (λ (x : Outcome). x.read_dir_calls) counts ∙ h.opens.counted;
-          reads = λ held on. reads-more given explicit path_of other_path_of r t (w.reads w0) (w.reads w1) h.opens.opened path (h.opens.reads held on);
+          within = h.opens.within;
+          reads = λ held on alone. reads-more given explicit path_of other_path_of r t (w.reads w0) (w.reads w1) h.opens.opened path (h.opens.reads held on alone);
         };
       }
 
   -- what was done may want memory afterwards
-  pub walks-memory : (r : S) → WalksWorktree {T = S} w f i w0 w1 o0 o1 i0 i1 r0 r1 strategy given explicit limit default outcome_of path_of (Ok r)
-      → WalksWorktree {T = T} w f i w0 w1 o0 o1 i0 i1 r0 r1 strategy given explicit limit default other_of other_path_of (Err errors.OutOfMemory)
+  pub walks-memory : (r : S) → WalksWorktree {T = S} w f i w0 w1 o0 o1 i0 i1 r0 r1 strategy given explicit limit recursion outcome_of path_of (Ok r)
+      → WalksWorktree {T = T} w f i w0 w1 o0 o1 i0 i1 r0 r1 strategy given explicit limit recursion other_of other_path_of (Err errors.OutOfMemory)
   walks-memory r h =
       record {
         about = inl tt;
@@ -270,6 +277,7 @@ module _ {W F I S T : Type 0} (w : WorktreeOf W) (f : FindOf F) (i : InterruptOf
           listed = h.opens.listed;
           asked = h.opens.asked;
           counted = tt;
-          reads = λ held on. reads-refused given explicit path_of other_path_of (Ok r) errors.OutOfMemory (w.reads w0) (w.reads w1) h.opens.opened (omega arith) (h.opens.reads held on);
+          within = λ s tells by quiet. let most = h.opens.within s tells by quiet in let more = spare-more (walk_in given (made_with r0) s explicit) in omega (arith, most, more);
+          reads = λ held on alone. reads-refused given explicit path_of other_path_of (Ok r) errors.OutOfMemory (w.reads w0) (w.reads w1) h.opens.opened (omega arith) (h.opens.reads held on alone);
         };
       }

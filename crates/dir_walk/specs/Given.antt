@@ -1,5 +1,6 @@
 -- What a delegate was given and answered, and how a walk ends before it is done.
-use Rattle.std.specs.Prelude.{◌≡◌, List, [], ◌∷◌, ◌++◌, Option, Some, None, Result, Ok, Err, is_some}
+use Rattle.std.specs.Prelude.{◌≡◌, ℕ, Bool, true, false, List, [], ◌∷◌, ◌++◌, Option, Some, None, Result, Ok, Err, is_some}
+use Rattle.worktree_fs.specs.Causes.{Incremented}
 use Rattle.dir_classify.specs.declared.error.Error.{Error}
 use Rattle.dir_walk.specs.declared.delegate.Action.{Action}
 use Rattle.dir_walk.specs.declared.delegate.Action.TheVariants.{Continue, Break}
@@ -41,6 +42,15 @@ abbrev pub OnContinue : {E : Type 0} → Result Action E → Type 0 → Type 0
 OnContinue (Ok Break) Holds = Unit {0}
 OnContinue (Ok Continue) Holds = Holds
 OnContinue (Err e) Holds = Unit {0}
+
+-- ---- recursion
+
+-- Whether a delegate looks into a path whose status says the one or the other, and its refusals before and afterwards: it counts one
+-- where it answers no and its status says yes, and none otherwise.
+abbrev pub IsAnswered : Bool → Bool → ℕ → ℕ → Type 0
+IsAnswered true false before after = Incremented before after
+IsAnswered true true before after = after ≡ before
+IsAnswered false answer before after = after ≡ before
 
 -- ---- ends
 

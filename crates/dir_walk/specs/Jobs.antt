@@ -18,7 +18,7 @@ use Rattle.dir_walk.specs.declared.outcome.Outcome.{Outcome}
 use Rattle.dir_walk.specs.Emits.{Gives, IsPart}
 use Rattle.dir_walk.specs.Given.{OnRefused}
 use Rattle.dir_walk.specs.Kept.{AsksInterrupt, Caused, Heeds, KeepsDelegate, KeepsTree}
-use Rattle.dir_walk.specs.Opens.{Enters}
+use Rattle.dir_walk.specs.Opens.{Enters, EntersAtMost, refused_walk}
 use Rattle.dir_walk.specs.Puts.{Hands, once_within}
 use Rattle.dir_walk.specs.Refused.{DirectoryRefuses, IsAbout, IsInTree}
 use Rattle.dir_walk.specs.Report.{depth_of}
@@ -45,7 +45,7 @@ pub record WalksJob {W F I D : Type 0} (w : WorktreeOf W) (f : FindOf F) (i : In
   pub worktree : KeepsTree w w0 w1
   pub store : AsksStore f o0 o1
   pub interrupt : AsksInterrupt i i0 i1
-  pub enters : Enters i i0 i1 start stop
+  pub enters : Enters i i0 i1 start stop (EntersAtMost w f d w0 w1 o0 rules d0 given blocked (λ made s. directory_told given made s path class) (refused_walk result))
   pub hands : Hands path (once_within path) (d.given d0) (d.given d1) start stop result
   pub delegate : KeepsDelegate d d0 d1
   pub heeds : Heeds d d0 d1 result

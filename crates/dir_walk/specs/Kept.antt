@@ -12,11 +12,12 @@ use Rattle.dir_walk.specs.declared.delegate.Delegate.{Ghosts as DelegateOf}
 use Rattle.dir_walk.specs.declared.handed.Stop.{Stop}
 use Rattle.dir_walk.specs.Given.{Extends, OnRefused, OnBroken, UnlessRefused}
 
--- a worktree that was walked
+-- a worktree that was walked; no count of it falls
 pub record KeepsTree {W : Type 0} (w : WorktreeOf W) (before now : W) : Type 0 where
   pub tree : w.told now ≡ w.told before
   pub faults : w.faults before ≤ w.faults now
   pub list_faults : w.list_faults before ≤ w.list_faults now
+  pub reads : w.reads before ≤ w.reads now
   pub lists : w.lists before ≤ w.lists now
   pub precomposes : w.precomposes now ≡ w.precomposes before
 
@@ -30,6 +31,7 @@ pub record KeepsDelegate {D : Type 0} (d : DelegateOf D) (before now : D) : Type
   pub default : d.is_default now ≡ d.is_default before
   pub given : Extends (d.given before) (d.given now)
   pub breaks : d.breaks before ≤ d.breaks now
+  pub refusals : d.refusals before ≤ d.refusals now
 
 -- A walk ends where the delegate answers Break, which it counted once and answered last, and only there is it broken off.
 pub record Heeds {D T : Type 0} (d : DelegateOf D) (before now : D) (result : Result T Stop) : Type 0 where

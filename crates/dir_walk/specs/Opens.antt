@@ -1,18 +1,26 @@
 -- Directories that are opened, over any worktree: what is counted of them, how often the interrupt is asked, and what is read.
-use Rattle.std.specs.Prelude.{◌≡◌, ◌≤◌, ◌<◌, ◌+◌, ◌-◌, ◌^◌, ◌&&◌, min, not, Bool, true, ℕ, List, length, Option, Some, None, Result, Ok, Err}
+use Rattle.std.specs.Prelude.{◌≡◌, ◌≤◌, ◌<◌, ◌+◌, ◌-◌, ◌^◌, ◌&&◌, min, not, Bool, true, false, ℕ, List, length, Option, Some, None, Result, Ok, Err}
 use Rattle.gitbase_core.specs.Path.{components}
+use Rattle.gitbase_core.specs.declared.find.Find.{Ghosts as FindOf}
 use Rattle.worktree_fs.specs.declared.interrupt.Interrupt.{Ghosts as InterruptOf}
 use Rattle.worktree_fs.specs.declared.worktree.Worktree.{Ghosts as WorktreeOf}
-use Rattle.worktree_fs.specs.Causes.{with_more}
+use Rattle.worktree_fs.specs.Causes.{NotIncreased, with_more}
 use Rattle.worktree_fs.specs.Paths.{common_front}
+use Rattle.worktree_stack.specs.Reading.{Sources}
+use Rattle.worktree_stack.specs.Setup.{Made}
 use Rattle.worktree_stack.specs.Stacked.{Stacked}
 use Rattle.dir_classify.specs.Chosen.{Chosen, may_hide_repositories}
-use Rattle.dir_classify.specs.Excludes.{pushed_in}
+use Rattle.dir_classify.specs.Excludes.{made_with, pushed_in, tells_attributes}
+use Rattle.dir_classify.specs.Layers.{Setting}
+use Rattle.dir_walk.specs.declared.delegate.Delegate.{Ghosts as DelegateOf}
 use Rattle.dir_walk.specs.declared.handed.Stop.{Stop}
 use Rattle.dir_walk.specs.declared.handed.Stop.TheVariants.{Refused, Broken}
 use Rattle.dir_walk.specs.declared.outcome.Outcome.{Outcome}
 use Rattle.dir_walk.specs.declared.strategy.Strategy.{Strategy}
 use Rattle.dir_walk.specs.declared.strategy.Strategy.TheVariants.{Held, AtOnce}
+use Rattle.dir_walk.specs.Emits.{size}
+use Rattle.dir_walk.specs.Told.{Stands}
+use Rattle.dir_walk.specs.Walked.{Walked}
 
 -- So many directories were opened: they were listed, or that was refused. The worktree counted each as listed and the walk as
 -- entered, and before each the interrupt was asked. A count stands at its type's end.
@@ -31,31 +39,35 @@ pushed_to (Some pushed) names = length (common_front pushed names) + 1
 abbrev pub reads_rules_alone : Chosen → Bool
 reads_rules_alone o = o.recurse_repositories && not (may_hide_repositories o.for_deletion)
 
--- In the directory of these names, or beneath it, some directories were opened; `own` is one where it was itself among them.
--- Where files are read for their rules alone, the worktree was read at most once for each of the others, and once for each
--- directory on the way to this one whose rules were not held; and at most `spare` times more.
+-- In the directory of these names, or beneath it, some directories were opened, of which `Within` says how many; `own` is one where
+-- it was itself among them. Where files are read for their rules alone, and the rules are ignore rules alone, the
+-- worktree was read at most once for each of the others, and once for each directory on the way to this one whose rules
+-- were not held; and at most `spare` times more.
 pub record OpensWithin {W I : Type 0} (w : WorktreeOf W) (i : InterruptOf I) (w0 w1 : W) (i0 i1 : I) (start stop : Outcome)
-    (o : Chosen) (old new : Option Stacked) (names : List (List ℕ)) (own spare : ℕ) : Type 0 where
+    (o : Chosen) (old new : Option Stacked) (names : List (List ℕ)) (own spare : ℕ) (Within : ℕ → Type 0) : Type 0 where
   pub opened : ℕ
   pub opens : Opens w i w0 w1 i0 i1 start stop opened
-  pub reads : reads_rules_alone o ≡ true → w.reads w1 + pushed_to (pushed_in old) names + own ≤ w.reads w0 + pushed_to (pushed_in new) names + opened + spare
+  pub within : Within opened
+  pub reads : reads_rules_alone o ≡ true → tells_attributes (made_with old) ≡ false
+      → w.reads w1 + pushed_to (pushed_in old) names + own ≤ w.reads w0 + pushed_to (pushed_in new) names + opened + spare
 
 -- So many directories were opened over forks of a worktree: the walk counted each as entered, and before each the interrupt
 -- was asked, or a fork of it. A count stands at its type's end.
-pub record Enters {I : Type 0} (i : InterruptOf I) (i0 i1 : I) (start stop : Outcome) : Type 0 where
+pub record Enters {I : Type 0} (i : InterruptOf I) (i0 i1 : I) (start stop : Outcome) (Within : ℕ → Type 0) : Type 0 where
   pub opened : ℕ
   pub counted : start.read_dir_calls < 2 ^ 32 → stop.read_dir_calls ≡ min (start.read_dir_calls + opened) (2 ^ 32 - 1)
   pub asked : with_more (i.questions i0) opened ≤ i.questions i1
+  pub within : Within opened
 
 -- The same where the worktree counted no more than `own` of them as listed, as all others were opened over forks.
-pub record OpensApart {W I : Type 0} (w : WorktreeOf W) (i : InterruptOf I) (w0 w1 : W) (i0 i1 : I) (start stop : Outcome) (own : ℕ) : Type 0 where
-  pub enters : Enters i i0 i1 start stop
+pub record OpensApart {W I : Type 0} (w : WorktreeOf W) (i : InterruptOf I) (w0 w1 : W) (i0 i1 : I) (start stop : Outcome) (own : ℕ) (Within : ℕ → Type 0) : Type 0 where
+  pub enters : Enters i i0 i1 start stop Within
   pub listed : w.lists w1 ≤ w.lists w0 + own
 
 -- A traversal root is opened, itself over the worktree, and what lies beneath it there too or over forks.
-abbrev pub OpensRoot : {W I : Type 0} → WorktreeOf W → InterruptOf I → W → W → I → I → Outcome → Outcome → Strategy → Chosen → Option Stacked → Option Stacked → List (List ℕ) → ℕ → Type 0
-OpensRoot w i w0 w1 i0 i1 start stop Held o old new names spare = OpensWithin w i w0 w1 i0 i1 start stop o old new names 1 spare
-OpensRoot w i w0 w1 i0 i1 start stop AtOnce o old new names spare = OpensApart w i w0 w1 i0 i1 start stop 1
+abbrev pub OpensRoot : {W I : Type 0} → WorktreeOf W → InterruptOf I → W → W → I → I → Outcome → Outcome → Strategy → Chosen → Option Stacked → Option Stacked → List (List ℕ) → ℕ → (ℕ → Type 0) → Type 0
+OpensRoot w i w0 w1 i0 i1 start stop Held o old new names spare Within = OpensWithin w i w0 w1 i0 i1 start stop o old new names 1 spare Within
+OpensRoot w i w0 w1 i0 i1 start stop AtOnce o old new names spare Within = OpensApart w i w0 w1 i0 i1 start stop 1 Within
 
 -- one where a walk was refused, none where it was done or broken off
 abbrev pub refused_walk : {T : Type 0} → Result T Stop → ℕ
@@ -69,13 +81,25 @@ abbrev pub IsListed : Strategy → ℕ → ℕ → ℕ → Type 0
 IsListed Held before now opened = before < 2 ^ 64 → now ≡ with_more before opened
 IsListed AtOnce before now opened = now ≤ before + 1
 
--- What a walk opens from a traversal root on, in the same words. Where files are read for their rules alone, the worktree
--- was read at most once for each directory opened and once for each component of the traversal root; a refusal may come
--- with one more. Where subtrees are walked over forks nothing is said of what is read.
-pub record OpensFrom {W I T : Type 0} (w : WorktreeOf W) (i : InterruptOf I) (w0 w1 : W) (i0 i1 : I) (start stop : Outcome) (strategy : Strategy) (o : Chosen) (root : List ℕ)
-    (result : Result T Stop) : Type 0 where
+-- What a walk opens from a traversal root on, in the same words. Where files are read for their rules alone, and
+-- the rules are ignore rules alone, the worktree was read at most once for each directory opened and once for each
+-- component of the traversal root; a refusal may come with one more. Where subtrees are walked over forks nothing is said of
+-- what is read.
+pub record OpensFrom {W I T : Type 0} (w : WorktreeOf W) (i : InterruptOf I) (w0 w1 : W) (i0 i1 : I) (start stop : Outcome) (strategy : Strategy) (o : Chosen) (made : Option Made) (root : List ℕ)
+    (result : Result T Stop) (Within : ℕ → Type 0) : Type 0 where
   pub opened : ℕ
   pub listed : IsListed strategy (w.lists w0) (w.lists w1) opened
   pub counted : start.read_dir_calls < 2 ^ 32 → stop.read_dir_calls ≡ min (start.read_dir_calls + opened) (2 ^ 32 - 1)
   pub asked : with_more (i.questions i0) opened ≤ i.questions i1
-  pub reads : strategy ≡ Held → reads_rules_alone o ≡ true → w.reads w1 ≤ w.reads w0 + opened + length (components root) + refused_walk result
+  pub within : Within opened
+  pub reads : strategy ≡ Held → reads_rules_alone o ≡ true → tells_attributes made ≡ false
+      → w.reads w1 ≤ w.reads w0 + opened + length (components root) + refused_walk result
+
+-- ---- over what is told
+
+-- Where what is walked is told and the worktree did not fail, and a delegate recurses by default, no more directories are opened than
+-- are entered in what is walked; `spare` more may be, where the walk is refused.
+abbrev pub EntersAtMost : {W F D : Type 0} → WorktreeOf W → FindOf F → DelegateOf D → W → W → F → Option Stacked → D → Setting → Option (List ℕ) → (Option Made → Sources → Walked) → ℕ → ℕ → Type 0
+EntersAtMost w f d w0 w1 o0 rules d0 given blocked walked spare opened =
+    (made : Option Made) (s : Sources) → Stands given (w.told w0) (f.holds o0) rules blocked made s → NotIncreased (w.faults w0) (w.faults w1) → d.is_default d0 ≡ true
+    → opened ≤ size (walked made s).entered + spare

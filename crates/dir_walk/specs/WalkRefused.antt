@@ -26,6 +26,8 @@ use Rattle.dir_classify.specs.Kinds.{is_repository}
 use Rattle.dir_classify.specs.Layers.{Setting, evidence}
 use Rattle.dir_classify.specs.Refused.{IsAccess}
 use Rattle.dir_classify.specs.Rooted.{LeadsTo, way_to}
+use Rattle.dir_walk.specs.declared.delegate.Delegate.{Ghosts as DelegateOf}
+use Rattle.dir_walk.specs.Given.{IsAnswered}
 use Rattle.dir_walk.specs.Refused.{IsBelow, IsBelowLimit, IsInTree, IsNoAccess, IsSomeAccess, IsTooDeep, IsUnlisted}
 use Rattle.dir_walk.specs.Root.{is_root_entered, look_root, rooted, traversal_root, walked_at}
 use Rattle.dir_walk.specs.Rooting.{EndsIn, IsNormalized, RootAbout}
@@ -79,10 +81,26 @@ pub record IsNoRoot (given : Setting) (made : Option Made) (s : Sources) (root :
   pub not_walked : walked_at given made s root ≡ None
   pub node : IsNoDirectory given s
 
--- the worktree root is no directory, and a delegate that recurses by default does not enter it
-pub record IsNoTop (given : Setting) (made : Option Made) (s : Sources) (default : Bool) : Type 0 where
+-- How a delegate recursed in a walk: by default or not, and how many refusals it counted before and afterwards.
+pub record Recursion : Type 0 where
+  pub is_default : Bool
+  pub before : ℕ
+  pub after : ℕ
+
+-- by default, without a count
+abbrev pub by_default : Recursion
+by_default = record { is_default = true; before = 0; after = 0 }
+
+-- that of a delegate that was `d0` and is `d1`
+abbrev pub recursion_of : {D : Type 0} → DelegateOf D → D → D → Recursion
+recursion_of d d0 d1 = record { is_default = d.is_default d0; before = d.refusals d0; after = d.refusals d1 }
+
+-- The worktree root is no directory, and is not entered: its status says so, or the delegate refused it, which counted that, and does
+-- not recurse by default.
+pub record IsNoTop (given : Setting) (made : Option Made) (s : Sources) (recursion : Recursion) : Type 0 where
   pub node : IsNoDirectory given s
-  pub unentered : default ≡ true → is_root_entered given.options (evidence given made s) (way_to given made s []) ≡ false
+  pub unentered : recursion.is_default ≡ true → is_root_entered given.options (evidence given made s) (way_to given made s []) ≡ false
+  pub answered : IsAnswered (is_root_entered given.options (evidence given made s) (way_to given made s [])) false recursion.before recursion.after
 
 -- the lookup of a path on the way to the traversal root was refused, by a rules file or a blob that is refused; the way
 -- asks rules that cannot be read, unless the store failed

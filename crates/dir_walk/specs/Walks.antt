@@ -1,5 +1,5 @@
 -- What every walk of a worktree says, and what it gives to a delegate.
-use Rattle.std.specs.Prelude.{◌≡◌, ◌⊎◌, ◌≤◌, ◌+◌, ◌-◌, ◌^◌, min, ℕ, Bool, true, false, List, [], ◌++◌, length, Option, Some, Result, IfOk, IfErr, OnOk, IsPermutation, IsSomeAnd, is_some}
+use Rattle.std.specs.Prelude.{◌≡◌, ◌⊎◌, ◌≤◌, ◌+◌, ◌-◌, ◌^◌, min, ℕ, true, false, List, [], ◌++◌, length, Option, Some, None, Result, IfOk, IfErr, OnOk, IsPermutation, IsSomeAnd, is_some}
 use Rattle.gitbase_core.specs.Path.{components}
 use Rattle.gitbase_core.specs.declared.find.Find.{Ghosts as FindOf}
 use Rattle.worktree_fs.specs.declared.interrupt.Interrupt.{Ghosts as InterruptOf}
@@ -14,7 +14,7 @@ use Rattle.worktree_stack.specs.Setup.{Made}
 use Rattle.worktree_stack.specs.Stacked.{Stacked}
 use Rattle.dir_classify.specs.declared.error.Error.{Error}
 use Rattle.dir_classify.specs.declared.error.Error.TheVariants.{OutOfMemory}
-use Rattle.dir_classify.specs.Excludes.{made_with, TellsIf, InStepIf}
+use Rattle.dir_classify.specs.Excludes.{made_with, tells_attributes, TellsIf, InStepIf}
 use Rattle.dir_classify.specs.Kept.{KeepsRules}
 use Rattle.dir_classify.specs.Layers.{Setting, evidence}
 use Rattle.dir_classify.specs.Refused.{OnFault}
@@ -27,17 +27,18 @@ use Rattle.dir_walk.specs.declared.strategy.Strategy.{Strategy}
 use Rattle.dir_walk.specs.declared.strategy.Strategy.TheVariants.{Held}
 use Rattle.dir_walk.specs.Covered.{Covers, as_matching, without_folding}
 use Rattle.dir_walk.specs.Emissions.{Emission}
-use Rattle.dir_walk.specs.Emits.{IsPart}
+use Rattle.dir_walk.specs.Emits.{IsPart, size}
 use Rattle.dir_walk.specs.Given.{listed}
 use Rattle.dir_walk.specs.Kept.{AsksInterrupt, Caused, Heeds, KeepsDelegate, KeepsTree, OnInterrupt, OnListingFault}
 use Rattle.dir_walk.specs.Opens.{IsListed, reads_rules_alone}
 use Rattle.dir_walk.specs.Puts.{AddsAtMost, once_at, once_within}
 use Rattle.dir_walk.specs.Report.{counts, is_walk_refused, out_of, shown}
 use Rattle.dir_walk.specs.Rooting.{IsNormalized}
-use Rattle.dir_walk.specs.Root.{Walk, rooted, traversal_root, walk_in}
+use Rattle.dir_walk.specs.Root.{Walk, rooted, traversal_root, walk_in, walked_at}
 use Rattle.dir_walk.specs.Safe.{IsSafe}
-use Rattle.dir_walk.specs.WalkRefused.{IsNoTop, OnNoRoot, WalkAbout, WalkFound, WalkRefuses}
+use Rattle.dir_walk.specs.WalkRefused.{IsNoTop, OnNoRoot, Recursion, WalkAbout, WalkFound, WalkRefuses, recursion_of}
 use Rattle.dir_walk.specs.Walkable.{IsValid}
+use Rattle.dir_walk.specs.Walked.{Walked}
 
 -- A worktree tells a tree and a store, where there are rules, objects, and the rules are in step with them.
 pub record Tells {W F : Type 0} (w : WorktreeOf W) (f : FindOf F) (w0 : W) (o0 : F) (old : Option Stacked) (s : Sources) : Type 0 where
@@ -56,35 +57,63 @@ abbrev pub ReadsAtMost : {T : Type 0} → Setting → Option (List ℕ) → (T �
 ReadsAtMost given explicit path_of result before now opened =
     (now ≡ before) ⊎ ((root : List ℕ) × IsRootOf given explicit path_of result root × (now ≤ before + opened + length (components root) + refused_one result))
 
--- So many directories were opened: they were listed, or that was refused. The walk counted each as entered, and before
--- each the interrupt was asked. The worktree counted each as listed, or where subtrees are walked at once, over forks, at
--- most one. Where files are read for their rules alone, and all over this worktree, it was read at most once for each and
--- once for each component of the traversal root; a refusal may come with one more.
-pub record OpensDirectories {W I T : Type 0} (w : WorktreeOf W) (i : InterruptOf I) (w0 w1 : W) (i0 i1 : I) (strategy : Strategy) (given : Setting) (explicit : Option (List ℕ))
-    (outcome_of : T → Outcome) (path_of : T → List ℕ) (result : Result T Error) : Type 0 where
+-- how many directories a walk enters, if there is one; `spare` more may be opened
+abbrev pub most_opened : Option Walk → ℕ → ℕ
+most_opened None spare = 0
+most_opened (Some walk) spare = length walk.gives.entered + spare
+
+-- and of what is walked from a traversal root on
+abbrev pub most_from : Option Walked → ℕ → ℕ
+most_from None spare = 0
+most_from (Some w) spare = size w.entered + spare
+
+-- Over what is told, without a fault of the worktree and where recursion is by default, no more directories are opened than the walk
+-- enters, none where there is no walk; a refusal may come with one more.
+abbrev pub EntersInWalk : {W F T : Type 0} → WorktreeOf W → FindOf F → W → W → F → Option Stacked → Recursion → Setting → Option (List ℕ) → Result T Error → ℕ → Type 0
+EntersInWalk w f w0 w1 o0 old recursion given explicit result opened =
+    (s : Sources) → Tells w f w0 o0 old s → recursion.is_default ≡ true → NotIncreased (w.faults w0) (w.faults w1)
+    → opened ≤ most_opened (walk_in given (made_with old) s explicit) (refused_one result)
+
+-- the same of what is walked
+abbrev pub EntersWalked : {W F D : Type 0} → WorktreeOf W → FindOf F → DelegateOf D → W → W → F → Option Stacked → D → (Sources → Walked) → ℕ → ℕ → Type 0
+EntersWalked w f d w0 w1 o0 old d0 walked spare opened =
+    (s : Sources) → Tells w f w0 o0 old s → d.is_default d0 ≡ true → NotIncreased (w.faults w0) (w.faults w1) → opened ≤ size (walked s).entered + spare
+
+-- and from a traversal root on
+abbrev pub EntersFrom : {W F D : Type 0} → WorktreeOf W → FindOf F → DelegateOf D → W → W → F → Option Stacked → D → Setting → List ℕ → ℕ → ℕ → Type 0
+EntersFrom w f d w0 w1 o0 old d0 given root spare opened =
+    (s : Sources) → Tells w f w0 o0 old s → d.is_default d0 ≡ true → NotIncreased (w.faults w0) (w.faults w1) → opened ≤ most_from (walked_at given (made_with old) s root) spare
+
+-- So many directories were opened, of which `Within` says how many: they were listed, or that was refused. The walk counted each as
+-- entered, and before each the interrupt was asked. The worktree counted each as listed, or where subtrees are walked at once, over
+-- forks, at most one. Where files are read for their rules alone, the rules are ignore rules alone, and all is read over this
+-- worktree, it was read at most once for each and once for each component of the traversal root; a refusal may come with one more.
+pub record OpensDirectories {W I T : Type 0} (w : WorktreeOf W) (i : InterruptOf I) (w0 w1 : W) (i0 i1 : I) (strategy : Strategy) (given : Setting) (made : Option Made) (explicit : Option (List ℕ))
+    (outcome_of : T → Outcome) (path_of : T → List ℕ) (result : Result T Error) (Within : ℕ → Type 0) : Type 0 where
   pub opened : ℕ
+  pub within : Within opened
   pub listed : IsListed strategy (w.lists w0) (w.lists w1) opened
   pub asked : with_more (i.questions i0) opened ≤ i.questions i1
   pub counted : IfOk result (λ r. (outcome_of r).read_dir_calls ≡ min opened (2 ^ 32 - 1))
-  pub reads : strategy ≡ Held → reads_rules_alone given.options ≡ true → ReadsAtMost given explicit path_of result (w.reads w0) (w.reads w1) opened
+  pub reads : strategy ≡ Held → reads_rules_alone given.options ≡ true → tells_attributes made ≡ false → ReadsAtMost given explicit path_of result (w.reads w0) (w.reads w1) opened
 
 -- Why a walk is refused, and what it leaves, where a worktree was `w0` and is `w1`, a store was `o0` and is `o1`, an
--- interrupt was `i0` and is `i1`, and the rules were `old` and are `new`. `default` says that the delegate recurses by
--- default; an answer has a count and a whole path of its traversal root.
+-- interrupt was `i0` and is `i1`, and the rules were `old` and are `new`. `recursion` is that of the delegate; an answer has
+-- a count and a whole path of its traversal root.
 pub record WalksWorktree {W F I T : Type 0} (w : WorktreeOf W) (f : FindOf F) (i : InterruptOf I) (w0 w1 : W) (o0 o1 : F) (i0 i1 : I) (old new : Option Stacked)
-    (strategy : Strategy) (given : Setting) (explicit : Option (List ℕ)) (limit : ℕ) (default : Bool) (outcome_of : T → Outcome) (path_of : T → List ℕ) (result : Result T Error) : Type 0 where
+    (strategy : Strategy) (given : Setting) (explicit : Option (List ℕ)) (limit : ℕ) (recursion : Recursion) (outcome_of : T → Outcome) (path_of : T → List ℕ) (result : Result T Error) : Type 0 where
   -- Each refusal has its cause.
   pub about : IfErr result (WalkAbout given (made_with old) explicit limit)
   pub cause : IfErr result (OnFault (Increased (w.faults w0) (w.faults w1)) (Increased (f.faults o0) (f.faults o1)))
   pub interrupted : IfErr result (OnInterrupt (Increased (i.raised i0) (i.raised i1)))
   pub listing : IfErr result (OnListingFault (Increased (w.list_faults w0) (w.list_faults w1)))
   pub found : (s : Sources) → w.told w0 ≡ Some s.tree → IfErr result (WalkFound given (made_with old) explicit (f.holds o0) s)
-  pub refused : (s : Sources) → Tells w f w0 o0 old s → default ≡ true → NotIncreased (w.faults w0) (w.faults w1)
+  pub refused : (s : Sources) → Tells w f w0 o0 old s → recursion.is_default ≡ true → NotIncreased (w.faults w0) (w.faults w1)
       → IfErr result (WalkRefuses given (made_with old) s explicit limit (Increased (f.faults o0) (f.faults o1)))
   pub no_root : (s : Sources) → w.told w0 ≡ Some s.tree → NotIncreased (w.faults w0) (w.faults w1)
-      → IfErr result (OnNoRoot ((traversal_root given s.tree explicit ≡ rooted []) × IsNoTop given (made_with old) s default))
+      → IfErr result (OnNoRoot ((traversal_root given s.tree explicit ≡ rooted []) × IsNoTop given (made_with old) s recursion))
   -- For valid input, and where nothing failed or was raised, only memory may be wanted.
-  pub complete : (s : Sources) → Tells w f w0 o0 old s → default ≡ true
+  pub complete : (s : Sources) → Tells w f w0 o0 old s → recursion.is_default ≡ true
       → NotIncreased (w.faults w0) (w.faults w1) → NotIncreased (f.faults o0) (f.faults o1) → NotIncreased (i.raised i0) (i.raised i1)
       → IsValid given (made_with old) s explicit limit → IfErr result (λ e. e ≡ OutOfMemory)
   -- An answer names the traversal root, also where the walk was broken off.
@@ -98,7 +127,7 @@ pub record WalksWorktree {W F I T : Type 0} (w : WorktreeOf W) (f : FindOf F) (i
   pub listed : OnOk result (w.list_faults w1 ≡ w.list_faults w0)
   pub calm : OnOk result (i.raised i1 ≡ i.raised i0)
   -- What is opened and read.
-  pub opens : OpensDirectories w i w0 w1 i0 i1 strategy given explicit outcome_of path_of result
+  pub opens : OpensDirectories w i w0 w1 i0 i1 strategy given (made_with old) explicit outcome_of path_of result (EntersInWalk w f w0 w1 o0 old recursion given explicit result)
 
 -- How what is walked from a traversal root ends, and what it leaves.
 pub record Ends {W F I D T : Type 0} (w : WorktreeOf W) (f : FindOf F) (i : InterruptOf I) (d : DelegateOf D) (w0 w1 : W) (o0 o1 : F) (i0 i1 : I) (old new : Option Stacked) (d0 d1 : D)
@@ -169,7 +198,7 @@ pub record Feeds {W F D : Type 0} (w : WorktreeOf W) (f : FindOf F) (d : Delegat
 pub record WalksFor {W F I D : Type 0} (w : WorktreeOf W) (f : FindOf F) (i : InterruptOf I) (d : DelegateOf D) (w0 w1 : W) (o0 o1 : F) (i0 i1 : I) (old new : Option Stacked) (d0 d1 : D)
     (strategy : Strategy) (given : Setting) (explicit : Option (List ℕ)) (limit : ℕ) (result : Result (Outcome × List ℕ) Error) : Type 0 where
   -- Why it is refused, and what it leaves.
-  pub walks_worktree : WalksWorktree w f i w0 w1 o0 o1 i0 i1 old new strategy given explicit limit (d.is_default d0) (λ (r : Outcome × List ℕ). r.0) (λ (r : Outcome × List ℕ). r.1) result
+  pub walks_worktree : WalksWorktree w f i w0 w1 o0 o1 i0 i1 old new strategy given explicit limit (recursion_of d d0 d1) (λ (r : Outcome × List ℕ). r.0) (λ (r : Outcome × List ℕ). r.1) result
   -- What the delegate was given.
   pub feeds : Feeds w f d w0 w1 o0 old d0 d1 given explicit limit result
 

@@ -3,6 +3,7 @@ ghost use Rattle.std.specs.Prelude.{◌≡◌, true};
 ghost use Rattle.dir_classify.specs.Excludes.{made_with, tells_excludes};
 ghost use Rattle.dir_classify.specs.Layers.{setting_in, IsLookupIf};
 ghost use Rattle.dir_walk.specs.declared.strategy.Strategy.TheVariants.{AtOnce};
+ghost use Rattle.dir_walk.specs.WalkRefused.{by_default};
 ghost use Rattle.dir_walk.specs.Walks.{root_in, Collects, WalksWorktree};
 
 use crate::collect::Collect;
@@ -24,9 +25,13 @@ use worktree_fs::{Interrupt, Worktree};
 /// refused, so the counts of what is handed in rise by those of the forks, but for that of listings: it rises by one at
 /// most. After a refusal no further job is begun.
 ///
+/// See docs/DECISIONS.md#jobs-one-after-another.
+/// See docs/DECISIONS.md#refused-job.
+/// See docs/DECISIONS.md#jobs-need-no-rules.
+///
 /// # Errors
 ///
-/// Those of [`walk`](crate::walk::walk), each for the same causes.
+/// Those of [`walk`](crate::walk::walk), each for the same causes; `OutOfMemory` also where none is left for a fork or its rules.
 pub fn walk_at_once<W: Worktree, F: Find, I: Interrupt, M: Matcher>(
     alloc: Global,
     worktree_root: &[u8],
@@ -45,7 +50,7 @@ pub fn walk_at_once<W: Worktree, F: Find, I: Interrupt, M: Matcher>(
         ctx.entry.worktree.now ctx.exit.0.now ctx.entry.objects.now ctx.exit.1.0.now
         ctx.entry.interrupt.now ctx.exit.1.1.0.now ctx.entry.excludes.now ctx.exit.1.1.1.1.0.now
         AtOnce (setting_in M.Matcher worktree_root.now options.entry ctx.entry)
-        ctx.entry.explicit_traversal_root.now ctx.entry.depth_limit true (λ r. r.0) root_in
+        ctx.entry.explicit_traversal_root.now ctx.entry.depth_limit by_default (λ r. r.0) root_in
         result }
 {
     let Context {

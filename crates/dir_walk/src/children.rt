@@ -13,7 +13,7 @@ ghost use Rattle.dir_classify.specs.Layers.{setting_of, evidence, IsLookupIf};
 ghost use Rattle.dir_walk.specs.Emits.{Gives, IsPart};
 ghost use Rattle.dir_walk.specs.Given.{OnRefused};
 ghost use Rattle.dir_walk.specs.Kept.{KeepsTree, AsksInterrupt, KeepsDelegate, Heeds, Caused};
-ghost use Rattle.dir_walk.specs.Opens.{OpensApart};
+ghost use Rattle.dir_walk.specs.Opens.{EntersAtMost, OpensApart, refused_walk};
 ghost use Rattle.dir_walk.specs.Puts.{Hands, once_within};
 ghost use Rattle.dir_walk.specs.Refused.{IsAbout, IsInTree, Refuses, DirectoryRefuses};
 ghost use Rattle.dir_walk.specs.Report.{depth_of};
@@ -95,7 +95,11 @@ fn walk_child<W: Worktree, F: Find, I: Interrupt, M: Matcher, D: Delegate>(
         excludes.new }
     ensures interrupt { AsksInterrupt I.Interrupt interrupt.old interrupt.new }
     ensures opens { OpensApart W.Worktree I.Interrupt worktree.old worktree.new interrupt.old
-        interrupt.new outcome.old outcome.new 0 }
+        interrupt.new outcome.old outcome.new 0 (EntersAtMost W.Worktree F.Find D.Delegate
+        worktree.old worktree.new objects.old excludes.old delegate.old
+        (setting_of M.Matcher shared.now) blocked.now
+        (λ made s. item_told (setting_of M.Matcher shared.now) made s
+        (joined directory.now.path name.now)) (refused_walk result)) }
     ensures hands { Hands (joined directory.now.path name.now)
         (once_within (joined directory.now.path name.now)) (D.given delegate.old)
         (D.given delegate.new) outcome.old outcome.new result }
@@ -188,7 +192,11 @@ pub(crate) fn walk_children<W: Worktree, F: Find, I: Interrupt, M: Matcher, D: D
         excludes.new }
     ensures interrupt { AsksInterrupt I.Interrupt interrupt.old interrupt.new }
     ensures opens { OpensApart W.Worktree I.Interrupt worktree.old worktree.new interrupt.old
-        interrupt.new outcome.old outcome.new 1 }
+        interrupt.new outcome.old outcome.new 1 (EntersAtMost W.Worktree F.Find D.Delegate
+        worktree.old worktree.new objects.old excludes.old delegate.old
+        (setting_of M.Matcher shared.now) blocked.now
+        (λ made s. directory_told (setting_of M.Matcher shared.now) made s place.now.path
+        class.now) (refused_walk result)) }
     ensures hands { Hands place.now.path (once_within place.now.path) (D.given delegate.old)
         (D.given delegate.new) outcome.old outcome.new result }
     ensures delegate { KeepsDelegate D.Delegate delegate.old delegate.new }

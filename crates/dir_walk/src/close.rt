@@ -36,6 +36,8 @@ use worktree_fs::Worktree;
 /// repository, also where repositories are walked into.
 ///
 /// A fault of that look is counted, and reads as no repository, or as one that is not the worktree's own.
+///
+/// See docs/DECISIONS.md#swallowed-faults.
 #[tactic(auto, unfolding(dir_classify::specs::Class::leaf_class, dir_classify::specs::Layers::evidence))]
 #[inline(never)]
 pub(crate) fn leaf_class<W: Worktree, M: Matcher>(
@@ -161,6 +163,8 @@ fn property_without_names(blocks: bool, own: Option<Property>) -> Option<Propert
 }
 
 /// How the path specs match a directory, whether or not one takes it out.
+///
+/// See docs/DECISIONS.md#directory-without-names.
 fn match_kind_of<M: Matcher>(pathspec: &M, path: &[u8]) -> Option<PathspecMatch>
     ensures { (ev : Evidence) → ev.matched ≡ M.matched pathspec.now
         → result ≡ match_kind_of ev path.now }

@@ -57,8 +57,11 @@ impl EmittedEntries {
         self.items
     }
 
-    /// Adds an entry at the end; where memory is refused the list stays as it was. The room comes from the allocator
-    /// that made the list.
+    /// Adds an entry at the end. The room comes from the allocator that made the list.
+    ///
+    /// # Errors
+    ///
+    /// - `OutOfMemory`: memory was refused. The list stays as it was.
     pub fn push(
         &mut self,
         _alloc: Global,
@@ -93,6 +96,10 @@ impl Collect {
 
     /// The entries in ascending order of their paths, byte by byte, with those of one path beside one another. The room
     /// comes from the allocator that made the list.
+    ///
+    /// # Errors
+    ///
+    /// - `OutOfMemory`: memory was refused.
     pub fn into_entries_by_path(self, _alloc: Global) -> Result<EmittedEntries, OutOfMemory>
         ensures sorted { HasDistinctPaths self.unorded_entries
             → IfOk result (λ entries. entries ≡ by_path self.unorded_entries) }
@@ -114,6 +121,8 @@ impl Delegate for Collect {
     ghost is_default = { λ c. true };
 
     ghost breaks = { λ c. 0 };
+
+    ghost refusals = { λ c. 0 };
 
     ghost is_stopped = { λ c. false };
 

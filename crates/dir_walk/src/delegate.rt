@@ -4,7 +4,7 @@ ghost use Rattle.worktree_fs.specs.Causes.{Incremented};
 ghost use Rattle.dir_classify.specs.Enters.{can_recurse};
 ghost use Rattle.dir_classify.specs.Entries.{entry_of};
 ghost use Rattle.dir_walk.specs.Emissions.{Emission, emission_of};
-ghost use Rattle.dir_walk.specs.Given.{with_emission, OnBreak, OnContinue, UnlessBreak};
+ghost use Rattle.dir_walk.specs.Given.{with_emission, IsAnswered, OnBreak, OnContinue, UnlessBreak};
 
 use dir_classify::{EntryRef, ForDeletionMode, Status};
 use gitbase_core::OutOfMemory;
@@ -21,8 +21,8 @@ pub enum Action {
 
 /// What a walk gives its entries to, after gitoxide's `gix_dir::walk::Delegate`.
 ///
-/// Contracts speak of what it was given where it tells that, and of the count of its Breaks always. The count is of 64 bits, and
-/// stands at its last value.
+/// Contracts speak of what it was given where it tells that, and of the counts of its Breaks and of its refusals always. A count is
+/// of 64 bits, and stands at its last value.
 pub trait Delegate {
     /// What it was given so far, in that order, where it tells that.
     ghost given: { Self → Option (List Emission) };
@@ -33,12 +33,17 @@ pub trait Delegate {
     /// How often it answered Break; it never falls.
     ghost breaks: { Self → ℕ };
 
+    /// How often it kept the walk out of what its status would have it look into; it never falls.
+    ghost refusals: { Self → ℕ };
+
     /// Whether it answered Break when it was last given an entry.
     ghost is_stopped: { Self → Bool };
 
     /// Takes an entry, with the status of the directory that was folded over it, if one was.
     ///
-    /// Where memory is refused it was not given the entry.
+    /// # Errors
+    ///
+    /// - `OutOfMemory`: memory was refused. It was not given the entry.
     fn emit(
         &mut self,
         alloc: Global,
@@ -53,9 +58,13 @@ pub trait Delegate {
         ensures continued { OnContinue result (is_stopped self.new ≡ false) }
         ensures unbroken { UnlessBreak result (breaks self.new ≡ breaks self.old) }
         ensures breaks { breaks self.old ≤ breaks self.new }
+        ensures refusals { refusals self.new ≡ refusals self.old }
         ensures default { is_default self.new ≡ is_default self.old };
 
-    /// Whether the walk looks into a directory or a repository. By default it does as its status says.
+    /// Whether the walk looks into a directory or a repository. By default it does as its status says. An answer of no to what
+    /// its status would have it look into is counted as a refusal, and nothing else is.
+    ///
+    /// See docs/DECISIONS.md#root-not-entered.
     fn can_recurse(
         &mut self,
         entry: EntryRef<'_>,
@@ -65,6 +74,10 @@ pub trait Delegate {
         ensures recursion { is_default self.old ≡ true
             → result ≡ can_recurse entry.entry.status entry.entry.disk_kind
             entry.entry.pathspec_match for_deletion worktree_root_is_repository }
+        ensures refused { IsAnswered (can_recurse entry.entry.status entry.entry.disk_kind
+            entry.entry.pathspec_match for_deletion worktree_root_is_repository) result
+            (refusals self.old) (refusals self.new) }
+        ensures refusals { refusals self.old ≤ refusals self.new }
         ensures given { given self.new ≡ given self.old }
         ensures breaks { breaks self.new ≡ breaks self.old }
         ensures stopped { is_stopped self.new ≡ is_stopped self.old }

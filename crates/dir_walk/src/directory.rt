@@ -15,7 +15,7 @@ ghost use Rattle.dir_classify.specs.Layers.{setting_of, evidence, IsLookupIf};
 ghost use Rattle.dir_walk.specs.Emits.{Gives, IsPart};
 ghost use Rattle.dir_walk.specs.Given.{OnRefused};
 ghost use Rattle.dir_walk.specs.Kept.{KeepsTree, AsksInterrupt, KeepsDelegate, Heeds, Caused};
-ghost use Rattle.dir_walk.specs.Opens.{OpensWithin, refused_walk};
+ghost use Rattle.dir_walk.specs.Opens.{EntersAtMost, OpensWithin, refused_walk};
 ghost use Rattle.dir_walk.specs.Puts.{Hands, once_within};
 ghost use Rattle.dir_walk.specs.Refused.{IsAbout, IsInTree, Refuses, DirectoryRefuses};
 ghost use Rattle.dir_walk.specs.Report.{depth_of};
@@ -122,7 +122,11 @@ fn walk_name<W: Worktree, F: Find, I: Interrupt, M: Matcher, D: Delegate>(
     ensures interrupt { AsksInterrupt I.Interrupt interrupt.old interrupt.new }
     ensures opens { OpensWithin W.Worktree I.Interrupt worktree.old worktree.new interrupt.old
         interrupt.new outcome.old outcome.new (chosen shared.now.options) excludes.old
-        excludes.new (components directory.now.path) 0 (refused_walk result) }
+        excludes.new (components directory.now.path) 0 (refused_walk result)
+        (EntersAtMost W.Worktree F.Find D.Delegate worktree.old worktree.new objects.old
+        excludes.old delegate.old (setting_of M.Matcher shared.now) blocked.now
+        (λ made s. item_told (setting_of M.Matcher shared.now) made s
+        (joined directory.now.path name.now)) (refused_walk result)) }
     ensures hands { Hands (joined directory.now.path name.now)
         (once_within (joined directory.now.path name.now)) (D.given delegate.old)
         (D.given delegate.new) outcome.old outcome.new result }
@@ -174,7 +178,7 @@ fn walk_name<W: Worktree, F: Find, I: Interrupt, M: Matcher, D: Delegate>(
 /// - with `TooDeep`: a directory that is to be entered lies deeper than the levels allow.
 /// - with `OutOfMemory`: memory was refused.
 #[cycle(walk)]
-pub fn walk_directory<W: Worktree, F: Find, I: Interrupt, M: Matcher, D: Delegate>(
+pub(crate) fn walk_directory<W: Worktree, F: Find, I: Interrupt, M: Matcher, D: Delegate>(
     alloc: Global,
     shared: &Shared<'_, M>,
     blocked: &Option<PathText>,
@@ -230,7 +234,11 @@ pub fn walk_directory<W: Worktree, F: Find, I: Interrupt, M: Matcher, D: Delegat
     ensures interrupt { AsksInterrupt I.Interrupt interrupt.old interrupt.new }
     ensures opens { OpensWithin W.Worktree I.Interrupt worktree.old worktree.new interrupt.old
         interrupt.new outcome.old outcome.new (chosen shared.now.options) excludes.old
-        excludes.new (components place.now.path) 1 (refused_walk result) }
+        excludes.new (components place.now.path) 1 (refused_walk result)
+        (EntersAtMost W.Worktree F.Find D.Delegate worktree.old worktree.new objects.old
+        excludes.old delegate.old (setting_of M.Matcher shared.now) blocked.now
+        (λ made s. directory_told (setting_of M.Matcher shared.now) made s place.now.path
+        class.now) (refused_walk result)) }
     ensures hands { Hands place.now.path (once_within place.now.path) (D.given delegate.old)
         (D.given delegate.new) outcome.old outcome.new result }
     ensures delegate { KeepsDelegate D.Delegate delegate.old delegate.new }

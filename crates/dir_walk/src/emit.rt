@@ -38,6 +38,7 @@ pub(crate) fn emit<D: Delegate>(
     ensures puts { Puts (once_at (entry_of entry.entry).rela_path) (D.given delegate.old)
         (D.given delegate.new) outcome.old outcome.new [] }
     ensures entered { outcome.new.read_dir_calls ≡ outcome.old.read_dir_calls }
+    ensures refusals { D.refusals delegate.new ≡ D.refusals delegate.old }
     ensures memory { WantsMemory result }
 {
     outcome.seen_entries = outcome.seen_entries.saturating_add(1);

@@ -1,6 +1,6 @@
 //! Entering the traversal root.
 ghost use Rattle.std.specs.Prelude.{◌≡◌, ◌+◌, ℕ, List, [], Option, Some, true, false, length, option_copied, option_to_list, IfOk, IfErr, OnOk, OnErr};
-ghost use Rattle.gitbase_core.specs.Path.{components, ends_in_slash, past_slashes};
+ghost use Rattle.gitbase_core.specs.Path.{components, ends_in_slash};
 ghost use Rattle.worktree_fs.specs.Causes.{NotIncreased, Increased};
 ghost use Rattle.worktree_fs.specs.Kept.{Asks, AsksStore};
 ghost use Rattle.worktree_fs.specs.Paths.{is_normal, spelled};
@@ -13,12 +13,12 @@ ghost use Rattle.dir_classify.specs.Layers.{setting_of, evidence, rest_behind, I
 ghost use Rattle.dir_walk.specs.Emits.{Emits, Gives, GivesAll, IsPart, Within, put_plain};
 ghost use Rattle.dir_walk.specs.Given.{OnRefused};
 ghost use Rattle.dir_walk.specs.Kept.{KeepsTree, AsksInterrupt, KeepsDelegate, Heeds, Caused, WantsMemory};
-ghost use Rattle.dir_walk.specs.Opens.{OpensRoot, refused_walk};
+ghost use Rattle.dir_walk.specs.Opens.{EntersAtMost, OpensRoot, refused_walk};
 ghost use Rattle.dir_walk.specs.Puts.{Hands, Puts, held_at, once_within};
 ghost use Rattle.dir_walk.specs.Refused.{IsAbout, IsInTree, DirectoryRefuses};
 ghost use Rattle.dir_walk.specs.Report.{depth_of, out_of};
 ghost use Rattle.dir_walk.specs.Told.{Stands, directory_told};
-ghost use Rattle.dir_walk.specs.Walks.{Ends, Tells};
+ghost use Rattle.dir_walk.specs.Walks.{Ends, EntersWalked, Tells};
 
 use crate::children::walk_children;
 use crate::delegate::Delegate;
@@ -30,7 +30,7 @@ use crate::outcome::Outcome;
 use crate::place::Place;
 use crate::strategy::Strategy;
 use dir_classify::{Options, Shared, classify};
-use gitbase_core::{Find, OutOfMemory, PathText, relative_to};
+use gitbase_core::{Find, OutOfMemory, PathText, past_slashes, relative_to};
 use glob_rules::pathspec::Matcher;
 use std::alloc::Global;
 use worktree_fs::{Interrupt, ReadError, Worktree, next_component};
@@ -59,19 +59,10 @@ fn rest_behind<'a>(directory: &[u8], path: &'a [u8]) -> Option<&'a [u8]>
     relative_to(path, directory)
 }
 
-/// A path without the slashes at its start.
-fn past_slashes(path: &[u8]) -> &[u8]
-    ensures { result.now ≡ past_slashes path.now }
-{
-    let mut rest = path;
-    while let [b'/', after @ ..] = rest {
-        rest = after;
-    }
-    rest
-}
-
 /// In deletion, the directory that must not go: the current one, where it is the worktree root or lies beneath. A fault
 /// of the question for the real path of the worktree root reads as none.
+///
+/// See docs/DECISIONS.md#swallowed-faults.
 fn blocked_directory<W: Worktree, M: Matcher>(
     alloc: Global,
     shared: &Shared<'_, M>,
@@ -174,7 +165,11 @@ fn walk_deep<W: Worktree, F: Find, I: Interrupt, M: Matcher, D: Delegate>(
         (F.holds objects.old) s (made_with excludes.old))) }
     ensures opens { OpensRoot W.Worktree I.Interrupt worktree.old worktree.new interrupt.old
         interrupt.new outcome.old outcome.new strategy (chosen shared.now.options) excludes.old
-        excludes.new (components place.now.path) (refused_walk result) }
+        excludes.new (components place.now.path) (refused_walk result)
+        (EntersAtMost W.Worktree F.Find D.Delegate worktree.old worktree.new objects.old
+        excludes.old delegate.old (setting_of M.Matcher shared.now) blocked.now
+        (λ made s. directory_told (setting_of M.Matcher shared.now) made s place.now.path
+        class.now) (refused_walk result)) }
     ensures hands { Hands place.now.path (once_within place.now.path) (D.given delegate.old)
         (D.given delegate.new) outcome.old outcome.new result }
     ensures ends { Ends W.Worktree F.Find I.Interrupt D.Delegate worktree.old worktree.new
@@ -246,7 +241,10 @@ pub(crate) fn walk_entered<W: Worktree, F: Find, I: Interrupt, M: Matcher, D: De
         (F.holds objects.old) s (made_with excludes.old))) }
     ensures opens { OpensRoot W.Worktree I.Interrupt worktree.old worktree.new interrupt.old
         interrupt.new outcome.old outcome.new strategy (chosen shared.now.options) excludes.old
-        excludes.new (components path.now) (refused_walk result) }
+        excludes.new (components path.now) (refused_walk result)
+        (EntersWalked W.Worktree F.Find D.Delegate worktree.old worktree.new objects.old
+        excludes.old delegate.old (λ s. directory_told (setting_of M.Matcher shared.now)
+        (made_with excludes.old) s path.now class.now) (refused_walk result)) }
     ensures puts { Puts (once_within path.now) (D.given delegate.old) (D.given delegate.new)
         outcome.old outcome.new [] }
     ensures ends { Ends W.Worktree F.Find I.Interrupt D.Delegate worktree.old worktree.new

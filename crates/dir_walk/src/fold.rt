@@ -45,6 +45,8 @@ pub(crate) fn fold(
 }
 
 /// Whether an entry of a status is held, as a directory may be folded over it.
+///
+/// See docs/DECISIONS.md#folding-sees-held.
 pub(crate) fn is_held(options: &Options<'_>, status: Status) -> bool
     ensures { result ≡ is_held (chosen options.now) status }
 {
@@ -209,6 +211,8 @@ fn rank_of(found: Option<PathspecMatch>) -> u8
 // ---- the status of a folded directory
 
 /// The status under which all that is held may become one entry, if there is one.
+///
+/// See docs/DECISIONS.md#folded-untracked.
 fn fold_status(options: &Options<'_>, counts: &Tally) -> Option<Status>
     requires { counts.now.untracked + counts.now.expendable + counts.now.precious ≤ counts.now.all }
     ensures { result ≡ fold_status (chosen options.now) counts.now }

@@ -13,6 +13,7 @@ ghost use Rattle.dir_classify.specs.Class.{enters};
 ghost use Rattle.dir_classify.specs.Refused.{OnFault};
 ghost use Rattle.dir_walk.specs.Emissions.{Emission};
 ghost use Rattle.dir_walk.specs.Emits.{Emits};
+ghost use Rattle.dir_walk.specs.Given.{IsAnswered};
 ghost use Rattle.dir_walk.specs.Kept.{AsksInterrupt, OnInterrupt, OnListingFault};
 ghost use Rattle.dir_walk.specs.Opens.{Opens};
 ghost use Rattle.dir_walk.specs.Refused.{IsAbout, OpenRefuses, IsDeep, read_error};
@@ -50,8 +51,8 @@ pub(crate) fn open<W: Worktree, I: Interrupt>(
     ensures interrupt { AsksInterrupt I.Interrupt interrupt.old interrupt.new }
     ensures opens { OnOk result (Opens W.Worktree I.Interrupt worktree.old worktree.new
         interrupt.old interrupt.new outcome.old outcome.new 1) }
-    ensures tried { OnErr result ((opened : ℕ) × Opens W.Worktree I.Interrupt worktree.old
-        worktree.new interrupt.old interrupt.new outcome.old outcome.new opened) }
+    ensures tried { OnErr result ((opened : ℕ) × (opened ≤ 1) × Opens W.Worktree I.Interrupt
+        worktree.old worktree.new interrupt.old interrupt.new outcome.old outcome.new opened) }
     ensures once { W.lists worktree.new ≤ W.lists worktree.old + 1 }
     ensures returned { outcome.new.returned_entries ≡ outcome.old.returned_entries }
     ensures seen { outcome.new.seen_entries ≡ outcome.old.seen_entries }
@@ -103,6 +104,8 @@ fn read_error(alloc: Global, path: &[u8], refused: ListError) -> Result<Error, O
 }
 
 /// The refusal of a directory that lies too deep to be entered; the interrupt is asked first.
+///
+/// See docs/DECISIONS.md#depth-limit.
 #[inline(never)]
 pub(crate) fn too_deep<I: Interrupt>(alloc: Global, place: &Place, interrupt: &mut I) -> Error
     ensures deep { IsDeep (full_path place.now.root place.now.path)
@@ -131,6 +134,9 @@ pub(crate) fn is_entered<D: Delegate>(
 ) -> bool
     ensures entered { D.is_default delegate.old ≡ true
         → result ≡ enters (chosen options.now) class.now worktree_root_is_repository }
+    ensures answered { IsAnswered (enters (chosen options.now) class.now
+        worktree_root_is_repository) result (D.refusals delegate.old) (D.refusals delegate.new) }
+    ensures refusals { D.refusals delegate.old ≤ D.refusals delegate.new }
     ensures given { D.given delegate.new ≡ D.given delegate.old }
     ensures breaks { D.breaks delegate.new ≡ D.breaks delegate.old }
     ensures stopped { D.is_stopped delegate.new ≡ D.is_stopped delegate.old }

@@ -15,7 +15,7 @@ use std::marker::Model;
 /// Contracts see the root and the relative path, which is normal: one slash parts each two components, and none stands at
 /// the end.
 #[derive(Drop)]
-pub struct Place {
+pub(crate) struct Place {
     whole: PathText,
     root_length: usize,
     start: usize,

@@ -6,6 +6,7 @@ ghost use Rattle.worktree_stack.specs.Reading.{Sources};
 ghost use Rattle.dir_classify.specs.Excludes.{made_with, tells_excludes};
 ghost use Rattle.dir_classify.specs.Layers.{setting_in, IsLookupIf};
 ghost use Rattle.dir_walk.specs.Reports.{IsFromRoot, IsReport};
+ghost use Rattle.dir_walk.specs.WalkRefused.{by_default};
 ghost use Rattle.dir_walk.specs.Walks.{Tells, WalksWorktree};
 
 use crate::collect::{Collect, EmittedEntries};
@@ -32,9 +33,11 @@ pub struct Report {
 /// Walks a worktree as [`walk`](crate::walk::walk) does with a delegate that recurses by default and keeps what it is given,
 /// or its subtrees at once, as [`walk_at_once`](crate::walk_at_once) does, and gives the entries in the order of their paths.
 ///
+/// See docs/DECISIONS.md#walk-by-path.
+///
 /// # Errors
 ///
-/// Those of [`walk`](crate::walk::walk), each for the same causes.
+/// Those of [`walk`](crate::walk::walk), each for the same causes; `OutOfMemory` also where none is left to sort the entries.
 pub fn walk_by_path<W: Worktree, F: Find, I: Interrupt, M: Matcher>(
     alloc: Global,
     worktree_root: &[u8],
@@ -66,7 +69,7 @@ pub fn walk_by_path<W: Worktree, F: Find, I: Interrupt, M: Matcher>(
         ctx.entry.worktree.now ctx.exit.0.now ctx.entry.objects.now ctx.exit.1.0.now
         ctx.entry.interrupt.now ctx.exit.1.1.0.now ctx.entry.excludes.now ctx.exit.1.1.1.1.0.now
         strategy (setting_in M.Matcher worktree_root.now options.entry ctx.entry)
-        ctx.entry.explicit_traversal_root.now ctx.entry.depth_limit true (λ r. r.outcome)
+        ctx.entry.explicit_traversal_root.now ctx.entry.depth_limit by_default (λ r. r.outcome)
         (λ r. r.root) result }
 {
     let mut delegate = Collect::new(alloc);

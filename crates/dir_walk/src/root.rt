@@ -26,7 +26,7 @@ use worktree_fs::{NodeKind, ReadError, Worktree, next_component};
 /// - `SymlinkMetadata`: one of its components is not there, or its kind could not be had, which the worktree counted.
 /// - `SymlinkInRoot`: one of its components is a link, and no earlier one is.
 /// - `OutOfMemory`: memory was refused.
-pub fn traversal_root<W: Worktree, M: Matcher>(
+pub(crate) fn traversal_root<W: Worktree, M: Matcher>(
     alloc: Global,
     shared: &Shared<'_, M>,
     explicit: &Option<Bytes>,
@@ -87,6 +87,9 @@ fn root_asked<W: Worktree, M: Matcher>(
 
 /// The common directory of what the path specs match, where it is a directory, its last link followed; else the worktree root. A
 /// fault of that question reads as no directory.
+///
+/// See docs/DECISIONS.md#common-link.
+/// See docs/DECISIONS.md#swallowed-faults.
 fn common_root<W: Worktree, M: Matcher>(
     alloc: Global,
     shared: &Shared<'_, M>,

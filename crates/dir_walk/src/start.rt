@@ -12,17 +12,17 @@ ghost use Rattle.dir_classify.specs.Layers.{setting_of, evidence, IsLookupIf};
 ghost use Rattle.dir_classify.specs.Rooted.{reached_by, way_to};
 ghost use Rattle.dir_walk.specs.Emissions.{plain};
 ghost use Rattle.dir_walk.specs.Emits.{Emits, IsPart, shown_by};
-ghost use Rattle.dir_walk.specs.Given.{OnRefused};
+ghost use Rattle.dir_walk.specs.Given.{IsAnswered, OnRefused};
 ghost use Rattle.dir_walk.specs.Kept.{KeepsDelegate, Heeds};
-ghost use Rattle.dir_walk.specs.Opens.{OpensFrom};
+ghost use Rattle.dir_walk.specs.Opens.{OpensFrom, refused_walk};
 ghost use Rattle.dir_walk.specs.Puts.{Puts, PutsFrom, once_at};
 ghost use Rattle.dir_walk.specs.Report.{out_of};
 ghost use Rattle.dir_walk.specs.Root.{is_root_entered, root_kind, walked_at};
 ghost use Rattle.dir_walk.specs.Rooting.{IsRoot};
 ghost use Rattle.dir_walk.specs.Starts.{StartGives, PutsRoot};
 ghost use Rattle.dir_walk.specs.Walked.{Walked};
-ghost use Rattle.dir_walk.specs.WalkRefused.{IsNoTop, OnNoRoot, StartAbout, StartFound, StartRefuses};
-ghost use Rattle.dir_walk.specs.Walks.{Ends, Tells};
+ghost use Rattle.dir_walk.specs.WalkRefused.{IsNoTop, OnNoRoot, StartAbout, StartFound, StartRefuses, recursion_of};
+ghost use Rattle.dir_walk.specs.Walks.{Ends, EntersFrom, Tells};
 
 use crate::delegate::Delegate;
 use crate::emit::emit;
@@ -88,6 +88,11 @@ fn is_root_entered<W: Worktree, M: Matcher, D: Delegate>(
         → D.is_default delegate.old ≡ true
         → IfOk result (λ entered. entered ≡ is_root_entered (chosen shared.now.options)
         (evidence (setting_of M.Matcher shared.now) made s) (reached_by reached.now false)) }
+    ensures answered { (made : Option Made) (s : Sources) → W.told worktree.old ≡ Some s.tree
+        → NotIncreased (W.faults worktree.old) (W.faults worktree.new)
+        → IfOk result (λ entered. IsAnswered (is_root_entered (chosen shared.now.options)
+        (evidence (setting_of M.Matcher shared.now) made s) (reached_by reached.now false)) entered
+        (D.refusals delegate.old) (D.refusals delegate.new)) }
     ensures whole { IfOk result (λ entered. entered ≡ true → reached.now.whole ≡ true) }
     ensures keeps { Asks W.Worktree worktree.old worktree.new }
     ensures reads { W.reads worktree.new ≡ W.reads worktree.old }
@@ -126,6 +131,8 @@ fn seen_as(class: &classify::Outcome, disk_kind: Option<Kind>) -> classify::Outc
 
 /// Puts out the one entry of a walk that enters nothing; `root` is the traversal root. A worktree root that is no directory is
 /// refused.
+///
+/// See docs/DECISIONS.md#nothing-entered.
 fn put_root<D: Delegate, M: Matcher>(
     alloc: Global,
     shared: &Shared<'_, M>,
@@ -139,6 +146,7 @@ fn put_root<D: Delegate, M: Matcher>(
     ensures given { Puts (once_at reached.now.path) (D.given delegate.old) (D.given delegate.new)
         outcome.old outcome.new [] }
     ensures entered { outcome.new.read_dir_calls ≡ outcome.old.read_dir_calls }
+    ensures refusals { D.refusals delegate.new ≡ D.refusals delegate.old }
     ensures delegate { KeepsDelegate D.Delegate delegate.old delegate.new }
     ensures heeds { Heeds D.Delegate delegate.old delegate.new result }
 {
@@ -206,15 +214,17 @@ pub(crate) fn walk_from<W: Worktree, F: Find, I: Interrupt, M: Matcher, D: Deleg
     ensures no_root { (s : Sources) → W.told worktree.old ≡ Some s.tree
         → NotIncreased (W.faults worktree.old) (W.faults worktree.new)
         → IfErr result (OnRefused (OnNoRoot (IsNoTop (setting_of M.Matcher shared.now)
-        (made_with excludes.old) s (D.is_default delegate.old)))) }
+        (made_with excludes.old) s (recursion_of D.Delegate delegate.old delegate.new)))) }
     ensures about { IfErr result (OnRefused (StartAbout (made_with excludes.old)
         shared.now.worktree_root.now root.now depth_limit)) }
     ensures found { (s : Sources) → W.told worktree.old ≡ Some s.tree
         → IfErr result (OnRefused (StartFound shared.now.worktree_root.now
         (F.holds objects.old) s (made_with excludes.old))) }
     ensures opens { OpensFrom W.Worktree I.Interrupt worktree.old worktree.new interrupt.old
-        interrupt.new outcome.old outcome.new strategy (chosen shared.now.options) root.now
-        result }
+        interrupt.new outcome.old outcome.new strategy (chosen shared.now.options)
+        (made_with excludes.old) root.now result (EntersFrom W.Worktree F.Find D.Delegate
+        worktree.old worktree.new objects.old excludes.old delegate.old
+        (setting_of M.Matcher shared.now) root.now (refused_walk result)) }
     ensures puts { PutsFrom root.now (D.given delegate.old) (D.given delegate.new) outcome.old
         outcome.new }
     ensures ends { Ends W.Worktree F.Find I.Interrupt D.Delegate worktree.old worktree.new

@@ -40,13 +40,19 @@ use worktree_stack::Stack;
 /// which is then not begun at. After a refusal the delegate has what it was given before. Where it answers Break the walk
 /// ends with what was counted so far.
 ///
+/// See docs/DECISIONS.md#traversal-root.
+/// See docs/DECISIONS.md#nothing-entered.
+/// See docs/DECISIONS.md#bound-on-reads.
+/// See docs/DECISIONS.md#swallowed-faults.
+/// See docs/DECISIONS.md#broken-off-walk.
+///
 /// # Errors
 ///
 /// - `NormalizeRoot`: the traversal root is absolute, or leads out of the worktree.
 /// - `SymlinkInRoot`: one of its components is a link, and no earlier one is.
 /// - `SymlinkMetadata`: one of its components is not there, or its kind could not be had, for a fault.
-/// - `WorktreeRootIsFile`: the traversal root is the worktree root, which is not entered and is no directory, a link not
-///   followed.
+/// - `WorktreeRootIsFile`: the traversal root is the worktree root, which is not entered, by its status or as the delegate
+///   refuses, and is no directory, a link not followed.
 /// - `Interrupted`: the interrupt was raised, which is asked before each directory is read.
 /// - `TooDeep`: a directory is to be entered and has more components below the worktree root than the limit.
 /// - `ReadDir`: what is to be entered could not be listed, for a fault, or is no directory on disk: as the index calls it

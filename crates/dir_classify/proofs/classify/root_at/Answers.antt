@@ -16,6 +16,7 @@ loop-next-init g c =
     record {
       keeps = first.keeps;
       store = first.store;
+      unmapped = first.unmapped;
       rules = first.rules;
       spelled_is = search rules;
       split = search rules;
@@ -28,9 +29,9 @@ loop-next-init g c =
           let kinds : List ℕ → Option Kind = λ p. on_disk given s.tree p true in
           top-init given.options ev kinds c.in_ok-path.path c.in_ok-class.class c.is_repository-in_repository.result path_is
           (first.unruled s told quiet (never-asked given.options ev (kinds []) None)) (never-unread given.options ev kinds) c.is_repository-in_repository.ensures;
-      ends = λ s tells step r end.
+      ends = λ s tells step now r end.
           let given = setting_of g.M.Matcher c.args.shared.now in
-          ends-init given.options (evidence given (made_with c.args.excludes.now) s) (λ p. on_disk given s.tree p true) (components c.args.worktree_relative_root.now) c.in_ok-path.path c.in_ok-class.class
+          ends-init _ _ now given.options (evidence given (made_with c.args.excludes.now) s) (λ p. on_disk given s.tree p true) (components c.args.worktree_relative_root.now) c.in_ok-path.path c.in_ok-class.class
           c.is_repository-in_repository.result r path_is c.is_repository-in_repository.ensures (first.swallowed s tells step) end;
       reads = inl (root-unasked first);
       spared = λ s never. root-unasked first;
@@ -78,7 +79,7 @@ returns-in_err-class g c =
 pub returns-then-not-goes_on : goal.returns-then-not-goes_on
 returns-then-not-goes_on g c =
     let given = setting_of g.M.Matcher c.args.shared.now in
-    let short = λ (s : Sources). ended-short given.options (evidence given (made_with c.args.excludes.now) s) (λ p. on_disk given s.tree p true) c.loop-next.path c.in-Some.next.name.now c.loop-next.class
+    let short = λ (s : Sources). ended-short (g.W.Worktree.faults c.loop-next.worktree) given.options (evidence given (made_with c.args.excludes.now) s) (λ p. on_disk given s.tree p true) c.loop-next.path c.in-Some.next.name.now c.loop-next.class
     c.is_repository-in_repository.result (components c.loop-next.rest.now) (components c.in-Some.next.rest.now) c.in-Some.ensures.0 (rw c.as_bytes.ensures at (sym c.goes_on.ensures ∙ c.if-not-goes_on.true)) in
     Reaches-ended g.W.Worktree g.F.Find c.args.worktree.now c.loop-next.worktree c.args.objects.now c.loop-next.objects c.args.excludes.now c.loop-next.excludes given
     c.args.worktree_relative_root.now c.loop-next.path c.loop-next.rest.now c.loop-next.class c.is_repository-in_repository.result c.loop-next.invariant c.requires.spelled
@@ -95,7 +96,7 @@ pub returns : goal.returns
 returns g c =
     let given = setting_of g.M.Matcher c.args.shared.now in
     let none : components c.loop-next.rest.now ≡ [] = search rules in
-    let whole = λ (s : Sources). ended-whole given.options (evidence given (made_with c.args.excludes.now) s) (λ p. on_disk given s.tree p true) c.loop-next.path c.loop-next.class
+    let whole = λ (s : Sources). ended-whole (g.W.Worktree.faults c.loop-next.worktree) given.options (evidence given (made_with c.args.excludes.now) s) (λ p. on_disk given s.tree p true) c.loop-next.path c.loop-next.class
     c.is_repository-in_repository.result (components c.loop-next.rest.now) none in
     Reaches-ended g.W.Worktree g.F.Find c.args.worktree.now c.loop-next.worktree c.args.objects.now c.loop-next.objects c.args.excludes.now c.loop-next.excludes given
     c.args.worktree_relative_root.now c.loop-next.path c.loop-next.rest.now c.loop-next.class c.is_repository-in_repository.result c.loop-next.invariant c.requires.spelled

@@ -6,6 +6,7 @@ use Rattle.worktree_stack.specs.Excludes.{exclude, rule_of, origin_of}
 use Rattle.worktree_stack.specs.Reading.{rulebook}
 use Rattle.worktree_stack.specs.Lookups.{IsLookedUp}
 use Rattle.worktree_stack.specs.Stacked.{Stacked, made_of, IsInStep}
+use Rattle.dir_classify.proofs.Keeping.{nothing-mapped}
 use Rattle.dir_classify.proofs.Looked.{tells-given, ruling-looked, read-looked, leaves-refused}
 use Rattle.dir_classify.proofs.excludes.ruling_by.Goals as goal
 
@@ -39,5 +40,17 @@ returns-in_err-at_path-clause-reads g c =
       looked_up = tt;
       on_way = looks.on_way c.requires.normal;
       leaves = leaves-refused _ _ _ _ c.args.rela_path.now c.args.stack.now c.at_path.new.self c.in_err-at_path.field-0.0 (looks.stopped c.requires.normal);
-      reads = λ on. looks.reads;
+      reads = λ on alone. looks.reads alone;
     }))
+
+pub returns-clause-unmapped : goal.returns-clause-unmapped
+returns-clause-unmapped g c = λ none. c.in_ok-at_path.ensures.looks_up.store_untouched (nothing-mapped (made_of c.args.stack.now) none)
+
+pub returns-in_err-at_path-clause-unmapped : goal.returns-in_err-at_path-clause-unmapped
+returns-in_err-at_path-clause-unmapped g c = λ none. c.in_err-at_path.ensures.looks_up.store_untouched (nothing-mapped (made_of c.args.stack.now) none)
+
+pub returns-clause-by_mappings : goal.returns-clause-by_mappings
+returns-clause-by_mappings g c = λ none. c.in_ok-at_path.ensures.looks_up.untouched none
+
+pub returns-in_err-at_path-clause-by_mappings : goal.returns-in_err-at_path-clause-by_mappings
+returns-in_err-at_path-clause-by_mappings g c = λ none. c.in_err-at_path.ensures.looks_up.untouched none

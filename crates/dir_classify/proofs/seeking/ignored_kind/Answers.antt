@@ -8,7 +8,7 @@ use Rattle.dir_classify.proofs.seeking.ignored_kind.Goals as goal
 
 pub returns-then-not-finds_in_ignored-clause-swallowed : goal.returns-then-not-finds_in_ignored-clause-swallowed
 returns-then-not-finds_in_ignored-clause-swallowed g c = λ t told.
-    seen-off (finds_in_ignored (chosen c.args.shared.now.options)) (upgraded (chosen c.args.shared.now.options).recurse_repositories (finds_bare_repositories (chosen c.args.shared.now.options).for_deletion) c.args.kind) _ _ c.args.kind (sym c.finds_in_ignored.ensures ∙ c.if-not-finds_in_ignored.true)
+    seen-off _ (finds_in_ignored (chosen c.args.shared.now.options)) (upgraded (chosen c.args.shared.now.options).recurse_repositories (finds_bare_repositories (chosen c.args.shared.now.options).for_deletion) c.args.kind) _ _ c.args.kind (sym c.finds_in_ignored.ensures ∙ c.if-not-finds_in_ignored.true)
 
 pub returns-clause-kind : goal.returns-clause-kind
 returns-clause-kind g c = λ t told quiet.
@@ -16,4 +16,4 @@ returns-clause-kind g c = λ t told quiet.
 
 pub returns-clause-swallowed : goal.returns-clause-swallowed
 returns-clause-swallowed g c = λ t told.
-    seen-on (finds_in_ignored (chosen c.args.shared.now.options)) (upgraded (chosen c.args.shared.now.options).recurse_repositories (finds_bare_repositories (chosen c.args.shared.now.options).for_deletion) c.args.kind) _ _ c.args.kind c.in_ok-seen.seen (sym c.finds_in_ignored.ensures ∙ c.if-not-finds_in_ignored.false) (rw c.finds_bare_in_ignored-hard.ensures at (c.in_ok-seen.ensures.swallowed t told))
+    seen-on _ _ (finds_in_ignored (chosen c.args.shared.now.options)) (upgraded (chosen c.args.shared.now.options).recurse_repositories (finds_bare_repositories (chosen c.args.shared.now.options).for_deletion) c.args.kind) _ _ c.args.kind c.in_ok-seen.seen (sym c.finds_in_ignored.ensures ∙ c.if-not-finds_in_ignored.false) (rw c.finds_bare_in_ignored-hard.ensures at (c.in_ok-seen.ensures.swallowed t told))

@@ -9,7 +9,7 @@ use Rattle.dir_classify.proofs.seeking.indexed_kind.Goals as goal
 
 pub returns-then-not-is_submodule-clause-swallowed : goal.returns-then-not-is_submodule-clause-swallowed
 returns-then-not-is_submodule-clause-swallowed g c = λ t told.
-    seen-off (is_directory c.args.kind && is_repository c.args.entry.kind) (upgraded (chosen c.args.shared.now.options).recurse_repositories false c.args.kind) _ _ c.args.kind (sym c.is_submodule.ensures ∙ c.if-not-is_submodule.true)
+    seen-off _ (is_directory c.args.kind && is_repository c.args.entry.kind) (upgraded (chosen c.args.shared.now.options).recurse_repositories false c.args.kind) _ _ c.args.kind (sym c.is_submodule.ensures ∙ c.if-not-is_submodule.true)
 
 pub returns-clause-kind : goal.returns-clause-kind
 returns-clause-kind g c = λ t told quiet.
@@ -17,4 +17,4 @@ returns-clause-kind g c = λ t told quiet.
 
 pub returns-clause-swallowed : goal.returns-clause-swallowed
 returns-clause-swallowed g c = λ t told.
-    seen-on (is_directory c.args.kind && is_repository c.args.entry.kind) (upgraded (chosen c.args.shared.now.options).recurse_repositories false c.args.kind) _ _ c.args.kind c.in_ok-seen.seen (sym c.is_submodule.ensures ∙ c.if-not-is_submodule.false) (c.in_ok-seen.ensures.swallowed t told)
+    seen-on _ _ (is_directory c.args.kind && is_repository c.args.entry.kind) (upgraded (chosen c.args.shared.now.options).recurse_repositories false c.args.kind) _ _ c.args.kind c.in_ok-seen.seen (sym c.is_submodule.ensures ∙ c.if-not-is_submodule.false) (c.in_ok-seen.ensures.swallowed t told)

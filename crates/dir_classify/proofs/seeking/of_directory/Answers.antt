@@ -13,4 +13,4 @@ pub returns-clause-swallowed : goal.returns-clause-swallowed
 returns-clause-swallowed g c = λ s told made on_disk.
     rw c.class_free.ensures
     (directory-judged (setting_of g.M.Matcher c.args.shared.now) made s c.args.rela_path.now c.args.full.now c.requires.full c.args.entry c.requires.entry c.args.kind
-    c.match_of-found.result (c.match_of-found.ensures made s) on_disk c.in_ok-disk_kind.disk_kind (rw c.is_hard-hard.ensures at (c.in_ok-disk_kind.ensures.swallowed s.tree told)))
+    c.match_of-found.result (c.match_of-found.ensures made s) _ _ on_disk c.in_ok-disk_kind.disk_kind (rw c.is_hard-hard.ensures at (c.in_ok-disk_kind.ensures.swallowed s.tree told)))

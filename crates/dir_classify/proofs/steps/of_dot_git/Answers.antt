@@ -1,10 +1,10 @@
-use Rattle.std.proofs.Common.{◌∙◌, ap, sym, refl, None, not, ◌&&◌, rules}
+use Rattle.std.proofs.Common.{◌∙◌, ap, sym, refl, None, not, ◌&&◌, arith, rules}
 use Rattle.std.specs.Prelude.{is_some}
 use Rattle.std.proofs.lemmas.Result.{err_from_is_err_and}
 use Rattle.dir_classify.specs.Chosen.{chosen}
 use Rattle.dir_classify.specs.Class.{class_dot_git, dot_git_ruling}
 use Rattle.dir_classify.specs.Excludes.{made_with}
-use Rattle.dir_classify.specs.Faults.{read_as}
+use Rattle.dir_classify.specs.Faults.{none_failed, read_as}
 use Rattle.dir_classify.specs.Layers.{setting_of, evidence, on_disk}
 use Rattle.dir_classify.proofs.Fitting.{dot_git-none, dot_git-nothing}
 use Rattle.dir_classify.proofs.Judging.{unruled}
@@ -25,8 +25,8 @@ returns-then-not-is_deleting g c = λ ask_disk.
     (asks-same g.W.Worktree c.args.worktree.now) (λ on. refl)
     (λ s told quiet. c.class_dot_git.ensures made s ∙ dot_git-unasked (chosen c.args.shared.now.options) (evidence (setting_of g.M.Matcher c.args.shared.now) made s) path c.args.disk_kind off)
     (λ s told. let ev = evidence (setting_of g.M.Matcher c.args.shared.now) made s in
-    judged-unread (λ _ read. class_dot_git (chosen c.args.shared.now.options) read path c.args.disk_kind (dot_git_ruling (chosen c.args.shared.now.options) read path c.args.disk_kind)) ev path (on_disk (setting_of g.M.Matcher c.args.shared.now) s.tree path ask_disk) c.class_dot_git.result
-    (c.class_dot_git.ensures made s ∙ dot_git-unasked (chosen c.args.shared.now.options) (read_as ev (ev.followed path) (ev.repository_at path) (ev.repository_in path)) path c.args.disk_kind off))
+    judged-unread _ _ (λ _ read. class_dot_git (chosen c.args.shared.now.options) read path c.args.disk_kind (dot_git_ruling (chosen c.args.shared.now.options) read path c.args.disk_kind)) ev (on_disk (setting_of g.M.Matcher c.args.shared.now) s.tree path ask_disk) c.class_dot_git.result (omega arith)
+    (c.class_dot_git.ensures made s ∙ dot_git-unasked (chosen c.args.shared.now.options) (read_as none_failed ev) path c.args.disk_kind off))
     (λ s. rw off refl)
     (λ s no. refl)
 
@@ -47,6 +47,7 @@ returns-in_err-ruling g c = λ ask_disk.
       cause = search rules;
       keeps = c.in_err-ruling.ensures.keeps;
       store = c.in_err-ruling.ensures.store;
+      unmapped = c.in_err-ruling.ensures.unmapped;
       rules = c.in_err-ruling.ensures.rules;
       reads =
           let p = err_from_is_err_and c.from_residual.result c.from_residual.ensures.1 in
@@ -80,7 +81,7 @@ returns g c = λ ask_disk.
           ∙ dot_git-asked (chosen c.args.shared.now.options) (setting_of g.M.Matcher c.args.shared.now) made s path c.args.disk_kind c.in_ok-ruling.ruling c.is_dir-is_dir.result on c.is_dir-is_dir.ensures (asked.ruling s tells step);
       read = λ s tells step quiet. dot_git-read (chosen c.args.shared.now.options) (setting_of g.M.Matcher c.args.shared.now) made s path (asked.read s tells step);
       swallowed = λ s tells step. let ev = evidence (setting_of g.M.Matcher c.args.shared.now) made s in
-          judged-unread (λ _ read. class_dot_git (chosen c.args.shared.now.options) read path c.args.disk_kind (dot_git_ruling (chosen c.args.shared.now.options) read path c.args.disk_kind)) ev path (on_disk (setting_of g.M.Matcher c.args.shared.now) s.tree path ask_disk) c.class_dot_git-2.result
+          judged-unread _ _ (λ _ read. class_dot_git (chosen c.args.shared.now.options) read path c.args.disk_kind (dot_git_ruling (chosen c.args.shared.now.options) read path c.args.disk_kind)) ev (on_disk (setting_of g.M.Matcher c.args.shared.now) s.tree path ask_disk) c.class_dot_git-2.result asked.keeps.faults
           (c.class_dot_git-2.ensures made s
           ∙ dot_git-asked (chosen c.args.shared.now.options) (setting_of g.M.Matcher c.args.shared.now) made s path c.args.disk_kind c.in_ok-ruling.ruling c.is_dir-is_dir.result on c.is_dir-is_dir.ensures (asked.ruling s tells step));
       unruled = λ s told quiet no.
@@ -94,6 +95,7 @@ returns g c = λ ask_disk.
       cause = tt;
       keeps = asked.keeps;
       store = asked.store;
+      unmapped = asked.unmapped;
       rules = asked.rules;
       reads = at-most (chosen c.args.shared.now.options).recurse_repositories path _ _ _ _ _ _ _ c.in_ok-ruling.ruling c.class_dot_git-2.result (λ on. refl) asked.reads;
       spared = λ s never.

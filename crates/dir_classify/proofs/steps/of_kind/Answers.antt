@@ -1,18 +1,18 @@
-use Rattle.std.proofs.Common.{◌∙◌, ap, sym, refl, false, true, None, inl, rules}
+use Rattle.std.proofs.Common.{◌∙◌, ap, sym, refl, false, true, None, arith, rules}
 use Rattle.dir_classify.specs.declared.excludes.Ruling.{Ruling}
 use Rattle.dir_classify.specs.Chosen.{chosen}
 use Rattle.dir_classify.specs.declared.index.InIndex.{InIndex}
 use Rattle.dir_classify.specs.Class.{class_of_kind, class_indexed, class_unindexed, asks_of_kind, is_idle, is_idle_of_kind, is_indexed, seeks_indexed, seeks_by_rules}
 use Rattle.dir_classify.specs.Excludes.{made_with}
-use Rattle.dir_classify.specs.Faults.{read_as}
+use Rattle.dir_classify.specs.Faults.{none_failed, read_as}
 use Rattle.dir_classify.specs.Layers.{setting_of, evidence, on_disk}
 use Rattle.dir_classify.proofs.Fitting.{worktree-case, indexed-case, unindexed-case, unasked-worktree, unasked-indexed, indexed-as, read-case, in_index-of, none-asked, idle-indexed, idle-unindexed}
 use Rattle.dir_classify.proofs.Judging.{unruled}
-use Rattle.dir_classify.proofs.Keeping.{asks-same, asks-then, asks-rules, quiet-first, quiet-second, at-most}
+use Rattle.dir_classify.proofs.Keeping.{asks-same, asks-then, quiet-first, quiet-second, at-most}
 use Rattle.dir_classify.proofs.Refusals.{OnAccess-weaker}
 use Rattle.dir_classify.proofs.Ruled.{judged-unindexed, ruling-none}
 use Rattle.std.proofs.lemmas.Result.{err_from_is_err_and}
-use Rattle.dir_classify.proofs.Upgrades.{judged-kind, judged-unread}
+use Rattle.dir_classify.proofs.Upgrades.{judged-as, judged-unread}
 use Rattle.dir_classify.proofs.steps.of_kind.Goals as goal
 
 pub returns-then-is_worktree : goal.returns-then-is_worktree
@@ -26,8 +26,8 @@ returns-then-is_worktree g c = λ ask_disk.
     (asks-same g.W.Worktree c.args.worktree.now) (λ on. refl)
     (λ s told quiet. c.class_worktree.ensures made s ∙ worktree-case (chosen c.args.shared.now.options) (evidence (setting_of g.M.Matcher c.args.shared.now) made s) path c.args.kind is)
     (λ s told. let ev = evidence (setting_of g.M.Matcher c.args.shared.now) made s in
-    judged-unread (λ _ read. class_of_kind (chosen c.args.shared.now.options) read path c.args.kind) ev path (on_disk (setting_of g.M.Matcher c.args.shared.now) s.tree path ask_disk) c.class_worktree.result
-    (c.class_worktree.ensures made s ∙ worktree-case (chosen c.args.shared.now.options) (read_as ev (ev.followed path) (ev.repository_at path) (ev.repository_in path)) path c.args.kind is))
+    judged-unread _ _ (λ _ read. class_of_kind (chosen c.args.shared.now.options) read path c.args.kind) ev (on_disk (setting_of g.M.Matcher c.args.shared.now) s.tree path ask_disk) c.class_worktree.result (omega arith)
+    (c.class_worktree.ensures made s ∙ worktree-case (chosen c.args.shared.now.options) (read_as none_failed ev) path c.args.kind is))
     (λ s. unasked-worktree (chosen c.args.shared.now.options) (evidence (setting_of g.M.Matcher c.args.shared.now) made s) path c.args.kind is)
     (λ s no. refl)
 
@@ -44,8 +44,8 @@ returns-then-is_indexed g c = λ ask_disk.
     (λ s told quiet. c.in_ok-class.ensures.class s told quiet made
     ∙ indexed-case (chosen c.args.shared.now.options) (evidence (setting_of g.M.Matcher c.args.shared.now) made s) path c.args.kind none (indexed-as (setting_of g.M.Matcher c.args.shared.now) made s path c.args.entry c.args.kind true c.requires.entry is))
     (λ s told. let ev = evidence (setting_of g.M.Matcher c.args.shared.now) made s in let od = on_disk (setting_of g.M.Matcher c.args.shared.now) s.tree path ask_disk in
-    judged-kind (λ _ read. class_indexed (chosen c.args.shared.now.options) read path c.args.kind) (λ _ read. class_of_kind (chosen c.args.shared.now.options) read path c.args.kind) ev path od od od c.in_ok-class.class (inl refl)
-    (λ d f a b. indexed-case (chosen c.args.shared.now.options) (read_as ev f a b) path c.args.kind none (indexed-as (setting_of g.M.Matcher c.args.shared.now) made s path c.args.entry c.args.kind true c.requires.entry is))
+    judged-as _ _ (λ _ read. class_indexed (chosen c.args.shared.now.options) read path c.args.kind) (λ _ read. class_of_kind (chosen c.args.shared.now.options) read path c.args.kind) ev od c.in_ok-class.class
+    (λ d failed. indexed-case (chosen c.args.shared.now.options) (read_as failed ev) path c.args.kind none (indexed-as (setting_of g.M.Matcher c.args.shared.now) made s path c.args.entry c.args.kind true c.requires.entry is))
     (c.in_ok-class.ensures.swallowed s told made od))
     (λ s. unasked-indexed (chosen c.args.shared.now.options) (evidence (setting_of g.M.Matcher c.args.shared.now) made s) path c.args.kind none (indexed-as (setting_of g.M.Matcher c.args.shared.now) made s path c.args.entry c.args.kind true c.requires.entry is))
     (λ s no. let ev = evidence (setting_of g.M.Matcher c.args.shared.now) made s in
@@ -68,7 +68,7 @@ returns g c = λ ask_disk.
           ∙ unindexed-case (chosen c.args.shared.now.options) (evidence (setting_of g.M.Matcher c.args.shared.now) made s) path c.args.kind none (indexed-as (setting_of g.M.Matcher c.args.shared.now) made s path c.args.entry c.args.kind false c.requires.entry not_indexed);
       read = λ s tells step quiet. read-case (setting_of g.M.Matcher c.args.shared.now) made s path c.args.kind none (ap (λ e. is_indexed e c.args.kind) (sym c.requires.entry) ∙ not_indexed) (first.read s tells step);
       swallowed = λ s tells step. let od = on_disk (setting_of g.M.Matcher c.args.shared.now) s.tree path ask_disk in
-          judged-unindexed (chosen c.args.shared.now.options) (evidence (setting_of g.M.Matcher c.args.shared.now) made s) path c.args.kind od c.in_ok-ruling.ruling c.in_ok-class-2.class none
+          judged-unindexed _ _ _ (chosen c.args.shared.now.options) (evidence (setting_of g.M.Matcher c.args.shared.now) made s) path c.args.kind od c.in_ok-ruling.ruling c.in_ok-class-2.class none
           (indexed-as (setting_of g.M.Matcher c.args.shared.now) made s path c.args.entry c.args.kind false c.requires.entry not_indexed) (first.swallowed s tells step) (then.swallowed s (first.keeps.tree ∙ tells.tree_is) made od);
       unruled = λ s told quiet no.
           let off = none-asked (setting_of g.M.Matcher c.args.shared.now) made s path c.args.kind none (ap (λ e. is_indexed e c.args.kind) (sym c.requires.entry) ∙ not_indexed) no in
@@ -80,8 +80,9 @@ returns g c = λ ask_disk.
       refused = λ s tells. tt;
       asked = λ s told quiet. tt;
       cause = tt;
-      keeps = asks-then g.W.Worktree c.args.worktree.now c.ruling_at.new.worktree c.of_unindexed.new.worktree first.keeps (asks-rules g.W.Worktree c.ruling_at.new.worktree c.of_unindexed.new.worktree then.keeps);
+      keeps = asks-then g.W.Worktree c.args.worktree.now c.ruling_at.new.worktree c.of_unindexed.new.worktree first.keeps then.keeps;
       store = first.store;
+      unmapped = first.unmapped;
       rules = record { made = first.rules.made; in_step = first.rules.in_step };
       reads = at-most (chosen c.args.shared.now.options).recurse_repositories path _ _ _ _ _ _ _ c.in_ok-ruling.ruling c.in_ok-class-2.class
           (λ on. ap g.W.Worktree.reads (then.unasked (rw on refl))) first.reads;
@@ -118,6 +119,7 @@ returns-in_err-ruling g c = λ ask_disk.
       cause = search rules;
       keeps = search rules;
       store = search rules;
+      unmapped = search rules;
       rules = search rules;
       reads = search rules;
       spared = λ s never.
@@ -150,6 +152,7 @@ returns-in_err-class-2 g c = λ ask_disk.
       cause = search rules;
       keeps = search rules;
       store = search rules;
+      unmapped = search rules;
       rules = search rules;
       reads = search rules;
       spared = λ s never.

@@ -16,10 +16,10 @@ use Rattle.dir_walk.specs.Refused.{Refuses, DirectoryRefuses}
 use Rattle.dir_walk.specs.Report.{depth_of}
 use Rattle.dir_walk.specs.Told.{look_name, item_told, directory_told}
 use Rattle.dir_walk.proofs.Keeping.{KeepsRules-same, KeepsRules-then}
-use Rattle.dir_walk.proofs.Apart.{apart-job, apart-none, apart-then}
+use Rattle.dir_walk.proofs.Apart.{apart-job, apart-none}
 use Rattle.dir_walk.proofs.JoinedPaths.{joined-some}
 use Rattle.dir_walk.proofs.Placed.{depth_of-joined}
-use Rattle.dir_walk.proofs.Steps.{telling, Stands-later, Gives-leaf, Gives-directory, Gives-put, HasPaths-told, enter-told, among-asked, part-leaf, part-directory, part-put}
+use Rattle.dir_walk.proofs.Steps.{entered-directory, telling, Stands-later, Gives-leaf, Gives-directory, Gives-put, HasPaths-told, enter-told, among-asked, part-leaf, part-directory, part-put}
 use Rattle.dir_walk.proofs.Rooms.{Hands-none, Hands-leaf}
 use Rattle.dir_walk.proofs.Judged.{indexed-unlisted}
 use Rattle.dir_walk.proofs.Refusals.{HasPaths, IsAbout-class, IsAbout-deep, IsInTree-class, Refuses-class, Refuses-deep, Refuses-directory, memory-only, refused-any, rose-or, either}
@@ -158,12 +158,12 @@ returns-then-is_entered-clause-refused g c = λ made s stands default limit leve
     let same = ap (λ (b : Bool). look s.tree (full_path given.root p) b) some in
     let within : HasPaths (directory_told given made s p k) (item_told given made s p) ⊎ failed =
     either (λ quiet. inl (HasPaths-told given made s p k (exact quiet) some into)) (λ rose. inr (omega (arith, rose, c.walk_job.ensures.job.worktree.faults))) (rose-or (w.faults a.worktree.now) (w.faults c.class_of.new.worktree)) in
-    let judged : IsJudged (λ kind read. class (chosen a.shared.now.options) read p None kind) ev p (on_disk given s.tree p true) k = rw (c.path-path.ensures.path, stands.made_is) at (c.in_ok-class.ensures.swallowed s (telling stands) stands.in_step) in
+    let judged : IsJudged (w.faults a.worktree.now) (w.faults c.class_of.new.worktree) (λ kind read. class (chosen a.shared.now.options) read p None kind) ev (on_disk given s.tree p true) k = rw (c.path-path.ensures.path, stands.made_is) at (c.in_ok-class.ensures.swallowed s (telling stands) stands.in_step) in
     let P : List ℕ → Error → Type 0 = λ x. Refuses given made s limit failed (item_told given made s x) in
     IfErr-weaker c.walk_job.result (OnRefused (DirectoryRefuses given made s limit inside p k)) (OnRefused (P q))
     (refused-any (DirectoryRefuses given made s limit inside p k) (P q)
     (λ e h. subst (λ (x : List ℕ). P x e) at (Refuses-directory given made s limit inside failed (item_told given made s p) p k e same within (λ rose. omega (arith, rose, c.class_of.ensures.keeps.faults))
-    (λ why unlisted. indexed-unlisted (chosen a.shared.now.options) ev p (look_name given s.tree p) k why judged into unlisted) h)))
+    (λ why unlisted. indexed-unlisted _ _ (chosen a.shared.now.options) ev p (look_name given s.tree p) k why judged into unlisted) h)))
     (c.walk_job.ensures.job.refused made s now (c.is_entered.ensures.default ∙ default) limit deeper)
 
 pub returns-clause-about : goal.returns-clause-about
@@ -200,19 +200,33 @@ returns-clause-hands g c =
     Hands-leaf (rw (c.path-path.ensures.path, path, c.is_entered.ensures.given) at c.put_leaf.ensures.hands)
 
 pub returns-in_err-set_child-clause-opens : goal.returns-in_err-set_child-clause-opens
-returns-in_err-set_child-clause-opens g c = apart-none refl refl (omega arith)
+returns-in_err-set_child-clause-opens g c = apart-none (λ made s stands quiet default. omega arith) refl refl (omega arith)
 
 pub returns-in_err-class-clause-opens : goal.returns-in_err-class-clause-opens
-returns-in_err-class-clause-opens g c = apart-none c.class_of.ensures.keeps.lists refl (omega arith)
+returns-in_err-class-clause-opens g c = apart-none (λ made s stands quiet default. omega arith) c.class_of.ensures.keeps.lists refl (omega arith)
 
 pub returns-then-levels-eq0-clause-opens : goal.returns-then-levels-eq0-clause-opens
-returns-then-levels-eq0-clause-opens g c = apart-none c.class_of.ensures.keeps.lists refl c.too_deep.ensures.interrupt.questions
+returns-then-levels-eq0-clause-opens g c = apart-none (λ made s stands quiet default. omega arith) c.class_of.ensures.keeps.lists refl c.too_deep.ensures.interrupt.questions
 
 pub returns-then-is_entered-clause-opens : goal.returns-then-is_entered-clause-opens
-returns-then-is_entered-clause-opens g c = apart-then (apart-none c.class_of.ensures.keeps.lists refl (omega arith)) (apart-job c.walk_job.ensures.job.enters c.walk_job.ensures.lists)
+returns-then-is_entered-clause-opens g c =
+    let a = c.args in let w = g.W.Worktree in let o = chosen a.shared.now.options in let given = setting_of g.M.Matcher a.shared.now in
+    let d = a.directory.now.path in let q = joined d a.name.now in let p = c.set_child.new.self.path in let k = c.in_ok-class.class in
+    let path = ap (λ (x : Standing). x.path) c.in_ok-set_child.ensures in
+    apart-job
+    (λ n below made s stands quiet default.
+    let asked : NotIncreased (w.faults a.worktree.now) (w.faults c.class_of.new.worktree) = omega (arith, quiet, c.walk_job.ensures.job.worktree.faults) in
+    let here : NotIncreased (w.faults c.class_of.new.worktree) (w.faults c.walk_job.new.worktree) = omega (arith, quiet, c.class_of.ensures.keeps.faults) in
+    let is : k ≡ class o (evidence given made s) p None (on_disk given s.tree p true) = rw (c.path-path.ensures.path, stands.made_is) at (c.in_ok-class.ensures.class s (telling stands) stands.in_step asked) in
+    let now = Stands-later given c.class_of.new.excludes c.class_of.ensures.keeps.tree c.class_of.ensures.store.holds c.class_of.ensures.rules.made c.class_of.ensures.rules.in_step stands in
+    let some : is_empty p ≡ false = ap is_empty path ∙ joined-some d a.name.now c.requires.name in
+    let into : enters o k false ≡ true = sym (c.is_entered.ensures.entered default) ∙ c.if-is_entered.true in
+    let most = below made s now here (c.is_entered.ensures.default ∙ default) in
+    omega (arith, most, entered-directory given made s p k is q path some into))
+    c.walk_job.ensures.job.enters (c.walk_job.ensures.lists ∙ c.class_of.ensures.keeps.lists)
 
 pub returns-in_err-class-2-clause-opens : goal.returns-in_err-class-2-clause-opens
-returns-in_err-class-2-clause-opens g c = apart-none (c.leaf_class.ensures.worktree.lists ∙ c.class_of.ensures.keeps.lists) refl (omega arith)
+returns-in_err-class-2-clause-opens g c = apart-none (λ made s stands quiet default. omega arith) (c.leaf_class.ensures.worktree.lists ∙ c.class_of.ensures.keeps.lists) refl (omega arith)
 
 pub returns-clause-opens : goal.returns-clause-opens
-returns-clause-opens g c = apart-none (c.leaf_class.ensures.worktree.lists ∙ c.class_of.ensures.keeps.lists) c.put_leaf.ensures.entered (omega arith)
+returns-clause-opens g c = apart-none (λ made s stands quiet default. omega arith) (c.leaf_class.ensures.worktree.lists ∙ c.class_of.ensures.keeps.lists) c.put_leaf.ensures.entered (omega arith)

@@ -13,7 +13,8 @@ use Rattle.dir_walk.proofs.Emitting.{Within-all}
 use Rattle.dir_walk.proofs.Ending.{Caused-later, Caused-memory}
 use Rattle.dir_walk.proofs.Keeping.{Heeds-after, KeepsDelegate-same, KeepsDelegate-then, KeepsRules-same, KeepsRules-then, AsksStore-same, AsksStore-then, KeepsTree-then, AsksInterrupt-then}
 use Rattle.dir_walk.proofs.Apart.{apart-end, apart-one, apart-then, apart-tried}
-use Rattle.dir_walk.proofs.Listed.{HasNames-listed, HasPaths-name, Gives-empty, Gives-listed, part-empty, part-name, part-close}
+use Rattle.dir_walk.proofs.Entered.{enters-all, enters-last, enters-more}
+use Rattle.dir_walk.proofs.Listed.{entered-empty, HasNames-listed, HasPaths-name, Gives-empty, Gives-listed, part-empty, part-name, part-close}
 use Rattle.dir_walk.proofs.Named.{SoFar-none, SoFar-more}
 use Rattle.dir_walk.proofs.Steps.{IsEvidence-told, Stands-later}
 use Rattle.dir_walk.proofs.Rooms.{Hands-none, Hands-empty, Hands-refused, Hands-closed, Puts-start, Puts-name}
@@ -52,11 +53,11 @@ pub loop-name-init : goal.loop-name-init
 loop-name-init g c =
     let a = c.args in let told = g.D.Delegate.given in let given = setting_of g.M.Matcher a.shared.now in
     record {
-      worktree = let opened = c.open.ensures.worktree in record { tree = opened.tree; faults = opened.faults; list_faults = opened.list_faults; lists = opened.lists; precomposes = opened.precomposes };
+      worktree = let opened = c.open.ensures.worktree in record { tree = opened.tree; faults = opened.faults; list_faults = opened.list_faults; reads = opened.reads; lists = opened.lists; precomposes = opened.precomposes };
       store = AsksStore-same;
       rules = KeepsRules-same;
       interrupt = c.open.ensures.interrupt;
-      opens = apart-one c.in_ok-names.ensures.opens c.open.ensures.once;
+      opens = apart-end (λ n one made s stands quiet default. omega (arith, one)) (apart-one c.in_ok-names.ensures.opens c.open.ensures.once) refl;
       puts = Puts-start a.place.now.path c.as_slice-name-items.result.now c.open.ensures.returned c.open.ensures.seen c.new-held.ensures.entries;
       delegate = KeepsDelegate-same;
       listed = c.in_ok-names.ensures.listed;
@@ -115,7 +116,7 @@ loop-name-preserved g c =
       store = AsksStore-then kept.store c.walk_child.ensures.store;
       rules = KeepsRules-then kept.worktree.tree kept.store.holds kept.rules c.walk_child.ensures.rules;
       interrupt = AsksInterrupt-then kept.interrupt c.walk_child.ensures.interrupt;
-      opens = apart-then kept.opens c.walk_child.ensures.opens;
+      opens = apart-then (enters-more (setting_of g.M.Matcher c.args.shared.now) c.args.blocked.now c.args.place.now.path c.as_slice-name-items.result.now c.loop-name.name-index c.name-item.result c.loop-name-test.true c.name-item.is kept.worktree kept.store kept.rules kept.delegate c.walk_child.ensures.worktree.faults) kept.opens (rw c.as_bytes.ensures at c.in_ok-handed.ensures.opens);
       puts = rw c.in_ok-take.ensures.entries (Puts-name c.args.place.now.path c.as_slice-name-items.result.now c.loop-name.name-index c.name-item.result c.loop-name-test.true c.name-item.is kept.puts (rw c.as_bytes.ensures at c.in_ok-handed.ensures.hands.puts));
       delegate = KeepsDelegate-then kept.delegate c.walk_child.ensures.delegate;
       listed = c.in_ok-handed.ensures.caused.listed ∙ kept.listed;
@@ -261,16 +262,40 @@ returns-clause-caused g c =
     Caused-later c.close.result kept.worktree.faults kept.store.faults kept.calm kept.listed (Caused-memory c.close.result c.close.ensures.memory)
 
 pub returns-in_err-names-clause-opens : goal.returns-in_err-names-clause-opens
-returns-in_err-names-clause-opens g c = apart-tried c.in_err-names.ensures.tried c.open.ensures.once
+returns-in_err-names-clause-opens g c =
+    let p = err_from_is_err_and c.from_residual.result c.from_residual.ensures.1 in rw (p.1, p.2) (apart-tried (λ n few made s stands quiet default. omega (arith, few)) c.in_err-names.ensures.tried c.open.ensures.once)
 
 pub returns-then-is_empty-clause-opens : goal.returns-then-is_empty-clause-opens
-returns-then-is_empty-clause-opens g c = apart-end (apart-one c.in_ok-names.ensures.opens c.open.ensures.once) c.close_empty.ensures.entered
+returns-then-is_empty-clause-opens g c =
+    let a = c.args in let given = setting_of g.M.Matcher a.shared.now in let d = a.place.now.path in let names = c.in_ok-names.names in
+    let bare : length names ≡ 0 = ap length (sym c.as_slice.ensures) ∙ eqb-true (length c.as_slice.result.now) 0 (sym c.is_empty.ensures ∙ c.if-is_empty.true) in
+    apart-end
+    (λ n one made s stands quiet default.
+    let lists : ListsNames (look_directory given s.tree d) names = rw c.requires.root at (c.in_ok-names.ensures.lists s.tree stands.tree) in
+    let itself = entered-empty given made s d a.class.now names lists bare in omega (arith, one, itself))
+    (apart-one c.in_ok-names.ensures.opens c.open.ensures.once) c.close_empty.ensures.entered
 
 pub returns-in_err-handed-clause-opens : goal.returns-in_err-handed-clause-opens
-returns-in_err-handed-clause-opens g c = apart-then c.loop-name.invariant.opens c.walk_child.ensures.opens
+returns-in_err-handed-clause-opens g c =
+    let kept = c.loop-name.invariant in let p = err_from_is_err_and c.from_residual-in_err-handed.result c.from_residual-in_err-handed.ensures.1 in
+    rw (p.1, p.2)
+    (apart-then
+    (enters-last (setting_of g.M.Matcher c.args.shared.now) c.args.blocked.now c.args.place.now.path c.as_slice-name-items.result.now c.loop-name.name-index c.name-item.result c.loop-name-test.true c.name-item.is kept.worktree kept.store kept.rules kept.delegate c.walk_child.ensures.worktree.faults c.args.class.now _
+    (λ s told. HasNames-listed (setting_of g.M.Matcher c.args.shared.now) s.tree c.args.place.now.path c.as_slice.ensures c.is_empty.ensures c.if-is_empty.false c.as_slice-name-items.ensures c.in_ok-names.ensures.names (rw c.requires.root at (c.in_ok-names.ensures.lists s.tree told))) c.path-path.ensures.plain)
+    kept.opens (rw c.as_bytes.ensures at c.in_err-handed.ensures.opens))
 
 pub returns-in_err-take-clause-opens : goal.returns-in_err-take-clause-opens
-returns-in_err-take-clause-opens g c = apart-then c.loop-name.invariant.opens c.walk_child.ensures.opens
+returns-in_err-take-clause-opens g c =
+    let kept = c.loop-name.invariant in let p = err_from_is_err_and c.from_residual-in_err-take.result c.from_residual-in_err-take.ensures.1 in
+    let ends = (enters-last (setting_of g.M.Matcher c.args.shared.now) c.args.blocked.now c.args.place.now.path c.as_slice-name-items.result.now c.loop-name.name-index c.name-item.result c.loop-name-test.true c.name-item.is kept.worktree kept.store kept.rules kept.delegate c.walk_child.ensures.worktree.faults c.args.class.now 0
+    (λ s told. HasNames-listed (setting_of g.M.Matcher c.args.shared.now) s.tree c.args.place.now.path c.as_slice.ensures c.is_empty.ensures c.if-is_empty.false c.as_slice-name-items.ensures c.in_ok-names.ensures.names (rw c.requires.root at (c.in_ok-names.ensures.lists s.tree told))) c.path-path.ensures.plain) in
+    rw p.1
+    (apart-then (λ m n so_far here made s stands quiet default. let most = ends m n so_far here made s stands quiet default in omega (arith, most))
+    kept.opens (rw c.as_bytes.ensures at c.in_ok-handed.ensures.opens))
 
 pub returns-clause-opens : goal.returns-clause-opens
-returns-clause-opens g c = apart-end c.loop-name.invariant.opens c.close.ensures.entered
+returns-clause-opens g c =
+    apart-end
+    (enters-all g.W.Worktree g.F.Find g.D.Delegate c.args.worktree.now c.loop-name.worktree c.args.objects.now c.args.excludes.now c.args.delegate.now (setting_of g.M.Matcher c.args.shared.now) c.args.blocked.now c.args.place.now.path c.as_slice-name-items.result.now c.loop-name.name-index c.loop-name-test.false c.args.class.now _
+    (λ s told. HasNames-listed (setting_of g.M.Matcher c.args.shared.now) s.tree c.args.place.now.path c.as_slice.ensures c.is_empty.ensures c.if-is_empty.false c.as_slice-name-items.ensures c.in_ok-names.ensures.names (rw c.requires.root at (c.in_ok-names.ensures.lists s.tree told))) c.path-path.ensures.plain)
+    c.loop-name.invariant.opens c.close.ensures.entered

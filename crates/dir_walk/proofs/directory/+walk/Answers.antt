@@ -20,12 +20,13 @@ use Rattle.dir_walk.specs.Told.{look_name, look_directory, item_told, directory_
 use Rattle.dir_walk.proofs.Emitting.{Within-all}
 use Rattle.dir_walk.proofs.Ending.{Caused-later, Caused-memory}
 use Rattle.dir_walk.proofs.Keeping.{Heeds-after, KeepsDelegate-same, KeepsDelegate-then, KeepsRules-same, KeepsRules-then, AsksStore-same, AsksStore-then, KeepsTree-then, AsksInterrupt-then}
-use Rattle.dir_walk.proofs.Opening.{opens-none, opens-then, opens-still, opens-end, opens-one, opens-refused, opens-below, opens-class, hides-none}
-use Rattle.dir_walk.proofs.Listed.{HasNames-listed, HasPaths-name, Gives-empty, Gives-listed, part-empty, part-name, part-close}
+use Rattle.dir_walk.proofs.Entered.{enters-all, enters-last, enters-more}
+use Rattle.dir_walk.proofs.Opening.{opens-none, opens-then, opens-still, opens-end, opens-least, opens-one, opens-refused, opens-below, opens-class, hides-none}
+use Rattle.dir_walk.proofs.Listed.{entered-empty, HasNames-listed, HasPaths-name, Gives-empty, Gives-listed, part-empty, part-name, part-close}
 use Rattle.dir_walk.proofs.Named.{SoFar-none, SoFar-more}
 use Rattle.dir_walk.proofs.JoinedPaths.{joined-some}
 use Rattle.dir_walk.proofs.Placed.{depth_of-joined}
-use Rattle.dir_walk.proofs.Steps.{IsEvidence-told, telling, Stands-later, Gives-leaf, Gives-directory, Gives-put, HasPaths-told, enter-told, among-asked, part-leaf, part-directory, part-put}
+use Rattle.dir_walk.proofs.Steps.{entered-directory, IsEvidence-told, telling, Stands-later, Gives-leaf, Gives-directory, Gives-put, HasPaths-told, enter-told, among-asked, part-leaf, part-directory, part-put}
 use Rattle.dir_walk.proofs.Rooms.{Hands-none, Hands-leaf, Hands-empty, Hands-refused, Hands-closed, Puts-start, Puts-name}
 use Rattle.dir_walk.proofs.Judged.{indexed-unlisted}
 use Rattle.dir_walk.proofs.Refusals.{HasPaths, IsAbout-class, IsAbout-deep, IsInTree-class, IsInTree-open, Refuses-class, Refuses-deep, Refuses-directory, DirectoryRefuses-name, memory-only, refused-any, rose-or, either}
@@ -63,11 +64,11 @@ pub walk_directory-loop-name-init : goal.walk_directory-loop-name-init
 walk_directory-loop-name-init g t c =
     let a = c.args in let told = g.D.Delegate.given in let given = setting_of g.M.Matcher a.shared.now in
     record {
-      worktree = let opened = c.open.ensures.worktree in record { tree = opened.tree; faults = opened.faults; list_faults = opened.list_faults; lists = opened.lists; precomposes = opened.precomposes };
+      worktree = let opened = c.open.ensures.worktree in record { tree = opened.tree; faults = opened.faults; list_faults = opened.list_faults; reads = opened.reads; lists = opened.lists; precomposes = opened.precomposes };
       store = AsksStore-same;
       rules = KeepsRules-same;
       interrupt = c.open.ensures.interrupt;
-      opens = opens-one c.in_ok-names.ensures.opens c.open.ensures.reads;
+      opens = opens-end (λ n one made s stands quiet default. omega (arith, one)) (opens-one c.in_ok-names.ensures.opens c.open.ensures.reads) refl;
       puts = Puts-start a.place.now.path c.as_slice-name-items.result.now c.open.ensures.returned c.open.ensures.seen c.new-held.ensures.entries;
       delegate = KeepsDelegate-same;
       listed = c.in_ok-names.ensures.listed;
@@ -126,7 +127,7 @@ walk_directory-loop-name-preserved g t c =
       store = AsksStore-then kept.store c.walk_name.ensures.store;
       rules = KeepsRules-then kept.worktree.tree kept.store.holds kept.rules c.walk_name.ensures.rules;
       interrupt = AsksInterrupt-then kept.interrupt c.walk_name.ensures.interrupt;
-      opens = opens-then kept.opens c.in_ok-handed.ensures.opens;
+      opens = opens-then (enters-more (setting_of g.M.Matcher c.args.shared.now) c.args.blocked.now c.args.place.now.path c.as_slice-name-items.result.now c.loop-name.name-index c.name-item.result c.loop-name-test.true c.name-item.is kept.worktree kept.store kept.rules kept.delegate c.walk_name.ensures.worktree.faults) kept.rules.made (omega arith) kept.opens (rw c.as_bytes.ensures at c.in_ok-handed.ensures.opens);
       puts = rw c.in_ok-take.ensures.entries (Puts-name c.args.place.now.path c.as_slice-name-items.result.now c.loop-name.name-index c.name-item.result c.loop-name-test.true c.name-item.is kept.puts (rw c.as_bytes.ensures at c.in_ok-handed.ensures.hands.puts));
       delegate = KeepsDelegate-then kept.delegate c.walk_name.ensures.delegate;
       listed = c.in_ok-handed.ensures.caused.listed ∙ kept.listed;
@@ -352,12 +353,12 @@ walk_name-returns-then-is_entered-clause-refused g t c = λ made s stands defaul
     let same = ap (λ (b : Bool). look s.tree (full_path given.root p) b) some in
     let within : HasPaths (directory_told given made s p k) (item_told given made s p) ⊎ failed =
     either (λ quiet. inl (HasPaths-told given made s p k (exact quiet) some into)) (λ rose. inr (omega (arith, rose, c.walk_directory.ensures.worktree.faults))) (rose-or (w.faults a.worktree.now) (w.faults c.class_of.new.worktree)) in
-    let judged : IsJudged (λ kind read. class (chosen a.shared.now.options) read p None kind) ev p (on_disk given s.tree p true) k = rw (c.path-path.ensures.path, stands.made_is) at (c.in_ok-class.ensures.swallowed s (telling stands) stands.in_step) in
+    let judged : IsJudged (w.faults a.worktree.now) (w.faults c.class_of.new.worktree) (λ kind read. class (chosen a.shared.now.options) read p None kind) ev (on_disk given s.tree p true) k = rw (c.path-path.ensures.path, stands.made_is) at (c.in_ok-class.ensures.swallowed s (telling stands) stands.in_step) in
     let P : List ℕ → Error → Type 0 = λ x. Refuses given made s limit failed (item_told given made s x) in
     IfErr-weaker c.walk_directory.result (OnRefused (DirectoryRefuses given made s limit inside p k)) (OnRefused (P q))
     (refused-any (DirectoryRefuses given made s limit inside p k) (P q)
     (λ e h. subst (λ (x : List ℕ). P x e) at (Refuses-directory given made s limit inside failed (item_told given made s p) p k e same within (λ rose. omega (arith, rose, c.class_of.ensures.keeps.faults))
-    (λ why unlisted. indexed-unlisted (chosen a.shared.now.options) ev p (look_name given s.tree p) k why judged into unlisted) h)))
+    (λ why unlisted. indexed-unlisted _ _ (chosen a.shared.now.options) ev p (look_name given s.tree p) k why judged into unlisted) h)))
     (c.walk_directory.ensures.refused made s now (c.is_entered.ensures.default ∙ default) limit deeper)
 
 pub walk_name-returns-clause-about : goal.walk_name-returns-clause-about
@@ -371,52 +372,89 @@ walk_name-returns-clause-refused g t c = λ made s stands default limit level. m
 
 pub walk_directory-returns-in_err-names-clause-opens : goal.walk_directory-returns-in_err-names-clause-opens
 walk_directory-returns-in_err-names-clause-opens g t c =
-    let p = err_from_is_err_and c.from_residual.result c.from_residual.ensures.1 in rw (p.1, p.2) (opens-refused c.in_err-names.ensures.tried c.open.ensures.reads)
+    let p = err_from_is_err_and c.from_residual.result c.from_residual.ensures.1 in rw (p.1, p.2) (opens-refused (λ n few made s stands quiet default. omega (arith, few)) c.in_err-names.ensures.tried c.open.ensures.reads)
 
 pub walk_directory-returns-then-is_empty-clause-opens : goal.walk_directory-returns-then-is_empty-clause-opens
-walk_directory-returns-then-is_empty-clause-opens g t c = opens-end (opens-one c.in_ok-names.ensures.opens c.open.ensures.reads) c.close_empty.ensures.entered
+walk_directory-returns-then-is_empty-clause-opens g t c =
+    let a = c.args in let given = setting_of g.M.Matcher a.shared.now in let d = a.place.now.path in let names = c.in_ok-names.names in
+    let bare : length names ≡ 0 = ap length (sym c.as_slice.ensures) ∙ eqb-true (length c.as_slice.result.now) 0 (sym c.is_empty.ensures ∙ c.if-is_empty.true) in
+    opens-end
+    (λ n one made s stands quiet default.
+    let lists : ListsNames (look_directory given s.tree d) names = rw c.requires.root at (c.in_ok-names.ensures.lists s.tree stands.tree) in
+    let itself = entered-empty given made s d a.class.now names lists bare in omega (arith, one, itself))
+    (opens-one c.in_ok-names.ensures.opens c.open.ensures.reads) c.close_empty.ensures.entered
 
 pub walk_directory-returns-in_err-handed-clause-opens : goal.walk_directory-returns-in_err-handed-clause-opens
 walk_directory-returns-in_err-handed-clause-opens g t c =
-    let p = err_from_is_err_and c.from_residual-in_err-handed.result c.from_residual-in_err-handed.ensures.1 in
-    rw (p.1, p.2) (opens-then c.loop-name.invariant.opens c.in_err-handed.ensures.opens)
+    let kept = c.loop-name.invariant in let p = err_from_is_err_and c.from_residual-in_err-handed.result c.from_residual-in_err-handed.ensures.1 in
+    rw (p.1, p.2)
+    (opens-then
+    (enters-last (setting_of g.M.Matcher c.args.shared.now) c.args.blocked.now c.args.place.now.path c.as_slice-name-items.result.now c.loop-name.name-index c.name-item.result c.loop-name-test.true c.name-item.is kept.worktree kept.store kept.rules kept.delegate c.walk_name.ensures.worktree.faults c.args.class.now _
+    (λ s told. HasNames-listed (setting_of g.M.Matcher c.args.shared.now) s.tree c.args.place.now.path c.as_slice.ensures c.is_empty.ensures c.if-is_empty.false c.as_slice-name-items.ensures c.in_ok-names.ensures.names (rw c.requires.root at (c.in_ok-names.ensures.lists s.tree told))) c.path-path.ensures.plain)
+    kept.rules.made (omega arith) kept.opens (rw c.as_bytes.ensures at c.in_err-handed.ensures.opens))
 
 pub walk_directory-returns-in_err-take-clause-opens : goal.walk_directory-returns-in_err-take-clause-opens
 walk_directory-returns-in_err-take-clause-opens g t c =
-    let p = err_from_is_err_and c.from_residual-in_err-take.result c.from_residual-in_err-take.ensures.1 in
-    rw p.1 (opens-end (opens-then c.loop-name.invariant.opens c.in_ok-handed.ensures.opens) refl)
+    let kept = c.loop-name.invariant in let p = err_from_is_err_and c.from_residual-in_err-take.result c.from_residual-in_err-take.ensures.1 in
+    let ends = (enters-last (setting_of g.M.Matcher c.args.shared.now) c.args.blocked.now c.args.place.now.path c.as_slice-name-items.result.now c.loop-name.name-index c.name-item.result c.loop-name-test.true c.name-item.is kept.worktree kept.store kept.rules kept.delegate c.walk_name.ensures.worktree.faults c.args.class.now 0
+    (λ s told. HasNames-listed (setting_of g.M.Matcher c.args.shared.now) s.tree c.args.place.now.path c.as_slice.ensures c.is_empty.ensures c.if-is_empty.false c.as_slice-name-items.ensures c.in_ok-names.ensures.names (rw c.requires.root at (c.in_ok-names.ensures.lists s.tree told))) c.path-path.ensures.plain) in
+    rw p.1
+    (opens-then (λ m n so_far here made s stands quiet default. let most = ends m n so_far here made s stands quiet default in omega (arith, most))
+    kept.rules.made (omega arith) kept.opens (rw c.as_bytes.ensures at c.in_ok-handed.ensures.opens))
 
 pub walk_directory-returns-clause-opens : goal.walk_directory-returns-clause-opens
-walk_directory-returns-clause-opens g t c = opens-end c.loop-name.invariant.opens c.close.ensures.entered
+walk_directory-returns-clause-opens g t c =
+    opens-end
+    (enters-all g.W.Worktree g.F.Find g.D.Delegate c.args.worktree.now c.loop-name.worktree c.args.objects.now c.args.excludes.now c.args.delegate.now (setting_of g.M.Matcher c.args.shared.now) c.args.blocked.now c.args.place.now.path c.as_slice-name-items.result.now c.loop-name.name-index c.loop-name-test.false c.args.class.now _
+    (λ s told. HasNames-listed (setting_of g.M.Matcher c.args.shared.now) s.tree c.args.place.now.path c.as_slice.ensures c.is_empty.ensures c.if-is_empty.false c.as_slice-name-items.ensures c.in_ok-names.ensures.names (rw c.requires.root at (c.in_ok-names.ensures.lists s.tree told))) c.path-path.ensures.plain)
+    c.loop-name.invariant.opens c.close.ensures.entered
 
 pub walk_name-returns-in_err-set_child-clause-opens : goal.walk_name-returns-in_err-set_child-clause-opens
-walk_name-returns-in_err-set_child-clause-opens g t c = opens-none refl refl (omega arith) (λ on. omega arith)
+walk_name-returns-in_err-set_child-clause-opens g t c = opens-none (λ made s stands quiet default. omega arith) refl refl (omega arith) (λ on alone. omega arith)
 
 pub walk_name-returns-in_err-class-clause-opens : goal.walk_name-returns-in_err-class-clause-opens
 walk_name-returns-in_err-class-clause-opens g t c =
     let path = ap (λ (x : Standing). x.path) c.in_ok-set_child.ensures in
     let r = err_from_is_err_and c.from_residual-in_err-class.result c.from_residual-in_err-class.ensures.1 in
-    rw (r.1, r.2) (opens-class c.args.directory.now.path c.args.name.now c.requires.name c.class_of.ensures.keeps.lists (rw (c.path-path.ensures.path, path) at c.in_err-class.ensures.reads))
+    rw (r.1, r.2)
+    (opens-least (λ n none made s stands quiet default. omega (arith, none)) (opens-class c.args.directory.now.path c.args.name.now c.requires.name c.class_of.ensures.keeps.lists (rw (c.path-path.ensures.path, path) at c.in_err-class.ensures.reads)))
 
 pub walk_name-returns-then-levels-eq0-clause-opens : goal.walk_name-returns-then-levels-eq0-clause-opens
 walk_name-returns-then-levels-eq0-clause-opens g t c =
     let path = ap (λ (x : Standing). x.path) c.in_ok-set_child.ensures in
-    opens-still (opens-class c.args.directory.now.path c.args.name.now c.requires.name c.class_of.ensures.keeps.lists (rw (c.path-path.ensures.path, path) at c.in_ok-class.ensures.reads)) refl refl c.too_deep.ensures.interrupt.questions (λ on. refl)
+    opens-still (λ n none made s stands quiet default. omega (arith, none))
+    (opens-class c.args.directory.now.path c.args.name.now c.requires.name c.class_of.ensures.keeps.lists (rw (c.path-path.ensures.path, path) at c.in_ok-class.ensures.reads)) refl refl c.too_deep.ensures.interrupt.questions (λ on. refl)
 
 pub walk_name-returns-then-is_entered-clause-opens : goal.walk_name-returns-then-is_entered-clause-opens
 walk_name-returns-then-is_entered-clause-opens g t c =
     let path = ap (λ (x : Standing). x.path) c.in_ok-set_child.ensures in
-    opens-then (opens-class c.args.directory.now.path c.args.name.now c.requires.name c.class_of.ensures.keeps.lists (rw (c.path-path.ensures.path, path) at c.in_ok-class.ensures.reads)) (opens-below c.args.directory.now.path c.args.name.now c.requires.name (rw path at c.walk_directory.ensures.opens))
+    let a = c.args in let w = g.W.Worktree in let o = chosen a.shared.now.options in let given = setting_of g.M.Matcher a.shared.now in
+    let d = a.directory.now.path in let q = joined d a.name.now in let p = c.set_child.new.self.path in let k = c.in_ok-class.class in
+    opens-then
+    (λ m n none below made s stands quiet default.
+    let asked : NotIncreased (w.faults a.worktree.now) (w.faults c.class_of.new.worktree) = omega (arith, quiet, c.walk_directory.ensures.worktree.faults) in
+    let here : NotIncreased (w.faults c.class_of.new.worktree) (w.faults c.walk_directory.new.worktree) = omega (arith, quiet, c.class_of.ensures.keeps.faults) in
+    let is : k ≡ class o (evidence given made s) p None (on_disk given s.tree p true) = rw (c.path-path.ensures.path, stands.made_is) at (c.in_ok-class.ensures.class s (telling stands) stands.in_step asked) in
+    let now = Stands-later given c.class_of.new.excludes c.class_of.ensures.keeps.tree c.class_of.ensures.store.holds c.class_of.ensures.rules.made c.class_of.ensures.rules.in_step stands in
+    let some : is_empty p ≡ false = ap is_empty path ∙ joined-some d a.name.now c.requires.name in
+    let into : enters o k false ≡ true = sym (c.is_entered.ensures.entered default) ∙ c.if-is_entered.true in
+    let most = below made s now here (c.is_entered.ensures.default ∙ default) in
+    omega (arith, none, most, entered-directory given made s p k is q path some into))
+    c.class_of.ensures.rules.made (omega arith)
+    (opens-class d a.name.now c.requires.name c.class_of.ensures.keeps.lists (rw (c.path-path.ensures.path, path) at c.in_ok-class.ensures.reads))
+    (opens-below d a.name.now p c.requires.name path c.walk_directory.ensures.opens)
 
 pub walk_name-returns-in_err-class-2-clause-opens : goal.walk_name-returns-in_err-class-2-clause-opens
 walk_name-returns-in_err-class-2-clause-opens g t c =
     let path = ap (λ (x : Standing). x.path) c.in_ok-set_child.ensures in let o = chosen c.args.shared.now.options in
-    opens-still (opens-class c.args.directory.now.path c.args.name.now c.requires.name c.class_of.ensures.keeps.lists (rw (c.path-path.ensures.path, path) at c.in_ok-class.ensures.reads)) c.leaf_class.ensures.worktree.lists refl (omega arith) (λ on. c.leaf_class.ensures.reads (hides-none o on))
+    opens-still (λ n none made s stands quiet default. omega (arith, none))
+    (opens-class c.args.directory.now.path c.args.name.now c.requires.name c.class_of.ensures.keeps.lists (rw (c.path-path.ensures.path, path) at c.in_ok-class.ensures.reads)) c.leaf_class.ensures.worktree.lists refl (omega arith) (λ on. c.leaf_class.ensures.reads (hides-none o on))
 
 pub walk_name-returns-clause-opens : goal.walk_name-returns-clause-opens
 walk_name-returns-clause-opens g t c =
     let path = ap (λ (x : Standing). x.path) c.in_ok-set_child.ensures in let o = chosen c.args.shared.now.options in
-    opens-still (opens-class c.args.directory.now.path c.args.name.now c.requires.name c.class_of.ensures.keeps.lists (rw (c.path-path.ensures.path, path) at c.in_ok-class.ensures.reads)) c.leaf_class.ensures.worktree.lists c.put_leaf.ensures.entered (omega arith)
+    opens-still (λ n none made s stands quiet default. omega (arith, none))
+    (opens-class c.args.directory.now.path c.args.name.now c.requires.name c.class_of.ensures.keeps.lists (rw (c.path-path.ensures.path, path) at c.in_ok-class.ensures.reads)) c.leaf_class.ensures.worktree.lists c.put_leaf.ensures.entered (omega arith)
     (λ on. c.leaf_class.ensures.reads (hides-none o on))
 
 pub walk_directory-returns-in_err-names-clause-hands : goal.walk_directory-returns-in_err-names-clause-hands

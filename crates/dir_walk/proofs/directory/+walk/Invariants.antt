@@ -12,6 +12,7 @@ use Rattle.dir_walk.specs.Opens.{OpensWithin}
 use Rattle.dir_walk.specs.Puts.{Puts}
 use Rattle.dir_walk.specs.Report.{depth_of}
 use Rattle.dir_walk.specs.Told.{Stands}
+use Rattle.dir_walk.proofs.Entered.{EntersSoFar}
 use Rattle.dir_walk.proofs.Named.{SoFar}
 use Rattle.dir_walk.proofs.Rooms.{once_below}
 use Rattle.dir_walk.proofs.directory.+walk.Given as goal
@@ -34,7 +35,8 @@ invariant-walk_directory-loop-name g l =
       store : AsksStore f l.fn.objects l.objects;
       rules : KeepsRules w f l.fn.worktree l.worktree l.fn.objects l.fn.excludes l.excludes;
       interrupt : AsksInterrupt i l.fn.interrupt l.interrupt;
-      opens : OpensWithin w i l.fn.worktree l.worktree l.fn.interrupt l.interrupt l.fn.outcome l.outcome (chosen l.shared.options) l.fn.excludes l.excludes (components l.place.path) 1 0;
+      opens : OpensWithin w i l.fn.worktree l.worktree l.fn.interrupt l.interrupt l.fn.outcome l.outcome (chosen l.shared.options) l.fn.excludes l.excludes (components l.place.path) 1 0
+          (EntersSoFar w f d l.fn.worktree l.worktree l.fn.objects l.fn.excludes l.fn.delegate given l.blocked l.place.path (take l.name-index l.name-items));
       puts : Puts (once_below l.place.path (take l.name-index l.name-items)) (d.given l.fn.delegate) (d.given l.delegate) l.fn.outcome l.outcome l.held.entries.items;
       delegate : KeepsDelegate d l.fn.delegate l.delegate;
       listed : w.list_faults l.worktree ≡ w.list_faults l.fn.worktree;

@@ -20,7 +20,7 @@ returns-in-Some-clause-blocked g c = λ made s told quiet.
     (λ n is.
     blocked
     ∙ ap (option_and_then (λ r. normalized (past_slashes r))) rest
-    ∙ ap normalized (sym c.past_slashes.ensures)
+    ∙ ap normalized (sym c.past_slashes.ensures.rest)
     ∙ ap normalized (sym c.in_ok-from_bytes-in-Some.ensures)
     ∙ sym is)
     c.normalize-in-Some.ensures

@@ -84,12 +84,12 @@ returns-clause-ends g c =
 pub returns-in_err-place-clause-opens : goal.returns-in_err-place-clause-opens
 returns-in_err-place-clause-opens g c =
     let p = err_from_is_err_and c.from_residual.result c.from_residual.ensures.1 in
-    rw (p.1, p.2) (opens-not c.args.strategy _ _ _ _ _ _ _ _ _ _ refl refl (omega arith))
+    rw (p.1, p.2) (opens-not c.args.strategy _ _ _ _ _ _ _ _ _ _ (λ n none s tells default quiet. omega (arith, none)) refl refl (omega arith))
 
 pub returns-in_err-blocked-clause-opens : goal.returns-in_err-blocked-clause-opens
 returns-in_err-blocked-clause-opens g c =
     let p = err_from_is_err_and c.from_residual-in_err-blocked.result c.from_residual-in_err-blocked.ensures.1 in
-    rw (p.1, p.2) (opens-not c.args.strategy _ _ _ _ _ _ _ _ _ _ c.in_err-blocked.ensures.keeps.lists c.in_err-blocked.ensures.reads (omega arith))
+    rw (p.1, p.2) (opens-not c.args.strategy _ _ _ _ _ _ _ _ _ _ (λ n none s tells default quiet. omega (arith, none)) c.in_err-blocked.ensures.keeps.lists c.in_err-blocked.ensures.reads (omega arith))
 
 pub returns-clause-puts : goal.returns-clause-puts
 returns-clause-puts g c = Puts-out (option_to_list c.in_ok-handed.handed.entry) (rw c.in_ok-place.ensures at c.in_ok-handed.ensures.hands.puts) c.put_handed.ensures.puts
@@ -108,9 +108,30 @@ pub returns-in_err-handed-clause-opens : goal.returns-in_err-handed-clause-opens
 returns-in_err-handed-clause-opens g c =
     let asked = c.in_ok-blocked.ensures in
     let p = err_from_is_err_and c.from_residual-in_err-handed.result c.from_residual-in_err-handed.ensures.1 in
-    rw (p.1, p.2) (opens-around c.args.strategy _ _ _ _ _ _ _ _ _ _ _ _ _ _ _ _ asked.keeps.lists asked.reads refl (refused-same Handed (Unit {0}) c.in_err-handed.field-0.0) (rw c.in_ok-place.ensures at c.in_err-handed.ensures.opens))
+    let a = c.args in
+    let w = g.W.Worktree in
+    let given = setting_of g.M.Matcher a.shared.now in
+    rw (p.1, p.2)
+    (opens-around c.args.strategy _ _ _ _ _ _ _ _ _ _ _ _ _ _ _ _
+    (λ n few s tells default quiet.
+    let made = made_with a.excludes.now in
+    let before : NotIncreased (w.faults a.worktree.now) (w.faults c.blocked_directory.new.worktree) = omega (arith, quiet, c.walk_deep.ensures.ends.worktree.faults) in
+    let here : NotIncreased (w.faults c.blocked_directory.new.worktree) (w.faults c.walk_deep.new.worktree) = omega (arith, quiet, asked.keeps.faults) in
+    let stands = Stands-asked given tells asked.keeps (asked.blocked made s tells.tells.tree_is before) in
+    let most = few made s stands here default in omega (arith, most, refused-same Handed (Unit {0}) c.in_err-handed.field-0.0))
+    asked.keeps.lists asked.reads refl (refused-same Handed (Unit {0}) c.in_err-handed.field-0.0) (rw c.in_ok-place.ensures at c.in_err-handed.ensures.opens))
 
 pub returns-clause-opens : goal.returns-clause-opens
 returns-clause-opens g c =
     let asked = c.in_ok-blocked.ensures in
-    opens-around c.args.strategy _ _ _ _ _ _ _ _ _ _ _ _ _ _ _ _ asked.keeps.lists asked.reads c.put_handed.ensures.entered (omega arith) (rw c.in_ok-place.ensures at c.in_ok-handed.ensures.opens)
+    let a = c.args in
+    let w = g.W.Worktree in
+    let given = setting_of g.M.Matcher a.shared.now in
+    opens-around c.args.strategy _ _ _ _ _ _ _ _ _ _ _ _ _ _ _ _
+    (λ n few s tells default quiet.
+    let made = made_with a.excludes.now in
+    let before : NotIncreased (w.faults a.worktree.now) (w.faults c.blocked_directory.new.worktree) = omega (arith, quiet, c.walk_deep.ensures.ends.worktree.faults) in
+    let here : NotIncreased (w.faults c.blocked_directory.new.worktree) (w.faults c.walk_deep.new.worktree) = omega (arith, quiet, asked.keeps.faults) in
+    let stands = Stands-asked given tells asked.keeps (asked.blocked made s tells.tells.tree_is before) in
+    let most = few made s stands here default in omega (arith, most))
+    asked.keeps.lists asked.reads c.put_handed.ensures.entered (omega arith) (rw c.in_ok-place.ensures at c.in_ok-handed.ensures.opens)

@@ -25,7 +25,7 @@ returns g c =
       worktree = walked.worktree;
       store = walked.store;
       interrupt = walked.interrupt;
-      enters = record { opened = walked.opens.opened; counted = walked.opens.opens.counted; asked = walked.opens.opens.asked };
+      enters = record { opened = walked.opens.opened; counted = walked.opens.opens.counted; asked = walked.opens.opens.asked; within = walked.opens.within };
       hands = walked.hands;
       delegate = walked.delegate;
       heeds = walked.heeds;

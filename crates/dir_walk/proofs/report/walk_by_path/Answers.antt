@@ -1,10 +1,11 @@
-use Rattle.std.proofs.Common.{Some, true, refl, ap, subst, List, ℕ, length, arith}
+use Rattle.std.proofs.Common.{Some, refl, ap, subst, List, ℕ, length, arith}
 use Rattle.std.proofs.lemmas.List.Sorted.{length_permutation}
 use Rattle.std.proofs.lemmas.Result.{err_from_is_err_and}
 use Rattle.dir_classify.specs.Excludes.{made_with}
 use Rattle.dir_classify.specs.Layers.{setting_in}
 use Rattle.dir_walk.specs.declared.report.Report.{Report}
 use Rattle.dir_walk.specs.Emissions.{Emission}
+use Rattle.dir_walk.specs.WalkRefused.{by_default}
 use Rattle.dir_walk.specs.Walks.{WalkGives}
 use Rattle.dir_walk.proofs.ByPath.{ascends-given, distinct-given, from-root, is-report}
 use Rattle.dir_walk.proofs.WalksSo.{walks-memory, walks-more, walks-other}
@@ -27,7 +28,7 @@ returns-in_err-outcome-clause-walks_worktree g c =
     let a = c.args in
     let p = err_from_is_err_and c.from_residual.result c.from_residual.ensures.1 in
     rw (p.1, p.2)
-    (walks-other g.W.Worktree g.F.Find g.I.Interrupt a.strategy (setting_in g.M.Matcher a.worktree_root.now a.options a.ctx) a.ctx.explicit_traversal_root.now a.ctx.depth_limit true (λ r. r.0) (λ r. r.1) (λ r. r.outcome) (λ r. r.root) c.in_err-outcome.field-0.0
+    (walks-other g.W.Worktree g.F.Find g.I.Interrupt a.strategy (setting_in g.M.Matcher a.worktree_root.now a.options a.ctx) a.ctx.explicit_traversal_root.now a.ctx.depth_limit by_default (λ r. r.0) (λ r. r.1) (λ r. r.outcome) (λ r. r.root) c.in_err-outcome.field-0.0
     c.in_err-outcome.ensures.walks_worktree)
 
 pub returns-in_err-entries-clause-walks_worktree : goal.returns-in_err-entries-clause-walks_worktree
@@ -35,14 +36,14 @@ returns-in_err-entries-clause-walks_worktree g c =
     let a = c.args in
     let p = err_from_is_err_and c.from_residual-in_err-entries.result c.from_residual-in_err-entries.ensures.1 in
     rw (p.1, p.2)
-    (walks-memory g.W.Worktree g.F.Find g.I.Interrupt a.strategy (setting_in g.M.Matcher a.worktree_root.now a.options a.ctx) a.ctx.explicit_traversal_root.now a.ctx.depth_limit true (λ r. r.0) (λ r. r.1) (λ r. r.outcome) (λ r. r.root)
+    (walks-memory g.W.Worktree g.F.Find g.I.Interrupt a.strategy (setting_in g.M.Matcher a.worktree_root.now a.options a.ctx) a.ctx.explicit_traversal_root.now a.ctx.depth_limit by_default (λ r. r.0) (λ r. r.1) (λ r. r.outcome) (λ r. r.root)
     (c.in_ok-outcome.outcome, c.in_ok-outcome.root) c.in_ok-outcome.ensures.walks_worktree)
 
 pub returns-clause-walks_worktree : goal.returns-clause-walks_worktree
 returns-clause-walks_worktree g c =
     let a = c.args in
     let made : Report = record { outcome = c.in_ok-outcome.outcome; root = c.in_ok-outcome.root; entries = c.in_ok-entries.entries } in
-    walks-more g.W.Worktree g.F.Find g.I.Interrupt a.strategy (setting_in g.M.Matcher a.worktree_root.now a.options a.ctx) a.ctx.explicit_traversal_root.now a.ctx.depth_limit true (λ r. r.0) (λ r. r.1) (λ r. r.outcome) (λ r. r.root)
+    walks-more g.W.Worktree g.F.Find g.I.Interrupt a.strategy (setting_in g.M.Matcher a.worktree_root.now a.options a.ctx) a.ctx.explicit_traversal_root.now a.ctx.depth_limit by_default (λ r. r.0) (λ r. r.1) (λ r. r.outcome) (λ r. r.root)
     (c.in_ok-outcome.outcome, c.in_ok-outcome.root) made refl refl c.in_ok-outcome.ensures.walks_worktree
 
 pub returns-clause-ordered : goal.returns-clause-ordered

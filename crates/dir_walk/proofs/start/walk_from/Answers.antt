@@ -1,19 +1,22 @@
-use Rattle.std.proofs.Common.{◌≡◌, ◌∙◌, ap, refl, sym, arith, ℕ, List, [], true, false}
+use Rattle.std.proofs.Common.{◌≡◌, ◌∙◌, ap, refl, sym, arith, ℕ, List, [], Option, Bool, true, false, subst}
 use Rattle.std.proofs.lemmas.Result.{IfErr-weaker, err_from_is_err_and, on_err_weaker, on_ok_weaker}
 use Rattle.worktree_fs.specs.Causes.{Increased, NotIncreased}
 use Rattle.dir_classify.specs.Excludes.{made_with}
 use Rattle.dir_classify.specs.Layers.{setting_of, evidence}
 use Rattle.dir_classify.specs.Rooted.{reached_by, way_to}
-use Rattle.dir_walk.specs.Given.{OnRefused}
+use Rattle.dir_walk.specs.Given.{IsAnswered, OnRefused}
+use Rattle.dir_walk.specs.Opens.{refused_walk}
 use Rattle.dir_walk.specs.Refused.{DirectoryRefuses}
 use Rattle.dir_walk.specs.Root.{is_root_entered}
 use Rattle.dir_walk.specs.Starts.{OnlyRoot}
-use Rattle.dir_walk.specs.WalkRefused.{IsNoTop, OnNoRoot, StartRefuses}
+use Rattle.dir_walk.specs.WalkRefused.{IsNoTop, OnNoRoot, StartRefuses, recursion_of}
+use Rattle.dir_walk.specs.Walked.{Walked}
+use Rattle.dir_walk.specs.Walks.{most_from}
 use Rattle.gitbase_core.specs.Path.{is_empty}
 use Rattle.dir_walk.proofs.CallByCall.{Before-asked, Before-classed, Before-then, Ends-after, Ends-asked, Tells-later}
 use Rattle.dir_walk.proofs.FromRoot.{asks-from, opens-entered, opens-short}
 use Rattle.dir_walk.proofs.Refusals.{refused-any}
-use Rattle.dir_walk.proofs.Started.{gives-entered, gives-put, no-node, no-root, part-entered, refuses-entered}
+use Rattle.dir_walk.proofs.Started.{gives-entered, gives-put, no-node, no-root, part-entered, refuses-entered, walked-entered}
 use Rattle.dir_walk.proofs.Starting.{bare}
 use Rattle.dir_walk.proofs.WayRefused.{only-no_root, only-refuses, way-about, way-found, way-refuses}
 use Rattle.dir_walk.proofs.start.walk_from.Goals as goal
@@ -162,37 +165,65 @@ returns-clause-no_root g c = λ s told quiet.
     let second : NotIncreased (w.faults c.root_at.new.worktree) (w.faults c.is_root_entered.new.worktree) = omega (arith, quiet, way.keeps.faults) in
     let asked = c.in_ok-is_root_entered.ensures in
     let shape = c.requires.root in
-    let none : Type 0 = IsNoTop given made s (g.D.Delegate.is_default a.delegate.now) in
+    let none : Type 0 = IsNoTop given made s (recursion_of g.D.Delegate a.delegate.now c.put_root.new.delegate) in
+    let way_is : is_empty a.root.now ≡ true → is_root_entered given.options (evidence given made s) (way_to given made s []) ≡ is_root_entered given.options (evidence given made s) (reached_by r false) =
+    λ empty.
+    ap (λ (p : List ℕ). is_root_entered given.options (evidence given made s) (way_to given made s p)) (sym (bare a.root.now empty))
+    ∙ ap (is_root_entered given.options (evidence given made s)) (sym (way.top (bare a.root.now empty) s told first)) in
     let unentered : is_empty a.root.now ≡ true → g.D.Delegate.is_default a.delegate.now ≡ true → is_root_entered given.options (evidence given made s) (way_to given made s []) ≡ false =
     λ empty default.
-    ap (λ (p : List ℕ). is_root_entered given.options (evidence given made s) (way_to given made s p)) (sym (bare a.root.now empty))
-    ∙ ap (is_root_entered given.options (evidence given made s)) (sym (way.top (bare a.root.now empty) s told first))
+    way_is empty
     ∙ sym (asked.entered made s (way.keeps.tree ∙ told) second default)
     ∙ c.if-branch.false in
+    let answered : is_empty a.root.now ≡ true
+    → IsAnswered (is_root_entered given.options (evidence given made s) (way_to given made s [])) false (g.D.Delegate.refusals a.delegate.now) (g.D.Delegate.refusals c.put_root.new.delegate) =
+    λ empty.
+    let r0 = g.D.Delegate.refusals a.delegate.now in
+    let r1 = g.D.Delegate.refusals c.is_root_entered.new.delegate in
+    let shut = subst (λ (b : Bool). IsAnswered (is_root_entered given.options (evidence given made s) (reached_by r false)) b r0 r1) c.if-branch.false (asked.answered made s (way.keeps.tree ∙ told) second) in
+    subst (λ (n : ℕ). IsAnswered (is_root_entered given.options (evidence given made s) (way_to given made s [])) false r0 n) (sym c.put_root.ensures.refusals)
+    (subst (λ (b : Bool). IsAnswered b false r0 r1) (sym (way_is empty)) shut) in
     IfErr-weaker c.put_root.result (OnRefused (OnlyRoot top a.root.now r)) (OnRefused (OnNoRoot none))
     (refused-any (OnlyRoot top a.root.now r) (OnNoRoot none) (λ e. only-no_root none top a.root.now r e
-    (λ empty holds. record { node = no-node given made s a.root.now shape r (way.top (bare a.root.now empty) s told first) empty holds; unentered = unentered empty })))
+    (λ empty holds. record { node = no-node given made s a.root.now shape r (way.top (bare a.root.now empty) s told first) empty holds; unentered = unentered empty; answered = answered empty })))
     c.put_root.ensures.puts.refused
 
 pub returns-in_err-reached-clause-opens : goal.returns-in_err-reached-clause-opens
 returns-in_err-reached-clause-opens g c =
     let p = err_from_is_err_and c.from_residual.result c.from_residual.ensures.1 in
-    rw (p.1, p.2) (opens-short c.root_at.new.worktree c.args.strategy c.in_err-reached.ensures.reads _ c.in_err-reached.ensures.keeps.lists refl refl (omega arith))
+    rw (p.1, p.2) (opens-short c.root_at.new.worktree c.args.strategy c.in_err-reached.ensures.reads (λ s tells default quiet. omega arith) _ c.in_err-reached.ensures.keeps.lists refl refl (omega arith))
 
 pub returns-in_err-is_root_entered-clause-opens : goal.returns-in_err-is_root_entered-clause-opens
 returns-in_err-is_root_entered-clause-opens g c =
     let way = c.in_ok-reached.ensures in
     let asked = c.in_err-is_root_entered.ensures in
-    opens-short c.root_at.new.worktree c.args.strategy (asks-from way.prefix way.reads) _ (asked.keeps.lists ∙ way.keeps.lists) asked.reads refl (omega arith)
+    opens-short c.root_at.new.worktree c.args.strategy (asks-from way.prefix way.reads) (λ s tells default quiet. omega arith) _ (asked.keeps.lists ∙ way.keeps.lists) asked.reads refl (omega arith)
 
 pub returns-then-branch-clause-opens : goal.returns-then-branch-clause-opens
 returns-then-branch-clause-opens g c =
     let way = c.in_ok-reached.ensures in
     let asked = c.in_ok-is_root_entered.ensures in
-    opens-entered c.root_at.new.worktree c.is_root_entered.new.worktree c.args.strategy (asks-from way.prefix way.reads) c.walk_entered.new.excludes c.walk_entered.result (asked.keeps.lists ∙ way.keeps.lists) asked.reads refl c.walk_entered.ensures.opens
+    let a = c.args in
+    let w = g.W.Worktree in
+    let given = setting_of g.M.Matcher a.shared.now in
+    let made = made_with a.excludes.now in
+    let r = c.in_ok-reached.reached in
+    let ends = c.walk_entered.ensures.ends in
+    opens-entered c.root_at.new.worktree c.is_root_entered.new.worktree c.args.strategy (asks-from way.prefix way.reads) c.walk_entered.new.excludes c.walk_entered.result
+    (λ n few s tells default quiet.
+    let first : NotIncreased (w.faults a.worktree.now) (w.faults c.root_at.new.worktree) = omega (arith, quiet, asked.keeps.faults, ends.worktree.faults) in
+    let second : NotIncreased (w.faults c.root_at.new.worktree) (w.faults c.is_root_entered.new.worktree) = omega (arith, quiet, way.keeps.faults, ends.worktree.faults) in
+    let third : NotIncreased (w.faults c.is_root_entered.new.worktree) (w.faults c.walk_entered.new.worktree) = omega (arith, quiet, way.keeps.faults, asked.keeps.faults) in
+    let is = way.reached s tells.tells tells.in_step first in
+    let into : is_root_entered given.options (evidence given made s) (reached_by r false) ≡ true = sym (asked.entered made s (way.keeps.tree ∙ tells.tells.tree_is) second default) ∙ c.if-branch.true in
+    let here = Tells-later (Before-then (Before-classed way.keeps way.store way.rules) (Before-asked asked.keeps)) tells in
+    let most = rw way.rules.made at (few s here (asked.delegate.default ∙ default) third) in
+    let all = ap {B = ℕ} (λ (v : Option Walked). most_from v (refused_walk c.walk_entered.result)) (walked-entered given made s a.root.now c.requires.root r is into) in
+    omega (arith, most, all))
+    way.rules.made (asked.keeps.lists ∙ way.keeps.lists) asked.reads refl c.walk_entered.ensures.opens
 
 pub returns-clause-opens : goal.returns-clause-opens
 returns-clause-opens g c =
     let way = c.in_ok-reached.ensures in
     let asked = c.in_ok-is_root_entered.ensures in
-    opens-short c.root_at.new.worktree c.args.strategy (asks-from way.prefix way.reads) c.put_root.result (asked.keeps.lists ∙ way.keeps.lists) asked.reads c.put_root.ensures.entered (omega arith)
+    opens-short c.root_at.new.worktree c.args.strategy (asks-from way.prefix way.reads) (λ s tells default quiet. omega arith) c.put_root.result (asked.keeps.lists ∙ way.keeps.lists) asked.reads c.put_root.ensures.entered (omega arith)

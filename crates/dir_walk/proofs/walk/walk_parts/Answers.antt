@@ -10,9 +10,10 @@ use Rattle.dir_walk.specs.declared.outcome.Outcome.{Outcome}
 use Rattle.dir_walk.specs.Opens.{refused_walk}
 use Rattle.dir_walk.specs.Root.{rooted, traversal_root}
 use Rattle.dir_walk.specs.Rooting.{IsNormalized}
+use Rattle.dir_walk.specs.WalkRefused.{recursion_of}
 use Rattle.dir_walk.specs.Walks.{IsRootOf}
 use Rattle.dir_walk.proofs.FeedsSo.{feeds-broken, feeds-done, feeds-nothing, feeds-refused}
-use Rattle.dir_walk.proofs.Overall.{opens-whole, refused-most}
+use Rattle.dir_walk.proofs.Overall.{enters-walk, opens-whole, refused-most}
 use Rattle.dir_walk.proofs.WalksSo.{walks-done, walks-outside, walks-refused}
 use Rattle.dir_walk.proofs.walk.walk_parts.Goals as goal
 
@@ -25,7 +26,7 @@ returns-in_err-root g c =
     rw (p.1, p.2)
     (record {
       walks_worktree =
-          walks-outside g.W.Worktree g.F.Find g.I.Interrupt a.strategy given a.explicit.now a.depth_limit (g.D.Delegate.is_default a.delegate.now) (λ r. r.0) (λ r. r.1) refused.keeps refused.reads c.in_err-root.field-0.0
+          walks-outside g.W.Worktree g.F.Find g.I.Interrupt a.strategy given a.explicit.now a.depth_limit (recursion_of g.D.Delegate a.delegate.now a.delegate.now) (λ r. r.0) (λ r. r.1) refused.keeps refused.reads c.in_err-root.field-0.0
           refused.about refused.refused refused.fault;
       feeds = feeds-nothing g.W.Worktree g.F.Find g.D.Delegate given a.explicit.now a.depth_limit c.in_err-root.field-0.0;
     })
@@ -39,7 +40,7 @@ returns-in_err-full g c =
     rw (p.1, p.2)
     (record {
       walks_worktree =
-          walks-outside g.W.Worktree g.F.Find g.I.Interrupt a.strategy given a.explicit.now a.depth_limit (g.D.Delegate.is_default a.delegate.now) (λ r. r.0) (λ r. r.1) found.keeps found.reads errors.OutOfMemory tt
+          walks-outside g.W.Worktree g.F.Find g.I.Interrupt a.strategy given a.explicit.now a.depth_limit (recursion_of g.D.Delegate a.delegate.now a.delegate.now) (λ r. r.0) (λ r. r.1) found.keeps found.reads errors.OutOfMemory tt
           (λ t told. tt) (λ before now. tt);
       feeds = feeds-nothing g.W.Worktree g.F.Find g.D.Delegate given a.explicit.now a.depth_limit errors.OutOfMemory;
     })
@@ -51,6 +52,7 @@ returns-in-Ok g c =
     let f = g.F.Find in
     let i = g.I.Interrupt in
     let d = g.D.Delegate in
+    let recursion = recursion_of d a.delegate.now c.walk_from.new.delegate in
     let given = setting_of g.M.Matcher a.shared.now in
     let root = c.as_bytes-2.result.now in
     let found = c.in_ok-root.ensures in
@@ -64,8 +66,10 @@ returns-in-Ok g c =
     let none : refused_walk c.walk_from.result ≤ 0 = rw c.in-Ok.is (omega arith) in
     record {
       walks_worktree =
-          walks-done w f i d a.strategy given a.explicit.now a.depth_limit (d.is_default a.delegate.now) (λ r. r.0) (λ r. r.1) root found.keeps normal rooted_is (c.walk_from.new.outcome, c.in_ok-full.full) full_is (Ok tt) from.ends from.ends.caused.listed from.ends.caused.calm
-          (opens-whole a.strategy found.keeps.lists found.reads c.walk_from.result (Ok (c.walk_from.new.outcome, c.in_ok-full.full)) zeros.0 is_root refl none c.walk_from.ensures.opens);
+          walks-done w f i d a.strategy given a.explicit.now a.depth_limit recursion (λ r. r.0) (λ r. r.1) root found.keeps normal rooted_is (c.walk_from.new.outcome, c.in_ok-full.full) full_is (Ok tt) from.ends from.ends.caused.listed from.ends.caused.calm
+          (opens-whole a.strategy found.keeps.lists found.reads
+          (enters-walk {T = Outcome × List ℕ} w f d recursion given a.explicit.now root (Ok (c.walk_from.new.outcome, c.in_ok-full.full)) (refused_walk c.walk_from.result) found.keeps from.ends.worktree.faults refl rooted_is none)
+          c.walk_from.result (Ok (c.walk_from.new.outcome, c.in_ok-full.full)) zeros.0 is_root refl none c.walk_from.ensures.opens);
       feeds =
           feeds-done w f d a.worktree.now c.traversal_root.new.worktree c.walk_from.new.worktree a.objects.now a.excludes.now a.delegate.now c.walk_from.new.delegate given a.explicit.now a.depth_limit root c.default-outcome.result c.walk_from.new.outcome
           found.keeps from.ends.worktree.faults normal rooted_is from.ends.delegate c.walk_from.ensures.puts zeros.0 zeros.1.0 zeros.1.1 c.in_ok-full.full full_is from.ends.heeds.kept_on
@@ -79,6 +83,7 @@ returns-in-Err-Broken g c =
     let f = g.F.Find in
     let i = g.I.Interrupt in
     let d = g.D.Delegate in
+    let recursion = recursion_of d a.delegate.now c.walk_from.new.delegate in
     let given = setting_of g.M.Matcher a.shared.now in
     let root = c.as_bytes-2.result.now in
     let found = c.in_ok-root.ensures in
@@ -92,8 +97,10 @@ returns-in-Err-Broken g c =
     let none : refused_walk c.walk_from.result ≤ 0 = rw (c.in-Err-Broken.is, c.in-Err-Broken.field-0-is) (omega arith) in
     record {
       walks_worktree =
-          walks-done w f i d a.strategy given a.explicit.now a.depth_limit (d.is_default a.delegate.now) (λ r. r.0) (λ r. r.1) root found.keeps normal rooted_is (c.walk_from.new.outcome, c.in_ok-full.full) full_is (Err Broken) from.ends from.ends.caused.listed from.ends.caused.calm
-          (opens-whole a.strategy found.keeps.lists found.reads c.walk_from.result (Ok (c.walk_from.new.outcome, c.in_ok-full.full)) zeros.0 is_root refl none c.walk_from.ensures.opens);
+          walks-done w f i d a.strategy given a.explicit.now a.depth_limit recursion (λ r. r.0) (λ r. r.1) root found.keeps normal rooted_is (c.walk_from.new.outcome, c.in_ok-full.full) full_is (Err Broken) from.ends from.ends.caused.listed from.ends.caused.calm
+          (opens-whole a.strategy found.keeps.lists found.reads
+          (enters-walk {T = Outcome × List ℕ} w f d recursion given a.explicit.now root (Ok (c.walk_from.new.outcome, c.in_ok-full.full)) (refused_walk c.walk_from.result) found.keeps from.ends.worktree.faults refl rooted_is none)
+          c.walk_from.result (Ok (c.walk_from.new.outcome, c.in_ok-full.full)) zeros.0 is_root refl none c.walk_from.ensures.opens);
       feeds =
           feeds-broken w f d a.worktree.now c.traversal_root.new.worktree c.walk_from.new.worktree a.objects.now a.excludes.now a.delegate.now c.walk_from.new.delegate given a.explicit.now a.depth_limit root c.default-outcome.result c.walk_from.new.outcome
           found.keeps from.ends.worktree.faults normal rooted_is from.ends.delegate c.walk_from.ensures.puts zeros.0 zeros.1.0 zeros.1.1 c.in_ok-full.full full_is from.ends.heeds
@@ -107,6 +114,7 @@ returns g c =
     let f = g.F.Find in
     let i = g.I.Interrupt in
     let d = g.D.Delegate in
+    let recursion = recursion_of d a.delegate.now c.walk_from.new.delegate in
     let given = setting_of g.M.Matcher a.shared.now in
     let root = c.as_bytes-2.result.now in
     let found = c.in_ok-root.ensures in
@@ -117,9 +125,11 @@ returns g c =
     let e = c.in-Err-Refused.error in
     record {
       walks_worktree =
-          walks-refused w f i d a.strategy given a.explicit.now a.depth_limit (d.is_default a.delegate.now) (λ r. r.0) (λ r. r.1) root found.keeps normal rooted_is e from.ends from.about from.found
+          walks-refused w f i d a.strategy given a.explicit.now a.depth_limit recursion (λ r. r.0) (λ r. r.1) root found.keeps normal rooted_is e from.ends from.about from.found
           (λ s tells by quiet. from.refused s tells quiet by) from.no_root
-          (opens-whole a.strategy found.keeps.lists found.reads c.walk_from.result (Err e) c.default-outcome.ensures.0 (record { normalized = normal; named = tt }) tt (refused-most c.walk_from.result) c.walk_from.ensures.opens);
+          (opens-whole a.strategy found.keeps.lists found.reads
+          (enters-walk {T = Outcome × List ℕ} w f d recursion given a.explicit.now root (Err e) (refused_walk c.walk_from.result) found.keeps from.ends.worktree.faults refl rooted_is (refused-most c.walk_from.result))
+          c.walk_from.result (Err e) c.default-outcome.ensures.0 (record { normalized = normal; named = tt }) tt (refused-most c.walk_from.result) c.walk_from.ensures.opens);
       feeds =
           feeds-refused w f d a.worktree.now c.traversal_root.new.worktree c.walk_from.new.worktree a.objects.now a.excludes.now a.delegate.now c.walk_from.new.delegate given a.explicit.now a.depth_limit root c.default-outcome.result c.walk_from.new.outcome
           found.keeps from.ends.worktree.faults normal rooted_is from.ends.delegate c.walk_from.ensures.puts e from.ends.heeds
