@@ -179,6 +179,7 @@ misreads_at w w0 w1 o0 o1 i0 i1 root setup which from outside alone stops is =
             lists = loads.lists;
             precomposes = loads.precomposes;
             reads = subst (λ (m : Misread). w.reads w1 ≤ w.reads w0 + files_to setup m) same stops;
+            reads_kept = loads.reads_kept;
           };
       interrupt = alone.interrupt;
     }

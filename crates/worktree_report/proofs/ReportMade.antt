@@ -1,6 +1,6 @@
 -- A report is made: what tells of submodules is read, and the work tree is walked.
 use Rattle.std.proofs.Common.{◌≡◌, ◌≤◌, ◌^◌, ◌-◌, min, ℕ, List, [], ◌∷◌, map, length, Bool, true, false, Option, Some, None, Result, Ok, Err, IfOk, inl, inr, refl, sym, ap, ◌∙◌, subst, option_map, arith}
-use Rattle.std.specs.Prelude.{is_some}
+use Rattle.std.specs.Prelude.{if◌then◌else◌, is_some}
 use Rattle.std.specs.List.{AllByRecursion}
 use Rattle.std.proofs.lemmas.List.{length-map}
 use Rattle.gitbase_core.specs.declared.find.Find.{Ghosts as FindOf}
@@ -21,7 +21,7 @@ use Rattle.dir_classify.specs.declared.error.Error.{Error}
 use Rattle.dir_classify.specs.declared.error.Error.TheVariants as walk
 use Rattle.dir_classify.specs.declared.error.MetadataWhy.TheVariants as metadata
 use Rattle.dir_classify.specs.declared.error.ReadWhy.TheVariants as why
-use Rattle.dir_classify.specs.Excludes.{TellsIf}
+use Rattle.dir_classify.specs.Excludes.{tells_attributes, TellsIf}
 use Rattle.dir_classify.specs.Refused.{OnFault}
 use Rattle.dir_walk.specs.declared.report.Report.{Report as WalkReport}
 use Rattle.dir_walk.specs.Distinct.{Ascends}
@@ -29,8 +29,9 @@ use Rattle.dir_walk.specs.Emissions.{Emission}
 use Rattle.dir_walk.specs.Kept.{KeepsTree, OnListingFault}
 use Rattle.dir_walk.specs.Opens.{IsListed, reads_rules_alone}
 use Rattle.dir_walk.specs.Reports.{IsFromRoot}
+use Rattle.dir_walk.specs.Root.{Walk, walk_in}
 use Rattle.dir_walk.specs.Walkable.{IsValid}
-use Rattle.dir_walk.specs.Walks.{GivesFrom, OpensDirectories, ReadsAtMost}
+use Rattle.dir_walk.specs.Walks.{GivesFrom, most_opened, OpensDirectories, ReadsAtMost}
 use Rattle.worktree_report.specs.declared.error.ReportError.{ReportError}
 use Rattle.worktree_report.specs.declared.error.ReportError.TheVariants as errors
 use Rattle.worktree_report.specs.declared.known.Known.{Known}
@@ -40,12 +41,12 @@ use Rattle.worktree_report.specs.declared.report.Report.{Report}
 use Rattle.worktree_report.specs.declared.report.ReportEntry.{ReportEntry}
 use Rattle.worktree_report.specs.declared.setup.Setup.{Setup}
 use Rattle.worktree_report.specs.Asked.{About, Found, IsReportOf, IsWalkOf, NoRoot, ReadsFrom, Refuses, asked_of, chosen_of, described_by, report_of, walked_of}
-use Rattle.worktree_report.specs.Excluding.{excludes_of}
+use Rattle.worktree_report.specs.Excluding.{excludes_of, rules_of}
 use Rattle.worktree_report.specs.Loading.{files_if, known_in}
 use Rattle.worktree_report.specs.Loads.{Gives, LoadsFiles, OfKnown, of_walk}
 use Rattle.worktree_report.specs.Orderly.{IsOrderly}
 use Rattle.worktree_report.specs.Outside.{IsOutside, LoadsAlone, OnMisread, OnReading, Stops}
-use Rattle.worktree_report.specs.Reported.{Describes, IsNamedRoot, LoadsAndOpens, MakesReport, Misreads, OnReportFault, OnWalk, Reports}
+use Rattle.worktree_report.specs.Reported.{Describes, EntersAsAsked, IsNamedRoot, LoadsAndOpens, MakesReport, Misreads, OnReportFault, OnWalk, Reports}
 use Rattle.worktree_report.specs.Submodules.{described, emission_in, entry_in, facts_in}
 use Rattle.worktree_report.proofs.Walks.{unlisted_so}
 
@@ -127,7 +128,7 @@ module _ {W F I : Type 0} {w : WorktreeOf W} {f : FindOf F} {i : InterruptOf I} 
         no_root = λ t told quiet. no_walk _ _ e of_it;
         refused = λ s told quiet. no_walk _ _ e of_it;
         complete = λ s told quiet stored calm valid. only_memory _ e (known_in s.tree root setup) valid.known (gives s.tree told.tree_is) of_it (not_both _ _ quiet) valid.known_is;
-        worktree = record { tree = loads.tree; faults = loads.faults; list_faults = let same = loads.list_faults in omega (arith, same); lists = let same = loads.lists in omega (arith, same); precomposes = loads.precomposes };
+        worktree = record { tree = loads.tree; faults = loads.faults; list_faults = let same = loads.list_faults in omega (arith, same); reads = loads.reads_kept; lists = let same = loads.lists in omega (arith, same); precomposes = loads.precomposes };
         store = record { holds = refl; faults = omega arith };
         interrupt = record { questions = omega arith; raised = omega arith };
         listed = tt;
@@ -135,6 +136,7 @@ module _ {W F I : Type 0} {w : WorktreeOf W} {f : FindOf F} {i : InterruptOf I} 
         opens =
             record {
               opened = 0;
+              within = λ s told quiet. omega arith;
               listed = unlisted_so setup.options.strategy (w.lists w0) (w.lists w1) loads.lists;
               asked = omega arith;
               counted = tt;
@@ -295,18 +297,39 @@ kept_later w w0 wl w1 most loads kept =
       tree = kept.tree ∙ loads.tree;
       faults = let a = loads.faults in let b = kept.faults in omega (arith, a, b);
       list_faults = let a = loads.list_faults in let b = kept.list_faults in omega (arith, a, b);
+      reads = let a = loads.reads_kept in let b = kept.reads in omega (arith, a, b);
       lists = let a = loads.lists in let b = kept.lists in omega (arith, a, b);
       precomposes = kept.precomposes ∙ loads.precomposes;
     }
 
-opened_later : {W I : Type 0} (w : WorktreeOf W) (i : InterruptOf I) (w0 wl w1 : W) (i0 i1 : I) (root : List ℕ) (setup : Setup) (walked : Result WalkReport Error) (result : Result Report ReportError)
-    → LoadsFiles w w0 wl (files_if setup)
-    → (opens : OpensDirectories w i wl w1 i0 i1 setup.options.strategy (asked_of (w.precomposes wl) root setup) setup.root (λ (r : WalkReport). r.outcome) (λ (r : WalkReport). r.root) walked)
+-- the rules of a setup are ignore rules alone
+no_attributes : (root : List ℕ) (setup : Setup) → tells_attributes (excludes_of root setup) ≡ false
+no_attributes root setup = go setup.options.excludes
+  where
+    go : (b : Bool) → tells_attributes (if b then Some (rules_of root setup) else None) ≡ false
+    go true = refl
+    go false = refl
+
+most_more : (walk : Option Walk) (less more : ℕ) → less ≤ more → most_opened walk less ≤ most_opened walk more
+most_more None less more fits = omega arith
+most_more (Some walk) less more fits = omega (arith, fits)
+
+opened_later : {W F I : Type 0} (w : WorktreeOf W) (f : FindOf F) (i : InterruptOf I) (w0 wl w1 : W) (o0 : F) (i0 i1 : I) (root : List ℕ) (setup : Setup) (walked : Result WalkReport Error) (result : Result Report ReportError)
+    → LoadsFiles w w0 wl (files_if setup) → w.faults wl ≤ w.faults w1
+    → (opens : OpensDirectories w i wl w1 i0 i1 setup.options.strategy (asked_of (w.precomposes wl) root setup) (excludes_of root setup) setup.root (λ (r : WalkReport). r.outcome) (λ (r : WalkReport). r.root) walked
+    (EntersAsAsked w f wl w1 o0 root setup (refused_one walked)))
     → IfOk result (λ r. r.outcome.read_dir_calls ≡ min opens.opened (2 ^ 32 - 1)) → Names_too root walked result → refused_one walked ≤ refused_one result
-    → LoadsAndOpens w i w0 w1 i0 i1 root setup result
-opened_later w i w0 wl w1 i0 i1 root setup walked result loads opens counted names spare =
+    → LoadsAndOpens w f i w0 w1 o0 i0 i1 root setup result
+opened_later w f i w0 wl w1 o0 i0 i1 root setup walked result loads more opens counted names spare =
     record {
       opened = opens.opened;
+      within = λ s told quiet.
+          let first = loads.faults in
+          let second : NotIncreased (w.faults wl) (w.faults w1) = omega (arith, quiet, first, more) in
+          let most = opens.within s (record { tree_is = loads.tree ∙ told.tree_is; objects_are = told.objects_are }) second in
+          let same = ap {B = ℕ} (λ (b : Bool). most_opened (walk_in (asked_of b root setup) (excludes_of root setup) s setup.root) (refused_one walked)) loads.precomposes in
+          let fits = most_more (walk_in (asked_of (w.precomposes w0) root setup) (excludes_of root setup) s setup.root) (refused_one walked) (refused_one result) spare in
+          omega (arith, most, same, fits);
       listed = subst (λ (n : ℕ). IsListed setup.options.strategy n (w.lists w1) opens.opened) loads.lists opens.listed;
       asked = opens.asked;
       counted = counted;
@@ -315,7 +338,7 @@ opened_later w i w0 wl w1 i0 i1 root setup walked result loads opens counted nam
             between = w.reads wl;
             loaded = loads.reads;
             walked = reads_of (w.precomposes w0) root setup (w.reads wl) (w.reads w1) opens.opened walked result names spare
-                (reads_later (w.precomposes wl) (w.precomposes w0) root setup (w.reads wl) (w.reads w1) opens.opened walked loads.precomposes rules_alone (opens.reads over_itself));
+                (reads_later (w.precomposes wl) (w.precomposes w0) root setup (w.reads wl) (w.reads w1) opens.opened walked loads.precomposes rules_alone (λ alone. opens.reads over_itself alone (no_attributes root setup)));
           };
     }
 
@@ -362,7 +385,7 @@ module _ {W F I : Type 0} {w : WorktreeOf W} {f : FindOf F} {i : InterruptOf I} 
           interrupt = reports.interrupt;
           listed = reports.listed ∙ loads.list_faults;
           calm = reports.calm;
-          opens = opened_later w i w0 wl w1 i0 i1 root setup (Ok walked) (Ok r) loads reports.opens (ap (λ (x : Report). x.outcome.read_dir_calls) same ∙ reports.opens.counted) (λ start named. ap (λ (x : Report). x.root) same ∙ named) (omega arith);
+          opens = opened_later w f i w0 wl w1 o0 i0 i1 root setup (Ok walked) (Ok r) loads reports.worktree.faults reports.opens (ap (λ (x : Report). x.outcome.read_dir_calls) same ∙ reports.opens.counted) (λ start named. ap (λ (x : Report). x.root) same ∙ named) (omega arith);
         }
 
     -- there is no memory to describe it
@@ -390,7 +413,7 @@ module _ {W F I : Type 0} {w : WorktreeOf W} {f : FindOf F} {i : InterruptOf I} 
           interrupt = reports.interrupt;
           listed = tt;
           calm = tt;
-          opens = opened_later w i w0 wl w1 i0 i1 root setup (Ok walked) (Err errors.OutOfMemory) loads reports.opens tt (λ start named. tt) (omega arith);
+          opens = opened_later w f i w0 wl w1 o0 i0 i1 root setup (Ok walked) (Err errors.OutOfMemory) loads reports.worktree.faults reports.opens tt (λ start named. tt) (omega arith);
         }
 
     -- the walk was refused
@@ -424,7 +447,7 @@ module _ {W F I : Type 0} {w : WorktreeOf W} {f : FindOf F} {i : InterruptOf I} 
           interrupt = reports.interrupt;
           listed = tt;
           calm = tt;
-          opens = opened_later w i w0 wl w1 i0 i1 root setup (Err e) (Err (of_walk e)) loads reports.opens tt (λ start named. tt) (omega arith);
+          opens = opened_later w f i w0 wl w1 o0 i0 i1 root setup (Err e) (Err (of_walk e)) loads reports.worktree.faults reports.opens tt (λ start named. tt) (omega arith);
         }
 
     pub MakesReport-described : (walked : Result WalkReport Error) (result : Result Report ReportError) → Reports w f i wl w1 o0 o1 i0 i1 root setup walked → Describes result known walked

@@ -86,6 +86,7 @@ LoadsFiles-more w w0 wl w1 permissions xs i d inside before now =
       lists = now.lists ∙ before.lists;
       precomposes = now.precomposes ∙ before.precomposes;
       reads = let more = admitted_more permissions xs i d inside in omega (arith, before.reads, now.reads, more);
+      reads_kept = omega (arith, before.reads_kept, now.reads_kept);
     }
 
 -- no more than all of them are
@@ -99,6 +100,7 @@ LoadsFiles-within w w0 w1 permissions xs n loads =
       lists = loads.lists;
       precomposes = loads.precomposes;
       reads = let few = sum_by-take-le (λ (named : ConfigFile). if admits permissions named.0 then 1 else 0) xs n in omega (arith, loads.reads, few);
+      reads_kept = loads.reads_kept;
     }
 
 -- ---- refusals

@@ -17,7 +17,7 @@ use Rattle.dir_walk.specs.declared.report.Report.{Report as WalkReport}
 use Rattle.dir_walk.specs.Opens.{reads_rules_alone}
 use Rattle.dir_walk.specs.Report.{report}
 use Rattle.dir_walk.specs.Reports.{IsReport}
-use Rattle.dir_walk.specs.WalkRefused.{IsNoTop, OnNoRoot, WalkAbout, WalkFound, WalkRefuses}
+use Rattle.dir_walk.specs.WalkRefused.{by_default, IsNoTop, OnNoRoot, WalkAbout, WalkFound, WalkRefuses}
 use Rattle.dir_walk.specs.Rooting.{IsNormalized}
 use Rattle.dir_walk.specs.Root.{rooted, traversal_root}
 use Rattle.dir_walk.specs.Walkable.{IsValid}
@@ -171,7 +171,7 @@ abbrev pub NoRoot : Bool → Names → List ℕ → Setup → Error → Type 0
 NoRoot composes t root setup error =
     OnNoRoot
     ((traversal_root (asked_of composes root setup) t setup.root ≡ rooted [])
-    × IsNoTop (asked_of composes root setup) (excludes_of root setup) (read_in t setup) true)
+    × IsNoTop (asked_of composes root setup) (excludes_of root setup) (read_in t setup) by_default)
     error
 
 -- and of what was handed in

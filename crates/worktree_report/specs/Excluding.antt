@@ -28,7 +28,8 @@ rules_of root setup =
     record {
       root = root;
       case = case_of setup.options.ignore_case;
-      mappings = mappings_in (case_of setup.options.ignore_case) (Some (rules_given setup)) setup.index;
+      mappings = mappings_in (case_of setup.options.ignore_case) None (Some (rules_given setup)) setup.index;
+      attributes = None;
       ignore = Some (rules_given setup);
     }
 

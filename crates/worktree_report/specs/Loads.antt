@@ -37,6 +37,7 @@ pub record LoadsFiles {W : Type 0} (w : WorktreeOf W) (before now : W) (most : �
   pub lists : w.lists now ≡ w.lists before
   pub precomposes : w.precomposes now ≡ w.precomposes before
   pub reads : w.reads now ≤ w.reads before + most
+  pub reads_kept : w.reads before ≤ w.reads now
 
 -- A configuration is what its text says; a refusal names its number.
 abbrev pub ReadsConfig : Result Configuration ReportError → ℕ → Result (List Section) ℕ → Type 0

@@ -18,10 +18,10 @@ use Rattle.dir_walk.specs.declared.strategy.Strategy.TheVariants.{Held, AtOnce}
 use Rattle.dir_walk.specs.Distinct.{Ascends}
 use Rattle.dir_walk.specs.Kept.{AsksInterrupt, KeepsTree, OnInterrupt, OnListingFault}
 use Rattle.dir_walk.specs.Opens.{IsListed, reads_rules_alone}
-use Rattle.dir_walk.specs.Root.{rooted, traversal_root}
+use Rattle.dir_walk.specs.Root.{rooted, traversal_root, walk_in}
 use Rattle.dir_walk.specs.Reports.{IsFromRoot}
 use Rattle.dir_walk.specs.Walkable.{IsValid}
-use Rattle.dir_walk.specs.Walks.{OpensDirectories}
+use Rattle.dir_walk.specs.Walks.{OpensDirectories, most_opened}
 use Rattle.worktree_report.specs.declared.error.ReportError.{ReportError}
 use Rattle.worktree_report.specs.declared.error.ReportError.TheVariants as errors
 use Rattle.worktree_report.specs.declared.known.Known.{Known}
@@ -45,6 +45,13 @@ use Rattle.worktree_report.specs.Submodules.{described}
 abbrev pub IsNamedRoot : Bool → Names → List ℕ → Setup → List ℕ → Type 0
 IsNamedRoot composes t root setup path =
     (start : List ℕ) × (traversal_root (asked_of composes root setup) t setup.root ≡ rooted start) × (path ≡ full_path root start)
+
+-- Over what is told, and without a fault of the worktree, so many directories are opened at most as the walk of a setup enters, and
+-- `spare` more; none where there is no walk.
+abbrev pub EntersAsAsked : {W F : Type 0} → WorktreeOf W → FindOf F → W → W → F → List ℕ → Setup → ℕ → ℕ → Type 0
+EntersAsAsked w f w0 w1 o0 root setup spare opened =
+    (s : Sources) → TellsIf (w.told w0) (f.holds o0) (excludes_of root setup) s → NotIncreased (w.faults w0) (w.faults w1)
+    → opened ≤ most_opened (walk_in (asked_of (w.precomposes w0) root setup) (excludes_of root setup) s setup.root) spare
 
 -- What the walk of the work tree at `root` gives, where a worktree was `w0` and is `w1`, a store was `o0` and is `o1`, and an interrupt
 -- was `i0` and is `i1`.
@@ -80,7 +87,8 @@ pub record Reports {W F I : Type 0} (w : WorktreeOf W) (f : FindOf F) (i : Inter
   pub listed : OnOk result (w.list_faults w1 ≡ w.list_faults w0)
   pub calm : OnOk result (i.raised i1 ≡ i.raised i0)
   -- What is opened and read.
-  pub opens : OpensDirectories w i w0 w1 i0 i1 setup.options.strategy (asked_of (w.precomposes w0) root setup) setup.root (λ (r : WalkReport). r.outcome) (λ (r : WalkReport). r.root) result
+  pub opens : OpensDirectories w i w0 w1 i0 i1 setup.options.strategy (asked_of (w.precomposes w0) root setup) (excludes_of root setup) setup.root (λ (r : WalkReport). r.outcome) (λ (r : WalkReport). r.root) result
+      (EntersAsAsked w f w0 w1 o0 root setup (refused_one result))
 
 -- what holds of a refused walk
 abbrev pub OnWalk : (Error → Type 0) → ReportError → Type 0
@@ -117,9 +125,11 @@ Describes (Ok r) known (Err e) = ⊥
 Describes (Err error) known (Ok walked) = error ≡ errors.OutOfMemory
 Describes (Err error) known (Err e) = error ≡ of_walk e
 
--- What is opened and read: what tells of submodules first, and then as the walk does.
-pub record LoadsAndOpens {W I : Type 0} (w : WorktreeOf W) (i : InterruptOf I) (w0 w1 : W) (i0 i1 : I) (root : List ℕ) (setup : Setup) (result : Result Report ReportError) : Type 0 where
+-- What is opened and read: what tells of submodules first, and then as the walk does. Over what is told, and without a fault, no more
+-- directories are opened than the walk enters; a refusal may come with one more.
+pub record LoadsAndOpens {W F I : Type 0} (w : WorktreeOf W) (f : FindOf F) (i : InterruptOf I) (w0 w1 : W) (o0 : F) (i0 i1 : I) (root : List ℕ) (setup : Setup) (result : Result Report ReportError) : Type 0 where
   pub opened : ℕ
+  pub within : EntersAsAsked w f w0 w1 o0 root setup (refused_one result) opened
   pub listed : IsListed setup.options.strategy (w.lists w0) (w.lists w1) opened
   pub asked : with_more (i.questions i0) opened ≤ i.questions i1
   pub counted : IfOk result (λ r. r.outcome.read_dir_calls ≡ min opened (2 ^ 32 - 1))
@@ -161,7 +171,7 @@ pub record MakesReport {W F I : Type 0} (w : WorktreeOf W) (f : FindOf F) (i : I
   pub listed : OnOk result (w.list_faults w1 ≡ w.list_faults w0)
   pub calm : OnOk result (i.raised i1 ≡ i.raised i0)
   -- What is opened and read.
-  pub opens : LoadsAndOpens w i w0 w1 i0 i1 root setup result
+  pub opens : LoadsAndOpens w f i w0 w1 o0 i0 i1 root setup result
 
 -- The same of its text over a tree alone, with the refusals of the program. `composes` says whether the worktree composes names.
 pub record Texts {W I : Type 0} (w : WorktreeOf W) (i : InterruptOf I) (composes : Bool) (w0 w1 : W) (i0 i1 : I) (root : List ℕ) (setup : Setup) (result : Result (List ℕ) Refusal) : Type 0 where

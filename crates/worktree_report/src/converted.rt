@@ -108,6 +108,10 @@ fn of_link(
 }
 
 /// Why there is no report, where the walk was refused.
+///
+/// # Errors
+///
+/// Memory was refused.
 pub fn of_walk(alloc: Global, error: Error) -> Result<Refusal, OutOfMemory>
     ensures { IfOk result (λ refusal. refusal ≡ of_walk error) }
 {
@@ -141,6 +145,10 @@ pub fn of_walk(alloc: Global, error: Error) -> Result<Refusal, OutOfMemory>
 }
 
 /// Why there is no report.
+///
+/// # Errors
+///
+/// Memory was refused.
 pub fn of_report(alloc: Global, error: ReportError) -> Result<Refusal, OutOfMemory>
     ensures { IfOk result (λ refusal. refusal ≡ of_report error) }
 {

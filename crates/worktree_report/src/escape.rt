@@ -54,6 +54,10 @@ fn add_byte_in_word(text: &mut Vec<u8>, byte: u8) -> Result<(), OutOfMemory>
 }
 
 /// Adds a path as the report writes it.
+///
+/// # Errors
+///
+/// Memory was refused.
 pub fn add_escaped(text: &mut Vec<u8>, path: &[u8]) -> Result<(), OutOfMemory>
     ensures { OnOk result (text.new.items ≡ text.old.items ++ escaped path.now) }
 {
@@ -64,6 +68,10 @@ pub fn add_escaped(text: &mut Vec<u8>, path: &[u8]) -> Result<(), OutOfMemory>
 }
 
 /// Adds a path as a word of the report has it.
+///
+/// # Errors
+///
+/// Memory was refused.
 pub fn add_escaped_in_word(text: &mut Vec<u8>, path: &[u8]) -> Result<(), OutOfMemory>
     ensures { OnOk result (text.new.items ≡ text.old.items ++ escaped_in_word path.now) }
 {
@@ -122,6 +130,10 @@ fn spelled_byte(first: u8, rest: &[u8]) -> Option<Spelled>
 
 /// The path that a text stands for. None where a backslash is not followed by two lower-case
 /// hexadecimal digits.
+///
+/// # Errors
+///
+/// Memory was refused.
 pub fn unescaped(alloc: Global, text: &[u8]) -> Result<Option<PathText>, OutOfMemory>
     ensures { IfOk result (λ path. path ≡ unescaped text.now) }
 {

@@ -52,7 +52,9 @@ fn stack_of(alloc: Global, root: &[u8], setup: &Setup) -> Result<Stack, OutOfMem
 /// The ignore rules of the work tree at `root`, where the options ask for them. They are made from
 /// the setup alone, and read no rules file yet: so they are in step with any tree and store.
 ///
-/// Fails only where memory is refused.
+/// # Errors
+///
+/// Memory was refused.
 ///
 /// See docs/DECISIONS.md#overrides-and-globals.
 pub fn excludes_of(alloc: Global, root: &[u8], setup: &Setup) -> Result<Option<Stack>, OutOfMemory>

@@ -153,6 +153,7 @@ fn of_own(error: Error) -> Refusal
 }
 
 /// The report of a tree in memory, by a setup.
+/// See docs/DECISIONS.md#generate-out-of-memory.
 fn own_report<I: Interrupt>(
     alloc: Global,
     mut tree: MemoryWorktree,
@@ -201,8 +202,12 @@ fn lines_of(alloc: Global, count: usize, report: &Report) -> Result<Bytes, OutOf
 /// How much there is to report of a tree of so many files in memory: how many lines, how many
 /// directories were read, and how many entries were returned and seen.
 ///
-/// `Interrupted` comes only where the interrupt was raised, which is asked before each directory is
-/// read. No other worktree is asked.
+/// The interrupt is asked before each directory is read. No other worktree is asked.
+///
+/// # Errors
+///
+/// - `Interrupted`: the interrupt was raised, and counted it.
+/// - `OutOfMemory`: memory was refused.
 pub fn generated_text<I: Interrupt>(
     alloc: Global,
     count: usize,

@@ -26,6 +26,8 @@ pub struct Known {
 /// What is known of submodules, and which of them are active.
 ///
 /// `ActiveSpec` names the first value of `submodule.active` that is refused.
+///
+/// See docs/DECISIONS.md#active-always-read.
 fn with_specs(
     alloc: Global,
     modules: Modules,

@@ -268,6 +268,10 @@ pub fn add_outcome(alloc: Global, text: &mut Vec<u8>, outcome: &Outcome) -> Resu
 
 /// The text of a report: a line for each entry, with the words that the options ask for, and a last
 /// line that says how much was walked where they ask for it.
+///
+/// # Errors
+///
+/// Memory was refused.
 pub fn report_bytes(
     alloc: Global,
     report: &Report,

@@ -29,6 +29,7 @@ pub struct Modules {
 }
 
 /// The bytes of the file that a path leads to. What is no file counts as an empty one.
+/// See docs/DECISIONS.md#nul-in-paths.
 fn bytes_at<W: Worktree>(
     alloc: Global,
     worktree: &mut W,

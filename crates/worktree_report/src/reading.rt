@@ -41,8 +41,11 @@ impl From<SetupError> for Refusal {
 
 /// The setup at a path, links followed.
 ///
-/// `Setup` names its first line outside the grammar, 0 where there is no file; `Fault` comes only
-/// where the worktree counted one.
+/// # Errors
+///
+/// - `Setup` names its first line outside the grammar, 0 where there is no file.
+/// - `Fault`: the worktree failed, and counted it.
+/// - `OutOfMemory`: memory was refused.
 pub fn read_setup<W: Worktree>(
     alloc: Global,
     worktree: &mut W,

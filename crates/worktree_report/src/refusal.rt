@@ -50,6 +50,7 @@ pub enum Misread {
 }
 
 /// Why a top call gives no text.
+/// See docs/DECISIONS.md#error-texts.
 #[derive(Debug, Drop)]
 pub enum Refusal {
     /// The interrupt was raised.
@@ -145,6 +146,7 @@ fn walk_line(alloc: Global, word: WalkWord, path: &[u8]) -> Result<Bytes, OutOfM
 }
 
 /// Writes a line, and lets a refusal be.
+/// See docs/DECISIONS.md#line-wants-memory.
 pub fn say<E: Sink>(err: &mut E, line: &[u8])
     ensures said { Says (E.written err.old) (E.written err.new) (E.refusals err.old)
         (E.refusals err.new) line.now }

@@ -73,6 +73,7 @@ pub struct SetupOptions {
 }
 
 /// What a report is made from, beside the worktree.
+/// See docs/DECISIONS.md#shared-blobs.
 #[derive(Debug, Drop)]
 pub struct Setup {
     /// The real path of the git directory of the worktree; `.git` in the worktree root where none

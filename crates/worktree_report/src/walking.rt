@@ -7,6 +7,7 @@ ghost use Rattle.dir_classify.specs.Excludes.{made_with, tells_excludes};
 ghost use Rattle.dir_classify.specs.Layers.{IsLookupIf};
 ghost use Rattle.dir_walk.specs.Distinct.{Ascends};
 ghost use Rattle.dir_walk.specs.Reports.{IsFromRoot, IsReport};
+ghost use Rattle.dir_walk.specs.WalkRefused.{by_default};
 ghost use Rattle.dir_walk.specs.Walks.{Tells, WalksWorktree};
 ghost use Rattle.worktree_report.specs.Asked.{chosen_of, git_dir_or, current_dir_or, asked_of};
 ghost use Rattle.worktree_report.specs.Reported.{Reports, Texts};
@@ -51,7 +52,9 @@ fn options_of(composes: bool, setup: &Setup) -> Options<'_>
 
 /// A look-up of the index where letters compare without regard to their case, as the setup says.
 ///
-/// Fails only where memory is refused.
+/// # Errors
+///
+/// Memory was refused.
 pub fn lookup_of(alloc: Global, setup: &Setup) -> Result<Option<AccelerateLookup>, OutOfMemory>
     ensures lookup { IfOk result (IsLookupIf setup.now.index) }
     ensures given { IfOk result (λ lookup. is_some lookup ≡ setup.now.options.ignore_case) }
@@ -63,6 +66,7 @@ pub fn lookup_of(alloc: Global, setup: &Setup) -> Result<Option<AccelerateLookup
 }
 
 /// The git directory of the work tree at `root`.
+/// See docs/DECISIONS.md#directories-as-bytes.
 fn git_dir_of(alloc: Global, root: &[u8], setup: &Setup) -> Result<PathText, OutOfMemory>
     ensures { IfOk result (λ path. path ≡ git_dir_or root.now setup.now.git_dir) }
 {
@@ -75,6 +79,7 @@ fn git_dir_of(alloc: Global, root: &[u8], setup: &Setup) -> Result<PathText, Out
 }
 
 /// The current directory.
+/// See docs/DECISIONS.md#directories-as-bytes.
 fn current_dir_of<'a>(root: &'a [u8], setup: &'a Setup) -> &'a [u8]
     ensures { result.now ≡ current_dir_or root.now setup.now.current_dir }
 {
@@ -115,7 +120,7 @@ fn walk_with<'a, W: Worktree, F: Find, I: Interrupt>(
     ensures walks_worktree { WalksWorktree W.Worktree F.Find I.Interrupt worktree.old worktree.new
         objects.old objects.new interrupt.old interrupt.new excludes.old excludes.new
         setup.now.options.strategy (asked_of (W.precomposes worktree.old) root.now setup.now)
-        setup.now.root setup.now.depth true (λ r. r.outcome) (λ r. r.root) result }
+        setup.now.root setup.now.depth by_default (λ r. r.outcome) (λ r. r.root) result }
 {
     let options = options_of(worktree.precomposes(), setup);
     let ctx = Context {
@@ -135,7 +140,11 @@ fn walk_with<'a, W: Worktree, F: Find, I: Interrupt>(
 }
 
 /// Walks the work tree at `root` as the setup asks for it. Blobs that ignore rules are mapped to
-/// are looked up in `objects`. It is refused as [`dir_walk::walk::walk`] is.
+/// are looked up in `objects`.
+///
+/// # Errors
+///
+/// Those of [`dir_walk::walk::walk`], for the same causes.
 pub fn walk_by_setup<W: Worktree, F: Find, I: Interrupt>(
     alloc: Global,
     worktree: &mut W,
@@ -166,9 +175,13 @@ pub fn walk_by_setup<W: Worktree, F: Find, I: Interrupt>(
 /// The lines of the report of the work tree at `root`. Blobs that ignore rules are mapped to are
 /// those of the setup.
 ///
-/// `Misread` names what tells of submodules and is outside its grammar, and comes before the walk;
-/// `Walk` has the cause that the walk names; `Fault` comes only where the worktree counted one, and
-/// `Interrupted` where the interrupt counted that it was raised.
+/// # Errors
+///
+/// - `Misread` names what tells of submodules and is outside its grammar; it comes before the walk.
+/// - `Walk` has the cause that the walk names.
+/// - `Fault`: the worktree failed, and counted it.
+/// - `Interrupted`: the interrupt was raised, and counted it.
+/// - `OutOfMemory`: memory was refused.
 pub fn walked_text<W: Worktree, I: Interrupt>(
     alloc: Global,
     worktree: &mut W,

@@ -7,8 +7,9 @@ use worktree_fs::{Fault, Sink};
 
 /// Writes all of the bytes.
 ///
-/// A fault comes where the sink refused a write or took nothing; a front of the bytes is then
-/// written.
+/// # Errors
+///
+/// The sink refused a write or took nothing; a front of the bytes is then written.
 pub fn write_whole<S: Sink>(sink: &mut S, bytes: &[u8]) -> Result<(), Fault>
     ensures whole { OnOk result (Appends (S.written sink.old) (S.written sink.new) bytes.now) }
     ensures part { OnErr result (AppendsPart (S.written sink.old) (S.written sink.new) bytes.now) }

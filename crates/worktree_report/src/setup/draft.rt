@@ -50,6 +50,7 @@ impl Model for Draft {
 }
 
 /// Adds an ignore rule and a line feed.
+/// See docs/DECISIONS.md#any-bytes-are-a-rule.
 fn add_rule(text: &mut Vec<u8>, rule: &[u8]) -> Result<(), OutOfMemory>
     ensures { OnOk result (text.new.items ≡ text.old.items ++ rule.now ++ 10 ∷ []) }
 {

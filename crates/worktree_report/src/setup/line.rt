@@ -57,6 +57,7 @@ fn keyword_line(alloc: Global, fields: Field<'_>) -> Result<Option<SetupLine>, O
 }
 
 /// Whether bytes may be a traversal root.
+/// See docs/DECISIONS.md#root-line.
 fn is_root(rest: &[u8]) -> bool
     ensures { result ≡ is_root rest.now }
 {
