@@ -244,3 +244,9 @@ front-step path other n short =
 pub or_along : (a b c : Bool) → (a || (b || c)) ≡ ((a || b) || c)
 or_along true b c = refl
 or_along false b c = refl
+
+-- what is among others is added again
+pub added-before : (above less old : Bool) → (above ≡ true → less ≡ true → old ≡ true) → old ≡ ((above && less) || old)
+added-before false less old h = refl
+added-before true false old h = refl
+added-before true true old h = h refl refl

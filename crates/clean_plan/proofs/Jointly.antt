@@ -4,7 +4,7 @@ use Rattle.std.proofs.lemmas.Bool.Decides.{eqb_tells}
 use Rattle.std.proofs.lemmas.List.{get_or-take, take-take, take_all}
 use Rattle.gitbase_core.specs.Path.{is_slash, is_top, lies_beneath}
 use Rattle.clean_plan.specs.Above.{IsKnown, IsTarget, fronts, some_above, some_front}
-use Rattle.clean_plan.proofs.Directories.{front-is}
+use Rattle.clean_plan.proofs.Directories.{above-front, front-is}
 
 module _ (m : ℕ) (one other : List ℕ) (in_one : m ≤ length one) (in_other : m ≤ length other) (same : take m one ≡ take m other) where
   same-front : (n : ℕ) → n ≤ m → take n one ≡ take n other
@@ -19,6 +19,14 @@ module _ (m : ℕ) (one other : List ℕ) (in_one : m ≤ length one) (in_other 
       ∙ ap (λ (front : List ℕ). is_top front || is_slash (get_or one n 0)) (same-front n (omega (arith, h)))
       ∙ ap (λ (b : ℕ). is_top (take n other) || is_slash b) (same-byte n h)
       ∙ sym (front-is other n (omega (arith, h, in_other)))
+
+  -- a directory above the one that has fewer bytes is above the other
+  pub shared-above : (d : List ℕ) → lies_beneath d other ≡ true → length d < m → lies_beneath d one ≡ true
+  shared-above d above short =
+      ap (λ (x : List ℕ). lies_beneath x one) (sym (same-front (length d) (omega (arith, short)) ∙ above-front d other above))
+      ∙ same-above (length d) short
+      ∙ ap (λ (x : List ℕ). lies_beneath x other) (above-front d other above)
+      ∙ above
 
   pub same-fronts : (test : List ℕ → Bool) (n : ℕ) → n ≤ m → some_front test n one ≡ some_front test n other
   unfolding fronts

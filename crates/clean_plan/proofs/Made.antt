@@ -131,6 +131,7 @@ module _ {W F I : Type 0} (w : WorktreeOf W) (f : FindOf F) (i : InterruptOf I) 
         tree = asks.tree ∙ keeps.tree;
         faults = omega (arith, keeps.faults, asks.faults);
         list_faults = omega (arith, keeps.list_faults, asks.list_faults);
+        reads = omega (arith, keeps.reads, asks.reads);
         lists = omega (arith, keeps.lists, asks.lists);
         precomposes = asks.precomposes ∙ keeps.precomposes;
       }
@@ -145,7 +146,7 @@ module _ {W F I : Type 0} (w : WorktreeOf W) (f : FindOf F) (i : InterruptOf I) 
           made = Ok r;
           between = wm;
           reported = made;
-          ends = record { asks = asks; reads = reads; by_report = λ t told. tt; refused = stops };
+          ends = record { asks = asks; reads = reads; by_entries = tt; by_report = λ t told. tt; refused = stops };
           complete = λ s tells quiet store_quiet calm valid. memory-alone _ e (λ rose. absurd (omega (arith, rose, quiet, made.worktree.faults))) stops;
           worktree = keeps-then made.worktree asks;
           store = made.store;
@@ -177,7 +178,7 @@ module _ {W F I : Type 0} (w : WorktreeOf W) (f : FindOf F) (i : InterruptOf I) 
           made = Ok r;
           between = wm;
           reported = made;
-          ends = record { asks = asks; reads = reads; by_report = by_report; refused = tt };
+          ends = record { asks = asks; reads = reads; by_entries = (current, is); by_report = by_report; refused = tt };
           complete = λ s tells quiet store_quiet calm valid. tt;
           worktree = keeps-then made.worktree asks;
           store = made.store;

@@ -1,5 +1,5 @@
 -- The fronts of a path, one after another.
-use Rattle.std.proofs.Common.{◌≡◌, ℕ, zero, suc, ◌+◌, ◌<◌, ◌≤◌, ◌⊎◌, inl, inr, List, [], ◌∷◌, ◌++◌, Bool, true, false, cond, ◌||◌, ◌&&◌, length, take, get_or, bytes_eq, eqb, eqb-true, ◌≢◌, refl, sym, ap, subst, ◌∙◌, arith}
+use Rattle.std.proofs.Common.{◌≡◌, ℕ, zero, suc, ◌+◌, ◌<◌, ◌≤◌, ◌⊎◌, inl, inr, List, [], ◌∷◌, ◌++◌, Bool, true, false, cond, ◌||◌, ◌&&◌, length, take, get_or, bytes_eq, eqb, eqb-true, max, ◌≢◌, refl, sym, ap, subst, ◌∙◌, arith}
 use Rattle.std.specs.Prelude.{nat_lt, if◌then◌else◌}
 use Rattle.std.specs.Cmp.Lexicographic.{same_text}
 use Rattle.std.proofs.lemmas.Bool.{cases_lt, lt-ltb, ltb-true, true≢false}
@@ -8,7 +8,7 @@ use Rattle.std.proofs.lemmas.Cmp.{nat_list_eq_equiv}
 use Rattle.std.proofs.lemmas.List.{length-take-le, take_more}
 use Rattle.gitbase_core.specs.Path.{is_empty, is_path_prefix, is_slash, is_top, lies_beneath}
 use Rattle.clean_plan.specs.Above.{IsTarget, fronts, reach, some_above, some_front}
-use Rattle.clean_plan.proofs.Directories.{above-longer, above-same, above-shorter, above-then, front-is, no-front, none-front}
+use Rattle.clean_plan.proofs.Directories.{above-longer, above-same, above-shorter, above-then, front-is, no-front, none-front, some-above}
 
 more : (n : ℕ) → suc n ≡ n + 1
 more n = omega arith
@@ -143,3 +143,39 @@ reach-is test (suc n) path d short above = go (lies_beneath front path) (test fr
         no-and true r = refl
         no-and false r = refl
     go false t e f more = more
+
+-- where none passes that has some number of bytes or more
+pub reach-begun : (test : List ℕ → Bool) (path : List ℕ) (begin n : ℕ) → n ≤ length path
+    → ((d : List ℕ) → lies_beneath d path ≡ true → begin ≤ length d → length d < n → test d ≡ false) → reach test n path ≤ begin
+unfolding reach
+reach-begun test path begin zero short none = omega arith
+reach-begun test path begin (suc n) short none =
+    go (lies_beneath (take n path) path) (test (take n path)) refl refl (reach-begun test path begin n (omega (arith, short)) (λ d above long less. none d above long (omega (arith, less))))
+  where
+    long : length (take n path) ≡ n
+    long = length-take-le n path (omega (arith, short))
+
+    go : (l t : Bool) → lies_beneath (take n path) path ≡ l → test (take n path) ≡ t → reach test n path ≤ begin → cond (l && t) (suc n) (reach test n path) ≤ begin
+    go true true e f h = by (cases_lt n begin)
+      where
+        by : (n < begin) ⊎ (begin ≤ n) → suc n ≤ begin
+        by (inl less) = omega (arith, less)
+        by (inr least) = absurd (true≢false (sym f ∙ none (take n path) e (omega (arith, least, long)) (omega (arith, long))))
+    go true false e f h = h
+    go false t e f h = h
+
+-- the same beside a number that is no greater
+pub reach-longer : (c : Bool) (begin n reached : ℕ) → begin ≤ n → (if c then n + 1 else max begin reached) ≡ max begin (if c then n + 1 else reached)
+reach-longer true begin n reached h = omega (arith, h)
+reach-longer false begin n reached h = refl
+
+-- a directory above a path that passes has fewer bytes
+pub reach-passes : (test : List ℕ → Bool) (path d : List ℕ) → lies_beneath d path ≡ true → reach test (length path) path ≤ length d → test d ≡ false
+reach-passes test path d above long = go (test d) refl
+  where
+    go : (b : Bool) → test d ≡ b → test d ≡ false
+    go false e = e
+    go true e =
+        let found : some_front (λ x. is_path_prefix d x && test x) (length path) path ≡ true =
+        some-above (λ x. is_path_prefix d x && test x) path d above (ap (λ (b : Bool). b && test d) (prefix-self d) ∙ e) in
+        absurd (true≢false (sym (reach-is test (length path) path d (omega arith) above ∙ found) ∙ less-false (length d) (reach test (length path) path) long))

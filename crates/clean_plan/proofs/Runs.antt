@@ -1,7 +1,6 @@
 -- The parts of the top call, put together.
-use Rattle.std.proofs.Common.{◌≡◌, ◌↔◌, ◌≤◌, ℕ, List, Bool, true, inl, inr, Option, Some, None, Result, Ok, Err, IfOk, IfErr, OnOk, IsErrOf, ap, refl, sym, ◌∙◌, subst, option_map, arith}
+use Rattle.std.proofs.Common.{◌≡◌, ◌≤◌, ℕ, List, Bool, true, Option, Some, None, Result, Ok, Err, IfOk, IfErr, OnOk, IsErrOf, refl, ◌∙◌, subst}
 use Rattle.worktree_fs.specs.declared.interrupt.Interrupt.{Ghosts as InterruptOf}
-use Rattle.worktree_fs.specs.declared.sink.Sink.{Ghosts as SinkOf}
 use Rattle.worktree_fs.specs.declared.worktree.Worktree.{Ghosts as WorktreeOf}
 use Rattle.worktree_fs.specs.Causes.{Increased, Incremented, NotIncreased}
 use Rattle.worktree_fs.specs.Tree.{Names, look}
@@ -10,12 +9,11 @@ use Rattle.worktree_report.specs.declared.refusal.Refusal.TheVariants as refusal
 use Rattle.worktree_report.specs.declared.setup.Setup.{Setup}
 use Rattle.worktree_report.specs.declared.setup.SetupOptions.{SetupOptions}
 use Rattle.worktree_report.specs.Converted.{IsOfReading}
-use Rattle.worktree_report.specs.Ends.{Ends}
-use Rattle.worktree_report.specs.Run.{AsksNothing, HasCauses, SetupRefuses}
+use Rattle.worktree_report.specs.Asked.{WorksAt}
+use Rattle.worktree_report.specs.Run.{SetupRefuses}
 use Rattle.worktree_report.specs.SetupAt.{setup_at}
 use Rattle.clean_plan.specs.Words.{Request}
-use Rattle.worktree_report.specs.Written.{Appends}
-use Rattle.worktree_report.proofs.Runs.{HasCauses-fault, HasCauses-given, HasCauses-memory, HasCauses-unread, HasCauses-walked, Quiet-later, Rose-before, ends_in_two, ends_in_zero, ends_of_usage}
+use Rattle.worktree_report.proofs.Runs.{HasCauses-refused, HasCauses-unread, Keeps-made, Keeps-unread, Quiet-later}
 use Rattle.clean_plan.specs.Prepared.{prepared}
 use Rattle.clean_plan.specs.Safe.{IsSpared}
 use Rattle.clean_plan.specs.Run as top
@@ -42,6 +40,19 @@ outside-git setup (Ok text) is =
     }
 outside-git setup (Err refusal) is = tt
 
+-- what the plan takes is what is asked for, with the setup
+works-made : (composes : Bool) (t : Names) (request : Request) (setup : Setup) (answer : Result (List ℕ) Refusal) (questions0 questions1 reads0 reads reads1 : ℕ)
+    → setup_at (look t request.places.setup true) ≡ Ok setup → Incremented reads0 reads
+    → OnOk answer (WorksAt composes t request.places.root (top.made_by request.finding setup) questions0 questions1 reads reads1)
+    → OnOk answer (top.PlanWorks composes t questions0 questions1 reads0 reads1 request)
+works-made composes t request setup (Ok text) questions0 questions1 reads0 reads reads1 read once works =
+    record {
+      setup = setup;
+      read = read;
+      works = subst (λ (n : ℕ). WorksAt composes t request.places.root (top.made_by request.finding setup) questions0 questions1 n reads1) once works;
+    }
+works-made composes t request setup (Err refusal) questions0 questions1 reads0 reads reads1 read once works = tt
+
 module _ {W I : Type 0} {w : WorktreeOf W} {i : InterruptOf I} {w0 w1 : W} {i0 : I} {request : Request} where
   -- the setup is not read
   pub AnswersClean-unread : (refusal : Refusal) → IsOfReading refusal
@@ -54,25 +65,10 @@ module _ {W I : Type 0} {w : WorktreeOf W} {i : InterruptOf I} {w0 w1 : W} {i0 :
         gives = λ t told quiet. tt;
         by_report = λ t told. tt;
         outside_git = tt;
+        works = λ t told quiet. tt;
         causes = HasCauses-unread w i w0 w1 i0 i0 (top.made_by request.finding) request.places refusal of outside fault once lists refl;
-        keeps = record { tree = tree; faults = faults; list_faults = omega (arith, listed); list_faults_kept = tt; lists = omega (arith, lists); precomposes = composes; questions = omega arith; raised = omega arith; calm = tt };
+        keeps = Keeps-unread refusal tree faults listed lists composes;
       }
-
-module _ {W I : Type 0} (w : WorktreeOf W) (i : InterruptOf I) (w0 w1 w2 : W) (i0 i1 : I) (request : Request) where
-  causes-made : (setup : Setup) (answer : Result (List ℕ) Refusal)
-      → ((t : Names) → w.told w0 ≡ Some t → setup_at (look t request.places.setup true) ≡ Ok setup) → w.told w1 ≡ w.told w0 → w.faults w0 ≤ w.faults w1 → Incremented (w.reads w0) (w.reads w1)
-      → w.lists w1 ≡ w.lists w0 → IfErr answer (top.RefusesText w i (w.precomposes w0) w1 w2 i0 i1 request.places.root (top.made_by request.finding setup)) → HasCauses w i w0 w2 i0 i1 (top.made_by request.finding) request.places answer
-  causes-made setup (Ok text) read tree faults once lists refused = HasCauses-given w i w0 w2 i0 i1 (top.made_by request.finding) request.places text
-  causes-made setup (Err refusal) read tree faults once lists refused =
-      elim refused [
-        | inl memory ↦ subst (λ (r : Refusal). HasCauses w i w0 w2 i0 i1 (top.made_by request.finding) request.places (Err r)) (sym memory) (HasCauses-memory w i w0 w2 i0 i1 (top.made_by request.finding) request.places)
-        | inr other ↦ elim other [
-          | inl failed ↦ subst (λ (r : Refusal). HasCauses w i w0 w2 i0 i1 (top.made_by request.finding) request.places (Err r)) (sym failed.0)
-              (HasCauses-fault w i w0 w2 i0 i1 (top.made_by request.finding) request.places (Rose-before _ _ _ faults failed.1)
-              (inr (λ t told. record { setup = setup; read = read t told; known = failed.2 t (tree ∙ told) })))
-          | inr texts ↦ HasCauses-walked w i w0 w1 w2 i0 i1 (top.made_by request.finding) request.places setup (Err refusal) read tree faults once lists texts
-        ]
-      ]
 
 module _ {W I : Type 0} {w : WorktreeOf W} {i : InterruptOf I} {w0 w1 w2 : W} {i0 i1 : I} {request : Request} where
   -- the plan is made by the setup that was read, prepared
@@ -90,44 +86,23 @@ module _ {W I : Type 0} {w : WorktreeOf W} {i : InterruptOf I} {w0 w1 w2 : W} {i
         gives = λ t told quiet. output-made _ t request setup answer (read t told) (texts.gives t (tree ∙ told) (Quiet-later _ _ _ faults quiet));
         by_report = λ t told. by-report-made _ t request setup answer (read t told) (texts.by_report t (tree ∙ told));
         outside_git = outside-git (top.made_by request.finding setup) answer texts.spares;
-        causes = causes-made w i w0 w1 w2 i0 i1 request setup answer read tree faults once lists texts.refused;
-        keeps =
-            record {
-              tree = texts.worktree.tree ∙ tree;
-              faults = omega (arith, faults, texts.worktree.faults);
-              list_faults = omega (arith, listed, texts.worktree.list_faults);
-              list_faults_kept = subst (λ (n : ℕ). OnOk answer (w.list_faults w2 ≡ n)) listed texts.listed;
-              lists = omega (arith, lists, texts.worktree.lists);
-              questions = texts.interrupt.questions;
-              precomposes = texts.worktree.precomposes ∙ composes;
-              raised = texts.interrupt.raised;
-              calm = texts.calm;
-            };
+        works = λ t told quiet. works-made _ t request setup answer _ _ _ _ _ (read t told) once (texts.works t (tree ∙ told) (Quiet-later _ _ _ faults quiet));
+        causes = HasCauses-refused w i w0 w1 w2 i0 i1 (top.made_by request.finding) request.places setup answer read tree faults once lists texts.refused;
+        keeps = Keeps-made answer tree faults listed lists composes texts.worktree texts.interrupt texts.listed texts.calm;
       }
-
--- ---- what the words ask for
-
--- the same of what is asked for by another name
-pub Answers-named : {W I : Type 0} (w : WorktreeOf W) (i : InterruptOf I) (w0 w1 : W) (i0 i1 : I) (answer : Result (List ℕ) Refusal) {found asked : Option Request}
-    → found ≡ asked → top.Answers w i w0 w1 i0 i1 found answer → top.Answers w i w0 w1 i0 i1 asked answer
-Answers-named w i w0 w1 i0 i1 answer e answers = subst (λ (x : Option Request). top.Answers w i w0 w1 i0 i1 x answer) e answers
-
--- what is asked for, where it is known what was found
-pub asked-is : {C : Type 0} (f : C → Request) (words : List (List ℕ)) (before now : Bool) (found asked : Option C) → option_map f found ≡ top.asked now words → now ≡ before → found ≡ asked
-    → option_map f asked ≡ top.asked before words
-asked-is f words before now found asked e same is = ap (option_map f) (sym is) ∙ e ∙ ap (λ (x : Bool). top.asked x words) same
 
 -- ---- what follows from the status
 
 module _ {W I : Type 0} (w : WorktreeOf W) (i : InterruptOf I) (w0 w1 : W) (i0 i1 : I) where
-  text_asked-is : (asked : Option Request) (text : List ℕ) → top.Answers w i w0 w1 i0 i1 asked (Ok text)
+  -- a text is the one that is asked for
+  pub text_asked-is : (asked : Option Request) (text : List ℕ) → top.Answers w i w0 w1 i0 i1 asked (Ok text)
       → (t : Names) → w.told w0 ≡ Some t → NotIncreased (w.faults w0) (w.faults w1) → top.IsOutputAt (w.precomposes w0) t asked text
   text_asked-is None text answers t told quiet = absurd (let is = answers.usage in cc)
   text_asked-is (Some request) text answers t told quiet = answers.gives t told quiet
 
-  asks_nothing : (asked : Option Request) (answer : Result (List ℕ) Refusal) → top.Answers w i w0 w1 i0 i1 asked answer → IsErrOf answer refusals.Usage → asked ≡ None
-  asks_nothing None answer answers is = refl
-  asks_nothing (Some request) answer answers is = absurd (answers.causes.no_usage is)
+  -- a request is not refused for its words
+  pub no_usage : (request : Request) (answer : Result (List ℕ) Refusal) → top.AnswersClean w i w0 w1 i0 i1 request answer → ¬ IsErrOf answer refusals.Usage
+  no_usage request answer answers = answers.causes.no_usage
 
   -- for what can be had, where nothing failed or was raised, only memory may be wanted
   pub wants_memory_alone : (asked : Option Request) (answer : Result (List ℕ) Refusal) → top.Answers w i w0 w1 i0 i1 asked answer
@@ -135,25 +110,3 @@ module _ {W I : Type 0} (w : WorktreeOf W) (i : InterruptOf I) (w0 w1 : W) (i0 i
       → IfErr answer (λ refusal. refusal ≡ refusals.OutOfMemory)
   wants_memory_alone None answer answers t told quiet calm valid = absurd valid
   wants_memory_alone (Some request) answer answers t told quiet calm valid = answers.causes.complete t told quiet calm valid
-
-module _ {W I S E : Type 0} (w : WorktreeOf W) (i : InterruptOf I) (s : SinkOf S) (e : SinkOf E) (w0 w1 : W) (i0 i1 : I) (s0 s1 : S) (e0 e1 : E) (usage : List ℕ) (asked : Option Request) (status : ℕ) where
-  -- what is written with 0 is what is asked for
-  pub run_text : (answer : Result (List ℕ) Refusal) → top.Answers w i w0 w1 i0 i1 asked answer → Ends s e s0 s1 e0 e1 usage answer status
-      → (t : Names) → w.told w0 ≡ Some t → NotIncreased (w.faults w0) (w.faults w1) → status ≡ 0
-      → (text : List ℕ) × top.IsOutputAt (w.precomposes w0) t asked text × Appends (s.written s0) (s.written s1) text
-  run_text answer answers ends t told quiet zero =
-      let wrote = ends_in_zero s e s0 s1 e0 e1 usage status answer ends zero in
-      (wrote.0, text_asked-is w i w0 w1 i0 i1 asked wrote.0 (subst (λ a. top.Answers w i w0 w1 i0 i1 asked a) wrote.1 answers) t told quiet, wrote.2)
-
-  -- the status is 2 exactly where the words ask for nothing
-  pub run_usage : (answer : Result (List ℕ) Refusal) → top.Answers w i w0 w1 i0 i1 asked answer → Ends s e s0 s1 e0 e1 usage answer status → (status ≡ 2) ↔ (asked ≡ None)
-  run_usage answer answers ends = (
-    λ two. asks_nothing w i w0 w1 i0 i1 asked answer answers (ends_in_two s e s0 s1 e0 e1 usage status answer ends two),
-    λ none. ends_in_usage answer (nothing_is (subst (λ c. top.Answers w i w0 w1 i0 i1 c answer) none answers)) ends,
-  )
-    where
-      nothing_is : AsksNothing w0 w1 i0 i1 answer → answer ≡ Err refusals.Usage
-      nothing_is nothing = nothing.usage
-
-      ends_in_usage : (answer : Result (List ℕ) Refusal) → answer ≡ Err refusals.Usage → Ends s e s0 s1 e0 e1 usage answer status → status ≡ 2
-      ends_in_usage answer is ends = ends_of_usage s e s0 s1 e0 e1 usage status (subst (λ a. Ends s e s0 s1 e0 e1 usage a status) is ends)

@@ -1,8 +1,8 @@
 -- What is known of the entries of a report, one entry after another.
-use Rattle.std.proofs.Common.{◌≡◌, ℕ, ◌+◌, ◌<◌, List, [], ◌∷◌, ◌++◌, Bool, true, false, cond, not, ◌||◌, ◌&&◌, length, take, get_or, map, filter, refl, sym, ap, subst, ◌∙◌}
+use Rattle.std.proofs.Common.{◌≡◌, ◌⊎◌, inl, inr, ℕ, ◌+◌, ◌<◌, ◌≤◌, min, max, List, [], ◌∷◌, ◌++◌, Bool, true, false, Result, Ok, Err, IfOk, OnOk, cond, not, ◌||◌, ◌&&◌, length, take, get_or, map, filter, refl, sym, ap, subst, ◌∙◌}
 use Rattle.std.specs.Prelude.{nat_lt}
 use Rattle.std.specs.List.{list_any}
-use Rattle.std.proofs.lemmas.Bool.{lt-ltb}
+use Rattle.std.proofs.lemmas.Bool.{cases_lt, lt-ltb, ltb-true, true≢false}
 use Rattle.std.proofs.lemmas.List.{map-append, take_more}
 use Rattle.gitbase_core.specs.Path.{lies_beneath}
 use Rattle.dir_classify.specs.declared.entry.Entry.{Entry}
@@ -13,9 +13,10 @@ use Rattle.clean_plan.specs.Kept.{takes_out}
 use Rattle.clean_plan.specs.Paths.{is_among}
 use Rattle.clean_plan.specs.Plans.{entries_of, entry_of, path_of, removable_paths}
 use Rattle.clean_plan.specs.Removable.{is_removable}
-use Rattle.clean_plan.specs.Sifted.{AreSifted, with_path}
+use Rattle.clean_plan.specs.Sifted.{AreSifted, IsLooked, with_path}
 use Rattle.clean_plan.specs.Whole.{is_taken_out, spoils}
 use Rattle.clean_plan.proofs.Directories.{above-shorter}
+use Rattle.clean_plan.proofs.Jointly.{shared-above}
 use Rattle.clean_plan.proofs.Reached.{reach-is}
 use Rattle.std.proofs.Common.{arith}
 
@@ -36,6 +37,72 @@ pub spoils-other : (asked : Asked) (e : Entry) (d : List ℕ) → is_removable a
 spoils-other asked e d may =
     spoils-by (is_removable asked e) (lies_beneath d e.rela_path) (nat_lt (length d) (length e.rela_path)) (is_taken_out asked d e.rela_path)
     (λ above. lt-ltb (length d) (length e.rela_path) (above-shorter d e.rela_path above) ∙ sym (ap (λ (b : Bool). not b || is_taken_out asked d e.rela_path) may))
+
+-- ---- what is known of the last path
+
+module _ (out : List ℕ → Bool) (spoiled : List (List ℕ)) (last path : List ℕ) (added : ℕ) (is : IsLooked out spoiled last added)
+    (shared : ℕ) (in_last : shared ≤ length last) (in_path : shared ≤ length path) (same : take shared last ≡ take shared path) (begin : ℕ) (least : begin ≡ min added shared) where
+  pub begun-spoiled : (d : List ℕ) → lies_beneath d path ≡ true → length d < begin → is_among d spoiled ≡ true
+  begun-spoiled d above short =
+      is.spoiled_below d (shared-above shared last path in_last in_path same d above (omega (arith, least, short))) (omega (arith, least, short))
+
+  pub begun-out : (d : List ℕ) → lies_beneath d path ≡ true → begin ≤ length d → length d < shared → out d ≡ false
+  begun-out d above long short =
+      is.none_out d (shared-above shared last path in_last in_path same d above short) (omega (arith, least, long, short))
+
+-- what it spoils is spoiled, where the directories with fewer bytes were spoiled before
+spoiled-cases : (above less less_now old : Bool) → (above ≡ true → (less ≡ less_now) ⊎ (old ≡ true)) → ((above && less) || old) ≡ ((above && less_now) || old)
+spoiled-cases false less less_now old h = refl
+spoiled-cases true less less_now old h = go (h refl)
+  where
+    or_true : (b : Bool) → (b || true) ≡ true
+    or_true true = refl
+    or_true false = refl
+
+    go : (less ≡ less_now) ⊎ (old ≡ true) → (less || old) ≡ (less_now || old)
+    go (inl e) = ap (λ (b : Bool). b || old) e
+    go (inr e) = rw e (or_true less ∙ sym (or_true less_now))
+
+same-less : (a b c : ℕ) → b ≤ a → nat_lt a (max b c) ≡ nat_lt a c
+same-less a b c h = go (nat_lt a (max b c)) (nat_lt a c) refl refl
+  where
+    go : (x y : Bool) → nat_lt a (max b c) ≡ x → nat_lt a c ≡ y → x ≡ y
+    go true true e f = refl
+    go false false e f = refl
+    go true false e f = let less = ltb-true a (max b c) e in absurd (true≢false (sym (lt-ltb a c (omega (arith, less, h))) ∙ f))
+    go false true e f = let less = ltb-true a c f in absurd (true≢false (sym (lt-ltb a (max b c) (omega (arith, less))) ∙ e))
+
+pub begun-reach : (spoiled : List (List ℕ)) (path : List ℕ) (begin reached : ℕ) → ((d : List ℕ) → lies_beneath d path ≡ true → length d < begin → is_among d spoiled ≡ true)
+    → (d : List ℕ) → ((lies_beneath d path && nat_lt (length d) (max begin reached)) || is_among d spoiled) ≡ ((lies_beneath d path && nat_lt (length d) reached) || is_among d spoiled)
+begun-reach spoiled path begin reached before d =
+    spoiled-cases (lies_beneath d path) (nat_lt (length d) (max begin reached)) (nat_lt (length d) reached) (is_among d spoiled) (λ above. by above (cases_lt (length d) begin))
+  where
+    by : lies_beneath d path ≡ true → (length d < begin) ⊎ (begin ≤ length d) → (nat_lt (length d) (max begin reached) ≡ nat_lt (length d) reached) ⊎ (is_among d spoiled ≡ true)
+    by above (inl less) = inr (before d above less)
+    by above (inr least) = inl (same-less (length d) begin reached least)
+
+-- what is known of this path, once it was looked at
+pub looked-now : (out : List ℕ → Bool) (old now : List (List ℕ)) (path : List ℕ) (reach : ℕ) → reach ≤ length path
+    → ((d : List ℕ) → is_among d now ≡ ((lies_beneath d path && nat_lt (length d) reach) || is_among d old))
+    → ((d : List ℕ) → lies_beneath d path ≡ true → reach ≤ length d → out d ≡ false) → IsLooked out now path reach
+looked-now out old now path reach within spoiled none =
+    record {
+      within = within;
+      spoiled_below = λ d above short. spoiled d ∙ ap (λ (b : Bool). (b && nat_lt (length d) reach) || is_among d old) above ∙ ap (λ (b : Bool). b || is_among d old) (lt-ltb (length d) reach short);
+      none_out = none;
+    }
+
+-- the same of what is answered
+pub looked-ok : {X E : Type 0} (path_of : X → List ℕ) (added_of : X → ℕ) (out : List ℕ → Bool) (old now : List (List ℕ)) (path : List ℕ) (reach : ℕ) (result : Result X E) → reach ≤ length path
+    → ((d : List ℕ) → OnOk result (is_among d now ≡ ((lies_beneath d path && nat_lt (length d) reach) || is_among d old)))
+    → IfOk result (λ x. path_of x ≡ path) → IfOk result (λ x. added_of x ≡ reach)
+    → ((d : List ℕ) → lies_beneath d path ≡ true → reach ≤ length d → out d ≡ false) → IfOk result (λ x. IsLooked out now (path_of x) (added_of x))
+looked-ok path_of added_of out old now path reach (Ok x) within spoiled at added none =
+    subst (λ (p : List ℕ). IsLooked out now p (added_of x)) (sym at) (subst (λ (n : ℕ). IsLooked out now path n) (sym added) (looked-now out old now path reach within spoiled none))
+looked-ok path_of added_of out old now path reach (Err e) within spoiled at added none = tt
+
+pub looked-first : (out : List ℕ → Bool) (spoiled : List (List ℕ)) → IsLooked out spoiled [] 0
+looked-first out spoiled = record { within = omega arith; spoiled_below = λ d above short. absurd (omega (arith, short)); none_out = λ d above long. absurd (let short = above-shorter d [] above in omega (arith, short)) }
 
 -- ---- one entry more
 

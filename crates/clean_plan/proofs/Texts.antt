@@ -1,5 +1,5 @@
 -- The text of a plan, or the refusal of the program that stands for that of a plan.
-use Rattle.std.proofs.Common.{◌≡◌, ℕ, List, inl, inr, Result, Ok, Err, IsErrOf, Option, Some, ap, refl, sym, ◌∙◌, subst, arith}
+use Rattle.std.proofs.Common.{◌≡◌, ℕ, ◌≤◌, List, inl, inr, Result, Ok, Err, IsErrOf, Option, Some, ap, refl, sym, ◌∙◌, subst, arith}
 use Rattle.gitbase_core.specs.declared.find.Find.{Ghosts as FindOf}
 use Rattle.worktree_fs.specs.declared.interrupt.Interrupt.{Ghosts as InterruptOf}
 use Rattle.worktree_fs.specs.declared.worktree.Worktree.{Ghosts as WorktreeOf}
@@ -11,12 +11,13 @@ use Rattle.worktree_report.specs.declared.setup.Setup.{Setup}
 use Rattle.worktree_report.specs.declared.error.ReportError.{ReportError}
 use Rattle.worktree_report.specs.declared.error.ReportError.TheVariants as reports
 use Rattle.worktree_report.specs.declared.report.Report.{Report}
-use Rattle.worktree_report.specs.Asked.{read_in}
+use Rattle.worktree_report.specs.Asked.{read_in, WorksAt}
 use Rattle.worktree_report.specs.Converted as converted
+use Rattle.worktree_report.specs.Lines.{text_with}
 use Rattle.worktree_report.specs.Orderly.{IsOrderly}
-use Rattle.worktree_report.specs.Reported.{MakesReport, Texts}
+use Rattle.worktree_report.specs.Reported.{MakesReport, RefusesText, Texts}
 use Rattle.worktree_report.proofs.Runs.{Rose-before}
-use Rattle.worktree_report.proofs.Answered.{told-blobs, Texts-refused}
+use Rattle.worktree_report.proofs.Answered.{told-blobs, Texts-ok, Texts-refused}
 use Rattle.clean_plan.specs.declared.error.CleanError.{CleanError}
 use Rattle.clean_plan.specs.declared.error.CleanError.TheVariants as errors
 use Rattle.clean_plan.specs.declared.outcome.Plan.{Plan}
@@ -42,6 +43,21 @@ module _ {W F I : Type 0} {w : WorktreeOf W} {f : FindOf F} {i : InterruptOf I} 
       }
   by-report what (Err e) between w1 plan text reported ends spared lines t told = absurd (let is = ends.0 in cc)
 
+-- what did not rise later on did not rise before
+quiet_before : (before middle now : ℕ) → middle ≤ now → NotIncreased before now → NotIncreased before middle
+quiet_before before middle now later quiet = omega arith
+
+module _ {W F I : Type 0} {w : WorktreeOf W} {f : FindOf F} {i : InterruptOf I} {w0 : W} {o0 o1 : F} {i0 i1 : I} {root : List ℕ} {setup : Setup} where
+  -- a plan takes what its report takes
+  works-by : (what : What) (made : Result Report ReportError) (between w1 : W) (plan : Plan) → MakesReport w f i w0 between o0 o1 i0 i1 root setup made
+      → EndsAs w between w1 root setup what made (Ok plan) → f.holds o0 ≡ Some setup.blobs → (t : Names) → w.told w0 ≡ Some t → NotIncreased (w.faults w0) (w.faults w1)
+      → WorksAt (w.precomposes w0) t root setup (i.questions i0) (i.questions i1) (w.reads w0) (w.reads w1)
+  works-by what (Ok r) between w1 plan reported ends held t told quiet =
+      let texts : Texts w i (w.precomposes w0) w0 between i0 i1 root setup (Ok (text_with setup.options r)) = Texts-ok r (text_with setup.options r) reported held refl in
+      subst (λ (n : ℕ). WorksAt (w.precomposes w0) t root setup (i.questions i0) (i.questions i1) (w.reads w0) n) (sym ends.reads)
+      (texts.works t told (quiet_before _ _ _ ends.asks.faults quiet))
+  works-by what (Err e) between w1 plan reported ends held t told quiet = absurd (let is = ends.0 in cc)
+
 -- a refused report is refused alike, with a plan or without
 same_refusal : (e : ReportError) → top.of_clean (of_report e) ≡ converted.of_report e
 same_refusal (reports.Config at line) = refl
@@ -58,7 +74,7 @@ module _ {W F I : Type 0} {w : WorktreeOf W} {f : FindOf F} {i : InterruptOf I} 
   -- why there is no text, by the report that was made or refused
   refused-text : (what : What) (made : Result Report ReportError) (between : W) (e : CleanError) (refusal : Refusal) → MakesReport w f i w0 between o0 o1 i0 i1 root setup made
       → EndsAs w between w1 root setup what made (Err e) → f.holds o0 ≡ Some setup.blobs → NotIncreased (f.faults o0) (f.faults o1) → refusal ≡ top.of_clean e
-      → top.RefusesText w i (w.precomposes w0) w0 w1 i0 i1 root setup refusal
+      → RefusesText w i (w.precomposes w0) w0 w1 i0 i1 root setup refusal
   refused-text what (Ok r) between (errors.Report e) refusal reported ends held kept same = absurd ends.refused
   refused-text what (Ok r) between errors.Fault refusal reported ends held kept same = inr (inl (same, Rose-before _ _ _ reported.worktree.faults ends.refused, λ t told. (reported.orderly.known, reported.orderly.known_is t told)))
   refused-text what (Ok r) between errors.OutOfMemory refusal reported ends held kept same = inl same
@@ -75,6 +91,7 @@ module _ {W F I : Type 0} {w : WorktreeOf W} {f : FindOf F} {i : InterruptOf I} 
         gives = λ t told quiet. record { plan = plan; plan_is = made.gives (read_in t setup) (told-blobs setup held told) quiet; text_is = lines };
         by_report = by-report what made.made made.between w1 plan text made.reported made.ends made.spares lines;
         spares = record { paths = plan.paths.items; spared = made.spares; text_is = lines };
+        works = λ t told quiet. works-by what made.made made.between w1 plan made.reported made.ends held t told quiet;
         refused = tt;
         worktree = made.worktree;
         interrupt = made.interrupt;
@@ -89,6 +106,7 @@ module _ {W F I : Type 0} {w : WorktreeOf W} {f : FindOf F} {i : InterruptOf I} 
         gives = λ t told quiet. tt;
         by_report = λ t told. tt;
         spares = tt;
+        works = λ t told quiet. tt;
         refused = inl refl;
         worktree = made.worktree;
         interrupt = made.interrupt;
@@ -104,6 +122,7 @@ module _ {W F I : Type 0} {w : WorktreeOf W} {f : FindOf F} {i : InterruptOf I} 
         gives = λ t told quiet. tt;
         by_report = λ t told. tt;
         spares = tt;
+        works = λ t told quiet. tt;
         refused = refused-text what made.made made.between e refusal made.reported made.ends held kept same;
         worktree = made.worktree;
         interrupt = made.interrupt;

@@ -1,5 +1,5 @@
 -- What making a plan says: of the plan or the refusal, and of what stays.
-use Rattle.std.specs.Prelude.{◌≡◌, ℕ, List, Bool, Some, Result, Ok, Err, IfOk, IfErr, OnOk}
+use Rattle.std.specs.Prelude.{◌≡◌, ℕ, List, Bool, Option, Some, Result, Ok, Err, IfOk, IfErr, OnOk}
 use Rattle.gitbase_core.specs.declared.find.Find.{Ghosts as FindOf}
 use Rattle.worktree_fs.specs.declared.interrupt.Interrupt.{Ghosts as InterruptOf}
 use Rattle.worktree_fs.specs.declared.worktree.Worktree.{Ghosts as WorktreeOf}
@@ -44,13 +44,20 @@ pub record IsPlanAt (composes : Bool) (s : Sources) (root : List ℕ) (setup : S
 abbrev pub IsPlanBy : What → Names → List ℕ → Setup → Report → Plan → Type 0
 IsPlanBy what t root setup report plan = IsPlan (asked_of what t root setup report) (entries_of report.entries) plan.paths.items
 
+-- whatever a worktree tells, it is the plan by the entries of a report of the work tree at `root`, wherever the current directory is
+abbrev pub IsPlanByEntries : What → List ℕ → Setup → Report → Plan → Type 0
+IsPlanByEntries what root setup report plan = (current : Option (List ℕ))
+    × IsPlan (asked_in what setup (start_of root report.root) current) (entries_of report.entries) plan.paths.items
+
 -- After the report was made, or refused, which left the worktree as `between`: a refusal of the report is that of the plan, and
 -- nothing was asked after it; else only the real path was asked for, and a fault comes only where the worktree counted one there.
--- Over a told tree, whatever failed, a plan is the one by the entries of that report, and by where the current directory is there.
+-- A plan is the one by the entries of that report, over a worktree that tells nothing too; and over a told tree, whatever failed,
+-- it is that by where the current directory is there.
 pub record AsksAfter {W : Type 0} (w : WorktreeOf W) (between w1 : W)
     (root : List ℕ) (setup : Setup) (what : What) (report : Report) (result : Result Plan CleanError) : Type 0 where
   pub asks : Asks w between w1
   pub reads : w.reads w1 ≡ w.reads between
+  pub by_entries : IfOk result (IsPlanByEntries what root setup report)
   pub by_report : (t : Names) → w.told between ≡ Some t → IfOk result (IsPlanBy what t root setup report)
   pub refused : IfErr result (StopsAsking (Increased (w.faults between) (w.faults w1)))
 

@@ -1,23 +1,22 @@
 -- What the top call gives, and why it gives nothing.
-use Rattle.std.specs.Prelude.{◌≡◌, ◌⊎◌, ◌++◌, ◌∷◌, [], ℕ, List, Bool, true, false, codes, Option, Some, None, Ok, Result, Err, IfOk, IfErr, OnOk}
+use Rattle.std.specs.Prelude.{◌≡◌, ◌++◌, ◌∷◌, [], ℕ, List, Bool, true, false, codes, Option, Some, None, Ok, Result, IfOk, IfErr, OnOk}
 use Rattle.std.specs.List.{flat_map}
 use Rattle.gitbase_core.specs.Path.{is_top}
 use Rattle.worktree_fs.specs.declared.interrupt.Interrupt.{Ghosts as InterruptOf}
 use Rattle.worktree_fs.specs.declared.worktree.Worktree.{Ghosts as WorktreeOf}
-use Rattle.worktree_fs.specs.Causes.{NotIncreased, Increased}
+use Rattle.worktree_fs.specs.Causes.{NotIncreased, next}
 use Rattle.worktree_fs.specs.Tree.{Names, look}
 use Rattle.dir_walk.specs.Kept.{AsksInterrupt, KeepsTree}
 use Rattle.worktree_report.specs.declared.refusal.Refusal.{Refusal}
 use Rattle.worktree_report.specs.declared.refusal.Refusal.TheVariants as refusals
 use Rattle.worktree_report.specs.declared.report.Report.{Report}
 use Rattle.worktree_report.specs.declared.setup.Setup.{Setup}
-use Rattle.worktree_report.specs.Asked.{read_in}
+use Rattle.worktree_report.specs.Asked.{read_in, WorksAt}
 use Rattle.worktree_report.specs.Converted as converted
 use Rattle.worktree_report.specs.Escapes.{escaped}
-use Rattle.worktree_report.specs.Loading.{known_in, IsKnown}
 use Rattle.worktree_report.specs.Orderly.{IsOrderly}
-use Rattle.worktree_report.specs.Reported.{Texts}
-use Rattle.worktree_report.specs.Run.{AsksNothing, HasCauses, IsReadyAt, Keeps}
+use Rattle.worktree_report.specs.Reported.{RefusesText}
+use Rattle.worktree_report.specs.Run.{AnswersIf, HasCauses, IsReadyAt, Keeps}
 use Rattle.worktree_report.specs.SetupAt.{setup_at}
 use Rattle.clean_plan.specs.declared.error.CleanError.{CleanError}
 use Rattle.clean_plan.specs.declared.error.CleanError.TheVariants as errors
@@ -93,6 +92,12 @@ pub record IsTextByReportAt (composes : Bool) (t : Names) (request : Request) (t
   pub read : setup_at (look t request.places.setup true) ≡ Ok setup
   pub text_is : IsTextByReport composes t request.places.root (made_by request.finding setup) request.what text
 
+-- what making it takes: the setup is read once, and the rest is what the report by the prepared setup takes
+pub record PlanWorks (composes : Bool) (t : Names) (questions0 questions1 reads0 reads1 : ℕ) (request : Request) : Type 0 where
+  pub setup : Setup
+  pub read : setup_at (look t request.places.setup true) ≡ Ok setup
+  pub works : WorksAt composes t request.places.root (made_by request.finding setup) questions0 questions1 (next reads0) reads1
+
 -- It is the text that a request asks for over the tree `t`: the setup is read, and prepared.
 pub record IsTextAt (composes : Bool) (t : Names) (request : Request) (text : List ℕ) : Type 0 where
   pub setup : Setup
@@ -116,19 +121,15 @@ of_clean (errors.Report e) = converted.of_report e
 of_clean errors.Fault = refusals.Fault
 of_clean errors.OutOfMemory = refusals.OutOfMemory
 
--- why there is no text: for want of memory, as the worktree failed once there was a report, or as there is no text of the report
-abbrev pub RefusesText : {W I : Type 0} → WorktreeOf W → InterruptOf I → Bool → W → W → I → I → List ℕ → Setup → Refusal → Type 0
-RefusesText w i composes w0 w1 i0 i1 root setup refusal =
-    (refusal ≡ refusals.OutOfMemory)
-    ⊎ (((refusal ≡ refusals.Fault) × Increased (w.faults w0) (w.faults w1) × ((t : Names) → w.told w0 ≡ Some t → IsKnown (known_in t root setup)))
-    ⊎ Texts w i composes w0 w1 i0 i1 root setup (Err refusal))
-
 -- The text of the plan, or why there is none, where a worktree was `w0` and is `w1`, and an interrupt was `i0` and is `i1`. `composes`
 -- says whether the worktree composes names.
 pub record PlanTexts {W I : Type 0} (w : WorktreeOf W) (i : InterruptOf I) (composes : Bool) (w0 w1 : W) (i0 i1 : I) (root : List ℕ) (setup : Setup) (what : What) (answer : Result (List ℕ) Refusal) : Type 0 where
   pub gives : (t : Names) → w.told w0 ≡ Some t → NotIncreased (w.faults w0) (w.faults w1) → IfOk answer (IsTextIn composes t root setup what)
   pub by_report : (t : Names) → w.told w0 ≡ Some t → IfOk answer (IsTextByReport composes t root setup what)
   pub spares : IfOk answer (IsSparedText setup)
+  -- the interrupt and the worktree's files are asked for the report alone
+  pub works : (t : Names) → w.told w0 ≡ Some t → NotIncreased (w.faults w0) (w.faults w1)
+      → OnOk answer (WorksAt composes t root setup (i.questions i0) (i.questions i1) (w.reads w0) (w.reads w1))
   pub refused : IfErr answer (RefusesText w i composes w0 w1 i0 i1 root setup)
   pub worktree : KeepsTree w w0 w1
   pub interrupt : AsksInterrupt i i0 i1
@@ -145,13 +146,14 @@ pub record AnswersClean {W I : Type 0} (w : WorktreeOf W) (i : InterruptOf I) (w
   pub by_report : (t : Names) → w.told w0 ≡ Some t → IfOk answer (IsTextByReportAt (w.precomposes w0) t request)
   -- Over any worktree it has neither the root nor what has a component `.git`.
   pub outside_git : IfOk answer IsTextOutsideGit
+  pub works : (t : Names) → w.told w0 ≡ Some t → NotIncreased (w.faults w0) (w.faults w1)
+      → OnOk answer (PlanWorks (w.precomposes w0) t (i.questions i0) (i.questions i1) (w.reads w0) (w.reads w1) request)
   pub causes : HasCauses w i w0 w1 i0 i1 (made_by request.finding) request.places answer
   pub keeps : Keeps w i w0 w1 i0 i1 answer
 
 -- the text that is asked for, or why there is none
 abbrev pub Answers : {W I : Type 0} → WorktreeOf W → InterruptOf I → W → W → I → I → Option Request → Result (List ℕ) Refusal → Type 0
-Answers w i w0 w1 i0 i1 None answer = AsksNothing w0 w1 i0 i1 answer
-Answers w i w0 w1 i0 i1 (Some request) answer = AnswersClean w i w0 w1 i0 i1 request answer
+Answers w i w0 w1 i0 i1 asked answer = AnswersIf (AnswersClean w i w0 w1 i0 i1) w0 w1 i0 i1 asked answer
 
 -- what is asked for can be had
 abbrev pub CanBeHad : Bool → Names → Option Request → Type 0

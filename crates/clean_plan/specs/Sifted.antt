@@ -1,6 +1,7 @@
 -- What is known of the entries of a report once each was looked at.
-use Rattle.std.specs.Prelude.{◌≡◌, ℕ, List, [], ◌∷◌, ◌++◌, if◌then◌else◌}
+use Rattle.std.specs.Prelude.{◌≡◌, ◌<◌, ◌≤◌, ℕ, List, [], ◌∷◌, ◌++◌, Bool, true, false, length, if◌then◌else◌}
 use Rattle.std.specs.List.{list_any}
+use Rattle.gitbase_core.specs.Path.{lies_beneath}
 use Rattle.dir_classify.specs.declared.entry.Entry.{Entry}
 use Rattle.clean_plan.specs.declared.sift.Sifted.{Sifted}
 use Rattle.clean_plan.specs.Asked.{Asked}
@@ -24,3 +25,10 @@ IsSifted asked entries sifted = AreSifted asked entries (texts_of sifted.removab
 -- with the path of an entry, if it may go
 abbrev pub with_path : Asked → Entry → List (List ℕ) → List (List ℕ)
 with_path asked e paths = if is_removable asked e then paths ++ e.rela_path ∷ [] else paths
+
+-- What is known of the directories above a path that was looked at: those with fewer bytes than so many have an entry in their way,
+-- and the path specs take out none of the others.
+pub record IsLooked (out : List ℕ → Bool) (spoiled : List (List ℕ)) (path : List ℕ) (added : ℕ) : Type 0 where
+  pub within : added ≤ length path
+  pub spoiled_below : (d : List ℕ) → lies_beneath d path ≡ true → length d < added → is_among d spoiled ≡ true
+  pub none_out : (d : List ℕ) → lies_beneath d path ≡ true → added ≤ length d → out d ≡ false

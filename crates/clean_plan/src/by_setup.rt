@@ -53,8 +53,9 @@ fn plan_by(
 /// directory that does.
 ///
 /// One report is made, and the real path of the root is asked once. Blobs that ignore rules are mapped to are looked up in
-/// `objects`. The report's entries are gone over once. The index is searched for each entry that may go but for its path, and
-/// for each directory above one that may go which no entry is in the way of, until one goes as a whole.
+/// `objects`. The report's entries are gone over once. The path specs are asked about each directory above one that may go, but not
+/// again about those that are above the entry before it too. The index is searched for each entry that may go but for its path,
+/// and for each directory above one that may go which no entry is in the way of, until one goes as a whole.
 ///
 /// # Errors
 ///

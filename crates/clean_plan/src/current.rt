@@ -1,6 +1,6 @@
 //! Where the current directory is in a work tree.
-ghost use Rattle.std.specs.Prelude.{◌≡◌, ℕ, List, Some, IfOk, IfErr, drop, length, option_and_then, option_copied};
-ghost use Rattle.gitbase_core.specs.Path.{directory_prefix, normalized, past_slashes};
+ghost use Rattle.std.specs.Prelude.{◌≡◌, Some, IfOk, IfErr, drop, length, option_and_then, option_copied};
+ghost use Rattle.gitbase_core.specs.Path.{normalized, past_slashes};
 ghost use Rattle.worktree_fs.specs.Causes.{Increased};
 ghost use Rattle.worktree_fs.specs.Kept.{Asks};
 ghost use Rattle.worktree_fs.specs.Tree.{Names};
@@ -10,7 +10,7 @@ ghost use Rattle.clean_plan.specs.Refusals.{StopsAsking};
 ghost use Rattle.clean_plan.specs.Setups.{start_of};
 
 use crate::error::CleanError;
-use gitbase_core::{OutOfMemory, PathText, needs_slash, relative_to};
+use gitbase_core::{OutOfMemory, PathText, needs_slash, past_slashes, relative_to};
 use std::alloc::Global;
 use worktree_fs::{ReadError, Worktree};
 use worktree_report::Setup;
@@ -23,17 +23,6 @@ fn rest_behind<'a>(directory: &[u8], path: &'a [u8]) -> Option<&'a [u8]>
         return Some(&[]);
     }
     relative_to(path, directory)
-}
-
-/// A path without the slashes at its start.
-fn past_slashes(path: &[u8]) -> &[u8]
-    ensures { result.now ≡ past_slashes path.now }
-{
-    let mut rest = path;
-    while let [b'/', after @ ..] = rest {
-        rest = after;
-    }
-    rest
 }
 
 /// A path as it reads from a directory that it is or lies beneath, made normal as a relative path.

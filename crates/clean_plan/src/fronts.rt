@@ -1,5 +1,5 @@
 //! The directories above a path.
-ghost use Rattle.std.specs.Prelude.{◌≡◌, ◌&&◌, ◌||◌, ◌<◌, ◌≤◌, ℕ, List, length, take, nat_lt, OnOk, bytes_eq};
+ghost use Rattle.std.specs.Prelude.{◌≡◌, ◌&&◌, ◌||◌, ◌<◌, ◌≤◌, ℕ, List, true, length, take, nat_lt, OnOk, bytes_eq};
 ghost use Rattle.gitbase_core.specs.Path.{lies_beneath};
 ghost use Rattle.clean_plan.specs.Paths.{is_among};
 
@@ -27,18 +27,23 @@ fn add_front<'a>(path: &'a [u8], at: usize, others: &mut Paths<'a>) -> Result<()
     Ok(())
 }
 
-/// Puts the directories above a path that have fewer bytes than so many among others.
+/// Puts the directories above a path that have fewer bytes than so many among others; those with fewer than `begin` are among
+/// them.
 pub(crate) fn add_above<'a>(
     path: &'a [u8],
+    begin: usize,
     reach: usize,
     others: &mut Paths<'a>,
 ) -> Result<(), OutOfMemory>
-    requires { reach ≤ length path.now }
+    requires begin { begin ≤ reach }
+    requires reach { reach ≤ length path.now }
+    requires among { (other : List ℕ) → lies_beneath other path.now ≡ true → length other < begin
+        → is_among other others.old ≡ true }
     ensures { (other : List ℕ) → OnOk result (is_among other others.new
         ≡ ((lies_beneath other path.now && nat_lt (length other) reach)
         || is_among other others.old)) }
 {
-    for at in 0..reach {
+    for at in begin..reach {
         add_front(path, at, others)?;
     }
     Ok(())

@@ -1,5 +1,5 @@
 //! Which directories may go as a whole.
-ghost use Rattle.std.specs.Prelude.{◌≡◌, ◌≤◌, ◌<◌, ◌+◌, ◌&&◌, ◌++◌, ◌∷◌, [], ℕ, List, true, length, take, if◌then◌else◌, OnOk};
+ghost use Rattle.std.specs.Prelude.{◌≡◌, ◌≤◌, ◌<◌, ◌+◌, ◌&&◌, ℕ, List, true, false, max, length, take, if◌then◌else◌};
 ghost use Rattle.gitbase_core.specs.Path.{lies_beneath};
 ghost use Rattle.clean_plan.specs.Above.{IsKnown, IsTarget, reach};
 ghost use Rattle.clean_plan.specs.Asked.{asked_by};
@@ -114,13 +114,19 @@ fn longer(specs: &Search, path: &[u8], at: usize, reach: usize) -> usize
     reach
 }
 
-/// One more than the bytes of the longest directory above a path that path specs take out; 0 where there is none.
-pub(crate) fn reach_of(specs: &Search, path: &[u8]) -> usize
-    ensures reach { result ≡ reach (kept.takes_out specs.now) (length path.now) path.now }
+/// One more than the bytes of the longest directory above a path that path specs take out, and `begin` at least. None that has at
+/// least so many bytes, and fewer than `shared`, is taken out.
+pub(crate) fn reach_of(specs: &Search, path: &[u8], begin: usize, shared: usize) -> usize
+    requires begin { begin ≤ shared }
+    requires shared { shared ≤ length path.now }
+    requires none { (d : List ℕ) → lies_beneath d path.now ≡ true → begin ≤ length d
+        → length d < shared → kept.takes_out specs.now d ≡ false }
+    ensures reach { result ≡ max begin (reach (kept.takes_out specs.now) (length path.now)
+        path.now) }
     ensures within { result ≤ length path.now }
 {
-    let mut reach = 0;
-    for at in 0..path.len() {
+    let mut reach = begin;
+    for at in shared..path.len() {
         reach = longer(specs, path, at, reach);
     }
     reach

@@ -1,5 +1,5 @@
 -- Rows entry by entry.
-use Rattle.std.proofs.Common.{rules, arith, suc, ◌+◌, ◌-◌, ◌<◌, length, drop, drop-cons, get_or, ◌≡◌, ℕ, List, [], ◌∷◌, ◌++◌, Bool, true, false, map, Option, Some, refl, sym, ap, ◌∙◌, subst, append_assoc}
+use Rattle.std.proofs.Common.{rules, arith, suc, ◌+◌, ◌-◌, ◌<◌, ◌≤◌, length, drop, drop-cons, get_or, ◌≡◌, ℕ, List, [], ◌∷◌, ◌++◌, Bool, true, false, map, Option, Some, refl, sym, ap, ◌∙◌, subst, append_assoc}
 use Rattle.std.specs.Prelude.{if◌then◌else◌, option_map, slice_get}
 use Rattle.std.specs.Bool.{MatchBool}
 use Rattle.std.specs.List.{Contains}
@@ -13,7 +13,7 @@ use Rattle.index_status.specs.declared.error.StatesError.{StatesError}
 use Rattle.index_status.specs.declared.error.StatesError.TheVariants as errors
 use Rattle.index_status.specs.declared.path_state.PathState.{PathState}
 use Rattle.index_status.specs.Rows.{ArePaired, ArePossible, IsMore, IsWithEntry, Refuses, Row, firsts, firsts_after, is_last, is_path, last_path, path_of, row}
-use Rattle.index_status.specs.States.{IsAskedBy, IsPossible, IsState}
+use Rattle.index_status.specs.States.{files_in, files_of, IsAskedBy, IsPossible, IsState}
 use Rattle.index_status.specs.Ways.{StopsLook}
 
 paired-snoc : (Has : IndexEntry → PathState → Type 0) (entries : List IndexEntry) (made : List Row) (e : IndexEntry) (s : PathState) → ArePaired Has entries made → Has e s
@@ -40,6 +40,7 @@ pub record IsAlong {W : Type 0} (w : WorktreeOf W) (w0 w1 : W) (root : List ℕ)
   pub all : firsts entries ≡ done ++ firsts_after (last_path made) left
   pub whole : entries ≡ before ++ left
   pub paired : ArePaired (IsState (w.told w0) root) done made
+  pub reads : w.reads w1 + files_in left ≤ w.reads w0 + files_in entries
 
 firsts-again : (before : Option (List ℕ)) (e : IndexEntry) (left : List IndexEntry) → is_path before e.path ≡ true → firsts_after before (e ∷ left) ≡ firsts_after before left
 firsts-again before e left again = ap (λ (b : Bool). if b then firsts_after before left else e ∷ firsts_after (Some e.path) left) again
@@ -48,9 +49,17 @@ firsts-new : (before : Option (List ℕ)) (e : IndexEntry) (left : List IndexEnt
 firsts-new before e left new = ap (λ (b : Bool). if b then firsts_after before left else e ∷ firsts_after (Some e.path) left) new
 
 module _ {W : Type 0} (w : WorktreeOf W) (w0 w1 w2 : W) (root : List ℕ) (entries left : List IndexEntry) (made : List Row)
-    (at : IsAlong w w0 w1 root entries left made) (e : IndexEntry) (rest : List IndexEntry) (left_is : left ≡ e ∷ rest) where
+    (at : IsAlong w w0 w1 root entries left made) (e : IndexEntry) (rest : List IndexEntry) (left_is : left ≡ e ∷ rest)
+    (few : w.reads w2 ≤ w.reads w1 + files_of e) where
   further : entries ≡ (at.before ++ e ∷ []) ++ rest
   further = at.whole ∙ ap (λ (l : List IndexEntry). at.before ++ l) left_is ∙ sym (append_assoc at.before (e ∷ []) rest)
+
+  fewer : w.reads w2 + files_in rest ≤ w.reads w0 + files_in entries
+  fewer = omega (arith, few, at.reads, ap files_in left_is)
+
+  -- whatever comes of the entry
+  pub along-reads : w.reads w2 ≤ w.reads w0 + files_in entries
+  along-reads = omega (arith, fewer)
 
   along-again : is_last made e.path ≡ true → Asks w w1 w2 → IsAlong w w0 w2 root entries rest made
   along-again again keeps =
@@ -65,6 +74,7 @@ module _ {W : Type 0} (w : WorktreeOf W) (w0 w1 w2 : W) (root : List ℕ) (entri
             ∙ ap (λ (l : List IndexEntry). at.done ++ l) (firsts-again (last_path made) e rest again);
         whole = further;
         paired = at.paired;
+        reads = fewer;
       }
 
   along-new : (s : PathState) (more : List Row) → is_last made e.path ≡ false → Asks w w1 w2 → IsState (w.told w1) root e s → IsMore made e.path s more
@@ -86,6 +96,7 @@ module _ {W : Type 0} (w : WorktreeOf W) (w0 w1 w2 : W) (root : List ℕ) (entri
         paired =
             paired-snoc (IsState (w.told w0) root) at.done made e s at.paired
             (subst (λ (told : Option Names). IsState told root e s) at.keeps.tree is);
+        reads = fewer;
       })
 
   pub along-entry : (more : List Row) → Asks w w1 w2 → IsWithEntry (w.told w1) root e made more → IsAlong w w0 w2 root entries rest more
@@ -152,6 +163,7 @@ along-start w w0 root entries left made whole none =
       all = ap firsts (sym whole);
       whole = sym whole;
       paired = refl;
+      reads = omega (arith, ap files_in whole);
     })
 
 -- the first of what is left of a list

@@ -1,5 +1,5 @@
 -- A status, once a report is made or refused, and its text.
-use Rattle.std.proofs.Common.{◌≡◌, ◌≤◌, ◌++◌, ℕ, List, Bool, inl, inr, Option, Some, Result, Ok, Err, IfOk, IfErr, OnOk, IsErrOf, ap, refl, sym, ◌∙◌, subst, option_map, arith}
+use Rattle.std.proofs.Common.{◌≡◌, ◌≤◌, ◌+◌, ◌++◌, ℕ, List, Bool, inl, inr, Option, Some, Result, Ok, Err, IfOk, IfErr, OnOk, IsErrOf, ap, refl, sym, ◌∙◌, subst, option_map, arith}
 use Rattle.gitbase_core.specs.declared.entry.IndexEntry.{IndexEntry}
 use Rattle.gitbase_core.specs.declared.find.Find.{Ghosts as FindOf}
 use Rattle.worktree_fs.specs.declared.interrupt.Interrupt.{Ghosts as InterruptOf}
@@ -16,8 +16,8 @@ use Rattle.worktree_report.specs.declared.report.Report.{Report}
 use Rattle.worktree_report.specs.declared.setup.Setup.{Setup}
 use Rattle.worktree_report.specs.Asked.{read_in, text_of, IsReportOf}
 use Rattle.worktree_report.specs.Lines.{text_with}
-use Rattle.worktree_report.specs.Reported.{MakesReport}
-use Rattle.worktree_report.proofs.Answered.{told-blobs, Texts-refused}
+use Rattle.worktree_report.specs.Reported.{MakesReport, RefusesText, Texts}
+use Rattle.worktree_report.proofs.Answered.{told-blobs, Texts-ok, Texts-refused}
 use Rattle.worktree_report.proofs.ReportMade.{report_is}
 use Rattle.worktree_report.proofs.Runs.{Rose-before}
 use Rattle.index_status.specs.declared.error.StatesError.{StatesError}
@@ -28,6 +28,7 @@ use Rattle.index_status.specs.declared.report_beside.IndexStatus.{IndexStatus}
 use Rattle.index_status.specs.Lines.{states_text, status_text}
 use Rattle.index_status.specs.Rows.{IsAskedFor, Refuses, Row, rows}
 use Rattle.index_status.specs.Run as top
+use Rattle.index_status.specs.States.{files_in}
 use Rattle.index_status.specs.Status.{of_report, of_states, Compares, IsBeside, IsStatusOf, MakesStatus, RefusesStates}
 
 -- which error is answered
@@ -49,13 +50,14 @@ refused-states told root entries Rose (states.Fault path) h = h
 refused-states told root entries Rose states.OutOfMemory h = tt
 
 pub Compares-refused : {W : Type 0} {w : WorktreeOf W} {w0 w1 : W} {root : List ℕ} {entries : List IndexEntry} {report : Report} (e : StatesError)
-    → Refuses (w.told w0) root entries (Increased (w.faults w0) (w.faults w1)) e → Asks w w0 w1 → Compares w w0 w1 root entries report (Err (of_states e))
-Compares-refused {w = w} {w0} {w1} {root} {entries} e of asks =
+    → Refuses (w.told w0) root entries (Increased (w.faults w0) (w.faults w1)) e → Asks w w0 w1 → w.reads w1 ≤ w.reads w0 + files_in entries → Compares w w0 w1 root entries report (Err (of_states e))
+Compares-refused {w = w} {w0} {w1} {root} {entries} e of asks few =
     record {
       gives = λ t told. tt;
       possible = tt;
       ascends = tt;
       beside = tt;
+      reads = few;
       refused = refused-states (w.told w0) root entries (Increased (w.faults w0) (w.faults w1)) e of;
       keeps = asks;
     }
@@ -113,6 +115,7 @@ beside-is w f i w0 w1 w2 o0 o1 i0 i1 root setup r (Ok status) made compares =
       between = w1;
       made = subst (λ (x : Report). MakesReport w f i w0 w1 o0 o1 i0 i1 root setup (Ok x)) (sym compares.beside) made;
       asks = compares.keeps;
+      reads = compares.reads;
       paths = λ t told. compares.gives t (made.worktree.tree ∙ told);
     }
 beside-is w f i w0 w1 w2 o0 o1 i0 i1 root setup r (Err e) made compares = tt
@@ -137,7 +140,7 @@ module _ {W F I : Type 0} {w : WorktreeOf W} {f : FindOf F} {i : InterruptOf I} 
         ascends = compares.ascends;
         beside = beside-is w f i w0 w1 w2 o0 o1 i0 i1 root setup r result made compares;
         no_report = λ e is. absurd (unless (errors.Report e) is);
-        cause = λ path is. record { between = w1; report = r; made = made; asks = compares.keeps; rose = (unless (errors.Fault path) is).0 };
+        cause = λ path is. record { between = w1; report = r; made = made; asks = compares.keeps; reads = compares.reads; rose = (unless (errors.Fault path) is).0 };
         later = λ path is t told. (made.orderly.known, made.orderly.known_is t told);
         at = λ path is. subst (λ (told : Option Names). IsAskedFor told root setup.index path) made.worktree.tree (unless (errors.Fault path) is).1;
         complete = λ s told quiet stored calm valid. only_memory w w0 w1 w2 root setup.index r result compares made.worktree.faults quiet;
@@ -146,6 +149,7 @@ module _ {W F I : Type 0} {w : WorktreeOf W} {f : FindOf F} {i : InterruptOf I} 
               tree = compares.keeps.tree ∙ made.worktree.tree;
               faults = omega (arith, made.worktree.faults, compares.keeps.faults);
               list_faults = omega (arith, made.worktree.list_faults, compares.keeps.list_faults);
+              reads = omega (arith, made.worktree.reads, compares.keeps.reads);
               lists = omega (arith, made.worktree.lists, compares.keeps.lists);
               precomposes = compares.keeps.precomposes ∙ made.worktree.precomposes;
             };
@@ -184,6 +188,10 @@ module _ {W F I : Type 0} {w : WorktreeOf W} {f : FindOf F} {i : InterruptOf I} 
               orderly = record { made = status.report; orderly = beside.made.orderly; text_is = refl };
             };
         safe = λ t told quiet. let is = made.gives (read_in t setup) (told-blobs setup held told) quiet in record { made = status.report; is = is.report };
+        works = λ t told quiet.
+            let beside = made.beside in
+            let texts : Texts w i (w.precomposes w0) w0 beside.between i0 i1 root setup (Ok (text_with setup.options status.report)) = Texts-ok status.report (text_with setup.options status.report) beside.made held refl in
+            record { between = w.reads beside.between; report = texts.works t told (quiet_before _ _ _ beside.asks.faults quiet); states = beside.reads };
         refused = tt;
         worktree = made.worktree;
         interrupt = made.interrupt;
@@ -198,6 +206,7 @@ module _ {W F I : Type 0} {w : WorktreeOf W} {f : FindOf F} {i : InterruptOf I} 
         gives = λ t told quiet. tt;
         orderly = tt;
         safe = λ t told quiet. tt;
+        works = λ t told quiet. tt;
         refused = inl refl;
         worktree = made.worktree;
         interrupt = made.interrupt;
@@ -206,7 +215,7 @@ module _ {W F I : Type 0} {w : WorktreeOf W} {f : FindOf F} {i : InterruptOf I} 
       }
 
   refused-text : (e : StatusError) (refusal : Refusal) → MakesStatus w f i w0 w1 o0 o1 i0 i1 root setup (Err e) → f.holds o0 ≡ Some setup.blobs → NotIncreased (f.faults o0) (f.faults o1)
-      → refusal ≡ top.of_status e → top.RefusesText w i (w.precomposes w0) w0 w1 i0 i1 root setup refusal
+      → refusal ≡ top.of_status e → RefusesText w i (w.precomposes w0) w0 w1 i0 i1 root setup refusal
   refused-text (errors.Report e) refusal made held kept same = inr (inr (Texts-refused e refusal (made.no_report e refl) held kept same))
   refused-text (errors.Fault path) refusal made held kept same =
       let fails = made.cause path refl in
@@ -221,6 +230,7 @@ module _ {W F I : Type 0} {w : WorktreeOf W} {f : FindOf F} {i : InterruptOf I} 
         gives = λ t told quiet. tt;
         orderly = tt;
         safe = λ t told quiet. tt;
+        works = λ t told quiet. tt;
         refused = refused-text e refusal made held kept same;
         worktree = made.worktree;
         interrupt = made.interrupt;

@@ -1,20 +1,19 @@
 -- What the top call gives, and why it gives nothing.
-use Rattle.std.specs.Prelude.{◌≡◌, ◌⊎◌, ◌++◌, ℕ, List, Bool, true, codes, Option, Some, None, option_and_then, option_map, Result, Ok, Err, IfOk, IfErr, OnOk}
+use Rattle.std.specs.Prelude.{◌≡◌, ◌≤◌, ◌+◌, ◌++◌, ℕ, List, Bool, true, codes, Option, Some, None, option_and_then, option_map, Result, Ok, IfOk, IfErr, OnOk}
 use Rattle.std.specs.Result.{result_ok}
 use Rattle.worktree_fs.specs.declared.interrupt.Interrupt.{Ghosts as InterruptOf}
 use Rattle.worktree_fs.specs.declared.worktree.Worktree.{Ghosts as WorktreeOf}
-use Rattle.worktree_fs.specs.Causes.{NotIncreased, Increased}
+use Rattle.worktree_fs.specs.Causes.{NotIncreased, next}
 use Rattle.worktree_fs.specs.Tree.{Names, look}
 use Rattle.dir_walk.specs.Kept.{AsksInterrupt, KeepsTree}
 use Rattle.worktree_report.specs.declared.refusal.Refusal.{Refusal}
 use Rattle.worktree_report.specs.declared.refusal.Refusal.TheVariants as refusals
 use Rattle.worktree_report.specs.declared.setup.Setup.{Setup}
-use Rattle.worktree_report.specs.Asked.{IsSafeAt, text_of}
+use Rattle.worktree_report.specs.Asked.{IsSafeAt, text_of, WorksAt}
 use Rattle.worktree_report.specs.Converted as converted
-use Rattle.worktree_report.specs.Loading.{known_in, IsKnown}
 use Rattle.worktree_report.specs.Orderly.{IsOrderlyText}
-use Rattle.worktree_report.specs.Reported.{Texts}
-use Rattle.worktree_report.specs.Run.{as_read, AsksNothing, HasCauses, IsReadyAt, IsSafeReport, Keeps}
+use Rattle.worktree_report.specs.Reported.{RefusesText}
+use Rattle.worktree_report.specs.Run.{as_read, AnswersIf, HasCauses, IsReadyAt, IsSafeReport, Keeps}
 use Rattle.worktree_report.specs.SetupAt.{setup_at}
 use Rattle.worktree_report.specs.Steps.{◌>>=◌}
 use Rattle.worktree_report.specs.Words.{Places, places_behind}
@@ -22,6 +21,7 @@ use Rattle.index_status.specs.declared.error.StatusError.{StatusError}
 use Rattle.index_status.specs.declared.error.StatusError.TheVariants as errors
 use Rattle.index_status.specs.Lines.{states_text}
 use Rattle.index_status.specs.Rows.{ArePossible, Ascends, Row, rows}
+use Rattle.index_status.specs.States.{files_in}
 
 -- the line for words that ask for nothing
 abbrev pub usage : List ℕ
@@ -67,6 +67,18 @@ pub record IsOrderlyAnswer (composes : Bool) (told : Option Names) (places : Pla
   pub read : (t : Names) → told ≡ Some t → setup_at (look t places.setup true) ≡ Ok setup
   pub orderly : IsOrderlyStatus composes told places.root setup text
 
+-- what making it takes: the report is made, and then each file that is compared is read once at most
+pub record StatusWorks (composes : Bool) (t : Names) (root : List ℕ) (setup : Setup) (questions0 questions1 reads0 reads1 : ℕ) : Type 0 where
+  pub between : ℕ
+  pub report : WorksAt composes t root setup questions0 questions1 reads0 between
+  pub states : reads1 ≤ between + files_in setup.index
+
+-- the same at some places, where the setup is read once before
+pub record StatusWorksAt (composes : Bool) (t : Names) (questions0 questions1 reads0 reads1 : ℕ) (places : Places) : Type 0 where
+  pub setup : Setup
+  pub read : setup_at (look t places.setup true) ≡ Ok setup
+  pub works : StatusWorks composes t places.root setup questions0 questions1 (next reads0) reads1
+
 -- ---- refusals
 
 -- the refusal that stands for that of a status
@@ -75,19 +87,14 @@ of_status (errors.Report e) = converted.of_report e
 of_status (errors.Fault path) = refusals.Fault
 of_status errors.OutOfMemory = refusals.OutOfMemory
 
--- why there is no text: for want of memory, as the worktree failed once there was a report, or as there is no text of the report
-abbrev pub RefusesText : {W I : Type 0} → WorktreeOf W → InterruptOf I → Bool → W → W → I → I → List ℕ → Setup → Refusal → Type 0
-RefusesText w i composes w0 w1 i0 i1 root setup refusal =
-    (refusal ≡ refusals.OutOfMemory)
-    ⊎ (((refusal ≡ refusals.Fault) × Increased (w.faults w0) (w.faults w1) × ((t : Names) → w.told w0 ≡ Some t → IsKnown (known_in t root setup)))
-    ⊎ Texts w i composes w0 w1 i0 i1 root setup (Err refusal))
-
 -- The text of the states and the report, or why there is none, where a worktree was `w0` and is `w1`, and an interrupt was `i0` and
 -- is `i1`. `composes` says whether the worktree composes names.
 pub record StatusTexts {W I : Type 0} (w : WorktreeOf W) (i : InterruptOf I) (composes : Bool) (w0 w1 : W) (i0 i1 : I) (root : List ℕ) (setup : Setup) (answer : Result (List ℕ) Refusal) : Type 0 where
   pub gives : (t : Names) → w.told w0 ≡ Some t → NotIncreased (w.faults w0) (w.faults w1) → IfOk answer (λ text. text_in composes t root setup ≡ Some text)
   pub orderly : IfOk answer (IsOrderlyStatus composes (w.told w0) root setup)
   pub safe : (t : Names) → w.told w0 ≡ Some t → NotIncreased (w.faults w0) (w.faults w1) → OnOk answer (IsSafeAt composes t root setup)
+  pub works : (t : Names) → w.told w0 ≡ Some t → NotIncreased (w.faults w0) (w.faults w1)
+      → OnOk answer (StatusWorks composes t root setup (i.questions i0) (i.questions i1) (w.reads w0) (w.reads w1))
   pub refused : IfErr answer (RefusesText w i composes w0 w1 i0 i1 root setup)
   pub worktree : KeepsTree w w0 w1
   pub interrupt : AsksInterrupt i i0 i1
@@ -103,13 +110,14 @@ pub record AnswersStatus {W I : Type 0} (w : WorktreeOf W) (i : InterruptOf I) (
   -- Over any worktree it is in order, and over a told tree the lines of the states are exact, whatever failed.
   pub orderly : IfOk answer (IsOrderlyAnswer (w.precomposes w0) (w.told w0) places)
   pub safe : (t : Names) → w.told w0 ≡ Some t → NotIncreased (w.faults w0) (w.faults w1) → OnOk answer (IsSafeReport (w.precomposes w0) t places)
+  pub works : (t : Names) → w.told w0 ≡ Some t → NotIncreased (w.faults w0) (w.faults w1)
+      → OnOk answer (StatusWorksAt (w.precomposes w0) t (i.questions i0) (i.questions i1) (w.reads w0) (w.reads w1) places)
   pub causes : HasCauses w i w0 w1 i0 i1 as_read places answer
   pub keeps : Keeps w i w0 w1 i0 i1 answer
 
 -- the text that is asked for, or why there is none
 abbrev pub Answers : {W I : Type 0} → WorktreeOf W → InterruptOf I → W → W → I → I → Option Places → Result (List ℕ) Refusal → Type 0
-Answers w i w0 w1 i0 i1 None answer = AsksNothing w0 w1 i0 i1 answer
-Answers w i w0 w1 i0 i1 (Some places) answer = AnswersStatus w i w0 w1 i0 i1 places answer
+Answers w i w0 w1 i0 i1 asked answer = AnswersIf (AnswersStatus w i w0 w1 i0 i1) w0 w1 i0 i1 asked answer
 
 -- what is asked for can be had
 abbrev pub CanBeHad : Bool → Names → Option Places → Type 0

@@ -1,5 +1,5 @@
 -- The state of an index path against a tree.
-use Rattle.std.specs.Prelude.{◌≡◌, ◌⊎◌, ℕ, List, Bool, not, ◌==◌, ◌||◌, bytes_eq, Option, Some, None, false, if◌then◌else◌}
+use Rattle.std.specs.Prelude.{◌≡◌, ◌⊎◌, ◌+◌, ℕ, List, [], ◌∷◌, Bool, not, ◌==◌, ◌||◌, bytes_eq, Option, Some, None, false, if◌then◌else◌}
 use Rattle.std.specs.Bool.{MatchBool}
 use Rattle.gitbase_core.specs.Entry.{mode_bits, assume_valid_flag, commit_mode, dir_mode, skip_worktree_flag, symlink_mode}
 use Rattle.gitbase_core.specs.Kinds.{has_flag}
@@ -72,6 +72,27 @@ state t root e =
     if is_unmerged e then states.Conflicted
     else if is_left_out e then states.Skipped
     else at_end t e (way t root (components e.path))
+
+-- ---- how many files are read
+
+-- for the state at the end of the way to an entry's path: one at most, where a file belongs there
+abbrev pub files_at_end : IndexEntry → ℕ
+files_at_end e =
+    if mode_bits e.mode == commit_mode then 0
+    else if is_link_mode e.mode then 0
+    else 1
+
+-- for the state of an entry, at most
+abbrev pub files_of : IndexEntry → ℕ
+files_of e =
+    if is_unmerged e then 0
+    else if is_left_out e then 0
+    else files_at_end e
+
+-- for the states of all entries, at most: each file that is compared once
+abbrev pub files_in : List IndexEntry → ℕ
+files_in [] = 0
+files_in (e ∷ entries) = files_of e + files_in entries
 
 -- ---- over any worktree
 

@@ -1,5 +1,5 @@
 -- The states of the index paths, and the report beside them.
-use Rattle.std.specs.Prelude.{◌≡◌, ℕ, List, Bool, Some, Option, Result, Ok, Err, IfOk, IfErr, OnOk, IsErrOf}
+use Rattle.std.specs.Prelude.{◌≡◌, ◌≤◌, ◌+◌, ℕ, List, Bool, Some, Option, Result, Ok, Err, IfOk, IfErr, OnOk, IsErrOf}
 use Rattle.gitbase_core.specs.declared.entry.IndexEntry.{IndexEntry}
 use Rattle.gitbase_core.specs.declared.find.Find.{Ghosts as FindOf}
 use Rattle.worktree_fs.specs.declared.interrupt.Interrupt.{Ghosts as InterruptOf}
@@ -24,6 +24,7 @@ use Rattle.index_status.specs.declared.error.StatusError.{StatusError}
 use Rattle.index_status.specs.declared.error.StatusError.TheVariants as errors
 use Rattle.index_status.specs.declared.report_beside.IndexStatus.{IndexStatus}
 use Rattle.index_status.specs.Rows.{ArePossible, Ascends, IsAskedFor, rows}
+use Rattle.index_status.specs.States.{files_in}
 
 -- why there is no report; want of memory is the same for both
 abbrev pub of_report : ReportError → StatusError
@@ -51,6 +52,8 @@ pub record Compares {W : Type 0} (w : WorktreeOf W) (w0 w1 : W) (root : List ℕ
   pub possible : IfOk result (λ status. ArePossible entries status.paths.items)
   pub ascends : IfOk result (λ status. Ascends status.paths.items)
   pub beside : IfOk result (λ status. status.report ≡ report)
+  -- each file that is compared is read once at most, whatever is answered
+  pub reads : w.reads w1 ≤ w.reads w0 + files_in entries
   pub refused : IfErr result (RefusesStates (w.told w0) root entries (Increased (w.faults w0) (w.faults w1)))
   pub keeps : Asks w w0 w1
 
@@ -59,13 +62,14 @@ pub record IsStatusOf (composes : Bool) (s : Sources) (root : List ℕ) (setup :
   pub paths : status.paths.items ≡ rows s.tree root setup.index
   pub report : IsReportOf composes s root setup status.report
 
--- The report was made first, and then the index paths were looked at, where a worktree was `w0` and is `w1`. Over a told tree their
--- states are exact, whatever failed.
+-- The report was made first, and then the index paths were looked at, where a worktree was `w0` and is `w1`; each file that is
+-- compared was read once at most. Over a told tree their states are exact, whatever failed.
 pub record IsBeside {W F I : Type 0} (w : WorktreeOf W) (f : FindOf F) (i : InterruptOf I) (w0 w1 : W) (o0 o1 : F) (i0 i1 : I)
     (root : List ℕ) (setup : Setup) (status : IndexStatus) : Type 0 where
   pub between : W
   pub made : MakesReport w f i w0 between o0 o1 i0 i1 root setup (Ok status.report)
   pub asks : Asks w between w1
+  pub reads : w.reads w1 ≤ w.reads between + files_in setup.index
   pub paths : (t : Names) → w.told w0 ≡ Some t → status.paths.items ≡ rows t root setup.index
 
 -- the report was made, and then the worktree failed while the index paths were looked at
@@ -75,6 +79,7 @@ pub record FailsBeside {W F I : Type 0} (w : WorktreeOf W) (f : FindOf F) (i : I
   pub report : Report
   pub made : MakesReport w f i w0 between o0 o1 i0 i1 root setup (Ok report)
   pub asks : Asks w between w1
+  pub reads : w.reads w1 ≤ w.reads between + files_in setup.index
   pub rose : Increased (w.faults between) (w.faults w1)
 
 -- The states and the report of the work tree at `root`, where a worktree was `w0` and is `w1`, a store was `o0` and is `o1`, and an

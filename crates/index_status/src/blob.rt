@@ -10,7 +10,9 @@ use std::alloc::Global;
 /// The id of the blob with these bytes, as `git hash-object` gives it without filters: the SHA-1 of `blob `, how many bytes
 /// there are, a zero byte and the bytes.
 ///
-/// `OutOfMemory` comes for want of memory.
+/// # Errors
+///
+/// Memory was refused.
 pub fn blob_id(alloc: Global, bytes: &[u8]) -> Result<ObjectId, OutOfMemory>
     ensures { IfOk result (λ id. id ≡ blob_id bytes.now) }
 {

@@ -1,5 +1,5 @@
 //! The state of each index path.
-ghost use Rattle.std.specs.Prelude.{◌≡◌, false, Some, IfOk, IfErr, length, slice_get};
+ghost use Rattle.std.specs.Prelude.{◌≡◌, ◌≤◌, ◌+◌, false, Some, IfOk, IfErr};
 ghost use Rattle.gitbase_core.specs.Path.{components};
 ghost use Rattle.worktree_fs.specs.Causes.{Increased};
 ghost use Rattle.worktree_fs.specs.Kept.{Asks};
@@ -46,6 +46,7 @@ pub fn states<W: Worktree>(
     ensures refused { IfErr result (rows.Refuses (W.told worktree.old) worktree_root.now index.now
         (Increased (W.faults worktree.old) (W.faults worktree.new))) }
     ensures keeps { Asks W.Worktree worktree.old worktree.new }
+    ensures reads { W.reads worktree.new ≤ W.reads worktree.old + states.files_in index.now }
 {
     let mut made = Vec::new(alloc);
     let mut known = Known {
@@ -79,6 +80,7 @@ fn with_entry<'a, W: Worktree>(
         (states.IsAskedBy (W.told worktree.old) root.now entry.now)
         (Increased (W.faults worktree.old) (W.faults worktree.new))) }
     ensures keeps { Asks W.Worktree worktree.old worktree.new }
+    ensures reads { W.reads worktree.new ≤ W.reads worktree.old + states.files_of entry.now }
 {
     if is_last(&made, &entry.path) {
         return Ok((made, known));
@@ -129,6 +131,7 @@ fn state_of<'a, W: Worktree>(
         (states.IsAskedBy (W.told worktree.old) root.now entry.now)
         (Increased (W.faults worktree.old) (W.faults worktree.new))) }
     ensures keeps { Asks W.Worktree worktree.old worktree.new }
+    ensures reads { W.reads worktree.new ≤ W.reads worktree.old + states.files_of entry.now }
 {
     if entry.stage != 0 {
         return Ok((PathState::Conflicted, known));

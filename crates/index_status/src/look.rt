@@ -1,5 +1,5 @@
 //! What stands at an index path, against what the index has.
-ghost use Rattle.std.specs.Prelude.{◌≡◌, false, Some, IfOk, IfErr};
+ghost use Rattle.std.specs.Prelude.{◌≡◌, ◌≤◌, ◌+◌, false, Some, IfOk, IfErr};
 ghost use Rattle.worktree_fs.specs.Causes.{Increased};
 ghost use Rattle.worktree_fs.specs.Kept.{Asks};
 ghost use Rattle.worktree_fs.specs.Tree.{Names, look};
@@ -32,6 +32,7 @@ pub(crate) fn state_at<W: Worktree>(
     ensures refused { IfErr result (ways.StopsAt full
         (Increased (W.faults worktree.old) (W.faults worktree.new))) }
     ensures keeps { Asks W.Worktree worktree.old worktree.new }
+    ensures reads { W.reads worktree.new ≤ W.reads worktree.old + states.files_at_end entry.now }
 {
     if entry.mode.is_submodule() {
         return submodule_state(alloc, worktree, full);
@@ -61,6 +62,7 @@ fn submodule_state<W: Worktree>(
     ensures refused { IfErr result (ways.StopsAt full
         (Increased (W.faults worktree.old) (W.faults worktree.new))) }
     ensures keeps { Asks W.Worktree worktree.old worktree.new }
+    ensures reads { W.reads worktree.new ≡ W.reads worktree.old }
 {
     match worktree.kind(alloc, full.as_bytes()) {
         Ok(None) => Ok(PathState::Deleted),
@@ -85,6 +87,7 @@ fn link_state<W: Worktree>(
     ensures refused { IfErr result (ways.StopsAt full
         (Increased (W.faults worktree.old) (W.faults worktree.new))) }
     ensures keeps { Asks W.Worktree worktree.old worktree.new }
+    ensures reads { W.reads worktree.new ≡ W.reads worktree.old }
 {
     match worktree.kind(alloc, full.as_bytes()) {
         Ok(None) => Ok(PathState::Deleted),
@@ -110,6 +113,7 @@ fn file_state<W: Worktree>(
     ensures refused { IfErr result (ways.StopsAt full
         (Increased (W.faults worktree.old) (W.faults worktree.new))) }
     ensures keeps { Asks W.Worktree worktree.old worktree.new }
+    ensures reads { W.reads worktree.new ≤ W.reads worktree.old + 1 }
 {
     let mut bytes = Bytes::new(alloc);
     match worktree.read(alloc, full.as_bytes(), false, &mut bytes) {

@@ -1,7 +1,6 @@
 -- The parts of the top call, put together.
-use Rattle.std.proofs.Common.{◌≡◌, ◌⊎◌, inl, inr, ◌+◌, ◌↔◌, ◌≤◌, ℕ, List, Bool, true, Option, Some, None, Result, Ok, Err, IfOk, IfErr, OnOk, IsErrOf, ap, refl, sym, ◌∙◌, subst, option_and_then, option_map, arith}
+use Rattle.std.proofs.Common.{◌≡◌, ◌⊎◌, inl, inr, ◌+◌, ◌≤◌, ℕ, List, true, Option, Some, None, Result, Ok, Err, IfOk, IfErr, OnOk, IsErrOf, ap, refl, sym, ◌∙◌, subst, option_and_then, arith}
 use Rattle.std.specs.Result.{result_ok}
-use Rattle.worktree_fs.specs.declared.sink.Sink.{Ghosts as SinkOf}
 use Rattle.worktree_fs.specs.declared.worktree.Worktree.{Ghosts as WorktreeOf}
 use Rattle.worktree_fs.specs.Causes.{Increased, Incremented, NotIncreased}
 use Rattle.worktree_fs.specs.Kept.{Asks}
@@ -13,15 +12,13 @@ use Rattle.worktree_report.specs.declared.refusal.Refusal.{Refusal}
 use Rattle.worktree_report.specs.declared.refusal.Refusal.TheVariants as refusals
 use Rattle.worktree_report.specs.declared.setup.Setup.{Setup}
 use Rattle.worktree_report.specs.Converted.{IsOfReading}
-use Rattle.worktree_report.specs.Ends.{Ends}
 use Rattle.worktree_report.specs.Loading.{files_of, known_in, modules_in, with_specs, IsKnown}
 use Rattle.worktree_report.specs.Loads.{LoadsFiles}
 use Rattle.worktree_report.specs.Outside.{IsOutside, StopsAt}
 use Rattle.worktree_report.specs.Run.{SetupRefuses}
 use Rattle.worktree_report.specs.SetupAt.{setup_at}
 use Rattle.worktree_report.specs.Words.{Places}
-use Rattle.worktree_report.specs.Written.{Appends}
-use Rattle.worktree_report.proofs.Runs.{Rose-before, ends_in_two, ends_in_zero, ends_of_usage}
+use Rattle.worktree_report.proofs.Runs.{Rose-before}
 use Rattle.module_plan.specs.Run as top
 use Rattle.module_plan.proofs.Loaded.{known-loaded, known-misread, known-refused, outside-asking, outside-specs, stops-asking, which}
 
@@ -229,53 +226,21 @@ module _ {W : Type 0} {w : WorktreeOf W} {w0 w1 w2 : W} {places : Places} (setup
         precomposes = plans.precomposes ∙ composes;
       }
 
--- ---- what the words ask for
-
--- the same of what is asked for by another name
-pub AnswersAsked-named : {W : Type 0} (w : WorktreeOf W) (w0 w1 : W) (answer : Result (List ℕ) Refusal) {found asked : Option Places}
-    → found ≡ asked → top.AnswersAsked w w0 w1 found answer → top.AnswersAsked w w0 w1 asked answer
-AnswersAsked-named w w0 w1 answer e answers = subst (λ (x : Option Places). top.AnswersAsked w w0 w1 x answer) e answers
-
--- what is asked for, where it is known what was found
-pub asked-is : {C : Type 0} (f : C → Places) (words : List (List ℕ)) (before now : Bool) (found asked : Option C) → option_map f found ≡ top.asked now words → now ≡ before → found ≡ asked
-    → option_map f asked ≡ top.asked before words
-asked-is f words before now found asked e same is = ap (option_map f) (sym is) ∙ e ∙ ap (λ (x : Bool). top.asked x words) same
-
 -- ---- what follows from the status
 
 module _ {W : Type 0} (w : WorktreeOf W) (w0 w1 : W) where
-  text_asked-is : (asked : Option Places) (text : List ℕ) → top.AnswersAsked w w0 w1 asked (Ok text)
+  -- a text is the one that is asked for
+  pub text_asked-is : (asked : Option Places) (text : List ℕ) → top.AnswersAsked w w0 w1 asked (Ok text)
       → (t : Names) → w.told w0 ≡ Some t → option_and_then (top.output_at t) asked ≡ Some text
   text_asked-is None text answers t told = absurd (let is = answers.usage in cc)
   text_asked-is (Some places) text answers t told = answers.gives t told
 
-  asks_nothing : (asked : Option Places) (answer : Result (List ℕ) Refusal) → top.AnswersAsked w w0 w1 asked answer → IsErrOf answer refusals.Usage → asked ≡ None
-  asks_nothing None answer answers is = refl
-  asks_nothing (Some places) answer answers is = absurd (subst (λ r. IfErr r (top.IsOfCall (Increased (w.faults w0) (w.faults w1)))) is answers.refused)
+  -- a plan is not refused for its words
+  pub no_usage : (places : Places) (answer : Result (List ℕ) Refusal) → top.AnswersPlan w w0 w1 places answer → ¬ IsErrOf answer refusals.Usage
+  no_usage places answer answers is = subst (λ r. IfErr r (top.IsOfCall (Increased (w.faults w0) (w.faults w1)))) is answers.refused
 
   -- for what can be had, where nothing failed, only memory may be wanted
   pub wants_memory_alone : (asked : Option Places) (answer : Result (List ℕ) Refusal) → top.AnswersAsked w w0 w1 asked answer
       → (t : Names) → w.told w0 ≡ Some t → NotIncreased (w.faults w0) (w.faults w1) → top.CanBeHad t asked → IfErr answer (λ refusal. refusal ≡ refusals.OutOfMemory)
   wants_memory_alone None answer answers t told quiet valid = absurd valid
   wants_memory_alone (Some places) answer answers t told quiet valid = answers.complete t told quiet valid
-
-module _ {W S E : Type 0} (w : WorktreeOf W) (s : SinkOf S) (e : SinkOf E) (w0 w1 : W) (s0 s1 : S) (e0 e1 : E) (usage : List ℕ) (asked : Option Places) (status : ℕ) where
-  -- what is written with 0 is what is asked for
-  pub run_plan : (answer : Result (List ℕ) Refusal) → top.AnswersAsked w w0 w1 asked answer → Ends s e s0 s1 e0 e1 usage answer status
-      → (t : Names) → w.told w0 ≡ Some t → status ≡ 0 → (text : List ℕ) × (option_and_then (top.output_at t) asked ≡ Some text) × Appends (s.written s0) (s.written s1) text
-  run_plan answer answers ends t told zero =
-      let wrote = ends_in_zero s e s0 s1 e0 e1 usage status answer ends zero in
-      (wrote.0, text_asked-is w w0 w1 asked wrote.0 (subst (λ a. top.AnswersAsked w w0 w1 asked a) wrote.1 answers) t told, wrote.2)
-
-  -- the status is 2 exactly where the words ask for nothing
-  pub run_usage : (answer : Result (List ℕ) Refusal) → top.AnswersAsked w w0 w1 asked answer → Ends s e s0 s1 e0 e1 usage answer status → (status ≡ 2) ↔ (asked ≡ None)
-  run_usage answer answers ends = (
-    λ two. asks_nothing w w0 w1 asked answer answers (ends_in_two s e s0 s1 e0 e1 usage status answer ends two),
-    λ none. ends_in_usage answer (nothing_is (subst (λ c. top.AnswersAsked w w0 w1 c answer) none answers)) ends,
-  )
-    where
-      nothing_is : top.RefusesWords w0 w1 answer → answer ≡ Err refusals.Usage
-      nothing_is nothing = nothing.usage
-
-      ends_in_usage : (answer : Result (List ℕ) Refusal) → answer ≡ Err refusals.Usage → Ends s e s0 s1 e0 e1 usage answer status → status ≡ 2
-      ends_in_usage answer is ends = ends_of_usage s e s0 s1 e0 e1 usage status (subst (λ a. Ends s e s0 s1 e0 e1 usage a status) is ends)

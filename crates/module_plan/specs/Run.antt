@@ -24,7 +24,7 @@ use Rattle.worktree_report.specs.declared.refusal.Refusal.TheVariants as refusal
 use Rattle.worktree_report.specs.declared.setup.Setup.{Setup}
 use Rattle.worktree_report.specs.Loading.{files_of, known_in, modules_in, IsKnown}
 use Rattle.worktree_report.specs.Outside.{IsAboutMisreadAt, StopsAt}
-use Rattle.worktree_report.specs.Run.{IsAboutMisread, IsKnownReport, MisreadsReport, SetupRefuses, StopsReport}
+use Rattle.worktree_report.specs.Run.{AnswersIf, IsAboutMisread, IsKnownReport, MisreadsReport, SetupRefuses, StopsReport}
 use Rattle.worktree_report.specs.SetupAt.{setup_at}
 use Rattle.worktree_report.specs.Steps.{◌>>=◌}
 use Rattle.worktree_report.specs.Words.{Places, places_behind}
@@ -184,15 +184,9 @@ pub record AnswersPlan {W : Type 0} (w : WorktreeOf W) (w0 w1 : W) (places : Pla
   pub lists : w.lists w1 ≡ w.lists w0
   pub precomposes : w.precomposes w1 ≡ w.precomposes w0
 
--- words that ask for nothing are refused, and the worktree has been asked nothing
-pub record RefusesWords {W : Type 0} (w0 w1 : W) (answer : Result (List ℕ) Refusal) : Type 0 where
-  pub usage : IsErrOf answer refusals.Usage
-  pub worktree : w1 ≡ w0
-
--- the text that is asked for, or why there is none
+-- the text that is asked for, or why there is none; no interrupt is handed in for it
 abbrev pub AnswersAsked : {W : Type 0} → WorktreeOf W → W → W → Option Places → Result (List ℕ) Refusal → Type 0
-AnswersAsked w w0 w1 None answer = RefusesWords w0 w1 answer
-AnswersAsked w w0 w1 (Some places) answer = AnswersPlan w w0 w1 places answer
+AnswersAsked w w0 w1 asked answer = AnswersIf {I = Unit {0}} (AnswersPlan w w0 w1) w0 w1 tt tt asked answer
 
 -- and the interrupt has been asked nothing
 abbrev pub Answers : {W I : Type 0} → WorktreeOf W → InterruptOf I → W → W → I → I → Option Places → Result (List ℕ) Refusal → Type 0

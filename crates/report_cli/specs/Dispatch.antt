@@ -1,5 +1,5 @@
 -- What the words of a command line ask for, by the first of them.
-use Rattle.std.specs.Prelude.{◌≡◌, ℕ, List, [], ◌∷◌, Bool, true, false, codes, Some, if◌then◌else◌}
+use Rattle.std.specs.Prelude.{◌≡◌, ℕ, List, [], ◌∷◌, Bool, true, false, codes, Some, None, if◌then◌else◌}
 use Rattle.std.specs.Str.{bytes_eq}
 use Rattle.worktree_fs.specs.declared.interrupt.Interrupt.{Ghosts as InterruptOf}
 use Rattle.worktree_fs.specs.declared.sink.Sink.{Ghosts as SinkOf}
@@ -34,6 +34,13 @@ first_call (word ∷ words) = call_named word
 -- the call by the first word behind an optional `composed`
 abbrev pub call_of : List (List ℕ) → Call
 call_of words = first_call (uncomposed words)
+
+-- the words ask nothing of the call: they are not as its usage has them
+abbrev pub AsksNothingBy : Call → Bool → List (List ℕ) → Type 0
+AsksNothingBy calls.Clean composes words = clean.asked composes words ≡ None
+AsksNothingBy calls.Modules composes words = modules.asked composes words ≡ None
+AsksNothingBy calls.Status composes words = status.asked composes words ≡ None
+AsksNothingBy calls.Report composes words = command_of composes words ≡ None
 
 -- the bytes are those that the words ask for, over the tree `t`
 abbrev pub IsOutputBy : Call → Bool → Names → List (List ℕ) → List ℕ → Type 0

@@ -1,9 +1,17 @@
 //! The calls of the program, by the first word of its command line.
-ghost use Rattle.std.specs.Prelude.{◌≡◌, ◌⊎◌, ℕ, List, Some};
+ghost use Rattle.std.specs.Prelude.{◌≡◌, ◌⊎◌, ◌↔◌, ℕ, List, Some};
 ghost use Rattle.worktree_fs.specs.Tree.{Names};
 ghost use Rattle.worktree_fs.specs.Causes.{NotIncreased};
 ghost use Rattle.worktree_report.specs.Written.{Appends};
-ghost use Rattle.report_cli.specs.Dispatch.{call_named, call_of, uncomposed, IsOutputBy, IsValidBy, RunsBy};
+ghost use Rattle.report_cli.specs.Dispatch.{
+  call_named,
+  call_of,
+  uncomposed,
+  AsksNothingBy,
+  IsOutputBy,
+  IsValidBy,
+  RunsBy,
+};
 
 use clean_plan::run_clean;
 use gitbase_core::Bytes;
@@ -75,6 +83,10 @@ pub fn dispatch<W: Worktree, I: Interrupt, S: Sink, E: Sink>(
     ensures runs { RunsBy W.Worktree I.Interrupt S.Sink E.Sink worktree.old worktree.new
         interrupt.old interrupt.new out.old out.new err.old err.new (W.precomposes worktree.old)
         words.now result (call_of words.now) }
+
+    // Status 2 exactly where the words ask nothing of the call that they name.
+    ensures usage { (result ≡ 2) ↔ AsksNothingBy (call_of words.now)
+        (W.precomposes worktree.old) words.now }
 
     // Status 0, over a told tree and with no fault counted: what `out` has is what it had, and what the words ask for.
     ensures output { (t : Names) → W.told worktree.old ≡ Some t

@@ -1,16 +1,24 @@
-use Rattle.worktree_report.proofs.Runs.{ends_well}
-use Rattle.clean_plan.proofs.Runs.{run_text, run_usage, wants_memory_alone}
+use Rattle.std.proofs.Common.{ℕ, List}
+use Rattle.worktree_report.proofs.Runs.{ends_well, run_text, run_usage}
+use Rattle.clean_plan.specs.Run as top
+use Rattle.clean_plan.proofs.Runs.{no_usage, text_asked-is, wants_memory_alone}
 use Rattle.clean_plan.proofs.program.run_clean.Goals as goal
 
 pub returns-clause-runs : goal.returns-clause-runs
 returns-clause-runs g c = record { answer = c.text_asked-answer.result; answers = c.text_asked-answer.ensures; ends = c.finish.ensures }
 
 pub returns-clause-plan : goal.returns-clause-plan
-returns-clause-plan g c = run_text _ _ _ _ _ _ _ _ _ _ _ _ _ _ _ _ c.text_asked-answer.ensures c.finish.ensures
+returns-clause-plan g c = λ t told quiet zero.
+    run_text _ _ _ _ _ _ _ _ (top.Answers g.W.Worktree g.I.Interrupt _ _ _ _ _) (λ (text : List ℕ). top.IsOutputAt _ t _ text)
+    (λ text answers. text_asked-is g.W.Worktree g.I.Interrupt _ _ _ _ _ text answers t told quiet)
+    c.text_asked-answer.result c.text_asked-answer.ensures c.finish.ensures zero
 
 pub returns-clause-usage : goal.returns-clause-usage
-returns-clause-usage g c = run_usage _ _ _ _ _ _ _ _ _ _ _ _ _ _ _ _ c.text_asked-answer.ensures c.finish.ensures
+returns-clause-usage g c =
+    run_usage _ _ _ _ _ _ _ _ (top.AnswersClean g.W.Worktree g.I.Interrupt _ _ _ _) _ _ _ _ (no_usage g.W.Worktree g.I.Interrupt _ _ _ _)
+    _ c.text_asked-answer.result c.text_asked-answer.ensures c.finish.ensures
 
 pub returns-clause-complete : goal.returns-clause-complete
 returns-clause-complete g c = λ t told valid quiet calm taken.
-    ends_well _ _ _ _ _ _ _ _ _ c.finish.ensures taken (wants_memory_alone _ _ _ _ _ _ _ _ c.text_asked-answer.ensures t told quiet calm valid)
+    ends_well _ _ _ _ _ _ _ _ _ c.finish.ensures taken
+    (wants_memory_alone g.W.Worktree g.I.Interrupt _ _ _ _ _ c.text_asked-answer.result c.text_asked-answer.ensures t told quiet calm valid)

@@ -1,15 +1,27 @@
-use Rattle.std.proofs.Common.{rules, sym, arith}
+use Rattle.std.proofs.Common.{◌+◌, ◌∙◌, ◌&&◌, ℕ, List, ap, arith, max, take}
+use Rattle.std.specs.Prelude.{if◌then◌else◌}
+use Rattle.gitbase_core.specs.Path.{lies_beneath}
+use Rattle.clean_plan.specs.Above.{reach}
 use Rattle.clean_plan.specs.Kept.{takes_out}
-use Rattle.clean_plan.proofs.Reached.{reach-first, reach-next, reach-within}
+use Rattle.clean_plan.proofs.Reached.{reach-begun, reach-longer, reach-next, reach-within}
 use Rattle.clean_plan.proofs.whole.reach_of.Goals as goal
 
 pub loop-at-init : goal.loop-at-init
-loop-at-init c = sym (reach-first (takes_out c.args.specs.now) c.args.path.now)
+loop-at-init c =
+    let few = reach-begun (takes_out c.args.specs.now) c.args.path.now c.args.begin c.args.shared c.requires.shared c.requires.none in
+    omega (arith, few)
 
 pub loop-at-preserved : goal.loop-at-preserved
-loop-at-preserved c = let next = reach-next (takes_out c.args.specs.now) c.loop-at.at c.args.path.now in search rules
+loop-at-preserved c =
+    let out = takes_out c.args.specs.now in
+    let path : List ℕ = c.args.path.now in
+    let here = lies_beneath (take c.loop-at.at path) path && out (take c.loop-at.at path) in
+    c.longer-reach.ensures
+    ∙ ap (λ (n : ℕ). if here then c.loop-at.at + 1 else n) c.loop-at.invariant
+    ∙ reach-longer here c.args.begin c.loop-at.at (reach out c.loop-at.at path) (omega (arith, c.requires.begin, c.loop-at.auto.at))
+    ∙ ap (λ (n : ℕ). max c.args.begin n) (reach-next out c.loop-at.at path)
 
 pub returns-clause-within : goal.returns-clause-within
 returns-clause-within c =
     let within = reach-within (takes_out c.args.specs.now) c.loop-at.at c.args.path.now in
-    omega (arith, within, c.loop-at.invariant, c.loop-at.auto.at-end)
+    omega (arith, within, c.requires.begin, c.requires.shared, c.loop-at.invariant, c.loop-at.auto.at-end c.requires.shared)

@@ -1,16 +1,17 @@
-use Rattle.std.proofs.Common.{refl, None}
+use Rattle.std.proofs.Common.{Bool, refl, None}
 use Rattle.worktree_report.specs.Named.{named_by}
-use Rattle.index_status.proofs.Runs.{Answers-named, asked-is}
+use Rattle.worktree_report.proofs.Runs.{Answers-named, asked-is}
+use Rattle.index_status.specs.Run as top
 use Rattle.index_status.proofs.program.text_asked.Goals as goal
 
 pub returns-in-Some : goal.returns-in-Some
 returns-in-Some g c =
-    Answers-named _ _ _ _ _ _ _
-    (asked-is named_by c.args.words.now _ c.precomposes.result c.places_behind.result _ c.places_behind.ensures c.precomposes.ensures c.in-Some.is)
+    Answers-named (top.AnswersStatus g.W.Worktree g.I.Interrupt _ _ _ _) _ _ _ _ _
+    (asked-is named_by (λ (composes : Bool). top.asked composes c.args.words.now) _ c.precomposes.result c.places_behind.result _ c.places_behind.ensures c.precomposes.ensures c.in-Some.is)
     c.text_at.ensures
 
 pub returns-in-None : goal.returns-in-None
 returns-in-None g c =
-    Answers-named _ _ _ _ _ _ _
-    (asked-is named_by c.args.words.now _ c.precomposes.result c.places_behind.result None c.places_behind.ensures c.precomposes.ensures c.in-None.is)
+    Answers-named (top.AnswersStatus g.W.Worktree g.I.Interrupt _ _ _ _) _ _ _ _ _
+    (asked-is named_by (λ (composes : Bool). top.asked composes c.args.words.now) _ c.precomposes.result c.places_behind.result None c.places_behind.ensures c.precomposes.ensures c.in-None.is)
     (record { usage = refl; worktree = refl; interrupt = refl })

@@ -6,9 +6,9 @@ use Rattle.index_status.proofs.report_beside.beside.Goals as goal
 pub returns-in_err-paths : goal.returns-in_err-paths
 returns-in_err-paths g c =
     let p = err_from_is_err_and c.from_residual.result c.from_residual.ensures.1 in
-    rw (p.1, p.2) (Compares-refused c.in_err-paths.field-0.0 c.in_err-paths.ensures.refused c.in_err-paths.ensures.keeps)
+    rw (p.1, p.2) (Compares-refused c.in_err-paths.field-0.0 c.in_err-paths.ensures.refused c.in_err-paths.ensures.keeps c.in_err-paths.ensures.reads)
 
 pub returns : goal.returns
 returns g c =
     let made = c.in_ok-paths.ensures in
-    record { gives = made.states; possible = made.possible; ascends = made.ascends; beside = refl; refused = tt; keeps = made.keeps }
+    record { gives = made.states; possible = made.possible; ascends = made.ascends; beside = refl; reads = made.reads; refused = tt; keeps = made.keeps }

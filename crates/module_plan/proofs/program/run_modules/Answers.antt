@@ -1,16 +1,22 @@
-use Rattle.std.proofs.Common.{refl}
-use Rattle.worktree_report.proofs.Runs.{ends_well}
-use Rattle.module_plan.proofs.Runs.{run_plan, run_usage, wants_memory_alone}
+use Rattle.std.proofs.Common.{◌≡◌, ℕ, List, Some, option_and_then, refl}
+use Rattle.worktree_report.proofs.Runs.{ends_well, run_text, run_usage}
+use Rattle.module_plan.specs.Run as top
+use Rattle.module_plan.proofs.Runs.{no_usage, text_asked-is, wants_memory_alone}
 use Rattle.module_plan.proofs.program.run_modules.Goals as goal
 
 pub returns-clause-runs : goal.returns-clause-runs
 returns-clause-runs g c = record { answer = c.text_asked-answer.result; answers = (c.text_asked-answer.ensures, refl); ends = c.finish.ensures }
 
 pub returns-clause-plan : goal.returns-clause-plan
-returns-clause-plan g c = λ t told quiet zero. run_plan _ _ _ _ _ _ _ _ _ _ _ _ _ c.text_asked-answer.ensures c.finish.ensures t told zero
+returns-clause-plan g c = λ t told quiet zero.
+    run_text _ _ _ _ _ _ _ _ (top.AnswersAsked g.W.Worktree _ _ _) (λ (text : List ℕ). option_and_then (top.output_at t) _ ≡ Some text)
+    (λ text answers. text_asked-is g.W.Worktree _ _ _ text answers t told)
+    c.text_asked-answer.result c.text_asked-answer.ensures c.finish.ensures zero
 
 pub returns-clause-usage : goal.returns-clause-usage
-returns-clause-usage g c = run_usage _ _ _ _ _ _ _ _ _ _ _ _ _ c.text_asked-answer.ensures c.finish.ensures
+returns-clause-usage g c =
+    run_usage _ _ _ _ _ _ _ _ (top.AnswersPlan g.W.Worktree _ _) _ _ tt tt (no_usage g.W.Worktree _ _)
+    _ c.text_asked-answer.result c.text_asked-answer.ensures c.finish.ensures
 
 pub returns-clause-complete : goal.returns-clause-complete
 returns-clause-complete g c = λ t told valid quiet calm taken.
