@@ -1,6 +1,6 @@
 //! A store that fails, and a caller that works in a fork.
 ghost use Rattle.std.specs.Prelude.{◌≡◌, ◌≤◌, IfOk, IsErrOf, None, Some};
-ghost use Rattle.gitbase_core.specs.Causes.{Increased};
+ghost use Rattle.gitbase_core.specs.Causes.{Increased, with_more};
 ghost use Rattle.gitbase_core.specs.Objects.{Objects, object_at, found_of};
 
 use gitbase_core::{Bytes, Find, FindError, Found, ObjectId, OutOfMemory};
@@ -58,6 +58,9 @@ impl Find for FailingStore {
 ///
 /// - `Fault`: the fork failed, and the store has counted it.
 /// - `OutOfMemory`: there is no room for the fork or for the bytes.
+///
+/// Where the question was answered the count rises by nothing. By how much it rises where the question failed is told by no
+/// clause: the fork, which counted it, is gone when the call returns.
 pub fn find_in_fork<F: Find>(
     alloc: Global,
     store: &mut F,
@@ -67,8 +70,11 @@ pub fn find_in_fork<F: Find>(
     ensures answer { (held : Objects) → F.holds store.old ≡ Some held
         → IfOk result (λ found. found ≡ found_of (object_at held id.now)) }
     ensures held { F.holds store.new ≡ F.holds store.old }
-    ensures cause { IsErrOf result FindError.Fault → Increased (F.faults store.old) (F.faults store.new) }
+    ensures cause { IsErrOf result FindError.Fault
+        → Increased (F.faults store.old) (F.faults store.new) }
     ensures faults { F.faults store.old ≤ F.faults store.new }
+    ensures unfaulted { IfOk result (λ _. F.faults store.new
+        ≡ with_more (F.faults store.old) 0) }
 {
     let mut fork = store.fork(alloc)?;
     let found = fork.find_blob(alloc, id, into);

@@ -1,7 +1,7 @@
 -- In two trees that differ in one node each path leads alike, unless it comes to that node.
 use Rattle.std.proofs.Common.{◌≡◌, inl, inr, ℕ, zero, suc, Bool, true, false, not, ◌||◌, List, [], ◌∷◌, ◌++◌, Option, Some, None, option_map, reverse, drop, if◌then◌else◌, refl, sym, ap, subst, ◌∙◌}
 use Rattle.gitbase_core.specs.Path.{components, is_absolute}
-use Rattle.worktree_fs.specs.Tree.{Node, Names, Level, Place, Jump, Spot, reached, missing, file, link, directory, other, none, child, is_directory, is_text, is_dot, is_dot_dot, is_last, trail, enter, parent, root_of, start, onward, walking, along, behind, spot}
+use Rattle.worktree_fs.specs.Tree.{Node, Names, Level, Place, Jump, Spot, reached, missing, file, link, directory, other, none, child, is_directory, is_text, is_dot, is_dot_dot, is_nil, trail, enter, parent_place, root_of, start, onward, walking, along, behind, spot}
 use Rattle.worktree_fs.specs.ByNames.{node_at}
 use Rattle.worktree_fs.specs.Outlines.{outline, LeadsAlike, Apart}
 use Rattle.worktree_fs.proofs.ByNames.{IsChain, IsPlaced, names_above, chain-child}
@@ -55,7 +55,7 @@ record Pair (without beside : Names) (p q : Place) : Type 0 where
 
 module _ (at : List (List ℕ)) (there : Node) (without beside : Names) (follow : Bool) where
   pair_up : (h k : Names) (a b : List Level) → IsChain without h a → IsChain beside k b → names_above a ≡ names_above b
-      → Pair without beside (parent (record { here = h; above = a })) (parent (record { here = k; above = b }))
+      → Pair without beside (parent_place (record { here = h; above = a })) (parent_place (record { here = k; above = b }))
   pair_up h k [] [] c d e = record { first = c; second = d; same = refl }
   pair_up h k [] (m ∷ b) c d e = absurd (cc e)
   pair_up h k (l ∷ a) [] c d e = absurd (cc e)
@@ -99,13 +99,13 @@ module _ (at : List (List ℕ)) (there : Node) (without beside : Names) (follow 
         (goes (enter p name names) (enter q name inner.0) (record { first = (c, pair.first); second = (d ∙ inner.1, pair.second); same = ap (λ (l : List (List ℕ)). name ∷ l) pair.same }))
     through rest goes p q pair name (Some (link target)) b c d e =
         subst (λ (o : Option Node). LeadsAlike follow at there (onward (walking (λ s. along jump follow s rest) jump follow) p rest name (Some (link target))) (onward (walking (λ s. along jump follow s rest) jump follow) q rest name o)) (sym (alike_leaf (link target) refl b e))
-        (either (follow || not (is_last rest)) _ _ _ _ (jumps p q pair target rest) (to_leaf p q pair name (link target)))
+        (either (follow || not (is_nil rest)) _ _ _ _ (jumps p q pair target rest) (to_leaf p q pair name (link target)))
     through rest goes p q pair name (Some (file bytes)) b c d e =
         subst (λ (o : Option Node). LeadsAlike follow at there (onward (walking (λ s. along jump follow s rest) jump follow) p rest name (Some (file bytes))) (onward (walking (λ s. along jump follow s rest) jump follow) q rest name o)) (sym (alike_leaf (file bytes) refl b e))
-        (either (is_last rest) _ _ _ _ (to_leaf p q pair name (file bytes)) (inr refl))
+        (either (is_nil rest) _ _ _ _ (to_leaf p q pair name (file bytes)) (inr refl))
     through rest goes p q pair name (Some other) b c d e =
         subst (λ (o : Option Node). LeadsAlike follow at there (onward (walking (λ s. along jump follow s rest) jump follow) p rest name (Some other)) (onward (walking (λ s. along jump follow s rest) jump follow) q rest name o)) (sym (alike_leaf other refl b e))
-        (either (is_last rest) _ _ _ _ (to_leaf p q pair name other) (inr refl))
+        (either (is_nil rest) _ _ _ _ (to_leaf p q pair name other) (inr refl))
 
     module _ (apart : Apart at without beside) (gone : node_at (reverse at) (Some (directory without)) ≡ None) (has : node_at (reverse at) (Some (directory beside)) ≡ Some there) where
       by_piece : (rest : List (List ℕ)) → Goes jump rest → (p q : Place) → Pair without beside p q → (piece : List ℕ)
@@ -131,7 +131,7 @@ module _ (at : List (List ℕ)) (there : Node) (without beside : Names) (follow 
       steps [] p q pair = inr (ap (λ (names : List (List ℕ)). reached names (directory none)) pair.same)
       steps (piece ∷ rest) p q pair =
           either (is_dot piece) _ _ _ _ (steps rest p q pair)
-          (either (is_dot_dot piece) _ _ _ _ (steps rest (parent p) (parent q) (pair_up p.here q.here p.above q.above pair.first pair.second pair.same))
+          (either (is_dot_dot piece) _ _ _ _ (steps rest (parent_place p) (parent_place q) (pair_up p.here q.here p.above q.above pair.first pair.second pair.same))
           (by_piece rest (steps rest) p q pair piece))
 
   module _ (apart : Apart at without beside) (gone : node_at (reverse at) (Some (directory without)) ≡ None) (has : node_at (reverse at) (Some (directory beside)) ≡ Some there) where

@@ -5,9 +5,9 @@ use Rattle.std.specs.Str.{bytes_eq}
 use Rattle.std.specs.List.{AllByRecursion, IsDistinct}
 use mathlib.Core.List.{reverse-cons}
 use Rattle.gitbase_core.specs.Path.{components, is_absolute}
-use Rattle.worktree_fs.specs.Tree.{Names, Node, Level, Place, Jump, Spot, reached, missing, nowhere, trail, spot, file, link, directory, other, none, named, names_of, child, is_text, is_dot, is_dot_dot, along, behind, resolve, start, parent, root_of, enter, is_last, is_directory, onward, walking}
+use Rattle.worktree_fs.specs.Tree.{Names, Node, Level, Place, Jump, Spot, reached, missing, nowhere, trail, spot, file, link, directory, other, none, named, names_of, child, is_text, is_dot, is_dot_dot, along, behind, resolve, start, parent_place, root_of, enter, is_nil, is_directory, onward, walking}
 use Rattle.worktree_fs.specs.Naming.{IsTree, AreTrees}
-use Rattle.worktree_fs.specs.Grow.{names_at, obstacle}
+use Rattle.worktree_fs.specs.Grow.{children_of, obstacle}
 use Rattle.worktree_fs.specs.Changes.{cut, cut_names, after_remove}
 use Rattle.worktree_fs.specs.ByNames.{node_at, LeadsByNames}
 use Rattle.std.proofs.lemmas.Slice.Eq.{bytes_eq-Decides}
@@ -24,15 +24,15 @@ IsPlaced root place = IsChain root place.here place.above
 abbrev pub names_above : List Level → List (List ℕ)
 names_above above = map (λ (level : Level). level.name) above
 
-node_at-push : (names : List (List ℕ)) (name : List ℕ) (o : Option Node) → node_at (names ++ name ∷ []) o ≡ child (names_at (node_at names o)) name
+node_at-push : (names : List (List ℕ)) (name : List ℕ) (o : Option Node) → node_at (names ++ name ∷ []) o ≡ child (children_of (node_at names o)) name
 node_at-push [] name o = refl
-node_at-push (n ∷ names) name o = node_at-push names name (child (names_at o) n)
+node_at-push (n ∷ names) name o = node_at-push names name (child (children_of o) n)
 
 pub node_at-last : (names : List (List ℕ)) (name : List ℕ) (root here : Names) → node_at (reverse names) (Some (directory root)) ≡ Some (directory here) → node_at (reverse (name ∷ names)) (Some (directory root)) ≡ child here name
 node_at-last names name root here e =
     ap (λ (l : List (List ℕ)). node_at l (Some (directory root))) (reverse-cons name names)
     ∙ node_at-push (reverse names) name (Some (directory root))
-    ∙ ap (λ (o : Option Node). child (names_at o) name) e
+    ∙ ap (λ (o : Option Node). child (children_of o) name) e
 
 pub chain-node : (root here : Names) (above : List Level) → IsChain root here above → node_at (reverse (names_above above)) (Some (directory root)) ≡ Some (directory here)
 chain-node root here [] chain = ap (λ (n : Names). Some (directory n)) (sym chain)
@@ -41,7 +41,7 @@ chain-node root here (level ∷ above) chain = node_at-last (names_above above) 
 pub chain-child : (root here : Names) (above : List Level) (name : List ℕ) (o : Option Node) → IsChain root here above → child here name ≡ o → node_at (reverse (name ∷ names_above above)) (Some (directory root)) ≡ o
 chain-child root here above name o chain e = node_at-last (names_above above) name root here (chain-node root here above chain) ∙ e
 
-pub in_parent : (root here : Names) (above : List Level) → IsChain root here above → IsPlaced root (parent (record { here = here; above = above }))
+pub in_parent : (root here : Names) (above : List Level) → IsChain root here above → IsPlaced root (parent_place (record { here = here; above = above }))
 in_parent root here [] chain = chain
 in_parent root here (level ∷ above) chain = chain.1
 
@@ -66,17 +66,17 @@ through : (root : Names) (follow : Bool) (jump : Jump) → Keeps root jump → (
     → LeadsByNames root (onward (walking (λ p. along jump follow p rest) jump follow) place rest name o)
 through root follow jump keeps rest goes place is name None e = (place.here, chain-node root place.here place.above is, e)
 through root follow jump keeps rest goes place is name (Some (directory names)) e = goes (enter place name names) (e, is)
-through root follow jump keeps rest goes place is name (Some (link target)) e = go (follow || not (is_last rest))
+through root follow jump keeps rest goes place is name (Some (link target)) e = go (follow || not (is_nil rest))
   where
     go : (b : Bool) → LeadsByNames root (if b then jump place target rest else reached (name ∷ trail place) (link target))
     go true = keeps place target rest is
     go false = chain-child root place.here place.above name (Some (link target)) is e
-through root follow jump keeps rest goes place is name (Some (file bytes)) e = go (is_last rest)
+through root follow jump keeps rest goes place is name (Some (file bytes)) e = go (is_nil rest)
   where
     go : (b : Bool) → LeadsByNames root (if b then reached (name ∷ trail place) (file bytes) else nowhere)
     go true = chain-child root place.here place.above name (Some (file bytes)) is e
     go false = tt
-through root follow jump keeps rest goes place is name (Some other) e = go (is_last rest)
+through root follow jump keeps rest goes place is name (Some other) e = go (is_nil rest)
   where
     go : (b : Bool) → LeadsByNames root (if b then reached (name ∷ trail place) other else nowhere)
     go true = chain-child root place.here place.above name (Some other) is e
@@ -87,9 +87,9 @@ steps root follow jump keeps [] place is = chain-node root place.here place.abov
 steps root follow jump keeps (piece ∷ rest) place is = go (steps root follow jump keeps rest) (is_dot piece) (is_dot_dot piece)
   where
     go : Goes root follow jump rest → (dot up : Bool)
-        → LeadsByNames root (if dot then along jump follow place rest else if up then along jump follow (parent place) rest else onward (walking (λ p. along jump follow p rest) jump follow) place rest piece (child place.here piece))
+        → LeadsByNames root (if dot then along jump follow place rest else if up then along jump follow (parent_place place) rest else onward (walking (λ p. along jump follow p rest) jump follow) place rest piece (child place.here piece))
     go goes true up = goes place is
-    go goes false true = goes (parent place) (in_parent root place.here place.above is)
+    go goes false true = goes (parent_place place) (in_parent root place.here place.above is)
     go goes false false = through root follow jump keeps rest goes place is piece (child place.here piece) refl
 
 all_jumps : (root : Names) (links : ℕ) (follow : Bool) → Keeps root (behind links follow)
@@ -123,7 +123,7 @@ nothing names here e = clash (sym (from_none names) ∙ e)
 
 -- where the last name of a path is missing, nothing stands in the way of a node there: its parent is a directory
 obstacle-push : (names : List (List ℕ)) (name : List ℕ) (o : Option Node) (here : Names) → node_at names o ≡ Some (directory here) → child here name ≡ None → obstacle (names ++ name ∷ []) o ≡ None
-obstacle-push [] name (Some (directory names)) here e free = ap (obstacle []) (ap (λ (n : Option Node). child (names_at n) name) e ∙ free)
+obstacle-push [] name (Some (directory names)) here e free = ap (obstacle []) (ap (λ (n : Option Node). child (children_of n) name) e ∙ free)
 obstacle-push [] name (Some (file bytes)) here e free = absurd (cc e)
 obstacle-push [] name (Some (link target)) here e free = absurd (cc e)
 obstacle-push [] name (Some other) here e free = absurd (cc e)
@@ -188,10 +188,10 @@ pub removed-gone : (root : Names) (path : List ℕ) (follow : Bool) (name : List
 removed-gone root path follow name below node tree e leaf = (
   subst (LeadsByNames root) e (spot-by_names root path follow),
   ap (λ (at : Spot). node_at (reverse (name ∷ below)) (Some (directory (after_remove root at)))) e
-      ∙ ap (λ b. node_at (reverse (name ∷ below)) (Some (directory (if b then root else names_at (Some (cut (reverse (name ∷ below)) (directory root))))))) leaf
+      ∙ ap (λ b. node_at (reverse (name ∷ below)) (Some (directory (if b then root else children_of (Some (cut (reverse (name ∷ below)) (directory root))))))) leaf
       ∙ emptied (reverse (name ∷ below)) (reverse-cons name below),
 )
   where
-    emptied : (path : List (List ℕ)) → path ≡ reverse below ++ name ∷ [] → node_at path (Some (directory (names_at (Some (cut path (directory root)))))) ≡ None
+    emptied : (path : List (List ℕ)) → path ≡ reverse below ++ name ∷ [] → node_at path (Some (directory (children_of (Some (cut path (directory root)))))) ≡ None
     emptied [] e = absurd (no_end (reverse below) name e)
     emptied (first ∷ rest) e = gone_below first rest (directory root) tree

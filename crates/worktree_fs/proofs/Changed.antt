@@ -9,12 +9,12 @@ use Rattle.worktree_fs.specs.declared.memory.grow.AddError.{AddError}
 use Rattle.worktree_fs.specs.declared.memory.grow.AddError.TheVariants as refusals
 use Rattle.worktree_fs.specs.Tree.{Node, Names, Spot, look_at, reached, missing, nowhere, endless, file, link, directory, other, none, child, absent, is_directory, spot, look}
 use Rattle.worktree_fs.specs.Naming.{IsTree}
-use Rattle.worktree_fs.specs.Grow.{grown, names_at, add_refusal, obstacle}
+use Rattle.worktree_fs.specs.Grow.{grown, children_of, add_refusal, obstacle}
 use Rattle.worktree_fs.specs.Changes.{slashed, kept_last, make_answer, made_unless, with_directory, after_make, cut, remove_answer, after_remove}
 use Rattle.worktree_fs.specs.ByNames.{node_at, LeadsByNames, IsMissingIn}
 use Rattle.worktree_fs.specs.Outlines.{outline, outlined, LeadsAlike, Apart}
-use Rattle.worktree_fs.specs.Changed.{Makes, Removes, AnswersInside, made_beside}
-use Rattle.worktree_fs.specs.Join.{Last, last_of}
+use Rattle.worktree_fs.specs.MadeAndRemoved.{Makes, Removes, AnswersInside, made_beside}
+use Rattle.worktree_fs.specs.Last.{Last, last_of}
 use Rattle.worktree_fs.proofs.ByNames.{spot-by_names, node_at-last, removed-gone, missing-free}
 use Rattle.worktree_fs.proofs.Alike.{alike_directory, spot-alike}
 use Rattle.worktree_fs.proofs.Regrown.{HasGap, HasGap-push, HasLeaf-from, Stays, grown-stays, grown-there, cut-stays}
@@ -32,13 +32,13 @@ reversed at before now stays names = elim (stays (reverse names)) [
 -- a directory in the place of a name that is missing
 module _ (before : Names) (name : List ℕ) (below : List (List ℕ)) (here : Names) (leads : node_at (reverse below) (Some (directory before)) ≡ Some (directory here)) (free : child here name ≡ None) where
   abbrev pub made : Names
-  made = names_at (Some (grown (reverse (name ∷ below)) (directory none) (Some (directory before))))
+  made = children_of (Some (grown (reverse (name ∷ below)) (directory none) (Some (directory before))))
 
   no_end : (front : List (List ℕ)) → [] ≡ front ++ name ∷ [] → ⊥
   no_end [] e = cc
   no_end (n ∷ front) e = cc
 
-  pub made_is : (at : List (List ℕ)) → at ≡ reverse below ++ name ∷ [] → grown at (directory none) (Some (directory before)) ≡ directory (names_at (Some (grown at (directory none) (Some (directory before)))))
+  pub made_is : (at : List (List ℕ)) → at ≡ reverse below ++ name ∷ [] → grown at (directory none) (Some (directory before)) ≡ directory (children_of (Some (grown at (directory none) (Some (directory before)))))
   made_is [] e = absurd (no_end (reverse below) e)
   made_is (first ∷ rest) e = refl
 
@@ -103,12 +103,12 @@ shown before now path names node was there (inr e) =
 
 -- how a directory comes to be made
 made_free : (composes : Bool) (t : Names) (at : Spot) → make_answer composes t at ≡ makes.Made
-    → (names : List (List ℕ)) × (at ≡ missing names []) × (after_make composes t at ≡ names_at (Some (grown (components (slashed (kept_last composes names))) (directory none) (Some (directory t)))))
+    → (names : List (List ℕ)) × (at ≡ missing names []) × (after_make composes t at ≡ children_of (Some (grown (components (slashed (kept_last composes names))) (directory none) (Some (directory t)))))
 made_free composes t (reached names node) e = absurd (cc e)
 made_free composes t (missing names []) e = (names, refl, go (add_refusal t (slashed (kept_last composes names))) e)
   where
     go : (refusal : Option AddError) → made_unless refusal ≡ makes.Made
-        → with_directory refusal t (slashed (kept_last composes names)) ≡ names_at (Some (grown (components (slashed (kept_last composes names))) (directory none) (Some (directory t))))
+        → with_directory refusal t (slashed (kept_last composes names)) ≡ children_of (Some (grown (components (slashed (kept_last composes names))) (directory none) (Some (directory t))))
     go None e = refl
     go (Some refusals.NotNormal) e = absurd (cc e)
     go (Some refusals.NoParent) e = absurd (cc e)
@@ -124,18 +124,18 @@ pub makes-there : (composes : Bool) (t : Names) (path : List ℕ) → IsTree (di
     → make_answer composes t (spot t path false) ≡ makes.Made → Makes path t (after_make composes t (spot t path false))
 makes-there composes t path tree keeps answer = go found.0 found.1 (subst (LeadsByNames t) found.1 (spot-by_names t path false)) (subst MissesName found.1 (missed-name t path false)) found.2 (keeps found.0 found.1)
   where
-    found : (names : List (List ℕ)) × (spot t path false ≡ missing names []) × (after_make composes t (spot t path false) ≡ names_at (Some (grown (components (slashed (kept_last composes names))) (directory none) (Some (directory t)))))
+    found : (names : List (List ℕ)) × (spot t path false ≡ missing names []) × (after_make composes t (spot t path false) ≡ children_of (Some (grown (components (slashed (kept_last composes names))) (directory none) (Some (directory t)))))
     found = made_free composes t (spot t path false) answer
 
     go : (names : List (List ℕ)) → spot t path false ≡ missing names [] → IsMissingIn t names → MissesName (missing names [])
-        → after_make composes t (spot t path false) ≡ names_at (Some (grown (components (slashed (kept_last composes names))) (directory none) (Some (directory t)))) → kept_last composes names ≡ names
+        → after_make composes t (spot t path false) ≡ children_of (Some (grown (components (slashed (kept_last composes names))) (directory none) (Some (directory t)))) → kept_last composes names ≡ names
         → Makes path t (after_make composes t (spot t path false))
     go [] was missing_in is_name after kept = absurd missing_in
     go (name ∷ below) was (here, leads, free) is_name after kept =
         let are : AreComponents (name ∷ below) = from_all (name ∷ below) (is_name, real-names t below (directory here) tree leads) in
-        let new : Names = names_at (Some (grown (reverse (name ∷ below)) (directory none) (Some (directory t)))) in
+        let new : Names = children_of (Some (grown (reverse (name ∷ below)) (directory none) (Some (directory t)))) in
         let is : new ≡ after_make composes t (spot t path false) =
-        sym (after ∙ ap (λ (l : List (List ℕ)). names_at (Some (grown l (directory none) (Some (directory t))))) (ap (λ (l : List (List ℕ)). components (slashed l)) kept ∙ components-slashed (name ∷ below) are)) in
+        sym (after ∙ ap (λ (l : List (List ℕ)). children_of (Some (grown l (directory none) (Some (directory t))))) (ap (λ (l : List (List ℕ)). components (slashed l)) kept ∙ components-slashed (name ∷ below) are)) in
         subst (Makes path t) is (record {
           names = name ∷ below;
           was = was;
@@ -205,7 +205,7 @@ made-in composes t path tree above name names spells is_name keeps there =
 
 -- a tree without a node that is no directory
 cut_apart : (at : List (List ℕ)) (t : Names) (node : Node) → IsTree (directory t) → node_at at (Some (directory t)) ≡ Some node → is_directory node ≡ false
-    → (names : List (List ℕ)) → Stays at names (Some (directory (names_at (Some (cut at (directory t)))))) (Some (directory t))
+    → (names : List (List ℕ)) → Stays at names (Some (directory (children_of (Some (cut at (directory t)))))) (Some (directory t))
 cut_apart [] t node tree e leaf names = absurd (clash node leaf e)
   where
     clash : (n : Node) → is_directory n ≡ false → Some (directory t) ≡ Some n → ⊥
@@ -261,10 +261,10 @@ removes-gone t path tree answer = go found.0 found.1 found.2 found.3 found.4
     go name below node was leaf =
         let both = removed-gone t path false name below node tree was leaf in
         let new : Names = after_remove t (spot t path false) in
-        let is : names_at (Some (cut (reverse (name ∷ below)) (directory t))) ≡ new =
-        sym (ap (after_remove t) was ∙ ap (λ b. if b then t else names_at (Some (cut (reverse (name ∷ below)) (directory t)))) leaf) in
+        let is : children_of (Some (cut (reverse (name ∷ below)) (directory t))) ≡ new =
+        sym (ap (after_remove t) was ∙ ap (λ b. if b then t else children_of (Some (cut (reverse (name ∷ below)) (directory t)))) leaf) in
         let apart : Apart (name ∷ below) new t =
-        subst (λ (n : Names). Apart (name ∷ below) n t) is (reversed (name ∷ below) (names_at (Some (cut (reverse (name ∷ below)) (directory t)))) t (cut_apart (reverse (name ∷ below)) t node tree both.0 leaf)) in
+        subst (λ (n : Names). Apart (name ∷ below) n t) is (reversed (name ∷ below) (children_of (Some (cut (reverse (name ∷ below)) (directory t)))) t (cut_apart (reverse (name ∷ below)) t node tree both.0 leaf)) in
         record {
           names = name ∷ below;
           node = node;

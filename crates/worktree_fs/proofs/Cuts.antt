@@ -6,11 +6,11 @@ use Rattle.std.proofs.lemmas.Bool.{cases_lt}
 use Rattle.std.proofs.lemmas.List.{length-map}
 use Rattle.std.proofs.Math.ListN.{get_or-map}
 use Rattle.std.proofs.lemmas.List.Edits.{get_or-remove_below, get_or-remove_above, length-remove}
-use Rattle.worktree_fs.specs.Tree.{Node, directory, names_of, is_last}
-use Rattle.worktree_fs.specs.Grow.{names_at}
+use Rattle.worktree_fs.specs.Tree.{Node, directory, names_of, is_nil}
+use Rattle.worktree_fs.specs.Grow.{children_of}
 use Rattle.worktree_fs.specs.Way.{name_nth, node_nth, dir_nth, IsWay, here_by, names_along}
 use Rattle.worktree_fs.specs.Naming.{IsName, IsTree}
-use Rattle.worktree_fs.specs.Order.{name_cmp, name_at, IsRising, IsAt, IsGap}
+use Rattle.worktree_fs.specs.Order.{path_cmp, name_at, IsRising, IsAt, IsGap}
 use Rattle.worktree_fs.specs.Stored.{names_in, AreSorted}
 use Rattle.worktree_fs.specs.Changes.{cut, cut_names}
 use Rattle.worktree_fs.specs.declared.memory.stored.Entry.{Entry}
@@ -38,10 +38,10 @@ rising_remove es i lt rising j k before in_range =
     let size : length (names (remove es i)) + 1 ≡ length (names es) = omega (arith, length-map (remove es i) (λ (e : Entry). e.name), length-map es (λ (e : Entry). e.name), length-remove es i lt) in
     go (moved es i lt j) (moved es i lt k) (omega (arith, size, in_range))
   where
-    at : (a b x y : List ℕ) → a ≡ x → b ≡ y → name_cmp x y ≡ Less → name_cmp a b ≡ Less
-    at a b x y p q r = ap (λ (n : List ℕ). name_cmp n b) p ∙ ap (name_cmp x) q ∙ r
+    at : (a b x y : List ℕ) → a ≡ x → b ≡ y → path_cmp x y ≡ Less → path_cmp a b ≡ Less
+    at a b x y p q r = ap (λ (n : List ℕ). path_cmp n b) p ∙ ap (path_cmp x) q ∙ r
 
-    go : Moved es i j → Moved es i k → k + 1 < length (names es) → name_cmp (name_at (names (remove es i)) j) (name_at (names (remove es i)) k) ≡ Less
+    go : Moved es i j → Moved es i k → k + 1 < length (names es) → path_cmp (name_at (names (remove es i)) j) (name_at (names (remove es i)) k) ≡ Less
     go (inl a) (inl b) r = at _ _ _ _ a.1 b.1 (rising j k before (omega (arith, r)))
     go (inl a) (inr b) r = at _ _ _ _ a.1 b.1 (rising j (k + 1) (omega (arith, before)) r)
     go (inr a) (inl b) r = absurd (omega (arith, a.0, b.0, before))
@@ -73,7 +73,7 @@ cut_gap (e ∷ es) x rest (suc i) gap =
     let ih = cut_gap es x rest i (gap_tail e.name (names es) x i gap) in
     grind arith
 
-cut_remove : (es : List Entry) (x : List ℕ) (i : ℕ) (d : Entry) → i < length es → (get_or es i d).name ≡ x → ((j : ℕ) → j < i → name_cmp (name_at (names es) j) x ≡ Less) → names_in (remove es i) ≡ cut_names x [] (names_in es)
+cut_remove : (es : List Entry) (x : List ℕ) (i : ℕ) (d : Entry) → i < length es → (get_or es i d).name ≡ x → ((j : ℕ) → j < i → path_cmp (name_at (names es) j) x ≡ Less) → names_in (remove es i) ≡ cut_names x [] (names_in es)
 cut_remove [] x i d lt is below = absurd (omega arith)
 cut_remove (h ∷ es) x zero d lt is below =
     let yes = same_name h.name x is in
@@ -83,8 +83,8 @@ cut_remove (h ∷ es) x (suc i) d lt is below =
     let ih = cut_remove es x i d (omega arith) is (λ j l. below (suc j) (omega arith)) in
     grind arith
 
-cut_set : (es : List Entry) (x : List ℕ) (rest : List (List ℕ)) (i : ℕ) (d e : Entry) → is_last rest ≡ false → i < length es → (get_or es i d).name ≡ x → e.name ≡ (get_or es i d).name → e.node ≡ cut rest (get_or es i d).node
-    → ((j : ℕ) → j < i → name_cmp (name_at (names es) j) x ≡ Less) → names_in (set es i e) ≡ cut_names x rest (names_in es)
+cut_set : (es : List Entry) (x : List ℕ) (rest : List (List ℕ)) (i : ℕ) (d e : Entry) → is_nil rest ≡ false → i < length es → (get_or es i d).name ≡ x → e.name ≡ (get_or es i d).name → e.node ≡ cut rest (get_or es i d).node
+    → ((j : ℕ) → j < i → path_cmp (name_at (names es) j) x ≡ Less) → names_in (set es i e) ≡ cut_names x rest (names_in es)
 cut_set [] x rest i d e more lt is same node below = absurd (omega arith)
 cut_set (h ∷ es) x rest zero d e more lt is same node below =
     let yes = same_name h.name x is in
@@ -103,8 +103,8 @@ module _ (es : List Entry) (rising : IsRising (names es)) (x : List ℕ) (i : �
   pub in_es : i < length es
   in_es = omega (arith, at.in_range, length-map es (λ (e : Entry). e.name))
 
-  lower : (j : ℕ) → j < i → name_cmp (name_at (names es) j) x ≡ Less
-  lower j lt = subst (λ (n : List ℕ). name_cmp (name_at (names es) j) n ≡ Less) at.is (rising j i lt at.in_range)
+  lower : (j : ℕ) → j < i → path_cmp (name_at (names es) j) x ≡ Less
+  lower j lt = subst (λ (n : List ℕ). path_cmp (name_at (names es) j) n ≡ Less) at.is (rising j i lt at.in_range)
 
   pub cut_here : names_in (remove es i) ≡ cut_names x [] (names_in es)
   cut_here = cut_remove es x i blank in_es (sym (named_at es i) ∙ at.is) lower
@@ -112,7 +112,7 @@ module _ (es : List Entry) (rising : IsRising (names es)) (x : List ℕ) (i : �
   at_name : (d : Entry) → d ≡ get_or es i d → (get_or es i d).name ≡ x
   at_name d is = sym (ap (λ (e : Entry). e.name) is) ∙ d_name es rising x i at d is
 
-  pub cut_there : (d : Entry) → d ≡ get_or es i d → (rest : List (List ℕ)) (made : Node) → is_last rest ≡ false → made ≡ cut rest d.node
+  pub cut_there : (d : Entry) → d ≡ get_or es i d → (rest : List (List ℕ)) (made : Node) → is_nil rest ≡ false → made ≡ cut rest d.node
       → names_in (set es i (record { name = d.name; node = made })) ≡ cut_names x rest (names_in es)
   cut_there d is rest made more e =
       cut_set es x rest i d (record { name = d.name; node = made }) more in_es (at_name d is) (ap (λ (e : Entry). e.name) is) (e ∙ ap (λ (e : Entry). cut rest e.node) is) lower
@@ -132,23 +132,23 @@ module _ (es : List Entry) (way : List ℕ) (first : ℕ) (rest : List ℕ) (at 
     node_is : node_nth (names_in es) first ≡ d.node
     node_is = nth_node_at es first d first_in_range value
 
-    pub step_directory : d.node ≡ directory (names_at (Some d.node))
-    step_directory = sym node_is ∙ all_steps.0 ∙ ap (λ (n : Node). directory (names_at (Some n))) node_is
+    pub step_directory : d.node ≡ directory (children_of (Some d.node))
+    step_directory = sym node_is ∙ all_steps.0 ∙ ap (λ (n : Node). directory (children_of (Some n))) node_is
 
-    pub step_way : IsWay rest (names_at (Some d.node))
-    step_way = subst (λ (n : Node). IsWay rest (names_at (Some n))) node_is all_steps.1
+    pub step_way : IsWay rest (children_of (Some d.node))
+    step_way = subst (λ (n : Node). IsWay rest (children_of (Some n))) node_is all_steps.1
 
-    pub step_there : at < length (names_of (here_by rest (names_at (Some d.node))))
+    pub step_there : at < length (names_of (here_by rest (children_of (Some d.node))))
     step_there =
-        subst (λ (n : Node). at < length (names_of (here_by rest (names_at (Some n))))) node_is
+        subst (λ (n : Node). at < length (names_of (here_by rest (children_of (Some n))))) node_is
         (subst (λ (w : List ℕ). at < length (names_of (here_by w (names_in es)))) e there)
 
-    pub step_cut : IsRising (names es) → (made : Node) → made ≡ cut (names_along rest at (names_at (Some d.node))) d.node
+    pub step_cut : IsRising (names es) → (made : Node) → made ≡ cut (names_along rest at (children_of (Some d.node))) d.node
         → directory (names_in (set es first (record { name = d.name; node = made }))) ≡ cut (names_along way at (names_in es)) (directory (names_in es))
     step_cut rising made ih =
         ap directory (cut_there es rising (name_nth (names_in es) first) first (is_at es first first_in_range) d value
-        (names_along rest at (names_at (Some d.node))) made (along-more rest at (names_at (Some d.node))) ih)
-        ∙ ap (λ (n : Node). directory (cut_names (name_nth (names_in es) first) (names_along rest at (names_at (Some n))) (names_in es))) (sym node_is)
+        (names_along rest at (children_of (Some d.node))) made (along-more rest at (children_of (Some d.node))) ih)
+        ∙ ap (λ (n : Node). directory (cut_names (name_nth (names_in es) first) (names_along rest at (children_of (Some n))) (names_in es))) (sym node_is)
         ∙ sym (ap (λ (w : List ℕ). cut (names_along w at (names_in es)) (directory (names_in es))) e)
 
     pub step_sorted : AreSorted es → (made : Node) → IsTree made → AreSorted (set es first (record { name = d.name; node = made }))

@@ -1,7 +1,7 @@
 -- A path that leads to a directory with its last link not followed leads there with it followed.
 use Rattle.std.proofs.Common.{◌≡◌, ℕ, zero, suc, Bool, true, false, List, [], ◌∷◌, ◌++◌, Option, Some, None, if◌then◌else◌}
 use Rattle.gitbase_core.specs.Path.{components}
-use Rattle.worktree_fs.specs.Tree.{Names, Node, Place, Spot, Jump, look_at, nowhere, spot, found, file, link, directory, other, child, is_text, is_dot, is_dot_dot, along, behind, resolve, look, start, parent, enter, onward, walking}
+use Rattle.worktree_fs.specs.Tree.{Names, Node, Place, Spot, Jump, look_at, nowhere, spot, found, file, link, directory, other, child, is_text, is_dot, is_dot_dot, along, behind, resolve, look, start, parent_place, enter, onward, walking}
 
 module _ (names : Names) where
   -- a jump that leads to the directory leads there following too
@@ -24,10 +24,10 @@ module _ (names : Names) where
   through staying following jumps (r ∷ rest) goes place piece (Some other) e = absurd (cc e)
 
   split : (staying following : Jump) → Jumps staying following → (rest : List (List ℕ)) → Goes staying following rest → (place : Place) (piece : List ℕ) (dot up : Bool)
-      → look_at (if dot then along staying false place rest else if up then along staying false (parent place) rest else onward (walking (λ p. along staying false p rest) staying false) place rest piece (child place.here piece)) ≡ found (directory names)
-      → look_at (if dot then along following true place rest else if up then along following true (parent place) rest else onward (walking (λ p. along following true p rest) following true) place rest piece (child place.here piece)) ≡ found (directory names)
+      → look_at (if dot then along staying false place rest else if up then along staying false (parent_place place) rest else onward (walking (λ p. along staying false p rest) staying false) place rest piece (child place.here piece)) ≡ found (directory names)
+      → look_at (if dot then along following true place rest else if up then along following true (parent_place place) rest else onward (walking (λ p. along following true p rest) following true) place rest piece (child place.here piece)) ≡ found (directory names)
   split staying following jumps rest goes place piece true up e = goes place e
-  split staying following jumps rest goes place piece false true e = goes (parent place) e
+  split staying following jumps rest goes place piece false true e = goes (parent_place place) e
   split staying following jumps rest goes place piece false false e = through staying following jumps rest goes place piece (child place.here piece) e
 
   steps : (staying following : Jump) → Jumps staying following → (rest : List (List ℕ)) → Goes staying following rest

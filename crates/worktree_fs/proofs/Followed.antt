@@ -5,7 +5,7 @@ use Rattle.worktree_fs.specs.Answers.{read_of}
 use Rattle.worktree_fs.specs.declared.answers.ReadAnswer.{ReadAnswer}
 use Rattle.worktree_fs.specs.declared.answers.ReadAnswer.TheVariants as answers
 use Rattle.worktree_fs.specs.declared.answers.ReadError.{ReadError}
-use Rattle.worktree_fs.specs.Tree.{Node, Names, file, link, directory, other, Place, Jump, Look, Spot, look_at, reached, nowhere, trail, spot, found, absent, too_many_links, child, enter, parent, start, is_text, is_dot, is_dot_dot, is_last, onward, walking, along, behind, look}
+use Rattle.worktree_fs.specs.Tree.{Node, Names, file, link, directory, other, Place, Jump, Look, Spot, look_at, reached, nowhere, trail, spot, found, absent, too_many_links, child, enter, parent_place, start, is_text, is_dot, is_dot_dot, is_nil, onward, walking, along, behind, look}
 
 -- a path leads to no link
 abbrev pub NoLink : Look → Type 0
@@ -25,14 +25,14 @@ NoLink-onward : (go : Place → Spot) (jump : Jump) (place : Place) (rest : List
 NoLink-onward go jump place rest name None along_on jumps = tt
 NoLink-onward go jump place rest name (Some (directory names)) along_on jumps = along_on (enter place name names)
 NoLink-onward go jump place rest name (Some (link target)) along_on jumps = jumps place target rest
-NoLink-onward go jump place rest name (Some (file bytes)) along_on jumps = NoLink-if (is_last rest) (reached (name ∷ trail place) (file bytes)) nowhere tt tt
-NoLink-onward go jump place rest name (Some other) along_on jumps = NoLink-if (is_last rest) (reached (name ∷ trail place) other) nowhere tt tt
+NoLink-onward go jump place rest name (Some (file bytes)) along_on jumps = NoLink-if (is_nil rest) (reached (name ∷ trail place) (file bytes)) nowhere tt tt
+NoLink-onward go jump place rest name (Some other) along_on jumps = NoLink-if (is_nil rest) (reached (name ∷ trail place) other) nowhere tt tt
 
 NoLink-along : (jump : Jump) (place : Place) (rest : List (List ℕ)) → ((p : Place) (target : List ℕ) (more : List (List ℕ)) → NoLink (look_at (jump p target more))) → NoLink (look_at (along jump true place rest))
 NoLink-along jump place [] jumps = tt
 NoLink-along jump place (piece ∷ rest) jumps =
     NoLink-if (is_dot piece) _ _ (NoLink-along jump place rest jumps)
-    (NoLink-if (is_dot_dot piece) _ _ (NoLink-along jump (parent place) rest jumps)
+    (NoLink-if (is_dot_dot piece) _ _ (NoLink-along jump (parent_place place) rest jumps)
     (NoLink-onward (λ p. along jump true p rest) jump place rest piece (child place.here piece) (λ p. NoLink-along jump p rest jumps) jumps))
 
 NoLink-behind : (links : ℕ) (place : Place) (target : List ℕ) (rest : List (List ℕ)) → NoLink (look_at (behind links true place target rest))

@@ -2,15 +2,15 @@
 use Rattle.std.proofs.Common.{◌≡◌, ℕ, zero, suc, ◌-◌, length, get_or, arith, eqb-true, Bool, true, false, List, [], ◌∷◌, ◌++◌, Option, Some, None, refl, not, if◌then◌else◌, sym, ap, ◌∙◌, append_assoc}
 use Rattle.std.proofs.lemmas.List.{append-nil}
 use Rattle.gitbase_core.specs.Path.{components, is_slash, ends_in_slash, joined}
-use Rattle.worktree_fs.specs.Tree.{Names, Node, Place, Spot, Jump, Look, look_at, absent, reached, missing, nowhere, endless, trail, spot, found, file, link, directory, other, child, is_text, is_dot, is_dot_dot, along, behind, resolve, look, start, parent, enter, is_last, onward, walking}
+use Rattle.worktree_fs.specs.Tree.{Names, Node, Place, Spot, Jump, Look, look_at, absent, reached, missing, nowhere, endless, trail, spot, found, file, link, directory, other, child, is_text, is_dot, is_dot_dot, along, behind, resolve, look, start, parent_place, enter, is_nil, onward, walking}
 use Rattle.worktree_fs.specs.Naming.{IsName}
-use Rattle.worktree_fs.specs.Join.{at_child, Last, last_of}
+use Rattle.worktree_fs.specs.Last.{at_child, Last, last_of}
 use Rattle.worktree_fs.proofs.Texts.{is_text-append, is_text-slash, pieces-join}
 use Rattle.worktree_fs.proofs.NameParts.{name_parts, pieces-name}
 
-is_last-push : (rest : List (List ℕ)) (n : List ℕ) → is_last (rest ++ n ∷ []) ≡ false
-is_last-push [] n = refl
-is_last-push (r ∷ rest) n = refl
+is_nil-push : (rest : List (List ℕ)) (n : List ℕ) → is_nil (rest ++ n ∷ []) ≡ false
+is_nil-push [] n = refl
+is_nil-push (r ∷ rest) n = refl
 
 -- only a text leads anywhere
 text_if_found : (b : Bool) (l : Spot) (node : Node) → look_at (if b then l else nowhere) ≡ found node → (b ≡ true) × (look_at l ≡ found node)
@@ -73,23 +73,23 @@ module _ (names : Names) (name : List ℕ) (is_name : IsName name) where
   through following staying jumps rest goes place piece None e = absurd (cc e)
   through following staying jumps rest goes place piece (Some (directory sub)) e = goes (enter place piece sub) e
   through following staying jumps rest goes place piece (Some (link target)) e =
-      ap (λ b. last_of (if not b then staying place target (rest ++ name ∷ []) else reached (piece ∷ trail place) (link target))) (is_last-push rest name) ∙ jumps place target rest e
+      ap (λ b. last_of (if not b then staying place target (rest ++ name ∷ []) else reached (piece ∷ trail place) (link target))) (is_nil-push rest name) ∙ jumps place target rest e
   through following staying jumps [] goes place piece (Some (file bytes)) e = absurd (cc e)
   through following staying jumps (r ∷ rest) goes place piece (Some (file bytes)) e = absurd (cc e)
   through following staying jumps [] goes place piece (Some other) e = absurd (cc e)
   through following staying jumps (r ∷ rest) goes place piece (Some other) e = absurd (cc e)
 
   split : (following staying : Jump) → Jumps following staying → (rest : List (List ℕ)) → Goes following staying rest → (place : Place) (piece : List ℕ) (dot up : Bool)
-      → look_at (if dot then along following true place rest else if up then along following true (parent place) rest else onward (walking (λ p. along following true p rest) following true) place rest piece (child place.here piece)) ≡ found (directory names)
-      → last_of (if dot then along staying false place (rest ++ name ∷ []) else if up then along staying false (parent place) (rest ++ name ∷ []) else onward (walking (λ p. along staying false p (rest ++ name ∷ [])) staying false) place (rest ++ name ∷ []) piece (child place.here piece)) ≡ at_name
+      → look_at (if dot then along following true place rest else if up then along following true (parent_place place) rest else onward (walking (λ p. along following true p rest) following true) place rest piece (child place.here piece)) ≡ found (directory names)
+      → last_of (if dot then along staying false place (rest ++ name ∷ []) else if up then along staying false (parent_place place) (rest ++ name ∷ []) else onward (walking (λ p. along staying false p (rest ++ name ∷ [])) staying false) place (rest ++ name ∷ []) piece (child place.here piece)) ≡ at_name
   split following staying jumps rest goes place piece true up e = goes place e
-  split following staying jumps rest goes place piece false true e = goes (parent place) e
+  split following staying jumps rest goes place piece false true e = goes (parent_place place) e
   split following staying jumps rest goes place piece false false e = through following staying jumps rest goes place piece (child place.here piece) e
 
   steps : (following staying : Jump) → Jumps following staying → (rest : List (List ℕ)) → Goes following staying rest
   steps following staying jumps [] place e =
-      ap (λ b. last_of (if b then along staying false place [] else if is_dot_dot name then along staying false (parent place) [] else onward (walking (λ p. along staying false p []) staying false) place [] name (child place.here name))) (name_parts name is_name).no_dot
-      ∙ ap (λ b. last_of (if b then along staying false (parent place) [] else onward (walking (λ p. along staying false p []) staying false) place [] name (child place.here name))) (name_parts name is_name).no_dot_dot
+      ap (λ b. last_of (if b then along staying false place [] else if is_dot_dot name then along staying false (parent_place place) [] else onward (walking (λ p. along staying false p []) staying false) place [] name (child place.here name))) (name_parts name is_name).no_dot
+      ∙ ap (λ b. last_of (if b then along staying false (parent_place place) [] else onward (walking (λ p. along staying false p []) staying false) place [] name (child place.here name))) (name_parts name is_name).no_dot_dot
       ∙ last staying place name (child place.here name)
       ∙ ap (λ (n : Names). Some (record { name = name; node = child n name })) (cc e)
   steps following staying jumps (piece ∷ rest) place e = split following staying jumps rest (steps following staying jumps rest) place piece (is_dot piece) (is_dot_dot piece) e

@@ -15,14 +15,14 @@ pub mod Order
 pub mod Parts
 pub mod Pieces
 pub mod Regrown
-pub mod Settled
 pub mod Slashed
 pub mod Sorted
-pub mod Steps
 pub mod Subtree
 pub mod Tested
 pub mod Texts
 pub mod TextPieces
+mod Within
+mod KeptNames
 pub mod Followed
 pub mod Spelled
 mod Cuts

@@ -2,7 +2,7 @@
 use Rattle.std.proofs.Common.{◌≡◌, Bool, true, false, ℕ, List, [], if◌then◌else◌, Option, Some, None, refl, sym, ap, subst}
 use Rattle.worktree_fs.specs.Composed.{as_kept}
 use Rattle.worktree_fs.specs.Naming.{IsName, is_name}
-use Rattle.worktree_fs.specs.Edges.{IsListed}
+use Rattle.worktree_fs.specs.Disk.{IsListed}
 
 abbrev name_or : Option (List ℕ) → List ℕ
 name_or None = []

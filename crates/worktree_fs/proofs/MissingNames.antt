@@ -5,15 +5,14 @@ use Rattle.std.specs.Str.{bytes_eq}
 use Rattle.std.specs.List.{AllByRecursion}
 use mathlib.Core.List.{reverse-cons}
 use Rattle.gitbase_core.specs.Path.{components}
-use Rattle.worktree_fs.specs.Tree.{Node, Names, Place, Jump, Spot, reached, missing, nowhere, endless, file, link, directory, other, none, named, names_of, child, is_text, is_dot, is_dot_dot, is_last, trail, enter, parent, start, onward, walking, along, behind, resolve, spot}
+use Rattle.worktree_fs.specs.Tree.{Node, Names, Place, Jump, Spot, reached, missing, nowhere, endless, file, link, directory, other, none, named, names_of, child, is_text, is_dot, is_dot_dot, is_nil, trail, enter, parent_place, start, onward, walking, along, behind, resolve, spot}
 use Rattle.worktree_fs.specs.Naming.{IsName, IsTree}
 use Rattle.worktree_fs.specs.Paths.{IsComponent}
 use Rattle.worktree_fs.specs.Changes.{slashed}
 use Rattle.worktree_fs.specs.ByNames.{node_at}
-use Rattle.worktree_fs.proofs.ByNames.{bytes_same}
 use Rattle.worktree_fs.proofs.NameParts.{pieces-name}
 use Rattle.worktree_fs.proofs.Regrown.{nothing_there}
-use Rattle.worktree_fs.proofs.Subtree.{IsTree-child}
+use Rattle.worktree_fs.proofs.Subtree.{IsTree-child, named_is}
 use Rattle.worktree_fs.proofs.TextPieces.{AreParts, parts-components, name-from_part}
 use Rattle.worktree_fs.proofs.Texts.{pieces-join}
 
@@ -44,18 +43,18 @@ through : (follow : Bool) (jump : Jump) → Jumps jump → (rest : List (List �
     → MissesName (onward (walking (λ s. along jump follow s rest) jump follow) place rest name o)
 through follow jump jumps rest are goes place name is None = is
 through follow jump jumps rest are goes place name is (Some (directory names)) = goes (enter place name names)
-through follow jump jumps rest are goes place name is (Some (link target)) = either (follow || not (is_last rest)) _ _ (jumps place target rest are) tt
-through follow jump jumps rest are goes place name is (Some (file bytes)) = either (is_last rest) (reached (name ∷ trail place) (file bytes)) nowhere tt tt
-through follow jump jumps rest are goes place name is (Some other) = either (is_last rest) (reached (name ∷ trail place) other) nowhere tt tt
+through follow jump jumps rest are goes place name is (Some (link target)) = either (follow || not (is_nil rest)) _ _ (jumps place target rest are) tt
+through follow jump jumps rest are goes place name is (Some (file bytes)) = either (is_nil rest) (reached (name ∷ trail place) (file bytes)) nowhere tt tt
+through follow jump jumps rest are goes place name is (Some other) = either (is_nil rest) (reached (name ∷ trail place) other) nowhere tt tt
 
 steps : (follow : Bool) (jump : Jump) → Jumps jump → (rest : List (List ℕ)) → AreParts rest → (place : Place) → MissesName (along jump follow place rest)
 steps follow jump jumps [] are place = tt
 steps follow jump jumps (piece ∷ rest) are place = go (is_dot piece) (is_dot_dot piece) refl refl (steps follow jump jumps rest are.1)
   where
     go : (dot up : Bool) → is_dot piece ≡ dot → is_dot_dot piece ≡ up → ((place : Place) → MissesName (along jump follow place rest))
-        → MissesName (if dot then along jump follow place rest else if up then along jump follow (parent place) rest else onward (walking (λ s. along jump follow s rest) jump follow) place rest piece (child place.here piece))
+        → MissesName (if dot then along jump follow place rest else if up then along jump follow (parent_place place) rest else onward (walking (λ s. along jump follow s rest) jump follow) place rest piece (child place.here piece))
     go true up d u goes = goes place
-    go false true d u goes = goes (parent place)
+    go false true d u goes = goes (parent_place place)
     go false false d u goes = through follow jump jumps rest are.1 goes place piece (name-from_part piece are.0 d u) (child place.here piece)
 
 all_jumps : (links : ℕ) (follow : Bool) → Jumps (behind links follow)
@@ -75,15 +74,7 @@ missed-name root path follow = go (is_text path) refl
     go true text = steps follow (behind 32 follow) (all_jumps 32 follow) (components path) (parts-components path text) (record { here = root; above = [] })
     go false text = tt
 
--- the names of a tree
-named_is : (names : Names) (name : List ℕ) (node : Node) → AllByRecursion IsName (names_of names) → child names name ≡ Some node → IsName name
-named_is none name node each e = absurd (cc e)
-named_is (named n first rest) name node each e = go (bytes_eq n name) refl e (named_is rest name node each.1)
-  where
-    go : (b : Bool) → bytes_eq n name ≡ b → (if b then Some first else child rest name) ≡ Some node → (child rest name ≡ Some node → IsName name) → IsName name
-    go true same e ih = subst IsName (bytes_same n name same) each.0
-    go false same e ih = ih e
-
+-- names that lead from a node of a tree to another
 pub real : (names : List (List ℕ)) (from end : Node) → IsTree from → node_at names (Some from) ≡ Some end → AllByRecursion IsName names
 real [] from end tree e = tt
 real (n ∷ names) (directory inner) end tree e = go (child inner n) refl e (real names)

@@ -3,10 +3,10 @@ use Rattle.std.proofs.Common.{◌≡◌, ◌⊎◌, inl, inr, ℕ, Bool, true, f
 use Rattle.std.specs.Prelude.{option_map}
 use Rattle.std.specs.Str.{bytes_eq}
 use Rattle.std.specs.Ordering.{is_lt}
-use Rattle.worktree_fs.specs.Tree.{Node, Names, file, link, directory, other, none, named, child, is_directory, is_last}
+use Rattle.worktree_fs.specs.Tree.{Node, Names, file, link, directory, other, none, named, child, is_directory, is_nil}
 use Rattle.worktree_fs.specs.Naming.{IsTree}
-use Rattle.worktree_fs.specs.Grow.{put, grown, names_at}
-use Rattle.worktree_fs.specs.Order.{name_cmp}
+use Rattle.worktree_fs.specs.Grow.{put, grown, children_of}
+use Rattle.worktree_fs.specs.Order.{path_cmp}
 use Rattle.worktree_fs.specs.Changes.{cut, cut_names}
 use Rattle.worktree_fs.specs.ByNames.{node_at}
 use Rattle.worktree_fs.specs.Outlines.{outline}
@@ -84,7 +84,7 @@ pick_before n k m node old more differs = go (bytes_eq n m) (bytes_eq k m) (λ e
 
 pub child-put : (n : List ℕ) (node : Node) (names : Names) (m : List ℕ) → child (put n node names) m ≡ (if bytes_eq n m then Some node else child names m)
 child-put n node none m = refl
-child-put n node (named k old rest) m = go (bytes_eq k n) refl (is_lt (name_cmp n k)) (child-put n node rest m)
+child-put n node (named k old rest) m = go (bytes_eq k n) refl (is_lt (path_cmp n k)) (child-put n node rest m)
   where
     go : (b : Bool) → bytes_eq k n ≡ b → (lt : Bool) → child (put n node rest) m ≡ (if bytes_eq n m then Some node else child rest m)
         → child (if b then named n node rest else if lt then named n node (named k old rest) else named k old (put n node rest)) m
@@ -96,7 +96,7 @@ child-put n node (named k old rest) m = go (bytes_eq k n) refl (is_lt (name_cmp 
 -- the names in a directory from which one was taken, or the node of which was
 pub child-cut_other : (n : List ℕ) (below : List (List ℕ)) (names : Names) (m : List ℕ) → bytes_eq n m ≡ false → child (cut_names n below names) m ≡ child names m
 child-cut_other n below none m differs = refl
-child-cut_other n below (named k node more) m differs = go (bytes_eq k n) refl (is_last below) (child-cut_other n below more m differs)
+child-cut_other n below (named k node more) m differs = go (bytes_eq k n) refl (is_nil below) (child-cut_other n below more m differs)
   where
     drops : (b : Bool) → b ≡ false → child more m ≡ (if b then Some node else child more m)
     drops true e = absurd (cc e)
@@ -125,7 +125,7 @@ child-cut_same n next below (named k node more) = go (bytes_eq k n) refl (child-
 abbrev pub Stays : List (List ℕ) → List (List ℕ) → Option Node → Option Node → Type 0
 Stays at names before now = (names ≡ at) ⊎ (option_map outline (node_at names before) ≡ option_map outline (node_at names now))
 
-one_more : (at names : List (List ℕ)) (n : List ℕ) (before now : Option Node) (a b : Option Node) → child (names_at before) n ≡ a → child (names_at now) n ≡ b → Stays at names a b → Stays (n ∷ at) (n ∷ names) before now
+one_more : (at names : List (List ℕ)) (n : List ℕ) (before now : Option Node) (a b : Option Node) → child (children_of before) n ≡ a → child (children_of now) n ≡ b → Stays at names a b → Stays (n ∷ at) (n ∷ names) before now
 one_more at names n before now a b c d (inl is) = inl (ap (λ (l : List (List ℕ)). n ∷ l) is)
 one_more at names n before now a b c d (inr e) = inr (ap (λ (o : Option Node). option_map outline (node_at names o)) c ∙ e ∙ ap (λ (o : Option Node). option_map outline (node_at names o)) (sym d))
 
@@ -148,11 +148,11 @@ grown-stays (n ∷ rest) from (inner, is, gap) (m ∷ names) =
 pub grown-there : (at : List (List ℕ)) (node : Node) (from : Option Node) → node_at at (Some (grown at node from)) ≡ Some node
 grown-there [] node from = refl
 grown-there (n ∷ rest) node from =
-    let made : Node = grown rest node (child (names_at from) n) in
-    ap (node_at rest) (child-put n made (names_at from) n ∙ ap (λ b. if b then Some made else child (names_at from) n) (same_name n n refl))
-    ∙ grown-there rest node (child (names_at from) n)
+    let made : Node = grown rest node (child (children_of from) n) in
+    ap (node_at rest) (child-put n made (children_of from) n ∙ ap (λ b. if b then Some made else child (children_of from) n) (same_name n n refl))
+    ∙ grown-there rest node (child (children_of from) n)
 
-no_names : (node : Node) → is_directory node ≡ false → names_at (Some node) ≡ none
+no_names : (node : Node) → is_directory node ≡ false → children_of (Some node) ≡ none
 no_names (file bytes) leaf = refl
 no_names (link target) leaf = refl
 no_names (directory names) leaf = absurd (cc leaf)

@@ -2,15 +2,19 @@
 use Rattle.std.proofs.Common.{◌≡◌, ◌==◌, ℕ, ◌+◌, ◌<◌, Bool, true, false, not, ◌&&◌, ◌||◌, List, [], ◌∷◌, ◌++◌, length, drop, get_or, cond, filter, refl, sym, ap, subst, ◌∙◌, arith, append_assoc}
 use Rattle.std.specs.Prelude.{IsUtf8}
 use Rattle.std.specs.Str.{is_utf8}
-use Rattle.std.specs.List.{list_any, onto_first, AllByRecursion}
+use Rattle.std.specs.List.{list_any, list_all, onto_first, AllByRecursion}
 use Rattle.std.proofs.lemmas.Bool.{and_parts, and_from, or_parts}
 use Rattle.std.proofs.lemmas.Bool.Decides.{nat_tests}
 use Rattle.std.proofs.lemmas.List.{append-nil, length-append, drop_at, get_or_at}
 use Rattle.std.proofs.Math.Seq.{take-append_seam}
-use Rattle.std.proofs.lemmas.Str.{IsUtf8-take, IsUtf8-drop, IsCharBoundary-before_ascii, IsCharBoundary-after_ascii, IsUtf8-from_is_utf8, is_utf8-from_IsUtf8}
+use Rattle.std.proofs.lemmas.Str.{IsUtf8-nil, IsUtf8-append, IsUtf8-take, IsUtf8-drop, IsCharBoundary-before_ascii, IsCharBoundary-after_ascii, IsUtf8-from_is_utf8, is_utf8-from_IsUtf8}
 use Rattle.gitbase_core.specs.Path.{is_slash, is_empty, pieces, components}
 use Rattle.worktree_fs.specs.Tree.{is_text, is_dot, is_dot_dot}
-use Rattle.worktree_fs.specs.Naming.{IsName}
+use Rattle.worktree_fs.specs.Grow.{is_full_path}
+use Rattle.worktree_fs.specs.Naming.{IsName, is_name}
+use Rattle.worktree_fs.proofs.NameParts.{name_parts}
+use Rattle.worktree_fs.proofs.Parts.{all_names}
+use Rattle.worktree_fs.proofs.Texts.{is_text-slash}
 
 abbrev is_nul : ℕ → Bool
 is_nul b = b == 0
@@ -124,3 +128,46 @@ name-from_part name part dot dot_dot =
     let plain = and_from (is_text name && not (is_empty name)) (not (list_any (λ b. b == 47) name)) text_full (ap not part.no_slash) in
     let undotted = and_from (is_text name && not (is_empty name) && not (list_any (λ b. b == 47) name)) (not (is_dot name)) plain (ap not dot) in
     and_from (is_text name && not (is_empty name) && not (list_any (λ b. b == 47) name) && not (is_dot name)) (not (is_dot_dot name)) undotted (ap not dot_dot)
+
+-- bytes whose pieces are texts are a text
+slash_text : IsUtf8 (47 ∷ [])
+unfolding is_text
+slash_text = IsUtf8-from_is_utf8 (47 ∷ []) (and_parts (is_utf8 (47 ∷ [])) (not (list_any is_nul (47 ∷ []))) is_text-slash).0
+
+behind_slash : (bytes : List ℕ) → IsUtf8 bytes → IsUtf8 (47 ∷ bytes)
+behind_slash bytes text = IsUtf8-append (47 ∷ []) bytes slash_text text
+
+fronted_from : (parts : List (List ℕ)) → AllByRecursion IsUtf8 parts → AreFronted [] parts
+fronted_from [] all = IsUtf8-nil
+fronted_from (first ∷ others) all = all
+
+without_first : (front : List ℕ) (b : ℕ) (parts : List (List ℕ)) → AreFronted front (onto_first b parts) → AreFronted (front ++ b ∷ []) parts
+without_first front b [] are = are.0
+without_first front b (first ∷ others) are = (subst IsUtf8 (sym (append_assoc front (b ∷ []) first)) are.0, are.1)
+
+joined : (front bytes : List ℕ) → AreFronted front (pieces bytes) → IsUtf8 (front ++ bytes)
+joined front [] are = are.0
+joined front (b ∷ bytes) are = go (is_slash b) refl are (λ more. joined more bytes)
+  where
+    go : (t : Bool) → is_slash b ≡ t → AreFronted front (cond t ([] ∷ pieces bytes) (onto_first b (pieces bytes))) → ((more : List ℕ) → AreFronted more (pieces bytes) → IsUtf8 (more ++ bytes)) → IsUtf8 (front ++ b ∷ bytes)
+    go true is are ih =
+        let slash : b ≡ 47 = grind (is, arith, nat_tests) in
+        subst (λ (c : ℕ). IsUtf8 (front ++ c ∷ bytes)) (sym slash)
+        (IsUtf8-append front (47 ∷ bytes) (subst IsUtf8 (append-nil front) are.0) (behind_slash bytes (ih [] (fronted_from (pieces bytes) are.1))))
+    go false is are ih = subst IsUtf8 (append_assoc front (b ∷ []) bytes) (ih (front ++ b ∷ []) (without_first front b (pieces bytes) are))
+
+pub utf8-from_name : (name : List ℕ) → IsName name → is_utf8 name ≡ true
+unfolding is_text
+utf8-from_name name is = (and_parts (is_utf8 name) (not (list_any is_nul name)) (name_parts name is).text).0
+
+all_utf8 : (names : List (List ℕ)) → AllByRecursion IsName names → AllByRecursion IsUtf8 names
+all_utf8 [] all = tt
+all_utf8 (name ∷ names) all = (IsUtf8-from_is_utf8 name (utf8-from_name name all.0), all_utf8 names all.1)
+
+pub utf8-from_full : (path : List ℕ) → is_full_path path ≡ true → is_utf8 path ≡ true
+utf8-from_full [] full = absurd (cc full)
+utf8-from_full (b ∷ path) full =
+    let parts = and_parts (b == 47) (list_all is_name (pieces path)) full in
+    let slash : b ≡ 47 = let first = parts.0 in grind (first, arith, nat_tests) in
+    is_utf8-from_IsUtf8 (b ∷ path)
+    (subst (λ (c : ℕ). IsUtf8 (c ∷ path)) (sym slash) (behind_slash path (joined [] path (fronted_from (pieces path) (all_utf8 (pieces path) (all_names (pieces path) parts.1))))))

@@ -1,7 +1,7 @@
 -- What lies behind a link, and along a path from the root.
 use Rattle.std.proofs.Common.{◌≡◌, ℕ, suc, ◌+◌, ◌-◌, List, [], ◌++◌, Bool, true, false, if◌then◌else◌, sym, ap, ◌∙◌, arith}
 use Rattle.gitbase_core.specs.Path.{components}
-use Rattle.worktree_fs.specs.Tree.{Names, Place, behind, resolve, start, is_text, endless, nowhere, spot}
+use Rattle.worktree_fs.specs.Tree.{Names, Place, behind, resolve, root_of, start, is_absolute, is_text, endless, nowhere, spot}
 
 module _ (links : ℕ) (follow : Bool) (place : Place) (target : List ℕ) (rest : List (List ℕ)) where
   one : (m : ℕ) → m + 1 ≡ links → behind links follow place target rest ≡ (if is_text target then resolve m follow (start place target) (components target ++ rest) else nowhere)
@@ -33,3 +33,10 @@ spot-text root path follow e = ap (λ b. if b then resolve 32 follow (record { h
 pub spot-no_text : (root : Names) (path : List ℕ) (follow : Bool) → is_text path ≡ false → spot root path follow ≡ nowhere
 unfolding spot
 spot-no_text root path follow e = ap (λ b. if b then resolve 32 follow (record { here = root; above = [] }) (components path) else nowhere) e
+
+-- where a link's target begins
+pub start-absolute : (place : Place) (target : List ℕ) → is_absolute target ≡ true → start place target ≡ root_of place
+start-absolute place target e = ap (λ b. if b then root_of place else place) e
+
+pub start-relative : (place : Place) (target : List ℕ) → is_absolute target ≡ false → start place target ≡ place
+start-relative place target e = ap (λ b. if b then root_of place else place) e

@@ -5,9 +5,9 @@ use Rattle.std.proofs.lemmas.List.{length-map}
 use Rattle.std.proofs.Math.ListN.{get_or-map}
 use Rattle.std.specs.declared.cmp.Ordering.TheVariants.{Less}
 use mathlib.Core.List.{reverse-cons}
-use Rattle.worktree_fs.specs.Tree.{Node, Names, Level, Place, Spot, directory, other, none, named, names_of, child, enter, parent, root_of, trail, is_last, is_directory, is_dot, is_dot_dot, resolve, onward, walking, behind}
-use Rattle.worktree_fs.specs.Grow.{names_at}
-use Rattle.worktree_fs.specs.Order.{name_cmp, name_at, IsRising, IsAt}
+use Rattle.worktree_fs.specs.Tree.{Node, Names, Level, Place, Spot, directory, other, none, named, names_of, child, enter, parent_place, root_of, trail, is_nil, is_directory, is_dot, is_dot_dot, resolve, onward, walking, behind}
+use Rattle.worktree_fs.specs.Grow.{children_of}
+use Rattle.worktree_fs.specs.Order.{path_cmp, name_at, IsRising, IsAt}
 use Rattle.worktree_fs.specs.Stored.{names_in, node_of, AreSorted}
 use Rattle.worktree_fs.specs.declared.memory.stored.Inner.{Inner}
 use Rattle.worktree_fs.specs.declared.memory.stored.Inner.TheVariants as stored
@@ -56,7 +56,7 @@ nth_node_at es i d lt is = nth_node es i d lt ∙ ap (λ (e : Entry). e.node) (s
 
 -- a directory that is none holds nothing
 pub dir_of_other : (names : Names) (i : ℕ) → node_nth names i ≡ other → dir_nth names i ≡ none
-dir_of_other names i e = ap (λ (n : Node). names_at (Some n)) e
+dir_of_other names i e = ap (λ (n : Node). children_of (Some n)) e
 
 named_at : (es : List Entry) (k : ℕ) → name_at (names es) k ≡ (get_or es k blank).name
 named_at es k = get_or-map (λ (e : Entry). e.name) es k blank
@@ -69,8 +69,8 @@ module _ (es : List Entry) (rising : IsRising (names es)) (x : List ℕ) (i : �
   pub at_name : name_nth (names_in es) i ≡ x
   at_name = nth_name es i blank at_range ∙ sym (named_at es i) ∙ at.is
 
-  lower : (j : ℕ) → j < i → name_cmp (name_at (names es) j) x ≡ Less
-  lower j lt = subst (λ (n : List ℕ). name_cmp (name_at (names es) j) n ≡ Less) at.is (rising j i lt at.in_range)
+  lower : (j : ℕ) → j < i → path_cmp (name_at (names es) j) x ≡ Less
+  lower j lt = subst (λ (n : List ℕ). path_cmp (name_at (names es) j) n ≡ Less) at.is (rising j i lt at.in_range)
 
   pub at_child : child (names_in es) x ≡ Some (node_nth (names_in es) i)
   at_child =
@@ -109,8 +109,8 @@ place-push root way i =
     ap (λ (h : Names). place h (above_by (way ++ i ∷ []) root [])) (here-push way i root)
     ∙ ap (place (dir_nth (here_by way root) i)) (above-push way i root [])
 
-pub parent-push : (root : Names) (way : List ℕ) (i : ℕ) → place_by root way ≡ parent (place_by root (way ++ i ∷ []))
-parent-push root way i = sym (ap parent (place-push root way i))
+pub parent_place-push : (root : Names) (way : List ℕ) (i : ℕ) → place_by root way ≡ parent_place (place_by root (way ++ i ∷ []))
+parent_place-push root way i = sym (ap parent_place (place-push root way i))
 
 root-way : (way : List ℕ) (here : Names) (above : List Level) → root_of (place (here_by way here) (above_by way here above)) ≡ root_of (place here above)
 root-way [] here above = refl
@@ -141,7 +141,7 @@ along (j ∷ way) i here above =
 pub along-way : (root : Names) (way : List ℕ) (i : ℕ) → reverse (name_nth (here_by way root) i ∷ trail (place_by root way)) ≡ names_along way i root
 along-way root way i = along way i root []
 
-pub along-more : (way : List ℕ) (i : ℕ) (here : Names) → is_last (names_along way i here) ≡ false
+pub along-more : (way : List ℕ) (i : ℕ) (here : Names) → is_nil (names_along way i here) ≡ false
 along-more [] i here = refl
 along-more (j ∷ way) i here = refl
 
@@ -151,7 +151,7 @@ module _ (root dir inner : List Entry) (way : List ℕ) (i : ℕ) (stands : Stan
   there = ap (λ (h : Names). node_nth h i) stands.here ∙ is
 
   inner_is : dir_nth (here_by way (names_in root)) i ≡ names_in inner
-  inner_is = ap (λ (n : Node). names_at (Some n)) there
+  inner_is = ap (λ (n : Node). children_of (Some n)) there
 
   pub room_down : (capacity : ℕ) → depth_in (names_in root) ≤ capacity → length way < capacity
   room_down capacity room = omega (arith, room, depth-way way (names_in root) stands.is_way, depth-nth (here_by way (names_in root)) i (names_in inner) there)
@@ -189,8 +189,8 @@ stands_up root dir way more i all e here sorted = record {
   sorted = sorted;
 }
 
-pub place_up : (root : Names) (way more : List ℕ) (i : ℕ) → more ≡ way ++ i ∷ [] → place_by root way ≡ parent (place_by root more)
-place_up root way more i e = parent-push root way i ∙ ap (λ (w : List ℕ). parent (place_by root w)) (sym e)
+pub place_up : (root : Names) (way more : List ℕ) (i : ℕ) → more ≡ way ++ i ∷ [] → place_by root way ≡ parent_place (place_by root more)
+place_up root way more i e = parent_place-push root way i ∙ ap (λ (w : List ℕ). parent_place (place_by root w)) (sym e)
 
 take_next : (way : List ℕ) (k : ℕ) → k < length way → take (k + 1) way ≡ take k way ++ slice_index way k ∷ []
 take_next way k lt =
@@ -221,7 +221,7 @@ third true y a b c e f = absurd (cc e)
 pub piece-leads : (links : ℕ) (follow : Bool) (at : Place) (piece : List ℕ) (rest : List (List ℕ)) (o : Option Node) → is_dot piece ≡ false → is_dot_dot piece ≡ false → child at.here piece ≡ o
     → resolve links follow at (piece ∷ rest) ≡ onward (walking (λ p. resolve links follow p rest) (behind links follow) follow) at rest piece o
 piece-leads links follow at piece rest o dot up is =
-    third (is_dot piece) (is_dot_dot piece) (resolve links follow at rest) (resolve links follow (parent at) rest)
+    third (is_dot piece) (is_dot_dot piece) (resolve links follow at rest) (resolve links follow (parent_place at) rest)
     (onward (walking (λ p. resolve links follow p rest) (behind links follow) follow) at rest piece (child at.here piece)) dot up
     ∙ ap (λ (n : Option Node). onward (walking (λ p. resolve links follow p rest) (behind links follow) follow) at rest piece n) is
 
@@ -231,7 +231,7 @@ leaf_stands root way i true turn leaf e = subst (TurnStands root way) (sym e) le
 leaf_stands root way i false turn leaf e = subst (TurnStands root way) (sym e) leaf.0
 
 -- what is no directory holds no names
-pub no_directory : (inner : Inner) → ((entries : _) → inner ≡ stored.Directory entries → ⊥) → names_at (Some (node_of inner)) ≡ none
+pub no_directory : (inner : Inner) → ((entries : _) → inner ≡ stored.Directory entries → ⊥) → children_of (Some (node_of inner)) ≡ none
 no_directory (stored.File bytes) not = refl
 no_directory (stored.Link target) not = refl
 no_directory (stored.Directory entries) not = absurd (not entries refl)

@@ -1,12 +1,12 @@
 -- The nodes of a tree by their names alone, and what a resolution says of them.
 use Rattle.std.specs.Prelude.{◌≡◌, ℕ, List, [], ◌∷◌, reverse, Option, Some, None}
 use Rattle.worktree_fs.specs.Tree.{Names, Node, Spot, reached, missing, nowhere, endless, directory, child}
-use Rattle.worktree_fs.specs.Grow.{names_at}
+use Rattle.worktree_fs.specs.Grow.{children_of}
 
 -- the node at the end of these names from a node, no link followed
 abbrev pub node_at : List (List ℕ) → Option Node → Option Node
 node_at [] from = from
-node_at (name ∷ rest) from = node_at rest (child (names_at from) name)
+node_at (name ∷ rest) from = node_at rest (child (children_of from) name)
 
 -- the first of these names is missing in a directory, to which the others lead from the root
 abbrev pub IsMissingIn : Names → List (List ℕ) → Type 0

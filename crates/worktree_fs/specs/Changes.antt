@@ -2,8 +2,8 @@
 use Rattle.std.specs.Prelude.{ℕ, List, [], ◌∷◌, ◌++◌, reverse, Option, Some, None, Bool, true, if◌then◌else◌}
 use Rattle.std.specs.Str.{bytes_eq}
 use Rattle.gitbase_core.specs.Path.{components}
-use Rattle.worktree_fs.specs.Tree.{Node, Names, Spot, reached, missing, nowhere, endless, file, link, directory, other, none, named, is_directory, is_last, is_absolute, spot}
-use Rattle.worktree_fs.specs.Grow.{grown, add_refusal, names_at}
+use Rattle.worktree_fs.specs.Tree.{Node, Names, Spot, reached, missing, nowhere, endless, file, link, directory, other, none, named, is_directory, is_nil, is_absolute, spot}
+use Rattle.worktree_fs.specs.Grow.{grown, add_refusal, children_of}
 use Rattle.worktree_fs.specs.Composed.{as_kept}
 use Rattle.worktree_fs.specs.declared.answers.MakeAnswer.{MakeAnswer}
 use Rattle.worktree_fs.specs.declared.answers.MakeAnswer.TheVariants as makes
@@ -54,20 +54,20 @@ made_unless (Some refusals.OutOfMemory) = makes.NoParent
 abbrev pub make_answer : Bool → Names → Spot → MakeAnswer
 make_answer composes t (reached names node) = makes.Exists
 make_answer composes t (missing names rest) =
-    if is_last rest then made_unless (add_refusal t (slashed (kept_last composes names))) else makes.NoParent
+    if is_nil rest then made_unless (add_refusal t (slashed (kept_last composes names))) else makes.NoParent
 make_answer composes t nowhere = makes.NoParent
 make_answer composes t endless = makes.NoParent
 
 -- the names in the root with a directory at the end of a path, unless it is refused
 abbrev pub with_directory : Option AddError → Names → List ℕ → Names
-with_directory None t path = names_at (Some (grown (components path) (directory none) (Some (directory t))))
+with_directory None t path = children_of (Some (grown (components path) (directory none) (Some (directory t))))
 with_directory (Some refusal) t path = t
 
 -- the names in the root after the making of a directory
 abbrev pub after_make : Bool → Names → Spot → Names
 after_make composes t (reached names node) = t
 after_make composes t (missing names rest) =
-    if is_last rest then with_directory (add_refusal t (slashed (kept_last composes names))) t (slashed (kept_last composes names)) else t
+    if is_nil rest then with_directory (add_refusal t (slashed (kept_last composes names))) t (slashed (kept_last composes names)) else t
 after_make composes t nowhere = t
 after_make composes t endless = t
 
@@ -83,7 +83,7 @@ abbrev mutual
   pub cut_names : List ℕ → List (List ℕ) → Names → Names
   cut_names name rest none = none
   cut_names name rest (named n node more) =
-      if bytes_eq n name then (if is_last rest then more else named n (cut rest node) more)
+      if bytes_eq n name then (if is_nil rest then more else named n (cut rest node) more)
       else named n node (cut_names name rest more)
 
 -- what is answered to the removal of what is there
@@ -95,7 +95,7 @@ remove_answer endless = removes.Absent
 
 -- the names in the root after the removal
 abbrev pub after_remove : Names → Spot → Names
-after_remove t (reached names node) = if is_directory node then t else names_at (Some (cut (reverse names) (directory t)))
+after_remove t (reached names node) = if is_directory node then t else children_of (Some (cut (reverse names) (directory t)))
 after_remove t (missing names rest) = t
 after_remove t nowhere = t
 after_remove t endless = t

@@ -1,6 +1,7 @@
 -- What a repository is, and whether it is another one.
-use Rattle.std.specs.Prelude.{ℕ, zero, suc, Bool, nat_le, true, false, not, ◌&&◌, ◌||◌, ◌==◌, ◌-◌, List, [], ◌∷◌, length, take, drop, slice_index, Option, Some, None, if◌then◌else◌, unwrap_or, option_and_then}
+use Rattle.std.specs.Prelude.{ℕ, zero, suc, Bool, true, false, not, ◌&&◌, ◌||◌, ◌==◌, ◌-◌, List, [], ◌∷◌, length, take, drop, slice_index, Option, Some, None, if◌then◌else◌, unwrap_or, option_and_then}
 use Rattle.std.specs.List.{list_any, list_all}
+use Rattle.std.specs.Char.{is_ascii_hexdigit}
 use Rattle.std.specs.Str.{bytes_eq}
 use Rattle.gitbase_core.specs.Path.{parent}
 use Rattle.worktree_fs.specs.Tree.{Names, Look, found, absent, too_many_links, file, link, directory, other, look, is_empty}
@@ -32,15 +33,12 @@ not_empty path = if is_empty path then None else Some path
 abbrev pub gitdir_path : List ℕ → Option (List ℕ)
 gitdir_path bytes = option_and_then (λ rest. not_empty (trimmed rest)) (behind_front (103 ∷ 105 ∷ 116 ∷ 100 ∷ 105 ∷ 114 ∷ 58 ∷ 32 ∷ []) bytes)
 
-abbrev pub is_hex : ℕ → Bool
-is_hex b = (nat_le 48 b && nat_le b 57) || (nat_le 97 b && nat_le b 102) || (nat_le 65 b && nat_le b 70)
-
 -- `ref: ` and bytes behind it, of which none is a line feed, or 40 or 64 hex digits
 abbrev pub is_ref_name : List ℕ → Bool
 is_ref_name name = not (is_empty name) && not (list_any (λ b. b == 10) name)
 
 abbrev pub is_id : List ℕ → Bool
-is_id text = (length text == 40 || length text == 64) && list_all is_hex text
+is_id text = (length text == 40 || length text == 64) && list_all is_ascii_hexdigit text
 
 abbrev pub is_head_text : Option (List ℕ) → List ℕ → Bool
 is_head_text (Some name) text = is_ref_name name

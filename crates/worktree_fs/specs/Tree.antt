@@ -62,8 +62,8 @@ abbrev pub trail : Place → List (List ℕ)
 trail place = map (λ (level : Level). level.name) place.above
 
 -- the directory above; the root is above itself
-abbrev pub parent : Place → Place
-parent place = up place.here place.above
+abbrev pub parent_place : Place → Place
+parent_place place = up place.here place.above
   where
     up : Names → List Level → Place
     up here [] = record { here = here; above = [] }
@@ -84,9 +84,10 @@ root_of place = root_from place.here place.above
 abbrev pub start : Place → List ℕ → Place
 start place target = if is_absolute target then root_of place else place
 
-abbrev pub is_last : List (List ℕ) → Bool
-is_last [] = true
-is_last (piece ∷ rest) = false
+-- whether nothing is in the list
+abbrev pub is_nil : {A : Type 0} → List A → Bool
+is_nil [] = true
+is_nil (x ∷ xs) = false
 
 -- where a path leads: to a node, with the names that lead there from the root without links, the last one first; to a
 -- name that its directory does not have, with the names that would lead there and the components behind it; nowhere; or on
@@ -115,16 +116,16 @@ walking go jump follow = record { go = go; jump = jump; follow = follow }
 abbrev pub onward : Walking → Place → List (List ℕ) → List ℕ → Option Node → Spot
 onward on place rest name None = missing (name ∷ trail place) rest
 onward on place rest name (Some (directory names)) = on.go (enter place name names)
-onward on place rest name (Some (link target)) = if on.follow || not (is_last rest) then on.jump place target rest else reached (name ∷ trail place) (link target)
-onward on place rest name (Some (file bytes)) = if is_last rest then reached (name ∷ trail place) (file bytes) else nowhere
-onward on place rest name (Some other) = if is_last rest then reached (name ∷ trail place) other else nowhere
+onward on place rest name (Some (link target)) = if on.follow || not (is_nil rest) then on.jump place target rest else reached (name ∷ trail place) (link target)
+onward on place rest name (Some (file bytes)) = if is_nil rest then reached (name ∷ trail place) (file bytes) else nowhere
+onward on place rest name (Some other) = if is_nil rest then reached (name ∷ trail place) other else nowhere
 
 -- along the components from a place, by `jump` behind each link on the way
 abbrev pub along : Jump → Bool → Place → List (List ℕ) → Spot
 along jump follow place [] = reached (trail place) (directory place.here)
 along jump follow place (piece ∷ rest) =
     if is_dot piece then along jump follow place rest
-    else if is_dot_dot piece then along jump follow (parent place) rest
+    else if is_dot_dot piece then along jump follow (parent_place place) rest
     else onward (walking (λ p. along jump follow p rest) jump follow) place rest piece (child place.here piece)
 
 -- behind a link, where so many links may still be followed; a target that is no text leads nowhere

@@ -1,7 +1,7 @@
 -- Ways down a tree: in each directory the position of the name by which the way goes on.
 use Rattle.std.specs.Prelude.{◌≡◌, ℕ, Bool, zero, suc, false, ◌<◌, List, [], ◌∷◌, length, max, Some}
-use Rattle.worktree_fs.specs.Tree.{Node, Names, Level, Place, Spot, reached, nowhere, endless, missing, is_last, is_directory, file, link, directory, other, none, named, names_of, trail, resolve}
-use Rattle.worktree_fs.specs.Grow.{names_at}
+use Rattle.worktree_fs.specs.Tree.{Node, Names, Level, Place, Spot, reached, nowhere, endless, missing, is_nil, is_directory, file, link, directory, other, none, named, names_of, trail, resolve}
+use Rattle.worktree_fs.specs.Grow.{children_of}
 use Rattle.worktree_fs.specs.Stored.{names_in, AreSorted}
 use Rattle.worktree_fs.specs.declared.memory.stored.Entry.{Entry}
 use Rattle.worktree_fs.specs.declared.memory.trace.End.{End}
@@ -23,7 +23,7 @@ node_nth (named name node rest) (suc i) = node_nth rest i
 
 -- what is in the directory at a position
 abbrev pub dir_nth : Names → ℕ → Names
-dir_nth names i = names_at (Some (node_nth names i))
+dir_nth names i = children_of (Some (node_nth names i))
 
 -- there is a directory at each position of the way
 abbrev pub IsWay : List ℕ → Names → Type 0
@@ -92,7 +92,7 @@ TurnStands root way turns.Endless = IsWay way (names_in root)
 pub record IsMissing (at : Spot) (place : Place) (name : List ℕ) (last : Bool) : Type 0 where
   pub left : List (List ℕ)
   pub is_missing : at ≡ missing (name ∷ trail place) left
-  pub is_end : last ≡ is_last left
+  pub is_end : last ≡ is_nil left
 
 -- a resolution that came to a place ended there
 abbrev pub LeadsTo : Spot → Place → End → Type 0

@@ -1,9 +1,12 @@
 //! The files of the system as a worktree: the edge of which nothing is proved but its counts.
 ghost use Rattle.std.specs.Prelude.{◌≡◌, ◌≤◌, ◌^◌, ◌&&◌, length, None, Ok, IfOk, IsErrOf, false, All, IsTrue};
 ghost use Rattle.worktree_fs.specs.Causes.{Increased, next};
-ghost use Rattle.worktree_fs.specs.Edges.{is_fault, is_list_fault, more_if, counted, counted_read, counted_listing, IsKept};
+ghost use Rattle.worktree_fs.specs.Disk.{is_fault, is_list_fault, is_unaskable, more_if, counted_call, counted_read, counted_listing, IsGiven};
+ghost use Rattle.std.specs.List.Sorted.{IsStrictlySortedBy};
+ghost use Rattle.worktree_fs.specs.Changes.{from_directory};
 ghost use Rattle.worktree_fs.specs.Naming.{AreNames};
-ghost use Rattle.worktree_fs.specs.Answers.{UnlessRead, OnListFault, UnlessListFault};
+ghost use Rattle.worktree_fs.specs.Order.{path_cmp};
+ghost use Rattle.worktree_fs.specs.Answers.{UnlessRead, UnlessFault, OnListFault, UnlessListFault};
 
 mod listing;
 mod node;
@@ -23,9 +26,10 @@ use std::rt::HostRuntime;
 ///
 /// It tells nothing of what it finds. It counts every failed call, but not its own want of memory: what the system
 /// refuses, its limit on links too; a name that cannot stand in a directory, two equal names and more than 1,000,000
-/// names in one listing; and a file of more than 1 GiB. A path that is not UTF-8 or has a NUL leads nowhere. Slashes at
-/// the end of a path mean nothing, and the empty path is `/`. A path that does not begin with `/` is taken as the
-/// system takes it, from the current directory.
+/// names in one listing; and a file of more than 1 GiB. A path that is not UTF-8 is such a failure of every call, since
+/// std has none for it; one with a NUL leads nowhere, UTF-8 or not. Slashes at
+/// the end of a path mean nothing, and the empty path is `/`, but for `real_path`, which takes it from `cwd`. A path
+/// that does not begin with `/` is taken as the system takes it, from the current directory.
 ///
 /// Contracts see its counts.
 #[derive(Drop)]
@@ -40,7 +44,7 @@ pub struct DiskWorktree<'a> {
 }
 
 impl<'a> Model for DiskWorktree<'a> {
-    ghost use Rattle.worktree_fs.specs.Edges.{Disk};
+    ghost use Rattle.worktree_fs.specs.Disk.{Disk};
 
     ghost Value = { Disk };
 
@@ -87,7 +91,7 @@ impl<'a> DiskWorktree<'a> {
 
     /// Counts a call that failed: as a fault, and one that lists as a fault of listings too.
     fn count(&mut self, has_failed: bool, is_listing: bool)
-        ensures state { self.new ≡ record (counted has_failed self.old)
+        ensures state { self.new ≡ record (counted_call has_failed self.old)
             { list_faults = more_if (is_listing && has_failed) self.old.list_faults } }
         ensures later { self.old.faults ≤ self.new.faults }
         ensures list_later { self.old.list_faults ≤ self.new.list_faults }
@@ -125,10 +129,12 @@ impl<'a> Worktree for DiskWorktree<'a> {
 
     /// One call of the system.
     fn kind(&mut self, _alloc: Global, path: &[u8]) -> Result<Option<NodeKind>, ReadError>
-        ensures state { self.new ≡ counted (is_fault result) self.old }
+        ensures state { self.new ≡ counted_call (is_fault result) self.old }
         ensures later { self.old.faults ≤ self.new.faults }
         ensures cause { IsErrOf result ReadError.Fault
             → Increased self.old.faults self.new.faults }
+        ensures unfaulted { UnlessFault result (self.new.faults ≡ self.old.faults) }
+        ensures unaskable { IsTrue (is_unaskable path.now) → IsErrOf result ReadError.Fault }
     {
         let found = look(self.rt, path, false);
         self.count(is_fault(&found), false);
@@ -137,10 +143,12 @@ impl<'a> Worktree for DiskWorktree<'a> {
 
     /// One call of the system.
     fn kind_following(&mut self, _alloc: Global, path: &[u8]) -> Result<Option<NodeKind>, ReadError>
-        ensures state { self.new ≡ counted (is_fault result) self.old }
+        ensures state { self.new ≡ counted_call (is_fault result) self.old }
         ensures later { self.old.faults ≤ self.new.faults }
         ensures cause { IsErrOf result ReadError.Fault
             → Increased self.old.faults self.new.faults }
+        ensures unfaulted { UnlessFault result (self.new.faults ≡ self.old.faults) }
+        ensures unaskable { IsTrue (is_unaskable path.now) → IsErrOf result ReadError.Fault }
     {
         let found = look(self.rt, path, true);
         self.count(is_fault(&found), false);
@@ -152,9 +160,11 @@ impl<'a> Worktree for DiskWorktree<'a> {
     fn list(&mut self, alloc: Global, path: &[u8], follow: bool) -> Result<NameList, ListError>
         ensures state { self.new ≡ counted_listing (is_list_fault result) self.old }
         ensures names { IfOk result AreNames }
-        ensures kept { IfOk result (All (IsKept self.old.composes)) }
+        ensures kept { IfOk result (All (IsGiven self.old.composes)) }
         ensures few { IfOk result (λ names. length names ≤ 1000000) }
+        ensures sorted { IfOk result (IsStrictlySortedBy path_cmp) }
         ensures cause { OnListFault result (Increased self.old.faults self.new.faults) }
+        ensures unfaulted { UnlessListFault result (self.new.faults ≡ self.old.faults) }
         ensures faults { self.old.faults ≤ self.new.faults }
         ensures list_cause { OnListFault result
             (Increased self.old.list_faults self.new.list_faults) }
@@ -162,6 +172,8 @@ impl<'a> Worktree for DiskWorktree<'a> {
         ensures list_faults_kept { UnlessListFault result
             (self.new.list_faults ≡ self.old.list_faults) }
         ensures lists_later { self.old.lists ≤ self.new.lists }
+        ensures unaskable { IsTrue (is_unaskable path.now)
+            → IsErrOf result ListError.OpenFault }
     {
         self.lists = self.lists.saturating_add(1);
         let names = listed(
@@ -189,6 +201,8 @@ impl<'a> Worktree for DiskWorktree<'a> {
         ensures later { self.old.faults ≤ self.new.faults }
         ensures cause { IsErrOf result ReadError.Fault
             → Increased self.old.faults self.new.faults }
+        ensures unfaulted { UnlessFault result (self.new.faults ≡ self.old.faults) }
+        ensures unaskable { IsTrue (is_unaskable path.now) → IsErrOf result ReadError.Fault }
         ensures into { UnlessRead result (into.new ≡ into.old) }
         ensures link { result ≡ Ok ReadAnswer.IsLink → follow ≡ false }
         ensures short { result ≡ Ok ReadAnswer.Read → length into.new ≤ 2 ^ 30 }
@@ -207,10 +221,13 @@ impl<'a> Worktree for DiskWorktree<'a> {
         path: &[u8],
         cwd: &[u8],
     ) -> Result<Option<PathText>, ReadError>
-        ensures state { self.new ≡ counted (is_fault result) self.old }
+        ensures state { self.new ≡ counted_call (is_fault result) self.old }
         ensures later { self.old.faults ≤ self.new.faults }
         ensures cause { IsErrOf result ReadError.Fault
             → Increased self.old.faults self.new.faults }
+        ensures unfaulted { UnlessFault result (self.new.faults ≡ self.old.faults) }
+        ensures unaskable { IsTrue (is_unaskable (from_directory path.now cwd.now))
+            → IfOk result (λ _. ⊥) }
     {
         let real = real_path(self.rt, alloc, path, cwd);
         self.count(is_fault(&real), false);
@@ -219,10 +236,12 @@ impl<'a> Worktree for DiskWorktree<'a> {
 
     /// One call of the system.
     fn make_dir(&mut self, alloc: Global, path: &[u8]) -> Result<MakeAnswer, ReadError>
-        ensures state { self.new ≡ counted (is_fault result) self.old }
+        ensures state { self.new ≡ counted_call (is_fault result) self.old }
         ensures later { self.old.faults ≤ self.new.faults }
         ensures cause { IsErrOf result ReadError.Fault
             → Increased self.old.faults self.new.faults }
+        ensures unfaulted { UnlessFault result (self.new.faults ≡ self.old.faults) }
+        ensures unaskable { IsTrue (is_unaskable path.now) → IsErrOf result ReadError.Fault }
     {
         let answer = make_dir(self.rt, alloc, self.composes, path);
         self.count(is_fault(&answer), false);
@@ -231,10 +250,12 @@ impl<'a> Worktree for DiskWorktree<'a> {
 
     /// The node is looked at before it is removed.
     fn remove_node(&mut self, _alloc: Global, path: &[u8]) -> Result<RemoveAnswer, ReadError>
-        ensures state { self.new ≡ counted (is_fault result) self.old }
+        ensures state { self.new ≡ counted_call (is_fault result) self.old }
         ensures later { self.old.faults ≤ self.new.faults }
         ensures cause { IsErrOf result ReadError.Fault
             → Increased self.old.faults self.new.faults }
+        ensures unfaulted { UnlessFault result (self.new.faults ≡ self.old.faults) }
+        ensures unaskable { IsTrue (is_unaskable path.now) → IsErrOf result ReadError.Fault }
     {
         let answer = remove_node(self.rt, path);
         self.count(is_fault(&answer), false);

@@ -1,6 +1,6 @@
 //! Which answers are faults, which a worktree counts.
 ghost use Rattle.std.specs.Prelude.{◌≡◌};
-ghost use Rattle.worktree_fs.specs.Edges.{is_fault, is_list_fault};
+ghost use Rattle.worktree_fs.specs.Disk.{is_fault, is_list_fault};
 
 use crate::{ListError, NameList, ReadError};
 

@@ -1,8 +1,8 @@
 //! Whether a long call is to stop.
-ghost use Rattle.std.specs.Prelude.{◌≡◌, ℕ, ◌≤◌, Some, None, Ok, IfOk};
+ghost use Rattle.std.specs.Prelude.{◌≡◌, ℕ, ◌≤◌, if◌then◌else◌, Some, None, Ok, IfOk};
 ghost use Rattle.std.specs.Bool.{OnTrue, OnFalse};
-ghost use Rattle.worktree_fs.specs.Causes.{Incremented, Increased};
-ghost use Rattle.worktree_fs.specs.Planned.{is_due, next, with_more, asked_again, unasked};
+ghost use Rattle.worktree_fs.specs.Causes.{Incremented};
+ghost use Rattle.worktree_fs.specs.Ends.{is_due, next, with_more, asked_again, unasked};
 
 use gitbase_core::OutOfMemory;
 use std::alloc::Global;
@@ -12,7 +12,7 @@ use std::rc::Rc;
 
 /// Something that may ask a long call to stop, and counts how often it was asked and how often it said so.
 ///
-/// Both counts are of 64 bits, and stand at their last value.
+/// Both counts are of 64 bits, stand at their last value, and never fall.
 pub trait Interrupt {
     /// How often it was asked.
     ghost questions: { Self → ℕ };
@@ -23,11 +23,12 @@ pub trait Interrupt {
     /// Whether to stop now.
     fn is_raised(&mut self) -> bool
         ensures questions { Incremented (questions self.old) (questions self.new) }
-        ensures cause { OnTrue result (Increased (raised self.old) (raised self.new)) }
+        ensures asked_later { questions self.old ≤ questions self.new }
+        ensures cause { OnTrue result (Incremented (raised self.old) (raised self.new)) }
         ensures kept { OnFalse result (raised self.new ≡ raised self.old) }
         ensures later { raised self.old ≤ raised self.new };
 
-    /// Another one that is raised as this one is, and was not asked yet.
+    /// Another one, which was not asked yet; whether and when it is raised is each implementation's own affair.
     ///
     /// Who takes a fork hands it back by `absorb`: it cannot be let go in generic code.
     ///
@@ -41,6 +42,7 @@ pub trait Interrupt {
     /// Adds the counts of a fork, and lets it go.
     fn absorb(&mut self, other: Self)
         ensures questions { questions self.new ≡ with_more (questions self.old) (questions other) }
+        ensures asked_later { questions self.old ≤ questions self.new }
         ensures raised { raised self.new ≡ with_more (raised self.old) (raised other) }
         ensures later { raised self.old ≤ raised self.new };
 }
@@ -56,7 +58,7 @@ pub struct PlannedInterrupt {
 }
 
 impl Model for PlannedInterrupt {
-    ghost use Rattle.worktree_fs.specs.Planned.{InterruptModel};
+    ghost use Rattle.worktree_fs.specs.Ends.{InterruptModel};
 
     ghost Value = { InterruptModel };
 
@@ -95,6 +97,7 @@ impl Interrupt for PlannedInterrupt {
     fn is_raised(&mut self) -> bool
         ensures due { result ≡ is_due self.old.first (next self.old.questions) }
         ensures state { self.new ≡ asked_again self.old }
+        ensures asked_later { self.old.questions ≤ self.new.questions }
         ensures later { self.old.raised ≤ self.new.raised }
     {
         self.questions = self.questions.saturating_add(1);
@@ -126,6 +129,7 @@ impl Interrupt for PlannedInterrupt {
               questions = with_more self.old.questions other.questions;
               raised = with_more self.old.raised other.raised;
             } }
+        ensures asked_later { self.old.questions ≤ self.new.questions }
         ensures later { self.old.raised ≤ self.new.raised }
     {
         self.questions = self.questions.saturating_add(other.questions);
@@ -145,7 +149,7 @@ pub struct FlagInterrupt {
 }
 
 impl Model for FlagInterrupt {
-    ghost use Rattle.worktree_fs.specs.Planned.{InterruptCounts};
+    ghost use Rattle.worktree_fs.specs.Ends.{InterruptCounts};
 
     ghost Value = { InterruptCounts };
 
@@ -179,7 +183,15 @@ impl Interrupt for FlagInterrupt {
 
     ghost raised = { λ i. i.raised };
 
-    fn is_raised(&mut self) -> bool {
+    fn is_raised(&mut self) -> bool
+        ensures state { self.new
+            ≡ record {
+              questions = next self.old.questions;
+              raised = if result then next self.old.raised else self.old.raised;
+            } }
+        ensures asked_later { self.old.questions ≤ self.new.questions }
+        ensures later { self.old.raised ≤ self.new.raised }
+    {
         self.questions = self.questions.saturating_add(1);
         let is_raised = self.flag.get();
         if is_raised {
@@ -189,7 +201,9 @@ impl Interrupt for FlagInterrupt {
     }
 
     /// Shares the flag.
-    fn fork(&self, _alloc: Global) -> Result<FlagInterrupt, OutOfMemory> {
+    fn fork(&self, _alloc: Global) -> Result<FlagInterrupt, OutOfMemory>
+        ensures { IfOk result (λ fork. fork ≡ record { questions = 0; raised = 0 }) }
+    {
         Ok(FlagInterrupt {
             flag: self.flag.clone()?,
             questions: 0,
@@ -197,7 +211,15 @@ impl Interrupt for FlagInterrupt {
         })
     }
 
-    fn absorb(&mut self, other: FlagInterrupt) {
+    fn absorb(&mut self, other: FlagInterrupt)
+        ensures state { self.new
+            ≡ record {
+              questions = with_more self.old.questions other.questions;
+              raised = with_more self.old.raised other.raised;
+            } }
+        ensures asked_later { self.old.questions ≤ self.new.questions }
+        ensures later { self.old.raised ≤ self.new.raised }
+    {
         self.questions = self.questions.saturating_add(other.questions);
         self.raised = self.raised.saturating_add(other.raised);
     }

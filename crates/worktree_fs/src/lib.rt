@@ -2,20 +2,20 @@
 //! whether to stop, and where bytes are written to.
 #![tactic(auto)]
 
-pub mod answers;
+mod answers;
 mod composed;
-pub mod disk;
+mod disk;
 mod faults;
 mod git_texts;
-pub mod interrupt;
-pub mod memory;
-pub mod name_list;
+mod interrupt;
+mod memory;
+mod name_list;
 mod names;
-pub mod path_stack;
-pub mod repository;
-pub mod sink;
-pub mod streams;
-pub mod worktree;
+mod path_stack;
+mod repository;
+mod sink;
+mod streams;
+mod worktree;
 
 pub use answers::{Fault, ListError, MakeAnswer, NodeKind, ReadAnswer, ReadError, RemoveAnswer};
 pub use disk::DiskWorktree;

@@ -1,22 +1,21 @@
 //! A tree in memory, whose calls can be planned to fail.
-ghost use Rattle.std.specs.Prelude.{◌≡◌, ◌≤◌, ◌↔◌, ◌&&◌, not, true, false, [], Ok, Err, Some, None, IfOk, IfErr, OnOk, OnErr, IsErrOf, IsTrue, MatchResult, IfNone, IfSome, ◌++◌, ◌∷◌, if◌then◌else◌};
+ghost use Rattle.std.specs.Prelude.{◌≡◌, ◌≤◌, ◌↔◌, ◌&&◌, not, true, false, [], Ok, Err, Some, None, All, IfOk, IfErr, OnOk, OnErr, IsErrOf, IsTrue, MatchResult, IfNone, IfSome, ◌++◌, ◌∷◌, if◌then◌else◌};
 ghost use Rattle.std.specs.List.{AllByRecursion, list_all};
 ghost use Rattle.gitbase_core.specs.Path.{components, pieces};
 ghost use Rattle.worktree_fs.specs.Tree.{directory, file, found, look, spot, none};
 ghost use Rattle.worktree_fs.specs.Naming.{IsName, is_name, AreNames};
 ghost use Rattle.worktree_fs.specs.Answers.{kind_of, read_of, UnlessRead, ListRefuses, OnListFault, UnlessListFault};
 ghost use Rattle.worktree_fs.specs.Causes.{Increased};
-ghost use Rattle.worktree_fs.specs.Planned.{next, with_more};
+ghost use Rattle.worktree_fs.specs.Ends.{next, with_more};
 ghost use Rattle.worktree_fs.specs.Changes.{real_path, make_answer, after_make, remove_answer, after_remove};
-ghost use Rattle.worktree_fs.specs.Composed.{as_kept};
+ghost use Rattle.worktree_fs.specs.Composed.{as_kept, IsKept};
 ghost use Rattle.worktree_fs.specs.Grow.{grown, is_full_path, add_refusal, IsRefusedBy, node_of_new};
-ghost use Rattle.worktree_fs.specs.Step.{look_of};
-ghost use Rattle.worktree_fs.specs.Memory.{no_calls, fails, called, listed, told_by, ListsInOrder};
+ghost use Rattle.worktree_fs.specs.Memory.{no_calls, fails, with_call, listed, told_by, ListsInOrder};
 
+mod found;
 mod grow;
 mod listing;
 mod plan;
-mod resolve;
 mod root;
 mod route;
 mod search;
@@ -26,30 +25,29 @@ mod stored;
 mod trace;
 
 use crate::composed::as_kept;
-use crate::names::{full_path, is_name};
+use crate::names::{from_directory, is_name};
 use crate::{
     ListError, MakeAnswer, NameList, NodeKind, ReadAnswer, ReadError, RemoveAnswer, Worktree,
 };
 use gitbase_core::{Bytes, OutOfMemory, PathText, is_absolute};
 use grow::stored_of;
 pub use grow::{AddError, NewNode};
-use listing::list_of;
 pub use plan::CallKind;
 use plan::{CallCounts, Plan, is_named};
-use resolve::{Found, resolve};
 use root::Root;
 use std::alloc::Global;
 use std::marker::Model;
 
 /// A tree in memory, whose names are sorted in each directory and found by binary search.
 ///
-/// Paths are followed by loops, however deep the tree is. Adding, making and removing a node, forking, and letting the
+/// Paths are followed by a loop, however deep the tree is. Adding, making and removing a node, forking, and letting the
 /// tree go take frames of the stack for each directory on the way.
 ///
 /// Contracts see all that it holds, the planned faults, and the counts.
 ///
 /// See docs/DECISIONS.md#told-tree-is-names.
 /// See docs/DECISIONS.md#fork-copies-tree.
+/// See docs/DECISIONS.md#frames-of-a-tree.
 #[derive(Drop)]
 pub struct MemoryWorktree {
     root: Root,
@@ -66,11 +64,14 @@ pub struct MemoryWorktree {
 impl Model for MemoryWorktree {
     ghost use Rattle.std.specs.Coded.{codes};
     ghost use Rattle.worktree_fs.specs.Codes.{coded_names};
+    ghost use Rattle.worktree_fs.specs.Composed.{AreKept};
     ghost use Rattle.worktree_fs.specs.Memory.{Memory};
 
     ghost Value = { Memory };
 
     ghost coded = { Prim.hlevel (codes, coded_names) };
+
+    ghost invariant = { λ m. AreKept m.composes m.root };
 
     ghost view = { λ m. record {
       tree = m.root;
@@ -205,12 +206,13 @@ impl MemoryWorktree {
             ≡ after_make self.old.composes self.old.tree (spot self.old.tree path.now false)) }
         ensures refused { OnErr result (self.new.tree ≡ self.old.tree) }
         ensures rest { self.new
-            ≡ record (called self.old CallKind.MakeDir) { tree = self.new.tree } }
+            ≡ record (with_call self.old CallKind.MakeDir) { tree = self.new.tree } }
         ensures later { self.old.faults ≤ self.new.faults }
     {
         if self.fails(CallKind::MakeDir) {
             return Err(ReadError::Fault);
         }
+        self.is_told();
         Ok(self.root.make_dir(alloc, self.composes, path)?)
     }
 
@@ -223,7 +225,7 @@ impl MemoryWorktree {
             ≡ (if fails self.old CallKind.RemoveNode then self.old.tree
             else after_remove self.old.tree (spot self.old.tree path.now false)) }
         ensures rest { self.new
-            ≡ record (called self.old CallKind.RemoveNode) { tree = self.new.tree } }
+            ≡ record (with_call self.old CallKind.RemoveNode) { tree = self.new.tree } }
         ensures later { self.old.faults ≤ self.new.faults }
     {
         if self.fails(CallKind::RemoveNode) {
@@ -235,7 +237,7 @@ impl MemoryWorktree {
     /// Counts a call, and whether it is planned to fail, which is counted too.
     fn fails(&mut self, call: CallKind) -> bool
         ensures planned { result ≡ fails self.old call }
-        ensures state { self.new ≡ called self.old call }
+        ensures state { self.new ≡ with_call self.old call }
         ensures later { self.old.faults ≤ self.new.faults }
     {
         let nth = self.calls.count(call);
@@ -273,13 +275,13 @@ impl Worktree for MemoryWorktree {
         ensures answer { result
             ≡ (if fails self.old CallKind.Kind then Err ReadError.Fault else Ok (kind_of
             (look self.old.tree path.now false))) }
-        ensures state { self.new ≡ called self.old CallKind.Kind }
+        ensures state { self.new ≡ with_call self.old CallKind.Kind }
         ensures later { self.old.faults ≤ self.new.faults }
     {
         if self.fails(CallKind::Kind) {
             return Err(ReadError::Fault);
         }
-        Ok(kind_of(&resolve(self.root.entries(), path, false)))
+        Ok(self.root.kind(path, false))
     }
 
     /// Never answers `OutOfMemory`.
@@ -287,16 +289,17 @@ impl Worktree for MemoryWorktree {
         ensures answer { result
             ≡ (if fails self.old CallKind.KindFollowing then Err ReadError.Fault else Ok (kind_of
             (look self.old.tree path.now true))) }
-        ensures state { self.new ≡ called self.old CallKind.KindFollowing }
+        ensures state { self.new ≡ with_call self.old CallKind.KindFollowing }
         ensures later { self.old.faults ≤ self.new.faults }
     {
         if self.fails(CallKind::KindFollowing) {
             return Err(ReadError::Fault);
         }
-        Ok(kind_of(&resolve(self.root.entries(), path, true)))
+        Ok(self.root.kind(path, true))
     }
 
-    /// Sorted by bytes, or from last to first where that was asked for.
+    /// In the order of the tree, or from last to first where that was asked for. `add` and `make_dir` put each name before
+    /// the first greater one.
     fn list(&mut self, alloc: Global, path: &[u8], follow: bool) -> Result<NameList, ListError>
         ensures opened { IsErrOf result ListError.OpenFault ↔ IsTrue
             (fails self.old CallKind.ListOpen) }
@@ -307,7 +310,9 @@ impl Worktree for MemoryWorktree {
             (look self.old.tree path.now follow)) }
         ensures state { self.new ≡ listed self.old }
         ensures names { IfOk result AreNames }
+        ensures kept { IfOk result (All (IsKept self.old.composes)) }
         ensures cause { OnListFault result (Increased self.old.faults self.new.faults) }
+        ensures unfaulted { UnlessListFault result (self.new.faults ≡ self.old.faults) }
         ensures faults { self.old.faults ≤ self.new.faults }
         ensures list_cause { OnListFault result
             (Increased self.old.list_faults self.new.list_faults) }
@@ -325,11 +330,7 @@ impl Worktree for MemoryWorktree {
             self.list_faults = self.list_faults.saturating_add(1);
             return Err(ListError::EntryFault);
         }
-        list_of(
-            alloc,
-            &resolve(self.root.entries(), path, follow),
-            self.is_reversed,
-        )
+        self.root.list(alloc, path, follow, self.is_reversed)
     }
 
     fn read(
@@ -346,7 +347,7 @@ impl Worktree for MemoryWorktree {
             ≡ found (file into.new) }
         ensures into { UnlessRead result (into.new ≡ into.old) }
         ensures state { self.new
-            ≡ called (record self.old { reads = next self.old.reads }) CallKind.Read }
+            ≡ with_call (record self.old { reads = next self.old.reads }) CallKind.Read }
         ensures later { self.old.faults ≤ self.new.faults }
         ensures reads_later { self.old.reads ≤ self.new.reads }
     {
@@ -354,17 +355,7 @@ impl Worktree for MemoryWorktree {
         if self.fails(CallKind::Read) {
             return Err(ReadError::Fault);
         }
-        match resolve(self.root.entries(), path, follow) {
-            Found::File(bytes) => {
-                into.set(alloc, bytes.as_bytes())?;
-                Ok(ReadAnswer::Read)
-            }
-            Found::Link(_) => Ok(ReadAnswer::IsLink),
-            Found::Directory(_) => Ok(ReadAnswer::IsDirectory),
-            Found::Other => Ok(ReadAnswer::Special),
-            Found::Absent => Ok(ReadAnswer::Absent),
-            Found::TooManyLinks => Ok(ReadAnswer::LinkLimit),
-        }
+        self.root.read(alloc, path, follow, into)
     }
 
     fn real_path(
@@ -375,13 +366,13 @@ impl Worktree for MemoryWorktree {
     ) -> Result<Option<PathText>, ReadError>
         ensures fault { IsErrOf result ReadError.Fault ↔ IsTrue (fails self.old CallKind.RealPath) }
         ensures answer { IfOk result (λ real. real ≡ real_path self.old.tree path.now cwd.now) }
-        ensures state { self.new ≡ called self.old CallKind.RealPath }
+        ensures state { self.new ≡ with_call self.old CallKind.RealPath }
         ensures later { self.old.faults ≤ self.new.faults }
     {
         if self.fails(CallKind::RealPath) {
             return Err(ReadError::Fault);
         }
-        let full = full_path(alloc, path, cwd)?;
+        let full = from_directory(alloc, path, cwd)?;
         Ok(self.root.real_path(alloc, full.as_bytes())?)
     }
 
@@ -393,7 +384,7 @@ impl Worktree for MemoryWorktree {
             ≡ after_make self.old.composes self.old.tree (spot self.old.tree path.now false)) }
         ensures refused { OnErr result (self.new.tree ≡ self.old.tree) }
         ensures rest { self.new
-            ≡ record (called self.old CallKind.MakeDir) { tree = self.new.tree } }
+            ≡ record (with_call self.old CallKind.MakeDir) { tree = self.new.tree } }
         ensures told_before { told_by self.old.tree ≡ Some self.old.tree }
         ensures told { told_by self.new.tree ≡ Some self.new.tree }
         ensures later { self.old.faults ≤ self.new.faults }
@@ -413,7 +404,7 @@ impl Worktree for MemoryWorktree {
             ≡ (if fails self.old CallKind.RemoveNode then self.old.tree
             else after_remove self.old.tree (spot self.old.tree path.now false)) }
         ensures rest { self.new
-            ≡ record (called self.old CallKind.RemoveNode) { tree = self.new.tree } }
+            ≡ record (with_call self.old CallKind.RemoveNode) { tree = self.new.tree } }
         ensures told_before { told_by self.old.tree ≡ Some self.old.tree }
         ensures told { told_by self.new.tree ≡ Some self.new.tree }
         ensures later { self.old.faults ≤ self.new.faults }
@@ -488,17 +479,4 @@ fn are_names(path: &[u8]) -> bool
     ensures { result ≡ list_all is_name (pieces path.now) }
 {
     path.split(|b| *b == b'/').all(|name| is_name(name))
-}
-
-/// The kind of what a path leads to.
-fn kind_of(found: &Found) -> Option<NodeKind>
-    ensures { result ≡ kind_of (look_of found.now) }
-{
-    match found {
-        Found::File(_) => Some(NodeKind::File),
-        Found::Link(_) => Some(NodeKind::Symlink),
-        Found::Directory(_) => Some(NodeKind::Directory),
-        Found::Other => Some(NodeKind::Untrackable),
-        Found::Absent | Found::TooManyLinks => None,
-    }
 }

@@ -1,14 +1,15 @@
 //! Whether a path leads to a repository.
-ghost use Rattle.std.specs.Prelude.{◌≡◌, Some, None, Ok, IfOk, IsErrOf, if◌then◌else◌, unwrap_or, [], true};
+ghost use Rattle.std.specs.Prelude.{◌≡◌, ◌≤◌, ◌+◌, Some, None, Ok, IfOk, IsErrOf, if◌then◌else◌, unwrap_or, option_and_then, [], true};
 ghost use Rattle.gitbase_core.specs.Path.{parent};
 ghost use Rattle.worktree_fs.specs.Tree.{Names, look};
+ghost use Rattle.worktree_fs.specs.Answers.{kind_of};
 ghost use Rattle.worktree_fs.specs.Causes.{NotIncreased, Increased};
 ghost use Rattle.worktree_fs.specs.Kept.{Asks};
 ghost use Rattle.worktree_fs.specs.Changes.{real_path, from_directory};
-ghost use Rattle.worktree_fs.specs.Repository.{is_path, is_git, is_git_directory, is_git_below, is_directory_at, file_at, is_head_at, common_of};
+ghost use Rattle.worktree_fs.specs.Repository.{is_path, is_git, is_git_directory, is_git_file, is_git_below, gitdir_path, is_directory_at, file_at, is_head_at, common_of};
 
 use crate::git_texts::{gitdir_path, is_head, trimmed};
-use crate::names::full_path;
+use crate::names::from_directory;
 use crate::{NodeKind, ReadAnswer, ReadError, Worktree};
 use gitbase_core::{Bytes, OutOfMemory, PathText};
 use std::alloc::Global;
@@ -42,13 +43,15 @@ pub fn real_path_is<W: Worktree>(
 }
 
 /// Whether a path, links followed, leads to a repository: to a git directory, or to a file that names one; false too
-/// where a question failed, which is counted.
+/// where a question failed, which is counted. A path that leads nowhere is looked at once, and nothing is read; else at
+/// most three files are: the one at the path, and `commondir` and `HEAD` of the git directory.
 ///
 /// # Errors
 ///
 /// - `OutOfMemory` for want of memory.
 ///
 /// See docs/DECISIONS.md#failed-repository-test.
+/// See docs/DIFFERENCES.md#git-file-size.
 pub fn is_git<W: Worktree>(
     alloc: Global,
     worktree: &mut W,
@@ -60,6 +63,9 @@ pub fn is_git<W: Worktree>(
     ensures true_only { (t : Names) → W.told worktree.old ≡ Some t → result ≡ Ok true
         → is_git t path.now ≡ true }
     ensures kept { Asks W.Worktree worktree.old worktree.new }
+    ensures unread { (t : Names) → W.told worktree.old ≡ Some t
+        → kind_of (look t path.now true) ≡ None → W.reads worktree.new ≡ W.reads worktree.old }
+    ensures reads_most { W.reads worktree.new ≤ W.reads worktree.old + 3 }
 {
     match is_repository(alloc, worktree, path) {
         Ok(is) => Ok(is),
@@ -77,12 +83,31 @@ fn is_repository<W: Worktree>(
     ensures answer { (t : Names) → W.told worktree.old ≡ Some t
         → IfOk result (λ is. is ≡ is_git t path.now) }
     ensures kept { Asks W.Worktree worktree.old worktree.new }
+    ensures unread { (t : Names) → W.told worktree.old ≡ Some t
+        → kind_of (look t path.now true) ≡ None → W.reads worktree.new ≡ W.reads worktree.old }
     ensures cause { IsErrOf result ReadError.Fault
         → Increased (W.faults worktree.old) (W.faults worktree.new) }
+    ensures reads_most { W.reads worktree.new ≤ W.reads worktree.old + 3 }
 {
-    if is_directory(alloc, worktree, path)? {
-        return is_git_directory(alloc, worktree, path, path);
+    match worktree.kind_following(alloc, path)? {
+        Some(NodeKind::Directory) => is_git_directory(alloc, worktree, path, path),
+        Some(NodeKind::File) => is_git_file(alloc, worktree, path),
+        Some(NodeKind::Symlink) => Ok(false),
+        Some(NodeKind::Untrackable) => Ok(false),
+        None => Ok(false),
     }
+}
+
+/// Whether a file names a git directory.
+fn is_git_file<W: Worktree>(alloc: Global, worktree: &mut W, path: &[u8]) -> Result<bool, ReadError>
+    ensures answer { (t : Names) → W.told worktree.old ≡ Some t
+        → IfOk result (λ is. is ≡ is_git_file t path.now (option_and_then gitdir_path
+        (file_at (look t path.now true)))) }
+    ensures kept { Asks W.Worktree worktree.old worktree.new }
+    ensures cause { IsErrOf result ReadError.Fault
+        → Increased (W.faults worktree.old) (W.faults worktree.new) }
+    ensures reads_most { W.reads worktree.new ≤ W.reads worktree.old + 3 }
+{
     let mut bytes = Bytes::new(alloc);
     if !read_file(alloc, worktree, path, &mut bytes)? {
         return Ok(false);
@@ -103,6 +128,7 @@ fn is_git_below<W: Worktree>(alloc: Global, worktree: &mut W, git: &[u8]) -> Res
     ensures kept { Asks W.Worktree worktree.old worktree.new }
     ensures cause { IsErrOf result ReadError.Fault
         → Increased (W.faults worktree.old) (W.faults worktree.new) }
+    ensures reads_most { W.reads worktree.new ≤ W.reads worktree.old + 2 }
 {
     let common = common_of(alloc, worktree, git)?;
     is_git_directory(alloc, worktree, git, common.as_bytes())
@@ -115,11 +141,12 @@ fn common_of<W: Worktree>(alloc: Global, worktree: &mut W, git: &[u8]) -> Result
     ensures kept { Asks W.Worktree worktree.old worktree.new }
     ensures cause { IsErrOf result ReadError.Fault
         → Increased (W.faults worktree.old) (W.faults worktree.new) }
+    ensures reads_most { W.reads worktree.new ≤ W.reads worktree.old + 1 }
 {
-    let path = full_path(alloc, b"commondir".as_slice(), git)?;
+    let path = from_directory(alloc, b"commondir".as_slice(), git)?;
     let mut bytes = Bytes::new(alloc);
     if read_file(alloc, worktree, path.as_bytes(), &mut bytes)? {
-        return Ok(full_path(alloc, trimmed(bytes.as_bytes()), git)?);
+        return Ok(from_directory(alloc, trimmed(bytes.as_bytes()), git)?);
     }
     Ok(Bytes::from_slice(alloc, git)?)
 }
@@ -137,16 +164,17 @@ fn is_git_directory<W: Worktree>(
     ensures kept { Asks W.Worktree worktree.old worktree.new }
     ensures cause { IsErrOf result ReadError.Fault
         → Increased (W.faults worktree.old) (W.faults worktree.new) }
+    ensures reads_most { W.reads worktree.new ≤ W.reads worktree.old + 1 }
 {
-    let head = full_path(alloc, b"HEAD".as_slice(), git)?;
+    let head = from_directory(alloc, b"HEAD".as_slice(), git)?;
     if !has_head(alloc, worktree, head.as_bytes())? {
         return Ok(false);
     }
-    let objects = full_path(alloc, b"objects".as_slice(), common)?;
+    let objects = from_directory(alloc, b"objects".as_slice(), common)?;
     if !is_directory(alloc, worktree, objects.as_bytes())? {
         return Ok(false);
     }
-    let refs = full_path(alloc, b"refs".as_slice(), common)?;
+    let refs = from_directory(alloc, b"refs".as_slice(), common)?;
     is_directory(alloc, worktree, refs.as_bytes())
 }
 
@@ -157,6 +185,7 @@ fn has_head<W: Worktree>(alloc: Global, worktree: &mut W, path: &[u8]) -> Result
     ensures kept { Asks W.Worktree worktree.old worktree.new }
     ensures cause { IsErrOf result ReadError.Fault
         → Increased (W.faults worktree.old) (W.faults worktree.new) }
+    ensures reads_most { W.reads worktree.new ≤ W.reads worktree.old + 1 }
 {
     let mut bytes = Bytes::new(alloc);
     if !read_file(alloc, worktree, path, &mut bytes)? {
@@ -176,6 +205,7 @@ fn is_directory<W: Worktree>(
     ensures kept { Asks W.Worktree worktree.old worktree.new }
     ensures cause { IsErrOf result ReadError.Fault
         → Increased (W.faults worktree.old) (W.faults worktree.new) }
+    ensures reads { W.reads worktree.new ≡ W.reads worktree.old }
 {
     let kind = worktree.kind_following(alloc, path)?;
     Ok(kind == Some(NodeKind::Directory))
@@ -194,6 +224,7 @@ fn read_file<W: Worktree>(
     ensures kept { Asks W.Worktree worktree.old worktree.new }
     ensures cause { IsErrOf result ReadError.Fault
         → Increased (W.faults worktree.old) (W.faults worktree.new) }
+    ensures reads_most { W.reads worktree.new ≤ W.reads worktree.old + 1 }
 {
     match worktree.read(alloc, path, true, into)? {
         ReadAnswer::Read => Ok(true),
@@ -212,5 +243,5 @@ fn beside(alloc: Global, path: &[u8], file: &[u8]) -> Result<Bytes, OutOfMemory>
         Some(directory) => directory,
         None => &[],
     };
-    full_path(alloc, path, directory)
+    from_directory(alloc, path, directory)
 }

@@ -1,10 +1,11 @@
 //! A tree of files as code above sees it, call by call.
-ghost use Rattle.std.specs.Prelude.{◌≡◌, ◌≤◌, ℕ, Bool, true, false, Option, Some, None, IfOk, OnOk, OnErr, IsErrOf, MatchResult, Ok};
+ghost use Rattle.std.specs.Prelude.{◌≡◌, ◌≤◌, ℕ, Bool, true, false, Option, Some, None, All, IfOk, OnOk, OnErr, IsErrOf, MatchResult, Ok};
 ghost use Rattle.worktree_fs.specs.Tree.{Names, look, spot, found, file, directory};
 ghost use Rattle.worktree_fs.specs.Naming.{AreNames, IsTree};
-ghost use Rattle.worktree_fs.specs.Answers.{kind_of, read_of, UnlessRead, ListsNames, ListRefuses, OnListFault, UnlessListFault};
+ghost use Rattle.worktree_fs.specs.Answers.{kind_of, read_of, UnlessRead, UnlessFault, ListsNames, ListRefuses, OnListFault, UnlessListFault};
 ghost use Rattle.worktree_fs.specs.Changes.{real_path, make_answer, after_make, remove_answer, after_remove};
-ghost use Rattle.worktree_fs.specs.Changed.{AnswersInside};
+ghost use Rattle.worktree_fs.specs.MadeAndRemoved.{AnswersInside};
+ghost use Rattle.worktree_fs.specs.Composed.{IsKept};
 ghost use Rattle.worktree_fs.specs.Causes.{Incremented, Increased, with_more};
 
 use crate::{ListError, MakeAnswer, NameList, NodeKind, ReadAnswer, ReadError, RemoveAnswer};
@@ -60,6 +61,7 @@ pub trait Worktree {
         ensures tree { told self.new ≡ told self.old }
         ensures cause { IsErrOf result ReadError.Fault
             → Increased (faults self.old) (faults self.new) }
+        ensures unfaulted { UnlessFault result (faults self.new ≡ faults self.old) }
         ensures faults { faults self.old ≤ faults self.new }
         ensures list_faults { list_faults self.new ≡ list_faults self.old }
         ensures reads { reads self.new ≡ reads self.old }
@@ -79,13 +81,15 @@ pub trait Worktree {
         ensures tree { told self.new ≡ told self.old }
         ensures cause { IsErrOf result ReadError.Fault
             → Increased (faults self.old) (faults self.new) }
+        ensures unfaulted { UnlessFault result (faults self.new ≡ faults self.old) }
         ensures faults { faults self.old ≤ faults self.new }
         ensures list_faults { list_faults self.new ≡ list_faults self.old }
         ensures reads { reads self.new ≡ reads self.old }
         ensures lists { lists self.new ≡ lists self.old }
         ensures precomposes { precomposes self.new ≡ precomposes self.old };
 
-    /// The names of a directory, each once, in an order of the worktree's own. With `follow` a last link is followed.
+    /// The names of a directory, each once, in an order of the worktree's own, and as they are kept: with their characters
+    /// composed where the worktree composes names. With `follow` a last link is followed.
     ///
     /// # Errors
     ///
@@ -97,13 +101,16 @@ pub trait Worktree {
     /// - `OutOfMemory` for want of memory.
     ///
     /// See docs/DECISIONS.md#listing-counts.
+    /// See docs/DECISIONS.md#listed-names-kept.
     fn list(&mut self, alloc: Global, path: &[u8], follow: bool) -> Result<NameList, ListError>
         ensures answer { (t : Names) → told self.old ≡ Some t
             → MatchResult result (ListsNames (look t path.now follow)) (ListRefuses
             (look t path.now follow)) }
         ensures names { IfOk result AreNames }
+        ensures composed { IfOk result (All (IsKept (precomposes self.old))) }
         ensures tree { told self.new ≡ told self.old }
         ensures cause { OnListFault result (Increased (faults self.old) (faults self.new)) }
+        ensures unfaulted { UnlessListFault result (faults self.new ≡ faults self.old) }
         ensures faults { faults self.old ≤ faults self.new }
         ensures list_cause { OnListFault result (Increased (list_faults self.old)
             (list_faults self.new)) }
@@ -138,6 +145,7 @@ pub trait Worktree {
         ensures tree { told self.new ≡ told self.old }
         ensures cause { IsErrOf result ReadError.Fault
             → Increased (faults self.old) (faults self.new) }
+        ensures unfaulted { UnlessFault result (faults self.new ≡ faults self.old) }
         ensures faults { faults self.old ≤ faults self.new }
         ensures list_faults { list_faults self.new ≡ list_faults self.old }
         ensures reads { Incremented (reads self.old) (reads self.new) }
@@ -163,6 +171,7 @@ pub trait Worktree {
         ensures tree { told self.new ≡ told self.old }
         ensures cause { IsErrOf result ReadError.Fault
             → Increased (faults self.old) (faults self.new) }
+        ensures unfaulted { UnlessFault result (faults self.new ≡ faults self.old) }
         ensures faults { faults self.old ≤ faults self.new }
         ensures list_faults { list_faults self.new ≡ list_faults self.old }
         ensures reads { reads self.new ≡ reads self.old }
@@ -194,6 +203,7 @@ pub trait Worktree {
         ensures untold { told self.old ≡ None → told self.new ≡ None }
         ensures cause { IsErrOf result ReadError.Fault
             → Increased (faults self.old) (faults self.new) }
+        ensures unfaulted { UnlessFault result (faults self.new ≡ faults self.old) }
         ensures faults { faults self.old ≤ faults self.new }
         ensures list_faults { list_faults self.new ≡ list_faults self.old }
         ensures reads { reads self.new ≡ reads self.old }
@@ -219,6 +229,7 @@ pub trait Worktree {
         ensures untold { told self.old ≡ None → told self.new ≡ None }
         ensures cause { IsErrOf result ReadError.Fault
             → Increased (faults self.old) (faults self.new) }
+        ensures unfaulted { UnlessFault result (faults self.new ≡ faults self.old) }
         ensures faults { faults self.old ≤ faults self.new }
         ensures list_faults { list_faults self.new ≡ list_faults self.old }
         ensures reads { reads self.new ≡ reads self.old }

@@ -31,6 +31,8 @@ impl From<OutOfMemory> for WalkError {
 }
 
 /// Lists a directory on the worktree handed in, and each name in it on a fork.
+///
+/// That counts rise by those of the forks is told by no clause here: the forks are gone when the call returns.
 pub fn walk_at_once<W: Worktree, F: Find, I: Interrupt>(
     alloc: Global,
     worktree: &mut W,

@@ -1,5 +1,5 @@
 //! The files of the system. Root may open every directory, so none that may not be opened is among them, and no name that
-//! is not UTF-8 can be made through the paths of the standard library.
+//! is not UTF-8 can be made through the paths of the standard library: such a path is asked for, and refused.
 use crate::rows::{kind_word, parted};
 use gitbase_core::Bytes;
 use std::alloc::Global;
@@ -15,7 +15,10 @@ use worktree_fs::{
 const ROWS: &[u8] = b"\
 kind`f`file`|follow`f`file`|kind`f/`file`|kind`l`link`|follow`l`file`|kind`d`directory`|kind`a/`link`|\
 follow`a/`directory`|kind`a/b`file`|kind`f/x`none`|kind`z`none`|kind`p`link`|follow`p`fault`1|\
-kind`z\0`none`|kind`\xff`none`|\
+kind`z\0`none`|kind`\xff\0`none`|read`\xff\0`absent`|names`\0\xff`absent`|real`\xff\0`none`|make`\xff\0`orphan`|\
+remove`\xff\0`absent`|kind`\xff`fault`1|kind`f/\xff`fault`1|follow`l\xff`fault`1|read`\xff`fault`1|through`d/\xff`fault`1|\
+names`\xff`open`1|names of`d/\xff/`open`1|composed`\xff`open`1|real`\xff/..`fault`1|make`\xff`fault`1|make`z/\xff`fault`1|\
+remove`\xff`fault`1|\
 read`l`link`|read`p`link`|read`d`directory`|read`z`absent`|through`p`fault`1|through`l`f`|\
 names`d`B a b `|names`a`not`|names`p`not`|names of`a`B a b `|names of`f`not`|names of`z`absent`|names of`p`open`1|\
 composed`c`\xc3\xa4 `|names`c`a\xcc\x88 `|names`e`a\xcc\x88 \xc3\xa4 `|composed`e`entry`1|\
@@ -120,7 +123,8 @@ fn removes(alloc: Global, disk: &mut DiskWorktree<'_>, path: &[u8], want: &[u8])
         Ok(RemoveAnswer::Removed) => want == b"removed".as_slice(),
         Ok(RemoveAnswer::Absent) => want == b"absent".as_slice(),
         Ok(RemoveAnswer::IsDirectory) => want == b"directory".as_slice(),
-        Err(_) => false,
+        Err(ReadError::Fault) => want == b"fault".as_slice(),
+        Err(ReadError::OutOfMemory) => false,
     }
 }
 
@@ -198,6 +202,20 @@ fn counts_long_listing(rt: &HostRuntime) -> bool {
     refused && disk.fault_count() == 1 && disk.list_fault_count() == 1
 }
 
+/// A directory that is not UTF-8 is a fault for the paths that are taken from it, and for no other.
+fn refuses_odd_directory(rt: &HostRuntime) -> bool {
+    let alloc = rt.alloc();
+    let mut disk = DiskWorktree::new(rt, false);
+    let refused = matches!(
+        disk.real_path(alloc, b"..", b"/\xff"),
+        Err(ReadError::Fault)
+    );
+    match disk.real_path(alloc, b"/", b"/\xff") {
+        Ok(Some(real)) => refused && real.as_bytes() == b"/".as_slice() && disk.fault_count() == 1,
+        _ => false,
+    }
+}
+
 /// A relative path is taken from the current directory, and one without links from the directory that is given.
 fn takes_relative(rt: &HostRuntime, folder: &[u8]) -> bool {
     let alloc = rt.alloc();
@@ -267,4 +285,5 @@ fn the_disk_answers_as_a_tree(rt: HostRuntime) -> Result<(), Fail> {
 fn the_disk_has_limits(rt: HostRuntime) {
     assert!(rt; refuses_long(&rt));
     assert!(rt; counts_long_listing(&rt));
+    assert!(rt; refuses_odd_directory(&rt));
 }

@@ -186,6 +186,49 @@ fn forks_apart(alloc: Global) -> bool {
     }
 }
 
+/// Whether a read fails and leaves the bytes.
+fn fails_to_read(alloc: Global, tree: &mut MemoryWorktree) -> bool {
+    match Bytes::from_slice(alloc, b"kept") {
+        Ok(bytes) => {
+            let mut into = bytes;
+            match tree.read(alloc, b"/w/f", false, &mut into) {
+                Err(ReadError::Fault) => into.as_bytes() == b"kept".as_slice(),
+                _ => false,
+            }
+        }
+        Err(_) => false,
+    }
+}
+
+fn fails_to_list(alloc: Global, tree: &mut MemoryWorktree) -> bool {
+    match tree.list(alloc, b"/w/d", false) {
+        Err(ListError::EntryFault) => true,
+        _ => false,
+    }
+}
+
+/// The calls that ask fail where that is planned of their own kind, the first time alone.
+fn asks_fail_as_planned(alloc: Global) -> bool {
+    let mut tree = sample(alloc, false);
+    let is_planned = tree.fail(alloc, CallKind::KindFollowing, 1).is_ok()
+        && tree.fail(alloc, CallKind::ListEntry, 1).is_ok()
+        && tree.fail(alloc, CallKind::Read, 1).is_ok();
+    is_planned
+        && has_kind(alloc, &mut tree, b"/w/f", false, b"file")
+        && tree.kind_following(alloc, b"/w/f") == Err(ReadError::Fault)
+        && fails_to_list(alloc, &mut tree)
+        && fails_to_read(alloc, &mut tree)
+        && tree.fault_count() == 3
+        && has_kind(alloc, &mut tree, b"/w/f", true, b"file")
+        && lists(alloc, &mut tree, b"/w/d", false, b"B g ")
+        && reads(alloc, &mut tree, b"/w/f", false, b"read x")
+}
+
+#[test]
+fn asks_fail_once(rt: HostRuntime) {
+    assert!(rt; asks_fail_as_planned(rt.alloc()));
+}
+
 #[test]
 fn forks_are_absorbed(rt: HostRuntime) {
     assert!(rt; counts_faults(rt.alloc()) && forks_apart(rt.alloc()));

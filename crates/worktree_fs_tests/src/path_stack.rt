@@ -64,7 +64,8 @@ impl<'a, A: Abort> Recorder<'a, A> {
           path = path.now;
           is_refused = is_refused;
         } ∷ [] }
-        ensures refusals { self.new.refusals ≡ (if is_refused then min (self.old.refusals + 1) (2 ^ 64 - 1) else self.old.refusals) }
+        ensures refusals { self.new.refusals
+            ≡ (if is_refused then min (self.old.refusals + 1) (2 ^ 64 - 1) else self.old.refusals) }
         ensures later { self.old.refusals ≤ self.new.refusals }
         ensures refused { self.new.refused ≡ self.old.refused }
     {
@@ -113,14 +114,16 @@ impl<'a, A: Abort> PathDelegate for Recorder<'a, A> {
     type Error = Planned;
 
     ghost given = { λ r. map (λ t. called
-        (if t.is_pop then pop_directory else if t.is_directory then push_directory t.path else push t.path t.is_last)
+        (if t.is_pop then pop_directory else if t.is_directory then push_directory t.path
+        else push t.path t.is_last)
         t.is_refused) r.calls.items };
 
     ghost refusals = { λ r. r.refusals };
 
     ghost causes = { λ r _. 0 < r.refusals };
 
-    ghost rule = { λ first now. (now.refused ≡ first.refused) × (take (length first.calls.items) now.calls.items ≡ first.calls.items) };
+    ghost rule = { λ first now. (now.refused ≡ first.refused)
+        × (take (length first.calls.items) now.calls.items ≡ first.calls.items) };
 
     #[tactic(auto, using(crate::proofs::Mapped::map_push, crate::proofs::Mapped::front_push))]
     fn push_directory(&mut self, _alloc: Global, dir: &[u8]) -> Result<(), Planned> {

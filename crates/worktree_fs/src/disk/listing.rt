@@ -1,14 +1,14 @@
 //! The names of a directory of the system.
-ghost use Rattle.std.specs.Prelude.{◌≡◌, ◌≤◌, ◌<◌, ◌++◌, ◌∷◌, [], length, Some, None, if◌then◌else◌, IfOk, OnOk, IfNone, IfSome, All, IsTrue};
+ghost use Rattle.std.specs.Prelude.{◌≡◌, ◌≤◌, ◌<◌, ◌++◌, ◌∷◌, [], length, Some, None, if◌then◌else◌, IfOk, OnOk, IfNone, IfSome, All, IsTrue, IsErrOf};
 ghost use Rattle.std.specs.List.Sorted.{IsStrictlySortedBy};
 ghost use Rattle.worktree_fs.specs.Composed.{as_kept};
-ghost use Rattle.worktree_fs.specs.Edges.{IsKept, AreListed, kept_names, names_between, given_names};
+ghost use Rattle.worktree_fs.specs.Disk.{is_unaskable, IsGiven, AreListed, kept_names, names_between, given_names};
 ghost use Rattle.worktree_fs.specs.Naming.{AreNames, is_name};
-ghost use Rattle.worktree_fs.specs.Order.{name_cmp};
+ghost use Rattle.worktree_fs.specs.Order.{path_cmp};
 
 use super::node::{is_absent, look, text_of};
 use crate::composed::as_kept;
-use crate::names::{is_dot, is_dot_dot, is_name};
+use crate::names::{cut_once, is_dot, is_dot_dot, is_name};
 use crate::{ListError, NameList, NodeKind};
 use gitbase_core::{Bytes, OutOfMemory};
 use std::alloc::Global;
@@ -33,15 +33,20 @@ pub fn listed(
     follow: bool,
 ) -> Result<NameList, ListError>
     ensures names { IfOk result AreNames }
-    ensures kept { IfOk result (All (IsKept composes)) }
+    ensures kept { IfOk result (All (IsGiven composes)) }
     ensures few { IfOk result (λ names. length names ≤ 1000000) }
+    ensures sorted { IfOk result (IsStrictlySortedBy path_cmp) }
+    ensures unaskable { IsTrue (is_unaskable path.now) → IsErrOf result ListError.OpenFault }
 {
+    let Ok(text) = text_of(path) else {
+        return Err(ListError::OpenFault);
+    };
+    let Some(text) = text else {
+        return Err(ListError::Absent);
+    };
     if buffer.len() < BUFFER_LEN {
         buffer.resize(BUFFER_LEN, 0)?;
     }
-    let Some(text) = text_of(path) else {
-        return Err(ListError::Absent);
-    };
     let text = with_slash(alloc, text, follow)?;
     match rt.open_dir(text.as_str()) {
         Ok(dir) => {
@@ -83,8 +88,9 @@ fn names_from<D: Read>(
     buffer: &mut [u8],
 ) -> Result<NameList, ListError>
     ensures names { IfOk result AreNames }
-    ensures kept { IfOk result (All (IsKept composes)) }
+    ensures kept { IfOk result (All (IsGiven composes)) }
     ensures few { IfOk result (λ names. length names ≤ 1000000) }
+    ensures sorted { IfOk result (IsStrictlySortedBy path_cmp) }
 {
     let mut names = Vec::new(alloc);
     for _ in 0..u64::MAX {
@@ -112,26 +118,11 @@ fn take_names(
         ≡ names.old.items ++ given_names composes piece.now) }
 {
     let mut rest = piece;
-    while let Some((name, behind)) = cut_name(rest) {
+    while let Some((name, behind)) = cut_once(rest, 0) {
         take_name(alloc, composes, name, names)?;
         rest = behind;
     }
     take_name(alloc, composes, rest, names)
-}
-
-/// What stands before the first NUL, and what stands behind it.
-fn cut_name(piece: &[u8]) -> Option<(&[u8], &[u8])>
-    ensures none { IfNone result (names_between piece.now ≡ piece.now ∷ []) }
-    ensures some { IfSome result (λ cut. names_between piece.now
-        ≡ cut.0.now ∷ names_between cut.1.now) }
-    ensures shorter { IfSome result (λ cut. length cut.1.now < length piece.now) }
-{
-    for (i, b) in piece.iter().enumerate() {
-        if *b == 0 {
-            return Some((&piece[..i], &piece[i + 1..]));
-        }
-    }
-    None
 }
 
 /// Adds a name that the system gave, as it is kept, where it is that of a node in the directory.
@@ -192,8 +183,9 @@ fn listed_name(alloc: Global, composes: bool, name: &[u8]) -> Result<Option<Byte
 fn in_order(_composes: bool, names: Vec<Bytes>) -> Option<NameList>
     requires { AreListed _composes names.items }
     ensures names { IfSome result AreNames }
-    ensures kept { IfSome result (All (IsKept _composes)) }
+    ensures kept { IfSome result (All (IsGiven _composes)) }
     ensures few { IfSome result (λ names. length names ≤ 1000000) }
+    ensures sorted { IfSome result (IsStrictlySortedBy path_cmp) }
 {
     let mut names = names;
     names.sort_unstable_by(|a, b| compare(a, b));
@@ -205,14 +197,14 @@ fn in_order(_composes: bool, names: Vec<Bytes>) -> Option<NameList>
 }
 
 fn compare(a: &Bytes, b: &Bytes) -> Ordering
-    ensures { result ≡ name_cmp a.now b.now }
+    ensures { result ≡ path_cmp a.now b.now }
 {
     a.as_bytes().cmp(&b.as_bytes())
 }
 
 /// Whether each name is below the next.
 fn rises(names: &[Bytes]) -> bool
-    ensures { IsTrue result → IsStrictlySortedBy name_cmp names.now }
+    ensures { IsTrue result → IsStrictlySortedBy path_cmp names.now }
 {
     for i in 1..names.len() {
         if compare(&names[i - 1], &names[i]) != Ordering::Less {

@@ -1,9 +1,11 @@
 //! The calls of the system on one node, with its answers as those of a worktree.
-ghost use Rattle.std.specs.Prelude.{◌≡◌, ◌≤◌, ◌^◌, length, Ok, IfOk, false};
+ghost use Rattle.std.specs.Prelude.{◌≡◌, ◌≤◌, ◌^◌, length, Ok, IfOk, IsErrOf, IsTrue, false};
 ghost use Rattle.worktree_fs.specs.Answers.{UnlessRead};
+ghost use Rattle.worktree_fs.specs.Changes.{from_directory};
+ghost use Rattle.worktree_fs.specs.Disk.{is_unaskable};
 
 use crate::composed::as_kept;
-use crate::names::{full_path, is_text};
+use crate::names::{from_directory, is_utf8};
 use crate::{MakeAnswer, NodeKind, ReadAnswer, ReadError, RemoveAnswer};
 use gitbase_core::{Bytes, OutOfMemory, PathText};
 use std::alloc::Global;
@@ -15,16 +17,33 @@ use std::{io, str};
 /// How many bytes a file may have.
 const BYTE_LIMIT: u64 = 1 << 30;
 
-/// The path as the system takes it, without slashes at its end; none where it leads nowhere.
-pub fn text_of(path: &[u8]) -> Option<&str> {
-    if !is_text(path) {
-        return None;
+/// Whether std cannot ask the system for a path of these bytes: they are not UTF-8, and have no NUL.
+fn is_unaskable(path: &[u8]) -> bool
+    ensures { result ≡ is_unaskable path.now }
+{
+    !is_utf8(path) && !path.contains(&0)
+}
+
+/// The path as the system takes it, without slashes at its end; none where it has a NUL, and so leads nowhere.
+///
+/// # Errors
+///
+/// - `Fault` where std cannot ask the system for it.
+pub fn text_of(path: &[u8]) -> Result<Option<&str>, ReadError>
+    ensures refused { IsTrue (is_unaskable path.now) → IsErrOf result ReadError.Fault }
+    ensures asked { IfOk result (λ _. is_unaskable path.now ≡ false) }
+{
+    if is_unaskable(path) {
+        return Err(ReadError::Fault);
+    }
+    if path.contains(&0) {
+        return Ok(None);
     }
     let Ok(text) = str::from_utf8(path) else {
-        return None;
+        return Ok(None);
     };
     let text = text.trim_end_matches('/');
-    Some(if text.is_empty() { "/" } else { text })
+    Ok(Some(if text.is_empty() { "/" } else { text }))
 }
 
 fn node_kind(metadata: &Metadata) -> NodeKind {
@@ -46,8 +65,10 @@ pub fn is_absent(error: &io::Error) -> bool {
 
 /// The kind of the node at a path, where there is one.
 /// See docs/DIFFERENCES.md#gix-link-limit.
-pub fn look(rt: &HostRuntime, path: &[u8], follow: bool) -> Result<Option<NodeKind>, ReadError> {
-    let Some(text) = text_of(path) else {
+pub fn look(rt: &HostRuntime, path: &[u8], follow: bool) -> Result<Option<NodeKind>, ReadError>
+    ensures unaskable { IsTrue (is_unaskable path.now) → IsErrOf result ReadError.Fault }
+{
+    let Some(text) = text_of(path)? else {
         return Ok(None);
     };
     let metadata = if follow {
@@ -73,6 +94,7 @@ pub fn read_into(
     ensures into { UnlessRead result (into.new ≡ into.old) }
     ensures link { result ≡ Ok ReadAnswer.IsLink → follow ≡ false }
     ensures short { result ≡ Ok ReadAnswer.Read → length into.new ≤ 2 ^ 30 }
+    ensures unaskable { IsTrue (is_unaskable path.now) → IsErrOf result ReadError.Fault }
 {
     match look(rt, path, follow)? {
         None => Ok(ReadAnswer::Absent),
@@ -92,7 +114,7 @@ pub fn read_into(
 fn bytes_of(rt: &HostRuntime, alloc: Global, path: &[u8]) -> Result<Vec<u8>, ReadError>
     ensures { IfOk result (λ bytes. length bytes.items ≤ 2 ^ 30) }
 {
-    let Some(text) = text_of(path) else {
+    let Some(text) = text_of(path)? else {
         return Err(ReadError::Fault);
     };
     let Ok(file) = File::open(rt, text) else {
@@ -118,9 +140,12 @@ pub fn real_path(
     alloc: Global,
     path: &[u8],
     cwd: &[u8],
-) -> Result<Option<PathText>, ReadError> {
-    let full = full_path(alloc, path, cwd)?;
-    let Some(text) = text_of(full.as_bytes()) else {
+) -> Result<Option<PathText>, ReadError>
+    ensures unaskable { IsTrue (is_unaskable (from_directory path.now cwd.now))
+        → IfOk result (λ _. ⊥) }
+{
+    let full = from_directory(alloc, path, cwd)?;
+    let Some(text) = text_of(full.as_bytes())? else {
         return Ok(None);
     };
     match rt.canonicalize(alloc, text) {
@@ -150,12 +175,14 @@ pub fn make_dir(
     alloc: Global,
     composes: bool,
     path: &[u8],
-) -> Result<MakeAnswer, ReadError> {
-    let Some(given) = text_of(path) else {
+) -> Result<MakeAnswer, ReadError>
+    ensures unaskable { IsTrue (is_unaskable path.now) → IsErrOf result ReadError.Fault }
+{
+    let Some(given) = text_of(path)? else {
         return Ok(MakeAnswer::NoParent);
     };
     let kept = kept_path(alloc, composes, given)?;
-    let Some(text) = text_of(kept.as_bytes()) else {
+    let Some(text) = text_of(kept.as_bytes())? else {
         return Ok(MakeAnswer::NoParent);
     };
     match rt.create_dir(text) {
@@ -167,12 +194,14 @@ pub fn make_dir(
 }
 
 /// Removes a node that is no directory.
-pub fn remove_node(rt: &HostRuntime, path: &[u8]) -> Result<RemoveAnswer, ReadError> {
+pub fn remove_node(rt: &HostRuntime, path: &[u8]) -> Result<RemoveAnswer, ReadError>
+    ensures unaskable { IsTrue (is_unaskable path.now) → IsErrOf result ReadError.Fault }
+{
     match look(rt, path, false)? {
         None => Ok(RemoveAnswer::Absent),
         Some(NodeKind::Directory) => Ok(RemoveAnswer::IsDirectory),
         Some(_) => {
-            let Some(text) = text_of(path) else {
+            let Some(text) = text_of(path)? else {
                 return Ok(RemoveAnswer::Absent);
             };
             match rt.remove_file(text) {

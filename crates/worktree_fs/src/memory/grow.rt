@@ -13,6 +13,7 @@ ghost use Rattle.worktree_fs.specs.declared.memory.grow.AddError.TheVariants.{Ou
 
 use super::search::search;
 use super::stored::{Entry, Inner, Stored};
+use crate::names::cut_once;
 use gitbase_core::{Bytes, OutOfMemory};
 use std::alloc::{AllocError, AllocFailed, Global};
 use thiserror::Error;
@@ -86,20 +87,6 @@ pub fn stored_of(alloc: Global, node: NewNode) -> Result<Stored, OutOfMemory>
     Ok(Stored::from_inner(node))
 }
 
-/// What stands before the first slash, and what stands behind it.
-pub fn cut_first(path: &[u8]) -> Option<(&[u8], &[u8])>
-    ensures none { IfNone result (pieces path.now ≡ path.now ∷ []) }
-    ensures some { IfSome result (λ cut. pieces path.now ≡ cut.0.now ∷ pieces cut.1.now) }
-    ensures shorter { IfSome result (λ cut. length cut.1.now < length path.now) }
-{
-    for (i, b) in path.iter().enumerate() {
-        if *b == b'/' {
-            return Some((&path[..i], &path[i + 1..]));
-        }
-    }
-    None
-}
-
 /// A directory with one node.
 fn single(alloc: Global, name: &[u8], node: Stored) -> Result<Stored, OutOfMemory>
     requires name { IsName name.now }
@@ -120,7 +107,7 @@ fn chain(alloc: Global, path: &[u8], node: Stored) -> Result<Stored, OutOfMemory
     ensures chain { IfOk result (λ made. made ≡ grown (pieces path.now) node None) }
     ensures tree { IfOk result IsTree }
 {
-    match cut_first(path) {
+    match cut_once(path, b'/') {
         None => single(alloc, path, node),
         Some((name, rest)) => single(alloc, name, chain(alloc, rest, node)?),
     }
@@ -146,7 +133,7 @@ pub fn add_in(
     ensures unchanged { OnErr result (entries.new.items ≡ entries.old.items) }
     ensures sorted { AreSorted entries.new.items }
 {
-    match cut_first(path) {
+    match cut_once(path, b'/') {
         None => match search(entries, path) {
             Ok(_) => Err(AddError::Exists),
             Err(at) => Ok(put_at(entries, alloc, at, path, node)?),
@@ -226,7 +213,7 @@ pub fn count_parts(path: &[u8]) -> usize
 {
     let mut count = 1;
     let mut rest = path;
-    while let Some((_, behind)) = cut_first(rest) {
+    while let Some((_, behind)) = cut_once(rest, b'/') {
         count += 1;
         rest = behind;
     }

@@ -4,10 +4,10 @@ ghost use Rattle.worktree_fs.specs.Tree.{names_of};
 ghost use Rattle.worktree_fs.specs.Naming.{AreNames};
 ghost use Rattle.worktree_fs.specs.Answers.{ListRefuses, OnListFault};
 ghost use Rattle.worktree_fs.specs.Stored.{names_in, AreSorted};
-ghost use Rattle.worktree_fs.specs.Step.{look_of, ListsSorted};
+ghost use Rattle.worktree_fs.specs.Found.{look_of, ListsSorted};
 ghost use Rattle.worktree_fs.specs.Memory.{ListsInOrder};
 
-use super::resolve::Found;
+use super::found::Found;
 use super::stored::Entry;
 use crate::{ListError, NameList};
 use gitbase_core::{Bytes, OutOfMemory};

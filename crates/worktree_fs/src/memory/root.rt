@@ -1,22 +1,26 @@
 //! What is in `/` of a tree in memory, with room for the way to each of its nodes.
-ghost use Rattle.std.specs.Prelude.{◌≡◌, ◌≤◌, Some, None, IfOk, IfErr, OnOk, OnErr, true, false, vec_capacity};
+ghost use Rattle.std.specs.Prelude.{◌≡◌, ◌≤◌, Some, None, Ok, IfOk, IfErr, OnOk, OnErr, IsErrOf, MatchResult, true, false, vec_capacity};
 ghost use Rattle.std.specs.List.{AllByRecursion};
 ghost use Rattle.gitbase_core.specs.Path.{pieces};
-ghost use Rattle.worktree_fs.specs.Tree.{Spot, directory, none, spot};
-ghost use Rattle.worktree_fs.specs.Naming.{IsName, IsTree};
+ghost use Rattle.worktree_fs.specs.Tree.{Spot, directory, none, spot, look, found, file};
+ghost use Rattle.worktree_fs.specs.Naming.{IsName, IsTree, AreNames};
+ghost use Rattle.worktree_fs.specs.Answers.{kind_of, read_of, UnlessRead, ListRefuses, OnListFault};
+ghost use Rattle.worktree_fs.specs.Memory.{ListsInOrder};
 ghost use Rattle.worktree_fs.specs.Stored.{names_in, AreSorted};
 ghost use Rattle.worktree_fs.specs.Grow.{grown, obstacle, add_refusal, IsRefusedBy};
 ghost use Rattle.worktree_fs.specs.Changes.{real_path_at, make_answer, after_make, made_unless, with_directory, remove_answer, after_remove};
 ghost use Rattle.worktree_fs.specs.Way.{place_by, depth_of, depth_in, LeadsTo};
 
 use super::below_root;
+use super::found::{found_at, kind_of, read_of};
 use super::grow::{AddError, NewNode, add_in, count_parts, cut_at, stored_of};
+use super::listing::list_of;
 use super::site::{Site, find_site};
 use super::spell::{spell, spell_name};
 use super::stored::{Entry, Stored, copied};
 use super::trace::{End, descend, trace};
-use crate::{MakeAnswer, RemoveAnswer};
-use gitbase_core::{OutOfMemory, PathText};
+use crate::{ListError, MakeAnswer, NameList, NodeKind, ReadAnswer, ReadError, RemoveAnswer};
+use gitbase_core::{Bytes, OutOfMemory, PathText};
 use std::alloc::Global;
 use std::marker::Model;
 
@@ -73,6 +77,53 @@ impl Root {
         let way = Vec::with_capacity(alloc, self.way.capacity())?;
         let entries = copied(alloc, &self.entries)?;
         Ok(Root { entries, way })
+    }
+
+    /// The kind of what a path leads to.
+    pub fn kind(&mut self, path: &[u8], follow: bool) -> Option<NodeKind>
+        ensures kind { result ≡ kind_of (look self.old path.now follow) }
+        ensures unchanged { self.new ≡ self.old }
+    {
+        let end = trace(&self.entries, path, follow, &mut self.way);
+        kind_of(&found_at(&self.entries, &self.way, &end))
+    }
+
+    /// The names of the directory that a path leads to, or from last to first.
+    pub fn list(
+        &mut self,
+        alloc: Global,
+        path: &[u8],
+        follow: bool,
+        is_reversed: bool,
+    ) -> Result<NameList, ListError>
+        ensures answer { MatchResult result (ListsInOrder is_reversed
+            (look self.old path.now follow)) (ListRefuses (look self.old path.now follow)) }
+        ensures names { IfOk result AreNames }
+        ensures no_fault { OnListFault result ⊥ }
+        ensures unchanged { self.new ≡ self.old }
+    {
+        let end = trace(&self.entries, path, follow, &mut self.way);
+        let found = found_at(&self.entries, &self.way, &end);
+        list_of(alloc, &found, is_reversed)
+    }
+
+    /// Puts the bytes of the file that a path leads to into `into`, or answers what it leads to in its place.
+    pub fn read(
+        &mut self,
+        alloc: Global,
+        path: &[u8],
+        follow: bool,
+        into: &mut Bytes,
+    ) -> Result<ReadAnswer, ReadError>
+        ensures answer { IfOk result (λ answer. answer ≡ read_of (look self.old path.now follow)) }
+        ensures bytes { result ≡ Ok ReadAnswer.Read → look self.old path.now follow
+            ≡ found (file into.new) }
+        ensures into { UnlessRead result (into.new ≡ into.old) }
+        ensures no_fault { IsErrOf result ReadError.Fault → ⊥ }
+        ensures unchanged { self.new ≡ self.old }
+    {
+        let end = trace(&self.entries, path, follow, &mut self.way);
+        read_of(alloc, &found_at(&self.entries, &self.way, &end), into)
     }
 
     /// The path without links of what a path leads to.

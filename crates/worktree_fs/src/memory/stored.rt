@@ -123,7 +123,7 @@ impl Stored {
     ghost use Rattle.std.specs.Prelude.{◌<◌, length};
     ghost use Rattle.worktree_fs.specs.Tree.{directory, names_of};
     ghost use Rattle.worktree_fs.specs.Naming.{IsTree};
-    ghost use Rattle.worktree_fs.specs.Grow.{names_at};
+    ghost use Rattle.worktree_fs.specs.Grow.{children_of};
     ghost use Rattle.worktree_fs.specs.Changes.{cut};
     ghost use Rattle.worktree_fs.specs.Way.{IsWay, here_by, names_along};
     ghost use Rattle.std.specs.Prelude.{Some};
@@ -131,10 +131,11 @@ impl Stored {
     /// Removes the node at a position of the directory at the end of a way from this one.
     #[cycle(cut)]
     pub fn cut_at(&mut self, way: &[usize], at: usize)
-        requires is_directory { self.old ≡ directory (names_at (Some self.old)) }
-        requires is_way { IsWay way.now (names_at (Some self.old)) }
-        requires there { at < length (names_of (here_by way.now (names_at (Some self.old)))) }
-        ensures cut { self.new ≡ cut (names_along way.now at (names_at (Some self.old))) self.old }
+        requires is_directory { self.old ≡ directory (children_of (Some self.old)) }
+        requires is_way { IsWay way.now (children_of (Some self.old)) }
+        requires there { at < length (names_of (here_by way.now (children_of (Some self.old)))) }
+        ensures cut { self.new
+            ≡ cut (names_along way.now at (children_of (Some self.old))) self.old }
         ensures tree { IsTree self.new }
     {
         let Inner::Directory(entries) = &mut self.node else {

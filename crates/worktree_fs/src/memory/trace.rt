@@ -1,10 +1,9 @@
-//! The resolution of a path that keeps the way down to what it leads to, without memory of its own.
-ghost use Rattle.std.specs.Prelude.{◌≡◌, [], ◌∷◌, ◌++◌, Bool, Some, ◌*◌, ◌+◌, ◌^◌, ◌≤◌, ◌<◌, length, vec_len, vec_capacity, if◌then◌else◌};
-ghost use Rattle.worktree_fs.specs.Tree.{resolve, spot, parent, onward, walking, behind, is_last};
+//! The resolution of a path, which keeps the way down to what it leads to, without memory of its own.
+ghost use Rattle.std.specs.Prelude.{◌≡◌, [], ◌∷◌, ◌++◌, Bool, Some, not, ◌&&◌, ◌*◌, ◌+◌, ◌^◌, ◌≤◌, ◌<◌, length, vec_len, vec_capacity, if◌then◌else◌};
+ghost use Rattle.worktree_fs.specs.Tree.{resolve, spot, parent_place, onward, walking, behind, is_nil};
 ghost use Rattle.worktree_fs.specs.Stored.{names_in, AreSorted};
 ghost use Rattle.worktree_fs.specs.Way.{name_nth, node_nth, dir_nth, place_by, here_by, IsWay, StandsAt, TurnStands, turned, LeadsTo, depth_in};
 
-use super::resolve::ends_here;
 use super::route::Route;
 use super::search::search;
 use super::stored::{Entry, Inner, Stored};
@@ -43,6 +42,10 @@ pub enum Turn<'a> {
 
 /// Where a path leads from the root, through at most 32 links. A last link is followed where `follow` says so. The way
 /// is a position for each directory on it, and there is room for the longest one.
+///
+/// A `..` goes down the way anew, so a path that has many of them far below the root costs their number times that depth.
+///
+/// See docs/DECISIONS.md#step-needs-directory.
 pub fn trace<'a>(root: &'a [Entry], path: &'a [u8], follow: bool, way: &mut Vec<usize>) -> End<'a>
     requires root { AreSorted root.now }
     requires room { depth_in (names_in root.now) ≤ vec_capacity way.old }
@@ -107,7 +110,7 @@ fn up<'a>(root: &'a [Entry], dir: &'a [Entry], way: &mut Vec<usize>) -> &'a [Ent
     requires root { AreSorted root.now }
     requires stands { StandsAt root.now dir.now way.old.items }
     ensures parent { place_by (names_in root.now) way.new.items
-        ≡ parent (place_by (names_in root.now) way.old.items) }
+        ≡ parent_place (place_by (names_in root.now) way.old.items) }
     ensures stands { StandsAt root.now result.now way.new.items }
     ensures room { vec_capacity way.old ≤ vec_capacity way.new }
 {
@@ -187,9 +190,16 @@ fn on<'a>(
     }
 }
 
+/// Whether the path ends at a link that is not to be followed.
+fn ends_here(route: &Route<'_>, follow: bool) -> bool
+    ensures { result ≡ (not follow && is_nil route.now.left) }
+{
+    !follow && route.is_done()
+}
+
 /// A node that is neither link nor directory ends the path, or nothing is behind it.
 fn leaf<'a>(at: usize, route: &Route<'_>) -> Turn<'a>
-    ensures { result ≡ (if is_last route.now.left then Turn.Node at else Turn.Nowhere) }
+    ensures { result ≡ (if is_nil route.now.left then Turn.Node at else Turn.Nowhere) }
 {
     if route.is_done() {
         Turn::Node(at)

@@ -1,8 +1,9 @@
 -- The disk tells nothing of what it holds, and its counts are those of its own clauses.
 use Rattle.std.proofs.Common.{◌≡◌, Option, Some, None, Ok, Err, refl, ap, OnErr, Result}
 use Rattle.worktree_fs.specs.Tree.{Names}
-use Rattle.worktree_fs.specs.Edges.{Disk}
+use Rattle.worktree_fs.specs.Disk.{Disk}
 use Rattle.worktree_fs.specs.declared.answers.ReadError.{ReadError}
+use Rattle.worktree_fs.proofs.KeptNames.{kept-listing}
 use Rattle.worktree_fs.proofs.disk.DiskWorktreeWorktree.TheImpl.Goals as goal
 
 clash : (t : Names) → ◌≡◌ {A = Option Names} None (Some t) → ⊥
@@ -18,6 +19,7 @@ kind-tells g c = record {
   answer = λ t told. absurd (clash t told);
   tree = refl;
   cause = c.ensures.cause;
+  unfaulted = c.ensures.unfaulted;
   faults = c.ensures.later;
   list_faults = ap (λ (d : Disk). d.list_faults) c.ensures.state;
   reads = ap (λ (d : Disk). d.reads) c.ensures.state;
@@ -30,6 +32,7 @@ kind_following-tells g c = record {
   answer = λ t told. absurd (clash t told);
   tree = refl;
   cause = c.ensures.cause;
+  unfaulted = c.ensures.unfaulted;
   faults = c.ensures.later;
   list_faults = ap (λ (d : Disk). d.list_faults) c.ensures.state;
   reads = ap (λ (d : Disk). d.reads) c.ensures.state;
@@ -42,6 +45,7 @@ real_path-tells g c = record {
   answer = λ t told. absurd (clash t told);
   tree = refl;
   cause = c.ensures.cause;
+  unfaulted = c.ensures.unfaulted;
   faults = c.ensures.later;
   list_faults = ap (λ (d : Disk). d.list_faults) c.ensures.state;
   reads = ap (λ (d : Disk). d.reads) c.ensures.state;
@@ -53,8 +57,10 @@ pub list-tells : goal.list-tells
 list-tells g c = record {
   answer = λ t told. absurd (clash t told);
   names = c.ensures.names;
+  composed = kept-listing c.args.self.now.composes c.result c.ensures.names c.ensures.kept;
   tree = refl;
   cause = c.ensures.cause;
+  unfaulted = c.ensures.unfaulted;
   faults = c.ensures.faults;
   list_cause = c.ensures.list_cause;
   list_faults = c.ensures.list_faults;
@@ -73,6 +79,7 @@ read-tells g c = record {
   link = c.ensures.link;
   tree = refl;
   cause = c.ensures.cause;
+  unfaulted = c.ensures.unfaulted;
   faults = c.ensures.later;
   list_faults = ap (λ (d : Disk). d.list_faults) c.ensures.state;
   reads = ap (λ (d : Disk). d.reads) c.ensures.state;
@@ -89,6 +96,7 @@ make_dir-tells g c = record {
   kept = stays c.result;
   untold = λ none. refl;
   cause = c.ensures.cause;
+  unfaulted = c.ensures.unfaulted;
   faults = c.ensures.later;
   list_faults = ap (λ (d : Disk). d.list_faults) c.ensures.state;
   reads = ap (λ (d : Disk). d.reads) c.ensures.state;
@@ -103,6 +111,7 @@ remove_node-tells g c = record {
   kept = stays c.result;
   untold = λ none. refl;
   cause = c.ensures.cause;
+  unfaulted = c.ensures.unfaulted;
   faults = c.ensures.later;
   list_faults = ap (λ (d : Disk). d.list_faults) c.ensures.state;
   reads = ap (λ (d : Disk). d.reads) c.ensures.state;

@@ -1,7 +1,7 @@
 use Rattle.std.proofs.Common.{◌≡◌, ◌<◌, ◌+◌, ℕ, List, All, ◌++◌, [], ◌∷◌, length, rules, sym, ap, subst, ◌∙◌, arith}
 use Rattle.std.proofs.lemmas.List.{length-append}
 use Rattle.std.proofs.lemmas.List.Elements.{All-push}
-use Rattle.worktree_fs.specs.Edges.{IsListed}
+use Rattle.worktree_fs.specs.Disk.{IsListed}
 use Rattle.worktree_fs.proofs.Listed.{listed-kept}
 use Rattle.worktree_fs.proofs.disk.listing.add_name.Goals as goal
 

@@ -1,4 +1,4 @@
-use Rattle.worktree_fs.specs.Edges.{AreListed}
+use Rattle.worktree_fs.specs.Disk.{AreListed}
 use Rattle.worktree_fs.proofs.disk.listing.names_from.Given as goal
 
 abbrev pub invariant-loop : goal.invariant-loop

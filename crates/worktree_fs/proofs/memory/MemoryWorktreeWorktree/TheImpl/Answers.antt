@@ -2,7 +2,7 @@ use Rattle.std.proofs.Common.{◌≡◌, ◌∙◌, rules, Bool, true, Result, O
 use Rattle.std.specs.Prelude.{MatchResult}
 use Rattle.worktree_fs.specs.Tree.{Names, directory, look, spot}
 use Rattle.worktree_fs.specs.Naming.{IsTree}
-use Rattle.worktree_fs.specs.Changed.{AnswersInside}
+use Rattle.worktree_fs.specs.MadeAndRemoved.{AnswersInside}
 use Rattle.worktree_fs.specs.Told.{told_tree}
 use Rattle.worktree_fs.specs.Answers.{ListsNames, ListRefuses}
 use Rattle.worktree_fs.specs.Memory.{Memory, ListsInOrder, told_by, fails}
@@ -29,8 +29,10 @@ list-tells c = record {
       lists c.args.self.now.is_reversed (look t c.args.path.now c.args.follow) c.result
       (subst (λ (n : Names). MatchResult c.result (ListsInOrder c.args.self.now.is_reversed (look n c.args.path.now c.args.follow)) (ListRefuses (look n c.args.path.now c.args.follow))) (told_is c.args.self.now.tree t told) c.ensures.answer);
   names = c.ensures.names;
+  composed = c.ensures.kept;
   tree = ap (λ (m : Memory). told_by m.tree) c.ensures.state;
   cause = c.ensures.cause;
+  unfaulted = c.ensures.unfaulted;
   faults = c.ensures.faults;
   list_cause = c.ensures.list_cause;
   list_faults = c.ensures.list_faults;
@@ -49,6 +51,7 @@ read-tells c = record {
   link = read-unfollowed c.args.self.now.tree c.args.path.now c.args.follow c.result c.ensures.answer;
   tree = ap (λ (m : Memory). told_by m.tree) c.ensures.state;
   cause = search rules;
+  unfaulted = search rules;
   faults = c.ensures.later;
   list_faults = ap (λ (m : Memory). m.list_faults) c.ensures.state;
   reads = ap (λ (m : Memory). m.reads) c.ensures.state;
@@ -83,6 +86,7 @@ make_dir-tells c = record {
   kept = kept_of c.result (λ (is : c.new.self.now.tree ≡ c.args.self.now.tree). ap told_by is) c.ensures.refused;
   untold = λ none. absurd (told_clash c.args.self.now.tree c.ensures.told_before none);
   cause = search rules;
+  unfaulted = search rules;
   faults = c.ensures.later;
   list_faults = ap (λ (m : Memory). m.list_faults) c.ensures.rest;
   reads = ap (λ (m : Memory). m.reads) c.ensures.rest;
@@ -122,6 +126,7 @@ remove_node-tells c =
       kept = kept_of c.result (λ (is : new ≡ old). ap told_by is) (unchanged (remove_answer at) old after planned c.result new c.ensures.answer c.ensures.tree);
       untold = λ none. absurd (told_clash old c.ensures.told_before none);
       cause = search rules;
+      unfaulted = search rules;
       faults = c.ensures.later;
       list_faults = ap (λ (m : Memory). m.list_faults) c.ensures.rest;
       reads = ap (λ (m : Memory). m.reads) c.ensures.rest;

@@ -1,5 +1,5 @@
 use Rattle.std.proofs.Common.{◌∙◌, ap, sym, arith, subst, List, Some, vec_capacity}
-use Rattle.worktree_fs.specs.Tree.{Node, Place, resolve, onward, walking, behind, is_directory, is_last}
+use Rattle.worktree_fs.specs.Tree.{Node, Place, resolve, onward, walking, behind, is_directory, is_nil}
 use Rattle.worktree_fs.specs.Stored.{names_in, node_of, AreSorted, IsSorted}
 use Rattle.worktree_fs.specs.Way.{name_nth, place_by, StandsAt}
 use Rattle.worktree_fs.specs.declared.memory.stored.Entry.{Entry}
@@ -33,14 +33,14 @@ returns-then-ends_here-clause-stands c =
 
 pub returns-in-File-clause-stands : goal.returns-in-File-clause-stands
 returns-in-File-clause-stands c =
-    leaf_stands c.args.root.now c.args.way.now.items c.args.at (is_last c.args.route.now.left) c.leaf.result
+    leaf_stands c.args.root.now c.args.way.now.items c.args.at (is_nil c.args.route.now.left) c.leaf.result
     (leaf_at c.args.root.now c.args.dir.now c.args.way.now.items c.args.at c.args.node.now c.requires.stands c.requires.there c.requires.node
     (ap is_directory (sym c.inner.ensures.node ∙ ap node_of c.in-File.is)))
     c.leaf.ensures
 
 pub returns-in-Other-clause-stands : goal.returns-in-Other-clause-stands
 returns-in-Other-clause-stands c =
-    leaf_stands c.args.root.now c.args.way.now.items c.args.at (is_last c.args.route.now.left) c.leaf-in-Other.result
+    leaf_stands c.args.root.now c.args.way.now.items c.args.at (is_nil c.args.route.now.left) c.leaf-in-Other.result
     (leaf_at c.args.root.now c.args.dir.now c.args.way.now.items c.args.at c.args.node.now c.requires.stands c.requires.there c.requires.node
     (ap is_directory (sym c.inner.ensures.node ∙ ap node_of c.in-Other.is)))
     c.leaf-in-Other.ensures

@@ -1,4 +1,4 @@
--- What is planned to happen at a call: ends for tests.
+-- Interrupts and sinks as contracts see them, and what is planned to happen at a call of one.
 use Rattle.std.specs.Prelude.{ℕ, ◌-◌, length, take, Bool, false, if◌then◌else◌, nat_le, ◌==◌, not, ◌&&◌, List, ◌++◌, Option, Some, None}
 pub use Rattle.gitbase_core.specs.Causes.{next, with_more}
 
@@ -39,13 +39,13 @@ pub record SinkModel : Type 0 where
   pub refusals : ℕ
 
 -- whether the next write fails
-abbrev pub fails : SinkModel → Bool
-fails sink = is_due sink.first_fault (next sink.writes)
+abbrev pub write_fails : SinkModel → Bool
+write_fails sink = is_due sink.first_fault (next sink.writes)
 
 -- after one more write: what there is room for was taken, unless it failed
 abbrev pub filled_by : SinkModel → List ℕ → SinkModel
 filled_by sink piece =
-    if fails sink then record {
+    if write_fails sink then record {
       written = sink.written;
       room = sink.room;
       first_fault = sink.first_fault;
