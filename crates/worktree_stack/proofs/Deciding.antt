@@ -5,7 +5,7 @@ use Rattle.std.proofs.Common.{refl, sym, ap, ◌∙◌, subst, arith, length-app
 use Rattle.std.proofs.lemmas.List.{reverse-append, map-append, length-map}
 use Rattle.glob_rules.specs.declared.ignore.RuleGroup.TheVariants.{Overrides, Directory, Globals}
 use Rattle.glob_rules.specs.Ignore.{Hit, Rules, list_hit, first_place, search_hit, search_place, numbered, place_or}
-use Rattle.worktree_fs.specs.Paths.{spelled, fronts, without_last}
+use Rattle.worktree_fs.specs.Paths.{spelled, fronts, all_but_last}
 use Rattle.worktree_stack.specs.Setup.{Held, by_place, own_decision, directory_decision, deciding}
 use Rattle.worktree_stack.specs.Excludes.{Rulebook, Decision, by_group, is_positive, in_directories, own, own_of_directory, decisive, above, exclude, ancestors}
 
@@ -37,7 +37,7 @@ ladder-fronts (name ∷ names) =
 
 ladder-ancestors : (names : List (List ℕ)) → IsLadder (reverse (ancestors names))
 ladder-ancestors [] = tt
-ladder-ancestors (name ∷ names) = ladder-fronts (without_last (name ∷ names))
+ladder-ancestors (name ∷ names) = ladder-fronts (all_but_last (name ∷ names))
 
 by_place_else : (a b : Option (ℕ × Hit)) → by_place (place_or a b) ≡ option_or (by_place a) (by_place b)
 by_place_else None b = refl

@@ -7,9 +7,10 @@ use Rattle.std.proofs.lemmas.List.{append-nil, map-append, length-append, take_a
 use Rattle.glob_rules.specs.declared.Case.{Case}
 use Rattle.glob_rules.specs.Attributes.{AttributeList}
 use Rattle.glob_rules.specs.Ignore.{Rules}
-use Rattle.worktree_fs.specs.Paths.{spelled, fronts, without_last}
-use Rattle.worktree_fs.specs.PathStack.{one_up, names_at, directories}
+use Rattle.worktree_fs.specs.Paths.{spelled, fronts, all_but_last}
+use Rattle.worktree_fs.specs.PathStack.{one_up, deepest_names, directories}
 use Rattle.worktree_fs.proofs.Spelled.{without_last-snoc}
+use Rattle.worktree_stack.specs.declared.state.Checkout.{Checkout}
 use Rattle.worktree_stack.specs.Setup.{AttributesSetup, Setup, Made, Mapping, HeldAttributes, Held, attributes_setup_of, setup_of, lists_of, without_highest, without_info, pop_lists, push_level, pop_level, own_decision, own_if}
 use Rattle.worktree_stack.specs.Excludes.{Decision, own_of_directory, ancestors}
 use Rattle.worktree_stack.specs.Reading.{Sources, reading, rulebook, is_read, readings_of, texts_of, text_or_none, first_text, info_places, attributes_from, own_list, info_lists, lists_at}
@@ -17,11 +18,11 @@ use Rattle.worktree_stack.specs.Stacked.{Stacked, made_of, AreThoseOf, HoldsRule
 use Rattle.worktree_stack.proofs.Deciding.{own_is}
 
 -- the fronts of a list are those without its last element, and the list
-fronts-last : (name : List ℕ) (names : List (List ℕ)) → fronts (name ∷ names) ≡ fronts (without_last (name ∷ names)) ++ (name ∷ names) ∷ []
+fronts-last : (name : List ℕ) (names : List (List ℕ)) → fronts (name ∷ names) ≡ fronts (all_but_last (name ∷ names)) ++ (name ∷ names) ∷ []
 fronts-last name [] = refl
 fronts-last name (other ∷ names) =
     ap (λ (rest : List (List (List ℕ))). [] ∷ map (λ front. name ∷ front) rest) (fronts-last other names)
-    ∙ ap (λ (rest : List (List (List ℕ))). [] ∷ rest) (map-append (λ front. name ∷ front) (fronts (without_last (other ∷ names))) ((other ∷ names) ∷ []))
+    ∙ ap (λ (rest : List (List (List ℕ))). [] ∷ rest) (map-append (λ front. name ∷ front) (fronts (all_but_last (other ∷ names))) ((other ∷ names) ∷ []))
 
 -- the directories that are pushed with one are those above it, and it
 pub pushed-ancestors : (names : List (List ℕ)) → fronts names ≡ ancestors names ++ names ∷ []
@@ -48,9 +49,9 @@ left_true true b e = refl
 left_true false b e = absurd (cc e)
 
 -- one more directory
-module _ (root : List ℕ) (case : Case) (mappings : List Mapping) (attributes : Option AttributesSetup) (setup : Setup) where
+module _ (root : List ℕ) (case : Case) (mappings : List Mapping) (checkout : Option Checkout) (attributes : Option AttributesSetup) (setup : Setup) where
   abbrev made-so : Made
-  made-so = record { root = root; case = case; mappings = mappings; attributes = attributes; ignore = Some setup }
+  made-so = record { root = root; case = case; mappings = mappings; checkout = checkout; attributes = attributes; ignore = Some setup }
 
   one_more : (s : Sources) (names : List (List ℕ)) (lists : List Rules) (matches : List (Option Decision)) (list : Rules)
       → AreThoseOf made-so s (ancestors names) lists matches
@@ -108,11 +109,11 @@ directories-last : (names : List (List ℕ)) → map spelled (fronts names) ≡ 
 directories-last names = ap (map spelled) (pushed-ancestors names) ∙ map-append spelled (ancestors names) (names ∷ [])
 
 -- the directories without the deepest one
-pub directories-up : (at : Option (List (List ℕ))) → directories (one_up at) ≡ without_last (directories at)
+pub directories-up : (at : Option (List (List ℕ))) → directories (one_up at) ≡ all_but_last (directories at)
 directories-up None = refl
 directories-up (Some names) =
     directories-pushed (one_up (Some names)) ∙ ap (map spelled) (sym (up-ancestors names))
-    ∙ sym (ap without_last (directories-last names) ∙ without_last-snoc (map spelled (ancestors names)) (spelled names))
+    ∙ sym (ap all_but_last (directories-last names) ∙ without_last-snoc (map spelled (ancestors names)) (spelled names))
 
 -- and with one below it
 pub directories-below : (at : Option (List (List ℕ))) (names : List (List ℕ)) → pushed at ≡ ancestors names
@@ -138,14 +139,14 @@ lists-dropped made s setup (Some path) [] own xs =
     ap (λ (l : List AttributeList). without_highest (without_highest l)) (sym (append_assoc xs (own ∷ []) (info ∷ [])))
     ∙ ap without_highest (highest-dropped (xs ++ own ∷ []) info) ∙ highest-dropped xs own
 
-module _ (root : List ℕ) (case : Case) (mappings : List Mapping) where
+module _ (root : List ℕ) (case : Case) (mappings : List Mapping) (checkout : Option Checkout) where
   less-lists : (attributes : Option HeldAttributes) (ignore : Option Held) (s : Sources) (at : Option (List (List ℕ)))
-      → HoldsLists (record { root = root; case = case; mappings = mappings; attributes = attributes_setup_of attributes; ignore = setup_of ignore }) s (pushed at) attributes
-      → HoldsLists (record { root = root; case = case; mappings = mappings; attributes = attributes_setup_of attributes; ignore = setup_of ignore }) s (pushed (one_up at)) (pop_lists (spelled (names_at at)) attributes)
+      → HoldsLists (record { root = root; case = case; mappings = mappings; checkout = checkout; attributes = attributes_setup_of attributes; ignore = setup_of ignore }) s (pushed at) attributes
+      → HoldsLists (record { root = root; case = case; mappings = mappings; checkout = checkout; attributes = attributes_setup_of attributes; ignore = setup_of ignore }) s (pushed (one_up at)) (pop_lists (spelled (deepest_names at)) attributes)
   less-lists None ignore s None holds = holds
   less-lists None ignore s (Some names) holds = none (pushed (one_up (Some names)))
     where
-      none : (ds : List (List (List ℕ))) → [] ≡ flat_map (lists_at (record { root = root; case = case; mappings = mappings; attributes = None; ignore = setup_of ignore }) s) ds
+      none : (ds : List (List (List ℕ))) → [] ≡ flat_map (lists_at (record { root = root; case = case; mappings = mappings; checkout = checkout; attributes = None; ignore = setup_of ignore }) s) ds
       none [] = refl
       none (d ∷ ds) = none ds
   less-lists (Some held) ignore s None holds =
@@ -155,7 +156,7 @@ module _ (root : List ℕ) (case : Case) (mappings : List Mapping) where
       nothing None = refl
       nothing (Some path) = refl
   less-lists (Some held) ignore s (Some names) holds =
-      let made : Made = record { root = root; case = case; mappings = mappings; attributes = Some held.setup; ignore = setup_of ignore } in
+      let made : Made = record { root = root; case = case; mappings = mappings; checkout = checkout; attributes = Some held.setup; ignore = setup_of ignore } in
       let d : List ℕ = spelled names in
       let front : List AttributeList = flat_map (lists_at made s) (ancestors names) in
       let lists_are : held.lists ≡ front ++ lists_at made s names =
@@ -193,27 +194,27 @@ module _ (s : Sources) where
       (sym (all-last (λ d. is_read (reading made s (spelled d))) (ancestors names) names) ∙ ap (list_all (λ d. is_read (reading made s (spelled d)))) (sym last) ∙ read)
 
   pub popped : (old new : Stacked) → made_of new ≡ made_of old → new.at ≡ one_up old.at
-      → new.attributes ≡ pop_lists (spelled (names_at old.at)) old.attributes → new.ignore ≡ pop_level old.ignore → IsInStep s old → IsInStep s new
+      → new.attributes ≡ pop_lists (spelled (deepest_names old.at)) old.attributes → new.ignore ≡ pop_level old.ignore → IsInStep s old → IsInStep s new
   popped old new made at attributes ignore step =
       subst (λ (h : Option Held). HoldsFor (made_of new) s (pushed new.at) new.attributes h) (sym ignore)
       (subst (λ (h : Option HeldAttributes). HoldsFor (made_of new) s (pushed new.at) h (pop_level old.ignore)) (sym attributes)
-      (subst (λ (a : Option (List (List ℕ))). HoldsFor (made_of new) s (pushed a) (pop_lists (spelled (names_at old.at)) old.attributes) (pop_level old.ignore)) (sym at)
-      (subst (λ (m : Made). HoldsFor m s (pushed (one_up old.at)) (pop_lists (spelled (names_at old.at)) old.attributes) (pop_level old.ignore)) (sym made)
+      (subst (λ (a : Option (List (List ℕ))). HoldsFor (made_of new) s (pushed a) (pop_lists (spelled (deepest_names old.at)) old.attributes) (pop_level old.ignore)) (sym at)
+      (subst (λ (m : Made). HoldsFor m s (pushed (one_up old.at)) (pop_lists (spelled (deepest_names old.at)) old.attributes) (pop_level old.ignore)) (sym made)
       (record {
         are_read = less-read (made_of old) old.at step.are_read;
-        lists = less-lists old.root old.case old.mappings old.attributes old.ignore s old.at step.lists;
+        lists = less-lists old.root old.case old.mappings old.checkout old.attributes old.ignore s old.at step.lists;
         rules = less-held (made_of old) old.at old.ignore step.rules;
       }))))
 
   -- a directory is pushed
-  more-held : (root : List ℕ) (case : Case) (mappings : List Mapping) (attributes : Option AttributesSetup) (held : Option Held) (names : List (List ℕ)) (list : Rules) (matched : Option Decision)
-      → (rulebook (record { root = root; case = case; mappings = mappings; attributes = attributes; ignore = setup_of held }) s).of_directory names ≡ list → matched ≡ own_if held (spelled names) (Some true) case
-      → HoldsRules (record { root = root; case = case; mappings = mappings; attributes = attributes; ignore = setup_of held }) s (ancestors names) held
-      → HoldsRules (record { root = root; case = case; mappings = mappings; attributes = attributes; ignore = setup_of held }) s (fronts names) (push_level list matched held)
-  more-held root case mappings attributes None names list matched read own holds = tt
-  more-held root case mappings attributes (Some held) names list matched read own holds =
-      subst (λ (m : Option Decision). AreThoseOf (record { root = root; case = case; mappings = mappings; attributes = attributes; ignore = Some held.setup }) s (fronts names) (held.lists ++ list ∷ []) (held.matches ++ m ∷ []))
-      (sym own) (one_more root case mappings attributes held.setup s names held.lists held.matches list holds read)
+  more-held : (root : List ℕ) (case : Case) (mappings : List Mapping) (checkout : Option Checkout) (attributes : Option AttributesSetup) (held : Option Held) (names : List (List ℕ)) (list : Rules) (matched : Option Decision)
+      → (rulebook (record { root = root; case = case; mappings = mappings; checkout = checkout; attributes = attributes; ignore = setup_of held }) s).of_directory names ≡ list → matched ≡ own_if held (spelled names) (Some true) case
+      → HoldsRules (record { root = root; case = case; mappings = mappings; checkout = checkout; attributes = attributes; ignore = setup_of held }) s (ancestors names) held
+      → HoldsRules (record { root = root; case = case; mappings = mappings; checkout = checkout; attributes = attributes; ignore = setup_of held }) s (fronts names) (push_level list matched held)
+  more-held root case mappings checkout attributes None names list matched read own holds = tt
+  more-held root case mappings checkout attributes (Some held) names list matched read own holds =
+      subst (λ (m : Option Decision). AreThoseOf (record { root = root; case = case; mappings = mappings; checkout = checkout; attributes = attributes; ignore = Some held.setup }) s (fronts names) (held.lists ++ list ∷ []) (held.matches ++ m ∷ []))
+      (sym own) (one_more root case mappings checkout attributes held.setup s names held.lists held.matches list holds read)
 
   pub pushed_more : (old : Stacked) (held : Option Held) (path : List ℕ) (list : Rules) (matched : Option Decision)
       → path ≡ spelled old.current → (rulebook (made_of old) s).of_directory old.current ≡ list → matched ≡ own_if old.ignore path (Some true) old.case
@@ -221,7 +222,7 @@ module _ (s : Sources) where
       → HoldsRules (made_of old) s (ancestors old.current) old.ignore → HoldsRules (made_of old) s (fronts old.current) held
   pushed_more old held path list matched paths read own held_is holds =
       subst (λ (h : Option Held). HoldsRules (made_of old) s (fronts old.current) h) (sym held_is)
-      (more-held old.root old.case old.mappings (attributes_setup_of old.attributes) old.ignore old.current list matched read
+      (more-held old.root old.case old.mappings old.checkout (attributes_setup_of old.attributes) old.ignore old.current list matched read
       (own ∙ ap (λ (p : List ℕ). own_if old.ignore p (Some true) old.case) paths) holds)
 
 -- where there are no ignore rules, none are held
@@ -246,7 +247,7 @@ pushed_all made s names attributes attributes' ignore ignore' holds read lists r
     }
 
 -- the directories above one below the deepest one are those that are pushed
-pub pushed-below : (at : Option (List (List ℕ))) (names : List (List ℕ)) (name : List ℕ) → is_some at ≡ true → names ≡ names_at at ++ name ∷ []
+pub pushed-below : (at : Option (List (List ℕ))) (names : List (List ℕ)) (name : List ℕ) → is_some at ≡ true → names ≡ deepest_names at ++ name ∷ []
     → pushed at ≡ ancestors names
 pushed-below None names name some e = absurd (cc some)
 pushed-below (Some d) names name some e = below d ∙ sym (ap ancestors e)

@@ -7,8 +7,8 @@ use Rattle.std.proofs.lemmas.Cmp.{nat_list_eq_equiv}
 use Rattle.std.proofs.lemmas.List.{append-nil}
 use Rattle.gitbase_core.specs.Path.{is_slash, is_top, rest_beneath, relative_to, components}
 use Rattle.gitbase_core.proofs.DirectoryPrefix.{front-and-rest}
-use Rattle.worktree_fs.specs.Paths.{without_last, common_front}
-use Rattle.worktree_fs.specs.PathStack.{names_at, kept, surplus}
+use Rattle.worktree_fs.specs.Paths.{all_but_last, common_front}
+use Rattle.worktree_fs.specs.PathStack.{deepest_names, kept, surplus}
 use Rattle.worktree_fs.proofs.Fronts.{without_last-append}
 use Rattle.worktree_fs.proofs.Texts.{pieces-join}
 use Rattle.worktree_stack.specs.Lookups.{IsIn}
@@ -58,17 +58,17 @@ front-itself : (names : List (List ℕ)) → common_front names names ≡ names
 front-itself [] = refl
 front-itself (name ∷ names) = rw (nat_list_eq_equiv.refl name) (ap (λ (l : List (List ℕ)). name ∷ l) (front-itself names))
 
-pub surplus-none : (at : Option (List (List ℕ))) (parts name : List (List ℕ)) → IsIn (names_at at) parts name → surplus at parts ≡ 0
+pub surplus-none : (at : Option (List (List ℕ))) (parts name : List (List ℕ)) → IsIn (deepest_names at) parts name → surplus at parts ≡ 0
 surplus-none at parts [] is = absurd (omega (arith, is.one))
 surplus-none at parts (x ∷ y ∷ more) is = absurd (omega (arith, is.one))
 surplus-none at parts (x ∷ []) is =
-    let names = names_at at in
-    let above : without_last parts ≡ names = ap without_last is.path_is ∙ without_last-append names x [] ∙ append-nil names in
+    let names = deepest_names at in
+    let above : all_but_last parts ≡ names = ap all_but_last is.path_is ∙ without_last-append names x [] ∙ append-nil names in
     let stays : kept names parts ≡ names = ap (common_front names) above ∙ front-itself names in
     omega (arith, ap length stays)
 
 -- where a component is found behind the directory that is pushed
-pub surplus-found : (at : Option (List (List ℕ))) (parts names : List (List ℕ)) (found : Option (Bor (List ℕ))) → IfSome found (λ name. IsIn names parts (components name.now)) → is_some found ≡ true → names ≡ names_at at → 0 ≡ surplus at parts
+pub surplus-found : (at : Option (List (List ℕ))) (parts names : List (List ℕ)) (found : Option (Bor (List ℕ))) → IfSome found (λ name. IsIn names parts (components name.now)) → is_some found ≡ true → names ≡ deepest_names at → 0 ≡ surplus at parts
 surplus-found at parts names None is some same = absurd (cc some)
 surplus-found at parts names (Some name) is some same = sym (surplus-none at parts (components name.now) (subst (λ (n : List (List ℕ)). IsIn n parts (components name.now)) same is))
 

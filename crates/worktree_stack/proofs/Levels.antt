@@ -5,7 +5,7 @@ use Rattle.std.proofs.lemmas.List.{length-append, length-take}
 use Rattle.glob_rules.specs.Attributes.{AttributeList}
 use Rattle.glob_rules.specs.Ignore.{Rules}
 use Rattle.worktree_fs.specs.Paths.{fronts, spelled}
-use Rattle.worktree_fs.specs.PathStack.{one_up, names_at}
+use Rattle.worktree_fs.specs.PathStack.{one_up, deepest_names}
 use Rattle.worktree_stack.specs.Excludes.{Decision, ancestors}
 use Rattle.worktree_stack.specs.Setup.{AttributesSetup, HeldAttributes, Held, attributes_setup_of, setup_of, lists_of, without_highest, without_info, pop_lists, IsLonger, push_level, pop_level}
 use Rattle.worktree_stack.specs.Stacked.{Stacked, HasAsMany, HasAsManyLists, HasAsManyRules, IsLevel, pushed, info_count, count_at, list_count}
@@ -56,7 +56,7 @@ none-counted : (ds : List (List (List ℕ))) → list_count None ds ≡ 0
 none-counted [] = refl
 none-counted (d ∷ ds) = omega (arith, none-counted ds)
 
-less-lists : (at : Option (List (List ℕ))) (held : Option HeldAttributes) → HasAsManyLists (pushed at) held → HasAsManyLists (pushed (one_up at)) (pop_lists (spelled (names_at at)) held)
+less-lists : (at : Option (List (List ℕ))) (held : Option HeldAttributes) → HasAsManyLists (pushed at) held → HasAsManyLists (pushed (one_up at)) (pop_lists (spelled (deepest_names at)) held)
 less-lists at None level = sym (none-counted (pushed (one_up at)))
 less-lists None (Some held) level = none-dropped held.setup.info [] held.lists level
 less-lists (Some names) (Some held) level =
@@ -64,11 +64,11 @@ less-lists (Some names) (Some held) level =
     ∙ ap (list_count (Some held.setup)) (up-ancestors names)
 
 -- the deepest directory is popped
-pub popped-level : (old new : Stacked) → new.at ≡ one_up old.at → new.attributes ≡ pop_lists (spelled (names_at old.at)) old.attributes → new.ignore ≡ pop_level old.ignore → IsLevel old → IsLevel new
+pub popped-level : (old new : Stacked) → new.at ≡ one_up old.at → new.attributes ≡ pop_lists (spelled (deepest_names old.at)) old.attributes → new.ignore ≡ pop_level old.ignore → IsLevel old → IsLevel new
 popped-level old new at attributes ignore level =
     subst (λ (h : Option Held). HasAsMany (pushed new.at) new.attributes h) (sym ignore)
     (subst (λ (h : Option HeldAttributes). HasAsMany (pushed new.at) h (pop_level old.ignore)) (sym attributes)
-    (subst (λ (a : Option (List (List ℕ))). HasAsMany (pushed a) (pop_lists (spelled (names_at old.at)) old.attributes) (pop_level old.ignore)) (sym at)
+    (subst (λ (a : Option (List (List ℕ))). HasAsMany (pushed a) (pop_lists (spelled (deepest_names old.at)) old.attributes) (pop_level old.ignore)) (sym at)
     (less-lists old.at old.attributes level.0, less-rules old.at old.ignore level.1)))
 
 more-held : (held : Option Held) (names : List (List ℕ)) (list : Rules) (matched : Option Decision)

@@ -4,6 +4,7 @@ pub mod Levels
 pub mod Surplus
 pub mod Decided
 pub mod Stepping
+pub mod Asked
 pub mod Refusals
 pub mod Carrying
 pub mod Descent
@@ -21,3 +22,19 @@ pub mod Last
 pub mod Nearest
 pub mod Pushed
 pub mod Preparing
+pub mod Working
+pub mod Halting
+pub mod Going
+pub mod Readied
+pub mod LastNames
+pub mod Remade
+pub mod SameRead
+pub mod LaterTrees
+pub mod FreshRules
+pub mod Holding
+pub mod KeptSteps
+pub mod RestOut
+pub mod Within
+pub mod LookedOut
+pub mod Plain
+pub mod Keeping

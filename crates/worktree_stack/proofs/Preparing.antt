@@ -1,23 +1,25 @@
 -- How the steps by which a directory comes to be at a path follow each other.
-use Rattle.std.proofs.Common.{◌≡◌, inl, inr, ◌≤◌, ◌+◌, ℕ, Bool, true, false, Option, Some, None, List, [], ◌∷◌, Result, Ok, Err, IfOk, refl, sym, ap, subst, ◌∙◌, arith}
+use Rattle.std.proofs.Common.{◌≡◌, ◌⊎◌, inl, inr, ◌≤◌, ◌+◌, ℕ, Bool, true, false, Option, Some, None, List, [], ◌∷◌, Result, Ok, Err, IfOk, reverse, if◌then◌else◌, refl, sym, ap, subst, ◌∙◌, arith}
 use Rattle.std.specs.Prelude.{OnOk, OnErr, IsErrOf}
+use Rattle.gitbase_core.specs.Causes.{next as one_more}
 use Rattle.std.proofs.lemmas.Result.{on_err_weaker, IfOk-weaker}
 use Rattle.worktree_fs.specs.Answers.{kind_of}
-use Rattle.worktree_fs.specs.Changed.{Makes}
-use Rattle.worktree_fs.specs.Changes.{make_answer, after_make, after_remove, kept_last, slashed, made_unless, with_directory}
-use Rattle.worktree_fs.specs.Grow.{add_refusal}
+use Rattle.worktree_fs.specs.MadeAndRemoved.{Makes, Removes}
+use Rattle.worktree_fs.specs.Changes.{make_answer, after_make, remove_answer, after_remove, cut, kept_last, slashed, made_unless, with_directory}
+use Rattle.worktree_fs.specs.Grow.{add_refusal, children_of}
 use Rattle.worktree_fs.specs.declared.memory.grow.AddError.{AddError}
 use Rattle.worktree_fs.specs.Naming.{IsTree}
-use Rattle.worktree_fs.specs.Tree.{Names, Spot, reached, missing, nowhere, endless, file, link, directory, other, none, spot, look, look_at}
+use Rattle.worktree_fs.specs.Tree.{Names, Spot, reached, missing, nowhere, endless, Node, file, link, directory, other, none, is_directory, spot, look, look_at}
 use Rattle.worktree_fs.specs.declared.answers.MakeAnswer.{MakeAnswer}
 use Rattle.worktree_fs.specs.declared.answers.ReadError.{ReadError}
 use Rattle.worktree_fs.specs.declared.worktree.Worktree.{Ghosts as WorktreeOf}
 use Rattle.worktree_fs.specs.declared.answers.MakeAnswer.TheVariants as makes
 use Rattle.worktree_fs.specs.declared.answers.NodeKind.{NodeKind}
 use Rattle.worktree_fs.specs.declared.answers.NodeKind.TheVariants as kinds
-use Rattle.worktree_fs.proofs.Changed.{makes-there}
+use Rattle.worktree_fs.specs.declared.answers.RemoveAnswer.TheVariants as removes
+use Rattle.worktree_fs.proofs.Changed.{makes-there, removes-gone}
 use Rattle.worktree_stack.specs.declared.error.AtPathError.{AtPathError}
-use Rattle.worktree_stack.specs.Checkout.{Prepared, IsOutcome, IsPartly, Changes, Prepares, LeadsToDirectory, KeepsName, NoDirectory, Creates, making, unlinking, colliding}
+use Rattle.worktree_stack.specs.Checkout.{Prepared, IsOutcome, IsPartly, Changes, Prepares, IsReplaced, LeadsToDirectory, KeepsName, NoDirectory, Creates, IsAsked, IsAskedOnce, making, unlinking, colliding}
 use Rattle.worktree_stack.proofs.Refusals.{rose-earlier}
 
 module _ {W : Type 0} (w : WorktreeOf W) where
@@ -76,6 +78,66 @@ exists-stays composes t (missing names (piece ∷ rest)) e = refl
 exists-stays composes t nowhere e = refl
 exists-stays composes t endless e = refl
 
+-- and where there is no directory for it to be in
+noparent-stays : (composes : Bool) (t : Names) (at : Spot) → make_answer composes t at ≡ makes.NoParent → after_make composes t at ≡ t
+noparent-stays composes t (reached names node) e = refl
+noparent-stays composes t (missing names []) e = go (add_refusal t (slashed (kept_last composes names))) e
+  where
+    go : (refusal : Option AddError) → made_unless refusal ≡ makes.NoParent → with_directory refusal t (slashed (kept_last composes names)) ≡ t
+    go None e = absurd (cc e)
+    go (Some refusal) e = refl
+noparent-stays composes t (missing names (piece ∷ rest)) e = refl
+noparent-stays composes t nowhere e = refl
+noparent-stays composes t endless e = refl
+
+pub some-same : {A : Type 0} {a b : A} → Some a ≡ Some b → a ≡ b
+some-same e = cc
+
+-- what a tree became where a directory was asked to be made
+pub made-changed : (result : Result MakeAnswer ReadError) (composes : Bool) (t now : Names) (path : List ℕ) (before after : Option Names) → IsTree (directory t) → KeepsName composes path
+    → IfOk result (λ answer. answer ≡ make_answer composes t (spot t path false)) → OnOk result (after ≡ Some (after_make composes t (spot t path false))) → OnErr result (after ≡ before)
+    → before ≡ Some t → after ≡ Some now → (now ≡ t) ⊎ Makes path t now
+made-changed (Ok makes.Made) composes t now path before after tree keeps given made kept told told1 =
+    inr (subst (Makes path t) (some-same (sym made ∙ told1)) (makes-there composes t path tree (keeps t) (sym given)))
+made-changed (Ok makes.Exists) composes t now path before after tree keeps given made kept told told1 =
+    inl (sym (some-same (sym made ∙ told1)) ∙ exists-stays composes t (spot t path false) (sym given))
+made-changed (Ok makes.NoParent) composes t now path before after tree keeps given made kept told told1 =
+    inl (sym (some-same (sym made ∙ told1)) ∙ noparent-stays composes t (spot t path false) (sym given))
+made-changed (Err e) composes t now path before after tree keeps given made kept told told1 = inl (some-same (sym told1 ∙ kept ∙ told))
+
+pub replaced-made : {t now : Names} {path : List ℕ} (unlinks : Bool) → (now ≡ t) ⊎ Makes path t now → IsReplaced unlinks path t now
+replaced-made unlinks (inl same) = inl same
+replaced-made unlinks (inr made) = inr (inl made)
+
+-- where nothing may be removed the tree stayed, or a directory was made
+pub replaced-plain : {t now : Names} {path : List ℕ} → IsReplaced false path t now → (now ≡ t) ⊎ Makes path t now
+replaced-plain (inl same) = inl same
+replaced-plain (inr (inl made)) = inr made
+replaced-plain (inr (inr removed)) = absurd (cc removed.0)
+
+-- a tree of which a node was asked to be removed
+removed-or-same : (t : Names) (path : List ℕ) → IsTree (directory t) → Removes path t (after_remove t (spot t path false)) ⊎ (after_remove t (spot t path false) ≡ t)
+removed-or-same t path tree = go (spot t path false) refl
+  where
+    leaf : (names : List (List ℕ)) (node : Node) (b : Bool) → is_directory node ≡ b → spot t path false ≡ reached names node
+        → Removes path t (after_remove t (spot t path false)) ⊎ (after_remove t (spot t path false) ≡ t)
+    leaf names node true is at = inr (ap (after_remove t) at ∙ ap (λ b. if b then t else children_of (Some (cut (reverse names) (directory t)))) is)
+    leaf names node false is at = inl (removes-gone t path tree (ap remove_answer at ∙ ap (λ b. if b then removes.IsDirectory else removes.Removed) is))
+
+    go : (at : Spot) → spot t path false ≡ at → Removes path t (after_remove t (spot t path false)) ⊎ (after_remove t (spot t path false) ≡ t)
+    go (reached names node) is = leaf names node (is_directory node) refl is
+    go (missing names rest) is = inr (ap (after_remove t) is)
+    go nowhere is = inr (ap (after_remove t) is)
+    go endless is = inr (ap (after_remove t) is)
+
+-- what a tree became where a directory was asked to be made in the place of a node that was asked to be removed
+pub removed-changed : (t now : Names) (path : List ℕ) → IsTree (directory t) → (now ≡ after_remove t (spot t path false)) ⊎ Makes path (after_remove t (spot t path false)) now
+    → IsReplaced true path t now
+removed-changed t now path tree after = elim (removed-or-same t path tree) [
+  | inl removed ↦ inr (inr (refl, after_remove t (spot t path false), removed, after))
+  | inr same ↦ replaced-made true (subst (λ (m : Names). (now ≡ m) ⊎ Makes path m now) same after)
+]
+
 -- a node that is no directory is in the way
 pub in-the-way : (unlinks composes : Bool) (t : Names) (path : List ℕ) (calls : ℕ) (kind : NodeKind) → (kind ≡ kinds.Directory → ⊥)
     → unlinking unlinks composes t path calls ≡ colliding unlinks composes t path calls (Some kind)
@@ -105,11 +167,11 @@ outcome-same result a b told calls e was = subst (λ (p : Prepared). IfOk result
 
 module _ {W : Type 0} (w : WorktreeOf W) (path : List ℕ) where
   -- a directory is made behind a removal
-  pub prepares-removed : {w0 w1 w2 : W} {calls0 calls1 : ℕ} {result : Result MakeAnswer ReadError} → Changes w w0 w1
+  pub prepares-removed : {w0 w1 w2 : W} {calls0 calls1 : ℕ} {result : Result MakeAnswer ReadError} → ((t : Names) → w.told w0 ≡ Some t → IsTree (directory t)) → Changes w w0 w1
       → ((t : Names) → w.told w0 ≡ Some t → w.told w1 ≡ Some (after_remove t (spot t path false)))
-      → Prepares w w1 w2 false path (λ t. making (w.precomposes w1) t path calls0) calls0 calls1 (calls0 + 1) result
-      → Prepares w w0 w2 true path (λ t. unlinking true (w.precomposes w0) t path calls0) calls0 calls1 (calls0 + 1) result
-  prepares-removed {w0} {w1} {w2} {calls0} {calls1} {result} first removed made = record {
+      → Prepares w w1 w2 false path (λ t. making (w.precomposes w1) t path calls0) calls0 calls1 (calls0 + 1) (λ n. n ≡ one_more calls0) result
+      → Prepares w w0 w2 true path (λ t. unlinking true (w.precomposes w0) t path calls0) calls0 calls1 (calls0 + 1) (IsAskedOnce calls0) result
+  prepares-removed {w0} {w1} {w2} {calls0} {calls1} {result} tree first removed made = record {
     done = λ t told. outcome-same result _ _ (w.told w2) calls1 (ap (λ b. making b (after_remove t (spot t path false)) path calls0) first.precomposes)
         (made.done (after_remove t (spot t path false)) (removed t told));
     there = λ t told keeps. IfOk-weaker result _ _ (λ answer there is. subst (λ b. LeadsToDirectory (making b (after_remove t (spot t path false)) path calls0).tree path) first.precomposes (there is))
@@ -118,7 +180,10 @@ module _ {W : Type 0} (w : WorktreeOf W) (path : List ℕ) where
     cause = λ is. rose-earlier (w.faults w0) (w.faults w1) (w.faults w2) first.faults (made.cause is);
     calls = made.calls;
     most_calls = made.most_calls;
+    asked = inr made.asked;
     changes = Changes-join w first made.changes;
+    changed = λ t now told told1 keeps. removed-changed t now path (tree t told)
+        (replaced-plain (made.changed (after_remove t (spot t path false)) now (removed t told) told1 (subst (λ b. KeepsName b path) (sym first.precomposes) keeps)));
   }
     where
       left : (t : Names) → IsPartly false (after_remove t (spot t path false)) path (w.told w2) → IsPartly true t path (w.told w2)
@@ -128,10 +193,10 @@ module _ {W : Type 0} (w : WorktreeOf W) (path : List ℕ) where
       ]
 
   -- a step behind others that left the tree as it was
-  pub prepares-behind : {w0 w1 w2 : W} {calls0 calls1 calls2 middle most : ℕ} {result : Result MakeAnswer ReadError} (unlinks : Bool) (outcome before : Names → Prepared) → Changes w w0 w1
-      → ((t : Names) → w.told w0 ≡ Some t → (w.told w1 ≡ Some t) × (outcome t ≡ before t)) → calls0 ≤ calls1 → middle ≤ most
-      → Prepares w w1 w2 unlinks path outcome calls1 calls2 middle result → Prepares w w0 w2 unlinks path before calls0 calls2 most result
-  prepares-behind {w0} {w1} {w2} {calls0} {calls1} {calls2} {middle} {most} {result} unlinks outcome before first same begun less next = record {
+  pub prepares-behind : {w0 w1 w2 : W} {calls0 calls1 calls2 middle most : ℕ} {Asked Before : ℕ → Type 0} {result : Result MakeAnswer ReadError} (unlinks : Bool) (outcome before : Names → Prepared) → Changes w w0 w1
+      → ((t : Names) → w.told w0 ≡ Some t → (w.told w1 ≡ Some t) × (outcome t ≡ before t)) → calls0 ≤ calls1 → middle ≤ most → ((n : ℕ) → Asked n → Before n)
+      → Prepares w w1 w2 unlinks path outcome calls1 calls2 middle Asked result → Prepares w w0 w2 unlinks path before calls0 calls2 most Before result
+  prepares-behind {w0} {w1} {w2} {calls0} {calls1} {calls2} {middle} {most} {Asked} {Before} {result} unlinks outcome before first same begun less also next = record {
     done = λ t told. outcome-same result _ _ (w.told w2) calls2 (same t told).1 (next.done t (same t told).0);
     there = λ t told keeps. IfOk-weaker result _ _ (λ answer leads is. subst (λ (p : Prepared). LeadsToDirectory p.tree path) (same t told).1 (leads is))
         (next.there t (same t told).0 (subst (λ b. KeepsName b path) (sym first.precomposes) keeps));
@@ -139,13 +204,15 @@ module _ {W : Type 0} (w : WorktreeOf W) (path : List ℕ) where
     cause = λ is. rose-earlier (w.faults w0) (w.faults w1) (w.faults w2) first.faults (next.cause is);
     calls = omega (arith, begun, next.calls);
     most_calls = omega (arith, less, next.most_calls);
+    asked = also calls2 next.asked;
     changes = Changes-join w first next.changes;
+    changed = λ t now told told1 keeps. next.changed t now (same t told).0 told1 (subst (λ b. KeepsName b path) (sym first.precomposes) keeps);
   }
 
   -- a call that fails leaves what was, and where nothing may be removed no more is said of it
-  pub prepares-more : {w0 w1 : W} {calls0 calls1 most : ℕ} {result : Result MakeAnswer ReadError} (unlinks : Bool) (outcome : Names → Prepared)
-      → Prepares w w0 w1 false path outcome calls0 calls1 most result → Prepares w w0 w1 unlinks path outcome calls0 calls1 most result
-  prepares-more {w0} {w1} {calls0} {calls1} {most} {result} unlinks outcome made = record {
+  pub prepares-more : {w0 w1 : W} {calls0 calls1 most : ℕ} {Asked : ℕ → Type 0} {result : Result MakeAnswer ReadError} (unlinks : Bool) (outcome : Names → Prepared)
+      → Prepares w w0 w1 false path outcome calls0 calls1 most Asked result → Prepares w w0 w1 unlinks path outcome calls0 calls1 most Asked result
+  prepares-more {w0} {w1} {calls0} {calls1} {most} {Asked} {result} unlinks outcome made = record {
     done = made.done;
     there = made.there;
     partly = λ t told. on_err_weaker result (λ (partly : IsPartly false t path (w.told w1)). elim partly [
@@ -155,14 +222,16 @@ module _ {W : Type 0} (w : WorktreeOf W) (path : List ℕ) where
     cause = made.cause;
     calls = made.calls;
     most_calls = made.most_calls;
+    asked = made.asked;
     changes = made.changes;
+    changed = λ t now told told1 keeps. replaced-made unlinks (replaced-plain (made.changed t now told told1 keeps));
   }
 
   -- nothing is made, and the tree stays
   pub prepares-nothing : {w0 w1 : W} (calls : ℕ) (answer : MakeAnswer) (unlinks : Bool) (outcome : Names → Prepared) → Changes w w0 w1 → w.told w1 ≡ w.told w0
       → ((t : Names) → w.told w0 ≡ Some t → outcome t ≡ record { answer = answer; tree = t; calls = calls })
       → ((t : Names) → w.told w0 ≡ Some t → answer ≡ makes.Made → LeadsToDirectory t path)
-      → Prepares w w0 w1 unlinks path outcome calls calls (calls + 1) (Ok answer)
+      → Prepares w w0 w1 unlinks path outcome calls calls (calls + 1) (IsAskedOnce calls) (Ok answer)
   prepares-nothing {w0} {w1} calls answer unlinks outcome changes told_is same leads = record {
     done = λ t told.
         let is : outcome t ≡ record { answer = answer; tree = t; calls = calls } = same t told in
@@ -172,18 +241,22 @@ module _ {W : Type 0} (w : WorktreeOf W) (path : List ℕ) where
     cause = λ is. absurd (is-answer answer _ is);
     calls = omega arith;
     most_calls = omega arith;
+    asked = inl refl;
     changes = changes;
+    changed = λ t now told told1 keeps. inl (some-same (sym told1 ∙ told_is ∙ told));
   }
 
   -- a directory that is to be there is refused
   pub creates-refused : {w0 w1 : W} {calls0 calls1 : ℕ} {result : Result MakeAnswer ReadError} {unlinks : Bool} {outcome : Names → Prepared} (error : AtPathError)
-      → Prepares w w0 w1 unlinks path outcome calls0 calls1 (calls0 + 2) result
+      → Prepares w w0 w1 unlinks path outcome calls0 calls1 (calls0 + 2) (IsAsked calls0) result
       → NoDirectory w w0 w1 unlinks path calls0 calls1 error → Creates w w0 w1 unlinks path calls0 calls1 (Err error)
   creates-refused error prepares refused = record {
     made = λ t told. tt;
     there = λ t told keeps. tt;
     refused = refused;
+    asked = prepares.asked;
     calls = prepares.calls;
     most_calls = prepares.most_calls;
     changes = prepares.changes;
+    changed = prepares.changed;
   }

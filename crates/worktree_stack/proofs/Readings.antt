@@ -28,7 +28,7 @@ places-append : (a b : List OneReading) → places_in (a ++ b) ≡ places_in a +
 places-append [] b = refl
 places-append (r ∷ a) b = ap (λ (l : List Place). r.places ++ l) (places-append a b) ∙ sym (append_assoc r.places (places_in a) (places_in b))
 
-files-two : (a b : List Place) → files_in (a ++ b) ≡ files_in a + files_in b
+pub files-two : (a b : List Place) → files_in (a ++ b) ≡ files_in a + files_in b
 files-two [] b = omega arith
 files-two (in_tree path follow ∷ a) b = omega (arith, files-two a b)
 files-two (in_store path id ∷ a) b = files-two a b

@@ -9,6 +9,7 @@ use Rattle.worktree_stack.specs.declared.error.AtPathError.{AtPathError}
 use Rattle.worktree_stack.specs.declared.error.AtPathError.TheVariants as errors
 use Rattle.worktree_stack.specs.declared.error.DirectoryWhy.TheVariants as whys
 use Rattle.worktree_fs.specs.Answers.{kind_of}
+use Rattle.worktree_fs.specs.MadeAndRemoved.{Makes, Removes}
 use Rattle.worktree_fs.specs.Changes.{make_answer, after_make, after_remove, kept_last}
 use Rattle.worktree_fs.specs.Tree.{Names, spot, look, reached, missing, directory}
 use Rattle.worktree_fs.specs.declared.answers.MakeAnswer.{MakeAnswer}
@@ -78,17 +79,32 @@ LeadsToDirectory t path = (names : List (List ℕ)) × (inner : Names) × (spot 
 abbrev pub KeepsName : Bool → List ℕ → Type 0
 KeepsName composes path = (t : Names) (names : List (List ℕ)) → spot t path false ≡ missing names [] → kept_last composes names ≡ names
 
+-- What a tree became in which a directory is to be at a path: it stayed; a directory was made there; or, where that is asked for, what
+-- was in the way was removed, and a directory was made there or was not.
+abbrev pub IsReplaced : Bool → List ℕ → Names → Names → Type 0
+IsReplaced unlinks path t now = (now ≡ t) ⊎ (Makes path t now ⊎ ((unlinks ≡ true) × (middle : Names) × Removes path t middle × ((now ≡ middle) ⊎ Makes path middle now)))
+
+-- a directory was asked to be made once, which is counted, or not
+abbrev pub IsAskedOnce : ℕ → ℕ → Type 0
+IsAskedOnce calls0 calls1 = (calls1 ≡ calls0) ⊎ (calls1 ≡ one_more calls0)
+
+-- it was asked to be made once or twice
+abbrev pub IsAsked : ℕ → ℕ → Type 0
+IsAsked calls0 calls1 = (calls1 ≡ one_more calls0) ⊎ (calls1 ≡ one_more (one_more calls0))
+
 -- What is made of a worktree that was `w0` and is `w1`, and of a count, where a directory is to be at a path. Over a told tree it is
 -- the outcome that the tree gives, unless there was a failure, which comes only where it was counted, or no memory.
 pub record Prepares {W : Type 0} (w : WorktreeOf W) (w0 w1 : W) (unlinks : Bool) (path : List ℕ) (outcome : Names → Prepared)
-    (calls0 calls1 most : ℕ) (result : Result MakeAnswer ReadError) : Type 0 where
+    (calls0 calls1 most : ℕ) (Asked : ℕ → Type 0) (result : Result MakeAnswer ReadError) : Type 0 where
   pub done : (t : Names) → w.told w0 ≡ Some t → IfOk result (IsOutcome (outcome t) (w.told w1) calls1)
   pub there : (t : Names) → w.told w0 ≡ Some t → KeepsName (w.precomposes w0) path → IfOk result (λ answer. answer ≡ makes.Made → LeadsToDirectory (outcome t).tree path)
   pub partly : (t : Names) → w.told w0 ≡ Some t → OnErr result (IsPartly unlinks t path (w.told w1))
   pub cause : IsErrOf result read_errors.Fault → Increased (w.faults w0) (w.faults w1)
   pub calls : calls0 ≤ calls1
   pub most_calls : calls1 ≤ most
+  pub asked : Asked calls1
   pub changes : Changes w w0 w1
+  pub changed : (t now : Names) → w.told w0 ≡ Some t → w.told w1 ≡ Some now → KeepsName (w.precomposes w0) path → IsReplaced unlinks path t now
 
 -- What holds of a refusal, by what it is for: a node in the way, no directory above, a failure, or want of memory. Nothing else is
 -- refused where a directory is to be.
@@ -103,20 +119,24 @@ OnNoDirectory Collision NoParent Fault Memory (errors.Blob id why) = ⊥
 OnNoDirectory Collision NoParent Fault Memory errors.OutOfMemory = Memory
 
 -- Why a directory that is to be at a path is not there, where a worktree was `w0` and is `w1`: over a told tree that is what the tree
--- gives, and after a failure, which was counted, or for want of memory what was in the way may be gone.
+-- gives, and after a failure, which was counted, or for want of memory what was in the way may be gone. It was asked to be made.
 abbrev pub NoDirectory : {W : Type 0} → WorktreeOf W → W → W → Bool → List ℕ → ℕ → ℕ → AtPathError → Type 0
-NoDirectory w w0 w1 unlinks path calls0 calls1 =
-    OnNoDirectory
+NoDirectory w w0 w1 unlinks path calls0 calls1 error =
+    IsAsked calls0 calls1
+    × OnNoDirectory
     (λ at. (at ≡ path) × ((t : Names) → w.told w0 ≡ Some t → IsOutcome (prepared unlinks (w.precomposes w0) t path calls0) (w.told w1) calls1 makes.Exists))
     (λ at. (at ≡ path) × ((t : Names) → w.told w0 ≡ Some t → IsOutcome (prepared unlinks (w.precomposes w0) t path calls0) (w.told w1) calls1 makes.NoParent))
     (λ at. (at ≡ path) × Increased (w.faults w0) (w.faults w1) × ((t : Names) → w.told w0 ≡ Some t → IsPartly unlinks t path (w.told w1)))
     ((t : Names) → w.told w0 ≡ Some t → IsPartly unlinks t path (w.told w1) ⊎ (w.told w1 ≡ Some (prepared unlinks (w.precomposes w0) t path calls0).tree))
+    error
 
 -- What comes of a directory that is to be at a path in a checkout: it is there, or is refused.
 pub record Creates {W : Type 0} (w : WorktreeOf W) (w0 w1 : W) (unlinks : Bool) (path : List ℕ) (calls0 calls1 : ℕ) (result : Result (Unit {0}) AtPathError) : Type 0 where
   pub made : (t : Names) → w.told w0 ≡ Some t → OnOk result (IsOutcome (prepared unlinks (w.precomposes w0) t path calls0) (w.told w1) calls1 makes.Made)
   pub there : (t : Names) → w.told w0 ≡ Some t → KeepsName (w.precomposes w0) path → OnOk result (LeadsToDirectory (prepared unlinks (w.precomposes w0) t path calls0).tree path)
   pub refused : IfErr result (NoDirectory w w0 w1 unlinks path calls0 calls1)
+  pub asked : IsAsked calls0 calls1
   pub calls : calls0 ≤ calls1
   pub most_calls : calls1 ≤ calls0 + 2
   pub changes : Changes w w0 w1
+  pub changed : (t now : Names) → w.told w0 ≡ Some t → w.told w1 ≡ Some now → KeepsName (w.precomposes w0) path → IsReplaced unlinks path t now

@@ -8,6 +8,7 @@ use Rattle.worktree_stack.specs.declared.statistics.Statistics.{Statistics}
 use Rattle.worktree_stack.specs.declared.statistics.DelegateStatistics.{DelegateStatistics}
 use Rattle.worktree_stack.specs.declared.statistics.RulesStatistics.{RulesStatistics}
 use Rattle.glob_rules.specs.declared.Case.{Case}
+use Rattle.worktree_stack.specs.declared.state.Checkout.{Checkout}
 use Rattle.worktree_stack.specs.Setup.{Made, Mapping, Held, HeldAttributes, bare, bare_attributes}
 use Rattle.worktree_stack.specs.Stacked.{Stacked}
 use Rattle.worktree_stack.specs.Reading.{Sources, Refusal, Place, in_tree, in_store, list_at, RulesKind, of_attributes, of_ignore, OneReading, readings_of}
@@ -163,12 +164,13 @@ blobs_on kind made (push path is_last ∷ calls) = blobs_on kind made calls
 blobs_on kind made (pop_directory ∷ calls) = blobs_on kind made calls
 
 -- a stack on which nothing is pushed and nothing is counted, with what its state holds
-abbrev pub unpushed : List ℕ → Case → List Mapping → Option HeldAttributes → Option Held → Stacked
-unpushed root case mappings attributes ignore =
+abbrev pub unpushed : List ℕ → Case → List Mapping → Option Checkout → Option HeldAttributes → Option Held → Stacked
+unpushed root case mappings checkout attributes ignore =
     record {
       root = root;
       case = case;
       mappings = mappings;
+      checkout = checkout;
       attributes = attributes;
       ignore = ignore;
       at = None;
@@ -180,4 +182,4 @@ unpushed root case mappings attributes ignore =
 
 -- a stack that was made as another one, with nothing pushed and nothing counted
 abbrev pub fresh : Stacked → Stacked
-fresh s = unpushed s.root s.case s.mappings (bare_attributes s.attributes) (bare s.ignore)
+fresh s = unpushed s.root s.case s.mappings s.checkout (bare_attributes s.attributes) (bare s.ignore)

@@ -15,7 +15,7 @@ use Rattle.glob_rules.specs.declared.ignore.RuleGroup.{RuleGroup}
 use Rattle.glob_rules.specs.declared.ignore.RuleGroup.TheVariants.{Overrides, Directory, Globals}
 use Rattle.glob_rules.specs.declared.ignore.Origin.{Origin}
 use Rattle.glob_rules.specs.Ignore.{Rules, Hit, list_hit, search_hit}
-use Rattle.worktree_fs.specs.Paths.{spelled, fronts, without_last}
+use Rattle.worktree_fs.specs.Paths.{spelled, fronts, all_but_last}
 
 -- Where rules come from: lists above those of directories, the list of each directory, lists below, how letters compare, and
 -- whether an excluded directory keeps all beneath it excluded.
@@ -38,7 +38,7 @@ by_group group hit = option_map (λ (rule : Hit). record { group = group; rule =
 -- the directories above a path, the root first; none is above the root
 abbrev pub ancestors : List (List ℕ) → List (List (List ℕ))
 ancestors [] = []
-ancestors (name ∷ names) = fronts (without_last (name ∷ names))
+ancestors (name ∷ names) = fronts (all_but_last (name ∷ names))
 
 -- the rule excludes what it decides about
 abbrev pub is_positive : Option Decision → Bool

@@ -5,6 +5,7 @@ pub mod Reading
 pub mod Stacked
 pub mod Refused
 pub mod Counted
+pub mod Asked
 pub mod Placed
 pub mod Lookups
 pub mod Steps
@@ -13,3 +14,6 @@ pub mod Lending
 pub mod Mappings
 pub mod Validate
 pub mod Checkout
+pub mod Making
+pub mod ChecksOut
+pub mod GoesOn

@@ -3,8 +3,8 @@ use Rattle.std.specs.Prelude.{◌≡◌, ℕ, ◌++◌, ◌||◌, ◌==◌, Bool
 use Rattle.gitbase_core.specs.declared.entry.Mode.{Mode}
 use Rattle.gitbase_core.specs.Entry.{mode_bits, commit_mode, dir_mode}
 use Rattle.gitbase_core.specs.Path.{ends_in_slash}
-use Rattle.worktree_fs.specs.Paths.{spelled, without_last}
-use Rattle.worktree_fs.specs.PathStack.{push, kept, names_at}
+use Rattle.worktree_fs.specs.Paths.{spelled, all_but_last}
+use Rattle.worktree_fs.specs.PathStack.{push, kept, deepest_names}
 use Rattle.worktree_stack.specs.Counted.{count_call}
 use Rattle.worktree_stack.specs.Setup.{Made, AttributesSetup, Setup}
 use Rattle.worktree_stack.specs.declared.attributes_source.Source.{Source as AttributesSource}
@@ -49,7 +49,7 @@ asks_worktree made = asks_attributes_if made.attributes || asks_if made.ignore
 
 -- a path stands looked up: exactly its proper ancestors are pushed, for the empty path the root alone
 pub record IsLookedUp (s : Stacked) (names : List (List ℕ)) : Type 0 where
-  pub at : s.at ≡ Some (without_last names)
+  pub at : s.at ≡ Some (all_but_last names)
   pub current : s.current ≡ names
 
 -- a path lies in a directory: behind its components there is one more
@@ -66,8 +66,8 @@ staying (Some pushed) names = Some (kept pushed names)
 abbrev pub stepped : Stacked → List ℕ → Stacked
 stepped s name =
     record s {
-      current = names_at s.at ++ name ∷ [];
-      statistics = record s.statistics { delegate = count_call s.statistics.delegate (push (spelled (names_at s.at ++ name ∷ [])) false) };
+      current = deepest_names s.at ++ name ∷ [];
+      statistics = record s.statistics { delegate = count_call s.statistics.delegate (push (spelled (deepest_names s.at ++ name ∷ [])) false) };
     }
 
 -- one for a refusal: the directory whose rules file was refused may have been read

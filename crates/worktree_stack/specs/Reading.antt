@@ -10,7 +10,7 @@ use Rattle.std.specs.List.{flat_map}
 use Rattle.gitbase_core.specs.Objects.{Object, Objects, object_at, blob, other as other_object}
 use Rattle.gitbase_core.specs.Path.{is_empty, joined}
 use Rattle.worktree_fs.specs.Tree.{Names, Look, look, found, absent, too_many_links, file, link, directory, other}
-use Rattle.worktree_fs.specs.Paths.{spelled, full_path, fronts, without_last}
+use Rattle.worktree_fs.specs.Paths.{spelled, full_path, fronts, all_but_last}
 use Rattle.glob_rules.specs.AttributeLines.{lines}
 use Rattle.glob_rules.specs.Attributes.{AttributeList, list_from}
 use Rattle.glob_rules.specs.Ignore.{Rules, entries, no_rules}
@@ -291,4 +291,4 @@ lists_at made s names = lists_if made made.attributes s (spelled names)
 -- the lists that speak of a path, the lowest first: the globals, those of the root, and those of the directories above the path down
 -- to it. The root itself is spoken of by its own lists.
 abbrev pub attribute_lists : Made → Sources → List (List ℕ) → List AttributeList
-attribute_lists made s names = globals_of made.attributes ++ flat_map (lists_at made s) (fronts (without_last names))
+attribute_lists made s names = globals_of made.attributes ++ flat_map (lists_at made s) (fronts (all_but_last names))

@@ -2,7 +2,7 @@
 use Rattle.std.specs.Prelude.{◌≡◌, ℕ, Bool, false, List, ◌∷◌, ◌++◌, Option, Some, None, Result, Err}
 use Rattle.gitbase_core.specs.Objects.{Objects}
 use Rattle.worktree_fs.specs.Tree.{Names}
-use Rattle.worktree_fs.specs.Paths.{spelled, without_last}
+use Rattle.worktree_fs.specs.Paths.{spelled, all_but_last}
 use Rattle.worktree_stack.specs.declared.error.AtPathError.{AtPathError}
 use Rattle.worktree_stack.specs.declared.error.AtPathError.TheVariants as errors
 use Rattle.worktree_stack.specs.declared.error.RulesWhy.{RulesWhy}
@@ -81,7 +81,7 @@ RefusesAt told holds TreeFailed StoreFailed made d =
 pub record OfAncestor (names : List (List ℕ)) (Holds : List ℕ → Type 0) : Type 0 where
   pub ancestor : List (List ℕ)
   pub rest : List (List ℕ)
-  pub above : without_last names ≡ ancestor ++ rest
+  pub above : all_but_last names ≡ ancestor ++ rest
   pub holds : Holds (spelled ancestor)
 
 -- why the lookup of a path is refused: the rules of a directory above it are, or there is no memory

@@ -1,6 +1,6 @@
 -- What a stack was made with, and what it holds of each directory that is pushed.
 use Rattle.std.specs.Option.{option_or}
-use Rattle.std.specs.Prelude.{◌≡◌, ℕ, ◌-◌, Bool, List, [], ◌∷◌, ◌++◌, length, take, slice_get, Option, Some, None, option_map, is_some, codes, if◌then◌else◌}
+use Rattle.std.specs.Prelude.{◌≡◌, ℕ, ◌-◌, ◌||◌, not, Bool, List, [], ◌∷◌, ◌++◌, length, take, slice_get, Option, Some, None, option_map, is_some, codes, if◌then◌else◌}
 use Rattle.std.specs.Str.{bytes_eq}
 use Rattle.glob_rules.specs.declared.Case.{Case}
 use Rattle.glob_rules.specs.declared.ignore.Kind.{Kind}
@@ -10,6 +10,7 @@ use Rattle.glob_rules.specs.Attributes.{AttributeList}
 use Rattle.glob_rules.specs.Ignore.{Rules, Hit, search_hit, search_place}
 use Rattle.worktree_stack.specs.declared.attributes_source.Source.{Source as AttributesSource}
 use Rattle.worktree_stack.specs.declared.ignore_source.Source.{Source}
+use Rattle.worktree_stack.specs.declared.state.Checkout.{Checkout}
 use Rattle.worktree_stack.specs.Excludes.{Decision, by_group, is_positive, decisive}
 
 -- What an exclude state was made with: lists above and below those of directories, the name of a directory's rules file, where
@@ -34,12 +35,13 @@ pub record AttributesSetup : Type 0 where
   pub info : Option (List ℕ)
   pub source : AttributesSource
 
--- What a stack was made with: its root, how letters compare, the blobs of rules files, its attribute state, if it has one, and its
--- exclude state, if it has one.
+-- What a stack was made with: its root, how letters compare, the blobs of rules files, how it makes the directories on the way to a
+-- path, if it does, its attribute state, if it has one, and its exclude state, if it has one.
 pub record Made : Type 0 where
   pub root : List ℕ
   pub case : Case
   pub mappings : List Mapping
+  pub checkout : Option Checkout
   pub attributes : Option AttributesSetup
   pub ignore : Option Setup
 
@@ -50,6 +52,14 @@ has_excludes made = is_some made.ignore
 -- it tells the attributes of paths
 abbrev pub has_attributes : Made → Bool
 has_attributes made = is_some made.attributes
+
+-- it makes the directories on the way to a path
+abbrev pub is_checkout : Made → Bool
+is_checkout made = is_some made.checkout
+
+-- its lookups leave every tree as it was
+abbrev pub keeps_tree : Made → Bool
+keeps_tree made = has_excludes made || not (is_checkout made)
 
 -- the blob that a path is mapped to
 abbrev pub mapped_to : List Mapping → List ℕ → Option (List ℕ)

@@ -1,23 +1,25 @@
 -- What a stack holds, and when it is in step with a tree and a store.
-use Rattle.std.specs.Prelude.{◌≡◌, ◌+◌, ℕ, Bool, true, List, [], ◌∷◌, length, Option, Some, None, map}
+use Rattle.std.specs.Prelude.{◌≡◌, ◌+◌, ℕ, Bool, true, List, [], ◌∷◌, ◌++◌, length, Option, Some, None, map}
 use Rattle.std.specs.List.{list_all, flat_map}
 use Rattle.glob_rules.specs.declared.Case.{Case}
 use Rattle.glob_rules.specs.Ignore.{Rules}
 use Rattle.worktree_fs.specs.Paths.{fronts, spelled}
+use Rattle.worktree_stack.specs.declared.state.Checkout.{Checkout}
 use Rattle.worktree_stack.specs.declared.state.State.{State}
-use Rattle.worktree_stack.specs.declared.state.State.TheVariants.{AttributesAndIgnoreStack, AttributesStack, IgnoreStack}
+use Rattle.worktree_stack.specs.declared.state.State.TheVariants.{CreateDirectoryAndAttributesStack, AttributesAndIgnoreStack, AttributesStack, IgnoreStack}
 use Rattle.worktree_stack.specs.declared.statistics.Statistics.{Statistics}
 use Rattle.worktree_stack.specs.Setup.{Made, Mapping, AttributesSetup, HeldAttributes, Held, attributes_setup_of, lists_of, setup_of}
 use Rattle.worktree_stack.specs.Excludes.{Decision, own_of_directory}
 use Rattle.worktree_stack.specs.Reading.{Sources, reading, rulebook, is_read, lists_at}
 
--- A stack: its root, how letters compare, the blobs of rules files, what its attribute state holds, if it has one, and what its exclude
--- state holds, if it has one, the directories that are pushed (none, or a directory and all above it), the path that was made
+-- A stack: its root, how letters compare, the blobs of rules files, how it makes directories, if it does, what its attribute state
+-- holds, if it has one, and what its exclude state holds, if it has one, the directories that are pushed (none, or a directory and all above it), the path that was made
 -- current last and whether it is a directory, whether the last lookup was answered, and what was counted.
 pub record Stacked : Type 0 where
   pub root : List ℕ
   pub case : Case
   pub mappings : List Mapping
+  pub checkout : Option Checkout
   pub attributes : Option HeldAttributes
   pub ignore : Option Held
   pub at : Option (List (List ℕ))
@@ -28,19 +30,28 @@ pub record Stacked : Type 0 where
 
 -- the exclude state
 abbrev pub ignore_of : State → Option Held
+ignore_of (CreateDirectoryAndAttributesStack unlinks validate held) = None
 ignore_of (AttributesAndIgnoreStack held ignore) = Some ignore
 ignore_of (AttributesStack held) = None
 ignore_of (IgnoreStack held) = Some held
 
 -- the attribute state
 abbrev pub attributes_of : State → Option HeldAttributes
+attributes_of (CreateDirectoryAndAttributesStack unlinks validate held) = Some held
 attributes_of (AttributesAndIgnoreStack held ignore) = Some held
 attributes_of (AttributesStack held) = Some held
 attributes_of (IgnoreStack held) = None
 
+-- how directories are made
+abbrev pub checkout_of : State → Option Checkout
+checkout_of (CreateDirectoryAndAttributesStack unlinks validate held) = Some (record { unlink_on_collision = unlinks; validate = validate })
+checkout_of (AttributesAndIgnoreStack held ignore) = None
+checkout_of (AttributesStack held) = None
+checkout_of (IgnoreStack held) = None
+
 -- what a stack was made with
 abbrev pub made_of : Stacked → Made
-made_of s = record { root = s.root; case = s.case; mappings = s.mappings; attributes = attributes_setup_of s.attributes; ignore = setup_of s.ignore }
+made_of s = record { root = s.root; case = s.case; mappings = s.mappings; checkout = s.checkout; attributes = attributes_setup_of s.attributes; ignore = setup_of s.ignore }
 
 -- the directories that are pushed, the root first
 abbrev pub pushed : Option (List (List ℕ)) → List (List (List ℕ))
@@ -72,6 +83,11 @@ pub record HoldsFor (made : Made) (s : Sources) (directories : List (List (List 
 -- pushed no list is held, and the info file is read with the root.
 abbrev pub IsInStep : Sources → Stacked → Type 0
 IsInStep s stack = HoldsFor (made_of stack) s (pushed stack.at) stack.attributes stack.ignore
+
+-- A directory is pushed whose readings are done: its lists are those that a tree and a store have for it.
+pub record PushesLists (made : Made) (s : Sources) (names : List (List ℕ)) (before after : Option HeldAttributes) : Type 0 where
+  pub is_read : is_read (reading made s (spelled names)) ≡ true
+  pub lists : lists_of after ≡ lists_of before ++ lists_at made s names
 
 -- how many lists stand for the info file at a directory: one at the root, if there is such a file
 abbrev pub info_count : Option (List ℕ) → List ℕ → ℕ

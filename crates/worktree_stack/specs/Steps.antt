@@ -5,7 +5,7 @@
 use Rattle.std.specs.Prelude.{◌≡◌, ◌⊎◌, ◌≤◌, ℕ, ◌+◌, List, [], ◌∷◌, ◌++◌, map, Option, Some, None}
 use Rattle.gitbase_core.specs.Objects.{Objects}
 use Rattle.worktree_fs.specs.Tree.{Names}
-use Rattle.worktree_fs.specs.PathStack.{Call, push_directory, granted, left_by, directories, names_at}
+use Rattle.worktree_fs.specs.PathStack.{Call, push_directory, granted, left_by, directories, deepest_names}
 use Rattle.worktree_stack.specs.declared.error.AtPathError.{AtPathError}
 use Rattle.worktree_stack.specs.declared.statistics.RulesStatistics.{RulesStatistics}
 use Rattle.worktree_stack.specs.declared.statistics.Statistics.{Statistics}
@@ -61,7 +61,7 @@ pub record IsStopped (calls : List Call) (old new : Stacked) (done : List Call) 
   pub front : calls ≡ done ++ the_call begun ++ unmade
   pub left : directories new.at ≡ left_by (directories old.at) (map granted done)
   pub counted : new.statistics.delegate ≡ count_calls old.statistics.delegate (done ++ the_call begun)
-  pub current : new.current ≡ names_at new.at
+  pub current : new.current ≡ deepest_names new.at
   pub is_dir : new.is_dir ≡ old.is_dir
 
 -- It stopped at a directory of which this holds, and has read those before; of its own readings so much was counted.

@@ -16,6 +16,8 @@ use std::marker::Model;
 /// What is said of attributes; gitoxide's `gix_worktree::stack::state::Attributes`.
 ///
 /// Contracts see a record: what it was made with, the names that were seen, and the lists of the directories that are pushed.
+///
+/// See docs/DECISIONS.md#attribute-names.
 #[derive(Drop)]
 pub struct Attributes {
     globals: Search,
@@ -105,6 +107,8 @@ impl Attributes {
 
     /// Pushes the list of bytes that were read at `source`, for the paths beneath the directory `base`. Where memory is refused nothing
     /// is pushed, and the first of the names may be seen.
+    ///
+    /// See docs/DECISIONS.md#attribute-missing.
     pub(crate) fn push_list(
         &mut self,
         alloc: Global,
@@ -145,6 +149,9 @@ impl Attributes {
     }
 
     /// Drops the list of the info file, where it stands above those of a directory.
+    ///
+    /// See docs/DECISIONS.md#attribute-info.
+    /// See docs/DIFFERENCES.md#attributes-info.
     fn pop_info(&mut self, directory: &[u8])
         ensures { self.new ≡ record self.old {
           lists = without_info self.old.setup.info directory.now self.old.lists;
@@ -161,6 +168,8 @@ impl Attributes {
     /// Finds which attributes a path has beneath the directories that are pushed, among those that `out` asks for, which asks for all
     /// names that were seen, where it has no selection; and tells whether the path has one. Where memory is refused, `out` has lost
     /// what it asks for.
+    ///
+    /// See docs/DECISIONS.md#attribute-root.
     pub(crate) fn matching(
         &self,
         alloc: Global,

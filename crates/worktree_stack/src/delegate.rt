@@ -2,7 +2,8 @@
 ghost use Rattle.std.specs.Prelude.{◌≡◌, ◌⊎◌, ◌+◌, false};
 ghost use Rattle.worktree_fs.specs.Answers.{kind_of};
 ghost use Rattle.worktree_fs.specs.Tree.{look};
-ghost use Rattle.worktree_stack.specs.Checkout.{Creates, Prepares, making, unlinking, colliding, prepared};
+ghost use Rattle.gitbase_core.specs.Causes.{next as one_more};
+ghost use Rattle.worktree_stack.specs.Checkout.{Creates, IsAsked, IsAskedOnce, Prepares, making, unlinking, colliding, prepared};
 
 use crate::{AtPathError, DirectoryWhy};
 use gitbase_core::{OutOfMemory, PathText};
@@ -71,7 +72,7 @@ fn prepare<W: Worktree>(
     ensures { Prepares W.Worktree worktree.old worktree.new unlink_on_collision path.now
         (λ t. prepared unlink_on_collision (W.precomposes worktree.old) t path.now
         mkdir_calls.old) mkdir_calls.old mkdir_calls.new (mkdir_calls.old + 2)
-        result }
+        (IsAsked mkdir_calls.old) result }
 {
     match make_dir(alloc, path, worktree, mkdir_calls)? {
         MakeAnswer::Exists => collide(alloc, path, unlink_on_collision, worktree, mkdir_calls),
@@ -90,7 +91,7 @@ fn collide<W: Worktree>(
     ensures { Prepares W.Worktree worktree.old worktree.new unlink_on_collision path.now
         (λ t. colliding unlink_on_collision (W.precomposes worktree.old) t path.now mkdir_calls.old
         (kind_of (look t path.now false))) mkdir_calls.old mkdir_calls.new
-        (mkdir_calls.old + 1) result }
+        (mkdir_calls.old + 1) (IsAskedOnce mkdir_calls.old) result }
 {
     let Some(kind) = worktree.kind(alloc, path)? else {
         return make_dir(alloc, path, worktree, mkdir_calls);
@@ -111,7 +112,8 @@ fn unlink<W: Worktree>(
 ) -> Result<MakeAnswer, ReadError>
     ensures { Prepares W.Worktree worktree.old worktree.new unlink_on_collision path.now
         (λ t. unlinking unlink_on_collision (W.precomposes worktree.old) t path.now
-        mkdir_calls.old) mkdir_calls.old mkdir_calls.new (mkdir_calls.old + 1) result }
+        mkdir_calls.old) mkdir_calls.old mkdir_calls.new (mkdir_calls.old + 1)
+        (IsAskedOnce mkdir_calls.old) result }
 {
     if !unlink_on_collision {
         return Ok(MakeAnswer::Exists);
@@ -129,7 +131,7 @@ fn make_dir<W: Worktree>(
 ) -> Result<MakeAnswer, ReadError>
     ensures { Prepares W.Worktree worktree.old worktree.new false path.now
         (λ t. making (W.precomposes worktree.old) t path.now mkdir_calls.old) mkdir_calls.old
-        mkdir_calls.new (mkdir_calls.old + 1) result }
+        mkdir_calls.new (mkdir_calls.old + 1) (λ n. n ≡ one_more mkdir_calls.old) result }
 {
     *mkdir_calls = mkdir_calls.saturating_add(1);
     worktree.make_dir(alloc, path)

@@ -23,5 +23,5 @@ pub use ignore::Ignore;
 pub use mappings::PathIdMapping;
 pub use platform::Platform;
 pub use stack::Stack;
-pub use state::State;
+pub use state::{Checkout, State};
 pub use statistics::{DelegateStatistics, RulesStatistics, Statistics};

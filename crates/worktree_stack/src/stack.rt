@@ -1,19 +1,26 @@
 //! A stack of the directories above a path, with the rules of each.
-ghost use Rattle.std.specs.Prelude.{◌≡◌, [], true, false, option_map, None, IfOk, OnOk, OnErr};
+ghost use Rattle.std.specs.Prelude.{◌≡◌, ◌≤◌, ◌+◌, [], true, false, option_map, None, Some, IfOk, OnOk, OnErr};
 ghost use Rattle.std.specs.Borrow.{sem};
+ghost use Rattle.gitbase_core.specs.Path.{components};
 ghost use Rattle.worktree_fs.specs.Paths.{full_path, spelled};
+ghost use Rattle.worktree_fs.specs.PathStack.{lookup_calls};
 ghost use Rattle.glob_rules.specs.AttributeOutcome.{asking_anew, asking_for, filled, finds_some, nothing_asked};
+ghost use Rattle.worktree_stack.specs.Asked.{asked_on};
 ghost use Rattle.worktree_stack.specs.Counted.{no_statistics, unpushed, fresh};
 ghost use Rattle.worktree_stack.specs.Decided.{decided_of};
 ghost use Rattle.worktree_stack.specs.Lending.{LendsState};
 ghost use Rattle.worktree_fs.specs.Kept.{AsksStore};
+ghost use Rattle.worktree_stack.specs.ChecksOut.{ChecksOut};
 ghost use Rattle.worktree_stack.specs.LooksUp.{LooksUp, Leaves};
+ghost use Rattle.worktree_stack.specs.Making.{is_link_of};
+ghost use Rattle.worktree_stack.specs.declared.state.Checkout.{Checkout};
 ghost use Rattle.worktree_stack.specs.Lookups.{is_dir_of, is_dir_of_entry};
 ghost use Rattle.worktree_stack.specs.Mappings.{are_ascending, mappings_in, case_of};
-ghost use Rattle.worktree_stack.specs.Setup.{has_excludes, has_attributes, attributes_setup_of, setup_of, deciding_if, all_lists, names_of};
-ghost use Rattle.worktree_stack.specs.Stacked.{made_of, attributes_of, ignore_of, IsInStep};
+ghost use Rattle.worktree_stack.specs.Setup.{has_excludes, has_attributes, keeps_tree, attributes_setup_of, setup_of, deciding_if, all_lists, names_of};
+ghost use Rattle.worktree_stack.specs.Stacked.{made_of, attributes_of, checkout_of, ignore_of, IsInStep};
 ghost use Rattle.worktree_stack.specs.Reading.{Sources};
 
+mod checkout;
 mod pushing;
 mod reading;
 mod steps;
@@ -54,7 +61,7 @@ pub struct Stack {
 }
 
 impl Model for Stack {
-    ghost use Rattle.worktree_stack.specs.Stacked.{Stacked, attributes_of, ignore_of};
+    ghost use Rattle.worktree_stack.specs.Stacked.{Stacked, attributes_of, checkout_of, ignore_of};
 
     ghost Value = { Stacked };
 
@@ -62,6 +69,7 @@ impl Model for Stack {
       root = s.stack.root;
       case = s.case;
       mappings = s.id_mappings;
+      checkout = checkout_of s.state;
       attributes = attributes_of s.state;
       ignore = ignore_of s.state;
       at = s.stack.deepest;
@@ -89,8 +97,8 @@ impl Stack {
         id_mappings: Vec<PathIdMapping>,
     ) -> Stack
         requires { are_ascending id_mappings.items ≡ true }
-        ensures { result ≡ unpushed worktree_root case id_mappings.items (attributes_of state)
-            (ignore_of state) }
+        ensures { result ≡ unpushed worktree_root case id_mappings.items (checkout_of state)
+            (attributes_of state) (ignore_of state) }
     {
         Stack {
             stack: PathStack::new(alloc, worktree_root),
@@ -119,7 +127,8 @@ impl Stack {
     ) -> Result<Stack, OutOfMemory>
         ensures { IfOk result (λ stack. stack ≡ unpushed root (case_of ignore_case)
             (mappings_in (case_of ignore_case) (attributes_setup_of (attributes_of state))
-            (setup_of (ignore_of state)) index.now) (attributes_of state) (ignore_of state)) }
+            (setup_of (ignore_of state)) index.now) (checkout_of state) (attributes_of state)
+            (ignore_of state)) }
     {
         let case = if ignore_case {
             Case::Fold
@@ -199,6 +208,7 @@ impl Stack {
 
     /// What the stack keeps for its directories.
     pub fn state(&self) -> &State
+        ensures checkout { checkout_of result.now ≡ self.now.checkout }
         ensures attributes { attributes_of result.now ≡ self.now.attributes }
         ensures ignore { ignore_of result.now ≡ self.now.ignore }
     {
@@ -293,6 +303,7 @@ impl Stack {
     /// What the stack keeps for its directories, to be changed. Nothing is promised of directories that are pushed already.
     pub fn state_mut(&mut self) -> &mut State
         ensures* lends { sem 𝓛 (LendsState self.entry result) }
+        ensures checkout { checkout_of result.now ≡ self.old.checkout }
         ensures attributes { attributes_of result.now ≡ self.old.attributes }
         ensures state { ignore_of result.now ≡ self.old.ignore }
     {
@@ -317,8 +328,9 @@ impl Stack {
     /// directory. Whether anything is at the path makes no difference.
     ///
     /// Attributes are read before ignore rules, and the information file with the root, behind its own `.gitattributes`. `objects` are
-    /// asked for the blobs that rules files are mapped to. Where the stack tells no attributes, the worktree is read at most once for
-    /// each directory that is pushed, or was to be. In the directory that is pushed already a lookup begins at the last name; no clause
+    /// asked for the blobs that rules files are mapped to. The worktree is read at most as often as the readings of the directories ask it that
+    /// are pushed, or were to be: not at all where rules come from mappings alone, but for the information file, and where the stack tells no
+    /// attributes at most once for each. In the directory that is pushed already a lookup begins at the last name; no clause
     /// speaks of that.
     ///
     /// # Errors
@@ -330,7 +342,19 @@ impl Stack {
     ///   (`LinkLimit`), is neither file nor directory (`Special`), or could not be read, which the worktree counted (`Fault`).
     /// - `Blob`: the blob that such a file is mapped to is not in the store (`Missing`), is no blob (`NotABlob`), or could not be
     ///   read, which the store counted (`Fault`).
+    /// - `Component`: the next component to be pushed may not be checked out; those before it may. This and the next two come in
+    ///   checkout alone.
+    /// - `Collision`: a node that is no directory is where a directory is to be, and is not to be removed.
+    /// - `Directory`: there is no directory for another to be in (`NoParent`), or the worktree failed, which it counted (`Fault`).
     /// - `OutOfMemory`: memory is refused.
+    ///
+    /// In checkout each component that is pushed is tested by [`crate::validate::component`], and then a directory is made there, unless it
+    /// is the last one and the path is no directory by its mode; see [`crate::delegate::create_leading_directory`]. So the directories
+    /// that are pushed below the root are there, and no link is among them, as long as nothing else changes the tree: one that stays
+    /// pushed is not looked at again. In a worktree that composes names this holds of names that are composed already.
+    ///
+    /// After `Component`, `Collision` and `Directory` the directories above that component are pushed; it is itself counted as pushed. After
+    /// `Directory` with `Fault`, and after `OutOfMemory`, what was in the way may be gone.
     ///
     /// After `RulesFile` and `Blob` the directories above that one are pushed, and after `OutOfMemory` those up to some directory on
     /// the way; the next lookup goes on from there, and reads the information file where the root is still to be pushed. After any of these `platform` may not be asked until a lookup is answered.
@@ -344,9 +368,16 @@ impl Stack {
         worktree: &mut W,
         objects: &mut F,
     ) -> Result<(), AtPathError>
-        ensures looks_up { LooksUp W.Worktree F.Find worktree.old worktree.new objects.old
-            objects.new relative.now (is_dir_of mode) self.old self.new result }
-        ensures leaves { Leaves (has_excludes (made_of self.old)) W.Worktree worktree.old
+        ensures looks_up { keeps_tree (made_of self.old) ≡ true → LooksUp W.Worktree F.Find
+            worktree.old worktree.new objects.old objects.new relative.now (is_dir_of mode) self.old
+            self.new result }
+        ensures checks_out { (checkout : Checkout) → self.old.checkout ≡ Some checkout
+            → ChecksOut W.Worktree F.Find worktree.old worktree.new objects.old objects.new checkout
+            relative.now (is_dir_of mode) (is_link_of mode) self.old self.new result }
+        ensures answered { OnOk result (self.new.is_answered ≡ true) }
+        ensures asked { W.reads worktree.new ≤ W.reads worktree.old + asked_on
+            (made_of self.old) (lookup_calls self.old.at (components relative.now)) }
+        ensures leaves { Leaves (keeps_tree (made_of self.old)) W.Worktree worktree.old
             worktree.new }
         ensures leaves_store { AsksStore F.Find objects.old objects.new }
     {
@@ -354,12 +385,21 @@ impl Stack {
         if !is_normal(relative) {
             return Err(AtPathError::NotNormal);
         }
-        self.look_up(alloc, relative, worktree, objects)?;
+        let Some(checkout) = self.checkout() else {
+            self.look_up(alloc, relative, worktree, objects)?;
+            self.answer(mode);
+            return Ok(());
+        };
+        self.check_out(alloc, relative, checkout, mode, worktree, objects)?;
         self.answer(mode);
         Ok(())
     }
 
     /// Looks up an entry of an index, as [`Stack::at_path`] does. Without a mode, a path that ends in a slash is a directory.
+    ///
+    /// # Errors
+    ///
+    /// Those of [`Stack::at_path`], each where it has them, and with what it says of the stack and the worktree then.
     pub fn at_entry<W: Worktree, F: Find>(
         &mut self,
         alloc: Global,
@@ -368,16 +408,41 @@ impl Stack {
         worktree: &mut W,
         objects: &mut F,
     ) -> Result<(), AtPathError>
-        ensures looks_up { LooksUp W.Worktree F.Find worktree.old worktree.new objects.old
-            objects.new relative.now (is_dir_of_entry relative.now mode) self.old self.new result }
-        ensures leaves { Leaves (has_excludes (made_of self.old)) W.Worktree worktree.old
+        ensures looks_up { keeps_tree (made_of self.old) ≡ true → LooksUp W.Worktree F.Find
+            worktree.old worktree.new objects.old objects.new relative.now
+            (is_dir_of_entry relative.now mode) self.old self.new result }
+        ensures checks_out { (checkout : Checkout) → self.old.checkout ≡ Some checkout
+            → ChecksOut W.Worktree F.Find worktree.old worktree.new objects.old objects.new checkout
+            relative.now (is_dir_of_entry relative.now mode) (is_link_of mode) self.old self.new
+            result }
+        ensures answered { OnOk result (self.new.is_answered ≡ true) }
+        ensures asked { W.reads worktree.new ≤ W.reads worktree.old + asked_on
+            (made_of self.old) (lookup_calls self.old.at (components relative.now)) }
+        ensures leaves { Leaves (keeps_tree (made_of self.old)) W.Worktree worktree.old
             worktree.new }
         ensures leaves_store { AsksStore F.Find objects.old objects.new }
     {
-        let mode = match mode {
-            None if relative.ends_with(b"/") => Some(Mode::DIR),
-            _ => mode,
-        };
-        self.at_path(alloc, relative, mode, worktree, objects)
+        self.at_path(
+            alloc,
+            relative,
+            entry_mode(relative, mode),
+            worktree,
+            objects,
+        )
+    }
+}
+
+/// The mode of an entry of an index: without one, a path that ends in a slash is a directory.
+fn entry_mode(relative: &[u8], mode: Option<Mode>) -> Option<Mode>
+    ensures is_dir { is_dir_of result ≡ is_dir_of_entry relative.now mode }
+    ensures is_link { is_link_of result ≡ is_link_of mode }
+{
+    match mode {
+        Some(mode) => Some(mode),
+        None => if relative.ends_with(b"/") {
+            Some(Mode::DIR)
+        } else {
+            None
+        },
     }
 }

@@ -1,23 +1,39 @@
 //! What a stack keeps for the directories on the way to a path.
-ghost use Rattle.std.specs.Prelude.{◌≡◌, true, None, Some, IfOk, OnOk, OnErr, option_copied};
+ghost use Rattle.std.specs.Prelude.{◌≡◌, true, None, Some, is_some, IfOk, OnOk, OnErr, option_copied};
 ghost use Rattle.glob_rules.specs.AttributeLines as texts;
 ghost use Rattle.glob_rules.specs.AttributeNames.{names_in};
 ghost use Rattle.glob_rules.specs.Attributes.{list_from};
-ghost use Rattle.worktree_stack.specs.Stacked.{attributes_of, ignore_of};
+ghost use Rattle.worktree_stack.specs.Stacked.{attributes_of, ignore_of, checkout_of};
 ghost use Rattle.worktree_stack.specs.Mappings.{mappings_in, are_ascending};
 ghost use Rattle.worktree_stack.specs.Setup.{attributes_setup_of, setup_of, lists_of, push_list, pop_list, pop_lists, bare_attributes, push_level, pop_level, bare};
 
 use crate::mappings::PathIdMapping;
 use crate::matched::Matched;
+use crate::validate::Options;
 use crate::{Attributes, Ignore, mappings};
 use gitbase_core::{OutOfMemory, PathText, State as Index};
 use glob_rules::Case;
 use glob_rules::ignore::List;
 use std::alloc::Global;
 
+/// How a checkout makes the directories on the way to a path.
+#[derive(Clone, Copy, Debug, PartialEq, Eq)]
+pub struct Checkout {
+    /// Whether a node that is no directory is removed where a directory is to be.
+    pub unlink_on_collision: bool,
+    /// What else each component is tested for.
+    pub validate: Options,
+}
+
 /// What a stack is for; gitoxide's `gix_worktree::stack::State`.
 #[derive(Drop)]
 pub enum State {
+    /// It makes the directories on the way to a path, and tells the attributes of paths.
+    CreateDirectoryAndAttributesStack {
+        unlink_on_collision: bool,
+        validate: Options,
+        attributes: Attributes,
+    },
     /// It tells the attributes of paths, and which paths are excluded.
     AttributesAndIgnoreStack {
         attributes: Attributes,
@@ -30,8 +46,32 @@ pub enum State {
 }
 
 impl State {
+    /// A state for checking files out: its lookups make the directories on the way to a path, and it tells the attributes of paths.
+    ///
+    /// With `unlink_on_collision` a node that is no directory is removed where a directory is to be, a link among them; else it is a
+    /// collision. `validate` says what else each component is tested for. Takes no memory.
+    pub fn for_checkout(
+        unlink_on_collision: bool,
+        validate: Options,
+        attributes: Attributes,
+    ) -> State
+        ensures checkout { checkout_of result ≡ Some (record {
+          unlink_on_collision = unlink_on_collision;
+          validate = validate;
+        }) }
+        ensures attributes { attributes_of result ≡ Some attributes }
+        ensures ignore { ignore_of result ≡ None }
+    {
+        State::CreateDirectoryAndAttributesStack {
+            unlink_on_collision,
+            validate,
+            attributes,
+        }
+    }
+
     /// A state for adding files to an index: it tells the attributes of paths, and which paths are excluded. Takes no memory.
     pub fn for_add(attributes: Attributes, ignore: Ignore) -> State
+        ensures checkout { checkout_of result ≡ None }
         ensures attributes { attributes_of result ≡ Some attributes }
         ensures ignore { ignore_of result ≡ Some ignore }
     {
@@ -65,6 +105,11 @@ impl State {
         ensures { option_copied result ≡ ignore_of self.now }
     {
         match self {
+            State::CreateDirectoryAndAttributesStack {
+                unlink_on_collision: _,
+                validate: _,
+                attributes: _,
+            } => None,
             State::AttributesAndIgnoreStack {
                 attributes: _,
                 ignore,
@@ -79,6 +124,11 @@ impl State {
         ensures { option_copied result ≡ attributes_of self.now }
     {
         match self {
+            State::CreateDirectoryAndAttributesStack {
+                unlink_on_collision: _,
+                validate: _,
+                attributes,
+            } => Some(attributes),
             State::AttributesAndIgnoreStack {
                 attributes,
                 ignore: _,
@@ -88,13 +138,46 @@ impl State {
         }
     }
 
+    /// How directories are made on the way to a path, where they are. Such a state has no rules that exclude paths.
+    pub(crate) fn checkout(&self) -> Option<Checkout>
+        ensures checkout { result ≡ checkout_of self.now }
+        ensures alone { is_some result ≡ true → ignore_of self.now ≡ None }
+    {
+        match self {
+            State::CreateDirectoryAndAttributesStack {
+                unlink_on_collision,
+                validate,
+                attributes: _,
+            } => Some(Checkout {
+                unlink_on_collision: *unlink_on_collision,
+                validate: *validate,
+            }),
+            State::AttributesAndIgnoreStack {
+                attributes: _,
+                ignore: _,
+            } => None,
+            State::AttributesStack(_) => None,
+            State::IgnoreStack(_) => None,
+        }
+    }
+
     /// The same with no directory pushed; fails only where memory is refused.
     pub(crate) fn fresh(&self, alloc: Global) -> Result<State, OutOfMemory>
+        ensures checkout { IfOk result (λ state. checkout_of state ≡ checkout_of self.now) }
         ensures attributes { IfOk result (λ state. attributes_of state ≡ bare_attributes
             (attributes_of self.now)) }
         ensures ignore { IfOk result (λ state. ignore_of state ≡ bare (ignore_of self.now)) }
     {
         match self {
+            State::CreateDirectoryAndAttributesStack {
+                unlink_on_collision,
+                validate,
+                attributes,
+            } => Ok(State::CreateDirectoryAndAttributesStack {
+                unlink_on_collision: *unlink_on_collision,
+                validate: *validate,
+                attributes: attributes.fresh(alloc)?,
+            }),
             State::AttributesAndIgnoreStack { attributes, ignore } => {
                 Ok(State::AttributesAndIgnoreStack {
                     attributes: attributes.fresh(alloc)?,
@@ -118,9 +201,15 @@ impl State {
         ensures pushed { OnOk result (ignore_of self.new ≡ push_level list matched
             (ignore_of self.old)) }
         ensures attributes { attributes_of self.new ≡ attributes_of self.old }
+        ensures checkout { checkout_of self.new ≡ checkout_of self.old }
         ensures refused { OnErr result (ignore_of self.new ≡ ignore_of self.old) }
     {
         match self {
+            State::CreateDirectoryAndAttributesStack {
+                unlink_on_collision: _,
+                validate: _,
+                attributes: _,
+            } => Ok(()),
             State::AttributesAndIgnoreStack {
                 attributes: _,
                 ignore,
@@ -146,10 +235,16 @@ impl State {
         ensures setup { attributes_setup_of (attributes_of self.new) ≡ attributes_setup_of
             (attributes_of self.old) }
         ensures ignore { ignore_of self.new ≡ ignore_of self.old }
+        ensures checkout { checkout_of self.new ≡ checkout_of self.old }
         ensures refused { OnErr result
             (lists_of (attributes_of self.new) ≡ lists_of (attributes_of self.old)) }
     {
         match self {
+            State::CreateDirectoryAndAttributesStack {
+                unlink_on_collision: _,
+                validate: _,
+                attributes,
+            } => attributes.push_list(alloc, bytes, source, base, allow_macros),
             State::AttributesAndIgnoreStack {
                 attributes,
                 ignore: _,
@@ -166,8 +261,14 @@ impl State {
         ensures attributes { attributes_of self.new ≡ pop_lists directory.now
             (attributes_of self.old) }
         ensures ignore { ignore_of self.new ≡ ignore_of self.old }
+        ensures checkout { checkout_of self.new ≡ checkout_of self.old }
     {
         match self {
+            State::CreateDirectoryAndAttributesStack {
+                unlink_on_collision: _,
+                validate: _,
+                attributes,
+            } => attributes.pop_directory(directory),
             State::AttributesAndIgnoreStack {
                 attributes,
                 ignore: _,
@@ -181,8 +282,14 @@ impl State {
     pub(crate) fn pop_list(&mut self)
         ensures attributes { attributes_of self.new ≡ pop_list (attributes_of self.old) }
         ensures ignore { ignore_of self.new ≡ ignore_of self.old }
+        ensures checkout { checkout_of self.new ≡ checkout_of self.old }
     {
         match self {
+            State::CreateDirectoryAndAttributesStack {
+                unlink_on_collision: _,
+                validate: _,
+                attributes,
+            } => attributes.pop_list(),
             State::AttributesAndIgnoreStack {
                 attributes,
                 ignore: _,
@@ -196,8 +303,14 @@ impl State {
     pub(crate) fn pop_ignore(&mut self)
         ensures attributes { attributes_of self.new ≡ attributes_of self.old }
         ensures ignore { ignore_of self.new ≡ pop_level (ignore_of self.old) }
+        ensures checkout { checkout_of self.new ≡ checkout_of self.old }
     {
         match self {
+            State::CreateDirectoryAndAttributesStack {
+                unlink_on_collision: _,
+                validate: _,
+                attributes: _,
+            } => {}
             State::AttributesAndIgnoreStack {
                 attributes: _,
                 ignore,

@@ -3,6 +3,7 @@ ghost use Rattle.std.specs.Prelude.{◌≡◌, true};
 ghost use Rattle.worktree_stack.specs.Setup.{has_attributes};
 ghost use Rattle.worktree_stack.specs.Stacked.{made_of};
 
+use crate::lookups::look_up_path;
 use crate::mapped::index_of;
 use crate::steps::{Scene, first_lie, ignore_of, parted};
 use bstr::ByteSlice;
@@ -75,10 +76,7 @@ fn is_found(
 
 /// Whether an attribute of a path that is looked up reads so, where all are asked for.
 pub fn has(alloc: Global, scene: &mut Scene<'_>, path: &[u8], name: &[u8], want: &[u8]) -> bool {
-    match scene
-        .stack
-        .at_path(alloc, path, None, scene.tree, scene.store)
-    {
+    match look_up_path(alloc, scene.stack, path, None, scene.tree, scene.store) {
         Ok(()) => {}
         Err(_) => return false,
     }
@@ -106,10 +104,7 @@ pub fn has_selected(
     name: &[u8],
     want: &[u8],
 ) -> bool {
-    match scene
-        .stack
-        .at_path(alloc, path, None, scene.tree, scene.store)
-    {
+    match look_up_path(alloc, scene.stack, path, None, scene.tree, scene.store) {
         Ok(()) => {}
         Err(_) => return false,
     }

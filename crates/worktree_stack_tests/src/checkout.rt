@@ -1,4 +1,6 @@
 //! Components that may be checked out, and directories that are made on the way to them.
+//!
+//! See docs/DECISIONS.md#checkout-delegate and docs/DIFFERENCES.md#gix-checkout-gone.
 use bstr::ByteSlice;
 use gitbase_core::OutOfMemory;
 use std::alloc::Global;
@@ -42,14 +44,15 @@ f`u`-`/w/a/b`no parent`1`-\n\
 -`-`m1`/w/a`fault`1`-\n\
 f`u`m2`/w/a`fault`2`-\n\
 f`u`r1`/w/a`fault`1`f\n\
-f`-`k1`/w/a`fault`1`f\n";
+f`-`k1`/w/a`fault`1`f\n\
+f`u`k1`/w/a`fault`1`f\n";
 
 /// The first field of a row, and those behind it.
-fn parted(row: &[u8]) -> (&[u8], &[u8]) {
+pub fn parted(row: &[u8]) -> (&[u8], &[u8]) {
     row.split_once_str(b"`").unwrap_or((row, b""))
 }
 
-fn component_word(answer: Result<(), ComponentError>) -> &'static [u8] {
+pub fn component_word(answer: Result<(), ComponentError>) -> &'static [u8] {
     match answer {
         Ok(()) => b"ok",
         Err(ComponentError::Empty) => b"empty",
@@ -76,9 +79,9 @@ fn components(rt: HostRuntime) {
     }
 }
 
-/// The tree of a row: what stands at `/w/a`, and a directory `/w/d`.
-fn tree_of(alloc: Global, node: &[u8]) -> Result<MemoryWorktree, AddError> {
-    let mut tree = MemoryWorktree::new(alloc, false);
+/// The tree of a row: what stands at `/w/a`, and a directory `/w/d`; or a rules file of the root (`r`), or names that are composed (`c`).
+pub fn tree_of(alloc: Global, node: &[u8]) -> Result<MemoryWorktree, AddError> {
+    let mut tree = MemoryWorktree::new(alloc, node == b"c".as_slice());
     tree.add(alloc, b"/w", NewNode::Directory)?;
     tree.add(alloc, b"/w/d", NewNode::Directory)?;
     match node {
@@ -86,16 +89,18 @@ fn tree_of(alloc: Global, node: &[u8]) -> Result<MemoryWorktree, AddError> {
         b"l" => tree.add(alloc, b"/w/a", NewNode::Link(b"d"))?,
         b"o" => tree.add(alloc, b"/w/a", NewNode::Other)?,
         b"d" => tree.add(alloc, b"/w/a", NewNode::Directory)?,
+        b"r" => tree.add(alloc, b"/w/.gitattributes", NewNode::File(b"f x\n"))?,
         _ => (),
     }
     Ok(tree)
 }
 
 /// Lets a call fail, where one is named.
-fn plan(alloc: Global, tree: &mut MemoryWorktree, call: &[u8]) -> Result<(), OutOfMemory> {
+pub fn plan(alloc: Global, tree: &mut MemoryWorktree, call: &[u8]) -> Result<(), OutOfMemory> {
     match call {
         b"m1" => tree.fail(alloc, CallKind::MakeDir, 1),
         b"m2" => tree.fail(alloc, CallKind::MakeDir, 2),
+        b"m3" => tree.fail(alloc, CallKind::MakeDir, 3),
         b"r1" => tree.fail(alloc, CallKind::RemoveNode, 1),
         b"k1" => tree.fail(alloc, CallKind::Kind, 1),
         _ => Ok(()),
@@ -115,7 +120,7 @@ fn answer_word(answer: &Result<(), AtPathError>, path: &[u8]) -> &'static [u8] {
     }
 }
 
-fn kind_word(kind: Option<NodeKind>) -> &'static [u8] {
+pub fn kind_word(kind: Option<NodeKind>) -> &'static [u8] {
     match kind {
         Some(NodeKind::File) => b"f",
         Some(NodeKind::Symlink) => b"l",

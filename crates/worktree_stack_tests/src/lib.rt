@@ -1,4 +1,5 @@
-//! What stacks of directories answer, in cases that were worked out by hand or asked of git.
+//! What stacks of directories answer, in cases that were worked out by hand or asked of git; beside it lookups whose contract is the same
+//! for each state.
 #![tactic(auto)]
 
 #[cfg(test)]
@@ -10,7 +11,10 @@ mod cases;
 #[cfg(test)]
 mod checkout;
 #[cfg(test)]
+mod directories;
+#[cfg(test)]
 mod failing;
+pub mod lookups;
 #[cfg(test)]
 mod mapped;
 #[cfg(test)]

@@ -5,6 +5,7 @@ ghost use Rattle.worktree_stack.specs.Stacked.{made_of};
 
 use crate::answers::NESTED;
 use crate::cases::stack_with;
+use crate::lookups::look_up_path;
 use crate::steps::{is_digit, parse};
 use bstr::ByteSlice;
 use gitbase_core::{MemoryStore, Mode, OutOfMemory, PathText};
@@ -93,7 +94,8 @@ fn says(
     sign: &[u8],
     file: &[u8],
 ) -> bool {
-    match stack.at_path(alloc, path, Some(mode), tree, &mut MemoryStore::new(alloc)) {
+    let mut store = MemoryStore::new(alloc);
+    match look_up_path(alloc, stack, path, Some(mode), tree, &mut store) {
         Ok(()) => {}
         Err(_) => return false,
     }

@@ -6,6 +6,7 @@ ghost use Rattle.worktree_stack.specs.Setup.{has_excludes};
 ghost use Rattle.worktree_stack.specs.Stacked.{made_of};
 
 use crate::attributes;
+use crate::lookups::{look_up_entry, look_up_path};
 use bstr::ByteSlice;
 use gitbase_core::{MemoryStore, Mode, ObjectId, OutOfMemory, PathText};
 use glob_rules::Case;
@@ -110,10 +111,7 @@ fn says(
     path: &[u8],
     want: &[u8],
 ) -> bool {
-    match scene
-        .stack
-        .at_path(alloc, path, None, scene.tree, scene.store)
-    {
+    match look_up_path(alloc, scene.stack, path, None, scene.tree, scene.store) {
         Ok(()) => {}
         Err(_) => return false,
     }
@@ -134,10 +132,7 @@ fn says_of_entry(
     mode: Option<Mode>,
     is_excluded: bool,
 ) -> bool {
-    match scene
-        .stack
-        .at_entry(alloc, path, mode, scene.tree, scene.store)
-    {
+    match look_up_entry(alloc, scene.stack, path, mode, scene.tree, scene.store) {
         Ok(()) => {}
         Err(_) => return false,
     }
@@ -149,10 +144,7 @@ fn says_of_entry(
 
 /// Whether the whole path of one that is looked up is this, and is shown in quotes.
 fn is_shown(alloc: Global, scene: &mut Scene<'_>, path: &[u8], whole: &[u8], shown: &[u8]) -> bool {
-    match scene
-        .stack
-        .at_path(alloc, path, None, scene.tree, scene.store)
-    {
+    match look_up_path(alloc, scene.stack, path, None, scene.tree, scene.store) {
         Ok(()) => {}
         Err(_) => return false,
     }

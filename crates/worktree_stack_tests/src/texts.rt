@@ -18,7 +18,7 @@ windows`A component of the path may not be checked out: Path separators like \\ 
 collision`A directory could not be created at '/w/\xef\xbf\xbd' as something else is there already\n\
 no parent`Could not create the directory at '/w/\xef\xbf\xbd': The parent of the directory is not a directory\n\
 directory fault`Could not create the directory at '/w/\xef\xbf\xbd': The worktree failed at the directory\n\
-link`Could not read the rules file at '/w/\xef\xbf\xbd': The rules file is a symlink, which is not followed where the file is mapped to a blob\n\
+link`Could not read the rules file at '/w/\xef\xbf\xbd': The rules file is a symlink, which is not followed for attributes, nor where it is mapped to a blob\n\
 links`Could not read the rules file at '/w/\xef\xbf\xbd': The rules file leads along too many symlinks\n\
 special`Could not read the rules file at '/w/\xef\xbf\xbd': The rules file is neither a file nor a directory\n\
 fault`Could not read the rules file at '/w/\xef\xbf\xbd': The worktree failed at the rules file\n\

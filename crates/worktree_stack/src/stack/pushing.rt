@@ -10,7 +10,7 @@ ghost use Rattle.worktree_stack.specs.Excludes.{ancestors};
 ghost use Rattle.worktree_stack.specs.Placed.{Reads};
 ghost use Rattle.worktree_stack.specs.Reading.{Sources, Tells, attribute_readings, own_readings, info_readings_if, ignore_readings, readings_of, rulebook, rules_from, text_of, bytes_of, attributes_from, lists_if, own_lists_if, info_lists_if};
 ghost use Rattle.worktree_stack.specs.Setup.{attributes_name, attributes_setup_of, lists_of, push_list, IsLonger};
-ghost use Rattle.worktree_stack.specs.Stacked.{HoldsFor, HoldsRules, HasAsMany, HasAsManyRules, attributes_of, ignore_of, info_count_if, own_count, count_at, made_of};
+ghost use Rattle.worktree_stack.specs.Stacked.{HoldsFor, HoldsRules, HasAsMany, HasAsManyRules, PushesLists, attributes_of, checkout_of, ignore_of, info_count_if, own_count, count_at, made_of};
 
 use super::Stack;
 use super::reading::{read_text, set_paths};
@@ -270,6 +270,9 @@ impl Stack {
             self.old.ignore
             → OnOk result (HoldsFor (made_of self.old) s (fronts self.old.current)
             self.new.attributes self.new.ignore) }
+        ensures lists { (s : Sources) → Tells (W.told worktree.old) (F.holds objects.old) s
+            → OnOk result (PushesLists (made_of self.old) s self.old.current self.old.attributes
+            self.new.attributes) }
         ensures levels { HasAsMany (ancestors self.old.current) self.old.attributes self.old.ignore
             → OnOk result (HasAsMany (fronts self.old.current) self.new.attributes
             self.new.ignore) }
@@ -336,6 +339,7 @@ fn push_text(
     ensures setup { attributes_setup_of (attributes_of state.new) ≡ attributes_setup_of
         (attributes_of state.old) }
     ensures ignore { ignore_of state.new ≡ ignore_of state.old }
+    ensures checkout { checkout_of state.new ≡ checkout_of state.old }
     ensures refused { OnErr result
         (lists_of (attributes_of state.new) ≡ lists_of (attributes_of state.old)) }
 {

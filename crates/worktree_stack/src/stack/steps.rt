@@ -4,15 +4,17 @@ ghost use Rattle.gitbase_core.specs.Objects.{Objects};
 ghost use Rattle.gitbase_core.specs.Path.{components};
 ghost use Rattle.worktree_fs.specs.Causes.{Increased};
 ghost use Rattle.worktree_fs.specs.Paths.{spelled, IsComponent};
-ghost use Rattle.worktree_fs.specs.PathStack.{names_at, one_up, surplus, lookup_calls, root_calls, calls_for, calls_below, push_directory, pop_directory, IsOnWay};
+ghost use Rattle.worktree_fs.specs.PathStack.{deepest_names, one_up, surplus, lookup_calls, root_calls, calls_for, calls_below, push_directory, pop_directory, IsOnWay};
 ghost use Rattle.worktree_fs.specs.Tree.{Names};
-ghost use Rattle.worktree_stack.specs.Counted.{count_platform, count_call};
+ghost use Rattle.worktree_stack.specs.Asked.{asked_on};
+ghost use Rattle.worktree_stack.specs.Counted.{count_platform, count_call, files_in};
 ghost use Rattle.worktree_stack.specs.Excludes.{ancestors};
 ghost use Rattle.worktree_fs.specs.Kept.{Asks, AsksStore};
 ghost use Rattle.worktree_stack.specs.Lookups.{IsIn, asks_worktree, is_dir_of, IsLookedUp, staying, stepped, refused_one};
-ghost use Rattle.worktree_stack.specs.Reading.{Sources, Tells};
-ghost use Rattle.worktree_stack.specs.Stacked.{IsInStep, IsLevel, made_of, pushed};
-ghost use Rattle.worktree_stack.specs.Setup.{has_attributes};
+ghost use Rattle.worktree_stack.specs.Making.{mkdirs};
+ghost use Rattle.worktree_stack.specs.Reading.{Sources, Tells, places_in, readings_of};
+ghost use Rattle.worktree_stack.specs.Stacked.{IsInStep, IsLevel, PushesLists, made_of, pushed};
+ghost use Rattle.worktree_stack.specs.Setup.{has_attributes, lists_of};
 ghost use Rattle.worktree_stack.specs.Steps.{CarriesOut, Stops};
 
 use super::Stack;
@@ -65,7 +67,7 @@ impl Stack {
     }
 
     /// Pops the directories that are not above a path.
-    fn pop_surplus(&mut self, relative: &[u8])
+    pub(super) fn pop_surplus(&mut self, relative: &[u8])
         ensures made { made_of self.new ≡ made_of self.old }
         ensures at { self.new.at ≡ staying self.old.at (components relative.now) }
         ensures is_dir { self.new.is_dir ≡ self.old.is_dir }
@@ -85,7 +87,7 @@ impl Stack {
     /// Pushes the current path as a directory, with its rules. Where that is refused nothing is pushed, and the deepest
     /// directory is the current path.
     /// See docs/DECISIONS.md#refused-directory-counted.
-    fn push_directory<W: Worktree, F: Find>(
+    pub(super) fn push_directory<W: Worktree, F: Find>(
         &mut self,
         alloc: Global,
         worktree: &mut W,
@@ -95,9 +97,13 @@ impl Stack {
         ensures at { OnOk result (self.new.at ≡ Some self.old.current) }
         ensures current { OnOk result (self.new.current ≡ self.old.current) }
         ensures at_refused { OnErr result (self.new.at ≡ self.old.at) }
+        ensures held { OnErr result (self.new.ignore ≡ self.old.ignore) }
+        ensures held_lists { OnErr result
+            (lists_of self.new.attributes ≡ lists_of self.old.attributes) }
         ensures is_dir { self.new.is_dir ≡ self.old.is_dir }
         ensures answered { self.new.is_answered ≡ self.old.is_answered }
         ensures platforms { self.new.statistics.platforms ≡ self.old.statistics.platforms }
+        ensures mkdirs { mkdirs self.new ≡ mkdirs self.old }
         ensures carried { pushed self.old.at ≡ ancestors self.old.current
             → OnOk result (CarriesOut (W.told worktree.old) (F.holds objects.old)
             (push_directory (spelled self.old.current) ∷ []) self.old self.new) }
@@ -105,6 +111,9 @@ impl Stack {
             (Increased (W.faults worktree.old) (W.faults worktree.new))
             (Increased (F.faults objects.old) (F.faults objects.new))
             (push_directory (spelled self.old.current) ∷ []) self.old self.new) }
+        ensures lists { (s : Sources) → Tells (W.told worktree.old) (F.holds objects.old) s
+            → OnOk result (PushesLists (made_of self.old) s self.old.current self.old.attributes
+            self.new.attributes) }
         ensures in_step { (s : Sources) → Tells (W.told worktree.old) (F.holds objects.old) s
             → pushed self.old.at ≡ ancestors self.old.current → IsInStep s self.old
             → IsInStep s self.new }
@@ -114,7 +123,10 @@ impl Stack {
         ensures store_untouched { (made_of self.old).mappings ≡ [] → objects.new ≡ objects.old }
         ensures leaves { Asks W.Worktree worktree.old worktree.new }
         ensures leaves_store { AsksStore F.Find objects.old objects.new }
-        ensures reads { has_attributes (made_of self.old) ≡ false → W.reads worktree.new ≤ W.reads worktree.old + 1 }
+        ensures asked { W.reads worktree.new ≤ W.reads worktree.old + files_in
+            (places_in (readings_of (made_of self.old) (spelled self.old.current))) }
+        ensures reads { has_attributes (made_of self.old) ≡ false
+            → W.reads worktree.new ≤ W.reads worktree.old + 1 }
     {
         if let Err(refused) = self.push_rules(alloc, worktree, objects) {
             self.leave();
@@ -125,11 +137,11 @@ impl Stack {
     }
 
     /// Makes the path current that lies one component below the deepest directory.
-    fn push(&mut self, alloc: Global, name: &[u8]) -> Result<(), OutOfMemory>
+    pub(super) fn push(&mut self, alloc: Global, name: &[u8]) -> Result<(), OutOfMemory>
         requires { IsComponent name.now }
         ensures made { OnOk result (self.new ≡ stepped self.old name.now) }
         ensures refused { OnErr result
-            (self.new ≡ record self.old { current = names_at self.old.at }) }
+            (self.new ≡ record self.old { current = deepest_names self.old.at }) }
     {
         self.stack.set_current(alloc, name)?;
         let counts = &mut self.statistics.delegate;
@@ -138,8 +150,8 @@ impl Stack {
     }
 
     /// Makes the deepest directory the current path.
-    fn leave(&mut self)
-        ensures { self.new ≡ record self.old { current = names_at self.old.at } }
+    pub(super) fn leave(&mut self)
+        ensures { self.new ≡ record self.old { current = deepest_names self.old.at } }
     {
         self.stack.leave();
     }
@@ -159,19 +171,20 @@ impl Stack {
     }
 
     /// Pushes the root, unless it is pushed.
-    fn push_root<W: Worktree, F: Find>(
+    pub(super) fn push_root<W: Worktree, F: Find>(
         &mut self,
         alloc: Global,
         worktree: &mut W,
         objects: &mut F,
     ) -> Result<(), AtPathError>
         ensures made { made_of self.new ≡ made_of self.old }
-        ensures at { OnOk result (self.new.at ≡ Some (names_at self.old.at)) }
+        ensures at { OnOk result (self.new.at ≡ Some (deepest_names self.old.at)) }
         ensures at_refused { OnErr result (self.new.at ≡ self.old.at) }
         ensures none { OnErr result (self.old.at ≡ None) }
         ensures is_dir { self.new.is_dir ≡ self.old.is_dir }
         ensures answered { self.new.is_answered ≡ self.old.is_answered }
         ensures platforms { self.new.statistics.platforms ≡ self.old.statistics.platforms }
+        ensures mkdirs { mkdirs self.new ≡ mkdirs self.old }
         ensures carried { OnOk result (CarriesOut (W.told worktree.old) (F.holds objects.old)
             (root_calls self.old.at) self.old self.new) }
         ensures stopped { IfErr result (Stops (W.told worktree.old) (F.holds objects.old)
@@ -185,7 +198,10 @@ impl Stack {
         ensures store_untouched { (made_of self.old).mappings ≡ [] → objects.new ≡ objects.old }
         ensures leaves { Asks W.Worktree worktree.old worktree.new }
         ensures leaves_store { AsksStore F.Find objects.old objects.new }
-        ensures reads { has_attributes (made_of self.old) ≡ false → W.reads worktree.new ≤ W.reads worktree.old + length
+        ensures asked { W.reads worktree.new ≤ W.reads worktree.old + asked_on
+            (made_of self.old) (root_calls self.old.at) }
+        ensures reads { has_attributes (made_of self.old) ≡ false
+            → W.reads worktree.new ≤ W.reads worktree.old + length
             (root_calls self.old.at) }
     {
         if self.is_root_pushed() {
@@ -206,17 +222,17 @@ impl Stack {
         requires component { IsComponent name.now }
         requires some { is_some self.old.at ≡ true }
         ensures made { made_of self.new ≡ made_of self.old }
-        ensures at { OnOk result (self.new.at ≡ Some (names_at self.old.at ++ name.now ∷ [])) }
+        ensures at { OnOk result (self.new.at ≡ Some (deepest_names self.old.at ++ name.now ∷ [])) }
         ensures at_refused { OnErr result (self.new.at ≡ self.old.at) }
         ensures is_dir { self.new.is_dir ≡ self.old.is_dir }
         ensures answered { self.new.is_answered ≡ self.old.is_answered }
         ensures platforms { self.new.statistics.platforms ≡ self.old.statistics.platforms }
         ensures carried { OnOk result (CarriesOut (W.told worktree.old) (F.holds objects.old)
-            (calls_for (names_at self.old.at) name.now false) self.old self.new) }
+            (calls_for (deepest_names self.old.at) name.now false) self.old self.new) }
         ensures stopped { IfErr result (Stops (W.told worktree.old) (F.holds objects.old)
             (Increased (W.faults worktree.old) (W.faults worktree.new))
             (Increased (F.faults objects.old) (F.faults objects.new))
-            (calls_for (names_at self.old.at) name.now false) self.old self.new) }
+            (calls_for (deepest_names self.old.at) name.now false) self.old self.new) }
         ensures in_step { (s : Sources) → Tells (W.told worktree.old) (F.holds objects.old) s
             → IsInStep s self.old → IsInStep s self.new }
         ensures levels { IsLevel self.old → IsLevel self.new }
@@ -224,7 +240,10 @@ impl Stack {
         ensures store_untouched { (made_of self.old).mappings ≡ [] → objects.new ≡ objects.old }
         ensures leaves { Asks W.Worktree worktree.old worktree.new }
         ensures leaves_store { AsksStore F.Find objects.old objects.new }
-        ensures reads { has_attributes (made_of self.old) ≡ false → W.reads worktree.new ≤ W.reads worktree.old + 1 }
+        ensures asked { W.reads worktree.new ≤ W.reads worktree.old + asked_on
+            (made_of self.old) (calls_for (deepest_names self.old.at) name.now false) }
+        ensures reads { has_attributes (made_of self.old) ≡ false
+            → W.reads worktree.new ≤ W.reads worktree.old + 1 }
     {
         self.push(alloc, name)?;
         self.push_directory(alloc, worktree, objects)
@@ -239,22 +258,22 @@ impl Stack {
         objects: &mut F,
     ) -> Result<(), AtPathError>
         requires some { is_some self.old.at ≡ true }
-        requires end { components left.now ≡ [] → names_at self.old.at ≡ [] }
+        requires end { components left.now ≡ [] → deepest_names self.old.at ≡ [] }
         ensures made { made_of self.new ≡ made_of self.old }
         ensures some { is_some self.new.at ≡ true }
         ensures looked_up { OnOk result
-            (IsLookedUp self.new (names_at self.old.at ++ components left.now)) }
+            (IsLookedUp self.new (deepest_names self.old.at ++ components left.now)) }
         ensures on_way { OnErr result
-            (IsOnWay self.new.at (names_at self.old.at ++ components left.now)) }
+            (IsOnWay self.new.at (deepest_names self.old.at ++ components left.now)) }
         ensures is_dir { self.new.is_dir ≡ self.old.is_dir }
         ensures answered { self.new.is_answered ≡ self.old.is_answered }
         ensures platforms { self.new.statistics.platforms ≡ self.old.statistics.platforms }
         ensures carried { OnOk result (CarriesOut (W.told worktree.old) (F.holds objects.old)
-            (calls_below (names_at self.old.at) (components left.now)) self.old self.new) }
+            (calls_below (deepest_names self.old.at) (components left.now)) self.old self.new) }
         ensures stopped { IfErr result (Stops (W.told worktree.old) (F.holds objects.old)
             (Increased (W.faults worktree.old) (W.faults worktree.new))
             (Increased (F.faults objects.old) (F.faults objects.new))
-            (calls_below (names_at self.old.at) (components left.now)) self.old self.new) }
+            (calls_below (deepest_names self.old.at) (components left.now)) self.old self.new) }
         ensures in_step { (s : Sources) → Tells (W.told worktree.old) (F.holds objects.old) s
             → IsInStep s self.old → IsInStep s self.new }
         ensures levels { IsLevel self.old → IsLevel self.new }
@@ -262,9 +281,12 @@ impl Stack {
         ensures store_untouched { (made_of self.old).mappings ≡ [] → objects.new ≡ objects.old }
         ensures leaves { Asks W.Worktree worktree.old worktree.new }
         ensures leaves_store { AsksStore F.Find objects.old objects.new }
-        ensures stays { length (names_at self.old.at) ≤ length (names_at self.new.at) }
-        ensures reads { has_attributes (made_of self.old) ≡ false → W.reads worktree.new + length (names_at self.old.at) ≤ W.reads
-            worktree.old + length (names_at self.new.at) + refused_one result }
+        ensures stays { length (deepest_names self.old.at) ≤ length (deepest_names self.new.at) }
+        ensures asked { W.reads worktree.new ≤ W.reads worktree.old + asked_on
+            (made_of self.old) (calls_below (deepest_names self.old.at) (components left.now)) }
+        ensures reads { has_attributes (made_of self.old) ≡ false
+            → W.reads worktree.new + length (deepest_names self.old.at) ≤ W.reads
+            worktree.old + length (deepest_names self.new.at) + refused_one result }
     {
         let mut rest = left;
         while let Some(next) = next_component(rest) {
@@ -308,7 +330,10 @@ impl Stack {
         ensures leaves_store { AsksStore F.Find objects.old objects.new }
         ensures stays { length (pushed (staying self.old.at (components relative.now))) ≤ length
             (pushed self.new.at) }
-        ensures reads { has_attributes (made_of self.old) ≡ false → W.reads worktree.new + length
+        ensures asked { W.reads worktree.new ≤ W.reads worktree.old + asked_on
+            (made_of self.old) (lookup_calls self.old.at (components relative.now)) }
+        ensures reads { has_attributes (made_of self.old) ≡ false
+            → W.reads worktree.new + length
             (pushed (staying self.old.at (components relative.now))) ≤ W.reads worktree.old + length
             (pushed self.new.at) + refused_one result }
     {
@@ -319,8 +344,8 @@ impl Stack {
     }
 
     /// What is left of a path behind as many components as the deepest directory has.
-    fn rest<'p>(&self, relative: &'p [u8]) -> &'p [u8]
-        ensures { components result.now ≡ drop (length (names_at self.now.at))
+    pub(super) fn rest<'p>(&self, relative: &'p [u8]) -> &'p [u8]
+        ensures { components result.now ≡ drop (length (deepest_names self.now.at))
             (components relative.now) }
     {
         if let Some(rest) = name_in(self.stack.deepest(), relative) {
@@ -357,7 +382,7 @@ impl Stack {
 }
 
 /// Whether a path of this mode is a directory: submodules and the directories of a sparse index are.
-fn mode_is_dir(mode: Option<Mode>) -> Option<bool>
+pub(super) fn mode_is_dir(mode: Option<Mode>) -> Option<bool>
     ensures { result ≡ is_dir_of mode }
 {
     match mode {

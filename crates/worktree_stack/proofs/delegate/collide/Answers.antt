@@ -1,8 +1,8 @@
-use Rattle.std.proofs.Common.{◌∙◌, sym, ap, inl, arith, Some}
+use Rattle.std.proofs.Common.{◌∙◌, refl, sym, ap, inl, inr, arith, Some}
 use Rattle.std.proofs.lemmas.Result.{err_from_is_err_and}
 use Rattle.worktree_fs.specs.declared.answers.MakeAnswer.TheVariants as makes
 use Rattle.worktree_stack.specs.Checkout.{making, unlinking, colliding}
-use Rattle.worktree_stack.proofs.Preparing.{prepares-behind, prepares-more, prepares-nothing, met-error, directory-leads, in-the-way}
+use Rattle.worktree_stack.proofs.Preparing.{prepares-behind, prepares-more, prepares-nothing, met-error, directory-leads, in-the-way, some-same}
 use Rattle.worktree_stack.proofs.delegate.collide.Goals as goal
 
 pub returns-in_err-kind : goal.returns-in_err-kind
@@ -17,7 +17,9 @@ returns-in_err-kind g c =
       cause = λ is. now.cause (met-error _ _ is);
       calls = omega arith;
       most_calls = omega arith;
+      asked = inl refl;
       changes = record { untold = λ none. now.tree ∙ none; faults = now.faults; list_faults = now.list_faults; reads = now.reads; lists = now.lists; precomposes = now.precomposes };
+      changed = λ t after told told1 keeps. inl (some-same (sym told1 ∙ now.tree ∙ told));
     })
 
 pub returns-in-Directory : goal.returns-in-Directory
@@ -43,7 +45,7 @@ returns-in_default g c =
       ap (λ b. making b t a.path.now a.mkdir_calls.now) now.precomposes
           ∙ ap (colliding a.unlink_on_collision (W.precomposes a.worktree.now) t a.path.now a.mkdir_calls.now) (sym c.in_default.is ∙ now.answer t told),
     ))
-    (omega arith) (omega arith)
+    (omega arith) (omega arith) (λ n is. inr is)
     (prepares-more W a.path.now a.unlink_on_collision _ c.make_dir.ensures)
 
 pub returns-in_default-kind : goal.returns-in_default-kind
@@ -59,4 +61,4 @@ returns-in_default-kind g c =
           ∙ in-the-way a.unlink_on_collision (W.precomposes a.worktree.now) t a.path.now a.mkdir_calls.now _ c.in_default-kind.not-Directory
           ∙ ap (colliding a.unlink_on_collision (W.precomposes a.worktree.now) t a.path.now a.mkdir_calls.now) (sym c.in-Some.is ∙ now.answer t told),
     ))
-    (omega arith) (omega arith) c.unlink.ensures
+    (omega arith) (omega arith) (λ n is. is) c.unlink.ensures

@@ -16,9 +16,11 @@ returns-in-Ok-Made g c =
           met.field-0-is (met.ensures.done t told);
       there = λ t told keeps. met.ensures.there t told keeps met.field-0-is;
       refused = tt;
+      asked = c.prepare.ensures.asked;
       calls = c.prepare.ensures.calls;
       most_calls = c.prepare.ensures.most_calls;
       changes = c.prepare.ensures.changes;
+      changed = c.prepare.ensures.changed;
     }
 
 pub returns-in-Ok-Exists : goal.returns-in-Ok-Exists
@@ -30,11 +32,14 @@ returns-in-Ok-Exists g c =
     creates-refused W a.path.now c.collision.result c.prepare.ensures
     (elim c.collision.ensures [
       | inl is ↦ subst refuses (sym is) (
-        refl,
-        λ t told. subst (λ (answer : MakeAnswer). IsOutcome (prepared a.unlink_on_collision (W.precomposes a.worktree.now) t a.path.now a.mkdir_calls.now) (W.told c.prepare.new.worktree) c.prepare.new.mkdir_calls answer)
-            met.field-0-is (met.ensures.done t told),
+        c.prepare.ensures.asked,
+        (
+          refl,
+          λ t told. subst (λ (answer : MakeAnswer). IsOutcome (prepared a.unlink_on_collision (W.precomposes a.worktree.now) t a.path.now a.mkdir_calls.now) (W.told c.prepare.new.worktree) c.prepare.new.mkdir_calls answer)
+              met.field-0-is (met.ensures.done t told),
+        ),
       )
-      | inr is ↦ subst refuses (sym is) (λ t told. inr (met.ensures.done t told).tree_is)
+      | inr is ↦ subst refuses (sym is) (c.prepare.ensures.asked, λ t told. inr (met.ensures.done t told).tree_is)
     ])
 
 pub returns-in-Ok-NoParent : goal.returns-in-Ok-NoParent
@@ -46,11 +51,14 @@ returns-in-Ok-NoParent g c =
     creates-refused W a.path.now c.no_directory.result c.prepare.ensures
     (elim c.no_directory.ensures [
       | inl is ↦ subst refuses (sym is) (
-        refl,
-        λ t told. subst (λ (answer : MakeAnswer). IsOutcome (prepared a.unlink_on_collision (W.precomposes a.worktree.now) t a.path.now a.mkdir_calls.now) (W.told c.prepare.new.worktree) c.prepare.new.mkdir_calls answer)
-            met.field-0-is (met.ensures.done t told),
+        c.prepare.ensures.asked,
+        (
+          refl,
+          λ t told. subst (λ (answer : MakeAnswer). IsOutcome (prepared a.unlink_on_collision (W.precomposes a.worktree.now) t a.path.now a.mkdir_calls.now) (W.told c.prepare.new.worktree) c.prepare.new.mkdir_calls answer)
+              met.field-0-is (met.ensures.done t told),
+        ),
       )
-      | inr is ↦ subst refuses (sym is) (λ t told. inr (met.ensures.done t told).tree_is)
+      | inr is ↦ subst refuses (sym is) (c.prepare.ensures.asked, λ t told. inr (met.ensures.done t told).tree_is)
     ])
 
 pub returns-in-Err-Fault : goal.returns-in-Err-Fault
@@ -61,10 +69,10 @@ returns-in-Err-Fault g c =
     let refuses : AtPathError → Type 0 = NoDirectory W a.worktree.now c.prepare.new.worktree a.unlink_on_collision a.path.now a.mkdir_calls.now c.prepare.new.mkdir_calls in
     creates-refused W a.path.now c.no_directory-in-Err-Fault.result c.prepare.ensures
     (elim c.no_directory-in-Err-Fault.ensures [
-      | inl is ↦ subst refuses (sym is) (refl, met.ensures.cause (ap (λ (e : ReadError). Err e) met.field-0-is), λ t told. met.ensures.partly t told)
-      | inr is ↦ subst refuses (sym is) (λ t told. inl (met.ensures.partly t told))
+      | inl is ↦ subst refuses (sym is) (c.prepare.ensures.asked, (refl, met.ensures.cause (ap (λ (e : ReadError). Err e) met.field-0-is), λ t told. met.ensures.partly t told))
+      | inr is ↦ subst refuses (sym is) (c.prepare.ensures.asked, λ t told. inl (met.ensures.partly t told))
     ])
 
 pub returns-in-Err-OutOfMemory : goal.returns-in-Err-OutOfMemory
 returns-in-Err-OutOfMemory g c =
-    creates-refused g.W.Worktree c.args.path.now _ c.prepare.ensures (λ t told. inl (c.in-Err-OutOfMemory.ensures.partly t told))
+    creates-refused g.W.Worktree c.args.path.now _ c.prepare.ensures (c.prepare.ensures.asked, λ t told. inl (c.in-Err-OutOfMemory.ensures.partly t told))

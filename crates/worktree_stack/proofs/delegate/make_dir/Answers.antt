@@ -1,5 +1,5 @@
 use Rattle.std.proofs.Common.{false, arith}
-use Rattle.worktree_stack.proofs.Preparing.{outcome-told, partly-kept, made-there}
+use Rattle.worktree_stack.proofs.Preparing.{outcome-told, partly-kept, made-there, made-changed, replaced-made}
 use Rattle.worktree_stack.proofs.delegate.make_dir.Goals as goal
 
 pub returns : goal.returns
@@ -13,5 +13,7 @@ returns g c =
       cause = now.cause;
       calls = omega (arith, c.saturating_add.ensures);
       most_calls = omega (arith, c.saturating_add.ensures);
+      asked = c.saturating_add.ensures;
       changes = record { untold = now.untold; faults = now.faults; list_faults = now.list_faults; reads = now.reads; lists = now.lists; precomposes = now.precomposes };
+      changed = λ t after told told1 keeps. replaced-made false (made-changed c.make_dir.result (W.precomposes c.args.worktree.now) t after c.args.path.now _ _ (g.met.W.Worktree.is_tree c.args.worktree.now t told) keeps (now.answer t told) (now.made t told) now.kept told told1);
     }

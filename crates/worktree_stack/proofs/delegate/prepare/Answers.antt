@@ -1,4 +1,5 @@
-use Rattle.std.proofs.Common.{◌∙◌, ◌≡◌, sym, ap, arith, Some, false}
+use Rattle.std.proofs.Common.{◌∙◌, ◌≡◌, inl, inr, sym, ap, arith, Some, false}
+use Rattle.gitbase_core.specs.Causes.{next as one_more}
 use Rattle.worktree_fs.specs.Answers.{kind_of}
 use Rattle.worktree_fs.specs.Tree.{look, spot}
 use Rattle.worktree_fs.specs.declared.answers.MakeAnswer.TheVariants as makes
@@ -21,4 +22,8 @@ returns-in-Exists g c =
           ∙ ap (λ n. colliding a.unlink_on_collision (W.precomposes a.worktree.now) t a.path.now n (kind_of (look t a.path.now false))) is.calls_are
           ∙ ap (by_answer a.unlink_on_collision (W.precomposes a.worktree.now) t a.path.now p) exists,
     ))
-    made.calls (omega (arith, made.most_calls)) c.collide.ensures
+    made.calls (omega (arith, made.most_calls))
+    (λ n is. elim is [
+      | inl e ↦ inl (e ∙ made.asked)
+      | inr e ↦ inr (e ∙ ap one_more made.asked)
+    ]) c.collide.ensures

@@ -1,7 +1,7 @@
-use Rattle.std.proofs.Common.{◌∙◌, false, refl, inl, arith}
+use Rattle.std.proofs.Common.{◌∙◌, sym, false, refl, inl, arith}
 use Rattle.std.proofs.lemmas.Result.{err_from_is_err_and}
 use Rattle.worktree_fs.specs.declared.answers.MakeAnswer.TheVariants as makes
-use Rattle.worktree_stack.proofs.Preparing.{prepares-removed, prepares-nothing, met-error}
+use Rattle.worktree_stack.proofs.Preparing.{prepares-removed, prepares-nothing, met-error, some-same}
 use Rattle.worktree_stack.proofs.delegate.unlink.Goals as goal
 
 pub returns-then-not-unlink_on_collision : goal.returns-then-not-unlink_on_collision
@@ -24,13 +24,15 @@ returns-in_err-remove_node g c =
       cause = λ is. now.cause (met-error _ _ is);
       calls = omega arith;
       most_calls = omega arith;
+      asked = inl refl;
       changes = record { untold = now.untold; faults = now.faults; list_faults = now.list_faults; reads = now.reads; lists = now.lists; precomposes = now.precomposes };
+      changed = λ t after told told1 keeps. inl (some-same (sym told1 ∙ now.kept ∙ told));
     })
 
 pub returns : goal.returns
 returns g c =
     let now = c.in_ok-remove_node.ensures in
     rw (c.if-not-unlink_on_collision.false)
-    (prepares-removed g.W.Worktree c.args.path.now
+    (prepares-removed g.W.Worktree c.args.path.now (λ t told. g.met.W.Worktree.is_tree c.args.worktree.now t told)
     (record { untold = now.untold; faults = now.faults; list_faults = now.list_faults; reads = now.reads; lists = now.lists; precomposes = now.precomposes })
     now.removed c.make_dir.ensures)

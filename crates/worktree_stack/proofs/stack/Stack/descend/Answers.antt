@@ -1,9 +1,10 @@
-use Rattle.std.proofs.Common.{◌≡◌, [], inl, refl, rules}
+use Rattle.std.proofs.Common.{◌≡◌, [], inl, refl, arith, rules}
 use Rattle.std.specs.Prelude.{IsErrAnd}
 use Rattle.std.proofs.lemmas.Result.{IfErr-weaker}
 use Rattle.worktree_fs.proofs.Calls.{handed_on}
 use Rattle.worktree_fs.proofs.Lookups.{on_ok}
 use Rattle.worktree_stack.specs.declared.error.AtPathError.TheVariants as errors
+use Rattle.worktree_stack.proofs.Asked.{asked-step}
 use Rattle.worktree_stack.proofs.InStep.{pushed-below}
 use Rattle.worktree_stack.proofs.Levels.{level-below}
 use Rattle.worktree_stack.proofs.Carrying.{carries-none, stops-left}
@@ -41,3 +42,6 @@ returns-clause-levels g c level =
     c.push_directory.ensures.levels
     (pushed-below c.push.new.self.at c.push.new.self.current c.args.name.now (search rules) (search rules))
     (level-below c.args.self.now c.push.new.self c.args.name.now c.in_ok-push.ensures.made level)
+
+pub returns-clause-asked : goal.returns-clause-asked
+returns-clause-asked g c = omega (arith, c.push_directory.ensures.asked, asked-step c.args.self.now c.push.new.self c.args.name.now c.in_ok-push.ensures.made)

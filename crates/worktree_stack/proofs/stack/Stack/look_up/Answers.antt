@@ -1,16 +1,18 @@
-use Rattle.std.proofs.Common.{◌≡◌, ◌∙◌, ◌++◌, [], List, replicate, OnOk, OnErr, sym, ap, subst, length, arith}
+use Rattle.std.proofs.Common.{◌≡◌, ◌∙◌, ◌++◌, [], ℕ, append_assoc, drop, List, replicate, OnOk, OnErr, sym, ap, subst, length, arith}
 use Rattle.std.proofs.lemmas.List.{append-nil}
 use Rattle.std.proofs.lemmas.Result.{IfErr-weaker}
 use Rattle.worktree_fs.proofs.Lookups.{on_ok}
 use Rattle.gitbase_core.specs.Path.{components}
-use Rattle.worktree_fs.specs.PathStack.{Call, names_at, IsOnWay, calls_below, root_calls, surplus, pop_directory}
+use Rattle.worktree_fs.specs.PathStack.{Call, kept, deepest_names, IsOnWay, calls_below, root_calls, surplus, pop_directory, lookup_calls}
 use Rattle.worktree_fs.specs.Causes.{Increased}
+use Rattle.worktree_stack.specs.Asked.{asked_on}
 use Rattle.worktree_stack.specs.Lookups.{IsLookedUp}
 use Rattle.worktree_stack.proofs.Refusals.{rose-earlier}
 use Rattle.worktree_stack.proofs.LookedUp.{tells-before}
-use Rattle.worktree_stack.specs.Setup.{has_attributes}
+use Rattle.worktree_stack.specs.Setup.{Made, has_attributes}
 use Rattle.worktree_stack.specs.Stacked.{made_of}
 use Rattle.worktree_stack.specs.Steps.{CarriesOut, Stops}
+use Rattle.worktree_stack.proofs.Asked.{asked-append, asked-front}
 use Rattle.worktree_stack.proofs.Carrying.{carries-as, carries-then, stops-after}
 use Rattle.worktree_stack.proofs.Looking.{whole, ends, stay_names, calls_are, root-length, length-pushed}
 use Rattle.worktree_stack.proofs.stack.Stack.look_up.Goals as goal
@@ -45,8 +47,8 @@ returns-clause-carried g c =
     (record { rooted = c.in_ok-push_root.ensures.at; popped = c.pop_surplus.ensures.at; left_is = c.rest-left.ensures }))
     (carries-then told holds _ _ c.args.self.now c.pop_surplus.new.self c.push_rest.new.self
     (carries-then told holds _ _ c.args.self.now c.push_root.new.self c.pop_surplus.new.self c.in_ok-push_root.ensures.carried (c.pop_surplus.ensures.carried told holds))
-    (subst (λ h. CarriesOut told h (calls_below (names_at c.pop_surplus.new.self.at) (components c.rest-left.result.now)) c.pop_surplus.new.self c.push_rest.new.self) c.push_root.ensures.leaves_store.holds
-    (subst (λ t. CarriesOut t (g.F.Find.holds c.push_root.new.objects) (calls_below (names_at c.pop_surplus.new.self.at) (components c.rest-left.result.now)) c.pop_surplus.new.self c.push_rest.new.self) (c.push_root.ensures.leaves.tree) carries))))
+    (subst (λ h. CarriesOut told h (calls_below (deepest_names c.pop_surplus.new.self.at) (components c.rest-left.result.now)) c.pop_surplus.new.self c.push_rest.new.self) c.push_root.ensures.leaves_store.holds
+    (subst (λ t. CarriesOut t (g.F.Find.holds c.push_root.new.objects) (calls_below (deepest_names c.pop_surplus.new.self.at) (components c.rest-left.result.now)) c.pop_surplus.new.self c.push_rest.new.self) (c.push_root.ensures.leaves.tree) carries))))
     c.push_rest.ensures.carried
 
 pub returns-clause-stopped : goal.returns-clause-stopped
@@ -55,7 +57,7 @@ returns-clause-stopped g c =
     let F = g.F.Find in
     let told = W.told c.args.worktree.now in
     let holds = F.holds c.args.objects.now in
-    let below : List Call = calls_below (names_at c.pop_surplus.new.self.at) (components c.rest-left.result.now) in
+    let below : List Call = calls_below (deepest_names c.pop_surplus.new.self.at) (components c.rest-left.result.now) in
     let before : List Call = root_calls c.args.self.now.at ++ replicate (surplus c.push_root.new.self.at (components c.args.relative.now)) pop_directory in
     IfErr-weaker c.push_rest.result _ _
     (λ e stops.
@@ -106,3 +108,32 @@ returns-clause-in_step g c s tells in_step =
 
 pub returns-clause-levels : goal.returns-clause-levels
 returns-clause-levels g c level = c.push_rest.ensures.levels (c.pop_surplus.ensures.levels (c.push_root.ensures.levels level))
+
+pub returns-in_err-push_root-clause-asked : goal.returns-in_err-push_root-clause-asked
+returns-in_err-push_root-clause-asked g c =
+    let parts : List (List ℕ) = components c.args.relative.now in
+    let pops : List Call = replicate (surplus c.args.self.now.at parts) pop_directory in
+    let below : List Call = calls_below (kept (deepest_names c.args.self.now.at) parts) (drop (length (kept (deepest_names c.args.self.now.at) parts)) parts) in
+    omega (
+      arith,
+      c.push_root.ensures.asked,
+      asked-front (made_of c.args.self.now) (lookup_calls c.args.self.now.at parts) (root_calls c.args.self.now.at) (pops ++ below) (append_assoc (root_calls c.args.self.now.at) pops below),
+    )
+
+pub returns-clause-asked : goal.returns-clause-asked
+returns-clause-asked g c =
+    let made : made_of c.pop_surplus.new.self ≡ made_of c.args.self.now = c.pop_surplus.ensures.made ∙ c.push_root.ensures.made in
+    let first : List Call = root_calls c.args.self.now.at in
+    let pops : List Call = replicate (surplus c.push_root.new.self.at (components c.args.relative.now)) pop_directory in
+    let below : List Call = calls_below (deepest_names c.pop_surplus.new.self.at) (components c.rest-left.result.now) in
+    omega (
+      arith,
+      c.push_root.ensures.asked,
+      c.push_rest.ensures.asked,
+      ap (λ (m : Made). asked_on m below) made,
+      ap (asked_on (made_of c.args.self.now))
+          (calls_are c.args.self.now.at c.push_root.new.self.at c.pop_surplus.new.self.at (components c.args.relative.now) (components c.rest-left.result.now)
+          (record { rooted = c.in_ok-push_root.ensures.at; popped = c.pop_surplus.ensures.at; left_is = c.rest-left.ensures })),
+      asked-append (made_of c.args.self.now) (first ++ pops) below,
+      asked-append (made_of c.args.self.now) first pops,
+    )

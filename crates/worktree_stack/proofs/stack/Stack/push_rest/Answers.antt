@@ -4,15 +4,17 @@ use Rattle.std.proofs.lemmas.List.{length-append}
 use Rattle.gitbase_core.specs.Path.{components}
 use Rattle.worktree_fs.specs.Causes.{Increased}
 use Rattle.worktree_fs.specs.Paths.{spelled}
-use Rattle.worktree_fs.specs.PathStack.{names_at, calls_for, calls_below}
+use Rattle.worktree_fs.specs.PathStack.{deepest_names, calls_for, calls_below}
 use Rattle.worktree_fs.proofs.Calls.{handed_on}
 use Rattle.worktree_stack.specs.declared.error.AtPathError.TheVariants as errors
+use Rattle.worktree_stack.specs.Asked.{asked_on}
 use Rattle.worktree_stack.specs.Lookups.{asks_worktree}
 use Rattle.worktree_stack.specs.Setup.{Made, has_attributes}
-use Rattle.worktree_stack.specs.Stacked.{Stacked}
+use Rattle.worktree_stack.specs.Stacked.{Stacked, made_of}
 use Rattle.worktree_stack.specs.Steps.{CarriesOut, Stops}
 use Rattle.worktree_stack.proofs.Stepping.{on_err, carries-stepped}
 use Rattle.worktree_stack.proofs.Descent.{below_first, below_next, on_way, on_way_same, at_last, next-calls, further, last-calls, no-calls}
+use Rattle.worktree_stack.proofs.Asked.{asked-append, asked-front}
 use Rattle.worktree_stack.proofs.Carrying.{carries-none, carries-then, carries-as, carries-left, stops-left, stops-after}
 use Rattle.worktree_stack.proofs.LookedUp.{leaves-then, store-then, tells-before}
 use Rattle.worktree_stack.proofs.Refusals.{rose-earlier}
@@ -37,6 +39,7 @@ loop-next-init g c =
       leaves = record { tree = refl; faults = omega arith; list_faults = refl; reads = omega arith; lists = refl; precomposes = refl };
       leaves_store = record { holds = refl; faults = omega arith };
       stays = omega arith;
+      asked = omega arith;
       reads = λ alone. omega arith;
     }
 
@@ -58,7 +61,7 @@ returns-then-next-clause-carried g c =
     let told = g.W.Worktree.told c.args.worktree.now in
     let holds = g.F.Find.holds c.args.objects.now in
     let before = c.loop-next.invariant in
-    let names : List (List ℕ) = names_at c.loop-next.self.at in
+    let names : List (List ℕ) = deepest_names c.loop-next.self.at in
     let name : List ℕ = c.in-Some.next.name.now in
     carries-as told holds _ _ c.args.self.now c.push.new.self
     (last-calls _ before.made names (components c.loop-next.rest.now) (components c.in-Some.next.rest.now) name before.front c.in-Some.ensures.0 (sym c.in-Some.ensures.2 ∙ c.if-next.true))
@@ -72,7 +75,7 @@ returns-in_err-descend-clause-stopped g c =
     let told = W.told c.args.worktree.now in
     let holds = F.holds c.args.objects.now in
     let before = c.loop-next.invariant in
-    let names : List (List ℕ) = names_at c.loop-next.self.at in
+    let names : List (List ℕ) = deepest_names c.loop-next.self.at in
     let name : List ℕ = c.in-Some.next.name.now in
     let more : List (List ℕ) = components c.in-Some.next.rest.now in
     let e = c.in_err-descend.field-0.0 in
@@ -92,7 +95,7 @@ returns-clause-carried g c =
     let told = g.W.Worktree.told c.args.worktree.now in
     let holds = g.F.Find.holds c.args.objects.now in
     let before = c.loop-next.invariant in
-    carries-as told holds _ _ c.args.self.now c.leave.new.self (no-calls _ before.made (names_at c.loop-next.self.at) (components c.loop-next.rest.now) before.front (search rules))
+    carries-as told holds _ _ c.args.self.now c.leave.new.self (no-calls _ before.made (deepest_names c.loop-next.self.at) (components c.loop-next.rest.now) before.front (search rules))
     (carries-left told holds _ c.args.self.now c.loop-next.self c.leave.new.self before.carried c.leave.ensures)
 
 pub returns-then-next-clause-looked_up : goal.returns-then-next-clause-looked_up
@@ -113,12 +116,12 @@ loop-next-preserved g c =
     let F = g.F.Find in
     let told = W.told c.args.worktree.now in
     let holds = F.holds c.args.objects.now in
-    let names : List (List ℕ) = names_at c.loop-next.self.at in
+    let names : List (List ℕ) = deepest_names c.loop-next.self.at in
     let name : List ℕ = c.in-Some.next.name.now in
     let rest : List (List ℕ) = components c.loop-next.rest.now in
     let more : List (List ℕ) = components c.in-Some.next.rest.now in
     let more_is = sym c.in-Some.ensures.2 ∙ c.if-next.false in
-    let names_is : names_at c.descend.new.self.at ≡ names ++ name ∷ [] = ap names_at c.in_ok-descend.ensures.at in
+    let names_is : deepest_names c.descend.new.self.at ≡ names ++ name ∷ [] = ap deepest_names c.in_ok-descend.ensures.at in
     let carried = subst (λ t. CarriesOut t (F.holds c.loop-next.objects) (calls_for names name false) c.loop-next.self c.descend.new.self) (before.leaves.tree) c.in_ok-descend.ensures.carried in
     record {
       setup = c.descend.ensures.made ∙ before.setup;
@@ -141,5 +144,44 @@ loop-next-preserved g c =
       leaves = leaves-then W c.args.worktree.now c.loop-next.worktree c.descend.new.worktree before.leaves c.descend.ensures.leaves;
       leaves_store = store-then F c.args.objects.now c.loop-next.objects c.descend.new.objects before.leaves_store c.descend.ensures.leaves_store;
       stays = omega (arith, before.stays, ap length names_is, length-append names (name ∷ []));
+      asked = omega (
+        arith,
+        before.asked,
+        c.descend.ensures.asked,
+        ap (λ (m : Made). asked_on m (calls_for names name false)) before.setup,
+        asked-append (made_of c.args.self.now) before.made (calls_for names name false),
+      );
       reads = λ alone. omega (arith, c.descend.ensures.reads (ap (λ (m : Made). has_attributes m) before.setup ∙ alone), before.reads alone, ap length names_is, length-append names (name ∷ []));
     }
+
+pub returns-in_err-push-clause-asked : goal.returns-in_err-push-clause-asked
+returns-in_err-push-clause-asked g c =
+    let before = c.loop-next.invariant in
+    omega (arith, before.asked, asked-front (made_of c.args.self.now) (calls_below (deepest_names c.args.self.now.at) (components c.args.left.now)) before.made _ before.front)
+
+pub returns-then-next-clause-asked : goal.returns-then-next-clause-asked
+returns-then-next-clause-asked g c =
+    let before = c.loop-next.invariant in
+    omega (arith, before.asked, asked-front (made_of c.args.self.now) (calls_below (deepest_names c.args.self.now.at) (components c.args.left.now)) before.made _ before.front)
+
+pub returns-in_err-descend-clause-asked : goal.returns-in_err-descend-clause-asked
+returns-in_err-descend-clause-asked g c =
+    let before = c.loop-next.invariant in
+    let names : List (List ℕ) = deepest_names c.loop-next.self.at in
+    let name : List ℕ = c.in-Some.next.name.now in
+    let more : List (List ℕ) = components c.in-Some.next.rest.now in
+    let calls = calls_below (deepest_names c.args.self.now.at) (components c.args.left.now) in
+    omega (
+      arith,
+      before.asked,
+      c.descend.ensures.asked,
+      ap (λ (m : Made). asked_on m (calls_for names name false)) before.setup,
+      asked-append (made_of c.args.self.now) before.made (calls_for names name false),
+      asked-front (made_of c.args.self.now) calls (before.made ++ calls_for names name false) (calls_below (names ++ name ∷ []) more)
+          (further calls before.made names (components c.loop-next.rest.now) more name before.front c.in-Some.ensures.0 (sym c.in-Some.ensures.2 ∙ c.if-next.false)),
+    )
+
+pub returns-clause-asked : goal.returns-clause-asked
+returns-clause-asked g c =
+    let before = c.loop-next.invariant in
+    omega (arith, before.asked, asked-front (made_of c.args.self.now) (calls_below (deepest_names c.args.self.now.at) (components c.args.left.now)) before.made _ before.front)

@@ -1,7 +1,8 @@
 use Rattle.std.proofs.Common.{◌≡◌, ◌≤◌, ◌+◌, ◌++◌, List, [], is_some, true, false, length}
 use Rattle.gitbase_core.specs.Path.{components}
-use Rattle.worktree_fs.specs.PathStack.{Call, names_at, calls_below}
+use Rattle.worktree_fs.specs.PathStack.{Call, deepest_names, calls_below}
 use Rattle.worktree_fs.specs.Kept.{Asks, AsksStore}
+use Rattle.worktree_stack.specs.Asked.{asked_on}
 use Rattle.worktree_stack.specs.Lookups.{asks_worktree}
 use Rattle.worktree_stack.specs.Reading.{Sources, Tells}
 use Rattle.worktree_stack.specs.Stacked.{IsInStep, IsLevel, made_of}
@@ -14,14 +15,14 @@ abbrev pub invariant-loop-next : goal.invariant-loop-next
 invariant-loop-next g l =
     let W = g.W.Worktree in
     let F = g.F.Find in
-    let names = names_at l.fn.self.at in
+    let names = deepest_names l.fn.self.at in
     let calls = calls_below names (components l.fn.left) in
     record {
       setup : made_of l.self ≡ made_of l.fn.self;
       some : is_some l.self.at ≡ true;
       below : IsBelow (names ++ components l.fn.left) l.self.at (components l.rest);
       made : List Call;
-      front : calls ≡ made ++ calls_below (names_at l.self.at) (components l.rest);
+      front : calls ≡ made ++ calls_below (deepest_names l.self.at) (components l.rest);
       carried : CarriesOut (W.told l.fn.worktree) (F.holds l.fn.objects) made l.fn.self l.self;
       is_dir : l.self.is_dir ≡ l.fn.self.is_dir;
       answered : l.self.is_answered ≡ l.fn.self.is_answered;
@@ -32,8 +33,9 @@ invariant-loop-next g l =
       store_untouched : (made_of l.fn.self).mappings ≡ [] → l.objects ≡ l.fn.objects;
       leaves : Asks W l.fn.worktree l.worktree;
       leaves_store : AsksStore F l.fn.objects l.objects;
-      stays : length names ≤ length (names_at l.self.at);
-      reads : has_attributes (made_of l.fn.self) ≡ false → W.reads l.worktree + length names ≤ W.reads l.fn.worktree + length (names_at l.self.at);
+      stays : length names ≤ length (deepest_names l.self.at);
+      asked : W.reads l.worktree ≤ W.reads l.fn.worktree + asked_on (made_of l.fn.self) made;
+      reads : has_attributes (made_of l.fn.self) ≡ false → W.reads l.worktree + length names ≤ W.reads l.fn.worktree + length (deepest_names l.self.at);
     }
 
 abbrev pub decreases-loop-next : goal.decreases-loop-next

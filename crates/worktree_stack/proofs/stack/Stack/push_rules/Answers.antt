@@ -1,4 +1,4 @@
-use Rattle.std.proofs.Common.{◌≡◌, ◌∙◌, ◌∷◌, ◌++◌, [], ℕ, List, Option, Some, None, Result, Ok, Err, refl, sym, ap, subst, rules}
+use Rattle.std.proofs.Common.{true, ◌≡◌, ◌∙◌, ◌∷◌, ◌++◌, [], ℕ, List, Option, Some, None, Result, Ok, Err, refl, sym, ap, subst, rules}
 use Rattle.std.specs.Prelude.{IsErrAnd}
 use Rattle.worktree_fs.specs.Paths.{spelled}
 use Rattle.worktree_stack.specs.declared.error.AtPathError.{AtPathError}
@@ -6,7 +6,7 @@ use Rattle.worktree_stack.specs.declared.error.AtPathError.TheVariants as errors
 use Rattle.worktree_stack.specs.declared.statistics.Statistics.{Statistics}
 use Rattle.worktree_stack.specs.declared.statistics.RulesStatistics.{RulesStatistics}
 use Rattle.worktree_stack.specs.Placed.{Reads}
-use Rattle.worktree_stack.specs.Reading.{Place, Text, OneReading, RulesKind, Sources, Tells, attribute_readings, readings_of, lists_at, of_attributes, of_ignore, text_of, places_by, ignore_readings, own_readings, info_readings, info_readings_if, info_places, ignore_places_of, attribute_places_of}
+use Rattle.worktree_stack.specs.Reading.{is_read, texts_of, reading, Place, Text, OneReading, RulesKind, Sources, Tells, attribute_readings, readings_of, lists_at, of_attributes, of_ignore, text_of, places_by, ignore_readings, own_readings, info_readings, info_readings_if, info_places, ignore_places_of, attribute_places_of}
 use Rattle.worktree_stack.specs.Setup.{AttributesSetup, HeldAttributes, lists_of, IsLonger, pop_lists, Setup, Made, attributes_setup_of, setup_of, mapped_to}
 use Rattle.worktree_stack.specs.Stacked.{Stacked, made_of, attributes_of, count_at, HoldsFor, HasAsMany}
 use Rattle.worktree_stack.proofs.Refusals.{is_err}
@@ -125,6 +125,38 @@ returns-clause-in_step g c s tells holds =
     pushed_all made s old.current old.attributes c.push_ignore.new.self.attributes old.ignore c.push_ignore.new.self.ignore holds (all.read s tells) (ap lists_of held ∙ lists)
     (rules-bridge s old after c.push_ignore.new.self.ignore made_is current_is kept
     (c.in_default.ensures.rules s (later W F c.args.worktree.now c.push_attributes.new.worktree c.args.objects.now c.push_attributes.new.objects s done.leaves done.leaves_store tells)) holds.rules)
+
+-- the readings of a directory are its reading
+read-as : (made : Made) (s : Sources) (d : List ℕ) → is_read (texts_of s (readings_of made d)) ≡ true → is_read (reading made s d) ≡ true
+unfolding reading
+read-as made s d read = read
+
+pub returns-clause-lists : goal.returns-clause-lists
+returns-clause-lists g c s tells =
+    let W = g.W.Worktree in
+    let F = g.F.Find in
+    let old : Stacked = c.args.self.now in
+    let mid : Stacked = c.count_push.new.self in
+    let made : Made = made_of old in
+    let d : List ℕ = spelled old.current in
+    let attributes : List OneReading = attribute_readings made made.attributes d in
+    let ignore : List OneReading = ignore_readings made made.ignore d in
+    let readings : Made → List ℕ → List OneReading = λ m x. attribute_readings m m.attributes x in
+    let after : Stacked = c.push_attributes.new.self in
+    let made_is : made_of after ≡ made = search rules in
+    let current_is : after.current ≡ old.current = search rules in
+    let ignore_is : ignore_readings (made_of after) (made_of after).ignore (spelled after.current) ≡ ignore =
+    ap (λ (m : Made). ignore_readings m m.ignore (spelled after.current)) made_is ∙ ap (λ (n : List (List ℕ)). ignore_readings made made.ignore (spelled n)) current_is in
+    let done : Reads {T = Unit {0}} W F c.args.worktree.now c.push_attributes.new.worktree c.args.objects.now c.push_attributes.new.objects attributes old.statistics after.statistics (Ok tt) =
+    reads-counted W F c.args.worktree.now c.push_attributes.new.worktree c.args.objects.now c.push_attributes.new.objects old mid readings after.statistics (Ok tt) c.count_push.ensures c.in_ok-push_attributes.ensures.reads in
+    let all : Reads {T = Unit {0}} W F c.args.worktree.now c.push_ignore.new.worktree c.args.objects.now c.push_ignore.new.objects (attributes ++ ignore) old.statistics c.push_ignore.new.self.statistics (Ok tt) =
+    reads-then W F c.args.worktree.now c.push_attributes.new.worktree c.push_ignore.new.worktree c.args.objects.now c.push_attributes.new.objects c.push_ignore.new.objects attributes ignore
+    old.statistics after.statistics c.push_ignore.new.self.statistics tt done (Ok tt)
+    (subst (λ (rs : List OneReading). Reads {T = Unit {0}} W F c.push_attributes.new.worktree c.push_ignore.new.worktree c.push_attributes.new.objects c.push_ignore.new.objects rs after.statistics c.push_ignore.new.self.statistics (Ok tt)) ignore_is c.in_default.ensures.reads) in
+    let held : c.push_ignore.new.self.attributes ≡ after.attributes = search rules in
+    let lists : lists_of after.attributes ≡ lists_of old.attributes ++ lists_at made s old.current =
+    subst (λ (m : Stacked). lists_of after.attributes ≡ lists_of m.attributes ++ lists_at (made_of m) s m.current) c.count_push.ensures (c.in_ok-push_attributes.ensures.lists s tells) in
+    record { is_read = read-as made s (spelled old.current) (all.read s tells); lists = ap lists_of held ∙ lists }
 
 pub returns-clause-levels : goal.returns-clause-levels
 returns-clause-levels g c level =

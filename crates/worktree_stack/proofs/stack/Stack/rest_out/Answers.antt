@@ -1,0 +1,280 @@
+use Rattle.std.proofs.Common.{◌≡◌, ◌∙◌, ◌++◌, ◌∷◌, [], ℕ, List, Option, Bool, inl, inr, refl, sym, ap, subst, is_some, true, false, length, Ok, Err, Some, arith, rules}
+use Rattle.std.specs.Prelude.{IsErrAnd, Result, OnOk, OnErr}
+use Rattle.std.proofs.lemmas.List.{length-append, append-nil}
+use Rattle.gitbase_core.specs.Objects.{Objects}
+use Rattle.gitbase_core.specs.Path.{components}
+use Rattle.worktree_fs.specs.Paths.{spelled, full_path}
+use Rattle.worktree_fs.specs.PathStack.{Call, deepest_names, push, calls_for, calls_below}
+use Rattle.worktree_stack.specs.declared.error.AtPathError.{AtPathError}
+use Rattle.worktree_stack.specs.GoesOn.{Goes, PushesOut, Keeping, Kept, MayGoOn, KeepsOn}
+use Rattle.worktree_stack.specs.Lookups.{is_dir_of}
+use Rattle.worktree_stack.specs.Making.{Way, is_link_of, way_of}
+use Rattle.worktree_stack.specs.Setup.{Made}
+use Rattle.worktree_stack.specs.Stacked.{Stacked, made_of}
+use Rattle.worktree_stack.proofs.Stepping.{on_err}
+use Rattle.worktree_stack.proofs.Descent.{IsBelow, below_first, below_next, on_way, on_way_same, next-calls, further, last-calls, no-calls}
+use Rattle.worktree_stack.proofs.Refusals.{is_err}
+use Rattle.worktree_stack.proofs.Going.{goes-then, goes-more, goes-as, goes-nothing, goes-left, goes-pushed}
+use Rattle.worktree_stack.specs.Checkout.{IsOutcome, KeepsName, LeadsToDirectory}
+use Rattle.worktree_stack.specs.GoesOn.{KeepsAll, LeavesLast}
+use Rattle.worktree_stack.specs.Making.{checked_out, mkdirs, unchanged}
+use Rattle.worktree_fs.specs.Tree.{Names}
+use Rattle.worktree_fs.specs.declared.answers.MakeAnswer.TheVariants as makes
+use Rattle.std.proofs.Common.{append_assoc}
+use Rattle.worktree_stack.proofs.Holding.{kept-now}
+use Rattle.worktree_stack.proofs.KeptSteps.{pushed-field, pushed-kept}
+use Rattle.worktree_stack.proofs.Preparing.{some-same}
+use Rattle.worktree_stack.proofs.RestOut.{keeping-by, keeps-left, kept-by, nil-is, last-there, looked-pushed, may-behind, may-first, rest-none, taken-names, way-same}
+use Rattle.worktree_stack.proofs.stack.Stack.rest_out.Goals as goal
+
+pub loop-next-init : goal.loop-next-init
+loop-next-init g c =
+    record {
+      some = c.requires.some;
+      below = below_first c.args.self.now.at (components c.args.left.now) c.requires.some c.requires.end;
+      done = [];
+      taken = [];
+      front = refl;
+      parts = refl;
+      goes = goes-nothing g.W.Worktree g.F.Find _ _ _ c.args.worktree.now c.args.objects.now c.args.self.now;
+      stays = omega arith;
+      keeps = λ s0 t t1 told holds told1 may kept keeping. subst (λ x. Keeping (made_of c.args.self.now) s0 x c.args.self.now.at c.args.self.now.attributes c.args.self.now.ignore) (some-same (sym told ∙ told1)) keeping;
+    }
+
+pub loop-next-preserved : goal.loop-next-preserved
+loop-next-preserved g c =
+    let W = g.W.Worktree in
+    let F = g.F.Find in
+    let a = c.args in
+    let before = c.loop-next.invariant in
+    let link = is_link_of a.mode in
+    let protects = a.checkout.validate.protect_windows in
+    let way : Way = way_of a.checkout (W.precomposes a.worktree.now) a.self.now.root (is_dir_of a.mode) in
+    let there : Way = way_of a.checkout (W.precomposes c.loop-next.worktree) c.loop-next.self.root (is_dir_of a.mode) in
+    let ways : there ≡ way = way-same a.checkout (is_dir_of a.mode) (W.precomposes a.worktree.now) (W.precomposes c.loop-next.worktree) a.self.now.root c.loop-next.self.root before.goes.alters.precomposes (ap (λ (m : Made). m.root) before.goes.made) in
+    let names : List (List ℕ) = deepest_names c.loop-next.self.at in
+    let name : List ℕ = c.in-Some.next.name.now in
+    let rest : List (List ℕ) = components c.loop-next.rest.now in
+    let more : List (List ℕ) = components c.in-Some.next.rest.now in
+    let more_is = sym c.in-Some.ensures.2 ∙ c.if-next.false in
+    let names_is : deepest_names c.step_out.new.self.at ≡ names ++ name ∷ [] = ap deepest_names c.in_ok-step_out.ensures.at in
+    let step : Goes W F c.loop-next.worktree c.step_out.new.worktree c.loop-next.objects c.step_out.new.objects way link protects (calls_for names name false) (name ∷ []) c.loop-next.self c.step_out.new.self (Ok tt) =
+    subst (λ (x : Way). Goes W F c.loop-next.worktree c.step_out.new.worktree c.loop-next.objects c.step_out.new.objects x link protects (calls_for names name false) (name ∷ []) c.loop-next.self c.step_out.new.self (Ok tt)) ways
+    (subst (λ (r : Result (Unit {0}) AtPathError). Goes W F c.loop-next.worktree c.step_out.new.worktree c.loop-next.objects c.step_out.new.objects there link protects (calls_for names name false) (name ∷ []) c.loop-next.self c.step_out.new.self r) c.in_ok-step_out.was c.step_out.ensures.goes) in
+    let goes = goes-then W F way link protects (Ok tt) before.goes step in
+    record {
+      some = ap is_some c.in_ok-step_out.ensures.at;
+      below = below_next _ c.loop-next.self.at c.step_out.new.self.at rest more name before.below c.in-Some.ensures.0 more_is c.in_ok-step_out.ensures.at;
+      done = before.done ++ calls_for names name false;
+      taken = before.taken ++ name ∷ [];
+      front =
+          further _ before.done names rest more name before.front c.in-Some.ensures.0 more_is
+          ∙ ap (λ (n : List (List ℕ)). (before.done ++ calls_for names name false) ++ calls_below n more) (sym names_is);
+      parts = before.parts ∙ ap (λ (l : List (List ℕ)). before.taken ++ l) c.in-Some.ensures.0 ∙ sym (append_assoc before.taken (name ∷ []) more);
+      goes = goes;
+      stays = omega (arith, before.stays, ap length names_is, length-append names (name ∷ []));
+      keeps = λ s0 t t1 told holds told1 may kept k.
+          let is : IsOutcome (checked_out way (unchanged t (mkdirs a.self.now)) before.done) (W.told c.loop-next.worktree) (mkdirs c.loop-next.self) makes.Made = before.goes.works.tree t told in
+          let tm : Names = (checked_out way (unchanged t (mkdirs a.self.now)) before.done).tree in
+          let mid : Keeping (made_of a.self.now) s0 tm c.loop-next.self.at c.loop-next.self.attributes c.loop-next.self.ignore = before.keeps s0 t tm told holds is.tree_is may kept k in
+          let on : KeepsOn W F c.loop-next.worktree c.step_out.new.worktree c.loop-next.objects way (name ∷ []) c.loop-next.self c.step_out.new.self (Ok tt) =
+          subst (λ (x : Way). KeepsOn W F c.loop-next.worktree c.step_out.new.worktree c.loop-next.objects x (name ∷ []) c.loop-next.self c.step_out.new.self (Ok tt)) ways
+          (subst (λ (r : Result (Unit {0}) AtPathError). KeepsOn W F c.loop-next.worktree c.step_out.new.worktree c.loop-next.objects there (name ∷ []) c.loop-next.self c.step_out.new.self r) c.in_ok-step_out.was c.step_out.ensures.keeps) in
+          keeping-by s0 (made_of a.self.now) (made_of c.loop-next.self) before.goes.made t1
+          (on.going s0 tm t1 is.tree_is (before.goes.leaves_store.holds ∙ holds) told1
+          (may-first way (made_of a.self.now) (made_of c.loop-next.self) a.self.now.at c.loop-next.self.at before.taken name more (components a.left.now) before.goes.made
+          (taken-names (deepest_names a.self.now.at) before.taken rest (components a.left.now) c.loop-next.self.at before.below before.parts)
+          (before.parts ∙ ap (λ (l : List (List ℕ)). before.taken ++ l) c.in-Some.ensures.0) may)
+          (keeps-left way (components a.left.now) before.taken more name (before.parts ∙ ap (λ (l : List (List ℕ)). before.taken ++ l) c.in-Some.ensures.0) false more_is refl kept, tt)
+          (keeping-by s0 (made_of c.loop-next.self) (made_of a.self.now) (sym before.goes.made) tm mid));
+    }
+
+pub returns-in_err-step_out-clause-goes : goal.returns-in_err-step_out-clause-goes
+returns-in_err-step_out-clause-goes g c =
+    let W = g.W.Worktree in
+    let F = g.F.Find in
+    let a = c.args in
+    let before = c.loop-next.invariant in
+    let link = is_link_of a.mode in
+    let protects = a.checkout.validate.protect_windows in
+    let way : Way = way_of a.checkout (W.precomposes a.worktree.now) a.self.now.root (is_dir_of a.mode) in
+    let there : Way = way_of a.checkout (W.precomposes c.loop-next.worktree) c.loop-next.self.root (is_dir_of a.mode) in
+    let ways : there ≡ way = way-same a.checkout (is_dir_of a.mode) (W.precomposes a.worktree.now) (W.precomposes c.loop-next.worktree) a.self.now.root c.loop-next.self.root before.goes.alters.precomposes (ap (λ (m : Made). m.root) before.goes.made) in
+    let names : List (List ℕ) = deepest_names c.loop-next.self.at in
+    let name : List ℕ = c.in-Some.next.name.now in
+    let more : List (List ℕ) = components c.in-Some.next.rest.now in
+    let e : AtPathError = c.in_err-step_out.field-0.0 in
+    let same : IsErrAnd c.from_residual.result (λ x. x ≡ e) = search rules in
+    let step : Goes W F c.loop-next.worktree c.step_out.new.worktree c.loop-next.objects c.step_out.new.objects way link protects (calls_for names name false) (name ∷ []) c.loop-next.self c.step_out.new.self (Err e) =
+    subst (λ (x : Way). Goes W F c.loop-next.worktree c.step_out.new.worktree c.loop-next.objects c.step_out.new.objects x link protects (calls_for names name false) (name ∷ []) c.loop-next.self c.step_out.new.self (Err e)) ways
+    (subst (λ (r : Result (Unit {0}) AtPathError). Goes W F c.loop-next.worktree c.step_out.new.worktree c.loop-next.objects c.step_out.new.objects there link protects (calls_for names name false) (name ∷ []) c.loop-next.self c.step_out.new.self r) c.in_err-step_out.was c.step_out.ensures.goes) in
+    subst (λ (r : Result (Unit {0}) AtPathError). Goes W F a.worktree.now c.step_out.new.worktree a.objects.now c.step_out.new.objects way link protects (calls_below (deepest_names a.self.now.at) (components a.left.now)) (components a.left.now) a.self.now c.step_out.new.self r)
+    (sym (is_err c.from_residual.result e same))
+    (goes-as W F way link protects (Err e) (next-calls _ before.done names (components c.loop-next.rest.now) more name before.front c.in-Some.ensures.0 false (sym c.in-Some.ensures.2 ∙ c.if-next.false)) refl
+    (goes-as W F way link protects (Err e) (sym (append_assoc before.done (calls_for names name false) (calls_below (names ++ name ∷ []) more)))
+    (before.parts ∙ ap (λ (l : List (List ℕ)). before.taken ++ l) c.in-Some.ensures.0 ∙ sym (append_assoc before.taken (name ∷ []) more))
+    (goes-more W F way link protects e (calls_below (names ++ name ∷ []) more) more (goes-then W F way link protects (Err e) before.goes step))))
+
+pub returns-in_err-step_out-clause-on_way : goal.returns-in_err-step_out-clause-on_way
+returns-in_err-step_out-clause-on_way g c =
+    on_err c.from_residual.result
+    (on_way_same _ c.loop-next.self.at c.step_out.new.self.at c.in_err-step_out.ensures.at_refused
+    (on_way _ c.loop-next.self.at (components c.loop-next.rest.now) (components c.in-Some.next.rest.now) c.in-Some.next.name.now c.loop-next.invariant.below c.in-Some.ensures.0))
+
+pub returns-in_err-step_out-clause-last : goal.returns-in_err-step_out-clause-last
+returns-in_err-step_out-clause-last g c =
+    let e : AtPathError = c.in_err-step_out.field-0.0 in
+    let same : IsErrAnd c.from_residual.result (λ x. x ≡ e) = search rules in
+    let W = g.W.Worktree in
+    subst (λ (r : Result (Unit {0}) AtPathError). LeavesLast W c.step_out.new.worktree (way_of c.args.checkout (W.precomposes c.args.worktree.now) c.args.self.now.root (is_dir_of c.args.mode)) (deepest_names c.args.self.now.at) (components c.args.left.now) r)
+    (sym (is_err c.from_residual.result e same)) (record { last = λ t1 told1 makes path parts normal keeps. inr tt })
+
+pub returns-in_err-step_out-clause-keeps : goal.returns-in_err-step_out-clause-keeps
+returns-in_err-step_out-clause-keeps g c =
+    let W = g.W.Worktree in
+    let F = g.F.Find in
+    let a = c.args in
+    let before = c.loop-next.invariant in
+    let way : Way = way_of a.checkout (W.precomposes a.worktree.now) a.self.now.root (is_dir_of a.mode) in
+    let there : Way = way_of a.checkout (W.precomposes c.loop-next.worktree) c.loop-next.self.root (is_dir_of a.mode) in
+    let ways : there ≡ way = way-same a.checkout (is_dir_of a.mode) (W.precomposes a.worktree.now) (W.precomposes c.loop-next.worktree) a.self.now.root c.loop-next.self.root before.goes.alters.precomposes (ap (λ (m : Made). m.root) before.goes.made) in
+    let name : List ℕ = c.in-Some.next.name.now in
+    let rest : List (List ℕ) = components c.loop-next.rest.now in
+    let more : List (List ℕ) = components c.in-Some.next.rest.now in
+    let e : AtPathError = c.in_err-step_out.field-0.0 in
+    let same : IsErrAnd c.from_residual.result (λ x. x ≡ e) = search rules in
+    let more_is = sym c.in-Some.ensures.2 ∙ c.if-next.false in
+    subst (λ (r : Result (Unit {0}) AtPathError). KeepsAll W F a.worktree.now c.step_out.new.worktree a.objects.now way (components a.left.now) a.self.now c.step_out.new.self r)
+    (sym (is_err c.from_residual.result e same))
+    (record {
+      gone = λ s0 t t1 told holds told1 may kept plain k.
+          let is : IsOutcome (checked_out way (unchanged t (mkdirs a.self.now)) before.done) (W.told c.loop-next.worktree) (mkdirs c.loop-next.self) makes.Made = before.goes.works.tree t told in
+          let tm : Names = (checked_out way (unchanged t (mkdirs a.self.now)) before.done).tree in
+          let mid : Keeping (made_of a.self.now) s0 tm c.loop-next.self.at c.loop-next.self.attributes c.loop-next.self.ignore = before.keeps s0 t tm told holds is.tree_is may kept k in
+          let on : KeepsOn W F c.loop-next.worktree c.step_out.new.worktree c.loop-next.objects way (name ∷ []) c.loop-next.self c.step_out.new.self (Err e) =
+          subst (λ (x : Way). KeepsOn W F c.loop-next.worktree c.step_out.new.worktree c.loop-next.objects x (name ∷ []) c.loop-next.self c.step_out.new.self (Err e)) ways
+          (subst (λ (r : Result (Unit {0}) AtPathError). KeepsOn W F c.loop-next.worktree c.step_out.new.worktree c.loop-next.objects there (name ∷ []) c.loop-next.self c.step_out.new.self r) c.in_err-step_out.was c.step_out.ensures.keeps) in
+          kept-by s0 (made_of c.loop-next.self) (made_of a.self.now) before.goes.made t1
+          (on.gone s0 tm t1 is.tree_is (before.goes.leaves_store.holds ∙ holds) told1
+          (may-first way (made_of a.self.now) (made_of c.loop-next.self) a.self.now.at c.loop-next.self.at before.taken name more (components a.left.now) before.goes.made
+          (taken-names (deepest_names a.self.now.at) before.taken rest (components a.left.now) c.loop-next.self.at before.below before.parts)
+          (before.parts ∙ ap (λ (l : List (List ℕ)). before.taken ++ l) c.in-Some.ensures.0) may)
+          (keeps-left way (components a.left.now) before.taken more name (before.parts ∙ ap (λ (l : List (List ℕ)). before.taken ++ l) c.in-Some.ensures.0) false more_is refl kept, tt) plain
+          (keeping-by s0 (made_of c.loop-next.self) (made_of a.self.now) (sym before.goes.made) tm mid));
+    })
+
+pub returns-then-next-clause-goes : goal.returns-then-next-clause-goes
+returns-then-next-clause-goes g c =
+    let W = g.W.Worktree in
+    let F = g.F.Find in
+    let a = c.args in
+    let before = c.loop-next.invariant in
+    let link = is_link_of a.mode in
+    let protects = a.checkout.validate.protect_windows in
+    let way : Way = way_of a.checkout (W.precomposes a.worktree.now) a.self.now.root (is_dir_of a.mode) in
+    let there : Way = way_of a.checkout (W.precomposes c.loop-next.worktree) c.loop-next.self.root (is_dir_of a.mode) in
+    let ways : there ≡ way = way-same a.checkout (is_dir_of a.mode) (W.precomposes a.worktree.now) (W.precomposes c.loop-next.worktree) a.self.now.root c.loop-next.self.root before.goes.alters.precomposes (ap (λ (m : Made). m.root) before.goes.made) in
+    let names : List (List ℕ) = deepest_names c.loop-next.self.at in
+    let name : List ℕ = c.in-Some.next.name.now in
+    let more : List (List ℕ) = components c.in-Some.next.rest.now in
+    let none = sym c.in-Some.ensures.2 ∙ c.if-next.true in
+    let pushes : PushesOut W c.loop-next.worktree c.push_out.new.worktree way link protects name true c.loop-next.self c.push_out.new.self c.push_out.result =
+    subst (λ (x : Way). PushesOut W c.loop-next.worktree c.push_out.new.worktree x link protects name true c.loop-next.self c.push_out.new.self c.push_out.result) ways c.push_out.ensures in
+    goes-as W F way link protects c.push_out.result
+    (last-calls _ before.done names (components c.loop-next.rest.now) more name before.front c.in-Some.ensures.0 none)
+    (before.parts ∙ ap (λ (l : List (List ℕ)). before.taken ++ l) (c.in-Some.ensures.0 ∙ ap (λ (l : List (List ℕ)). name ∷ l) (nil-is more none)))
+    (goes-then W F way link protects c.push_out.result before.goes
+    (goes-pushed W F way link protects c.loop-next.objects c.loop-next.self c.push_out.new.self name true c.push_out.result pushes))
+
+pub returns-then-next-clause-looked_up : goal.returns-then-next-clause-looked_up
+returns-then-next-clause-looked_up g c =
+    looked-pushed g.W.Worktree _ _ _ _ c.loop-next.self c.push_out.new.self (components c.loop-next.rest.now) (components c.in-Some.next.rest.now) c.in-Some.next.name.now c.push_out.result
+    c.loop-next.invariant.below c.in-Some.ensures.0 (sym c.in-Some.ensures.2 ∙ c.if-next.true) c.push_out.ensures
+
+pub returns-then-next-clause-on_way : goal.returns-then-next-clause-on_way
+returns-then-next-clause-on_way g c =
+    on_err c.push_out.result
+    (on_way_same _ c.loop-next.self.at c.push_out.new.self.at (pushed-field g.W.Worktree g.F.Find _ _ _ (λ (s : Stacked). s.at) c.loop-next.self c.push_out.new.self c.in-Some.next.name.now true c.push_out.result (λ n. refl) refl (λ n. refl) c.push_out.ensures)
+    (on_way _ c.loop-next.self.at (components c.loop-next.rest.now) (components c.in-Some.next.rest.now) c.in-Some.next.name.now c.loop-next.invariant.below c.in-Some.ensures.0))
+
+pub returns-then-next-clause-some : goal.returns-then-next-clause-some
+returns-then-next-clause-some g c =
+    ap is_some (pushed-field g.W.Worktree g.F.Find _ _ _ (λ (s : Stacked). s.at) c.loop-next.self c.push_out.new.self c.in-Some.next.name.now true c.push_out.result (λ n. refl) refl (λ n. refl) c.push_out.ensures) ∙ c.loop-next.invariant.some
+
+pub returns-then-next-clause-stays : goal.returns-then-next-clause-stays
+returns-then-next-clause-stays g c =
+    omega (arith, c.loop-next.invariant.stays, ap (λ (at : Option (List (List ℕ))). length (deepest_names at)) (pushed-field g.W.Worktree g.F.Find _ _ _ (λ (s : Stacked). s.at) c.loop-next.self c.push_out.new.self c.in-Some.next.name.now true c.push_out.result (λ n. refl) refl (λ n. refl) c.push_out.ensures))
+
+pub returns-then-next-clause-keeps : goal.returns-then-next-clause-keeps
+returns-then-next-clause-keeps g c =
+    let W = g.W.Worktree in
+    let F = g.F.Find in
+    let a = c.args in
+    let before = c.loop-next.invariant in
+    let way : Way = way_of a.checkout (W.precomposes a.worktree.now) a.self.now.root (is_dir_of a.mode) in
+    let there : Way = way_of a.checkout (W.precomposes c.loop-next.worktree) c.loop-next.self.root (is_dir_of a.mode) in
+    let ways : there ≡ way = way-same a.checkout (is_dir_of a.mode) (W.precomposes a.worktree.now) (W.precomposes c.loop-next.worktree) a.self.now.root c.loop-next.self.root before.goes.alters.precomposes (ap (λ (m : Made). m.root) before.goes.made) in
+    let name : List ℕ = c.in-Some.next.name.now in
+    let rest : List (List ℕ) = components c.loop-next.rest.now in
+    let more : List (List ℕ) = components c.in-Some.next.rest.now in
+    let pushes : PushesOut W c.loop-next.worktree c.push_out.new.worktree way (is_link_of a.mode) a.checkout.validate.protect_windows name true c.loop-next.self c.push_out.new.self c.push_out.result =
+    subst (λ (x : Way). PushesOut W c.loop-next.worktree c.push_out.new.worktree x (is_link_of a.mode) a.checkout.validate.protect_windows name true c.loop-next.self c.push_out.new.self c.push_out.result) ways c.push_out.ensures in
+    record {
+      gone = λ s0 t t1 told holds told1 may kept plain k.
+          let is : IsOutcome (checked_out way (unchanged t (mkdirs a.self.now)) before.done) (W.told c.loop-next.worktree) (mkdirs c.loop-next.self) makes.Made = before.goes.works.tree t told in
+          let tm : Names = (checked_out way (unchanged t (mkdirs a.self.now)) before.done).tree in
+          let mid : Keeping (made_of a.self.now) s0 tm c.loop-next.self.at c.loop-next.self.attributes c.loop-next.self.ignore = before.keeps s0 t tm told holds is.tree_is may kept k in
+          kept-by s0 (made_of c.loop-next.self) (made_of a.self.now) before.goes.made t1
+          (pushed-kept W F way (is_link_of a.mode) a.checkout.validate.protect_windows c.loop-next.self c.push_out.new.self name [] true c.push_out.result before.some pushes s0 tm t1 is.tree_is told1
+          (may-first way (made_of a.self.now) (made_of c.loop-next.self) a.self.now.at c.loop-next.self.at before.taken name more (components a.left.now) before.goes.made
+          (taken-names (deepest_names a.self.now.at) before.taken rest (components a.left.now) c.loop-next.self.at before.below before.parts)
+          (before.parts ∙ ap (λ (l : List (List ℕ)). before.taken ++ l) c.in-Some.ensures.0) may)
+          (λ made. keeps-left way (components a.left.now) before.taken more name (before.parts ∙ ap (λ (l : List (List ℕ)). before.taken ++ l) c.in-Some.ensures.0) true (sym c.in-Some.ensures.2 ∙ c.if-next.true) made kept) plain
+          (keeping-by s0 (made_of c.loop-next.self) (made_of a.self.now) (sym before.goes.made) tm mid));
+    }
+
+pub returns-then-next-clause-last : goal.returns-then-next-clause-last
+returns-then-next-clause-last g c =
+    let W = g.W.Worktree in
+    let a = c.args in
+    let before = c.loop-next.invariant in
+    let way : Way = way_of a.checkout (W.precomposes a.worktree.now) a.self.now.root (is_dir_of a.mode) in
+    let there : Way = way_of a.checkout (W.precomposes c.loop-next.worktree) c.loop-next.self.root (is_dir_of a.mode) in
+    let ways : there ≡ way = way-same a.checkout (is_dir_of a.mode) (W.precomposes a.worktree.now) (W.precomposes c.loop-next.worktree) a.self.now.root c.loop-next.self.root before.goes.alters.precomposes (ap (λ (m : Made). m.root) before.goes.made) in
+    let name : List ℕ = c.in-Some.next.name.now in
+    let pushes : PushesOut W c.loop-next.worktree c.push_out.new.worktree way (is_link_of a.mode) a.checkout.validate.protect_windows name true c.loop-next.self c.push_out.new.self c.push_out.result =
+    subst (λ (x : Way). PushesOut W c.loop-next.worktree c.push_out.new.worktree x (is_link_of a.mode) a.checkout.validate.protect_windows name true c.loop-next.self c.push_out.new.self c.push_out.result) ways c.push_out.ensures in
+    last-there W way (is_link_of a.mode) a.checkout.validate.protect_windows c.loop-next.self c.push_out.new.self name (deepest_names a.self.now.at) (components a.left.now) before.taken (components c.in-Some.next.rest.now) c.push_out.result pushes
+    pushes.changes.untold (sym c.in-Some.ensures.2 ∙ c.if-next.true) (before.below.whole_is ∙ ap (λ (l : List (List ℕ)). deepest_names c.loop-next.self.at ++ l) c.in-Some.ensures.0)
+    (before.parts ∙ ap (λ (l : List (List ℕ)). before.taken ++ l) c.in-Some.ensures.0)
+
+pub returns-clause-goes : goal.returns-clause-goes
+returns-clause-goes g c =
+    let W = g.W.Worktree in
+    let F = g.F.Find in
+    let a = c.args in
+    let before = c.loop-next.invariant in
+    let way : Way = way_of a.checkout (W.precomposes a.worktree.now) a.self.now.root (is_dir_of a.mode) in
+    let none : components c.loop-next.rest.now ≡ [] = search rules in
+    goes-as W F way (is_link_of a.mode) a.checkout.validate.protect_windows (Ok tt) (no-calls _ before.done (deepest_names c.loop-next.self.at) (components c.loop-next.rest.now) before.front none)
+    (before.parts ∙ ap (λ (l : List (List ℕ)). before.taken ++ l) none ∙ append-nil before.taken)
+    (goes-left W F way (is_link_of a.mode) a.checkout.validate.protect_windows before.goes c.leave.ensures)
+
+pub returns-clause-keeps : goal.returns-clause-keeps
+returns-clause-keeps g c =
+    let before = c.loop-next.invariant in
+    let made = made_of c.args.self.now in
+    record {
+      gone = λ s0 t t1 told holds told1 may kept plain k.
+          subst (λ (s : Stacked). Kept made s0 t1 s.at s.attributes s.ignore) (sym c.leave.ensures)
+          (kept-now made s0 may.alone t1 c.loop-next.self.at c.loop-next.self.attributes c.loop-next.self.ignore (before.keeps s0 t t1 told holds told1 may kept k));
+    }
+
+pub returns-clause-last : goal.returns-clause-last
+returns-clause-last g c =
+    let before = c.loop-next.invariant in
+    let none : components c.loop-next.rest.now ≡ [] = search rules in
+    record {
+      last = λ t1 told1 makes path parts normal keeps. inl (rest-none (deepest_names c.args.self.now.at) (components c.args.left.now)
+          (before.below.whole_is ∙ ap (λ (l : List (List ℕ)). deepest_names c.loop-next.self.at ++ l) none ∙ append-nil (deepest_names c.loop-next.self.at) ∙ before.below.end none));
+    }

@@ -1,0 +1,83 @@
+use Rattle.std.proofs.Common.{◌≡◌, ◌∙◌, ◌++◌, ◌∷◌, [], ℕ, List, refl, sym, ap, subst, arith, Ok, Err, rules}
+use Rattle.std.specs.Prelude.{IsErrAnd, Result, is_some, false}
+use Rattle.gitbase_core.specs.Objects.{Objects}
+use Rattle.worktree_fs.specs.Paths.{spelled}
+use Rattle.worktree_fs.specs.PathStack.{deepest_names, push, push_directory}
+use Rattle.worktree_stack.specs.declared.error.AtPathError.{AtPathError}
+use Rattle.worktree_stack.specs.GoesOn.{Goes, KeepsOn, PushesOut, with_mkdirs}
+use Rattle.worktree_stack.specs.Lookups.{is_dir_of, stepped}
+use Rattle.worktree_stack.specs.Making.{Way, is_link_of, mkdirs, way_of}
+use Rattle.worktree_stack.specs.Stacked.{Stacked, made_of}
+use Rattle.worktree_stack.proofs.Asked.{asked-directory}
+use Rattle.worktree_stack.proofs.InStep.{pushed-below}
+use Rattle.worktree_stack.proofs.Refusals.{is_err}
+use Rattle.worktree_stack.proofs.Going.{goes-then, goes-more, goes-as, goes-pushed, goes-unpushed}
+use Rattle.worktree_stack.proofs.KeptSteps.{keeps-refused, keeps-passed}
+use Rattle.worktree_stack.proofs.stack.Stack.step_out.Goals as goal
+
+pub returns-in_err-push_out-clause-goes : goal.returns-in_err-push_out-clause-goes
+returns-in_err-push_out-clause-goes g c =
+    let W = g.W.Worktree in
+    let F = g.F.Find in
+    let a = c.args in
+    let way : Way = way_of a.checkout (W.precomposes a.worktree.now) a.self.now.root (is_dir_of a.mode) in
+    let e : AtPathError = c.in_err-push_out.field-0.0 in
+    let same : IsErrAnd c.from_residual.result (λ x. x ≡ e) = search rules in
+    let path : List ℕ = spelled (deepest_names a.self.now.at ++ a.name.now ∷ []) in
+    let pushes : PushesOut W a.worktree.now c.push_out.new.worktree way (is_link_of a.mode) a.checkout.validate.protect_windows a.name.now false a.self.now c.push_out.new.self (Err e) =
+    subst (λ (r : Result (Unit {0}) AtPathError). PushesOut W a.worktree.now c.push_out.new.worktree way (is_link_of a.mode) a.checkout.validate.protect_windows a.name.now false a.self.now c.push_out.new.self r) c.in_err-push_out.was c.push_out.ensures in
+    subst (λ (r : Result (Unit {0}) AtPathError). Goes W F a.worktree.now c.push_out.new.worktree a.objects.now a.objects.now way (is_link_of a.mode) a.checkout.validate.protect_windows (push path false ∷ push_directory path ∷ []) (a.name.now ∷ []) a.self.now c.push_out.new.self r)
+    (sym (is_err c.from_residual.result e same))
+    (goes-more W F way (is_link_of a.mode) a.checkout.validate.protect_windows e (push_directory path ∷ []) []
+    (goes-pushed W F way (is_link_of a.mode) a.checkout.validate.protect_windows a.objects.now a.self.now c.push_out.new.self a.name.now false (Err e) pushes))
+
+pub returns-clause-goes : goal.returns-clause-goes
+returns-clause-goes g c =
+    let W = g.W.Worktree in
+    let F = g.F.Find in
+    let a = c.args in
+    let way : Way = way_of a.checkout (W.precomposes a.worktree.now) a.self.now.root (is_dir_of a.mode) in
+    let protects = a.checkout.validate.protect_windows in
+    let path : List ℕ = spelled (deepest_names a.self.now.at ++ a.name.now ∷ []) in
+    let mid : Stacked = c.push_out.new.self in
+    let pushes : PushesOut W a.worktree.now c.push_out.new.worktree way (is_link_of a.mode) protects a.name.now false a.self.now mid (Ok tt) =
+    subst (λ (r : Result (Unit {0}) AtPathError). PushesOut W a.worktree.now c.push_out.new.worktree way (is_link_of a.mode) protects a.name.now false a.self.now mid r) c.in_ok-push_out.was c.push_out.ensures in
+    let current : mid.current ≡ deepest_names a.self.now.at ++ a.name.now ∷ [] = ap (λ (s : Stacked). s.current) pushes.passed in
+    let at : mid.at ≡ a.self.now.at = ap (λ (s : Stacked). s.at) pushes.passed in
+    let below = pushed-below mid.at mid.current a.name.now (ap is_some at ∙ c.requires.some) (current ∙ sym (ap (λ d. deepest_names d ++ a.name.now ∷ []) at)) in
+    let went = c.push_directory.ensures in
+    subst (λ (p : List ℕ). Goes W F a.worktree.now c.push_directory.new.worktree a.objects.now c.push_directory.new.objects way (is_link_of a.mode) protects (push path false ∷ push_directory p ∷ []) (a.name.now ∷ []) a.self.now c.push_directory.new.self c.push_directory.result)
+    (ap spelled current)
+    (goes-then W F way (is_link_of a.mode) protects c.push_directory.result
+    (goes-pushed W F way (is_link_of a.mode) protects a.objects.now a.self.now mid a.name.now false (Ok tt) pushes)
+    (goes-unpushed W F way (is_link_of a.mode) protects (push_directory (spelled mid.current) ∷ []) mid c.push_directory.new.self tt went.leaves went.leaves_store
+    c.push_directory.result went.made (went.carried below) went.stopped went.mkdirs went.is_dir went.answered went.platforms (went.levels below) went.store_untouched
+    (omega (arith, went.asked, asked-directory (made_of mid) (spelled mid.current)))))
+
+pub returns-in_err-push_out-clause-keeps : goal.returns-in_err-push_out-clause-keeps
+returns-in_err-push_out-clause-keeps g c =
+    let W = g.W.Worktree in
+    let F = g.F.Find in
+    let a = c.args in
+    let way : Way = way_of a.checkout (W.precomposes a.worktree.now) a.self.now.root (is_dir_of a.mode) in
+    let e : AtPathError = c.in_err-push_out.field-0.0 in
+    let same : IsErrAnd c.from_residual.result (λ x. x ≡ e) = search rules in
+    let pushes : PushesOut W a.worktree.now c.push_out.new.worktree way (is_link_of a.mode) a.checkout.validate.protect_windows a.name.now false a.self.now c.push_out.new.self (Err e) =
+    subst (λ (r : Result (Unit {0}) AtPathError). PushesOut W a.worktree.now c.push_out.new.worktree way (is_link_of a.mode) a.checkout.validate.protect_windows a.name.now false a.self.now c.push_out.new.self r) c.in_err-push_out.was c.push_out.ensures in
+    subst (λ (r : Result (Unit {0}) AtPathError). KeepsOn W F a.worktree.now c.push_out.new.worktree a.objects.now way (a.name.now ∷ []) a.self.now c.push_out.new.self r)
+    (sym (is_err c.from_residual.result e same))
+    (keeps-refused W F way (is_link_of a.mode) a.checkout.validate.protect_windows a.objects.now a.self.now c.push_out.new.self a.name.now false e c.requires.some pushes)
+
+pub returns-clause-keeps : goal.returns-clause-keeps
+returns-clause-keeps g c =
+    let W = g.W.Worktree in
+    let F = g.F.Find in
+    let a = c.args in
+    let way : Way = way_of a.checkout (W.precomposes a.worktree.now) a.self.now.root (is_dir_of a.mode) in
+    let protects = a.checkout.validate.protect_windows in
+    let mid : Stacked = c.push_out.new.self in
+    let pushes : PushesOut W a.worktree.now c.push_out.new.worktree way (is_link_of a.mode) protects a.name.now false a.self.now mid (Ok tt) =
+    subst (λ (r : Result (Unit {0}) AtPathError). PushesOut W a.worktree.now c.push_out.new.worktree way (is_link_of a.mode) protects a.name.now false a.self.now mid r) c.in_ok-push_out.was c.push_out.ensures in
+    let went = c.push_directory.ensures in
+    keeps-passed W F way (is_link_of a.mode) protects a.objects.now a.self.now mid c.push_directory.new.self a.name.now c.requires.some pushes went.leaves.tree
+    c.push_directory.result went.made went.at went.at_refused went.held went.held_lists went.lists

@@ -1,0 +1,207 @@
+//! The steps of a lookup that makes the directories on its way, in a checkout.
+ghost use Rattle.std.specs.Prelude.{◌≡◌, ◌≤◌, ◌++◌, ◌∷◌, [], true, false, is_some, length, None, IfErr, OnOk, OnErr};
+ghost use Rattle.gitbase_core.specs.Path.{components};
+ghost use Rattle.worktree_fs.specs.Causes.{Increased};
+ghost use Rattle.worktree_fs.specs.Kept.{AsksStore};
+ghost use Rattle.worktree_fs.specs.Paths.{IsComponent, full_path, spelled};
+ghost use Rattle.worktree_fs.specs.PathStack.{deepest_names, push, calls_for, calls_below, lookup_calls, IsOnWay};
+ghost use Rattle.worktree_stack.specs.ChecksOut.{left_of};
+ghost use Rattle.worktree_stack.specs.GoesOn.{Goes, GoesWithin, KeepsAll, KeepsOn, LeavesLast, PushesOut, Readies, is_wanted};
+ghost use Rattle.worktree_stack.specs.Lookups.{is_dir_of, IsLookedUp, staying};
+ghost use Rattle.worktree_stack.specs.Making.{is_link_of, is_known, is_made, way_of};
+ghost use Rattle.worktree_stack.specs.Stacked.{IsLevel, made_of, pushed};
+ghost use Rattle.worktree_stack.specs.Validate.{component_error};
+
+use super::Stack;
+use super::steps::mode_is_dir;
+use crate::AtPathError;
+use crate::delegate::create_leading_directory;
+use crate::state::Checkout;
+use crate::validate::component;
+use gitbase_core::{Find, Mode};
+use std::alloc::Global;
+use worktree_fs::{Worktree, next_component};
+
+impl Stack {
+    /// How directories are made on the way to a path, where they are.
+    pub(super) fn checkout(&self) -> Option<Checkout>
+        ensures checkout { result ≡ self.now.checkout }
+        ensures alone { is_some result ≡ true → self.now.ignore ≡ None }
+    {
+        self.state.checkout()
+    }
+
+    /// Tests the component that is the last one of the current path, and sees to it that a directory is there, where one is to be.
+    fn ready<W: Worktree>(
+        &mut self,
+        alloc: Global,
+        name: &[u8],
+        is_last: bool,
+        checkout: Checkout,
+        mode: Option<Mode>,
+        worktree: &mut W,
+    ) -> Result<(), AtPathError>
+        ensures { Readies W.Worktree worktree.old worktree.new
+            (way_of checkout (W.precomposes worktree.old) self.old.root (is_dir_of mode))
+            (is_link_of mode) checkout.validate.protect_windows name.now is_last self.old self.new
+            result }
+    {
+        if let Err(why) = component(name, is_link(mode), checkout.validate) {
+            return Err(AtPathError::Component(why));
+        }
+        if !is_wanted(is_last, mode) {
+            return Ok(());
+        }
+        create_leading_directory(
+            alloc,
+            self.stack.current(),
+            checkout.unlink_on_collision,
+            worktree,
+            &mut self.statistics.delegate.num_mkdir_calls,
+        )
+    }
+
+    /// Makes the path current that lies one component below the deepest directory, where it may be checked out. Where that is refused
+    /// the deepest directory is the current path.
+    /// See docs/DECISIONS.md#checkout-refused-push.
+    fn push_out<W: Worktree>(
+        &mut self,
+        alloc: Global,
+        name: &[u8],
+        is_last: bool,
+        checkout: Checkout,
+        mode: Option<Mode>,
+        worktree: &mut W,
+    ) -> Result<(), AtPathError>
+        requires { IsComponent name.now }
+        ensures { PushesOut W.Worktree worktree.old worktree.new
+            (way_of checkout (W.precomposes worktree.old) self.old.root (is_dir_of mode))
+            (is_link_of mode) checkout.validate.protect_windows name.now is_last self.old self.new
+            result }
+    {
+        self.push(alloc, name)?;
+        if let Err(refused) = self.ready(alloc, name, is_last, checkout, mode, worktree) {
+            self.leave();
+            return Err(refused);
+        }
+        Ok(())
+    }
+
+    /// Pushes the component below the deepest directory as a directory that is there, with its rules.
+    fn step_out<W: Worktree, F: Find>(
+        &mut self,
+        alloc: Global,
+        name: &[u8],
+        checkout: Checkout,
+        mode: Option<Mode>,
+        worktree: &mut W,
+        objects: &mut F,
+    ) -> Result<(), AtPathError>
+        requires component { IsComponent name.now }
+        requires some { is_some self.old.at ≡ true }
+        ensures goes { Goes W.Worktree F.Find worktree.old worktree.new objects.old objects.new
+            (way_of checkout (W.precomposes worktree.old) self.old.root (is_dir_of mode))
+            (is_link_of mode) checkout.validate.protect_windows
+            (calls_for (deepest_names self.old.at) name.now false) (name.now ∷ []) self.old self.new
+            result }
+        ensures at { OnOk result (self.new.at ≡ Some (deepest_names self.old.at ++ name.now ∷ [])) }
+        ensures at_refused { OnErr result (self.new.at ≡ self.old.at) }
+        ensures keeps { KeepsOn W.Worktree F.Find worktree.old worktree.new objects.old
+            (way_of checkout (W.precomposes worktree.old) self.old.root (is_dir_of mode))
+            (name.now ∷ []) self.old self.new result }
+    {
+        self.push_out(alloc, name, false, checkout, mode, worktree)?;
+        self.push_directory(alloc, worktree, objects)
+    }
+
+    /// Pushes the components that are left of a path below the deepest directory, all but the last one as directories that are there, with
+    /// their rules.
+    fn rest_out<W: Worktree, F: Find>(
+        &mut self,
+        alloc: Global,
+        left: &[u8],
+        checkout: Checkout,
+        mode: Option<Mode>,
+        worktree: &mut W,
+        objects: &mut F,
+    ) -> Result<(), AtPathError>
+        requires some { is_some self.old.at ≡ true }
+        requires end { components left.now ≡ [] → deepest_names self.old.at ≡ [] }
+        ensures goes { Goes W.Worktree F.Find worktree.old worktree.new objects.old objects.new
+            (way_of checkout (W.precomposes worktree.old) self.old.root (is_dir_of mode))
+            (is_link_of mode) checkout.validate.protect_windows
+            (calls_below (deepest_names self.old.at) (components left.now)) (components left.now)
+            self.old self.new result }
+        ensures some { is_some self.new.at ≡ true }
+        ensures looked_up { OnOk result
+            (IsLookedUp self.new (deepest_names self.old.at ++ components left.now)) }
+        ensures on_way { OnErr result
+            (IsOnWay self.new.at (deepest_names self.old.at ++ components left.now)) }
+        ensures stays { length (deepest_names self.old.at) ≤ length (deepest_names self.new.at) }
+        ensures keeps { KeepsAll W.Worktree F.Find worktree.old worktree.new objects.old
+            (way_of checkout (W.precomposes worktree.old) self.old.root (is_dir_of mode))
+            (components left.now) self.old self.new result }
+        ensures last { LeavesLast W.Worktree worktree.new
+            (way_of checkout (W.precomposes worktree.old) self.old.root (is_dir_of mode))
+            (deepest_names self.old.at) (components left.now) result }
+    {
+        let mut rest = left;
+        while let Some(next) = next_component(rest) {
+            if next.is_last {
+                return self.push_out(alloc, next.name, true, checkout, mode, worktree);
+            }
+            self.step_out(alloc, next.name, checkout, mode, worktree, objects)?;
+            rest = next.rest;
+        }
+        self.leave();
+        Ok(())
+    }
+
+    /// Goes to a normal path, and makes the directories on the way to it.
+    /// See docs/DECISIONS.md#checkout-composes.
+    pub(super) fn check_out<W: Worktree, F: Find>(
+        &mut self,
+        alloc: Global,
+        relative: &[u8],
+        checkout: Checkout,
+        mode: Option<Mode>,
+        worktree: &mut W,
+        objects: &mut F,
+    ) -> Result<(), AtPathError>
+        ensures goes { Goes W.Worktree F.Find worktree.old worktree.new objects.old objects.new
+            (way_of checkout (W.precomposes worktree.old) self.old.root (is_dir_of mode))
+            (is_link_of mode) checkout.validate.protect_windows
+            (lookup_calls self.old.at (components relative.now))
+            (left_of self.old.at (components relative.now)) self.old self.new result }
+        ensures looked_up { OnOk result (IsLookedUp self.new (components relative.now)) }
+        ensures on_way { OnErr result (IsOnWay self.new.at (components relative.now)) }
+        ensures stays { length (pushed (staying self.old.at (components relative.now))) ≤ length
+            (pushed self.new.at) }
+        ensures within { GoesWithin W.Worktree F.Find worktree.old worktree.new objects.old
+            objects.new (way_of checkout (W.precomposes worktree.old) self.old.root
+            (is_dir_of mode)) (components relative.now)
+            (left_of self.old.at (components relative.now)) self.old self.new result }
+    {
+        self.push_root(alloc, worktree, objects)?;
+        self.pop_surplus(relative);
+        let left = self.rest(relative);
+        self.rest_out(alloc, left, checkout, mode, worktree, objects)
+    }
+}
+
+/// Whether a link is to be made at a path.
+fn is_link(mode: Option<Mode>) -> bool
+    ensures { result ≡ is_link_of mode }
+{
+    match mode {
+        Some(mode) => mode == Mode::SYMLINK,
+        None => false,
+    }
+}
+
+/// Whether a directory is to be at a component.
+fn is_wanted(is_last: bool, mode: Option<Mode>) -> bool
+    ensures { result ≡ is_wanted is_last (is_dir_of mode) }
+{
+    !is_last || mode_is_dir(mode) == Some(true)
+}

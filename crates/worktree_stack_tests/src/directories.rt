@@ -1,0 +1,158 @@
+//! Lookups that make the directories on their way, in a checkout.
+use crate::checkout::{component_word, kind_word, parted, plan, tree_of};
+use crate::steps::is_digit;
+use bstr::ByteSlice;
+use gitbase_core::{Bytes, MemoryStore, Mode, OutOfMemory, PathText};
+use glob_rules::Case;
+use glob_rules::attributes::{MetadataCollection, Search};
+use std::alloc::Global;
+use worktree_fs::{MemoryWorktree, Worktree};
+use worktree_stack::validate::Options;
+use worktree_stack::{AtPathError, Attributes, DirectoryWhy, Stack, State, attributes_source};
+
+/// What stands at `/w/a` (`l` a link to a directory, `f` a file, `-` nothing), or what else the tree is; whether what is in the way is
+/// removed (`u`), and the call that fails with its number. Then for each lookup the path, the mode (`m` a submodule, `l` a link, `e` none, for
+/// an entry), what is answered, how often a directory was asked for and pushed in all, and a path with the node that is there then.
+///
+/// See docs/DECISIONS.md#checkout-removes-rules.
+const LOOKUPS: &[u8] = b"\
+l`-`-`a/f`-`collision`1`1`/w/a`l\n\
+l`u`-`a/f`-`ok`2`2`/w/a`d\n\
+-`-`-`a/b/f`-`ok`2`3`/w/a/b`d;m`m`ok`3`3`/w/m`d;a/g`-`ok`4`4`/w/a/g`-\n\
+-`-`m1`x/f`-`fault`1`1`/w/x`-;x/f`-`ok`2`2`/w/x`d\n\
+l`u`m1`a/f`-`fault`1`1`/w/a`l;a/f`-`ok`3`2`/w/a`d\n\
+l`u`m2`a/f`-`fault`2`1`/w/a`-;a/f`-`ok`3`2`/w/a`d\n\
+l`u`r1`a/f`-`fault`1`1`/w/a`l;a/f`-`ok`3`2`/w/a`d\n\
+f`-`-`a`-`ok`0`1`/w/a`f\n\
+-`-`-`b/.GIT/f`-`dot git`1`2`/w/b/.GIT`-\n\
+-`-`-`.gitmodules`l`modules link`0`1`/w/.gitmodules`-\n\
+-`-`-`.gitmodules`-`ok`0`1`/w/.gitmodules`-\n\
+-`-`-`a/../b`-`not normal`0`0`/w/a`-\n\
+-`-`-`a/b/`e`ok`2`2`/w/a/b`d;a/c`e`ok`2`2`/w/a/c`-\n\
+-`-`m3`a/b/c/f`-`fault`3`3`/w/a/b/c`-;a/b/g`-`ok`3`3`/w/a/b`d\n\
+r`-`-`.gitattributes/f`-`collision`1`1`/w/.gitattributes`f\n\
+r`u`-`.gitattributes/f`-`ok`2`2`/w/.gitattributes`d\n\
+-`-`-`x\x00/f`-`no parent`1`1`/w/x\x00`-\n\
+c`u`-`a\xcc\x88/f`-`ok`1`2`/w/\xc3\xa4`d;b/f`-`ok`2`3`/w/b`d;a\xcc\x88/g`-`collision`4`3`/w/a\xcc\x88`-\n\
+c`-`-`a\xcc\x88/b/f`-`no parent`2`2`/w/a\xcc\x88/b`-\n";
+
+/// A stack for a checkout below `/w`.
+fn stack_of(alloc: Global, unlinks: bool) -> Result<Stack, OutOfMemory> {
+    let attributes = Attributes::new(
+        alloc,
+        Search::new(alloc),
+        None,
+        attributes_source::Source::WorktreeThenIdMapping,
+        MetadataCollection::new(alloc),
+    );
+    let options = Options {
+        protect_windows: false,
+    };
+    Ok(Stack::new(
+        alloc,
+        PathText::from_bytes(alloc, b"/w")?,
+        State::for_checkout(unlinks, options, attributes),
+        Case::Sensitive,
+        Bytes::new(alloc),
+        Vec::new(alloc),
+    ))
+}
+
+fn mode_of(letter: &[u8]) -> Option<Mode> {
+    match letter.first() {
+        Some(b'm') => Some(Mode::COMMIT),
+        Some(b'l') => Some(Mode::SYMLINK),
+        _ => None,
+    }
+}
+
+/// The word of a refusal about `at`, if it is about `path`.
+fn word_at(at: &PathText, path: &[u8], word: &'static [u8]) -> &'static [u8] {
+    if at.as_bytes() == path {
+        return word;
+    }
+    b"another"
+}
+
+fn why_word(why: DirectoryWhy) -> &'static [u8] {
+    match why {
+        DirectoryWhy::NoParent => b"no parent",
+        DirectoryWhy::Fault => b"fault",
+    }
+}
+
+fn answer_word(answer: &Result<(), AtPathError>, path: &[u8]) -> &'static [u8] {
+    match answer {
+        Ok(()) => b"ok",
+        Err(AtPathError::NotNormal) => b"not normal",
+        Err(AtPathError::Component(why)) => component_word(Err(*why)),
+        Err(AtPathError::Collision { path: at }) => word_at(at, path, b"collision"),
+        Err(AtPathError::Directory { path: at, why }) => word_at(at, path, why_word(*why)),
+        Err(_) => b"another",
+    }
+}
+
+/// A lookup of a path, or of an entry without a mode (`e`).
+fn look(
+    alloc: Global,
+    stack: &mut Stack,
+    tree: &mut MemoryWorktree,
+    path: &[u8],
+    mode: &[u8],
+) -> Result<(), AtPathError> {
+    let mut store = MemoryStore::new(alloc);
+    if mode == b"e".as_slice() {
+        return stack.at_entry(alloc, path, None, tree, &mut store);
+    }
+    stack.at_path(alloc, path, mode_of(mode), tree, &mut store)
+}
+
+/// Whether a lookup answers so, and leaves the counts and the node.
+fn goes(alloc: Global, stack: &mut Stack, tree: &mut MemoryWorktree, step: &[u8]) -> bool {
+    let (path, rest) = parted(step);
+    let (mode, rest) = parted(rest);
+    let (want, rest) = parted(rest);
+    let (mkdirs, rest) = parted(rest);
+    let (pushed, rest) = parted(rest);
+    let (at, kind) = parted(rest);
+    let answer = look(alloc, stack, tree, path, mode);
+    let counts = stack.statistics().delegate;
+    let after = tree.kind(alloc, at).unwrap_or(None);
+    answer_word(&answer, at) == want
+        && is_digit(counts.num_mkdir_calls, mkdirs)
+        && is_digit(counts.push_directory, pushed)
+        && kind_word(after) == kind
+}
+
+/// Whether each lookup of some goes so.
+fn all_go(alloc: Global, stack: &mut Stack, tree: &mut MemoryWorktree, steps: &[u8]) -> bool {
+    for step in steps.split(|byte| *byte == b';') {
+        if !goes(alloc, stack, tree, step) {
+            return false;
+        }
+    }
+    true
+}
+
+fn is_looked_up(alloc: Global, row: &[u8]) -> bool {
+    let (node, rest) = parted(row);
+    let (unlinks, rest) = parted(rest);
+    let (call, steps) = parted(rest);
+    let Ok(mut tree) = tree_of(alloc, node) else {
+        return false;
+    };
+    let Ok(mut stack) = stack_of(alloc, unlinks == b"u".as_slice()) else {
+        return false;
+    };
+    if plan(alloc, &mut tree, call).is_err() {
+        return false;
+    }
+    all_go(alloc, &mut stack, &mut tree, steps)
+}
+
+#[test]
+fn lookups(rt: HostRuntime) {
+    for row in LOOKUPS.lines() {
+        assert!(rt; is_looked_up(rt.alloc(), row), "{row:?}");
+    }
+}
