@@ -12,11 +12,12 @@ use Rattle.dir_classify.specs.declared.entry.PathspecMatch.{PathspecMatch}
 use Rattle.dir_classify.specs.declared.entry.Status.TheVariants.{Pruned, Untracked}
 use Rattle.dir_classify.specs.declared.index.InIndex.{InIndex}
 use Rattle.dir_classify.specs.Chosen.{Chosen}
-use Rattle.dir_classify.specs.Class.{dot_git, match_of, class_in_index, class_indexed, indexed_kind, class_seen, class_ignored, ignored_kind, class_free, class_directory, class_other, class_by_rules, upgraded}
+use Rattle.dir_classify.specs.Class.{dot_git, match_of, class_in_index, class_indexed, indexed_kind, class_seen, class_ignored, ignored_kind, class_free, class_directory, class_other, class_by_rules, is_idle, seeks_indexed, upgraded}
 use Rattle.dir_classify.specs.Evidence.{Evidence, GitAt}
 use Rattle.dir_classify.specs.Faults.{FailedAt, IsJudged, IsSeenAs, at_read, none_failed, read_as}
 use Rattle.dir_classify.specs.Kinds.{holds_names}
 use Rattle.dir_classify.specs.Layers.{Setting, evidence, git_at, indexed_as}
+use Rattle.dir_classify.proofs.Sought.{indexed-idle, upgraded-idle}
 use Rattle.dir_classify.proofs.Upgrades.{judged-by, judged-unread}
 
 module _ (given : Setting) (made : Option Made) (s : Sources) (path full : List ℕ) (full_is : full ≡ full_path given.root path) (entry : InIndex)
@@ -71,6 +72,10 @@ module _ (given : Setting) (made : Option Made) (s : Sources) (path full : List 
       judged-by n0 n1 (indexed_kind given.options entry kind) (λ x. class_in_index entry x found) (λ _ ev. class_indexed given.options ev path kind) (evidence given made s) path on_disk
       (λ a b. parts (λ e f. class_in_index e (indexed_kind given.options e kind (at_as a) (below_as b)) f)) k (seen n0 n1 (indexed_kind given.options entry kind) k is)
 
+  -- where none is looked for, the kind stays
+  pub indexed-still : (k : Option Kind) → k ≡ kind → is_idle given.options (seeks_indexed entry kind) ≡ true → class_in_index entry k found ≡ class_indexed given.options (evidence given made s) path kind
+  indexed-still k same idle = indexed-class k (same ∙ indexed-idle given.options entry kind at below idle)
+
   pub ignored-class : (excluded : IgnoredAs) (k : Option Kind) → k ≡ ignored_kind given.options kind at below
       → class_seen given.options path excluded entry found k ≡ class_ignored given.options (evidence given made s) path kind excluded
   ignored-class excluded k k_is =
@@ -96,6 +101,10 @@ module _ (given : Setting) (made : Option Made) (s : Sources) (path full : List 
   directory-judged n0 n1 on_disk k is =
       judged-by n0 n1 looked (λ x. class_free Untracked entry x found) (λ _ ev. class_directory given.options ev path kind) (evidence given made s) path on_disk
       (λ a b. parts (λ e f. class_free Untracked e (looked (at_as a) (below_as b)) f)) k (seen n0 n1 looked k is)
+
+  pub directory-still : (k : Option Kind) → k ≡ kind → is_idle given.options true ≡ true → class_free Untracked entry k found ≡ class_directory given.options (evidence given made s) path kind
+  directory-still k same idle =
+      directory-class k (same ∙ upgraded-idle given.options given.options.classify_untracked_bare_repositories kind at below idle)
 
   -- anything but a directory, with evidence that says the same of the index and of the path specs
   other-by : (ev : Evidence) → holds_names kind ≡ false

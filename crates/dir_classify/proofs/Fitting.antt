@@ -7,9 +7,10 @@ use Rattle.worktree_stack.specs.Setup.{Made}
 use Rattle.dir_classify.specs.declared.entry.Kind.{Kind}
 use Rattle.dir_classify.specs.declared.index.InIndex.{InIndex}
 use Rattle.dir_classify.specs.Chosen.{Chosen}
-use Rattle.dir_classify.specs.Class.{asks, asks_nothing, class, class_unmatched, is_dot_git, settled_kind, class_dot_git, dot_git_ruling, class_indexed, class_of_kind, class_unindexed, class_worktree, asks_of_kind, is_idle, is_idle_of_kind, is_indexed, is_kind_known, is_worktree, ruling_of, seeks_indexed, seeks_by_rules}
+use Rattle.dir_classify.specs.Class.{asks, asks_nothing, seeks, seeks_of_kind, class, class_unmatched, is_dot_git, settled_kind, class_dot_git, dot_git_ruling, class_indexed, class_of_kind, class_unindexed, class_worktree, asks_of_kind, is_idle, is_idle_of_kind, is_indexed, is_kind_known, is_worktree, ruling_of, seeks_indexed, seeks_by_rules}
 use Rattle.dir_classify.specs.Evidence.{Evidence}
-use Rattle.dir_classify.specs.Kinds.{first_of_kinds, is_dir}
+use Rattle.std.specs.Option.{option_or}
+use Rattle.dir_classify.specs.Kinds.{is_dir}
 use Rattle.dir_classify.specs.Layers.{Setting, evidence, indexed_as, is_unread_in}
 
 pub worktree-case : (o : Chosen) (ev : Evidence) (path : List ℕ) (kind : Option Kind) → is_worktree o path ≡ true → class_worktree ev path kind ≡ class_of_kind o ev path kind
@@ -82,6 +83,16 @@ pub kind-asks : (o : Chosen) (ev : Evidence) (path : List ℕ) (known k : Option
 unfolding asks
 kind-asks o ev path known k none can = rw (none, can) refl
 
+pub unmatched-seeks : (o : Chosen) (ev : Evidence) (path : List ℕ) (known k : Option Kind) → is_dot_git o.ignore_case path ≡ false → ev.can_match path (is_dir known) ≡ false
+    → seeks o ev path known k ≡ false
+unfolding seeks
+unmatched-seeks o ev path known k none cannot = rw (none, cannot) refl
+
+pub kind-seeks : (o : Chosen) (ev : Evidence) (path : List ℕ) (known k : Option Kind) → is_dot_git o.ignore_case path ≡ false → ev.can_match path (is_dir known) ≡ true
+    → seeks_of_kind o ev path (settled_kind ev path known k) ≡ seeks o ev path known k
+unfolding seeks
+kind-seeks o ev path known k none can = rw (none, can) refl
+
 pub can_match-of : (given : Setting) (made : Option Made) (s : Sources) (path : List ℕ) (d : Option Bool) → (evidence given made s).can_match path d ≡ given.can_match path d
 unfolding evidence
 can_match-of given made s path d = refl
@@ -94,6 +105,12 @@ pub none-asked : (given : Setting) (made : Option Made) (s : Sources) (path : Li
 unfolding evidence
 none-asked given made s path kind none not_indexed e = rw (none, not_indexed) at e
 
+-- and they are where they are given, of another path
+pub asks-unindexed : (given : Setting) (made : Option Made) (s : Sources) (path : List ℕ) (kind : Option Kind) → is_worktree given.options path ≡ false
+    → is_indexed (indexed_as given path) kind ≡ false → (is_some made && not (is_empty path)) ≡ true → asks_of_kind given.options (evidence given made s) path kind ≡ true
+unfolding evidence
+asks-unindexed given made s path kind none not_indexed e = rw (none, not_indexed) e
+
 -- the index has the path, and nothing of it is looked for
 pub idle-indexed : (o : Chosen) (ev : Evidence) (path : List ℕ) (kind : Option Kind) → is_worktree o path ≡ false → is_indexed (ev.in_index path) kind ≡ true
     → is_idle_of_kind o ev path kind ≡ true → is_idle o (seeks_indexed (ev.in_index path) kind) ≡ true
@@ -104,7 +121,7 @@ and-parts true true e = (refl, refl)
 and-parts true false e = absurd (cc e)
 and-parts false b e = absurd (cc e)
 
-not-true : (b : Bool) → not b ≡ true → b ≡ false
+pub not-true : (b : Bool) → not b ≡ true → b ≡ false
 not-true true e = absurd (cc e)
 not-true false e = refl
 
@@ -120,10 +137,10 @@ idle-unindexed given made s path kind none not_indexed e =
 -- nothing is asked, so the kind was known, and nothing of it is looked for
 pub nothing-kind : (o : Chosen) (ev : Evidence) (path : List ℕ) (known : Option Kind) (ask_disk : Bool) → is_dot_git o.ignore_case path ≡ false → ev.can_match path (is_dir known) ≡ true
     → asks_nothing o ev path known ask_disk ≡ true
-    → (is_kind_known ask_disk (ev.in_index path).up_to_date known ≡ true) × (is_idle_of_kind o ev path (first_of_kinds (ev.in_index path).up_to_date known) ≡ true)
+    → (is_kind_known ask_disk (ev.in_index path).up_to_date known ≡ true) × (is_idle_of_kind o ev path (option_or (ev.in_index path).up_to_date known) ≡ true)
 unfolding asks_nothing
 nothing-kind o ev path known ask_disk none can e =
-    and-parts (is_kind_known ask_disk (ev.in_index path).up_to_date known) (is_idle_of_kind o ev path (first_of_kinds (ev.in_index path).up_to_date known)) (rw (none, can) at e)
+    and-parts (is_kind_known ask_disk (ev.in_index path).up_to_date known) (is_idle_of_kind o ev path (option_or (ev.in_index path).up_to_date known)) (rw (none, can) at e)
 
 pub nothing-dot_git : (o : Chosen) (ev : Evidence) (path : List ℕ) (known : Option Kind) (ask_disk : Bool) → is_dot_git o.ignore_case path ≡ true
     → asks_nothing o ev path known ask_disk ≡ true → not (is_some o.for_deletion && ev.is_ruled) ≡ true

@@ -1,4 +1,7 @@
+mod Asking
 mod ByParts
+pub mod Classed
+mod Ended
 mod Fitting
 mod Judging
 mod Keeping
@@ -8,6 +11,10 @@ pub mod NormalPaths
 pub mod Onward
 pub mod Refusals
 mod Ruled
+mod Sought
+mod Stopped
 mod Upgrades
 pub mod WayAsked
+mod WayLeads
+mod WayReached
 mod WayUnread

@@ -6,7 +6,7 @@ use Rattle.gitbase_core.specs.Path.{components}
 use Rattle.glob_rules.specs.declared.ignore.Kind.{Kind as IgnoredAs}
 use Rattle.glob_rules.specs.declared.ignore.Origin.{Origin}
 use Rattle.worktree_fs.specs.Tree.{Names}
-use Rattle.worktree_fs.specs.Paths.{spelled, fronts, without_last}
+use Rattle.worktree_fs.specs.Paths.{spelled, fronts, all_but_last}
 use Rattle.worktree_stack.specs.Setup.{Made, has_excludes, excluded_kind}
 use Rattle.worktree_stack.specs.Excludes.{exclude, rule_of, origin_of}
 use Rattle.worktree_stack.specs.Reading.{Sources, Tells, reading, is_read, rulebook}
@@ -48,8 +48,8 @@ unfolding is_unread_in
 read-looked sources made s path some made_is step at =
     let read : Made → List (List (List ℕ)) → Bool = λ m directories. list_all (λ directory. is_read (reading m sources (spelled directory))) directories in
     let now : read (made_of s) (pushed s.at) ≡ true = step.are_read in
-    let all : read (made_of s) (fronts (without_last (components path))) ≡ true = ap (λ (a : Option (List (List ℕ))). read (made_of s) (pushed a)) (sym at.at) ∙ now in
-    ap (λ (m : Made). not (read m (fronts (without_last (components path))))) (sym made_is) ∙ ap not all
+    let all : read (made_of s) (fronts (all_but_last (components path))) ≡ true = ap (λ (a : Option (List (List ℕ))). read (made_of s) (pushed a)) (sym at.at) ∙ now in
+    ap (λ (m : Made). not (read m (fronts (all_but_last (components path))))) (sym made_is) ∙ ap not all
 
 -- ---- what it leaves pushed
 

@@ -1,5 +1,5 @@
 -- The way to a traversal root, one component after another.
-use Rattle.std.proofs.Common.{◌≡◌, ◌∙◌, ap, sym, ℕ, List, [], ◌∷◌, ◌++◌, Bool, true, false, not, ◌&&◌, Option, Some, None, Ok, Err, refl, inl, subst, append_assoc, arith}
+use Rattle.std.proofs.Common.{◌≡◌, ◌≤◌, ◌∙◌, ap, sym, ℕ, ◌+◌, List, [], ◌∷◌, ◌++◌, Bool, true, false, not, ◌&&◌, Option, Some, None, Ok, Err, refl, subst, append_assoc, arith}
 use Rattle.std.proofs.lemmas.List.{append-nil}
 use Rattle.std.specs.FinMap as map
 use Rattle.std.specs.Prelude.{◌⊎◌, if◌then◌else◌, is_some, IfErr, Result}
@@ -7,37 +7,40 @@ use Rattle.gitbase_core.specs.Path.{components, joined}
 use Rattle.gitbase_core.specs.declared.find.Find.{Ghosts as FindOf}
 use Rattle.worktree_fs.specs.Causes.{Increased, NotIncreased}
 use Rattle.worktree_fs.specs.Kept.{AsksStore}
-use Rattle.worktree_fs.specs.Paths.{IsComponent, is_nil, is_normal, spelled}
+use Rattle.worktree_fs.specs.Paths.{IsComponent, is_normal, spelled}
 use Rattle.worktree_fs.specs.Tree.{none}
 use Rattle.worktree_fs.specs.declared.worktree.Worktree.{Ghosts as WorktreeOf}
-use Rattle.std.proofs.lemmas.Slice.Eq.{bytes_eq-Decides}
-use Rattle.std.specs.Str.{bytes_eq}
-use Rattle.worktree_fs.proofs.Grown.{same_name}
 use Rattle.worktree_fs.proofs.Spelled.{grown-is, grown-components}
 use Rattle.worktree_stack.specs.Reading.{Sources}
 use Rattle.worktree_stack.specs.Setup.{Made}
 use Rattle.worktree_stack.specs.Stacked.{Stacked}
 use Rattle.dir_classify.specs.declared.classify.Outcome.{Outcome}
-use Rattle.dir_classify.specs.declared.classify.RootOutcome.{RootOutcome}
-use Rattle.dir_classify.specs.Excludes.{made_with, maps_blobs, TellsIf, InStepIf}
+use Rattle.dir_classify.specs.Excludes.{made_with, maps_blobs, platforms_of, TellsIf, InStepIf}
 use Rattle.dir_classify.specs.Kept.{AsksRules, KeepsRules, Unasked}
 use Rattle.dir_classify.specs.Layers.{Setting, evidence, is_unread_in, on_disk}
 use Rattle.dir_classify.specs.declared.error.Error.{Error}
-use Rattle.dir_classify.specs.declared.error.Error.TheVariants as errors
-use Rattle.dir_classify.specs.Class.{class as class_of, asks as asks_of, asks_of_kind, is_dot_git, is_indexed, is_worktree, settled_kind}
+use Rattle.dir_classify.specs.Class.{class as class_of, asks as asks_of, seeks as seeks_of, asks_of_kind, is_dot_git, is_indexed, is_worktree, settled_kind}
 use Rattle.dir_classify.specs.Classes.{Judges}
-use Rattle.dir_classify.specs.Refused.{IsAbout, Refuses, OnAccess}
-use Rattle.dir_classify.specs.Rooted.{AsksOnWay, LeadsTo, Reaches, reached_by, way_to}
+use Rattle.dir_classify.specs.Question.{about_way}
+use Rattle.dir_classify.specs.Faults.{IsAsked}
+use Rattle.dir_classify.specs.Refused.{IsAbout, Refuses, OnAccess, StopsIf}
+use Rattle.dir_classify.specs.Rooted.{AsksOnWay, LeadsTo, Reaches, way_to}
 use Rattle.dir_classify.proofs.NormalPaths.{normal-front}
 use Rattle.dir_classify.proofs.Keeping.{asks-then, increased-later, quiet-first, quiet-second, unmapped-then}
+use Rattle.dir_classify.proofs.Classed.{OnLookup-weaker, asked-quiet}
+use Rattle.dir_classify.proofs.Stopped.{stopped-later}
 use Rattle.dir_classify.proofs.Refusals.{OnAccess-both, OnFault-weaker, unread-refused}
-use Rattle.dir_classify.proofs.WayUnread.{either-unread, quiet-not, unread-onward, unread-step, unread-way, yes-no}
-use Rattle.dir_classify.proofs.WayAsked.{leads-further, nothing-more, way-answered, way-asked, way-refused, way-root, way-stopped}
+use Rattle.gitbase_core.proofs.Names.{AreNames-components}
+use Rattle.dir_classify.proofs.WayLeads.{leads-next}
+use Rattle.dir_classify.proofs.WayReached.{reached-grown}
+use Rattle.dir_classify.proofs.WayUnread.{either-unread, quiet-not, unread-step, unread-way, yes-no}
+use Rattle.dir_classify.proofs.Asking.{asked-needed, needed-further, needed-root}
+use Rattle.dir_classify.proofs.WayAsked.{leads-further, nothing-more, stands-above, way-answered, way-asked, way-refused, way-root}
 use Rattle.dir_classify.specs.declared.entry.Kind.{Kind}
 use Rattle.dir_classify.specs.Chosen.{Chosen}
 use Rattle.dir_classify.specs.Evidence.{Evidence}
 use Rattle.dir_classify.specs.Kinds.{is_dir, is_repository}
-use Rattle.dir_classify.specs.Way.{EndsAt, IsClassOnWay, IsReached, Reached, goes_on, onward, reached, reached_at, reached_root, reached_so, way_class, way_unread}
+use Rattle.dir_classify.specs.Way.{EndsAt, IsClassOnWay, IsReached, Reached, asking_behind, goes_on, onward, reached, reached_at, reached_root, reached_so, way_class, way_unread}
 
 -- The way stands at a path, and from there leads where it leads from the worktree root.
 pub record IsOnward {W F : Type 0} (w : WorktreeOf W) (f : FindOf F) (w0 w1 : W) (o0 o1 : F) (old new : Option Stacked) (given : Setting)
@@ -56,7 +59,14 @@ pub record IsOnward {W F : Type 0} (w : WorktreeOf W) (f : FindOf F) (w0 w1 : W)
   pub ends : (s : Sources) → TellsIf (w.told w0) (f.holds o0) (made_with old) s → InStepIf s old → (now : ℕ) (r : Reached)
       → EndsAt (w.faults w1) now given.options (evidence given (made_with old) s) (λ p. on_disk given s.tree p true) path class in_repository (components rest) r
       → IsReached (w.faults w0) now given.options (evidence given (made_with old) s) (λ p. on_disk given s.tree p true) (components root) r
+  pub stands : (s : Sources) → TellsIf (w.told w0) (f.holds o0) (made_with old) s → InStepIf s old
+      → IsReached (w.faults w0) (w.faults w1) given.options (evidence given (made_with old) s) (λ p. on_disk given s.tree p true) (components path) (reached_so path class in_repository true)
   pub reads : AsksOnWay {T = Unit {0}} {E = Error} given.options.recurse_repositories path (w.reads w0) (w.reads w1) o0 o1 old new (Ok tt)
+  pub unsought : (s : Sources) → TellsIf (w.told w0) (f.holds o0) (made_with old) s → InStepIf s old → NotIncreased (w.faults w0) (w.faults w1)
+      → ((p : List ℕ) → LeadsTo path p → seeks_of given.options (evidence given (made_with old) s) p (on_disk given s.tree p true) None ≡ false)
+      → AsksOnWay {T = Unit {0}} {E = Error} true path (w.reads w0) (w.reads w1) o0 o1 old new (Ok tt)
+  pub needed : (s : Sources) → w.told w0 ≡ Some s.tree → NotIncreased (w.faults w0) (w.faults w1)
+      → platforms_of new ≤ platforms_of old + asking_behind given.options (evidence given (made_with old) s) (λ p. on_disk given s.tree p true) [] (components path)
   pub spared : (s : Sources) → ((p : List ℕ) → LeadsTo path p → (kind : Option Kind) → asks_of given.options (evidence given (made_with old) s) p kind None ≡ false)
       → Unasked given.options.recurse_repositories (w.reads w0) (w.reads w1) o0 o1 old new
   pub unasked : (s : Sources) → w.told w0 ≡ Some s.tree → NotIncreased (w.faults w0) (w.faults w1)
@@ -131,12 +141,21 @@ some-sources = record { tree = none; objects = map.empty }
 
 -- so they are as they were, and it is refused for want of memory alone
 module _ {W F : Type 0} {w : WorktreeOf W} {f : FindOf F} {w0 w1 : W} {o0 o1 : F} {old new : Option Stacked} {given : Setting} {result : Result Outcome Error}
-    (step : Judges w f w0 w1 o0 o1 old new given [] (λ kind ev. class_of given.options ev [] kind None) (λ kind ev. asks_of given.options ev [] kind None) (λ _. false) true result) where
+    (step : Judges w f w0 w1 o0 o1 old new given (about_way given.options []) result) where
   never-there : (kind : Option Kind) → asks_of given.options (evidence given (made_with old) some-sources) [] kind None ≡ false
   never-there kind = never-asked given.options (evidence given (made_with old) some-sources) kind None
 
   pub root-unasked : Unasked given.options.recurse_repositories (w.reads w0) (w.reads w1) o0 o1 old new
   root-unasked = step.spared some-sources never-there
+
+  pub root-unread : (s : Sources) → w.told w0 ≡ Some s.tree → NotIncreased (w.faults w0) (w.faults w1)
+      → seeks_of given.options (evidence given (made_with old) s) [] (on_disk given s.tree [] true) None ≡ false → Unasked true (w.reads w0) (w.reads w1) o0 o1 old new
+  root-unread s told quiet none_sought =
+      record {
+        same = root-unasked.same;
+        store = root-unasked.store;
+        reads = λ on. step.unread s told quiet (never-asked given.options (evidence given (made_with old) s) (on_disk given s.tree [] true) None) none_sought;
+      }
 
   pub root-memory : IfErr result (OnAccess ⊥)
   root-memory = step.memory some-sources never-there
@@ -200,8 +219,7 @@ module _ {W F : Type 0} (w : WorktreeOf W) (f : FindOf F) (w0 w1 w2 : W) (o0 o1 
 
   -- what holds of a step where the rules are not asked holds of the way up to there
   module _ (result : Result Outcome Error)
-      (step : Judges w f w1 w2 o1 o2 now new given (joined path name) (λ kind ev. class_of given.options ev (joined path name) kind None)
-      (λ kind ev. asks_of given.options ev (joined path name) kind None) (λ _. false) true result) where
+      (step : Judges w f w1 w2 o1 o2 now new given (about_way given.options (joined path name)) result) where
     never-now : (s : Sources) → ((p : List ℕ) → LeadsTo (joined path name) p → (kind : Option Kind) → asks_of given.options (evidence given (made_with old) s) p kind None ≡ false)
         → (kind : Option Kind) → asks_of given.options (evidence given (made_with now) s) (joined path name) kind None ≡ false
     never-now s never kind = ap (λ (m : Option Made). asks_of given.options (evidence given m s) (joined path name) kind None) at.rules.made ∙ never (joined path name) grown-itself kind
@@ -214,6 +232,30 @@ module _ {W F : Type 0} (w : WorktreeOf W) (f : FindOf F) (w0 w1 w2 : W) (o0 o1 
         → IfErr result (OnAccess ⊥)
     grown-memory s never = step.memory s (never-now s never)
 
+    grown-unsought : (s : Sources) → TellsIf (w.told w0) (f.holds o0) (made_with old) s → InStepIf s old → NotIncreased (w.faults w0) (w.faults w2)
+        → ((p : List ℕ) → LeadsTo (joined path name) p → seeks_of given.options (evidence given (made_with old) s) p (on_disk given s.tree p true) None ≡ false)
+        → AsksOnWay true (joined path name) (w.reads w0) (w.reads w2) o0 o2 old new result
+    grown-unsought s tells stepped quiet never =
+        way-asked true path name (joined path name) (w.reads w0) (w.reads w1) (w.reads w2) o0 o1 o2 old now new result
+        at.rules.made (grown-components path name at.spelled_is component) grown-spelled
+        (at.unsought s tells stepped (quiet-first (w.faults w0) (w.faults w1) (w.faults w2) at.keeps.faults step.keeps.faults quiet) (λ p leads. never p (leads-grown p leads)))
+        (step.unsought s (tells-here s tells) (at.rules.in_step s tells stepped) (quiet-second (w.faults w0) (w.faults w1) (w.faults w2) at.keeps.faults step.keeps.faults quiet)
+        (ap (λ (m : Option Made). seeks_of given.options (evidence given m s) (joined path name) (on_disk given s.tree (joined path name) true) None) at.rules.made
+        ∙ never (joined path name) grown-itself))
+
+    grown-needed : (s : Sources) → w.told w0 ≡ Some s.tree → NotIncreased (w.faults w0) (w.faults w2)
+        → platforms_of new ≤ platforms_of old + asking_behind given.options (evidence given (made_with old) s) (λ p. on_disk given s.tree p true) [] (components (joined path name))
+    grown-needed s told quiet =
+        let ev = evidence given (made_with old) s in
+        let kinds : List ℕ → Option Kind = λ p. on_disk given s.tree p true in
+        needed-further given.options ev kinds (components path) name (joined path name) (components (joined path name)) (platforms_of old) (platforms_of now) (platforms_of new)
+        (grown-is path name at.spelled_is component) (grown-components path name at.spelled_is component)
+        (at.needed s told (quiet-first (w.faults w0) (w.faults w1) (w.faults w2) at.keeps.faults step.keeps.faults quiet))
+        (asked-needed given.options ev kinds given.options.recurse_repositories (joined path name) (w.reads w1) (w.reads w2) o1 o2 now new result
+        (λ none. step.unasked s (at.keeps.tree ∙ told) (quiet-second (w.faults w0) (w.faults w1) (w.faults w2) at.keeps.faults step.keeps.faults quiet)
+        (ap (λ (m : Option Made). asks_of given.options (evidence given m s) (joined path name) (on_disk given s.tree (joined path name) true) None) at.rules.made ∙ none))
+        step.reads)
+
     grown-unasked : (s : Sources) → w.told w0 ≡ Some s.tree → NotIncreased (w.faults w0) (w.faults w2)
         → ((p : List ℕ) → LeadsTo (joined path name) p → asks_of given.options (evidence given (made_with old) s) p (on_disk given s.tree p true) None ≡ false)
         → Unasked given.options.recurse_repositories (w.reads w0) (w.reads w2) o0 o2 old new
@@ -225,8 +267,13 @@ module _ {W F : Type 0} (w : WorktreeOf W) (f : FindOf F) (w0 w1 w2 : W) (o0 o1 
         ∙ never (joined path name) grown-itself))
 
   module _ (next : Outcome) (goes : goes_on given.options path c in_repository ≡ true)
-      (step : Judges w f w1 w2 o1 o2 now new given (joined path name) (λ kind ev. class_of given.options ev (joined path name) kind None)
-      (λ kind ev. asks_of given.options ev (joined path name) kind None) (λ _. false) true (Ok next)) where
+      (step : Judges w f w1 w2 o1 o2 now new given (about_way given.options (joined path name)) (Ok next)) where
+    class-here : (s : Sources) → TellsIf (w.told w0) (f.holds o0) (made_with old) s → InStepIf s old
+        → IsClassOnWay (w.faults w1) (w.faults w2) given.options (evidence given (made_with old) s) (λ p. on_disk given s.tree p true) (joined path name) next
+    class-here s tells stepped =
+        subst (λ (m : Option Made). IsClassOnWay (w.faults w1) (w.faults w2) given.options (evidence given m s) (λ p. on_disk given s.tree p true) (joined path name) next) at.rules.made
+        (step.swallowed s (tells-here s tells) (at.rules.in_step s tells stepped)).0
+
     pub onward-grown : IsOnward w f w0 w2 o0 o2 old new given root (joined path name) next in_repository left
     onward-grown =
         record {
@@ -253,23 +300,30 @@ module _ {W F : Type 0} (w : WorktreeOf W) (f : FindOf F) (w0 w1 w2 : W) (o0 o1 
           top = λ is s told quiet. absurd (nothing-more (components path) (components left) name (sym is ∙ at.split ∙ ap (λ (l : List (List ℕ)). components path ++ l) rest_is));
           ends = λ s tells stepped now_faults r end.
               let kinds = λ (p : List ℕ). on_disk given s.tree p true in
-              let judged = subst (λ (m : Option Made). IsClassOnWay (w.faults w1) (w.faults w2) given.options (evidence given m s) kinds (joined path name) next) at.rules.made
-              (step.swallowed s (tells-here s tells) (at.rules.in_step s tells stepped)) in
               at.ends s tells stepped now_faults r
               (subst (λ (l : List (List ℕ)). EndsAt (w.faults w1) now_faults given.options (evidence given (made_with old) s) kinds path c in_repository l r) (sym rest_is)
-              ((λ yes. (next, w.faults w2, judged, end), λ no. absurd (yes-no (goes_on given.options path c in_repository) goes no))));
+              ((λ yes. (next, w.faults w2, class-here s tells stepped, end), λ no. absurd (yes-no (goes_on given.options path c in_repository) goes no))));
+          stands = λ s tells stepped.
+              let ev = evidence given (made_with old) s in
+              let kinds = λ (p : List ℕ). on_disk given s.tree p true in
+              subst (λ (l : List (List ℕ)). IsReached (w.faults w0) (w.faults w2) given.options ev kinds l (reached_so (joined path name) next in_repository true))
+              (sym (grown-components path name at.spelled_is component))
+              (reached-grown (w.faults w0) (w.faults w1) (w.faults w2) given.options ev kinds path name c next in_repository (components path) goes (class-here s tells stepped)
+              (at.stands s tells stepped));
           reads =
               way-answered given.options.recurse_repositories (joined path name) (w.reads w0) (w.reads w2) o0 o2 old new next tt
               (way-asked given.options.recurse_repositories path name (joined path name) (w.reads w0) (w.reads w1) (w.reads w2) o0 o1 o2 old now new (Ok next)
               at.rules.made (grown-components path name at.spelled_is component) grown-spelled at.reads step.reads);
+          unsought = λ s tells stepped quiet never.
+              way-answered true (joined path name) (w.reads w0) (w.reads w2) o0 o2 old new next tt (grown-unsought (Ok next) step s tells stepped quiet never);
+          needed = grown-needed (Ok next) step;
           spared = grown-spared (Ok next) step;
           unasked = grown-unasked (Ok next) step;
         }
 
   pub Reaches-refused : (e : Error)
       → goes_on given.options path c in_repository ≡ true
-      → Judges w f w1 w2 o1 o2 now new given (joined path name) (λ kind ev. class_of given.options ev (joined path name) kind None)
-      (λ kind ev. asks_of given.options ev (joined path name) kind None) (λ _. false) true (Err e)
+      → Judges w f w1 w2 o1 o2 now new given (about_way given.options (joined path name)) (Err e)
       → Reaches w f w0 w2 o0 o2 old new given root (Err e)
   Reaches-refused e goes step =
       let leads : LeadsTo root (joined path name) = record { spelled_is = grown-spelled; rest = components left; components_are = grown-split } in
@@ -279,9 +333,20 @@ module _ {W F : Type 0} (w : WorktreeOf W) (f : FindOf F) (w0 w1 w2 : W) (o0 o1 
         swallowed = λ s tells stepped. tt;
         prefix = tt;
         whole = tt;
+        ended = tt;
         about = (joined path name, leads, subst (λ (m : Option Made). IsAbout m (joined path name) e) at.rules.made step.about);
         refused = λ s tells.
             (joined path name, leads, (subst (λ (m : Option Made). IsAbout m (joined path name) e) at.rules.made step.about, subst (λ (m : Option Made). Refuses s m (joined path name) e) at.rules.made (step.refused s (tells-here s tells))));
+        met = λ s tells stepped quiet.
+            let ev = evidence given (made_with old) s in
+            let kinds = λ (p : List ℕ). on_disk given s.tree p true in
+            let way = ap (λ (l : List (List ℕ)). onward given.options ev kinds (reached_so path c in_repository true) l) (sym rest_is)
+            ∙ at.leads s tells stepped (quiet-first (w.faults w0) (w.faults w1) (w.faults w2) at.keeps.faults step.keeps.faults quiet) in (
+              joined path name,
+              subst (λ (r : Reached). LeadsTo r.path (joined path name)) way
+                  (leads-next given.options ev kinds path name (components left) c in_repository goes at.spelled_is component (AreNames-components left)),
+              (subst (λ (m : Option Made). IsAbout m (joined path name) e) at.rules.made step.about, subst (λ (m : Option Made). Refuses s m (joined path name) e) at.rules.made (step.refused s (tells-here s tells))),
+            );
         asked = λ s tells stepped quiet.
             let ev = evidence given (made_with old) s in
             let kinds = λ (p : List ℕ). on_disk given s.tree p true in
@@ -298,9 +363,32 @@ module _ {W F : Type 0} (w : WorktreeOf W) (f : FindOf F) (w0 w1 w2 : W) (o0 o1 
             ∙ unread-step given.options ev kinds path name (components left) c in_repository goes
             (unread-way given (made_with now) (made_with old) s (joined path name) at.rules.made asks unread_is))
             (increased-later (f.faults o0) (f.faults o1) (f.faults o2) at.store.faults) unread)
-            (step.asked s (at.keeps.tree ∙ tells.tree_is) quiet_now)
+            (asked-quiet (w.faults w1) (w.faults w2) (λ k. asks_of given.options (evidence given (made_with now) s) (joined path name) k None) (kinds (joined path name)) e quiet_now
+            (step.asked s (at.keeps.tree ∙ tells.tree_is)))
             (unread-refused s (made_with now) (joined path name) (Increased (w.faults w1) (w.faults w2)) (Increased (f.faults o1) (f.faults o2)) e (quiet-not (w.faults w1) (w.faults w2) quiet_now)
             step.about (step.refused s (tells-here s tells)) step.cause);
+        asked_so = λ s tells stepped.
+            let kind = on_disk given s.tree (joined path name) true in
+            OnLookup-weaker (IsAsked (w.faults w1) (w.faults w2) (λ k. asks_of given.options (evidence given (made_with now) s) (joined path name) k None) kind) _ e
+            (λ a is. record {
+              first = components path;
+              name = name;
+              left = components left;
+              names_are = at.split ∙ ap (λ (l : List (List ℕ)). components path ++ l) rest_is;
+              above = reached_so path c in_repository true;
+              then_ = w.faults w1;
+              reaches = at.stands s tells stepped;
+              whole = refl;
+              goes = goes;
+              asked = subst (λ (m : Option Made). IsAsked (w.faults w1) (w.faults w2) (λ k. asks_of given.options (evidence given m s) (joined path name) k None) kind a) at.rules.made is;
+            })
+            (step.asked s (at.keeps.tree ∙ tells.tree_is));
+        stopped =
+            let since = stands-above given.options.recurse_repositories path name (joined path name) (w.reads w0) (w.reads w1) o0 o1 old now (grown-components path name at.spelled_is component) at.reads in
+            OnLookup-weaker (StopsIf (w.told w0) (f.holds o0) (Increased (w.faults w0) (w.faults w2)) (Increased (f.faults o0) (f.faults o2)) (joined path name) now new) _ e
+            (λ a stops. (joined path name, leads, record { before = now; since = since; made = at.rules.made; in_step = at.rules.in_step; stops = stops }))
+            (stopped-later (w.told w0) (w.told w1) (f.holds o0) (f.holds o1) (w.faults w0) (w.faults w1) (w.faults w2) (f.faults o0) (f.faults o1) (f.faults o2) (joined path name) now new e
+            at.keeps.tree at.store.holds at.keeps.faults at.store.faults step.stopped);
         cause =
             OnFault-weaker (Increased (w.faults w1) (w.faults w2)) (Increased (f.faults o1) (f.faults o2)) (Increased (w.faults w0) (w.faults w2)) (Increased (f.faults o0) (f.faults o2)) e
             (increased-later (w.faults w0) (w.faults w1) (w.faults w2) at.keeps.faults) (increased-later (f.faults o0) (f.faults o1) (f.faults o2) at.store.faults) step.cause;
@@ -315,173 +403,16 @@ module _ {W F : Type 0} (w : WorktreeOf W) (f : FindOf F) (w0 w1 w2 : W) (o0 o1 
             (way-refused given.options.recurse_repositories (joined path name) (w.reads w0) (w.reads w2) o0 o2 old new e
             (way-asked given.options.recurse_repositories path name (joined path name) (w.reads w0) (w.reads w1) (w.reads w2) o0 o1 o2 old now new (Err e)
             at.rules.made (grown-components path name at.spelled_is component) grown-spelled at.reads step.reads));
+        unsought = λ s tells stepped quiet never.
+            way-root true root (joined path name) (components left) (w.reads w0) (w.reads w2) o0 o2 old new (Err e) grown-split
+            (way-refused true (joined path name) (w.reads w0) (w.reads w2) o0 o2 old new e
+            (grown-unsought (Err e) step s tells stepped quiet (λ p on. never p (leads-further root (joined path name) p (components left) grown-split on))));
+        needed = λ s told quiet.
+            needed-root given.options (evidence given (made_with old) s) (λ p. on_disk given s.tree p true) (components (joined path name)) (components left) (components root) (platforms_of old) (platforms_of new) grown-split
+            (grown-needed (Err e) step s told quiet);
         spared = λ s never.
             let grown : (p : List ℕ) → LeadsTo (joined path name) p → (kind : Option Kind) → asks_of given.options (evidence given (made_with old) s) p kind None ≡ false =
             λ p on. never p (leads-further root (joined path name) p (components left) grown-split on) in
             (grown-spared (Err e) step s grown, grown-memory (Err e) step s grown);
         unasked = λ s told quiet never. grown-unasked (Err e) step s told quiet (λ p on. never p (leads-further root (joined path name) p (components left) grown-split on));
       }
-
--- ---- where the way ends
-
-nothing-left : (front rest : List (List ℕ)) → [] ≡ front ++ rest → rest ≡ []
-nothing-left [] rest e = sym e
-nothing-left (name ∷ front) rest e = absurd (cc e)
-
-longer : (front rest : List (List ℕ)) (name : List ℕ) → front ≡ front ++ name ∷ rest → ⊥
-longer [] rest name e = cc e
-longer (x ∷ front) rest name e = longer front rest name (tail-is e)
-  where
-    tail-is : {xs ys : List (List ℕ)} → x ∷ xs ≡ x ∷ ys → xs ≡ ys
-    tail-is e = cc e
-
--- no component is left exactly where the path is the whole one
-whole-path : (root path : List ℕ) (rest : List (List ℕ)) → root ≡ spelled (components root) → path ≡ spelled (components path) → components root ≡ components path ++ rest
-    → is_nil rest ≡ bytes_eq path root
-whole-path root path [] root_is spelled_is split =
-    sym (same_name path root (spelled_is ∙ ap spelled (sym (append-nil (components path)) ∙ sym split) ∙ sym root_is))
-whole-path root path (name ∷ rest) root_is spelled_is split =
-    go (bytes_eq path root) refl
-  where
-    go : (b : Bool) → bytes_eq path root ≡ b → false ≡ b
-    go true e = absurd (longer (components path) rest name (ap components ((bytes_eq-Decides path root).0 e) ∙ split))
-    go false e = refl
-
--- at the worktree root, where no component leads further
-way-top : (given : Setting) (made : Option Made) (s : Sources) (root : List ℕ) → components root ≡ []
-    → reached_root given.options (evidence given made s) (λ p. on_disk given s.tree p true) ≡ way_to given made s root
-unfolding reached
-way-top given made s root bare = ap (λ (l : List (List ℕ)). reached given.options (evidence given made s) (λ p. on_disk given s.tree p true) l) (sym bare)
-
-module _ {W F : Type 0} (w : WorktreeOf W) (f : FindOf F) (w0 w1 : W) (o0 o1 : F) (old new : Option Stacked) (given : Setting)
-    (root path rest : List ℕ) (c : Outcome) (in_repository : Bool) (at : IsOnward w f w0 w1 o0 o1 old new given root path c in_repository rest)
-    (root_is : root ≡ spelled (components root)) (r : RootOutcome) (whole : Bool) (r_is : reached_by r false ≡ reached_so path c in_repository whole)
-    (whole_is : whole ≡ is_nil (components rest))
-    (onward_is : (s : Sources) → onward given.options (evidence given (made_with old) s) (λ p. on_disk given s.tree p true) (reached_so path c in_repository true) (components rest)
-    ≡ reached_so path c in_repository whole)
-    (ends_at : (s : Sources) → EndsAt (w.faults w1) (w.faults w1) given.options (evidence given (made_with old) s) (λ p. on_disk given s.tree p true) path c in_repository (components rest) (reached_so path c in_repository whole)) where
-  path_is : r.path ≡ path
-  path_is = ap (λ (x : Reached). x.path) r_is
-
-  pub Reaches-ended : Reaches w f w0 w1 o0 o1 old new given root (Ok r)
-  Reaches-ended =
-      record {
-        reached = λ s tells stepped quiet. r_is ∙ sym (onward_is s) ∙ at.leads s tells stepped quiet;
-        top = λ is s told quiet.
-            let ev = evidence given (made_with old) s in
-            let kinds = λ (p : List ℕ). on_disk given s.tree p true in
-            let bare : components root ≡ [] = ap components is in
-            r_is
-            ∙ sym (onward_is s)
-            ∙ ap (λ (l : List (List ℕ)). onward given.options ev kinds (reached_so path c in_repository true) l) (nothing-left (components path) (components rest) (sym bare ∙ at.split))
-            ∙ at.top bare s told quiet
-            ∙ way-top given (made_with old) s root bare;
-        swallowed = λ s tells stepped. at.ends s tells stepped (w.faults w1) (reached_by r false)
-            (subst (λ (x : Reached). EndsAt (w.faults w1) (w.faults w1) given.options (evidence given (made_with old) s) (λ p. on_disk given s.tree p true) path c in_repository (components rest) x) (sym r_is) (ends_at s));
-        prefix = subst (LeadsTo root) (sym path_is) (record { spelled_is = at.spelled_is; rest = components rest; components_are = at.split });
-        whole =
-            ap (λ (x : Reached). x.whole) r_is
-            ∙ whole_is
-            ∙ whole-path root path (components rest) root_is at.spelled_is at.split
-            ∙ ap (λ (p : List ℕ). bytes_eq p root) (sym path_is);
-        about = tt;
-        refused = λ s tells. tt;
-        asked = λ s tells stepped quiet. tt;
-        cause = tt;
-        keeps = at.keeps;
-        store = at.store;
-        unmapped = at.unmapped;
-        rules = at.rules;
-        reads =
-            subst (λ (p : List ℕ). AsksOnWay {E = Error} given.options.recurse_repositories p (w.reads w0) (w.reads w1) o0 o1 old new (Ok r)) (sym path_is)
-            (way-answered given.options.recurse_repositories path (w.reads w0) (w.reads w1) o0 o1 old new tt r at.reads);
-        spared = λ s never. (at.spared s (λ p leads. never p (subst (λ (x : List ℕ). LeadsTo x p) (sym path_is) leads)), tt);
-        unasked = λ s told quiet never. at.unasked s told quiet (λ p leads. never p (subst (λ (x : List ℕ). LeadsTo x p) (sym path_is) leads));
-      }
-
--- no component is left
-pub ended-whole : (now : ℕ) (o : Chosen) (ev : Evidence) (kinds : List ℕ → Option Kind) (path : List ℕ) (c : Outcome) (in_repository : Bool) (names : List (List ℕ)) → names ≡ []
-    → (onward o ev kinds (reached_so path c in_repository true) names ≡ reached_so path c in_repository true) × EndsAt now now o ev kinds path c in_repository names (reached_so path c in_repository true)
-ended-whole now o ev kinds path c in_repository [] e = (refl, (omega arith, refl))
-ended-whole now o ev kinds path c in_repository (name ∷ names) e = absurd (cc e)
-
--- the way does not go on
-pub ended-short : (now : ℕ) (o : Chosen) (ev : Evidence) (kinds : List ℕ → Option Kind) (path name : List ℕ) (c : Outcome) (in_repository : Bool) (names left : List (List ℕ)) → names ≡ name ∷ left
-    → goes_on o path c in_repository ≡ false
-    → (onward o ev kinds (reached_so path c in_repository true) names ≡ reached_so path c in_repository false) × EndsAt now now o ev kinds path c in_repository names (reached_so path c in_repository false)
-ended-short now o ev kinds path name c in_repository [] left e stays = absurd (cc e)
-ended-short now o ev kinds path name c in_repository (n ∷ names) left e stays =
-    (shut (goes_on o path c in_repository) stays, (λ goes. absurd (yes-no (goes_on o path c in_repository) goes stays), λ stay. (omega arith, refl)))
-  where
-    shut : (b : Bool) → b ≡ false
-        → (if b then onward o ev kinds (reached_at o ev kinds in_repository false (joined path n)) names else record (reached_so path c in_repository true) { whole = false })
-        ≡ reached_so path c in_repository false
-    shut true f = absurd (cc f)
-    shut false f = refl
-
--- memory was refused
-pub Reaches-stopped : {W F : Type 0} (w : WorktreeOf W) (f : FindOf F) (w0 w1 : W) (o0 o1 : F) (old new : Option Stacked) (given : Setting)
-    (root path rest : List ℕ) (c : Outcome) (in_repository : Bool) → IsOnward w f w0 w1 o0 o1 old new given root path c in_repository rest
-    → Reaches w f w0 w1 o0 o1 old new given root (Err errors.OutOfMemory)
-Reaches-stopped w f w0 w1 o0 o1 old new given root path rest c in_repository at =
-    record {
-      reached = λ s tells stepped quiet. tt;
-      top = λ is s told quiet. tt;
-      swallowed = λ s tells stepped. tt;
-      prefix = tt;
-      whole = tt;
-      about = (path, record { spelled_is = at.spelled_is; rest = components rest; components_are = at.split }, tt);
-      refused = λ s tells. (path, record { spelled_is = at.spelled_is; rest = components rest; components_are = at.split }, (tt, tt));
-      asked = λ s tells stepped quiet. tt;
-      cause = tt;
-      keeps = at.keeps;
-      store = at.store;
-      unmapped = at.unmapped;
-      rules = at.rules;
-      reads = way-root given.options.recurse_repositories root path (components rest) (w.reads w0) (w.reads w1) o0 o1 old new (Err errors.OutOfMemory) at.split
-          (way-stopped given.options.recurse_repositories path (w.reads w0) (w.reads w1) o0 o1 old new errors.OutOfMemory at.reads);
-      spared = λ s never. (at.spared s (λ p leads. never p (leads-further root path p (components rest) at.split leads)), tt);
-      unasked = λ s told quiet never. at.unasked s told quiet (λ p leads. never p (leads-further root path p (components rest) at.split leads));
-    }
-
--- the class of the worktree root was refused
-unread-root : (given : Setting) (made : Option Made) (s : Sources) (root : List ℕ)
-    → asks_of given.options (evidence given made s) [] (on_disk given s.tree [] true) None ≡ true → is_unread_in made s [] ≡ true
-    → (way_to given made s root).is_unread ≡ true
-unfolding reached
-unread-root given made s root asks unread =
-    let ev = evidence given made s in
-    let kinds = λ (p : List ℕ). on_disk given s.tree p true in
-    unread-onward given.options ev kinds (reached_root given.options ev kinds) (components root) (unread-way given made made s [] refl asks unread)
-
-pub Reaches-unrooted : {W F : Type 0} (w : WorktreeOf W) (f : FindOf F) (w0 w1 : W) (o0 o1 : F) (old new : Option Stacked) (given : Setting) (root : List ℕ) (e : Error)
-    → Judges w f w0 w1 o0 o1 old new given [] (λ kind ev. class_of given.options ev [] kind None) (λ kind ev. asks_of given.options ev [] kind None) (λ _. false) true (Err e)
-    → Reaches w f w0 w1 o0 o1 old new given root (Err e)
-Reaches-unrooted w f w0 w1 o0 o1 old new given root e step =
-    let leads : LeadsTo root [] = record { spelled_is = refl; rest = components root; components_are = refl } in
-    record {
-      reached = λ s tells stepped quiet. tt;
-      top = λ is s told quiet. tt;
-      swallowed = λ s tells stepped. tt;
-      prefix = tt;
-      whole = tt;
-      about = ([], leads, step.about);
-      refused = λ s tells. ([], leads, (step.about, step.refused s tells));
-      asked = λ s tells stepped quiet.
-          OnAccess-both (asks_of given.options (evidence given (made_with old) s) [] (on_disk given s.tree [] true) None ≡ true)
-          ((is_unread_in (made_with old) s [] ≡ true) ⊎ Increased (f.faults o0) (f.faults o1))
-          (((way_to given (made_with old) s root).is_unread ≡ true) ⊎ Increased (f.faults o0) (f.faults o1)) e
-          (λ asks unread. either-unread (is_unread_in (made_with old) s [] ≡ true) (Increased (f.faults o0) (f.faults o1)) ((way_to given (made_with old) s root).is_unread ≡ true)
-          (Increased (f.faults o0) (f.faults o1)) (unread-root given (made_with old) s root asks) (λ more. more) unread)
-          (step.asked s tells.tree_is quiet)
-          (unread-refused s (made_with old) [] (Increased (w.faults w0) (w.faults w1)) (Increased (f.faults o0) (f.faults o1)) e (quiet-not (w.faults w0) (w.faults w1) quiet)
-          step.about (step.refused s tells) step.cause);
-      cause = step.cause;
-      keeps = step.keeps;
-      store = step.store;
-      unmapped = step.unmapped;
-      rules = step.rules;
-      reads = inl (root-unasked step);
-      spared = λ s never. (root-unasked step, root-memory step);
-      unasked = λ s told quiet never. root-unasked step;
-    }

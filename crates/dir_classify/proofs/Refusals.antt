@@ -3,7 +3,7 @@ use Rattle.std.proofs.Common.{◌≡◌, ◌∙◌, ap, ℕ, List, [], ◌∷◌
 use Rattle.std.specs.Prelude.{is_some, Err, IsSomeAnd, ◌⊎◌}
 use Rattle.std.specs.List.{list_all}
 use Rattle.gitbase_core.specs.Path.{components}
-use Rattle.worktree_fs.specs.Paths.{spelled, fronts, without_last}
+use Rattle.worktree_fs.specs.Paths.{spelled, fronts, all_but_last}
 use Rattle.worktree_stack.specs.Reading.{Sources, Refusal, Tells, reading, is_read}
 use Rattle.worktree_stack.specs.Setup.{Made}
 use Rattle.worktree_stack.specs.declared.error.AtPathError.{AtPathError}
@@ -51,7 +51,7 @@ on-access-by made path P p errors.OutOfMemory about = tt
 
 -- ---- a refusal, handed on
 
-lookup-weaker : (P Q P' Q' : Type 0) (e : AtPathError) → (P → P') → (Q → Q') → lookups.OnFault P Q e → lookups.OnFault P' Q' e
+pub lookup-weaker : (P Q P' Q' : Type 0) (e : AtPathError) → (P → P') → (Q → Q') → lookups.OnFault P Q e → lookups.OnFault P' Q' e
 lookup-weaker P Q P' Q' inner.NotNormal f g h = tt
 lookup-weaker P Q P' Q' (inner.Component why) f g h = tt
 lookup-weaker P Q P' Q' (inner.Collision path) f g h = tt
@@ -123,7 +123,7 @@ pub unread-ancestor : (s : Sources) (rules : Made) (path : List ℕ) (refusal : 
 unfolding is_unread_in
 unread-ancestor s rules path refusal Holds h is =
     ap not
-    (all-front (λ directory. is_read (reading rules s (spelled directory))) (without_last (components path)) h.ancestor h.rest h.above (ap is_read (is (spelled h.ancestor) h.holds)))
+    (all-front (λ directory. is_read (reading rules s (spelled directory))) (all_but_last (components path)) h.ancestor h.rest h.above (ap is_read (is (spelled h.ancestor) h.holds)))
 
 told-so : (s : Sources) → Tells (Some s.tree) (Some s.objects) s
 told-so s = record { tree_is = refl; objects_are = refl }

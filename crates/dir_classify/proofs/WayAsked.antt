@@ -1,27 +1,28 @@
 -- What the rules were asked on the way to a traversal root.
-use Rattle.std.proofs.Common.{◌≡◌, ◌∙◌, ap, sym, subst, ℕ, List, [], ◌∷◌, ◌++◌, length, Bool, true, false, Option, Some, None, Ok, Err, refl, inl, inr, append_assoc, arith}
-use Rattle.std.specs.Prelude.{Result, OnOk, is_some, if◌then◌else◌}
+use Rattle.std.proofs.Common.{◌≡◌, ◌≤◌, ◌+◌, ◌∙◌, ap, sym, subst, ℕ, List, [], ◌∷◌, ◌++◌, length, Bool, true, false, Option, Some, None, Ok, Err, refl, inl, inr, append_assoc, arith}
+use Rattle.std.specs.Prelude.{◌⊎◌, Result, OnOk, is_some, if◌then◌else◌}
 use Rattle.std.specs.Str.{bytes_eq}
-use Rattle.std.proofs.lemmas.List.{append-nil}
+use Rattle.std.proofs.lemmas.List.{append-nil, length-append}
 use Rattle.gitbase_core.specs.Path.{components, is_empty}
-use Rattle.worktree_fs.specs.Paths.{common_front, spelled, without_last}
+use Rattle.worktree_fs.specs.Causes.{Increased, next as one_more}
+use Rattle.worktree_fs.specs.Paths.{common_front, is_nil, spelled, all_but_last}
 use Rattle.worktree_fs.specs.PathStack.{IsOnWay}
 use Rattle.worktree_fs.proofs.Grown.{same_name}
 use Rattle.worktree_stack.specs.Lookups.{staying}
 use Rattle.worktree_stack.specs.Stacked.{Stacked, pushed}
 use Rattle.dir_classify.specs.declared.classify.RootOutcome.{RootOutcome}
 use Rattle.dir_classify.specs.declared.error.Error.{Error}
-use Rattle.dir_classify.specs.Excludes.{made_with, pushed_in, tells_attributes}
+use Rattle.dir_classify.specs.Excludes.{made_with, platforms_of, pushed_in, tells_attributes}
 use Rattle.dir_classify.specs.Kept.{AskedAbout, AsksAtMost, LeavesPushed, StandsAt, Unasked}
-use Rattle.dir_classify.specs.Rooted.{AskedOnWay, AsksOnWay, LeadsTo}
+use Rattle.dir_classify.specs.Rooted.{AskedOnWay, AsksOnWay, LeadsTo, StandsAbove}
 
 -- ---- what lies on the way to a path lies on the way to those beneath it
 
 -- what is left of a list before its last element, and of a longer one
-front-more : {A : Type 0} (xs ys : List A) → (zs : List A) × (without_last (xs ++ ys) ≡ without_last xs ++ zs)
-front-more [] ys = (without_last ys, refl)
+front-more : {A : Type 0} (xs ys : List A) → (zs : List A) × (all_but_last (xs ++ ys) ≡ all_but_last xs ++ zs)
+front-more [] ys = (all_but_last ys, refl)
 front-more (x ∷ []) [] = ([], refl)
-front-more (x ∷ []) (y ∷ ys) = (x ∷ without_last (y ∷ ys), refl)
+front-more (x ∷ []) (y ∷ ys) = (x ∷ all_but_last (y ∷ ys), refl)
 front-more (x ∷ y ∷ xs) ys = let rest = front-more (y ∷ xs) ys in (rest.0, ap (λ l. x ∷ l) rest.1)
 
 pub on-way-further : (at : Option (List (List ℕ))) (names more : List (List ℕ)) → IsOnWay at names → IsOnWay at (names ++ more)
@@ -48,7 +49,7 @@ leads-further root path first rest split leads =
     record { spelled_is = leads.spelled_is; rest = leads.rest ++ rest; components_are = split ∙ ap (λ l. l ++ rest) leads.components_are ∙ append_assoc (components first) leads.rest rest }
 
 -- exactly the directories above a path are pushed where rules stand at it
-pushed-above : (o : Option Stacked) (path : List ℕ) → StandsAt o path → pushed_in o ≡ Some (without_last (components path))
+pushed-above : (o : Option Stacked) (path : List ℕ) → StandsAt o path → pushed_in o ≡ Some (all_but_last (components path))
 pushed-above None path at = absurd at
 pushed-above (Some s) path at = at.at
 
@@ -64,6 +65,18 @@ nothing-more (x ∷ front) rest name e = cc e
 pub grown-some : (next : List ℕ) (front : List (List ℕ)) (name : List ℕ) → components next ≡ front ++ name ∷ [] → is_empty next ≡ false
 grown-some [] front name e = absurd (nothing-more front [] name e)
 grown-some (b ∷ bytes) front name e = refl
+
+-- ---- how often they were asked
+
+counted-on : (p0 p1 p2 : ℕ) (first then_ : List (List ℕ)) (name : List ℕ) → p1 ≤ p0 + length first + 1 → p2 ≡ one_more p1 → p2 ≤ p0 + length (first ++ (then_ ++ name ∷ [])) + 1
+counted-on p0 p1 p2 first then_ name most once =
+    let all : length (first ++ (then_ ++ name ∷ [])) ≡ length first + length (then_ ++ name ∷ []) = length-append first (then_ ++ name ∷ []) in
+    let more : length (then_ ++ name ∷ []) ≡ length then_ + 1 = length-append then_ (name ∷ []) in
+    omega (arith, most, once, all, more)
+
+some-more : (names : List (List ℕ)) (name : List ℕ) → is_nil (names ++ name ∷ []) ≡ false
+some-more [] name = refl
+some-more (x ∷ names) name = refl
 
 -- ---- one path further
 
@@ -81,6 +94,8 @@ module _ {F T E : Type 0} (recurses : Bool) (path name next : List ℕ) (r0 r1 r
         last = a.last;
         leads = leads-further next path a.last (name ∷ []) grown a.leads;
         behind = a.behind;
+        asked_one = subst (λ (o : Option Stacked). Increased (platforms_of old) (platforms_of o)) (sym b.same) a.asked_one;
+        at_most = subst (λ (o : Option Stacked). platforms_of o ≤ platforms_of old + length a.behind.rest + 1) (sym b.same) a.at_most;
         looked_up = stands result (subst (λ (o : Option Stacked). StandsAt o a.last) (sym b.same) a.looked_up);
         on_way = subst (λ (o : Option Stacked). IsOnWay (pushed_in o) (components a.last)) (sym b.same) a.on_way;
         before = a.before;
@@ -102,6 +117,8 @@ module _ {F T E : Type 0} (recurses : Bool) (path name next : List ℕ) (r0 r1 r
         last = next;
         leads = next-itself;
         behind = next-itself;
+        asked_one = let same = ap platforms_of a.same in let once = b.once in omega (arith, same, once);
+        at_most = let same = ap platforms_of a.same in let once = b.once in omega (arith, same, once);
         looked_up = b.looked_up;
         on_way = b.on_way;
         before = pushed_in now;
@@ -116,6 +133,7 @@ module _ {F T E : Type 0} (recurses : Bool) (path name next : List ℕ) (r0 r1 r
       }
 
   way-on : AskedOnWay {T = Unit {0}} {E = Error} recurses path r0 r1 old now (Ok tt) → AskedAbout recurses next r1 r2 now new result → AskedOnWay recurses next r0 r2 old new result
+  unfolding leads-further
   way-on a b =
       let leads : LeadsTo next a.last = leads-further next path a.last (name ∷ []) grown a.leads in
       record {
@@ -125,6 +143,8 @@ module _ {F T E : Type 0} (recurses : Bool) (path name next : List ℕ) (r0 r1 r
         last = next;
         leads = next-itself;
         behind = leads-further next a.last a.first leads.rest leads.components_are a.behind;
+        asked_one = let some = a.asked_one in let once = b.once in omega (arith, some, once);
+        at_most = counted-on (platforms_of old) (platforms_of now) (platforms_of new) a.behind.rest a.leads.rest name a.at_most b.once;
         looked_up = b.looked_up;
         on_way = b.on_way;
         before = pushed_in now;
@@ -145,6 +165,24 @@ module _ {F T E : Type 0} (recurses : Bool) (path name next : List ℕ) (r0 r1 r
   way-asked (inr a) (inl b) = inr (way-later a b)
   way-asked (inr a) (inr b) = inr (way-on a b)
 
+-- the rules before a path is looked up
+pub stands-above : {F : Type 0} (recurses : Bool) (path name next : List ℕ) (r0 r1 : ℕ) (o0 o1 : F) (old now : Option Stacked) → components next ≡ components path ++ name ∷ []
+    → AsksOnWay {T = Unit {0}} {E = Error} recurses path r0 r1 o0 o1 old now (Ok tt) → (now ≡ old) ⊎ StandsAbove next old now
+unfolding leads-further
+stands-above recurses path name next r0 r1 o0 o1 old now grown (inl a) = inl a.same
+stands-above recurses path name next r0 r1 o0 o1 old now grown (inr a) =
+    inr (record {
+      first = a.first;
+      beneath = a.beneath;
+      last = a.last;
+      leads = leads-further next path a.last (name ∷ []) grown a.leads;
+      above = some-more a.leads.rest name;
+      behind = a.behind;
+      asked_one = a.asked_one;
+      at_most = a.at_most;
+      looked_up = a.looked_up;
+    })
+
 -- ---- the whole way
 
 pub way-root : {F T E : Type 0} (recurses : Bool) (root path : List ℕ) (rest : List (List ℕ)) (r0 r1 : ℕ) (o0 o1 : F) (old new : Option Stacked) (result : Result T E)
@@ -158,6 +196,8 @@ way-root recurses root path rest r0 r1 o0 o1 old new result split (inr a) =
       last = a.last;
       leads = leads-further root path a.last rest split a.leads;
       behind = a.behind;
+      asked_one = a.asked_one;
+      at_most = a.at_most;
       looked_up = a.looked_up;
       on_way = a.on_way;
       before = a.before;
@@ -178,6 +218,8 @@ way-answered recurses path r0 r1 o0 o1 old new t u (inr a) =
       last = a.last;
       leads = a.leads;
       behind = a.behind;
+      asked_one = a.asked_one;
+      at_most = a.at_most;
       looked_up = a.looked_up;
       on_way = a.on_way;
       before = a.before;
@@ -197,6 +239,8 @@ way-refused recurses path r0 r1 o0 o1 old new e (inr a) =
       last = a.last;
       leads = a.leads;
       behind = a.behind;
+      asked_one = a.asked_one;
+      at_most = a.at_most;
       looked_up = tt;
       on_way = a.on_way;
       before = a.before;
@@ -217,6 +261,8 @@ way-stopped recurses path r0 r1 o0 o1 old new e (inr a) =
       last = a.last;
       leads = a.leads;
       behind = a.behind;
+      asked_one = a.asked_one;
+      at_most = a.at_most;
       looked_up = tt;
       on_way = a.on_way;
       before = a.before;

@@ -18,7 +18,8 @@ use Rattle.dir_classify.specs.declared.index.InIndex.{InIndex}
 use Rattle.dir_classify.specs.Chosen.{Chosen, finds_repositories, finds_bare_repositories, may_hide_repositories}
 use Rattle.dir_classify.specs.declared.excludes.Ruling.{Ruling}
 use Rattle.dir_classify.specs.Evidence.{Evidence, no_ruling, GitAt, is_foreign}
-use Rattle.dir_classify.specs.Kinds.{is_dir, holds_names, answers_alike, first_of_kinds, is_directory, is_repository, is_symlink, from_match}
+use Rattle.std.specs.Option.{option_or}
+use Rattle.dir_classify.specs.Kinds.{is_dir, holds_names, answers_alike, is_directory, is_repository, is_symlink, is_marked_dot_git, from_match}
 use Rattle.dir_classify.specs.Enters.{is_ignored_status, can_recurse}
 
 -- ---- what is asked of a path
@@ -63,7 +64,7 @@ upgrade o ev kind path hard = upgraded o.recurse_repositories hard kind (ev.repo
 -- The kind of a path: that of an up-to-date entry, else the one that the caller knows, else that of the node there
 -- where the disk may be asked.
 abbrev pub settled_kind : Evidence → List ℕ → Option Kind → Option Kind → Option Kind
-settled_kind ev path known on_disk = first_of_kinds (ev.in_index path).up_to_date (first_of_kinds known on_disk)
+settled_kind ev path known on_disk = option_or (ev.in_index path).up_to_date (option_or known on_disk)
 
 -- left out by a sparse checkout, or where index and disk agree on whether the path holds names; nothing in both is
 -- agreement too
@@ -229,6 +230,33 @@ seeks_by_rules o kind (Some excluded) = finds_in_ignored o
 abbrev pub is_idle : Chosen → Bool → Bool
 is_idle o seeks = o.recurse_repositories || not seeks
 
+-- With its kind settled, a repository is looked for at a path, by the index or by what the rules say of it; and never at one of
+-- the worktree set.
+abbrev pub seeks_of_kind : Chosen → Evidence → List ℕ → Option Kind → Bool
+seeks_of_kind o ev path kind =
+    if is_worktree o path then false
+    else if is_indexed (ev.in_index path) kind then not (is_idle o (seeks_indexed (ev.in_index path) kind))
+    else not (is_idle o (seeks_by_rules o kind (ruling_of o ev path kind).kind))
+
+-- The class of a path looks for a repository there.
+unfoldable pub seeks : Chosen → Evidence → List ℕ → Option Kind → Option Kind → Bool
+seeks o ev path known on_disk =
+    if is_dot_git o.ignore_case path then false
+    else if not (ev.can_match path (is_dir known)) then false
+    else seeks_of_kind o ev path (settled_kind ev path known on_disk)
+
+-- What a class itself tells of that: a repository may have been looked for at a directory that is a submodule in the index, at an
+-- ignored path not named `.git` where deletion looks for repositories there, and at an untracked directory.
+abbrev pub may_seek_with : Chosen → Outcome → Status → Bool
+may_seek_with o c Pruned = holds_names c.disk_kind && is_repository c.index_kind
+may_seek_with o c Tracked = holds_names c.disk_kind && is_repository c.index_kind
+may_seek_with o c (Ignored kind) = finds_in_ignored o && not (is_marked_dot_git c.property)
+may_seek_with o c Untracked = holds_names c.disk_kind
+
+-- where repositories are walked into, none was
+abbrev pub may_have_sought : Chosen → Outcome → Bool
+may_have_sought o c = not o.recurse_repositories && may_seek_with o c c.status
+
 -- with its kind settled, neither a repository is looked for nor the rules are asked
 abbrev pub is_idle_of_kind : Chosen → Evidence → List ℕ → Option Kind → Bool
 is_idle_of_kind o ev path kind =
@@ -238,14 +266,14 @@ is_idle_of_kind o ev path kind =
 
 -- the kind is settled without the disk: the disk may not be asked, an entry is up to date, or the caller knows the kind
 abbrev pub is_kind_known : Bool → Option Kind → Option Kind → Bool
-is_kind_known ask_disk up_to_date known = not ask_disk || is_some (first_of_kinds up_to_date known)
+is_kind_known ask_disk up_to_date known = not ask_disk || is_some (option_or up_to_date known)
 
 -- The class of a path asks nothing of the worktree: neither the kind of the node there, nor where it leads, nor the rules.
 unfoldable pub asks_nothing : Chosen → Evidence → List ℕ → Option Kind → Bool → Bool
 asks_nothing o ev path known ask_disk =
     if is_dot_git o.ignore_case path then not (is_some o.for_deletion && ev.is_ruled)
     else if not (ev.can_match path (is_dir known)) then true
-    else is_kind_known ask_disk (ev.in_index path).up_to_date known && is_idle_of_kind o ev path (first_of_kinds (ev.in_index path).up_to_date known)
+    else is_kind_known ask_disk (ev.in_index path).up_to_date known && is_idle_of_kind o ev path (option_or (ev.in_index path).up_to_date known)
 
 -- it asks them, and they cannot be read
 abbrev pub asks_unread : Chosen → Evidence → List ℕ → Option Kind → Option Kind → Bool

@@ -36,6 +36,11 @@ reads_rules (Some made) = asks_worktree made
 abbrev pub pushed_in : Option Stacked → Option (List (List ℕ))
 pushed_in excludes = option_and_then (λ (s : Stacked). s.at) excludes
 
+-- how often they were asked about a path, as they count it
+abbrev pub platforms_of : Option Stacked → ℕ
+platforms_of None = 0
+platforms_of (Some s) = s.statistics.platforms
+
 -- they are in step with a tree and a store of objects, where they are given
 abbrev pub InStepIf : Sources → Option Stacked → Type 0
 InStepIf s None = Unit {0}

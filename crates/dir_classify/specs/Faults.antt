@@ -2,12 +2,15 @@
 --
 -- A fault of such a question is swallowed and counted: the class is the one by what was read, and each question that failed has cost
 -- one fault.
-use Rattle.std.specs.Prelude.{◌≡◌, ◌≤◌, ℕ, ◌+◌, Bool, false, not, ◌&&◌, if◌then◌else◌, Option, None}
+use Rattle.std.specs.Prelude.{◌≡◌, ◌≤◌, ℕ, ◌+◌, Bool, true, false, not, ◌&&◌, if◌then◌else◌, Option, None}
 use Rattle.worktree_fs.specs.Causes.{with_more}
 use Rattle.dir_classify.specs.declared.entry.Kind.{Kind}
 use Rattle.dir_classify.specs.declared.classify.Outcome.{Outcome}
 use Rattle.dir_classify.specs.declared.excludes.Ruling.{Ruling}
+use Rattle.worktree_stack.specs.declared.error.AtPathError.{AtPathError}
+use Rattle.worktree_stack.specs.Refused.{OnFault}
 use Rattle.dir_classify.specs.Evidence.{Evidence, GitAt}
+use Rattle.dir_classify.specs.Question.{Question}
 
 -- ---- which questions failed
 
@@ -89,3 +92,23 @@ pub record IsJudged (before now : ℕ) (judge : Option Kind → Evidence → Out
   pub failed : Failed
   pub counted : AreCounted before now (failures failed)
   pub class_is : class ≡ judge (kind_read failed.kind on_disk) (read_as failed ev)
+
+-- A class as it was judged; and the rules that are asked by the kind that was read can be read.
+pub record IsClassed (before now : ℕ) (q : Question) (ev : Evidence) (on_disk : Option Kind) (class : Outcome) : Type 0 where
+  pub judged : IsJudged before now q.judge ev on_disk class
+  pub read : (q.asks (kind_read judged.failed.kind on_disk) ev && ev.is_unread q.path) ≡ false
+
+-- And this holds where by the kind that was read no rules are asked.
+abbrev pub IsClassedWith : (before now : ℕ) → Question → Evidence → Option Kind → Type 0 → Outcome → Type 0
+IsClassedWith before now q ev on_disk Unasked class =
+    (classed : IsClassed before now q ev on_disk class) × (q.asks (kind_read classed.judged.failed.kind on_disk) ev ≡ false → Unasked)
+
+-- ---- a refusal by what was read
+
+-- The rules were asked by the kind that was read, and refused so: a fault was counted if that kind was misread, and one more if the
+-- worktree failed as the rules were read.
+pub record IsAsked (before now : ℕ) (asks : Option Kind → Bool) (on_disk : Option Kind) (e : AtPathError) : Type 0 where
+  pub failed : Bool
+  pub counted : AreCounted before now (one_if failed)
+  pub refused : OnFault (AreCounted before now (one_if failed + 1)) (Unit {0}) e
+  pub asked : asks (kind_read failed on_disk) ≡ true

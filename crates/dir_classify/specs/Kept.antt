@@ -1,5 +1,6 @@
 -- What the class of a path leaves of a worktree and of the ignore rules.
 use Rattle.std.specs.Prelude.{◌≡◌, ◌≤◌, ◌⊎◌, ℕ, ◌+◌, ◌++◌, Bool, true, false, List, length, map, Option, Result, OnOk, IsSomeAnd, is_some}
+use Rattle.gitbase_core.specs.Causes.{next as one_more}
 use Rattle.gitbase_core.specs.Path.{components}
 use Rattle.gitbase_core.specs.declared.find.Find.{Ghosts as FindOf}
 use Rattle.worktree_fs.specs.declared.worktree.Worktree.{Ghosts as WorktreeOf}
@@ -8,7 +9,7 @@ use Rattle.worktree_fs.specs.PathStack.{Call, IsOnWay, directories, granted, lef
 use Rattle.worktree_stack.specs.Lookups.{IsLookedUp, staying, refused_one}
 use Rattle.worktree_stack.specs.Reading.{Sources}
 use Rattle.worktree_stack.specs.Stacked.{Stacked, pushed}
-use Rattle.dir_classify.specs.Excludes.{made_with, pushed_in, tells_attributes, TellsIf, InStepIf}
+use Rattle.dir_classify.specs.Excludes.{made_with, platforms_of, pushed_in, tells_attributes, TellsIf, InStepIf}
 
 -- A worktree that was asked for kinds, for repositories and for rules. It was not listed, and its counts did not fall.
 abbrev pub AsksRules : {W : Type 0} → WorktreeOf W → W → W → Type 0
@@ -38,11 +39,12 @@ pub record LeavesPushed (path : List ℕ) (old new : Option (List (List ℕ))) :
   pub calls_are : lookup_calls old (components path) ≡ done ++ undone
   pub left : directories new ≡ left_by (directories old) (map granted done)
 
--- Rules that are given were asked about one path. Answered they stand at it, so that exactly the directories above it are pushed;
+-- Rules that are given were asked about one path, once. Answered they stand at it, so that exactly the directories above it are pushed;
 -- refused, what is pushed lies on the way to it, as its lookup left it. Where repositories are walked into, and the rules
 -- are ignore rules alone, the worktree was read at most once for each directory that was pushed or refused.
 pub record AskedAbout {T E : Type 0} (recurses : Bool) (path : List ℕ) (reads0 reads1 : ℕ) (old new : Option Stacked) (result : Result T E) : Type 0 where
   pub given : is_some old ≡ true
+  pub once : platforms_of new ≡ one_more (platforms_of old)
   pub looked_up : OnOk result (StandsAt new path)
   pub on_way : IsOnWay (pushed_in new) (components path)
   pub leaves : LeavesPushed path (pushed_in old) (pushed_in new)

@@ -9,6 +9,8 @@ use Rattle.glob_rules.specs.declared.pathspec.MatchKind.{MatchKind}
 use Rattle.glob_rules.specs.declared.pathspec.MatchKind.TheVariants as specs
 use Rattle.dir_classify.specs.declared.entry.Kind.{Kind}
 use Rattle.dir_classify.specs.declared.entry.PathspecMatch.{PathspecMatch}
+use Rattle.dir_classify.specs.declared.entry.Property.{Property}
+use Rattle.dir_classify.specs.declared.entry.Property.TheVariants.{DotGit, EmptyDirectory, EmptyDirectoryAndCWD, TrackedExcluded}
 use Rattle.dir_classify.specs.declared.entry.PathspecMatch.TheVariants.{Always, Excluded, Prefix, WildcardMatch, Verbatim}
 use Rattle.dir_classify.specs.declared.entry.Kind.TheVariants.{Untrackable, File, Symlink, Directory, Repository}
 
@@ -37,11 +39,6 @@ answers_alike None (Some b) = false
 answers_alike (Some a) None = false
 answers_alike (Some true) (Some b) = b
 answers_alike (Some false) (Some b) = not b
-
--- the first kind that is there
-abbrev pub first_of_kinds : Option Kind → Option Kind → Option Kind
-first_of_kinds None second = second
-first_of_kinds (Some kind) second = Some kind
 
 -- the kind of a node on disk, before anyone asks whether a directory is a repository
 abbrev pub from_node : NodeKind → Kind
@@ -82,6 +79,16 @@ is_symlink (Some Repository) = false
 is_symlink (Some Untrackable) = false
 is_symlink (Some File) = false
 is_symlink None = false
+
+-- ---- what sets a path apart
+
+-- it is named `.git`
+abbrev pub is_marked_dot_git : Option Property → Bool
+is_marked_dot_git (Some DotGit) = true
+is_marked_dot_git (Some EmptyDirectory) = false
+is_marked_dot_git (Some EmptyDirectoryAndCWD) = false
+is_marked_dot_git (Some TrackedExcluded) = false
+is_marked_dot_git None = false
 
 -- ---- how a path spec matches
 

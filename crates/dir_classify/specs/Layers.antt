@@ -1,18 +1,19 @@
 -- What the layers below say of paths, in the words of classes.
-use Rattle.std.specs.Prelude.{ℕ, Bool, true, false, not, ◌&&◌, List, [], ◌∷◌, Option, Some, None, option_map, option_and_then, is_some, if◌then◌else◌}
+use Rattle.std.specs.Prelude.{◌≡◌, ℕ, Bool, true, false, not, ◌&&◌, List, [], ◌∷◌, Option, Some, None, option_map, option_and_then, is_some, if◌then◌else◌}
 use Rattle.std.specs.List.{list_all}
 use Rattle.std.specs.Str.{bytes_eq}
 use Rattle.gitbase_core.specs.declared.entry.IndexEntry.{IndexEntry}
 use Rattle.gitbase_core.specs.declared.kinds.IndexKinds.{IndexKinds}
 use Rattle.gitbase_core.specs.Kinds.{kinds}
 use Rattle.gitbase_core.specs.Lookup.{kinds_icase, IsLookupOf}
+use Rattle.gitbase_core.specs.View.{EntryView, IsBeneath}
 use Rattle.gitbase_core.specs.Path.{components, joined, normalized, past_slashes, relative_to}
 use Rattle.glob_rules.specs.declared.pathspec.Match.{Match}
 use Rattle.glob_rules.specs.declared.pathspec.matcher.Matcher.{Ghosts as MatcherOf}
 use Rattle.worktree_fs.specs.Tree.{Names, look}
 use Rattle.worktree_fs.specs.Answers.{kind_of}
 use Rattle.worktree_fs.specs.Changes.{real_path}
-use Rattle.worktree_fs.specs.Paths.{spelled, fronts, without_last, full_path}
+use Rattle.worktree_fs.specs.Paths.{spelled, fronts, all_but_last, full_path}
 use Rattle.worktree_fs.specs.Repository.{is_git, is_path}
 use Rattle.worktree_stack.specs.Setup.{Made, excluded_kind}
 use Rattle.worktree_stack.specs.Excludes.{Decision, exclude, rule_of, origin_of}
@@ -49,6 +50,12 @@ abbrev pub IsLookupIf : List IndexEntry → Option (List ℕ) → Type 0
 IsLookupIf entries None = Unit {0}
 IsLookupIf entries (Some numbers) = IsLookupOf entries numbers
 
+-- a path as a name in a directory, with the entries of an index beneath that
+pub record IsSeenIn (index : List IndexEntry) (path name : List ℕ) (under : EntryView) : Type 0 where
+  pub directory : List ℕ
+  pub beneath : IsBeneath index directory under
+  pub path_is : path ≡ joined directory name
+
 -- ---- the rules
 
 -- a decision in the words of classes
@@ -63,7 +70,7 @@ ruling_in (Some made) s path is_dir = ruling_by (exclude (rulebook made s) (comp
 -- the rules of some directory above a path are refused: of the worktree root, or of one between it and the path
 unfoldable pub is_unread_in : Option Made → Sources → List ℕ → Bool
 is_unread_in None s path = false
-is_unread_in (Some made) s path = not (list_all (λ directory. is_read (reading made s (spelled directory))) (fronts (without_last (components path))))
+is_unread_in (Some made) s path = not (list_all (λ directory. is_read (reading made s (spelled directory))) (fronts (all_but_last (components path))))
 
 -- ---- the tree
 

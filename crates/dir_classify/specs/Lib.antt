@@ -1,6 +1,7 @@
 pub mod Chosen
 pub mod Class
 pub mod Classes
+pub mod Contexts
 pub mod Enters
 pub mod Entries
 pub mod Evidence
@@ -10,6 +11,7 @@ pub mod Kept
 pub mod Kinds
 pub mod Layers
 pub mod Paths
+pub mod Question
 pub mod Refused
 pub mod Rooted
 pub mod Way

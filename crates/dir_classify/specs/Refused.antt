@@ -1,11 +1,16 @@
 -- Why the class of a path is refused: the rules of a directory above it were not read.
-use Rattle.std.specs.Prelude.{◌≢◌, ℕ, List, Option, IsSomeAnd}
+use Rattle.std.specs.Prelude.{◌≢◌, ℕ, List, Option, Some, None, IsSomeAnd}
+use Rattle.gitbase_core.specs.Objects.{Objects}
 use Rattle.gitbase_core.specs.Path.{components}
+use Rattle.worktree_fs.specs.PathStack.{lookup_calls}
+use Rattle.worktree_fs.specs.Tree.{Names}
 use Rattle.worktree_stack.specs.declared.error.AtPathError.{AtPathError}
 use Rattle.worktree_stack.specs.declared.error.AtPathError.TheVariants as inner
 use Rattle.worktree_stack.specs.Setup.{Made}
 use Rattle.worktree_stack.specs.Reading.{Sources}
 use Rattle.worktree_stack.specs.Refused as lookups
+use Rattle.worktree_stack.specs.Stacked.{Stacked}
+use Rattle.worktree_stack.specs.Steps.{Stops}
 use Rattle.dir_classify.specs.declared.error.Error.{Error}
 use Rattle.dir_classify.specs.declared.error.Error.TheVariants as errors
 use Rattle.dir_classify.specs.declared.error.MetadataWhy.TheVariants as metadata
@@ -52,18 +57,29 @@ Refuses s made path (errors.DirEntry directory) = ⊥
 Refuses s made path (errors.TooDeep directory) = ⊥
 Refuses s made path errors.OutOfMemory = Unit {0}
 
+-- what holds of the lookup that was refused, where a class asked the rules
+abbrev pub OnLookup : (AtPathError → Type 0) → Error → Type 0
+OnLookup Holds (errors.ExcludesAccess e) = Holds e
+OnLookup Holds errors.Interrupted = Unit {0}
+OnLookup Holds (errors.WorktreeRootIsFile root) = Unit {0}
+OnLookup Holds (errors.NormalizeRoot root) = Unit {0}
+OnLookup Holds (errors.SymlinkInRoot root worktree_root index) = Unit {0}
+OnLookup Holds (errors.SymlinkMetadata missing why) = Unit {0}
+OnLookup Holds (errors.ReadDir directory why) = Unit {0}
+OnLookup Holds (errors.DirEntry directory) = Unit {0}
+OnLookup Holds (errors.TooDeep directory) = Unit {0}
+OnLookup Holds errors.OutOfMemory = Unit {0}
+
 -- what holds where a class asked the rules
 abbrev pub OnAccess : Type 0 → Error → Type 0
-OnAccess Holds (errors.ExcludesAccess e) = Holds
-OnAccess Holds errors.Interrupted = Unit {0}
-OnAccess Holds (errors.WorktreeRootIsFile root) = Unit {0}
-OnAccess Holds (errors.NormalizeRoot root) = Unit {0}
-OnAccess Holds (errors.SymlinkInRoot root worktree_root index) = Unit {0}
-OnAccess Holds (errors.SymlinkMetadata missing why) = Unit {0}
-OnAccess Holds (errors.ReadDir directory why) = Unit {0}
-OnAccess Holds (errors.DirEntry directory) = Unit {0}
-OnAccess Holds (errors.TooDeep directory) = Unit {0}
-OnAccess Holds errors.OutOfMemory = Unit {0}
+OnAccess Holds = OnLookup (λ e. Holds)
+
+-- It stopped at a directory whose rules were refused so, in a lookup of this path by rules that were `old` and are `new`: those of
+-- the directories before it were read, and these are pushed.
+abbrev pub StopsIf : Option Names → Option Objects → Type 0 → Type 0 → List ℕ → (old new : Option Stacked) → AtPathError → Type 0
+StopsIf told holds TreeFailed StoreFailed path None new e = ⊥
+StopsIf told holds TreeFailed StoreFailed path (Some old) None e = ⊥
+StopsIf told holds TreeFailed StoreFailed path (Some old) (Some new) e = Stops told holds TreeFailed StoreFailed (lookup_calls old.at (components path)) old new e
 
 -- what holds where the worktree failed, and what where the store did
 abbrev pub OnFault : Type 0 → Type 0 → Error → Type 0

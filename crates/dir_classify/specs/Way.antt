@@ -1,13 +1,16 @@
 -- The classes on the way from the worktree root to a traversal root.
-use Rattle.std.specs.Prelude.{◌≡◌, ◌≤◌, ℕ, Bool, true, false, ◌||◌, if◌then◌else◌, List, [], ◌∷◌, Option, None}
+use Rattle.std.specs.Prelude.{◌≡◌, ◌≤◌, ℕ, ◌+◌, Bool, true, false, ◌||◌, if◌then◌else◌, List, [], ◌∷◌, ◌++◌, Option, None}
 use Rattle.gitbase_core.specs.Path.{is_empty, joined}
+use Rattle.worktree_fs.specs.Paths.{spelled}
+use Rattle.worktree_stack.specs.declared.error.AtPathError.{AtPathError}
 use Rattle.dir_classify.specs.declared.entry.Kind.{Kind}
 use Rattle.dir_classify.specs.declared.classify.Outcome.{Outcome}
 use Rattle.dir_classify.specs.Chosen.{Chosen}
 use Rattle.dir_classify.specs.Evidence.{Evidence}
-use Rattle.dir_classify.specs.Faults.{IsJudged}
+use Rattle.dir_classify.specs.Faults.{IsAsked, IsClassed}
 use Rattle.dir_classify.specs.Kinds.{is_repository}
-use Rattle.dir_classify.specs.Class.{class, asks_unread, enters}
+use Rattle.dir_classify.specs.Class.{class, asks, asks_unread, enters}
+use Rattle.dir_classify.specs.Question.{about_way}
 
 -- The path that was classed last, its class, whether the worktree root is seen as a repository, and whether the path is the
 -- whole traversal root; and whether the rules of some path on the way were asked and cannot be read.
@@ -55,11 +58,21 @@ reached_root o ev kind_at = reached_at o ev kind_at (is_repository (way_class o 
 unfoldable pub reached : Chosen → Evidence → (List ℕ → Option Kind) → List (List ℕ) → Reached
 reached o ev kind_at names = onward o ev kind_at (reached_root o ev kind_at) names
 
+-- a path on the way counts where its class asks the rules by its kind
+unfoldable pub asking_at : Chosen → Evidence → (List ℕ → Option Kind) → List ℕ → ℕ
+asking_at o ev kind_at path = if asks o ev path (kind_at path) None then 1 else 0
+
+-- how many paths on the way do, behind the one with the first components
+abbrev pub asking_behind : Chosen → Evidence → (List ℕ → Option Kind) → (first names : List (List ℕ)) → ℕ
+asking_behind o ev kind_at first [] = 0
+asking_behind o ev kind_at first (name ∷ names) =
+    asking_at o ev kind_at (spelled (first ++ name ∷ [])) + asking_behind o ev kind_at (first ++ name ∷ []) names
+
 -- ---- with faults
 
--- The class of a path on the way by what was read, where the faults were `before` and are `now`.
+-- The class of a path on the way by what was read, with all rules read that are asked by that, where the faults were `before` and are `now`.
 abbrev pub IsClassOnWay : (before now : ℕ) → Chosen → Evidence → (List ℕ → Option Kind) → List ℕ → Outcome → Type 0
-IsClassOnWay before now o ev kind_at path c = IsJudged before now (λ kind read. class o read path kind None) ev (kind_at path) c
+IsClassOnWay before now o ev kind_at path c = IsClassed before now (about_way o path) ev (kind_at path) c
 
 -- The way ends there by what was read, where it stands at a path with this class and these components are left: on through the next
 -- one exactly as long as the path reached is one that is entered. The faults were `before` at the path and are `now` at the end, so
@@ -75,3 +88,17 @@ EndsAt before now o ev kind_at path c in_repository (name ∷ names) r =
 abbrev pub IsReached : (before now : ℕ) → Chosen → Evidence → (List ℕ → Option Kind) → List (List ℕ) → Reached → Type 0
 IsReached before now o ev kind_at names r =
     (first : Outcome) × (then_ : ℕ) × IsClassOnWay before then_ o ev kind_at [] first × EndsAt then_ now o ev kind_at [] first (is_repository first.disk_kind) names r
+
+-- The way is refused so by what was read: it came to a path, goes on beneath it, and of the next one the rules were asked by the kind
+-- that was read there.
+pub record IsRefusedOnWay (before now : ℕ) (o : Chosen) (ev : Evidence) (kind_at : List ℕ → Option Kind) (names : List (List ℕ)) (e : AtPathError) : Type 0 where
+  pub first : List (List ℕ)
+  pub name : List ℕ
+  pub left : List (List ℕ)
+  pub names_are : names ≡ first ++ name ∷ left
+  pub above : Reached
+  pub then_ : ℕ
+  pub reaches : IsReached before then_ o ev kind_at first above
+  pub whole : above.whole ≡ true
+  pub goes : goes_on o above.path above.class above.in_repository ≡ true
+  pub asked : IsAsked then_ now (λ kind. asks o ev (joined above.path name) kind None) (kind_at (joined above.path name)) e

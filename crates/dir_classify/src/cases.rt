@@ -46,6 +46,9 @@ fn is_nested(path: &[u8]) -> bool
 }
 
 /// Whether the index has a path: it is left out of a sparse worktree, or index and disk agree on whether it holds names.
+///
+/// See docs/DIFFERENCES.md#excluded-replaced-file.
+/// See docs/DIFFERENCES.md#replaced-file.
 pub(crate) fn is_indexed(entry: InIndex, kind: Option<Kind>) -> bool
     ensures { result ≡ is_indexed entry kind }
 {
@@ -168,6 +171,9 @@ pub(crate) fn class_worktree<M: Matcher>(
     }
 }
 
+/// The class of a path that the index has.
+///
+/// See docs/DIFFERENCES.md#left-out-directory.
 pub(crate) fn class_in_index(
     entry: InIndex,
     kind: Option<Kind>,
@@ -254,6 +260,8 @@ pub(crate) fn finds_in_ignored(options: &Options<'_>) -> bool
 }
 
 /// Whether it looks for bare ones too.
+///
+/// See docs/DIFFERENCES.md#bare-repository.
 #[tactic(auto, unfolding(crate::specs::Chosen::chosen))]
 pub(crate) fn finds_bare_in_ignored(options: &Options<'_>) -> bool
     ensures { result ≡ finds_bare_repositories (chosen options.now).for_deletion }

@@ -1,12 +1,14 @@
 //! The class of a path, and the classes on the way to a traversal root.
-ghost use Rattle.std.specs.Prelude.{◌≡◌, true, false, None, IfOk};
+ghost use Rattle.std.specs.Prelude.{◌≡◌, true, false, IfOk};
 ghost use Rattle.gitbase_core.specs.Path.{components};
 ghost use Rattle.worktree_fs.specs.Paths.{is_normal, spelled};
 ghost use Rattle.dir_classify.specs.Chosen.{chosen};
-ghost use Rattle.dir_classify.specs.Class.{class, asks, enters};
+ghost use Rattle.dir_classify.specs.Class.{enters};
 ghost use Rattle.dir_classify.specs.Classes.{Classes, Judges};
+ghost use Rattle.dir_classify.specs.Contexts.{KeepsContext};
 ghost use Rattle.dir_classify.specs.Excludes.{made_with, tells_excludes};
 ghost use Rattle.dir_classify.specs.Layers.{setting_in, setting_of, IsLookupIf};
+ghost use Rattle.dir_classify.specs.Question.{about_way};
 ghost use Rattle.dir_classify.specs.Rooted.{Reaches, reached_by};
 ghost use Rattle.dir_classify.specs.Way.{goes_on, reached_so};
 
@@ -32,15 +34,15 @@ pub struct Outcome {
     /// What sets the path apart, where something does.
     pub property: Option<Property>,
     /// The kind of the node on disk, by an up-to-date entry of the index, by the caller, or by the worktree; a repository for a
-    /// path of the worktree set, and where one was looked for and found. None where nothing is there, where it could not be
-    /// learnt, and where nobody was asked.
+    /// path of the worktree set, and where one was looked for and found. None where none of them tells one: where nothing is
+    /// there, it could not be learnt, or nobody was asked.
     pub disk_kind: Option<Kind>,
     /// The kind that the index has at the path; none where it has nothing there, or at the path itself an entry whose mode is no
     /// file, link or submodule, and for a path named `.git`, for one that no path spec can match, and for one of the worktree
     /// set.
     pub index_kind: Option<Kind>,
-    /// How the path specs match, or `Prefix` for an ignored directory that may lie above what is looked for; none where none
-    /// does.
+    /// How the path specs match, or `Prefix` for an ignored directory that may lie above what is looked for; none where they
+    /// tell no match, and for a path that none of them can match.
     pub pathspec_match: Option<PathspecMatch>,
     /// The ignore rule that decided about the path, which may be a negative one; none where none was asked or none did, and for a
     /// path named `.git` that is not ignored.
@@ -84,8 +86,12 @@ pub struct RootOutcome {
 ///
 /// `disk_kind` is the kind of its node where the caller knows it. Where neither that nor an up-to-date entry of the
 /// index tells the kind, the worktree is asked, if `ask_disk` allows it; of a path named `.git`, or that no path spec can
-/// match, it is not asked. A fault of that question reads as no kind, and is counted by the worktree. So are faults of the other questions about the node: whether it leads to a repository,
-/// and what a link leads to.
+/// match, it is not asked. A fault of that question reads as no kind, and is counted by the worktree. So are faults of the other
+/// questions about the node: whether it leads to a repository, and what a link leads to. Of which question a fault is the
+/// contract does not say, but how many were misread at most.
+///
+/// The worktree is read for rules, and where a repository is looked for: at a directory that is a submodule in the index, at one
+/// that neither the index nor the rules have, and at what the rules exclude, where deletion looks for repositories there.
 ///
 /// The ignore rules are asked for a path below the worktree root that a path spec can match, that is not of the worktree set, and
 /// that the index does not have, or has in another shape (a directory in a file's place, or the other way round), and in
@@ -108,6 +114,9 @@ pub struct RootOutcome {
 ///
 /// After a refusal rules that were in step are in step, and what they have pushed is what it was or lies on the way to the path; see
 /// docs/DECISIONS.md#rules-serve-on.
+///
+/// See docs/DIFFERENCES.md#gix-on-demand-kind.
+/// See docs/DIFFERENCES.md#gix-public-classify.
 pub fn path<W: Worktree, F: Find, I: Interrupt, M: Matcher>(
     alloc: Global,
     worktree_root: &[u8],
@@ -125,19 +134,7 @@ pub fn path<W: Worktree, F: Find, I: Interrupt, M: Matcher>(
         ctx.old.objects.now ctx.new.objects.now ctx.old.excludes.now ctx.new.excludes.now
         (setting_in M.Matcher worktree_root.now options.entry ctx.old) rela_path.now disk_kind
         ask_disk result }
-    ensures interrupt { ctx.new.interrupt.now ≡ ctx.old.interrupt.now }
-    ensures same_worktree { ctx.new.worktree.ghost_name ≡ ctx.old.worktree.ghost_name }
-    ensures same_objects { ctx.new.objects.ghost_name ≡ ctx.old.objects.ghost_name }
-    ensures same_interrupt { ctx.new.interrupt.ghost_name ≡ ctx.old.interrupt.ghost_name }
-    ensures same_excludes { ctx.new.excludes.ghost_name ≡ ctx.old.excludes.ghost_name }
-    ensures same_pathspec { ctx.new.pathspec ≡ ctx.old.pathspec }
-    ensures same_index { ctx.new.index ≡ ctx.old.index }
-    ensures same_lookup { ctx.new.ignore_case_index_lookup ≡ ctx.old.ignore_case_index_lookup }
-    ensures same_git_dir { ctx.new.git_dir_realpath ≡ ctx.old.git_dir_realpath }
-    ensures same_current_dir { ctx.new.current_dir ≡ ctx.old.current_dir }
-    ensures same_traversal_root { ctx.new.explicit_traversal_root
-        ≡ ctx.old.explicit_traversal_root }
-    ensures same_limit { ctx.new.depth_limit ≡ ctx.old.depth_limit }
+    ensures context { KeepsContext ctx.old ctx.new }
 {
     let shared = Shared {
         worktree_root,
@@ -149,10 +146,13 @@ pub fn path<W: Worktree, F: Find, I: Interrupt, M: Matcher>(
         options,
     };
     let full = full_path(alloc, worktree_root, rela_path)?;
+    let all = shared.index.beneath(b"");
     steps::at(
         alloc,
         full.as_bytes(),
         rela_path,
+        rela_path,
+        &all,
         disk_kind,
         ask_disk,
         &shared,
@@ -191,19 +191,7 @@ pub fn root<W: Worktree, F: Find, I: Interrupt, M: Matcher>(
         ctx.old.objects.now ctx.new.objects.now ctx.old.excludes.now ctx.new.excludes.now
         (setting_in M.Matcher worktree_root.now options.entry ctx.old) worktree_relative_root.now
         result }
-    ensures interrupt { ctx.new.interrupt.now ≡ ctx.old.interrupt.now }
-    ensures same_worktree { ctx.new.worktree.ghost_name ≡ ctx.old.worktree.ghost_name }
-    ensures same_objects { ctx.new.objects.ghost_name ≡ ctx.old.objects.ghost_name }
-    ensures same_interrupt { ctx.new.interrupt.ghost_name ≡ ctx.old.interrupt.ghost_name }
-    ensures same_excludes { ctx.new.excludes.ghost_name ≡ ctx.old.excludes.ghost_name }
-    ensures same_pathspec { ctx.new.pathspec ≡ ctx.old.pathspec }
-    ensures same_index { ctx.new.index ≡ ctx.old.index }
-    ensures same_lookup { ctx.new.ignore_case_index_lookup ≡ ctx.old.ignore_case_index_lookup }
-    ensures same_git_dir { ctx.new.git_dir_realpath ≡ ctx.old.git_dir_realpath }
-    ensures same_current_dir { ctx.new.current_dir ≡ ctx.old.current_dir }
-    ensures same_traversal_root { ctx.new.explicit_traversal_root
-        ≡ ctx.old.explicit_traversal_root }
-    ensures same_limit { ctx.new.depth_limit ≡ ctx.old.depth_limit }
+    ensures context { KeepsContext ctx.old ctx.new }
 {
     let shared = Shared {
         worktree_root,
@@ -310,17 +298,18 @@ fn class_on_way<W: Worktree, F: Find, M: Matcher>(
     requires lookup { IsLookupIf shared.now.index.now shared.now.ignore_case_index_lookup.now }
     requires excludes { tells_excludes (made_with excludes.old) ≡ true }
     ensures { Judges W.Worktree F.Find worktree.old worktree.new objects.old objects.new
-        excludes.old excludes.new (setting_of M.Matcher shared.now) rela_path.now
-        (λ kind ev. class (chosen shared.now.options) ev rela_path.now kind None)
-        (λ kind ev. asks (chosen shared.now.options) ev rela_path.now kind None) (λ _. false) true
-        result }
+        excludes.old excludes.new (setting_of M.Matcher shared.now)
+        (about_way (chosen shared.now.options) rela_path.now) result }
 {
     let full = full_path(alloc, shared.worktree_root, rela_path)?;
     let kind = steps::kind_on_disk(alloc, worktree, full.as_bytes())?;
+    let all = shared.index.beneath(b"");
     let class = steps::at(
         alloc,
         full.as_bytes(),
         rela_path,
+        rela_path,
+        &all,
         kind,
         false,
         shared,

@@ -119,6 +119,8 @@ impl Status {
     /// ignored only if deletion looks for repositories there or a path spec names it.
     ///
     /// `file_type` is the kind of the path on disk, and `pathspec_match` how the path specs match it.
+    ///
+    /// See docs/DECISIONS.md#ignored-directory.
     pub fn can_recurse(
         &self,
         file_type: Option<Kind>,
@@ -256,15 +258,15 @@ pub struct Entry {
     /// What sets the path apart, where something does.
     pub property: Option<Property>,
     /// The kind of the node on disk, by an up-to-date entry of the index, by the caller, or by the worktree; a repository for a
-    /// path of the worktree set, and where one was looked for and found. None where nothing is there, where it could not be
-    /// learnt, and where nobody was asked.
+    /// path of the worktree set, and where one was looked for and found. None where none of them tells one: where nothing is
+    /// there, it could not be learnt, or nobody was asked.
     pub disk_kind: Option<Kind>,
     /// The kind that the index has at the path; none where it has nothing there, or at the path itself an entry whose mode is no
     /// file, link or submodule, and for a path named `.git`, for one that no path spec can match, and for one of the worktree
     /// set.
     pub index_kind: Option<Kind>,
-    /// How the path specs match, or `Prefix` for an ignored directory that may lie above what is looked for; none where none
-    /// does.
+    /// How the path specs match, or `Prefix` for an ignored directory that may lie above what is looked for; none where they
+    /// tell no match, and for a path that none of them can match.
     pub pathspec_match: Option<PathspecMatch>,
     /// The ignore rule that decided about the path, which may be a negative one; none where none was asked or none did, and for a
     /// path named `.git` that is not ignored.
@@ -281,15 +283,15 @@ pub struct EntryRef<'a> {
     /// What sets the path apart, where something does.
     pub property: Option<Property>,
     /// The kind of the node on disk, by an up-to-date entry of the index, by the caller, or by the worktree; a repository for a
-    /// path of the worktree set, and where one was looked for and found. None where nothing is there, where it could not be
-    /// learnt, and where nobody was asked.
+    /// path of the worktree set, and where one was looked for and found. None where none of them tells one: where nothing is
+    /// there, it could not be learnt, or nobody was asked.
     pub disk_kind: Option<Kind>,
     /// The kind that the index has at the path; none where it has nothing there, or at the path itself an entry whose mode is no
     /// file, link or submodule, and for a path named `.git`, for one that no path spec can match, and for one of the worktree
     /// set.
     pub index_kind: Option<Kind>,
-    /// How the path specs match, or `Prefix` for an ignored directory that may lie above what is looked for; none where none
-    /// does.
+    /// How the path specs match, or `Prefix` for an ignored directory that may lie above what is looked for; none where they
+    /// tell no match, and for a path that none of them can match.
     pub pathspec_match: Option<PathspecMatch>,
     /// The ignore rule that decided about the path, which may be a negative one; none where none was asked or none did, and for a
     /// path named `.git` that is not ignored.

@@ -1,5 +1,4 @@
 //! Why a walk was refused.
-use bstr::BStr;
 use gitbase_core::{OutOfMemory, PathText};
 use thiserror::Error;
 use worktree_stack::AtPathError;
@@ -29,20 +28,20 @@ pub enum MetadataWhy {
 #[derive(Debug, Drop, Error)]
 pub enum Error {
     /// The interrupt was raised.
-    #[error("Interrupted")]
+    #[error("The walk was interrupted")]
     Interrupted,
     /// The worktree root is absent or no directory, or its kind could not be learnt.
-    #[error("Worktree root at '{}' is not a directory", shown(.root))]
+    #[error("Worktree root at '{root}' is not a directory")]
     WorktreeRootIsFile {
         root: PathText,
     },
     /// The traversal root is absolute, or leads out of the worktree; `root` is as it was handed in, or as the path specs give it.
-    #[error("Traversal root '{}' contains relative path components and could not be normalized", shown(.root))]
+    #[error("Traversal root '{root}' contains relative path components and could not be normalized")]
     NormalizeRoot {
         root: PathText,
     },
     /// The component of the traversal root with this number, from 0, is a link, and no earlier one is.
-    #[error("A symlink was found at component {component_index} of traversal root '{}' as seen from worktree root '{}'", shown(.root), shown(.worktree_root))]
+    #[error("A symlink was found at component {component_index} of traversal root '{root}' as seen from worktree root '{worktree_root}'")]
     SymlinkInRoot {
         root: PathText,
         worktree_root: PathText,
@@ -56,36 +55,31 @@ pub enum Error {
     /// The directory at `path` was to be entered, and its names could not be listed: nothing is there, no directory is, or the
     /// worktree failed. Where it did not fail, the path was taken for a directory by what the index calls up to date, as one of
     /// the worktree set, or as an ignored path that leads to a repository.
-    #[error("Failed to read the directory at '{}'", shown(.path))]
+    #[error("Failed to read the directory at '{path}'")]
     ReadDir {
         path: PathText,
         why: ReadWhy,
     },
     /// The worktree failed while the names in the directory were read.
-    #[error("Could not obtain directory entry in root of '{}'", shown(.parent_directory))]
+    #[error("Could not obtain directory entry in root of '{parent_directory}'")]
     DirEntry {
         parent_directory: PathText,
     },
     /// The kind of a component of the traversal root could not be had.
-    #[error("Could not obtain symlink metadata on '{}'", shown(.path))]
+    #[error("Could not obtain symlink metadata on '{path}'")]
     SymlinkMetadata {
         path: PathText,
         why: MetadataWhy,
     },
     /// The directory at `path` was to be entered, and has more components below the worktree root than the
     /// depth limit.
-    #[error("The directory at '{}' lies deeper than the limit", shown(.path))]
+    #[error("The directory at '{path}' lies deeper than the limit")]
     TooDeep {
         path: PathText,
     },
     /// Want of memory.
-    #[error("Memory for the walk could not be had")]
+    #[error("Out of memory: the allocator refused to make room")]
     OutOfMemory,
-}
-
-/// A path as text, with U+FFFD for what is not UTF-8.
-fn shown(path: &PathText) -> BStr<'_> {
-    BStr::new(path.as_bytes())
 }
 
 impl From<OutOfMemory> for Error {

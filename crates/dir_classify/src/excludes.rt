@@ -4,6 +4,7 @@ ghost use Rattle.worktree_fs.specs.Kept.{AsksStore};
 ghost use Rattle.worktree_fs.specs.Paths.{is_normal};
 ghost use Rattle.worktree_fs.specs.Causes.{Increased};
 ghost use Rattle.worktree_stack.specs.Lookups.{is_dir_of};
+ghost use Rattle.worktree_stack.specs.LooksUp.{LooksUp, Leaves};
 ghost use Rattle.worktree_stack.specs.Reading.{Sources};
 ghost use Rattle.worktree_stack.specs.Setup.{has_excludes};
 ghost use Rattle.worktree_stack.specs.Stacked.{made_of};
@@ -11,14 +12,14 @@ ghost use Rattle.dir_classify.specs.Evidence.{no_ruling};
 ghost use Rattle.dir_classify.specs.Excludes.{made_with, maps_blobs, reads_rules, tells_excludes, TellsIf, InStepIf};
 ghost use Rattle.dir_classify.specs.Kept.{AsksRules, KeepsRules, AsksAtMost, AreUntouched};
 ghost use Rattle.dir_classify.specs.Layers.{ruling_in, is_unread_in};
-ghost use Rattle.dir_classify.specs.Refused.{IsAbout, Refuses, OnFault};
+ghost use Rattle.dir_classify.specs.Refused.{IsAbout, Refuses, OnFault, OnLookup, StopsIf};
 
 use crate::error::Error;
 use gitbase_core::{Find, Mode};
 use glob_rules::ignore::{Kind, Origin};
 use std::alloc::Global;
 use worktree_fs::Worktree;
-use worktree_stack::Stack;
+use worktree_stack::{AtPathError, Stack};
 
 /// What the ignore rules say of a path.
 #[derive(Clone, Copy, Debug, PartialEq, Eq)]
@@ -38,6 +39,8 @@ impl Ruling {
 }
 
 /// Whether ignore rules, where they are given, tell which paths are excluded. Only such may be handed to a class or a walk.
+///
+/// See docs/DECISIONS.md#clauses-without-rules.
 pub fn tells_excludes(excludes: &Option<Stack>) -> bool
     ensures { result ≡ tells_excludes (made_with excludes.now) }
 {
@@ -69,6 +72,10 @@ pub(crate) fn ruling_of<W: Worktree, F: Find>(
     ensures refused { (s : Sources)
         → TellsIf (W.told worktree.old) (F.holds objects.old) (made_with excludes.old) s
         → IfErr result (Refuses s (made_with excludes.old) rela_path.now) }
+    ensures stopped { IfErr result (OnLookup (StopsIf (W.told worktree.old) (F.holds objects.old)
+        (Increased (W.faults worktree.old) (W.faults worktree.new))
+        (Increased (F.faults objects.old) (F.faults objects.new)) rela_path.now excludes.old
+        excludes.new)) }
     ensures cause { IfErr result
         (OnFault (Increased (W.faults worktree.old) (W.faults worktree.new))
         (Increased (F.faults objects.old) (F.faults objects.new))) }
@@ -113,6 +120,10 @@ fn ruling_by<W: Worktree, F: Find>(
     ensures refused { (s : Sources)
         → TellsIf (W.told worktree.old) (F.holds objects.old) (Some (made_of stack.old)) s
         → IfErr result (Refuses s (Some (made_of stack.old)) rela_path.now) }
+    ensures stopped { IfErr result (OnLookup (StopsIf (W.told worktree.old) (F.holds objects.old)
+        (Increased (W.faults worktree.old) (W.faults worktree.new))
+        (Increased (F.faults objects.old) (F.faults objects.new)) rela_path.now (Some stack.old)
+        (Some stack.new))) }
     ensures cause { IfErr result
         (OnFault (Increased (W.faults worktree.old) (W.faults worktree.new))
         (Increased (F.faults objects.old) (F.faults objects.new))) }
@@ -126,12 +137,30 @@ fn ruling_by<W: Worktree, F: Find>(
     ensures reads { AsksAtMost true rela_path.now (W.reads worktree.old) (W.reads worktree.new)
         objects.old objects.new (Some stack.old) (Some stack.new) result }
 {
-    stack.at_path(alloc, rela_path, mode_of(is_dir), worktree, objects)?;
+    look_up(alloc, rela_path, mode_of(is_dir), stack, worktree, objects)?;
     let platform = stack.platform();
     Ok(Ruling {
         kind: platform.excluded_kind(),
         origin: platform.matching_origin(),
     })
+}
+
+/// Looks a path up in a stack that tells which paths are excluded, and so makes no directories.
+fn look_up<W: Worktree, F: Find>(
+    alloc: Global,
+    rela_path: &[u8],
+    mode: Option<Mode>,
+    stack: &mut Stack,
+    worktree: &mut W,
+    objects: &mut F,
+) -> Result<(), AtPathError>
+    requires excludes { has_excludes (made_of stack.old) ≡ true }
+    ensures looks_up { LooksUp W.Worktree F.Find worktree.old worktree.new objects.old objects.new
+        rela_path.now (is_dir_of mode) stack.old stack.new result }
+    ensures leaves { Leaves true W.Worktree worktree.old worktree.new }
+    ensures leaves_store { AsksStore F.Find objects.old objects.new }
+{
+    stack.at_path(alloc, rela_path, mode, worktree, objects)
 }
 
 /// A mode that says of a path whether it is a directory.

@@ -1,9 +1,9 @@
 //! What the index says of a path, in the words of classes.
 ghost use Rattle.std.specs.Prelude.{◌≡◌, ◌&&◌, is_some};
-ghost use Rattle.dir_classify.specs.Layers.{in_index, in_words, not_indexed, IsLookupIf};
+ghost use Rattle.dir_classify.specs.Layers.{in_index, in_words, not_indexed, IsLookupIf, IsSeenIn};
 
 use crate::entry::{Kind, Property};
-use gitbase_core::{AccelerateLookup, IndexKinds, State};
+use gitbase_core::{AccelerateLookup, Beneath, IndexKinds, State};
 
 /// What the index says of a path.
 #[derive(Clone, Copy, Debug, PartialEq, Eq)]
@@ -25,14 +25,19 @@ const NOT_INDEXED: InIndex = InIndex {
 
 /// What an index says of a path below the worktree root, without regard to the case of letters where a look-up for that is
 /// given and asked for; it says nothing of the root itself.
+///
+/// With regard to case it is searched as a name in a directory, among the entries beneath that.
 #[tactic(auto, unfolding(crate::specs::Layers::in_index))]
 pub(crate) fn in_index(
     index: &State,
     lookup: &Option<AccelerateLookup>,
     ignore_case: bool,
     path: &[u8],
+    name: &[u8],
+    beneath: &Beneath<'_>,
 ) -> InIndex
-    requires { IsLookupIf index.now lookup.now }
+    requires lookup { IsLookupIf index.now lookup.now }
+    requires seen { IsSeenIn index.now path.now name.now beneath.now }
     ensures { result ≡ in_index (ignore_case && is_some lookup.now) index.now path.now }
 {
     if path.is_empty() {
@@ -43,9 +48,9 @@ pub(crate) fn in_index(
             if ignore_case {
                 return in_words(index.kinds_icase(path, lookup));
             }
-            in_words(index.kinds(path))
+            in_words(beneath.kinds(name))
         }
-        None => in_words(index.kinds(path)),
+        None => in_words(beneath.kinds(name)),
     }
 }
 

@@ -37,25 +37,30 @@ pub enum ForDeletionMode {
     /// Not at all, so that a repository in one may be missed.
     #[default]
     IgnoredDirectoriesCanHideNestedRepositories,
-    /// They are walked, and repositories with a `.git` are found.
+    /// They are walked, and where ignored paths are emitted repositories with a `.git` are found.
     FindNonBareRepositoriesInIgnoredDirectories,
-    /// They are walked, and bare repositories are found too. This costs a look at each directory.
+    /// They are walked, and where ignored paths are emitted bare repositories are found too. This costs a look at each of them.
     FindRepositoriesInIgnoredDirectories,
 }
 
 /// The options of a walk. Each is off by default, and directories are not folded.
+///
+/// See docs/DECISIONS.md#precompose-option.
+/// See docs/DECISIONS.md#options-as-values.
 #[derive(Clone, Copy, Debug, PartialEq, Eq, Default)]
 pub struct Options<'a> {
     /// Whether names are composed, as `core.precomposeUnicode` says; as the worktree composes them, or not.
     pub precompose_unicode: bool,
     /// Whether ASCII letters compare without regard to their case, as `core.ignoreCase` says.
     pub ignore_case: bool,
-    /// Whether no repository is looked for on disk, so that repositories are walked like other directories; what an up-to-date
-    /// entry of the index or the worktree set says is one stays one, and is not walked.
+    /// Whether a class looks for no repository on disk, so that repositories are walked like other directories; what an
+    /// up-to-date entry of the index or the worktree set says is one stays one, and is not walked. In deletion that may hide
+    /// repositories a walk looks at an ignored directory even so.
     pub recurse_repositories: bool,
     /// Whether pruned paths are emitted too, and of the other paths those that no path spec matches or that one takes out.
     pub emit_pruned: bool,
-    /// Whether ignored paths are emitted too, and how.
+    /// Whether ignored paths are emitted too, and how. Classes of ignored directories depend on it: only where ignored paths are
+    /// emitted is one above what is looked for matched as `Prefix`, and does deletion look for repositories in one.
     pub emit_ignored: Option<EmissionMode>,
     /// Whether the entries are to be deleted.
     pub for_deletion: Option<ForDeletionMode>,
@@ -72,7 +77,8 @@ pub struct Options<'a> {
     /// Whether the ignore rules see a link as what it leads to.
     pub symlinks_to_directories_are_ignored_like_directories: bool,
     /// The directories that are worktrees of their own, relative to the worktree root: they are tracked as repositories. In
-    /// deletion an ignored directory above one of them is matched as `Prefix`.
+    /// deletion an ignored directory above one of them is matched as `Prefix`, where ignored paths are emitted and it is not
+    /// seen as a repository.
     pub worktree_relative_worktree_dirs: Option<&'a BTreeSet<PathText>>,
 }
 
@@ -99,6 +105,8 @@ pub(crate) fn has_worktree_beneath(options: &Options<'_>, path: &[u8]) -> bool
 }
 
 /// Whether a path is one of a set: the set is passed over up to it.
+///
+/// See docs/DIFFERENCES.md#gix-worktree-set.
 fn has_path(dirs: &BTreeSet<PathText>, path: &[u8]) -> bool
     ensures { result ≡ list_any (bytes_eq path.now) dirs.now.keys }
 {

@@ -19,14 +19,18 @@ use worktree_fs::{Worktree, is_git, real_path_is};
 /// repositories are walked into. As gitoxide's `maybe_upgrade_to_repository`.
 ///
 /// `path` is whole; `current_dir` and `git_dir_realpath` are the real paths of the current directory and of the git directory
-/// of the worktree. A fault of a question reads as no repository, or as one that is not the worktree's own, and is counted.
+/// of the worktree. A fault of a question reads as no repository, or as one that is not the worktree's own, and is counted. Of
+/// which question a fault is the contract does not say, but how many were misread at most.
 ///
+/// See docs/DECISIONS.md#class-under-faults.
 /// See docs/DECISIONS.md#whole-git-directory.
 /// See docs/DECISIONS.md#failed-repository-test.
 ///
 /// # Errors
 ///
 /// - `OutOfMemory`: memory was refused.
+///
+/// See docs/DIFFERENCES.md#nested-repository.
 pub fn maybe_upgrade_to_repository<W: Worktree>(
     alloc: Global,
     current_kind: Option<Kind>,

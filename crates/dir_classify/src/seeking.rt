@@ -1,5 +1,5 @@
 //! The cases of a class that look for repositories.
-ghost use Rattle.std.specs.Prelude.{◌≡◌, Option, Some, None, true, IfOk};
+ghost use Rattle.std.specs.Prelude.{◌≡◌, ◌⊎◌, Option, Some, None, true, false, IfOk};
 ghost use Rattle.gitbase_core.specs.Path.{joined};
 ghost use Rattle.worktree_fs.specs.Causes.{NotIncreased};
 ghost use Rattle.worktree_fs.specs.Kept.{Asks};
@@ -8,7 +8,7 @@ ghost use Rattle.worktree_fs.specs.Tree.{Names};
 ghost use Rattle.worktree_stack.specs.Reading.{Sources};
 ghost use Rattle.worktree_stack.specs.Setup.{Made};
 ghost use Rattle.dir_classify.specs.Chosen.{chosen};
-ghost use Rattle.dir_classify.specs.Class.{class_indexed, class_unindexed, match_of, upgraded, dot_git, class_ignored, class_by_rules, class_directory, class_free, class_in_index, class_seen, ignored_kind, indexed_kind, finds_in_ignored, seeks_indexed, seeks_by_rules, is_idle};
+ghost use Rattle.dir_classify.specs.Class.{class_indexed, class_unindexed, match_of, upgraded, dot_git, class_ignored, class_by_rules, class_directory, class_free, class_in_index, class_seen, ignored_kind, indexed_kind, finds_in_ignored, seeks_indexed, seeks_by_rules, is_idle, may_have_sought};
 ghost use Rattle.dir_classify.specs.Faults.{IsJudged, IsSeenAs};
 ghost use Rattle.dir_classify.specs.Kinds.{holds_names};
 ghost use Rattle.dir_classify.specs.Layers.{setting_of, evidence, indexed_as, git_at};
@@ -54,6 +54,9 @@ fn upgrade<W: Worktree, M: Matcher>(
     ensures keeps { Asks W.Worktree worktree.old worktree.new }
     ensures unasked { is_idle (chosen shared.now.options) true ≡ true
         → worktree.new ≡ worktree.old }
+    ensures either { IfOk result (λ k. (k ≡ kind) ⊎ (k ≡ Some Kind.Repository)) }
+    ensures certain { is_idle (chosen shared.now.options) true ≡ true
+        → IfOk result (λ k. k ≡ kind) }
 {
     maybe_upgrade_to_repository(
         alloc,
@@ -68,6 +71,9 @@ fn upgrade<W: Worktree, M: Matcher>(
 }
 
 /// The kind of a path that the index has: a directory that is a submodule there is looked at.
+///
+/// See docs/DECISIONS.md#submodule-without-git.
+/// See docs/DIFFERENCES.md#submodule-without-git.
 #[tactic(auto, unfolding(crate::specs::Chosen::chosen))]
 fn indexed_kind<W: Worktree, M: Matcher>(
     alloc: Global,
@@ -92,6 +98,9 @@ fn indexed_kind<W: Worktree, M: Matcher>(
     ensures keeps { Asks W.Worktree worktree.old worktree.new }
     ensures unasked { is_idle (chosen shared.now.options) (seeks_indexed entry kind) ≡ true
         → worktree.new ≡ worktree.old }
+    ensures either { IfOk result (λ k. (k ≡ kind) ⊎ (k ≡ Some Kind.Repository)) }
+    ensures certain { is_idle (chosen shared.now.options) (seeks_indexed entry kind) ≡ true
+        → IfOk result (λ k. k ≡ kind) }
 {
     if !is_submodule(entry, kind) {
         return Ok(kind);
@@ -102,6 +111,7 @@ fn indexed_kind<W: Worktree, M: Matcher>(
 
 /// The kind of an ignored path: where ignored paths are shown, deletion that looks for repositories looks at it.
 /// See docs/DECISIONS.md#upgrade-by-dot-git.
+/// See docs/DIFFERENCES.md#ignored-repository-link.
 #[tactic(auto, unfolding(crate::specs::Chosen::chosen))]
 fn ignored_kind<W: Worktree, M: Matcher>(
     alloc: Global,
@@ -159,6 +169,12 @@ pub(crate) fn of_indexed<W: Worktree, M: Matcher>(
     ensures keeps { Asks W.Worktree worktree.old worktree.new }
     ensures unasked { is_idle (chosen shared.now.options) (seeks_indexed entry kind) ≡ true
         → worktree.new ≡ worktree.old }
+    ensures sought { IfOk result (λ c. may_have_sought (chosen shared.now.options) c ≡ false
+        → worktree.new ≡ worktree.old) }
+    ensures certain { is_idle (chosen shared.now.options) (seeks_indexed entry kind) ≡ true
+        → (made : Option Made) (s : Sources) → IfOk result (λ c. c ≡ class_indexed
+        (chosen shared.now.options) (evidence (setting_of M.Matcher shared.now) made s)
+        rela_path.now kind) }
 {
     let found = match_of(shared, rela_path, kind);
     let disk_kind = indexed_kind(alloc, full, entry, kind, shared, worktree)?;
@@ -191,6 +207,8 @@ pub(crate) fn of_ignored<W: Worktree, M: Matcher>(
     ensures unasked { is_idle (chosen shared.now.options)
         (finds_in_ignored (chosen shared.now.options)) ≡ true
         → worktree.new ≡ worktree.old }
+    ensures sought { IfOk result (λ c. may_have_sought (chosen shared.now.options) c ≡ false
+        → worktree.new ≡ worktree.old) }
 {
     let found = match_of(shared, rela_path, kind);
     let disk_kind = ignored_kind(alloc, full, kind, shared, worktree)?;
@@ -216,6 +234,7 @@ pub(crate) fn of_directory<W: Worktree, M: Matcher>(
 ) -> Result<Outcome, OutOfMemory>
     requires full { full.now ≡ full_path shared.now.worktree_root.now rela_path.now }
     requires entry { entry ≡ indexed_as (setting_of M.Matcher shared.now) rela_path.now }
+    requires directory { holds_names kind ≡ true }
     ensures class { (s : Sources) → W.told worktree.old ≡ Some s.tree
         → NotIncreased (W.faults worktree.old) (W.faults worktree.new) → (made : Option Made)
         → IfOk result (λ c. c ≡ class_directory (chosen shared.now.options)
@@ -228,6 +247,12 @@ pub(crate) fn of_directory<W: Worktree, M: Matcher>(
     ensures keeps { Asks W.Worktree worktree.old worktree.new }
     ensures unasked { is_idle (chosen shared.now.options) true ≡ true
         → worktree.new ≡ worktree.old }
+    ensures sought { IfOk result (λ c. may_have_sought (chosen shared.now.options) c ≡ false
+        → worktree.new ≡ worktree.old) }
+    ensures certain { is_idle (chosen shared.now.options) true ≡ true
+        → (made : Option Made) (s : Sources) → IfOk result (λ c. c ≡ class_directory
+        (chosen shared.now.options) (evidence (setting_of M.Matcher shared.now) made s)
+        rela_path.now kind) }
 {
     let found = match_of(shared, rela_path, kind);
     let hard = is_hard(&shared.options);
@@ -259,6 +284,12 @@ pub(crate) fn of_free<W: Worktree, M: Matcher>(
     ensures keeps { Asks W.Worktree worktree.old worktree.new }
     ensures unasked { is_idle (chosen shared.now.options) (holds_names kind) ≡ true
         → worktree.new ≡ worktree.old }
+    ensures sought { IfOk result (λ c. may_have_sought (chosen shared.now.options) c ≡ false
+        → worktree.new ≡ worktree.old) }
+    ensures certain { is_idle (chosen shared.now.options) (holds_names kind) ≡ true
+        → (made : Option Made) (s : Sources) → IfOk result (λ c. c ≡ class_by_rules
+        (chosen shared.now.options) (evidence (setting_of M.Matcher shared.now) made s)
+        rela_path.now kind None) }
 {
     if holds_names(kind) {
         let class = of_directory(alloc, full, rela_path, entry, kind, shared, worktree)?;
@@ -294,6 +325,13 @@ pub(crate) fn of_unindexed<W: Worktree, M: Matcher>(
     ensures unasked { is_idle (chosen shared.now.options)
         (seeks_by_rules (chosen shared.now.options) kind ruling.kind) ≡ true
         → worktree.new ≡ worktree.old }
+    ensures sought { IfOk result (λ c. may_have_sought (chosen shared.now.options) c ≡ false
+        → worktree.new ≡ worktree.old) }
+    ensures certain { ruling.kind ≡ None
+        → is_idle (chosen shared.now.options) (holds_names kind) ≡ true
+        → (made : Option Made) (s : Sources) → IfOk result (λ c. c ≡ class_unindexed
+        (chosen shared.now.options) (evidence (setting_of M.Matcher shared.now) made s)
+        rela_path.now kind ruling) }
 {
     let class = match ruling.kind {
         Some(excluded) => of_ignored(

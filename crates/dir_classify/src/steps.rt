@@ -7,15 +7,16 @@ ghost use Rattle.worktree_fs.specs.Paths.{full_path, is_normal, spelled};
 ghost use Rattle.worktree_fs.specs.Tree.{Names};
 ghost use Rattle.worktree_stack.specs.Reading.{Sources};
 ghost use Rattle.dir_classify.specs.Chosen.{chosen};
-ghost use Rattle.dir_classify.specs.Class.{class_dot_git, class_of_kind, asks_of_kind, dot_git_ruling, is_idle_of_kind, is_kind_known, ruled_by, ruling_of};
+ghost use Rattle.dir_classify.specs.Class.{is_kind_known, ruled_by, ruling_of};
 ghost use Rattle.dir_classify.specs.Classes.{Classes, Judges};
 ghost use Rattle.dir_classify.specs.Evidence.{no_ruling};
 ghost use Rattle.dir_classify.specs.Excludes.{made_with, maps_blobs, tells_excludes, TellsIf, InStepIf};
 ghost use Rattle.dir_classify.specs.Faults.{IsRuled};
 ghost use Rattle.dir_classify.specs.Kept.{AsksRules, KeepsRules, AsksAtMost, AreUntouched};
-ghost use Rattle.dir_classify.specs.Kinds.{first_of_kinds};
-ghost use Rattle.dir_classify.specs.Layers.{setting_of, evidence, kind_at, indexed_as, is_unread_in, IsLookupIf};
-ghost use Rattle.dir_classify.specs.Refused.{IsAbout, Refuses, OnAccess, OnFault};
+ghost use Rattle.std.specs.Option.{option_or};
+ghost use Rattle.dir_classify.specs.Layers.{setting_of, evidence, kind_at, indexed_as, is_unread_in, IsLookupIf, IsSeenIn};
+ghost use Rattle.dir_classify.specs.Question.{about_dot_git, about_kind};
+ghost use Rattle.dir_classify.specs.Refused.{IsAbout, Refuses, OnAccess, OnFault, OnLookup, StopsIf};
 
 use crate::cases::{class_dot_git, class_unmatched, class_worktree, is_indexed, is_named_dot_git};
 use crate::classify::Outcome;
@@ -26,7 +27,7 @@ use crate::excludes::{Ruling, ruling_of};
 use crate::index::{InIndex, in_index};
 use crate::options::{is_deleting, is_worktree};
 use crate::seeking::{of_indexed, of_unindexed};
-use gitbase_core::{Find, OutOfMemory};
+use gitbase_core::{Beneath, Find, OutOfMemory};
 use glob_rules::pathspec::Matcher;
 use std::alloc::Global;
 use worktree_fs::{ReadError, Worktree};
@@ -35,15 +36,22 @@ use worktree_stack::Stack;
 /// The class of `rela_path` as [`crate::classify::path`] says it, for a caller that has the parts of a context and the whole
 /// path.
 ///
+/// The path is `name` in a directory, and `beneath` the entries of the index beneath that, as [`gitbase_core::State::beneath`] gives
+/// them: where the case of letters is regarded, the name is searched among these alone. So a walk narrows the index once a directory;
+/// for a single path the directory may be the worktree root, and the name the path.
+/// See docs/DECISIONS.md#index-by-directory.
+///
 /// # Errors
 ///
 /// - `ExcludesAccess`: the rules of a directory above the path were asked, and were not read, as [`crate::classify::path`] says it.
 /// - `OutOfMemory`: memory was refused.
-#[tactic(auto, unfolding(crate::specs::Class::class, crate::specs::Class::asks, crate::specs::Class::asks_nothing, crate::specs::Layers::evidence))]
+#[tactic(auto, unfolding(crate::specs::Class::class, crate::specs::Class::asks, crate::specs::Class::seeks, crate::specs::Class::asks_nothing, crate::specs::Layers::evidence))]
 pub fn at<W: Worktree, F: Find, M: Matcher>(
     alloc: Global,
     full: &[u8],
     rela_path: &[u8],
+    name: &[u8],
+    beneath: &Beneath<'_>,
     disk_kind: Option<Kind>,
     ask_disk: bool,
     shared: &Shared<'_, M>,
@@ -55,6 +63,7 @@ pub fn at<W: Worktree, F: Find, M: Matcher>(
     requires normal { is_normal rela_path.now ≡ true }
     requires spelled { rela_path.now ≡ spelled (components rela_path.now) }
     requires lookup { IsLookupIf shared.now.index.now shared.now.ignore_case_index_lookup.now }
+    requires seen { IsSeenIn shared.now.index.now rela_path.now name.now beneath.now }
     requires excludes { tells_excludes (made_with excludes.old) ≡ true }
     ensures { Classes W.Worktree F.Find worktree.old worktree.new objects.old objects.new
         excludes.old excludes.new (setting_of M.Matcher shared.now) rela_path.now disk_kind ask_disk
@@ -72,7 +81,7 @@ pub fn at<W: Worktree, F: Find, M: Matcher>(
     {
         return Ok(class_unmatched(disk_kind));
     }
-    let entry = indexed_as(shared, rela_path);
+    let entry = indexed_as(shared, rela_path, name, beneath);
     let kind = settled_kind(alloc, full, entry.up_to_date, disk_kind, ask_disk, worktree)?;
     let class = of_kind(
         alloc, full, rela_path, entry, kind, shared, excludes, worktree, objects,
@@ -94,12 +103,8 @@ fn of_dot_git<W: Worktree, F: Find, M: Matcher>(
     requires normal { is_normal rela_path.now ≡ true }
     requires excludes { tells_excludes (made_with excludes.old) ≡ true }
     ensures { (ask_disk : Bool) → Judges W.Worktree F.Find worktree.old worktree.new objects.old
-        objects.new excludes.old excludes.new (setting_of M.Matcher shared.now) rela_path.now
-        (λ _ ev. class_dot_git (chosen shared.now.options) ev rela_path.now disk_kind
-        (dot_git_ruling (chosen shared.now.options) ev rela_path.now disk_kind))
-        (λ _ ev. is_some (chosen shared.now.options).for_deletion && ev.is_ruled)
-        (λ ev. not (is_some (chosen shared.now.options).for_deletion && ev.is_ruled))
-        ask_disk result }
+        objects.new excludes.old excludes.new (setting_of M.Matcher shared.now)
+        (about_dot_git (chosen shared.now.options) rela_path.now disk_kind ask_disk) result }
 {
     if !is_deleting(&shared.options) {
         return Ok(class_dot_git(shared, rela_path, disk_kind, Ruling::NONE));
@@ -127,11 +132,8 @@ fn of_kind<W: Worktree, F: Find, M: Matcher>(
     requires entry { entry ≡ indexed_as (setting_of M.Matcher shared.now) rela_path.now }
     requires excludes { tells_excludes (made_with excludes.old) ≡ true }
     ensures { (ask_disk : Bool) → Judges W.Worktree F.Find worktree.old worktree.new objects.old
-        objects.new excludes.old excludes.new (setting_of M.Matcher shared.now) rela_path.now
-        (λ _ ev. class_of_kind (chosen shared.now.options) ev rela_path.now kind)
-        (λ _ ev. asks_of_kind (chosen shared.now.options) ev rela_path.now kind)
-        (λ ev. is_idle_of_kind (chosen shared.now.options) ev rela_path.now kind)
-        ask_disk result }
+        objects.new excludes.old excludes.new (setting_of M.Matcher shared.now)
+        (about_kind (chosen shared.now.options) rela_path.now kind ask_disk) result }
 {
     if is_worktree(&shared.options, rela_path) {
         return Ok(class_worktree(shared, rela_path, kind));
@@ -183,6 +185,10 @@ fn ruling_at<W: Worktree, F: Find, M: Matcher>(
     ensures refused { (s : Sources)
         → TellsIf (W.told worktree.old) (F.holds objects.old) (made_with excludes.old) s
         → IfErr result (Refuses s (made_with excludes.old) rela_path.now) }
+    ensures stopped { IfErr result (OnLookup (StopsIf (W.told worktree.old) (F.holds objects.old)
+        (Increased (W.faults worktree.old) (W.faults worktree.new))
+        (Increased (F.faults objects.old) (F.faults objects.new)) rela_path.now excludes.old
+        excludes.new)) }
     ensures asked { IfErr result (OnAccess
         ((is_some (made_with excludes.old) && not (is_empty rela_path.now)) ≡ true)) }
     ensures cause { IfErr result
@@ -253,19 +259,19 @@ pub(crate) fn settled_kind<W: Worktree>(
 ) -> Result<Option<Kind>, OutOfMemory>
     ensures kind { (t : Names) → W.told worktree.old ≡ Some t
         → NotIncreased (W.faults worktree.old) (W.faults worktree.new)
-        → IfOk result (λ kind. kind ≡ first_of_kinds up_to_date
-        (first_of_kinds disk_kind (if ask_disk then kind_at t full.now false else None))) }
+        → IfOk result (λ kind. kind ≡ option_or up_to_date
+        (option_or disk_kind (if ask_disk then kind_at t full.now false else None))) }
     ensures swallowed { (t : Names) → W.told worktree.old ≡ Some t
-        → IfOk result (λ kind. (kind ≡ first_of_kinds up_to_date
-        (first_of_kinds disk_kind (if ask_disk then kind_at t full.now false else None)))
-        ⊎ (kind ≡ first_of_kinds up_to_date (first_of_kinds disk_kind None))) }
+        → IfOk result (λ kind. (kind ≡ option_or up_to_date
+        (option_or disk_kind (if ask_disk then kind_at t full.now false else None)))
+        ⊎ (kind ≡ option_or up_to_date (option_or disk_kind None))) }
     ensures untouched { is_kind_known ask_disk up_to_date disk_kind ≡ true
-        → IfOk result (λ kind. kind ≡ first_of_kinds up_to_date disk_kind)
+        → IfOk result (λ kind. kind ≡ option_or up_to_date disk_kind)
         × (worktree.new ≡ worktree.old) }
     ensures keeps { Asks W.Worktree worktree.old worktree.new }
     ensures reads { W.reads worktree.new ≡ W.reads worktree.old }
 {
-    let known = first_of_kinds(up_to_date, disk_kind);
+    let known = up_to_date.or(disk_kind);
     if known.is_some() || !ask_disk {
         return Ok(known);
     }
@@ -293,19 +299,16 @@ pub(crate) fn kind_on_disk<W: Worktree>(
     }
 }
 
-fn first_of_kinds(first: Option<Kind>, second: Option<Kind>) -> Option<Kind>
-    ensures { result ≡ first_of_kinds first second }
-{
-    match first {
-        Some(kind) => Some(kind),
-        None => second,
-    }
-}
-
 /// What the index says of a path.
 #[tactic(auto, unfolding(crate::specs::Chosen::chosen))]
-fn indexed_as<M: Matcher>(shared: &Shared<'_, M>, path: &[u8]) -> InIndex
+fn indexed_as<M: Matcher>(
+    shared: &Shared<'_, M>,
+    path: &[u8],
+    name: &[u8],
+    beneath: &Beneath<'_>,
+) -> InIndex
     requires lookup { IsLookupIf shared.now.index.now shared.now.ignore_case_index_lookup.now }
+    requires seen { IsSeenIn shared.now.index.now path.now name.now beneath.now }
     ensures { result ≡ indexed_as (setting_of M.Matcher shared.now) path.now }
 {
     let ignore_case = shared.options.ignore_case;
@@ -314,5 +317,7 @@ fn indexed_as<M: Matcher>(shared: &Shared<'_, M>, path: &[u8]) -> InIndex
         shared.ignore_case_index_lookup,
         ignore_case,
         path,
+        name,
+        beneath,
     )
 }

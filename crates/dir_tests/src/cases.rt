@@ -77,6 +77,7 @@ fn stack_of(alloc: Global, globals: &[u8], strict: bool) -> Result<Stack, OutOfM
 fn is_planned(alloc: Global, tree: &mut MemoryWorktree, call: &[u8], nth: u64) -> bool {
     let call = match call {
         b"kind" => CallKind::Kind,
+        b"kind following" => CallKind::KindFollowing,
         b"read" => CallKind::Read,
         b"list open" => CallKind::ListOpen,
         b"list entry" => CallKind::ListEntry,
@@ -167,6 +168,14 @@ fn is_indexed(alloc: Global, index: &mut State, path: &[u8], mode: &[u8], flags:
     }
 }
 
+/// How often the rules were asked about a path, as they count it.
+fn times_asked(excludes: &Option<Stack>) -> usize {
+    match excludes {
+        Some(stack) => stack.statistics().platforms,
+        None => 0,
+    }
+}
+
 /// Whether a step holds.
 fn holds(alloc: Global, world: &mut World, step: &[u8]) -> bool {
     let (what, rest) = parted(step);
@@ -184,6 +193,7 @@ fn holds(alloc: Global, world: &mut World, step: &[u8]) -> bool {
             is_indexed(alloc, &mut world.index, one, mode, flags)
         }
         b"fail" => is_planned(alloc, &mut world.tree, one, number(two) as u64),
+        b"rules asked" => times_asked(&world.excludes) == number(one),
         b"faults" => world.tree.fault_count() == number(one) as u64,
         b"reversed" => {
             world.tree.set_reversed(true);

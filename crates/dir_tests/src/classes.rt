@@ -73,7 +73,9 @@ class`d/b`ask`untracked`-`file`-`excluded|index`d/b`file|class`d/b`ask`tracked`-
 class`d/b`ask`tracked`-`file`file`-@\
 links that count as what they lead to`l/\nn/\nf/\n|file`/w/dir/g|link`/w/l`dir|link`/w/n`gone|link`/w/f`dir/g|\
 class`l`ask`untracked`-`symlink`-|ask`options`followed|class`l`ask`ignored`-`symlink`-|\
-class`n`ask`untracked`-`symlink`-|class`f`ask`untracked`-`symlink`-|class`l`file`untracked`-`file`-|faults`0";
+class`n`ask`untracked`-`symlink`-|class`f`ask`untracked`-`symlink`-|class`l`file`untracked`-`file`-|faults`0@\
+a link whose target could not be learnt`l/\n|file`/w/dir/g|link`/w/l`dir|ask`options`followed|fail`kind following`1|\
+class`l`ask`untracked`-`symlink`-|class`l`ask`ignored`-`symlink`-|faults`1";
 
 /// The same, on repositories. A step `git` makes a git directory, and a step `upgrade` says as what a directory is then seen.
 const REPOSITORIES: &[u8] = b"\
@@ -94,8 +96,14 @@ class`b`ask`untracked`-`directory`-|ask`options`bare|class`b`ask`untracked`-`rep
 class`c`ask`untracked`-`directory`-|upgrade`/w/b`hard`repository|upgrade`/w/b`softly`directory@\
 a fault as no repository`-|git`/w/r/.git|fail`read`1|class`r`ask`untracked`-`directory`-|\
 class`r`ask`untracked`-`repository`-|faults`1@\
+a failed look as no repository`-|git`/w/r/.git|fail`kind following`1|class`r`ask`untracked`-`directory`-|\
+class`r`ask`untracked`-`repository`-|faults`1@\
+a failed look hides one of two repositories`-|git`/w/b|git`/w/b/.git|ask`options`bare|fail`kind following`1|\
+class`b`ask`untracked`-`repository`-|faults`1@\
 a fault as another repository`-|git`/w/.git|link`/w/own/.git`../.git|fail`real path`1|\
 class`own`ask`untracked`-`repository`-|class`own`ask`untracked`-`directory`-|faults`1@\
+a fault in deletion`build/\n|git`/w/build/.git|ask`options`shown nonbare|fail`real path`1|\
+class`build`ask`ignored`-`repository`-|faults`1@\
 worktrees of their own`wt/\n|file`/w/wt/f|file`/w/in/f|index`in/f`file|ask`worktree`wt|ask`worktree`in|\
 class`wt`ask`tracked`-`repository`-|class`wt`none`tracked`-`repository`-|class`in`ask`tracked`-`repository`-|\
 class`wt/f`ask`ignored`-`file`-|class`in/f`ask`tracked`-`file`file@\
@@ -110,7 +118,8 @@ class`build/x`ask`ignored`-`directory`-`verbatim|class`build/x/y`ask`ignored`-`f
 class`build`ask`ignored`-`directory`-`-|ask`specs`:|ask`worktree`build/wt|ask`options`shown hide|\
 class`build`ask`ignored`-`directory`-`prefix|ask`options`shown|class`build`ask`ignored`-`directory`-";
 
-/// Cases of ways. A step `root` names a worktree root, a path below it, and where the way to it ends, with the class there.
+/// Cases of ways. A step `root` names a worktree root, a path below it, and where the way to it ends, with the class there; a step
+/// `rules asked` says about how many paths the rules were asked so far.
 const WAYS: &[u8] = b"\
 ways through directories`-|git`/w/.git|git`/w/d/r/.git|file`/w/d/r/x/f|file`/w/a|link`/w/l`d|\
 root`/w`d/r/x`part d/r`untracked`-`repository`-|root`/w`d`whole d`untracked`-`directory`-|\
@@ -122,7 +131,12 @@ ways through ignored directories`build/\n|file`/w/build/x/y|root`/w`build/x`part
 ask`specs`build/x|root`/w`build/x`part build`ignored`-`directory`-`-|ask`options`shown|\
 root`/w`build/x`whole build/x`ignored`-`directory`-`verbatim|ask`options`nonbare|\
 root`/w`build/x`whole build/x`ignored`-`directory`-`verbatim|ask`options`hide|\
-root`/w`build/x`part build`ignored`-`directory`-`-";
+root`/w`build/x`part build`ignored`-`directory`-`-@\
+ways that ask rules`none\n|file`/w/a/f|file`/w/a/b/c/g|index`a/f`file|root`/w`a`whole a`tracked`-`directory`directory|\
+rules asked`0|root`/w`a/b/c`whole a/b/c`untracked`-`directory`-|rules asked`2|\
+root`/w`a/b/c`whole a/b/c`untracked`-`directory`-|rules asked`4@\
+a failed look on the way`-|git`/w/d/.git|file`/w/d/f|fail`kind following`2|root`/w`d/f`whole d/f`untracked`-`file`-|\
+faults`1";
 
 /// The word of a status in cases.
 pub fn status_word(status: Status) -> &'static [u8] {

@@ -1,34 +1,39 @@
-//! Which worktree lists what, where subtrees are walked at once.
+//! Which worktree lists what, and which store is asked, where subtrees are walked at once.
 ghost use Rattle.std.specs.Prelude.{◌≡◌, true};
 ghost use Rattle.dir_classify.specs.Excludes.{made_with, tells_excludes};
 
 use crate::asked::options_of;
-use crate::noted::Noted;
-use dir_classify::{Context, Error, Options};
+use crate::noted::{Noted, NotedStore};
+use dir_classify::{Context, Error, Options, tells_excludes};
 use dir_walk::{Collect, Outcome, walk_at_once};
-use gitbase_core::{MemoryStore, PathText, State};
+use gitbase_core::{
+    Bytes, Find, Flags, IndexEntry, MemoryStore, Mode, ObjectId, OutOfMemory, PathText, State,
+};
+use glob_rules::ignore;
+use glob_rules::ignore::ParseIgnore;
 use glob_rules::pathspec::Search;
 use std::alloc::Global;
 use std::collections::BTreeSet;
 use worktree_fs::{MemoryWorktree, NewNode, PlannedInterrupt};
-use worktree_stack::Stack;
+use worktree_stack::ignore_source::Source;
+use worktree_stack::{Ignore, Stack};
 
 /// A work tree at `/w` with two directories, of a file each.
 fn root(alloc: Global) -> MemoryWorktree {
     let mut tree = MemoryWorktree::new(alloc, false);
     let paths: [&[u8]; 2] = [b"/w/a/x", b"/w/b/y"];
     for path in paths {
-        let _added = tree.add(alloc, path, NewNode::Other);
+        let _added = tree.add(alloc, path, NewNode::File(b""));
     }
     tree
 }
 
 /// A walk with each subtree as a job.
-fn walked<'a>(
+fn walked<'a, F: Find>(
     alloc: Global,
     options: Options<'_>,
     worktree: &'a mut Noted,
-    objects: &'a mut MemoryStore,
+    objects: &'a mut F,
     interrupt: &'a mut PlannedInterrupt,
     pathspec: &'a Search,
     excludes: &'a mut Option<Stack>,
@@ -52,14 +57,15 @@ fn walked<'a>(
     walk_at_once(alloc, b"/w", ctx, options)
 }
 
-/// Whether a walk of two directories reads three.
+/// Whether a walk of two directories reads three, where each interrupt would say to stop at its second question: each job asks one of
+/// its own.
 fn reads_three(alloc: Global, worktree: &mut Noted) -> bool {
     let walked = walked(
         alloc,
         options_of(b"", &BTreeSet::new(alloc)),
         worktree,
         &mut MemoryStore::new(alloc),
-        &mut PlannedInterrupt::never(),
+        &mut PlannedInterrupt::at(2),
         &Search::from_specs(Vec::new(alloc)),
         &mut None,
         &State::new(alloc),
@@ -85,4 +91,70 @@ fn is_apart(alloc: Global) -> bool {
 #[test]
 fn jobs_list_apart(rt: HostRuntime) {
     assert!(rt; is_apart(rt.alloc()));
+}
+
+/// The rules below `/w` that an index has as blobs.
+fn mapped_rules(alloc: Global, index: &State) -> Result<Stack, OutOfMemory> {
+    let parse = ParseIgnore {
+        support_precious: false,
+    };
+    let nothing = ignore::Search::new(alloc);
+    let globals = ignore::Search::new(alloc);
+    let ignore = Ignore::new(alloc, nothing, globals, None, Source::IdMapping, parse)?;
+    let root = PathText::from_bytes(alloc, b"/w")?;
+    let state = worktree_stack::State::IgnoreStack(ignore);
+    Stack::from_state_and_ignore_case(alloc, root, false, state, index)
+}
+
+/// An index that has the rules of the root, and of the first of two directories.
+fn index(alloc: Global) -> Result<State, OutOfMemory> {
+    let mut entries = Vec::new(alloc);
+    let paths: [&[u8]; 2] = [b".gitignore", b"a/.gitignore"];
+    for path in paths {
+        entries.push(IndexEntry {
+            path: PathText::from_bytes(alloc, path)?,
+            stage: 0,
+            mode: Mode::FILE,
+            flags: Flags::empty(),
+            id: ObjectId::null(),
+        })?;
+    }
+    match State::from_entries(entries) {
+        Ok(index) => Ok(index),
+        Err(_) => Ok(State::new(alloc)),
+    }
+}
+
+/// A store with the blob that both are.
+fn rules(alloc: Global) -> Result<MemoryStore, OutOfMemory> {
+    let mut objects = MemoryStore::new(alloc);
+    objects.insert(alloc, ObjectId::null(), b"z\n")?;
+    Ok(objects)
+}
+
+/// Whether the store handed in is asked for the rules of the root alone, and each of the forks that it absorbs, one a job, for them
+/// anew, the first for those of its directory too: each job has rules of its own.
+fn is_asked_by_forks(alloc: Global) -> Result<bool, OutOfMemory> {
+    let index = index(alloc)?;
+    let mut excludes = Some(mapped_rules(alloc, &index)?);
+    let mut store = NotedStore::new(alloc, rules(alloc)?);
+    if !tells_excludes(&excludes) {
+        return Ok(false);
+    }
+    let walked = walked(
+        alloc,
+        options_of(b"", &BTreeSet::new(alloc)),
+        &mut Noted::new(alloc, root(alloc)),
+        &mut store,
+        &mut PlannedInterrupt::never(),
+        &Search::from_specs(Vec::new(alloc)),
+        &mut excludes,
+        &index,
+    );
+    Ok(walked.is_ok() && store.asked == 1 && store.absorbed.as_slice() == [2u8, 1].as_slice())
+}
+
+#[test]
+fn jobs_ask_stores_of_their_own(rt: HostRuntime) {
+    assert!(rt; matches!(is_asked_by_forks(rt.alloc()), Ok(true)));
 }

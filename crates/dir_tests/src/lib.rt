@@ -11,6 +11,8 @@ mod classes;
 #[cfg(test)]
 mod entries;
 #[cfg(test)]
+mod faults;
+#[cfg(test)]
 mod jobs;
 #[cfg(test)]
 mod noted;

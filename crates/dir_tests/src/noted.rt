@@ -1,9 +1,9 @@
-//! A worktree that notes what is listed over it and over its forks.
+//! A worktree that notes what is listed over it and over its forks, and a store that notes how often it and its forks are asked.
 ghost use Rattle.std.specs.Prelude.{◌≡◌, ◌≤◌, false, Ok, IsErrOf};
-ghost use Rattle.worktree_fs.specs.Answers.{UnlessRead};
+ghost use Rattle.worktree_fs.specs.Answers.{UnlessRead, UnlessFault};
 ghost use Rattle.worktree_fs.specs.Causes.{Incremented, Increased};
 
-use gitbase_core::{Bytes, OutOfMemory, PathText};
+use gitbase_core::{Bytes, Find, FindError, Found, MemoryStore, ObjectId, OutOfMemory, PathText};
 use std::alloc::Global;
 use worktree_fs::{
     ListError, MakeAnswer, MemoryWorktree, NameList, NodeKind, ReadAnswer, ReadError, RemoveAnswer,
@@ -48,6 +48,7 @@ fn read_over<W: Worktree>(
     ensures link { result ≡ Ok ReadAnswer.IsLink → follow ≡ false }
     ensures cause { IsErrOf result ReadError.Fault
         → Increased (W.faults tree.old) (W.faults tree.new) }
+    ensures unfaulted { UnlessFault result (W.faults tree.new ≡ W.faults tree.old) }
     ensures faults { W.faults tree.old ≤ W.faults tree.new }
     ensures list_faults { W.list_faults tree.new ≡ W.list_faults tree.old }
     ensures reads { Incremented (W.reads tree.old) (W.reads tree.new) }
@@ -143,5 +144,57 @@ impl Worktree for Noted {
         } = other;
         self.tree.absorb(tree);
         let _kept = note(&mut self.absorbed, &listed, b'|').is_ok();
+    }
+}
+
+/// A store that tells nothing, and hands each call on to one in memory. It counts how often it was asked, and notes that number of each
+/// fork that it absorbed.
+#[derive(Drop)]
+pub struct NotedStore {
+    pub objects: MemoryStore,
+    pub asked: u8,
+    pub absorbed: Vec<u8>,
+}
+
+impl NotedStore {
+    pub fn new(alloc: Global, objects: MemoryStore) -> NotedStore {
+        NotedStore {
+            objects,
+            asked: 0,
+            absorbed: Vec::new(alloc),
+        }
+    }
+}
+
+impl Find for NotedStore {
+    ghost use Rattle.std.specs.Prelude.{None};
+
+    ghost holds = { λ _. None };
+
+    ghost faults = { λ _. 0 };
+
+    fn find_blob(
+        &mut self,
+        alloc: Global,
+        id: &ObjectId,
+        into: &mut Bytes,
+    ) -> Result<Found, FindError> {
+        self.asked = self.asked.saturating_add(1);
+        self.objects.find_blob(alloc, id, into)
+    }
+
+    fn fork(&self, alloc: Global) -> Result<NotedStore, OutOfMemory> {
+        Ok(NotedStore::new(alloc, self.objects.fork(alloc)?))
+    }
+
+    /// What a fork noted is not kept where memory is refused.
+    fn absorb(&mut self, other: NotedStore) {
+        let NotedStore {
+            objects,
+            asked,
+            absorbed: _,
+        } = other;
+        self.objects.absorb(objects);
+        let _kept = self.absorbed.push(asked).is_ok();
     }
 }

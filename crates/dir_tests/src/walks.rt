@@ -87,7 +87,7 @@ untracked symlink - always - - - d/l|ask`root`d/f|walk`/w`/w/d/f`0`1`untracked f
 ask`root`a/..|walk`/w`/w`2`4`untracked file - always - - - a`untracked file - always - - - d/f`\
 untracked symlink - always - - - d/l`untracked symlink - always - - - l";
 
-/// Cases of rules, of an interrupt and of faults. Repositories are not looked for where a fault is planned.
+/// Cases of rules.
 const RULES: &[u8] = b"\
 the rule that decided``|file`/w/.gitignore`*.o\n!k.o|file`/w/a.o|file`/w/k.o|ask`options`shown|\
 walk`/w`/w`1`3`untracked file - always - - - .gitignore`ignored file - always - - 0:1:+ a.o`\
@@ -101,21 +101,12 @@ untracked file - always - - 1:1:! build/sub/x`ignored file - always - - 0:1:+ bu
 what strict parents do not lift``strict|file`/w/.gitignore`build/|file`/w/build/.gitignore`!sub/|file`/w/build/sub/x|\
 file`/w/build/y|ask`options`nonbare shown|\
 walk`/w`/w`3`4`untracked file - always - - - .gitignore`ignored file - always - - 0:1:+ build/.gitignore`\
-ignored file - always - - 0:1:+ build/sub/x`ignored file - always - - 0:1:+ build/y@\
-a rules file that is a link to itself``|file`/w/d/f|link`/w/d/.gitignore`.gitignore|walk`/w`link limit`/w/d/.gitignore@\
-a rules file that is no file``|file`/w/d/f|other`/w/d/.gitignore|walk`/w`special`/w/d/.gitignore@\
-a rules file that is not read``|file`/w/d/f|file`/w/d/.gitignore`f|fail`read`2|ask`options`recursing|\
-walk`/w`unread`/w/d/.gitignore|faults`1@\
-an interrupt`-|file`/w/d/a|ask`raised`2|walk`/w`interrupted@\
-a fault at the root's kind`-|file`/w/d/f|fail`kind`1|walk`/w`no root`/w|faults`1@\
-a fault at a component's kind`-|file`/w/d/f|fail`kind`1|ask`root`d|walk`/w`unknown component`/w/d|faults`1@\
-a fault of a listing`-|file`/w/d/f|fail`list open`1|walk`/w`fault`/w|faults`1@\
-a fault of a listing below`-|file`/w/d/f|fail`list open`2|walk`/w`fault`/w/d|faults`1@\
-a fault of a name`-|file`/w/d/f|fail`list entry`2|walk`/w`no entry`/w/d|faults`1@\
-a fault of a kind`-|file`/w/d/f|fail`kind`2|ask`options`recursing|walk`/w`/w`1`1|faults`1";
+ignored file - always - - 0:1:+ build/sub/x`ignored file - always - - 0:1:+ build/y";
 
 /// Cases of delegates. A step `give` names a delegate that looks into directories `always`, `never` or `in turn`, that looks into the
-/// worktree root and `only d` below it, or that answers Break at the `first` entry.
+/// worktree root and `only d` below it, or that answers Break at an entry, as at `break 2`; where there are fewer it answers none.
+///
+/// What is broken off has met what came before: within a fold what was merged, and for what is handed up at the end all.
 ///
 /// Of the delegate that looks `only d`: from the worktree root on, two directories are read, that and `d`; what is met is the file in
 /// `d`, and by themselves `d/d` and `e`, which have other paths. From `e/d` on nothing is read, and that directory is all that is met.
@@ -128,7 +119,17 @@ give`always`/w`/w`5`10`untracked directory - always - - - notes`ignored director
 give`never`/w`/w`0`1`untracked directory - always - - - @\
 directories`-|file`/w/d/a|file`/w/d/b|file`/w/e/c|file`/w/f/g|\
 give`in turn`/w`/w`2`3`untracked directory - always - - - d`untracked file - always - - - e/c`\
-untracked directory - always - - - f|give`first`/w`/w`2`1`untracked file - always - - - d/a@\
+untracked directory - always - - - f|give`break 1`/w`/w`2`1`untracked file - always - - - d/a|\
+give`break 2`/w`/w`2`2`untracked file - always - - - d/a`untracked file - always - - - d/b|\
+give`break 4`/w`/w`4`4`untracked file - always - - - d/a`untracked file - always - - - d/b`untracked file - always - - - e/c`\
+untracked file - always - - - f/g|give`break 5`/w`/w`4`4`untracked file - always - - - d/a`untracked file - always - - - d/b`\
+untracked file - always - - - e/c`untracked file - always - - - f/g|\
+ask`root`d/a|give`break 1`/w`/w/d/a`0`1`untracked file - always - - - d/a@\
+broken off within a fold`*.o|file`/w/d/a|file`/w/d/b.o|ask`options`folding shown within-unlike|\
+give`break 1`/w`/w`2`2`ignored file - always - untracked globals:1:+ d/b.o|\
+give`break 2`/w`/w`2`3`untracked directory - always - - - d`ignored file - always - untracked globals:1:+ d/b.o@\
+broken off at what is handed up at the end`-|file`/w/d/a|file`/w/d/b|ask`root`d|ask`options`folding|\
+give`break 1`/w`/w/d`1`3`untracked directory - always - - - d@\
 a worktree of its own that is a file`-|file`/w/x|ask`worktree`x|give`always`/w`no directory`/w/x@\
 a path among others`-|file`/w/d/a|file`/w/d/d/b|file`/w/e/d/c|\
 give`only d`/w`/w`2`3`untracked file - always - - - d/a`untracked directory - always - - - d/d`\
@@ -418,6 +419,14 @@ fn report_of(
     })
 }
 
+/// The entry at which Break is answered.
+fn last_of(word: &[u8]) -> usize {
+    match word.split_once_str(b" ") {
+        Some((_, last)) => number(last),
+        None => 0,
+    }
+}
+
 /// The delegate of a word.
 fn delegate_of(alloc: Global, word: &[u8]) -> Odd {
     match word {
@@ -425,7 +434,7 @@ fn delegate_of(alloc: Global, word: &[u8]) -> Odd {
         b"never" => Odd::new(alloc, Some(Looks::Never), 0),
         b"in turn" => Odd::new(alloc, Some(Looks::InTurn), 0),
         b"only d" => Odd::new(alloc, Some(Looks::Only(b"d")), 0),
-        _ => Odd::new(alloc, None, 1),
+        _ => Odd::new(alloc, None, last_of(word)),
     }
 }
 
@@ -475,7 +484,7 @@ fn traversal_roots(rt: HostRuntime) {
 }
 
 #[test]
-fn rules_and_faults(rt: HostRuntime) {
+fn rules(rt: HostRuntime) {
     for case in RULES.split(|byte| *byte == b'@') {
         assert_eq!(rt; lie_of(rt.alloc(), case), None, "{case:?}");
     }

@@ -1,5 +1,5 @@
 -- What is opened where subtrees are walked over forks, one call after another.
-use Rattle.std.proofs.Common.{◌≡◌, ℕ, ◌+◌, ◌≤◌, refl, arith}
+use Rattle.std.proofs.Common.{◌≡◌, ℕ, ◌+◌, ◌-◌, ◌≤◌, refl, arith}
 use Rattle.worktree_fs.specs.declared.interrupt.Interrupt.{Ghosts as InterruptOf}
 use Rattle.worktree_fs.specs.declared.worktree.Worktree.{Ghosts as WorktreeOf}
 use Rattle.worktree_fs.specs.Causes.{with_more}
@@ -8,9 +8,9 @@ use Rattle.dir_walk.specs.Opens.{Enters, Opens, OpensApart}
 
 module _ {W I : Type 0} {w : WorktreeOf W} {i : InterruptOf I} where
   -- nothing is opened
-  pub apart-none : {w0 w1 : W} {i0 i1 : I} {a b : Outcome} {Within : ℕ → Type 0} → Within 0 → w.lists w1 ≡ w.lists w0 → b.read_dir_calls ≡ a.read_dir_calls → with_more (i.questions i0) 0 ≤ i.questions i1
+  pub apart-none : {w0 w1 : W} {i0 i1 : I} {a b : Outcome} {Within : ℕ → Type 0} → Within 0 → w.lists w1 ≡ w.lists w0 → b.read_dir_calls ≡ a.read_dir_calls → with_more (i.questions i0) (i.raised i1 - i.raised i0) ≤ i.questions i1
       → OpensApart w i w0 w1 i0 i1 a b 0 Within
-  apart-none none lists read asked = record { enters = record { opened = 0; counted = λ small. omega (arith, read, small); asked = asked; within = none }; listed = omega (arith, lists) }
+  apart-none none lists read asked = record { enters = record { opened = 0; counted = λ small. omega (arith, read, small); asked = omega (arith, asked); within = none }; listed = omega (arith, lists) }
 
   -- a job is done after a call that opened nothing, and what it opened is absorbed
   pub apart-job : {w0 w1 : W} {i0 i1 : I} {a b : Outcome} {First Within : ℕ → Type 0} → ((n : ℕ) → First n → Within n) → Enters i i0 i1 a b First → w.lists w1 ≡ w.lists w0 → OpensApart w i w0 w1 i0 i1 a b 0 Within

@@ -47,7 +47,7 @@ some_list : {X : Type 0} {x y : X} → Some x ≡ Some y → x ≡ y
 some_list e = cc
 
 module _ (given : Setting) (made : Option Made) (s : Sources) (explicit : Option (List ℕ)) (limit : ℕ) (tree : IsTree (directory s.tree)) (got entries : List Emission) (outcome : Outcome) (root : List ℕ)
-    (gives : WalkGives given made s explicit limit (Some []) (Some got) (outcome, root)) (sorted : HasDistinctPaths got → entries ≡ by_path got) where
+    (gives : WalkGives given made s explicit limit (Some []) (Some got) (outcome, root)) (sorted : entries ≡ by_path got) where
   abbrev all : List Emission
   all = shown given.options (out_of gives.walk.gives)
 
@@ -61,7 +61,7 @@ module _ (given : Setting) (made : Option Made) (s : Sources) (explicit : Option
   safe = subst (IsSafe given.options (evidence given made s) gives.walk.gives) (sym got-is) given-all.safe
 
   entries-are : entries ≡ by_path got
-  entries-are = sorted safe.once
+  entries-are = sorted
 
   same-counts : (p : Emission → Bool) → count_by p given-all.more ≡ count_by p all
   same-counts p = sym (sum_by-IsPermutation (λ (e : Emission). cond {A = ℕ} (p e) 1 0) given-all.more all given-all.same)
@@ -138,5 +138,5 @@ from-root given explicit outcome root before got entries none same (inr (start, 
     }
 
 -- in the order of paths they ascend
-pub ascends-given : (got entries : List Emission) → HasDistinctPaths got → (HasDistinctPaths got → entries ≡ by_path got) → Ascends entries
-ascends-given got entries distinct sorted = subst Ascends (sym (sorted distinct)) (Ascends-by_path got distinct)
+pub ascends-given : (got entries : List Emission) → HasDistinctPaths got → entries ≡ by_path got → Ascends entries
+ascends-given got entries distinct sorted = subst Ascends (sym sorted) (Ascends-by_path got distinct)

@@ -11,7 +11,7 @@ use Rattle.dir_walk.specs.Emits.{Emits, Within, IsPart, Closes, folded_of, shown
 use Rattle.dir_walk.specs.Fold.{fold, shows_collapsed, tally}
 use Rattle.dir_walk.specs.Walked.{Walked, closed, folded_if, folded_to, holding, unfolded}
 use Rattle.dir_walk.proofs.Counts.{count_by-append, count_by-map, count_by-map_filter, count_by-agree, count_by-parts, count_all}
-use Rattle.dir_walk.proofs.Emitting.{Emits-as}
+use Rattle.dir_walk.proofs.Emitting.{Emits-as, Within-as}
 
 pub closed-is : (o : Chosen) (ev : Evidence) (d : List ℕ) (c : Class) (w : Walked) → closed o ev d c w ≡ folded_if o d w (folded_of o ev d c w)
 unfolding closed
@@ -49,13 +49,19 @@ module _ (o : Chosen) (ev : Evidence) (d : List ℕ) (c : Class) (held : List En
   is-some : (f : Entry) → folded_of o ev d c w ≡ Some f → closed o ev d c w ≡ folded_to o d w f
   is-some f some = closed-is o ev d c w ∙ ap (folded_if o d w) some
 
-  pub part-none : folded_of o ev d c (holding held blocked) ≡ None → Within before after (put_plain o held) → IsPart o (closed o ev d c (holding held blocked)).out before after
+  pub part-none : (start stop : Outcome) → folded_of o ev d c (holding held blocked) ≡ None → Within before after start stop (put_plain o held) (length held) → IsPart o (closed o ev d c (holding held blocked)) before after start stop
   unfolding w
-  part-none none part = let P : Walked → Type 0 = λ v. IsPart o v.out before after in subst P (sym (is-none none)) part
+  part-none start stop none part =
+      let P : Walked → Type 0 = λ v. IsPart o v before after start stop in
+      subst P (sym (is-none none)) (Within-as before after start stop (put_plain o held) (λ p. shown_by o p (map plain held)) (length held) (size (map plain held) + 0) part (λ p. omega arith) (omega (arith, size-map plain held)))
 
-  pub part-some : (f : Entry) → folded_of o ev d c (holding held blocked) ≡ Some f → Within before after (put_within o f.status held) → IsPart o (closed o ev d c (holding held blocked)).out before after
+  pub part-some : (start stop : Outcome) (f : Entry) → folded_of o ev d c (holding held blocked) ≡ Some f → Within before after start stop (put_within o f.status held) (length held) → IsPart o (closed o ev d c (holding held blocked)) before after start stop
   unfolding w
-  part-some f some part = let P : Walked → Type 0 = λ v. IsPart o v.out before after in subst P (sym (is-some f some)) part
+  part-some start stop f some part =
+      let q : Entry → Bool = shows_collapsed o.emit_collapsed f.status in
+      let P : Walked → Type 0 = λ v. IsPart o v before after start stop in
+      subst P (sym (is-some f some)) (Within-as before after start stop (put_within o f.status held) (put_within o f.status held) (length held) (size (map (within f.status) (filter q held)) + (0 + count_by (λ x. not (q x)) held)) part (λ p. omega arith)
+      (omega (arith, size-within f.status q held, count_by-parts q held)))
 
   module _ (start stop : Outcome) where
     pub closes-none : folded_of o ev d c (holding held blocked) ≡ None → Emits before after start stop (put_plain o held) (length held) 0

@@ -9,7 +9,7 @@ use Rattle.dir_walk.specs.Fold.{shows_collapsed}
 use Rattle.dir_walk.proofs.Counts.{count_by-cons, count_by-map, count_by-map_filter}
 use Rattle.dir_walk.specs.declared.outcome.Outcome.{Outcome}
 use Rattle.dir_walk.specs.Given.{listed, Extends}
-use Rattle.dir_walk.specs.Emits.{Emits, Within, shown_by, put_plain, put_within}
+use Rattle.dir_walk.specs.Emits.{AddsWithin, Emits, Within, shown_by, put_plain, put_within}
 
 pub Emits-then : (a b c : Option (List Emission)) (i j k : Outcome) (f g h : (Emission → Bool) → ℕ) (m n l r s t : ℕ) → Emits a b i j f m r → Emits b c j k g n s → ((p : Emission → Bool) → f p + g p ≡ h p) → m + n ≡ l → r + s ≡ t → Emits a c i k h l t
 Emits-then a b c i j k f g h m n l r s t one two adds seen read =
@@ -32,21 +32,35 @@ Emits-as a b i j f g m n r s e same seen read =
     }
 
 -- all that was given, and a part of what comes then
-pub Within-then : (a b c : Option (List Emission)) (i j : Outcome) (f g h : (Emission → Bool) → ℕ) (m r : ℕ) → Emits a b i j f m r → Within b c g → ((p : Emission → Bool) → f p + g p ≤ h p) → Within a c h
-Within-then a b c i j f g h m r one two fits =
+pub Within-then : (a b c : Option (List Emission)) (i j k : Outcome) (f g h : (Emission → Bool) → ℕ) (m n l r : ℕ) → Emits a b i j f m r → Within b c j k g n → ((p : Emission → Bool) → f p + g p ≤ h p) → m + n ≤ l → Within a c i k h l
+Within-then a b c i j k f g h m n l r one two fits few =
     record {
-      same = two.same ∙ one.same;
-      counts = λ told p. omega (arith, one.entries told p, two.counts (one.same ∙ told) p, fits p);
+      adds = record {
+        same = two.adds.same ∙ one.same;
+        counts = λ told p. omega (arith, one.entries told p, two.adds.counts (one.same ∙ told) p, fits p);
+      };
+      seen = λ small. let first = one.seen small in omega (arith, first, two.seen (omega (arith, first)), few);
     }
 
-pub Within-as : (a b : Option (List Emission)) (f g : (Emission → Bool) → ℕ) → Within a b f → ((p : Emission → Bool) → f p ≤ g p) → Within a b g
-Within-as a b f g one fits = record { same = one.same; counts = λ told p. omega (arith, one.counts told p, fits p) }
+pub Within-as : (a b : Option (List Emission)) (i j : Outcome) (f g : (Emission → Bool) → ℕ) (m n : ℕ) → Within a b i j f m → ((p : Emission → Bool) → f p ≤ g p) → m ≤ n → Within a b i j g n
+Within-as a b i j f g m n one fits few =
+    record {
+      adds = record { same = one.adds.same; counts = λ told p. omega (arith, one.adds.counts told p, fits p) };
+      seen = λ small. omega (arith, one.seen small, few);
+    }
 
-pub Within-all : (a b : Option (List Emission)) (i j : Outcome) (f h : (Emission → Bool) → ℕ) (m r : ℕ) → Emits a b i j f m r → ((p : Emission → Bool) → f p ≤ h p) → Within a b h
-Within-all a b i j f h m r one fits = record { same = one.same; counts = λ told p. omega (arith, one.entries told p, fits p) }
+pub Within-all : (a b : Option (List Emission)) (i j : Outcome) (f h : (Emission → Bool) → ℕ) (m l r : ℕ) → Emits a b i j f m r → ((p : Emission → Bool) → f p ≤ h p) → m ≤ l → Within a b i j h l
+Within-all a b i j f h m l r one fits few =
+    record {
+      adds = record { same = one.same; counts = λ told p. omega (arith, one.entries told p, fits p) };
+      seen = λ small. omega (arith, one.seen small, few);
+    }
 
-pub Within-none : (a b : Option (List Emission)) (h : (Emission → Bool) → ℕ) → b ≡ a → Within a b h
-Within-none a b h is = record { same = ap is_some is; counts = λ told p. omega (arith, ap {B = ℕ} (λ x. count_by p (listed x)) is) }
+pub AddsWithin-none : (a b : Option (List Emission)) (h : (Emission → Bool) → ℕ) → b ≡ a → AddsWithin a b h
+AddsWithin-none a b h is = record { same = ap is_some is; counts = λ told p. omega (arith, ap {B = ℕ} (λ x. count_by p (listed x)) is) }
+
+pub Within-none : (a b : Option (List Emission)) (i j : Outcome) (h : (Emission → Bool) → ℕ) (l : ℕ) → b ≡ a → j.seen_entries ≡ i.seen_entries → Within a b i j h l
+Within-none a b i j h l is same = record { adds = AddsWithin-none a b h is; seen = λ small. omega (arith, same, small) }
 
 pub Extends-then : (a b c : Option (List Emission)) → Extends a b → Extends b c → Extends a c
 Extends-then a b c one two =

@@ -99,7 +99,7 @@ module _ {W F I D : Type 0} (w : WorktreeOf W) (f : FindOf F) (i : InterruptOf I
   job-memory {d0 = d0} =
       record {
         gives = λ made s stands quiet default limit level. tt;
-        part = λ made s stands quiet default. Within-none (d.given d0) (d.given d0) _ refl;
+        part = λ made s stands quiet default. Within-none (d.given d0) (d.given d0) _ _ _ _ refl refl;
         about = λ limit level. tt;
         found = λ s told. tt;
         refused = λ made s stands default limit level. inl tt;
@@ -108,6 +108,7 @@ module _ {W F I D : Type 0} (w : WorktreeOf W) (f : FindOf F) (i : InterruptOf I
         store = AsksStore-same;
         interrupt = record { questions = omega arith; raised = omega arith };
         enters = record { opened = 0; counted = λ small. omega (arith, small); asked = omega arith; within = λ made s stands quiet default. omega arith };
+        filtered = refl;
         hands = Hands-none refl refl refl;
         delegate = KeepsDelegate-same;
         heeds = record { broken = tt; stopped = tt; unbroken = refl; kept_on = tt };
@@ -148,6 +149,7 @@ module _ {W F I D : Type 0} (w : WorktreeOf W) (f : FindOf F) (i : InterruptOf I
           store = job.store;
           interrupt = job.interrupt;
           enters = record { opened = job.enters.opened; counted = job.enters.counted; asked = job.enters.asked; within = λ made s stands quiet default. job.enters.within made s (on_fork made s stands) (no_fault quiet) default };
+          filtered = job.filtered;
           hands = job.hands;
           delegate = job.delegate;
           heeds = job.heeds;
@@ -180,6 +182,7 @@ module _ {W F I D : Type 0} (w : WorktreeOf W) (f : FindOf F) (i : InterruptOf I
           store = record { holds = holds1; faults = later };
           interrupt = job.interrupt;
           enters = record { opened = job.enters.opened; counted = job.enters.counted; asked = job.enters.asked; within = λ made s stands quiet default. job.enters.within made s (in_fork made s stands) quiet default };
+          filtered = job.filtered;
           hands = job.hands;
           delegate = job.delegate;
           heeds = job.heeds;
@@ -207,8 +210,9 @@ module _ {W F I D : Type 0} (w : WorktreeOf W) (f : FindOf F) (i : InterruptOf I
           };
           worktree = job.worktree;
           store = job.store;
-          interrupt = record { questions = omega (arith, questions1); raised = later };
-          enters = record { opened = job.enters.opened; counted = job.enters.counted; asked = omega (arith, job.enters.asked, questions0, questions1); within = job.enters.within };
+          interrupt = record { questions = omega (arith, job.interrupt.questions, questions0, questions1, raised0, raised1); raised = later };
+          enters = record { opened = job.enters.opened; counted = job.enters.counted; asked = omega (arith, job.enters.asked, questions0, questions1, raised0, raised1); within = job.enters.within };
+          filtered = job.filtered;
           hands = job.hands;
           delegate = job.delegate;
           heeds = job.heeds;
@@ -233,6 +237,7 @@ module _ {W F I D : Type 0} (w : WorktreeOf W) (f : FindOf F) (i : InterruptOf I
         store = job.store;
         interrupt = job.interrupt;
         enters = record { opened = job.enters.opened; counted = job.enters.counted; asked = job.enters.asked; within = λ made s stands quiet default. job.enters.within made s (with_fresh made s stands) quiet default };
+        filtered = job.filtered;
         hands = job.hands;
         delegate = job.delegate;
         heeds = job.heeds;

@@ -5,7 +5,7 @@ use Rattle.gitbase_core.specs.Path.{components, is_empty}
 use Rattle.worktree_fs.specs.declared.interrupt.Interrupt.{Ghosts as InterruptOf}
 use Rattle.worktree_fs.specs.declared.worktree.Worktree.{Ghosts as WorktreeOf}
 use Rattle.worktree_fs.specs.Causes.{with_more}
-use Rattle.worktree_fs.specs.Paths.{common_front, spelled, without_last}
+use Rattle.worktree_fs.specs.Paths.{common_front, spelled, all_but_last}
 use Rattle.worktree_fs.specs.PathStack.{IsOnWay}
 use Rattle.worktree_stack.proofs.Looking.{length-fronts}
 use Rattle.worktree_stack.specs.Lookups.{refused_one}
@@ -29,7 +29,7 @@ use Rattle.dir_walk.proofs.Putting.{Puts-as, Puts-over}
 
 -- ---- the way to the traversal root
 
-last-of : (names : List (List ℕ)) → (last : List (List ℕ)) × (names ≡ without_last names ++ last)
+last-of : (names : List (List ℕ)) → (last : List (List ℕ)) × (names ≡ all_but_last names ++ last)
 last-of [] = ([], refl)
 last-of (name ∷ []) = (name ∷ [], refl)
 last-of (name ∷ next ∷ names) = let more = last-of (next ∷ names) in (more.0, ap (λ (l : List (List ℕ)). name ∷ l) more.1)
@@ -54,7 +54,7 @@ asks-on-way recurses root reads0 reads1 o0 o1 old new result on alone (inl unask
 asks-on-way recurses root reads0 reads1 o0 o1 old new result on alone (inr asked) = omega (arith, asked.reads on alone, held-on-way (pushed_in new) (components root) (on-way-to root new asked.leads asked.on_way))
 
 -- what is pushed on the way to a directory lies above it, or is the worktree root
-above-last : (names : List (List ℕ)) → length (without_last names) ≤ length names - 1
+above-last : (names : List (List ℕ)) → length (all_but_last names) ≤ length names - 1
 above-last [] = omega arith
 above-last (name ∷ []) = omega arith
 above-last (name ∷ next ∷ names) = omega (arith, above-last (next ∷ names))
@@ -98,13 +98,13 @@ listed-later AtOnce now opened same listed = omega (arith, same, listed)
 
 -- a traversal root is to be entered, and a refusal comes first
 pub opens-not : {W I : Type 0} (strategy : Strategy) (w : WorktreeOf W) (i : InterruptOf I) (o : Chosen) (w0 w1 : W) (i0 i1 : I) (a : Outcome) (at : Option Stacked) (names : List (List ℕ)) {Within : ℕ → Type 0} → ((n : ℕ) → n ≡ 0 → Within n) → w.lists w1 ≡ w.lists w0
-    → w.reads w1 ≡ w.reads w0 → with_more (i.questions i0) 0 ≤ i.questions i1 → OpensRoot w i w0 w1 i0 i1 a a strategy o at at names 1 Within
+    → w.reads w1 ≡ w.reads w0 → with_more (i.questions i0) (i.raised i1 - i.raised i0) ≤ i.questions i1 → OpensRoot w i w0 w1 i0 i1 a a strategy o at at names 1 Within
 opens-not AtOnce w i o w0 w1 i0 i1 a at names none lists reads asked =
-    record { enters = record { opened = 0; counted = λ small. omega (arith, small); asked = asked; within = none 0 refl }; listed = omega (arith, lists) }
+    record { enters = record { opened = 0; counted = λ small. omega (arith, small); asked = omega (arith, asked); within = none 0 refl }; listed = omega (arith, lists) }
 opens-not Held w i o w0 w1 i0 i1 a at names none lists reads asked =
     record {
       opened = 0;
-      opens = record { listed = λ small. omega (arith, lists, small); counted = λ small. omega (arith, small); asked = asked };
+      opens = record { listed = λ small. omega (arith, lists, small); counted = λ small. omega (arith, small); asked = omega (arith, asked) };
       within = none 0 refl;
       reads = λ on alone. omega (arith, reads);
     }

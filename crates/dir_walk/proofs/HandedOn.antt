@@ -16,7 +16,7 @@ use Rattle.dir_classify.specs.Layers.{Setting, evidence}
 use Rattle.dir_walk.specs.declared.handed.Handed.{Handed}
 use Rattle.dir_walk.specs.declared.outcome.Outcome.{Outcome}
 use Rattle.dir_walk.specs.Emissions.{Emission, plain, shows}
-use Rattle.dir_walk.specs.Emits.{Emits, Gives, GivesAll, IsPart, Within, put_plain, seen_by, shown_by, size}
+use Rattle.dir_walk.specs.Emits.{Emits, Gives, GivesAll, IsPart, IsPartOfAll, Within, put_plain, seen_by, shown_by, size}
 use Rattle.dir_walk.specs.Refused.{DirectoryRefuses}
 use Rattle.dir_walk.specs.Report.{out_of}
 use Rattle.dir_walk.specs.Told.{Stands, directory_told}
@@ -34,8 +34,9 @@ module _ (o : Chosen) (w : Walked) where
   size-all = omega (arith, count_by-append (λ _. true) w.out (map plain w.up), count_by-map (λ _. true) plain w.up, count_all w.up)
 
   -- what was put out before is a part of all
-  pub part-out : (before after : Option (List Emission)) → IsPart o w.out before after → IsPart o (out_of w) before after
-  part-out before after part = Within-as before after (λ p. shown_by o p w.out) (λ p. shown_by o p (out_of w)) part (λ p. omega (arith, shown-all p))
+  pub part-out : (before after : Option (List Emission)) (start stop : Outcome) → IsPart o w before after start stop → IsPartOfAll o w before after start stop
+  part-out before after start stop part =
+      Within-as before after start stop (λ p. shown_by o p w.out) (λ p. shown_by o p (out_of w)) (seen_by w) (size (out_of w) + w.merged) part (λ p. omega (arith, shown-all p)) (omega (arith, size-all))
 
   module _ (limit : ℕ) (ev : Evidence) (handed : Handed) (before mid after : Option (List Emission)) (start middle : Outcome) (gives : Gives o limit ev w before mid start middle handed) where
     pub gives-all : (stop : Outcome) → Emits mid after middle stop (put_plain o (option_to_list handed.entry)) (length (option_to_list handed.entry)) 0 → GivesAll o limit ev w before after start stop
@@ -51,10 +52,12 @@ module _ (o : Chosen) (w : Walked) where
           whole = gives.whole;
         }
 
-    pub part-all : Within mid after (put_plain o (option_to_list handed.entry)) → IsPart o (out_of w) before after
-    part-all part =
-        Within-then before mid after start middle (λ p. shown_by o p w.out) (put_plain o (option_to_list handed.entry)) (λ p. shown_by o p (out_of w)) (seen_by w) (size w.entered)
+    pub part-all : (stop : Outcome) → Within mid after middle stop (put_plain o (option_to_list handed.entry)) (length (option_to_list handed.entry)) → IsPartOfAll o w before after start stop
+    part-all stop part =
+        Within-then before mid after start middle stop (λ p. shown_by o p w.out) (put_plain o (option_to_list handed.entry)) (λ p. shown_by o p (out_of w))
+        (seen_by w) (length (option_to_list handed.entry)) (size (out_of w) + w.merged) (size w.entered)
         gives.emits part (λ p. omega (arith, shown-all p, ap (λ (held : List Entry). put_plain o held p) gives.up))
+        (omega (arith, size-all, ap (λ (held : List Entry). length held) gives.up))
 
 -- a refusal where something may have failed is one where nothing did, as nothing did
 pub DirectoryRefuses-weaker : (given : Setting) (made : Option Made) (s : Sources) (limit : ℕ) (P Q : Type 0) (d : List ℕ) (c : Class) (e : Error) → (P → Q) → DirectoryRefuses given made s limit P d c e → DirectoryRefuses given made s limit Q d c e

@@ -17,7 +17,8 @@ use Rattle.dir_classify.specs.Chosen.{Chosen, finds_bare_repositories}
 use Rattle.dir_classify.specs.Class.{class, class_of_kind, class_dot_git, class_unmatched, class_worktree, class_indexed, class_unindexed, class_by_rules, class_directory, class_other, finds_in_ignored, upgrade, is_worktree, is_indexed, is_dot_git, settled_kind, ruling_of, dot_git_ruling}
 use Rattle.dir_classify.specs.Enters.{is_open, is_ignored_status}
 use Rattle.dir_classify.specs.Evidence.{Evidence}
-use Rattle.dir_classify.specs.Kinds.{from_node, first_of_kinds, is_directory, is_symlink, is_repository, is_dir, holds_names}
+use Rattle.std.specs.Option.{option_or}
+use Rattle.dir_classify.specs.Kinds.{from_node, is_directory, is_symlink, is_repository, is_dir, holds_names}
 use Rattle.dir_classify.specs.Layers.{kind_at}
 use Rattle.dir_classify.proofs.Onward.{no-dot_git}
 use Rattle.dir_walk.specs.WalkRefused.{IsHeldDirectory}
@@ -39,14 +40,14 @@ module _ (o : Chosen) (ev : Evidence) (path : List ℕ) (known : Option Kind) wh
   abbrev Held : Outcome → Type 0
   Held c = IsHeldDirectory o ev path c ⊎ (holds_names known ≡ true)
 
-  first-known : (k : Option Kind) → first_of_kinds k None ≡ k
+  first-known : (k : Option Kind) → option_or k None ≡ k
   first-known None = refl
   first-known (Some k) = refl
 
   held-kind : (c : Outcome) → holds_names kind ≡ true → Held c
   held-kind c e = go (ev.in_index path).up_to_date refl e
     where
-      go : (u : Option Kind) → (ev.in_index path).up_to_date ≡ u → holds_names (first_of_kinds u (first_of_kinds known None)) ≡ true → Held c
+      go : (u : Option Kind) → (ev.in_index path).up_to_date ≡ u → holds_names (option_or u (option_or known None)) ≡ true → Held c
       go None is f = inr (ap holds_names (sym (first-known known)) ∙ f)
       go (Some Directory) is f = inl (inl is)
       go (Some Repository) is f = inl (inr (inl is))
@@ -122,7 +123,7 @@ module _ (o : Chosen) (ev : Evidence) (none : (ev.in_index []).up_to_date ≡ No
   unfolding class
   holds-root =
       ap (λ (dot : Bool). holds_names (if dot then class_dot_git o ev [] (Some Directory) (dot_git_ruling o ev [] (Some Directory)) else if not (ev.can_match [] (Some true)) then class_unmatched (Some Directory) else class_of_kind o ev [] (settled_kind ev [] (Some Directory) None)).disk_kind) (no-dot_git o.ignore_case)
-      ∙ ap (λ (u : Option Kind). holds_names (if not (ev.can_match [] (Some true)) then class_unmatched (Some Directory) else class_of_kind o ev [] (first_of_kinds u (Some Directory))).disk_kind) none
+      ∙ ap (λ (u : Option Kind). holds_names (if not (ev.can_match [] (Some true)) then class_unmatched (Some Directory) else class_of_kind o ev [] (option_or u (Some Directory))).disk_kind) none
       ∙ holds-cases (ev.can_match [] (Some true)) (is_worktree o []) (is_indexed (ev.in_index []) (Some Directory)) (ruling_of o ev [] (Some Directory))
 
   -- a worktree root that its class does not have as holding names is no directory

@@ -13,7 +13,8 @@ use Rattle.dir_classify.specs.Class.{class, class_by_rules, class_directory, cla
 use Rattle.dir_classify.specs.Enters.{is_open, is_looked_into}
 use Rattle.dir_classify.specs.Evidence.{Evidence}
 use Rattle.dir_classify.specs.Faults.{IsJudged, kind_read, read_as}
-use Rattle.dir_classify.specs.Kinds.{first_of_kinds, from_node, holds_names, is_directory, is_repository}
+use Rattle.std.specs.Option.{option_or}
+use Rattle.dir_classify.specs.Kinds.{from_node, holds_names, is_directory, is_repository}
 
 open-directory : (kind : Option Kind) → is_open kind false ≡ true → kind ≡ Some Directory
 open-directory None e = absurd (cc e)
@@ -56,14 +57,14 @@ module _ (o : Chosen) (ev : Evidence) (p : List ℕ) (kind : Option Kind) where
       go false false f = rules-kind (ruling_of o ev p kind).kind f
 
 -- a path that is entered, of which nothing was known, is a directory by the index or on disk
-pub kind-entered : (o : Chosen) (ev : Evidence) (p : List ℕ) (on_disk : Option Kind) → enters o (class o ev p None on_disk) false ≡ true → first_of_kinds (ev.in_index p).up_to_date on_disk ≡ Some Directory
+pub kind-entered : (o : Chosen) (ev : Evidence) (p : List ℕ) (on_disk : Option Kind) → enters o (class o ev p None on_disk) false ≡ true → option_or (ev.in_index p).up_to_date on_disk ≡ Some Directory
 unfolding class
 kind-entered o ev p on_disk into = go (is_dot_git o.ignore_case p) (ev.can_match p None) (enters-directory o (class o ev p None on_disk) into)
   where
-    go : (a b : Bool) → (cond a (class_dot_git o ev p None (dot_git_ruling o ev p None)) (cond (not b) (class_unmatched None) (class_of_kind o ev p (first_of_kinds (ev.in_index p).up_to_date on_disk)))).disk_kind ≡ Some Directory
-        → first_of_kinds (ev.in_index p).up_to_date on_disk ≡ Some Directory
+    go : (a b : Bool) → (cond a (class_dot_git o ev p None (dot_git_ruling o ev p None)) (cond (not b) (class_unmatched None) (class_of_kind o ev p (option_or (ev.in_index p).up_to_date on_disk)))).disk_kind ≡ Some Directory
+        → option_or (ev.in_index p).up_to_date on_disk ≡ Some Directory
     go true b f = absurd (cc f)
-    go false true f = class-kind o ev p (first_of_kinds (ev.in_index p).up_to_date on_disk) f
+    go false true f = class-kind o ev p (option_or (ev.in_index p).up_to_date on_disk) f
     go false false f = absurd (cc f)
 
 -- where the names of what is entered cannot be listed, the index has an up-to-date directory there
@@ -71,7 +72,7 @@ pub indexed-unlisted : (before now : ℕ) (o : Chosen) (ev : Evidence) (p : List
     → (ev.in_index p).up_to_date ≡ Some Directory
 indexed-unlisted before now o ev p at c why judged into unlisted = go (ev.in_index p).up_to_date judged.failed.kind by_kind
   where
-    by_kind : first_of_kinds (ev.in_index p).up_to_date (kind_read judged.failed.kind (option_map from_node (kind_of at))) ≡ Some Directory
+    by_kind : option_or (ev.in_index p).up_to_date (kind_read judged.failed.kind (option_map from_node (kind_of at))) ≡ Some Directory
     by_kind = kind-entered o (read_as judged.failed ev) p (kind_read judged.failed.kind (option_map from_node (kind_of at))) (ap (λ (k : Class). enters o k false) (sym judged.class_is) ∙ into)
 
     no_directory : (l : Look) → list_of l ≡ Err why → option_map from_node (kind_of l) ≡ Some Directory → (k : Option Kind) → k ≡ Some Directory
@@ -82,7 +83,7 @@ indexed-unlisted before now o ev p at c why judged into unlisted = go (ev.in_ind
     no_directory (found other) e d k = absurd (cc d)
     no_directory (found (directory names)) e d k = absurd (cc e)
 
-    go : (indexed : Option Kind) (failed : Bool) → first_of_kinds indexed (kind_read failed (option_map from_node (kind_of at))) ≡ Some Directory → indexed ≡ Some Directory
+    go : (indexed : Option Kind) (failed : Bool) → option_or indexed (kind_read failed (option_map from_node (kind_of at))) ≡ Some Directory → indexed ≡ Some Directory
     go (Some k) failed e = e
     go None false e = no_directory at unlisted e None
     go None true e = absurd (cc e)

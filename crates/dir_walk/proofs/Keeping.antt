@@ -1,5 +1,5 @@
 -- What stays over one call and then another.
-use Rattle.std.proofs.Common.{◌≡◌, List, [], ◌++◌, Option, Some, refl, sym, ap, ◌∙◌, append_assoc, arith}
+use Rattle.std.proofs.Common.{◌≡◌, List, [], ◌++◌, false, Option, Some, refl, sym, ap, ◌∙◌, append_assoc, arith}
 use Rattle.std.specs.Prelude.{Result, Ok, Err, is_some}
 use Rattle.std.proofs.lemmas.List.{append-nil}
 use Rattle.gitbase_core.specs.declared.find.Find.{Ghosts as FindOf}
@@ -7,6 +7,8 @@ use Rattle.worktree_fs.specs.declared.interrupt.Interrupt.{Ghosts as InterruptOf
 use Rattle.worktree_fs.specs.declared.worktree.Worktree.{Ghosts as WorktreeOf}
 use Rattle.worktree_fs.specs.Kept.{AsksStore}
 use Rattle.worktree_stack.specs.Stacked.{Stacked}
+use Rattle.worktree_stack.specs.Setup.{Made}
+use Rattle.dir_classify.specs.Excludes.{made_with, maps_blobs}
 use Rattle.dir_classify.specs.Kept.{KeepsRules}
 use Rattle.dir_walk.specs.declared.delegate.Delegate.{Ghosts as DelegateOf}
 use Rattle.dir_walk.specs.declared.handed.Stop.{Stop}
@@ -16,6 +18,11 @@ use Rattle.dir_walk.specs.Given.{Extends}
 use Rattle.dir_walk.specs.Kept.{KeepsTree, AsksInterrupt, KeepsDelegate, Heeds}
 
 -- ---- the worktree, the store and the rules
+
+-- a store that nothing is mapped to is as it was
+pub unmapped-then : {F : Type 0} {o0 o1 o2 : F} (old now : Option Stacked) → made_with now ≡ made_with old
+    → (maps_blobs (made_with old) ≡ false → o1 ≡ o0) → (maps_blobs (made_with now) ≡ false → o2 ≡ o1) → maps_blobs (made_with old) ≡ false → o2 ≡ o0
+unmapped-then old now same first second none = second (ap (λ (m : Option Made). maps_blobs m) same ∙ none) ∙ first none
 
 pub KeepsTree-then : {W : Type 0} {w : WorktreeOf W} {a b c : W} → KeepsTree w a b → KeepsTree w b c → KeepsTree w a c
 KeepsTree-then first second =

@@ -17,6 +17,7 @@ pub mod CurrentDirectory
 pub mod DistinctPaths
 pub mod Distinctly
 pub mod Emitting
+pub mod Empties
 pub mod Ending
 pub mod Entered
 pub mod Entering
@@ -28,6 +29,7 @@ pub mod FromRoot
 pub mod Guards
 pub mod HandedOn
 pub mod HeldRoots
+pub mod Hiding
 pub mod Induct
 pub mod JoinedPaths
 pub mod Judged
@@ -56,6 +58,7 @@ pub mod Safety
 pub mod Same
 pub mod ShownFolds
 pub mod Sorting
+pub mod Stable
 pub mod Standing
 pub mod Started
 pub mod Starting
@@ -63,6 +66,7 @@ pub mod Steps
 pub mod Strict
 pub mod Tallies
 pub mod Unread
+pub mod Unstarted
 pub mod Walkable
 pub mod WalkedAt
 pub mod WalksSo

@@ -1,7 +1,7 @@
 -- The names of a directory, in whatever order they were walked, lead to what the directory gives.
 use Rattle.std.proofs.Common.{◌≡◌, ℕ, zero, suc, ◌+◌, ◌<◌, ◌≤◌, List, [], ◌∷◌, ◌++◌, Bool, true, false, cond, ◌&&◌, ◌||◌, Option, Some, None, sum_by, count_by, take, take_all, get_or, length, refl, sym, ap, subst, ◌∙◌, arith}
 use borrow.Author.Tests.{ltb-true}
-use Rattle.std.specs.Prelude.{◌==◌, option_to_list, nat_lt}
+use Rattle.std.specs.Prelude.{◌==◌, not, option_to_list, nat_lt}
 use Rattle.std.specs.Str.{bytes_eq}
 use Rattle.std.specs.List.{IsDistinct, AllByRecursion, list_any}
 use Rattle.std.proofs.lemmas.Bool.{eqb-false}
@@ -27,11 +27,12 @@ use Rattle.dir_walk.specs.Emissions.{Emission, shows}
 use Rattle.dir_walk.specs.Emits.{Emits, IsPart, Closes, Gives, folded_of, shown_by, size, seen_by}
 use Rattle.dir_walk.specs.Fold.{fold, tally}
 use Rattle.dir_walk.specs.Refused.{is_among}
+use Rattle.dir_walk.specs.Opens.{count_within}
 use Rattle.dir_walk.specs.Report.{depth_of, is_refused}
 use Rattle.dir_walk.specs.Told.{item_told, directory_told, look_directory}
 use Rattle.dir_walk.specs.Walked.{Walked, both, items, item_at, report_of, entered_at, closed, holding, empty_directory, empty_entry, folded_if, is_held, handed_up, put_out, leaf}
 use Rattle.dir_walk.proofs.Closes.{Adds, closed-adds, closed-is}
-use Rattle.dir_walk.proofs.Counts.{SameCounts, count_by-append, count_by-cons, list_any-append, or-right}
+use Rattle.dir_walk.proofs.Counts.{SameCounts, count_by-append, count_by-cons, count_by-yes, list_any-append, or-right}
 use Rattle.dir_walk.proofs.Emitting.{Emits-then, Within-then, front-sum}
 use Rattle.dir_walk.proofs.Folds.{Alike, closed_alike, tally_same}
 use Rattle.dir_walk.proofs.Lists.{all_weaker}
@@ -47,6 +48,10 @@ shown-sum o p = record { zero = refl; adds = λ a b. count_by-append (λ x. show
 
 seen-sum : IsSum (λ w. seen_by w)
 seen-sum = record { zero = refl; adds = λ a b. omega (arith, count_by-append (λ _. true) a.out b.out) }
+
+-- and so are those of them within a limit
+within-sum : (limit : ℕ) → IsSum (λ w. count_within limit w.entered)
+within-sum limit = record { zero = refl; adds = λ a b. count_by-append (λ path. not (nat_lt limit (depth_of path))) a.entered b.entered }
 
 entered-sum : IsSum (λ w. size w.entered)
 entered-sum = record { zero = refl; adds = λ a b. count_by-append (λ _. true) a.entered b.entered }
@@ -95,6 +100,10 @@ within_limit limit d low = go (is_deep limit d) refl
     go : (b : Bool) → is_deep limit d ≡ b → b ≡ false
     go false e = refl
     go true e = absurd (let high : limit < depth_of d = ltb-true limit (depth_of d) e in omega arith)
+
+-- and counts as one
+count-low : (limit : ℕ) (d : List ℕ) (rest : List (List ℕ)) → depth_of d ≤ limit → count_within limit (d ∷ rest) ≡ 1 + count_within limit rest
+count-low limit d rest low = count_by-yes (λ path. not (nat_lt limit (depth_of path))) d rest (ap not (within_limit limit d low))
 
 -- is refused where what it holds is
 refused-entered : (limit : ℕ) (ev : Evidence) (d : List ℕ) (w c : Walked) → depth_of d ≤ limit → c.entered ≡ d ∷ w.entered → c.broken ≡ w.broken → c.asked ≡ w.asked → is_refused limit ev w ≡ false → is_refused limit ev c ≡ false
@@ -177,9 +186,10 @@ module _ (given : Setting) (made : Option Made) (s : Sources) (d : List ℕ) (c 
         ap (entered_at given.options (evidence given made s) d c) lists.directory_found
         ∙ report_of-empty given.options (evidence given made s) d c lists.names (length_permutation listed (names_of lists.names) lists.permutation ∙ bare)
 
-    pub entered-empty : size (directory_told given made s d c).entered ≡ 1
+    pub entered-empty : (limit : ℕ) → depth_of d ≤ limit → count_within limit (directory_told given made s d c).entered ≡ 1
     unfolding empty_directory
-    entered-empty = ap {B = ℕ} (λ (w : Walked). size w.entered) told-empty
+    entered-empty limit low =
+        let itself : count_within limit (directory_told given made s d c).entered ≡ count_within limit (d ∷ []) = ap {B = ℕ} (λ (w : Walked). count_within limit w.entered) told-empty in itself ∙ count-low limit d [] low
 
     pub Gives-empty : (limit : ℕ) (before mid after : Option (List Emission)) (start middle stop : Outcome) (handed : Handed) → depth_of d ≤ limit → Emits before mid start middle (λ p. 0) 0 1
         → Closes given.options (empty_directory given.options (evidence given made s) d c) mid after middle stop handed
@@ -195,11 +205,11 @@ module _ (given : Setting) (made : Option Made) (s : Sources) (d : List ℕ) (c 
           whole = empty-whole given.options (evidence given made s) d c limit low;
         })
 
-    pub part-empty : (before mid after : Option (List Emission)) (start middle : Outcome) → Emits before mid start middle (λ p. 0) 0 1 → IsPart given.options (empty_directory given.options (evidence given made s) d c).out mid after
-        → IsPart given.options (directory_told given made s d c).out before after
-    part-empty before mid after start middle opened part =
-        let R : Walked → Type 0 = λ v. IsPart given.options v.out before after in
-        subst R (sym told-empty) (Within-then before mid after start middle (λ p. 0) _ _ 0 1 opened part (λ p. omega arith))
+    pub part-empty : (before mid after : Option (List Emission)) (start middle stop : Outcome) → Emits before mid start middle (λ p. 0) 0 1 → IsPart given.options (empty_directory given.options (evidence given made s) d c) mid after middle stop
+        → IsPart given.options (directory_told given made s d c) before after start stop
+    part-empty before mid after start middle stop opened part =
+        let R : Walked → Type 0 = λ v. IsPart given.options v before after start stop in
+        subst R (sym told-empty) (Within-then before mid after start middle stop (λ p. 0) _ _ 0 _ _ 1 opened part (λ p. omega arith) (omega arith))
 
   module _ (are : AreNames listed) (plain-path : ends_in_slash d ≡ false) where
     distinct : IsDistinct bytes_eq (names_of lists.names)
@@ -232,33 +242,34 @@ module _ (given : Setting) (made : Option Made) (s : Sources) (d : List ℕ) (c 
           ap (entered_at given.options (evidence given made s) d c) lists.directory_found
           ∙ report_of-listed given.options (evidence given made s) d c lists.names (omega (arith, length_permutation listed (names_of lists.names) lists.permutation, some))
 
-      -- it enters itself and what its names enter
-      entered-all : size (directory_told given made s d c).entered ≡ 1 + sum_by (λ q. size (item_told given made s (joined d q)).entered) listed
-      entered-all =
+      -- within a limit it enters itself and what its names enter
+      entered-all : (limit : ℕ) → depth_of d ≤ limit → count_within limit (directory_told given made s d c).entered ≡ 1 + sum_by (λ q. count_within limit (item_told given made s (joined d q)).entered) listed
+      entered-all limit low =
           let w : Walked = items given.options (evidence given made s) d lists.names in
-          let itself : size (directory_told given made s d c).entered ≡ size (d ∷ w.entered) =
-          ap {B = ℕ} (λ (v : Walked). size v.entered) told-listed ∙ ap {B = ℕ} (λ (xs : List (List ℕ)). size xs) (closed-adds given.options (evidence given made s) d c w).entered in
-          omega (arith, itself, all_sum (λ y. size y.entered) entered-sum, count_by-cons (λ _. true) d w.entered)
+          let itself : count_within limit (directory_told given made s d c).entered ≡ count_within limit (d ∷ w.entered) =
+          ap {B = ℕ} (λ (v : Walked). count_within limit v.entered) told-listed ∙ ap {B = ℕ} (λ (xs : List (List ℕ)). count_within limit xs) (closed-adds given.options (evidence given made s) d c w).entered in
+          omega (arith, itself, all_sum (λ y. count_within limit y.entered) (within-sum limit), count-low limit d w.entered low)
 
       -- so many directories are opened at most up to a name, and with those of all names
-      pub entered-name : (i m n spare : ℕ) (q : List ℕ) → i < length listed → q ≡ get_or listed i q → m ≤ entered_by given made s d (take i listed) → n ≤ size (item_told given made s (joined d q)).entered + spare
-          → m + n ≤ size (directory_told given made s d c).entered + spare
-      entered-name i m n spare q inside is so_far here = omega (arith, entered-all, so_far, here, front-sum (λ r. size (item_told given made s (joined d r)).entered) listed i q inside is)
+      pub entered-name : (limit i m n spare : ℕ) (q : List ℕ) → depth_of d ≤ limit → i < length listed → q ≡ get_or listed i q → m ≤ entered_by given made s limit d (take i listed) → n ≤ count_within limit (item_told given made s (joined d q)).entered + spare
+          → m + n ≤ count_within limit (directory_told given made s d c).entered + spare
+      entered-name limit i m n spare q low inside is so_far here = omega (arith, entered-all limit low, so_far, here, front-sum (λ r. count_within limit (item_told given made s (joined d r)).entered) listed i q inside is)
 
-      pub entered-close : (i m spare : ℕ) → length listed ≤ i → m ≤ entered_by given made s d (take i listed) → m ≤ size (directory_told given made s d c).entered + spare
-      entered-close i m spare past so_far =
-          let whole : m ≤ 1 + sum_by (λ q. size (item_told given made s (joined d q)).entered) listed = rw take_all at so_far in
-          omega (arith, entered-all, whole)
+      pub entered-close : (limit i m spare : ℕ) → depth_of d ≤ limit → length listed ≤ i → m ≤ entered_by given made s limit d (take i listed) → m ≤ count_within limit (directory_told given made s d c).entered + spare
+      entered-close limit i m spare low past so_far =
+          let whole : m ≤ 1 + sum_by (λ q. count_within limit (item_told given made s (joined d q)).entered) listed = rw take_all at so_far in
+          omega (arith, entered-all limit low, whole)
 
       -- a part of what a name gives, after the names before it
-      pub part-name : (limit i : ℕ) (q : List ℕ) (before mid after : Option (List Emission)) (start middle : Outcome) (held : List Entry) (blocked : Bool) → i < length listed → q ≡ get_or listed i q
-          → SoFar given made s limit d (take i listed) before mid start middle held blocked → IsPart given.options (item_told given made s (joined d q)).out mid after → IsPart given.options (directory_told given made s d c).out before after
-      part-name limit i q before mid after start middle held blocked inside is so_far part =
+      pub part-name : (limit i : ℕ) (q : List ℕ) (before mid after : Option (List Emission)) (start middle stop : Outcome) (held : List Entry) (blocked : Bool) → i < length listed → q ≡ get_or listed i q
+          → SoFar given made s limit d (take i listed) before mid start middle held blocked → IsPart given.options (item_told given made s (joined d q)) mid after middle stop → IsPart given.options (directory_told given made s d c) before after start stop
+      part-name limit i q before mid after start middle stop held blocked inside is so_far part =
           let w : Walked = items given.options (evidence given made s) d lists.names in
           let adds = closed-adds given.options (evidence given made s) d c w in
-          let R : Walked → Type 0 = λ v. IsPart given.options v.out before after in
-          subst R (sym told-listed) (Within-then before mid after start middle _ _ _ _ _ so_far.emits part
-          (λ p. omega (arith, front-sum (λ r. shown_by given.options p (item_told given made s (joined d r)).out) listed i q inside is, all_sum (λ x. shown_by given.options p x.out) (shown-sum given.options p), adds.shown p)))
+          let R : Walked → Type 0 = λ v. IsPart given.options v before after start stop in
+          subst R (sym told-listed) (Within-then before mid after start middle stop _ _ _ _ _ _ _ so_far.emits part
+          (λ p. omega (arith, front-sum (λ r. shown_by given.options p (item_told given made s (joined d r)).out) listed i q inside is, all_sum (λ x. shown_by given.options p x.out) (shown-sum given.options p), adds.shown p))
+          (omega (arith, front-sum (λ r. seen_by (item_told given made s (joined d r))) listed i q inside is, all_sum (λ x. seen_by x) seen-sum, adds.seen)))
 
       module _ (limit i : ℕ) (before mid after : Option (List Emission)) (start middle : Outcome) (held : List Entry) (blocked : Bool) (past : length listed ≤ i) (so_far : SoFar given made s limit d (take i listed) before mid start middle held blocked) where
         all : SoFar given made s limit d listed before mid start middle held blocked
@@ -295,12 +306,13 @@ module _ (given : Setting) (made : Option Made) (s : Sources) (d : List ℕ) (c 
           folds = λ p. refl;
         })
 
-        pub part-close : IsPart given.options (closed given.options (evidence given made s) d c (holding held blocked)).out mid after → IsPart given.options (directory_told given made s d c).out before after
+        pub part-close : (stop : Outcome) → IsPart given.options (closed given.options (evidence given made s) d c (holding held blocked)) mid after middle stop → IsPart given.options (directory_told given made s d c) before after start stop
         unfolding w v
-        part-close part =
-            let R : Walked → Type 0 = λ x. IsPart given.options x.out before after in
-            subst R (sym told-listed) (Within-then before mid after start middle _ _ _ _ _ all.emits part
-            (λ p. omega (arith, all_sum (λ x. shown_by given.options p x.out) (shown-sum given.options p), same.out (λ x. shows given.options x.0 && p x), adds.shown p)))
+        part-close stop part =
+            let R : Walked → Type 0 = λ x. IsPart given.options x before after start stop in
+            subst R (sym told-listed) (Within-then before mid after start middle stop _ _ _ _ _ _ _ all.emits part
+            (λ p. omega (arith, all_sum (λ x. shown_by given.options p x.out) (shown-sum given.options p), same.out (λ x. shows given.options x.0 && p x), adds.shown p))
+            (omega (arith, all_sum (λ y. seen_by y) seen-sum, same.out (λ _. true), same.merged, adds.seen)))
 
         -- a directory with names, in whatever order they were walked
         pub Gives-listed : (stop : Outcome) (handed : Handed) → depth_of d ≤ limit → Closes given.options (closed given.options (evidence given made s) d c (holding held blocked)) mid after middle stop handed

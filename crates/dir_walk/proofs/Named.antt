@@ -13,21 +13,22 @@ use Rattle.dir_walk.specs.declared.handed.Handed.{Handed}
 use Rattle.dir_walk.specs.declared.outcome.Outcome.{Outcome}
 use Rattle.dir_walk.specs.Emissions.{Emission}
 use Rattle.dir_walk.specs.Emits.{Emits, Gives, shown_by, size, seen_by}
+use Rattle.dir_walk.specs.Opens.{count_within}
 use Rattle.dir_walk.specs.Report.{is_refused}
 use Rattle.dir_walk.specs.Told.{item_told}
 use Rattle.dir_walk.specs.Walked.{Walked}
 use Rattle.dir_walk.proofs.Counts.{count_by-append}
 use Rattle.dir_walk.proofs.Emitting.{Emits-then}
 
--- how many directories are entered by a directory and these of its names
-abbrev pub entered_by : Setting → Option Made → Sources → List ℕ → List (List ℕ) → ℕ
-entered_by given made s d taken = 1 + sum_by (λ q. size (item_told given made s (joined d q)).entered) taken
+-- how many directories within the limit are entered by a directory and these of its names
+abbrev pub entered_by : Setting → Option Made → Sources → ℕ → List ℕ → List (List ℕ) → ℕ
+entered_by given made s limit d taken = 1 + sum_by (λ q. count_within limit (item_told given made s (joined d q)).entered) taken
 
 -- one name more
-pub entered_more : (given : Setting) (made : Option Made) (s : Sources) (d : List ℕ) (names : List (List ℕ)) (i m n : ℕ) (q : List ℕ) → i < length names → q ≡ get_or names i q → m ≤ entered_by given made s d (take i names)
-    → n ≤ size (item_told given made s (joined d q)).entered → m + n ≤ entered_by given made s d (take (i + 1) names)
-entered_more given made s d names i m n q inside is so_far here =
-    let f : List ℕ → ℕ = λ r. size (item_told given made s (joined d r)).entered in omega (arith, so_far, here, sum_by_more f names i q inside, ap f is)
+pub entered_more : (given : Setting) (made : Option Made) (s : Sources) (limit : ℕ) (d : List ℕ) (names : List (List ℕ)) (i m n : ℕ) (q : List ℕ) → i < length names → q ≡ get_or names i q → m ≤ entered_by given made s limit d (take i names)
+    → n ≤ count_within limit (item_told given made s (joined d q)).entered → m + n ≤ entered_by given made s limit d (take (i + 1) names)
+entered_more given made s limit d names i m n q inside is so_far here =
+    let f : List ℕ → ℕ = λ r. count_within limit (item_told given made s (joined d r)).entered in omega (arith, so_far, here, sum_by_more f names i q inside, ap f is)
 
 pub record SoFar (given : Setting) (made : Option Made) (s : Sources) (limit : ℕ) (d : List ℕ) (taken : List (List ℕ)) (before after : Option (List Emission)) (start stop : Outcome) (held : List Entry) (blocked : Bool) : Type 0 where
   pub emits : Emits before after start stop (λ p. sum_by (λ q. shown_by given.options p (item_told given made s (joined d q)).out) taken) (sum_by (λ q. seen_by (item_told given made s (joined d q))) taken)

@@ -6,7 +6,7 @@ use Rattle.std.specs.Cmp.Lexicographic.{same_text}
 use Rattle.std.proofs.lemmas.Cmp.{nat_list_eq_equiv}
 use Rattle.std.proofs.lemmas.List.Sums.{sum_by-cons}
 use Rattle.gitbase_core.specs.Path.{joined}
-use Rattle.worktree_fs.specs.Join.{at_child}
+use Rattle.worktree_fs.specs.Last.{at_child}
 use Rattle.worktree_fs.specs.Tree.{Node, Names, none, named, names_of, child}
 use Rattle.dir_classify.specs.Chosen.{Chosen}
 use Rattle.dir_classify.specs.Evidence.{Evidence}

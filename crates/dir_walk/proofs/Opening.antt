@@ -1,5 +1,5 @@
 -- Directories that are opened, one call after another, and what is read for their rules.
-use Rattle.std.proofs.Common.{◌≡◌, ℕ, ◌+◌, ◌≤◌, not, List, [], ◌∷◌, ◌++◌, Bool, true, false, cond, Option, Some, None, Result, inl, inr, length, refl, sym, ap, ◌∙◌, arith}
+use Rattle.std.proofs.Common.{◌≡◌, ℕ, ◌+◌, ◌-◌, ◌≤◌, not, List, [], ◌∷◌, ◌++◌, Bool, true, false, cond, Option, Some, None, Result, inl, inr, length, refl, sym, ap, ◌∙◌, arith}
 use Rattle.std.specs.Str.{bytes_eq}
 use Rattle.std.proofs.lemmas.Cmp.{nat_list_eq_equiv}
 use Rattle.gitbase_core.specs.Path.{components, joined}
@@ -7,7 +7,7 @@ use Rattle.worktree_fs.specs.declared.interrupt.Interrupt.{Ghosts as InterruptOf
 use Rattle.worktree_fs.specs.declared.worktree.Worktree.{Ghosts as WorktreeOf}
 use Rattle.worktree_fs.specs.Causes.{with_more}
 use Rattle.worktree_fs.specs.Naming.{IsName}
-use Rattle.worktree_fs.specs.Paths.{common_front, without_last}
+use Rattle.worktree_fs.specs.Paths.{common_front, all_but_last}
 use Rattle.worktree_fs.specs.PathStack.{IsOnWay, kept}
 use Rattle.worktree_fs.proofs.Spelled.{without_last-snoc}
 use Rattle.worktree_stack.proofs.Looking.{length-fronts}
@@ -85,13 +85,13 @@ module _ {W I : Type 0} {w : WorktreeOf W} {i : InterruptOf I} where
   module _ {o : Chosen} where
     -- nothing is opened
     pub opens-none : {w0 w1 : W} {i0 i1 : I} {a b : Outcome} {old new : Option Stacked} {names : List (List ℕ)} {spare : ℕ} {Within : ℕ → Type 0} → Within 0 → w.lists w1 ≡ w.lists w0 → b.read_dir_calls ≡ a.read_dir_calls
-        → with_more (i.questions i0) 0 ≤ i.questions i1
+        → with_more (i.questions i0) (i.raised i1 - i.raised i0) ≤ i.questions i1
         → (reads_rules_alone o ≡ true → tells_attributes (made_with old) ≡ false → w.reads w1 + pushed_to (pushed_in old) names ≤ w.reads w0 + pushed_to (pushed_in new) names + spare)
         → OpensWithin w i w0 w1 i0 i1 a b o old new names 0 spare Within
     opens-none none lists read asked reads =
         record {
           opened = 0;
-          opens = record { listed = λ small. omega (arith, lists, small); counted = λ small. omega (arith, read, small); asked = asked };
+          opens = record { listed = λ small. omega (arith, lists, small); counted = λ small. omega (arith, read, small); asked = omega (arith, asked) };
           within = none;
           reads = λ on alone. omega (arith, reads on alone);
         }
@@ -109,7 +109,7 @@ module _ {W I : Type 0} {w : WorktreeOf W} {i : InterruptOf I} where
 
     -- and then nothing more
     pub opens-still : {w0 w1 w2 : W} {i0 i1 i2 : I} {a b c : Outcome} {old new : Option Stacked} {names : List (List ℕ)} {own spare : ℕ} {First Within : ℕ → Type 0} → ((n : ℕ) → First n → Within n)
-        → OpensWithin w i w0 w1 i0 i1 a b o old new names own 0 First → w.lists w2 ≡ w.lists w1 → c.read_dir_calls ≡ b.read_dir_calls → with_more (i.questions i1) 0 ≤ i.questions i2
+        → OpensWithin w i w0 w1 i0 i1 a b o old new names own 0 First → w.lists w2 ≡ w.lists w1 → c.read_dir_calls ≡ b.read_dir_calls → with_more (i.questions i1) (i.raised i2 - i.raised i1) ≤ i.questions i2
         → (reads_rules_alone o ≡ true → w.reads w2 ≡ w.reads w1) → OpensWithin w i w0 w2 i0 i2 a c o old new names own spare Within
     opens-still so one lists read asked reads =
         record {
@@ -159,8 +159,8 @@ module _ {W I : Type 0} {w : WorktreeOf W} {i : InterruptOf I} where
 -- ---- the class of a path
 
 module _ (d name : List ℕ) (is : IsName name) where
-  above : without_last (components (joined d name)) ≡ components d
-  above = ap without_last (components-child d name is) ∙ without_last-snoc (components d) name
+  above : all_but_last (components (joined d name)) ≡ components d
+  above = ap all_but_last (components-child d name is) ∙ without_last-snoc (components d) name
 
   stays : (at : Option (List (List ℕ))) → length (pushed (staying at (components (joined d name)))) ≡ pushed_to at (components d)
   stays None = refl

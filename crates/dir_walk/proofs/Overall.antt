@@ -59,15 +59,15 @@ module _ {W I T : Type 0} {w : WorktreeOf W} {i : InterruptOf I} {w0 w1 : W} {i0
       in_numbers opened (Err e) is so_far = tt
 
 -- no more are opened than the walk enters
-pub enters-walk : {W F D T : Type 0} (w : WorktreeOf W) (f : FindOf F) (d : DelegateOf D) {w0 w1 w2 : W} {o0 : F} {old : Option Stacked} {d0 : D} (recursion : Recursion) (given : Setting) (explicit : Option (List ℕ)) (root : List ℕ) (result : Result T Error) (less : ℕ)
+pub enters-walk : {W F D T : Type 0} (w : WorktreeOf W) (f : FindOf F) (d : DelegateOf D) {w0 w1 w2 : W} {o0 : F} {old : Option Stacked} {d0 : D} (recursion : Recursion) (given : Setting) (explicit : Option (List ℕ)) (limit : ℕ) (root : List ℕ) (result : Result T Error) (less : ℕ)
     → Asks w w0 w1 → w.faults w1 ≤ w.faults w2 → d.is_default d0 ≡ recursion.is_default
     → ((t : Names) → w.told w0 ≡ Some t → NotIncreased (w.faults w0) (w.faults w1) → traversal_root given t explicit ≡ rooted root) → less ≤ refused_one result
-    → (n : ℕ) → EntersFrom w f d w1 w2 o0 old d0 given root less n → EntersInWalk w f w0 w2 o0 old recursion given explicit result n
-enters-walk w f d {w0 = w0} {w1 = w1} {w2 = w2} {old = old} recursion given explicit root result less keeps more by rooted_is fits n few = λ s tells default quiet.
+    → (n : ℕ) → EntersFrom w f d w1 w2 o0 old d0 given root limit less n → EntersInWalk w f w0 w2 o0 old recursion given explicit limit result n
+enters-walk w f d {w0 = w0} {w1 = w1} {w2 = w2} {old = old} recursion given explicit limit root result less keeps more by rooted_is fits n few = λ s tells default quiet.
     let first : NotIncreased (w.faults w0) (w.faults w1) = omega (arith, quiet, more) in
     let second : NotIncreased (w.faults w1) (w.faults w2) = let k = keeps.faults in omega (arith, quiet, k) in
     let most = few s (record { tells = record { tree_is = keeps.tree ∙ tells.tells.tree_is; objects_are = tells.tells.objects_are }; in_step = tells.in_step }) (by ∙ default) second in
-    omega (arith, most, most-walked given (made_with old) s explicit root less (refused_one result) (rooted_is s.tree tells.tells.tree_is first) fits)
+    omega (arith, most, most-walked given (made_with old) s explicit limit root less (refused_one result) (rooted_is s.tree tells.tells.tree_is first) fits)
 
 -- ---- what is given
 

@@ -8,7 +8,7 @@ use Rattle.worktree_fs.specs.Tree.{Names, child, look, found, directory}
 use Rattle.worktree_fs.specs.Naming.{IsName}
 use Rattle.worktree_fs.specs.Paths.{is_dots, is_normal, full_path}
 use Rattle.std.proofs.lemmas.Bool.{and_parts}
-use Rattle.worktree_fs.specs.Join.{at_child}
+use Rattle.worktree_fs.specs.Last.{at_child}
 use Rattle.worktree_fs.proofs.Join.{look-join, look-join_slash, look-join_empty}
 use Rattle.worktree_fs.proofs.NameParts.{name_parts, pieces-name}
 use Rattle.worktree_fs.proofs.Texts.{pieces-join}

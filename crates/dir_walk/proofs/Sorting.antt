@@ -143,13 +143,6 @@ unique (x ∷ xs) (y ∷ ys) up up' same distinct =
     (record { once = λ q. omega (arith, distinct.once q, count_by-cons (λ e. bytes_eq q (path_of e)) x xs) }) in
     ap (λ (z : Emission). z ∷ xs) e ∙ ap (λ (zs : List Emission). y ∷ zs) rest
 
--- a sort by path gives by_path
-pub by_path-from_sort : (xs ys zs : List Emission) → SameCounts xs ys → IsSortedBy is_before ys → SameCounts zs xs → HasDistinctPaths zs → ys ≡ by_path zs
-by_path-from_sort xs ys zs moved up same distinct =
-    unique ys (by_path zs) (IsAscending-from_sort ys up) (IsAscending-by_path zs)
-    (λ p. omega (arith, moved p, same p, count_by-by_path p zs))
-    (record { once = λ q. omega (arith, distinct.once q, moved (λ e. bytes_eq q (path_of e)), same (λ e. bytes_eq q (path_of e))) })
-
 -- the order in which entries were met leaves no trace
 pub by_path-same : (xs ys : List Emission) → SameCounts xs ys → HasDistinctPaths ys → by_path xs ≡ by_path ys
 by_path-same xs ys same distinct =

@@ -23,9 +23,8 @@ use Rattle.dir_walk.specs.declared.delegate.Delegate.{Ghosts as DelegateOf}
 use Rattle.dir_walk.specs.declared.handed.Stop.{Stop}
 use Rattle.dir_walk.specs.declared.outcome.Outcome.{Outcome}
 use Rattle.dir_walk.specs.Emissions.{Emission, plain}
-use Rattle.dir_walk.specs.Emits.{Emits, GivesAll, IsPart, shown_by}
+use Rattle.dir_walk.specs.Emits.{Emits, GivesAll, IsPartOfAll, Within, shown_by}
 use Rattle.dir_walk.specs.Refused.{DirectoryRefuses, IsNoAccess, IsTooDeep, IsUnlisted}
-use Rattle.dir_walk.specs.Report.{out_of}
 use Rattle.dir_walk.specs.Root.{is_no_root, is_root_entered, look_root, only, walked_at}
 use Rattle.dir_walk.specs.Rooting.{IsRoot}
 use Rattle.dir_walk.specs.Starts.{PutsRoot, StartGives}
@@ -73,8 +72,8 @@ module _ (given : Setting) (made : Option Made) (s : Sources) (root : List ℕ) 
     pub gives-entered : (limit : ℕ) (before after : Option (List Emission)) (start stop : Outcome) → GivesAll o limit ev (directory_told given made s root r.outcome) before after start stop → StartGives given made s root limit before after start stop
     gives-entered limit before after start stop gives = record { w = directory_told given made s root r.outcome; walked_is = walked-entered; read = read-at; gives = gives }
 
-    pub part-entered : (w : Walked) (before after : Option (List Emission)) → walked_at given made s root ≡ Some w → IsPart o (out_of (directory_told given made s root r.outcome)) before after → IsPart o (out_of w) before after
-    part-entered w before after walk part = subst (λ (v : Walked). IsPart o (out_of v) before after) (same_some (sym walked-entered ∙ walk)) part
+    pub part-entered : (w : Walked) (before after : Option (List Emission)) (start stop : Outcome) → walked_at given made s root ≡ Some w → IsPartOfAll o (directory_told given made s root r.outcome) before after start stop → IsPartOfAll o w before after start stop
+    part-entered w before after start stop walk part = subst (λ (v : Walked). IsPartOfAll o v before after start stop) (same_some (sym walked-entered ∙ walk)) part
 
     pub refuses-entered : (limit : ℕ) (StoreFailed : Type 0) (e : Error) → DirectoryRefuses given made s limit ⊥ root r.outcome e → StartRefuses given made s root limit StoreFailed e
     refuses-entered limit F e refused = go e refused
@@ -136,12 +135,12 @@ module _ (given : Setting) (made : Option Made) (s : Sources) (root : List ℕ) 
             gives = record { emits = Emits-as before after start stop _ _ 1 _ 0 _ emits (λ p. refl) (omega arith) refl; whole = refl };
           }
 
-    pub part-only : (w : Walked) (before after : Option (List Emission)) → walked_at given made s root ≡ Some w → IsPart o (plain (entry_at r.path r.outcome) ∷ []) before after → IsPart o (out_of w) before after
-    part-only w before after walk part = go (is_empty root && not (holds_names r.outcome.disk_kind)) (sym unentered ∙ walk)
+    pub part-only : (w : Walked) (before after : Option (List Emission)) (start stop : Outcome) → walked_at given made s root ≡ Some w → Within before after start stop (λ p. shown_by o p (plain (entry_at r.path r.outcome) ∷ [])) 1 → IsPartOfAll o w before after start stop
+    part-only w before after start stop walk part = go (is_empty root && not (holds_names r.outcome.disk_kind)) (sym unentered ∙ walk)
       where
-        go : (b : Bool) → (if b then None else Some (only (entry_at r.path r.outcome))) ≡ Some w → IsPart o (out_of w) before after
+        go : (b : Bool) → (if b then None else Some (only (entry_at r.path r.outcome))) ≡ Some w → IsPartOfAll o w before after start stop
         go true e = absurd (cc e)
-        go false e = subst (λ (v : Walked). IsPart o (out_of v) before after) (same_some e) part
+        go false e = subst (λ (v : Walked). IsPartOfAll o v before after start stop) (same_some e) part
 
     pub no-root : is_empty root ≡ true → holds_names r.outcome.disk_kind ≡ false → IsNoRoot given made s root
     no-root empty holds =

@@ -21,6 +21,7 @@ use Rattle.dir_walk.specs.declared.handed.Handed.{Handed}
 use Rattle.dir_walk.specs.declared.outcome.Outcome.{Outcome}
 use Rattle.dir_walk.specs.Emissions.{Emission}
 use Rattle.dir_walk.specs.Emits.{IsPart, Gives, Closes, shown_by, size, seen_by}
+use Rattle.dir_walk.specs.Opens.{count_within}
 use Rattle.dir_walk.specs.Refused.{is_among, is_to_enter}
 use Rattle.dir_walk.specs.Report.{depth_of, is_refused}
 use Rattle.dir_walk.specs.Told.{Stands, IsEvidence, item_told, directory_told, look_name, look_directory}
@@ -97,21 +98,21 @@ module _ (given : Setting) (made : Option Made) (s : Sources) (p : List ℕ) (c 
       ∙ ap (λ (b : Bool). asking (child_asks given.options ev p at) p (entered_at given.options ev p c (look s.tree (full_path given.root p) b))) (sym some)
 
   -- the directories that it enters are entered under its name
-  pub entered-directory : (q : List ℕ) → p ≡ q → is_empty p ≡ false → enters given.options c false ≡ true → size (directory_told given made s p c).entered ≡ size (item_told given made s q).entered
-  entered-directory q at some into =
-      let P : List ℕ → Type 0 = λ r. size (directory_told given made s p c).entered ≡ size (item_told given made s r).entered in subst P at (ap {B = ℕ} (λ (w : Walked). size w.entered) (sym (told-entered some into)))
+  pub entered-directory : (limit : ℕ) (q : List ℕ) → p ≡ q → is_empty p ≡ false → enters given.options c false ≡ true → count_within limit (directory_told given made s p c).entered ≡ count_within limit (item_told given made s q).entered
+  entered-directory limit q at some into =
+      let P : List ℕ → Type 0 = λ r. count_within limit (directory_told given made s p c).entered ≡ count_within limit (item_told given made s r).entered in subst P at (ap {B = ℕ} (λ (w : Walked). count_within limit w.entered) (sym (told-entered some into)))
 
   module _ (q : List ℕ) (at : p ≡ q) (before after : Option (List Emission)) where
-    pub part-leaf : enters given.options c false ≡ false → IsPart given.options (leaf_at given.options (evidence given made s) p c).out before after → IsPart given.options (item_told given made s q).out before after
-    part-leaf out part =
-        let R : Walked → Type 0 = λ w. IsPart given.options w.out before after in
-        let P : List ℕ → Type 0 = λ r. IsPart given.options (item_told given made s r).out before after in
+    pub part-leaf : (start stop : Outcome) → enters given.options c false ≡ false → IsPart given.options (leaf_at given.options (evidence given made s) p c) before after start stop → IsPart given.options (item_told given made s q) before after start stop
+    part-leaf start stop out part =
+        let R : Walked → Type 0 = λ w. IsPart given.options w before after start stop in
+        let P : List ℕ → Type 0 = λ r. IsPart given.options (item_told given made s r) before after start stop in
         subst P at (subst R (sym (told-leaf out)) part)
 
-    pub part-directory : is_empty p ≡ false → enters given.options c false ≡ true → IsPart given.options (directory_told given made s p c).out before after → IsPart given.options (item_told given made s q).out before after
-    part-directory some into part =
-        let R : Walked → Type 0 = λ w. IsPart given.options w.out before after in
-        let P : List ℕ → Type 0 = λ r. IsPart given.options (item_told given made s r).out before after in
+    pub part-directory : (start stop : Outcome) → is_empty p ≡ false → enters given.options c false ≡ true → IsPart given.options (directory_told given made s p c) before after start stop → IsPart given.options (item_told given made s q) before after start stop
+    part-directory start stop some into part =
+        let R : Walked → Type 0 = λ w. IsPart given.options w before after start stop in
+        let P : List ℕ → Type 0 = λ r. IsPart given.options (item_told given made s r) before after start stop in
         subst P at (subst R (sym (told-entered some into)) part)
 
     module _ (limit : ℕ) (start stop : Outcome) (handed : Handed) (read : (asks given.options (evidence given made s) p None (on_disk given s.tree p true) && (evidence given made s).is_unread p) ≡ false) where
@@ -151,8 +152,8 @@ Gives-put o limit ev p c k before after start stop handed is closes =
       whole = leaf-whole o (entry_at p k) limit ev;
     })
 
-pub part-put : (o : Chosen) (ev : Evidence) (p : List ℕ) (c k : Class) (before after : Option (List Emission)) → k ≡ leaf_class o ev p c → IsPart o (leaf o (entry_at p k)).out before after → IsPart o (leaf_at o ev p c).out before after
-part-put o ev p c k before after is part = let R : Class → Type 0 = λ x. IsPart o (leaf o (entry_at p x)).out before after in subst R is part
+pub part-put : (o : Chosen) (ev : Evidence) (p : List ℕ) (c k : Class) (before after : Option (List Emission)) (start stop : Outcome) → k ≡ leaf_class o ev p c → IsPart o (leaf o (entry_at p k)) before after start stop → IsPart o (leaf_at o ev p c) before after start stop
+part-put o ev p c k before after start stop is part = let R : Class → Type 0 = λ x. IsPart o (leaf o (entry_at p x)) before after start stop in subst R is part
 
 -- ---- the paths of a name
 

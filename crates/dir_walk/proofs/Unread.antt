@@ -2,7 +2,7 @@
 use Rattle.std.proofs.Common.{◌≡◌, ℕ, List, [], ◌∷◌, ◌++◌, Bool, true, false, not, ◌&&◌, map, Some, refl, ap, ◌∙◌}
 use Rattle.std.specs.List.{list_all}
 use Rattle.gitbase_core.specs.Path.{components}
-use Rattle.worktree_fs.specs.Paths.{spelled, fronts, without_last}
+use Rattle.worktree_fs.specs.Paths.{spelled, fronts, all_but_last}
 use Rattle.std.specs.Prelude.{Err}
 use Rattle.worktree_stack.specs.Setup.{Made}
 use Rattle.worktree_stack.specs.Reading.{Sources, Tells, Refusal, reading, is_read}
@@ -41,4 +41,4 @@ pub unread-ancestor : (s : Sources) (rules : Made) (path : List ℕ) (Holds : Li
 unfolding is_unread_in
 unread-ancestor s rules path Holds refusal h is =
     ap not
-    (all-front (λ directory. is_read (reading rules s (spelled directory))) (without_last (components path)) h.ancestor h.rest h.above (ap is_read (is (spelled h.ancestor) h.holds)))
+    (all-front (λ directory. is_read (reading rules s (spelled directory))) (all_but_last (components path)) h.ancestor h.rest h.above (ap is_read (is (spelled h.ancestor) h.holds)))

@@ -1,14 +1,14 @@
 -- A walk is what is walked from its traversal root.
-use Rattle.std.proofs.Common.{◌≡◌, ◌≤◌, ◌+◌, ℕ, List, length, arith, Option, Some, None, refl, sym, ap, ◌∙◌}
+use Rattle.std.proofs.Common.{◌≡◌, ◌≤◌, ◌+◌, ℕ, List, arith, Option, Some, None, refl, sym, ap, ◌∙◌}
 use Rattle.std.specs.Prelude.{option_map}
 use Rattle.worktree_stack.specs.Setup.{Made}
 use Rattle.worktree_stack.specs.Reading.{Sources}
 use Rattle.dir_classify.specs.Layers.{Setting, evidence}
 use Rattle.dir_classify.specs.Rooted.{way_to}
+use Rattle.dir_walk.specs.Opens.{count_within}
 use Rattle.dir_walk.specs.Root.{Rooted, Walk, missing, outside, rooted, through_link, traversal_root, walk_in, walk_of, walked_at}
 use Rattle.dir_walk.specs.Walked.{Walked}
 use Rattle.dir_walk.specs.Walks.{most_from, most_opened}
-use Rattle.dir_walk.proofs.Counts.{count_all}
 use Rattle.dir_walk.proofs.Lists.{same_some}
 
 pub same_root : {a b : List ℕ} → rooted a ≡ rooted b → a ≡ b
@@ -27,14 +27,14 @@ module _ (given : Setting) (made : Option Made) (s : Sources) (explicit : Option
   no-walk root r is = ap (walk_of given (evidence given made s) s.tree) r ∙ ap (option_map (walk_made root)) is
 
   -- as many directories are entered by it as are from there on
-  pub most-walked : (root : List ℕ) (less spare : ℕ) → traversal_root given s.tree explicit ≡ rooted root → less ≤ spare → most_from (walked_at given made s root) less ≤ most_opened (walk_in given made s explicit) spare
-  most-walked root less spare r fits = go (walked_at given made s root) refl
+  pub most-walked : (limit : ℕ) (root : List ℕ) (less spare : ℕ) → traversal_root given s.tree explicit ≡ rooted root → less ≤ spare → most_from limit (walked_at given made s root) less ≤ most_opened limit (walk_in given made s explicit) spare
+  most-walked limit root less spare r fits = go (walked_at given made s root) refl
     where
-      go : (v : Option Walked) → walked_at given made s root ≡ v → most_from v less ≤ most_opened (walk_in given made s explicit) spare
+      go : (v : Option Walked) → walked_at given made s root ≡ v → most_from limit v less ≤ most_opened limit (walk_in given made s explicit) spare
       go None is = omega arith
       go (Some w) is =
-          let whole : most_opened (walk_in given made s explicit) spare ≡ length w.entered + spare = ap {B = ℕ} (λ (k : Option Walk). most_opened k spare) (walk-at root w r is) in
-          omega (arith, whole, count_all w.entered, fits)
+          let whole : most_opened limit (walk_in given made s explicit) spare ≡ count_within limit w.entered + spare = ap {B = ℕ} (λ (k : Option Walk). most_opened limit k spare) (walk-at root w r is) in
+          omega (arith, whole, fits)
 
   pub record IsWalkAt (walk : Walk) : Type 0 where
     pub rooted_is : traversal_root given s.tree explicit ≡ rooted walk.root

@@ -1,5 +1,5 @@
 -- What every walk says, by how it ended.
-use Rattle.std.proofs.Common.{◌≡◌, inl, inr, ℕ, List, [], true, Option, Some, None, Result, Ok, Err, refl, ap, ◌∙◌, ◌≤◌, arith}
+use Rattle.std.proofs.Common.{◌≡◌, inl, inr, ℕ, List, [], true, false, Option, Some, None, Result, Ok, Err, refl, ap, ◌∙◌, ◌≤◌, arith}
 use Rattle.gitbase_core.specs.declared.find.Find.{Ghosts as FindOf}
 use Rattle.worktree_fs.specs.declared.interrupt.Interrupt.{Ghosts as InterruptOf}
 use Rattle.worktree_fs.specs.declared.worktree.Worktree.{Ghosts as WorktreeOf}
@@ -13,7 +13,7 @@ use Rattle.worktree_stack.specs.Setup.{Made}
 use Rattle.worktree_stack.specs.Stacked.{Stacked}
 use Rattle.dir_classify.specs.declared.error.Error.{Error}
 use Rattle.dir_classify.specs.declared.error.Error.TheVariants as errors
-use Rattle.dir_classify.specs.Excludes.{made_with}
+use Rattle.dir_classify.specs.Excludes.{made_with, maps_blobs}
 use Rattle.dir_classify.specs.Layers.{Setting}
 use Rattle.dir_classify.specs.Refused.{OnFault}
 use Rattle.dir_walk.specs.declared.handed.Stop.{Stop}
@@ -21,15 +21,17 @@ use Rattle.dir_walk.specs.declared.handed.Stop.TheVariants.{Refused}
 use Rattle.dir_walk.specs.declared.outcome.Outcome.{Outcome}
 use Rattle.dir_walk.specs.declared.strategy.Strategy.{Strategy}
 use Rattle.dir_walk.specs.declared.delegate.Delegate.{Ghosts as DelegateOf}
+use Rattle.dir_walk.specs.declared.strategy.Strategy.TheVariants.{Held}
 use Rattle.dir_walk.specs.Kept.{OnInterrupt, OnListingFault}
 use Rattle.dir_walk.specs.Root.{Walk, rooted, traversal_root, walk_in}
 use Rattle.dir_walk.specs.Rooting.{EndsIn, IsNormalized, RootAbout}
-use Rattle.dir_walk.specs.WalkRefused.{IsNoTop, OnNoRoot, Recursion, StartAbout, StartFound, StartRefuses}
+use Rattle.dir_walk.specs.WalkRefused.{IsNoTop, OnNoRoot, OnNoStart, Recursion, StartAbout, StartFound, StartRefuses}
 use Rattle.dir_walk.specs.Walks.{Ends, EntersInWalk, OpensDirectories, most_opened, ReadsAtMost, Tells, WalksWorktree}
 use Rattle.dir_walk.proofs.CallByCall.{Before-asked, Ends-after, unlisted}
 use Rattle.dir_walk.proofs.Walkable.{valid-memory}
 use Rattle.dir_walk.proofs.Keeping.{AsksStore-same, KeepsRules-same}
 use Rattle.dir_walk.proofs.Overall.{opens-nothing}
+use Rattle.dir_walk.proofs.Unstarted.{no-start-weaker, on-no-start}
 
 -- ---- there is no traversal root
 
@@ -81,6 +83,7 @@ module _ {W F I T : Type 0} (w : WorktreeOf W) (f : FindOf F) (i : InterruptOf I
         listing = listing-outside (Increased (w.list_faults w0) (w.list_faults w1)) given explicit e about;
         found = λ s told. inl (ends s.tree told);
         refused = λ s tells by quiet. inl (ends s.tree tells.tells.tree_is);
+        unstarted = on-no-start (keeps.lists, refl) e;
         no_root = λ s told quiet. no_root-outside ((traversal_root given s.tree explicit ≡ rooted []) × IsNoTop given (made_with r0) s recursion) given explicit e about;
         complete = λ s tells by quiet store_quiet calm is.
             valid-memory s (made_with r0) given explicit limit (w.faults w0) (w.faults w1) (f.faults o0) (f.faults o0) (i.raised i0) (i.raised i0) e (fault (f.faults o0) (f.faults o0))
@@ -88,6 +91,7 @@ module _ {W F I T : Type 0} (w : WorktreeOf W) (f : FindOf F) (i : InterruptOf I
         named = λ t told quiet. tt;
         worktree = unlisted (Before-asked {f = f} {o = o0} {rules = r0} keeps).worktree;
         store = AsksStore-same;
+        unmapped = λ held none. refl;
         rules = KeepsRules-same;
         interrupt = record { questions = omega arith; raised = omega arith };
         listed = tt;
@@ -117,9 +121,11 @@ module _ {W F I D T : Type 0} (w : WorktreeOf W) (f : FindOf F) (i : InterruptOf
       → ((s : Sources) → Tells w f w1 o0 r0 s → recursion.is_default ≡ true → NotIncreased (w.faults w1) (w.faults w2)
       → StartRefuses given (made_with r0) s root limit (Increased (f.faults o0) (f.faults o2)) e)
       → ((s : Sources) → w.told w1 ≡ Some s.tree → NotIncreased (w.faults w1) (w.faults w2) → OnNoRoot (IsNoTop given (made_with r0) s recursion) e)
-      → OpensDirectories w i w0 w2 i0 i2 strategy given (made_with r0) explicit outcome_of path_of (Err e) (EntersInWalk {T = T} w f w0 w2 o0 r0 recursion given explicit (Err e))
+      → OnNoStart ((w.lists w2 ≡ w.lists w1) × (i2 ≡ i0)) e
+      → (strategy ≡ Held → maps_blobs (made_with r0) ≡ false → o2 ≡ o0)
+      → OpensDirectories w i w0 w2 i0 i2 strategy given (made_with r0) explicit outcome_of path_of (Err e) (EntersInWalk {T = T} w f w0 w2 o0 r0 recursion given explicit limit (Err e))
       → WalksWorktree w f i w0 w2 o0 o2 i0 i2 r0 r2 strategy given explicit limit recursion outcome_of path_of (Err e)
-  walks-refused e here about found refused no_root opens =
+  walks-refused e here about found refused no_root unstarted unmapped opens =
       let ends = Ends-after w f i d (Err (Refused e)) (Before-asked keeps) here in
       let later : (s : Sources) → Tells w f w0 o0 r0 s → Tells w f w1 o0 r0 s =
       λ s tells. record { tells = record { tree_is = keeps.tree ∙ tells.tells.tree_is; objects_are = tells.tells.objects_are }; in_step = tells.in_step } in
@@ -135,12 +141,14 @@ module _ {W F I D T : Type 0} (w : WorktreeOf W) (f : FindOf F) (i : InterruptOf
         no_root = λ s told quiet.
             no_root-start (IsNoTop given (made_with r0) s recursion) ((traversal_root given s.tree explicit ≡ rooted []) × IsNoTop given (made_with r0) s recursion) (made_with r0) given.root root limit e about
             (λ top node. (rooted_is s.tree told (first quiet) ∙ ap rooted top, node)) (no_root s (keeps.tree ∙ told) (second quiet));
+        unstarted = no-start-weaker (λ same. (same.0 ∙ keeps.lists, same.1)) e unstarted;
         complete = λ s tells by quiet store_quiet calm is.
             valid-memory s (made_with r0) given explicit limit (w.faults w0) (w.faults w2) (f.faults o0) (f.faults o2) (i.raised i0) (i.raised i2) e ends.caused.fault ends.caused.interrupt
             (inr (root, rooted_is s.tree tells.tells.tree_is (first quiet), refused s (later s tells) by (second quiet))) quiet store_quiet calm is;
         named = λ t told quiet. tt;
         worktree = ends.worktree;
         store = ends.store;
+        unmapped = unmapped;
         rules = ends.rules;
         interrupt = ends.interrupt;
         listed = tt;
@@ -150,8 +158,9 @@ module _ {W F I D T : Type 0} (w : WorktreeOf W) (f : FindOf F) (i : InterruptOf
 
   -- or it was done, or broken off
   pub walks-done : (r : T) → path_of r ≡ full_path given.root root → (stop : Result (Unit {0}) Stop) → Ends w f i d w1 w2 o0 o2 i0 i2 r0 r2 d0 d2 stop → w.list_faults w2 ≡ w.list_faults w1 → i.raised i2 ≡ i.raised i0
-      → OpensDirectories w i w0 w2 i0 i2 strategy given (made_with r0) explicit outcome_of path_of (Ok r) (EntersInWalk {T = T} w f w0 w2 o0 r0 recursion given explicit (Ok r)) → WalksWorktree w f i w0 w2 o0 o2 i0 i2 r0 r2 strategy given explicit limit recursion outcome_of path_of (Ok r)
-  walks-done r full_is stop here lists calm opens =
+      → (strategy ≡ Held → maps_blobs (made_with r0) ≡ false → o2 ≡ o0)
+      → OpensDirectories w i w0 w2 i0 i2 strategy given (made_with r0) explicit outcome_of path_of (Ok r) (EntersInWalk {T = T} w f w0 w2 o0 r0 recursion given explicit limit (Ok r)) → WalksWorktree w f i w0 w2 o0 o2 i0 i2 r0 r2 strategy given explicit limit recursion outcome_of path_of (Ok r)
+  walks-done r full_is stop here lists calm unmapped opens =
       let ends = Ends-after w f i d stop (Before-asked keeps) here in
       record {
         about = tt;
@@ -161,10 +170,12 @@ module _ {W F I D T : Type 0} (w : WorktreeOf W) (f : FindOf F) (i : InterruptOf
         found = λ s told. tt;
         refused = λ s tells by quiet. tt;
         no_root = λ s told quiet. tt;
+        unstarted = tt;
         complete = λ s tells by quiet store_quiet raised is. tt;
         named = λ t told quiet. (root, rooted_is t told (omega (arith, quiet, here.worktree.faults)), full_is);
         worktree = ends.worktree;
         store = ends.store;
+        unmapped = unmapped;
         rules = ends.rules;
         interrupt = ends.interrupt;
         listed = lists ∙ keeps.list_faults;
@@ -175,9 +186,9 @@ module _ {W F I D T : Type 0} (w : WorktreeOf W) (f : FindOf F) (i : InterruptOf
 -- ---- a walk by another name
 
 -- a refusal may come with one more
-spare-more : (walk : Option Walk) → most_opened walk 0 ≤ most_opened walk 1
-spare-more None = omega arith
-spare-more (Some walk) = omega arith
+spare-more : (limit : ℕ) (walk : Option Walk) → most_opened limit walk 0 ≤ most_opened limit walk 1
+spare-more limit None = omega arith
+spare-more limit (Some walk) = omega arith
 
 -- a refusal names no root
 reads-refused : {S T : Type 0} (given : Setting) (explicit : Option (List ℕ)) (path_of : S → List ℕ) (other_path_of : T → List ℕ) (result : Result S Error) (e : Error) (before now opened : ℕ)
@@ -204,10 +215,12 @@ module _ {W F I S T : Type 0} (w : WorktreeOf W) (f : FindOf F) (i : InterruptOf
         found = h.found;
         refused = h.refused;
         no_root = h.no_root;
+        unstarted = h.unstarted;
         complete = h.complete;
         named = λ t told quiet. tt;
         worktree = h.worktree;
         store = h.store;
+        unmapped = h.unmapped;
         rules = h.rules;
         interrupt = h.interrupt;
         listed = tt;
@@ -234,10 +247,12 @@ module _ {W F I S T : Type 0} (w : WorktreeOf W) (f : FindOf F) (i : InterruptOf
         found = λ s told. tt;
         refused = λ s tells by quiet. tt;
         no_root = λ s told quiet. tt;
+        unstarted = tt;
         complete = λ s tells by quiet store_quiet calm is. tt;
         named = λ t told quiet. let n = h.named t told quiet in (n.0, n.1, path ∙ n.2);
         worktree = h.worktree;
         store = h.store;
+        unmapped = h.unmapped;
         rules = h.rules;
         interrupt = h.interrupt;
         listed = h.listed;
@@ -264,10 +279,12 @@ module _ {W F I S T : Type 0} (w : WorktreeOf W) (f : FindOf F) (i : InterruptOf
         found = λ s told. inl tt;
         refused = λ s tells by quiet. inl tt;
         no_root = λ s told quiet. tt;
+        unstarted = tt;
         complete = λ s tells by quiet store_quiet calm is. refl;
         named = λ t told quiet. tt;
         worktree = h.worktree;
         store = h.store;
+        unmapped = h.unmapped;
         rules = h.rules;
         interrupt = h.interrupt;
         listed = tt;
@@ -277,7 +294,7 @@ module _ {W F I S T : Type 0} (w : WorktreeOf W) (f : FindOf F) (i : InterruptOf
           listed = h.opens.listed;
           asked = h.opens.asked;
           counted = tt;
-          within = λ s tells by quiet. let most = h.opens.within s tells by quiet in let more = spare-more (walk_in given (made_with r0) s explicit) in omega (arith, most, more);
+          within = λ s tells by quiet. let most = h.opens.within s tells by quiet in let more = spare-more limit (walk_in given (made_with r0) s explicit) in omega (arith, most, more);
           reads = λ held on alone. reads-refused given explicit path_of other_path_of (Ok r) errors.OutOfMemory (w.reads w0) (w.reads w1) h.opens.opened (omega arith) (h.opens.reads held on alone);
         };
       }

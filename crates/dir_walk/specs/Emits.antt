@@ -34,13 +34,26 @@ pub record Emits (before after : Option (List Emission)) (start stop : Outcome) 
   pub read : start.read_dir_calls < 2 ^ 32 → stop.read_dir_calls ≡ min (start.read_dir_calls + more_read) (2 ^ 32 - 1)
 
 -- besides what was given before, no more entries that pass each test
-pub record Within (before after : Option (List Emission)) (more : (Emission → Bool) → ℕ) : Type 0 where
+pub record AddsWithin (before after : Option (List Emission)) (more : (Emission → Bool) → ℕ) : Type 0 where
   pub same : is_some after ≡ is_some before
   pub counts : is_some before ≡ true → (p : Emission → Bool) → count_by p (listed after) ≤ count_by p (listed before) + more p
 
+-- the same, and no more than so many were seen; the count stands at its type's end
+pub record Within (before after : Option (List Emission)) (start stop : Outcome) (more : (Emission → Bool) → ℕ) (most : ℕ) : Type 0 where
+  pub adds : AddsWithin before after more
+  pub seen : start.seen_entries < 2 ^ 32 → stop.seen_entries ≤ min (start.seen_entries + most) (2 ^ 32 - 1)
+
 -- besides what was given before, these are among the entries of `out` that are shown, none more often than there
-abbrev pub IsPart : Chosen → List Emission → Option (List Emission) → Option (List Emission) → Type 0
-IsPart o out before after = Within before after (λ p. shown_by o p out)
+abbrev pub IsAmong : Chosen → List Emission → Option (List Emission) → Option (List Emission) → Type 0
+IsAmong o out before after = AddsWithin before after (λ p. shown_by o p out)
+
+-- what was given and seen besides is among what is put out of `w` and shown, and what is met in it
+abbrev pub IsPart : Chosen → Walked → Option (List Emission) → Option (List Emission) → Outcome → Outcome → Type 0
+IsPart o w before after start stop = Within before after start stop (λ p. shown_by o p w.out) (seen_by w)
+
+-- the same of all of it, with what it hands up
+abbrev pub IsPartOfAll : Chosen → Walked → Option (List Emission) → Option (List Emission) → Outcome → Outcome → Type 0
+IsPartOfAll o w before after start stop = Within before after start stop (λ p. shown_by o p (out_of w)) (size (out_of w) + w.merged)
 
 -- what is held, put out by itself, and what is put out of it beneath a directory that is folded with a status
 abbrev pub put_plain : Chosen → List Entry → (Emission → Bool) → ℕ

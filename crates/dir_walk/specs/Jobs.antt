@@ -19,7 +19,7 @@ use Rattle.dir_walk.specs.Emits.{Gives, IsPart}
 use Rattle.dir_walk.specs.Given.{OnRefused}
 use Rattle.dir_walk.specs.Kept.{AsksInterrupt, Caused, Heeds, KeepsDelegate, KeepsTree}
 use Rattle.dir_walk.specs.Opens.{Enters, EntersAtMost, refused_walk}
-use Rattle.dir_walk.specs.Puts.{Hands, once_within}
+use Rattle.dir_walk.specs.Puts.{AddsShown, Hands, once_within}
 use Rattle.dir_walk.specs.Refused.{DirectoryRefuses, IsAbout, IsInTree}
 use Rattle.dir_walk.specs.Report.{depth_of}
 use Rattle.dir_walk.specs.Told.{Stands, directory_told}
@@ -34,7 +34,7 @@ pub record WalksJob {W F I D : Type 0} (w : WorktreeOf W) (f : FindOf F) (i : In
       → (limit : ℕ) → levels + depth_of path ≡ limit
       → IfOk result (Gives given.options limit (evidence given made s) (directory_told given made s path class) (d.given d0) (d.given d1) start stop)
   pub part : (made : Option Made) (s : Sources) → Stands given (w.told w0) (f.holds o0) rules blocked made s → NotIncreased (w.faults w0) (w.faults w1) → d.is_default d0 ≡ true
-      → OnErr result (IsPart given.options (directory_told given made s path class).out (d.given d0) (d.given d1))
+      → OnErr result (IsPart given.options (directory_told given made s path class) (d.given d0) (d.given d1) start stop)
   -- Each refusal has its cause.
   pub about : (limit : ℕ) → levels + depth_of path ≡ limit → IfErr result (OnRefused (IsAbout (made_with rules) given.root limit))
   pub found : (s : Sources) → w.told w0 ≡ Some s.tree → IfErr result (OnRefused (IsInTree given.root (f.holds o0) s (made_with rules)))
@@ -45,7 +45,8 @@ pub record WalksJob {W F I D : Type 0} (w : WorktreeOf W) (f : FindOf F) (i : In
   pub worktree : KeepsTree w w0 w1
   pub store : AsksStore f o0 o1
   pub interrupt : AsksInterrupt i i0 i1
-  pub enters : Enters i i0 i1 start stop (EntersAtMost w f d w0 w1 o0 rules d0 given blocked (λ made s. directory_told given made s path class) (refused_walk result))
+  pub enters : Enters i i0 i1 start stop (EntersAtMost w f d w0 w1 o0 rules d0 given blocked (levels + depth_of path) (λ made s. directory_told given made s path class) (refused_walk result))
   pub hands : Hands path (once_within path) (d.given d0) (d.given d1) start stop result
   pub delegate : KeepsDelegate d d0 d1
+  pub filtered : AddsShown given.options (d.given d0) (d.given d1)
   pub heeds : Heeds d d0 d1 result

@@ -1,5 +1,5 @@
 -- What a walk leaves of the interrupt and of the delegate, and how it ends.
-use Rattle.std.specs.Prelude.{◌≡◌, ◌≤◌, true, Result, IfErr, OnOk}
+use Rattle.std.specs.Prelude.{◌≡◌, ◌≤◌, ◌-◌, true, Result, IfErr, OnOk}
 use Rattle.gitbase_core.specs.declared.find.Find.{Ghosts as FindOf}
 use Rattle.worktree_fs.specs.declared.interrupt.Interrupt.{Ghosts as InterruptOf}
 use Rattle.worktree_fs.specs.declared.worktree.Worktree.{Ghosts as WorktreeOf}
@@ -21,9 +21,9 @@ pub record KeepsTree {W : Type 0} (w : WorktreeOf W) (before now : W) : Type 0 w
   pub lists : w.lists before ≤ w.lists now
   pub precomposes : w.precomposes now ≡ w.precomposes before
 
--- an interrupt that was asked, or not
+-- an interrupt that was asked at least as often as it was raised
 pub record AsksInterrupt {I : Type 0} (i : InterruptOf I) (before now : I) : Type 0 where
-  pub questions : with_more (i.questions before) 0 ≤ i.questions now
+  pub questions : with_more (i.questions before) (i.raised now - i.raised before) ≤ i.questions now
   pub raised : i.raised before ≤ i.raised now
 
 -- a delegate that was given entries

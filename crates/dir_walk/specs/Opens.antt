@@ -1,5 +1,5 @@
 -- Directories that are opened, over any worktree: what is counted of them, how often the interrupt is asked, and what is read.
-use Rattle.std.specs.Prelude.{◌≡◌, ◌≤◌, ◌<◌, ◌+◌, ◌-◌, ◌^◌, ◌&&◌, min, not, Bool, true, false, ℕ, List, length, Option, Some, None, Result, Ok, Err}
+use Rattle.std.specs.Prelude.{◌≡◌, ◌≤◌, ◌<◌, ◌+◌, ◌-◌, ◌^◌, ◌&&◌, min, not, nat_lt, Bool, true, false, ℕ, List, length, count_by, Option, Some, None, Result, Ok, Err}
 use Rattle.gitbase_core.specs.Path.{components}
 use Rattle.gitbase_core.specs.declared.find.Find.{Ghosts as FindOf}
 use Rattle.worktree_fs.specs.declared.interrupt.Interrupt.{Ghosts as InterruptOf}
@@ -18,16 +18,16 @@ use Rattle.dir_walk.specs.declared.handed.Stop.TheVariants.{Refused, Broken}
 use Rattle.dir_walk.specs.declared.outcome.Outcome.{Outcome}
 use Rattle.dir_walk.specs.declared.strategy.Strategy.{Strategy}
 use Rattle.dir_walk.specs.declared.strategy.Strategy.TheVariants.{Held, AtOnce}
-use Rattle.dir_walk.specs.Emits.{size}
+use Rattle.dir_walk.specs.Report.{depth_of}
 use Rattle.dir_walk.specs.Told.{Stands}
 use Rattle.dir_walk.specs.Walked.{Walked}
 
 -- So many directories were opened: they were listed, or that was refused. The worktree counted each as listed and the walk as
--- entered, and before each the interrupt was asked. A count stands at its type's end.
+-- entered, and before each the interrupt was asked, and once more where it was raised. A count stands at its type's end.
 pub record Opens {W I : Type 0} (w : WorktreeOf W) (i : InterruptOf I) (w0 w1 : W) (i0 i1 : I) (start stop : Outcome) (opened : ℕ) : Type 0 where
   pub listed : w.lists w0 < 2 ^ 64 → w.lists w1 ≡ with_more (w.lists w0) opened
   pub counted : start.read_dir_calls < 2 ^ 32 → stop.read_dir_calls ≡ min (start.read_dir_calls + opened) (2 ^ 32 - 1)
-  pub asked : with_more (i.questions i0) opened ≤ i.questions i1
+  pub asked : with_more (i.questions i0) (opened + (i.raised i1 - i.raised i0)) ≤ i.questions i1
 
 -- how many of the directories on the way to one, itself and the worktree root among them, hold their rules
 abbrev pub pushed_to : Option (List (List ℕ)) → List (List ℕ) → ℕ
@@ -56,7 +56,7 @@ pub record OpensWithin {W I : Type 0} (w : WorktreeOf W) (i : InterruptOf I) (w0
 pub record Enters {I : Type 0} (i : InterruptOf I) (i0 i1 : I) (start stop : Outcome) (Within : ℕ → Type 0) : Type 0 where
   pub opened : ℕ
   pub counted : start.read_dir_calls < 2 ^ 32 → stop.read_dir_calls ≡ min (start.read_dir_calls + opened) (2 ^ 32 - 1)
-  pub asked : with_more (i.questions i0) opened ≤ i.questions i1
+  pub asked : with_more (i.questions i0) (opened + (i.raised i1 - i.raised i0)) ≤ i.questions i1
   pub within : Within opened
 
 -- The same where the worktree counted no more than `own` of them as listed, as all others were opened over forks.
@@ -90,16 +90,20 @@ pub record OpensFrom {W I T : Type 0} (w : WorktreeOf W) (i : InterruptOf I) (w0
   pub opened : ℕ
   pub listed : IsListed strategy (w.lists w0) (w.lists w1) opened
   pub counted : start.read_dir_calls < 2 ^ 32 → stop.read_dir_calls ≡ min (start.read_dir_calls + opened) (2 ^ 32 - 1)
-  pub asked : with_more (i.questions i0) opened ≤ i.questions i1
+  pub asked : with_more (i.questions i0) (opened + (i.raised i1 - i.raised i0)) ≤ i.questions i1
   pub within : Within opened
   pub reads : strategy ≡ Held → reads_rules_alone o ≡ true → tells_attributes made ≡ false
       → w.reads w1 ≤ w.reads w0 + opened + length (components root) + refused_walk result
 
 -- ---- over what is told
 
+-- how many of some paths have no more components than the limit
+abbrev pub count_within : ℕ → List (List ℕ) → ℕ
+count_within limit paths = count_by (λ path. not (nat_lt limit (depth_of path))) paths
+
 -- Where what is walked is told and the worktree did not fail, and a delegate recurses by default, no more directories are opened than
--- are entered in what is walked; `spare` more may be, where the walk is refused.
-abbrev pub EntersAtMost : {W F D : Type 0} → WorktreeOf W → FindOf F → DelegateOf D → W → W → F → Option Stacked → D → Setting → Option (List ℕ) → (Option Made → Sources → Walked) → ℕ → ℕ → Type 0
-EntersAtMost w f d w0 w1 o0 rules d0 given blocked walked spare opened =
+-- are entered in what is walked and lie within the limit; `spare` more may be, where the walk is refused.
+abbrev pub EntersAtMost : {W F D : Type 0} → WorktreeOf W → FindOf F → DelegateOf D → W → W → F → Option Stacked → D → Setting → Option (List ℕ) → ℕ → (Option Made → Sources → Walked) → ℕ → ℕ → Type 0
+EntersAtMost w f d w0 w1 o0 rules d0 given blocked limit walked spare opened =
     (made : Option Made) (s : Sources) → Stands given (w.told w0) (f.holds o0) rules blocked made s → NotIncreased (w.faults w0) (w.faults w1) → d.is_default d0 ≡ true
-    → opened ≤ size (walked made s).entered + spare
+    → opened ≤ count_within limit (walked made s).entered + spare

@@ -1,6 +1,7 @@
 -- Where a walk stands.
 use Rattle.std.specs.Prelude.{◌≡◌, ℕ, ◌≤◌, true, false, List, length, take, drop}
-use Rattle.gitbase_core.specs.Path.{components, directory_prefix, ends_in_slash}
+use Rattle.gitbase_core.specs.Path.{components, joined, directory_prefix, ends_in_slash}
+use Rattle.worktree_fs.specs.Naming.{IsName}
 use Rattle.worktree_fs.specs.Paths.{full_path, is_normal, spelled}
 
 -- a worktree root, and a path relative to it
@@ -21,3 +22,13 @@ pub record IsPlaced (root_length start : ℕ) (whole : List ℕ) : Type 0 where
 -- what contracts see of it
 abbrev pub standing : ℕ → ℕ → List ℕ → Standing
 standing root_length start whole = record { root = take root_length whole; path = drop start whole }
+
+-- `place` is that of a name in `directory`, whose whole path has so many bytes
+pub record IsPushed (bytes : ℕ) (directory place : Standing) : Type 0 where
+  pub bytes_are : bytes ≡ length (full_path directory.root directory.path)
+  pub plain : ends_in_slash directory.path ≡ false
+  pub normal : is_normal directory.path ≡ true
+  pub spelled_is : directory.path ≡ spelled (components directory.path)
+  pub name : List ℕ
+  pub is_name : IsName name
+  pub place_is : place ≡ record { root = directory.root; path = joined directory.path name }

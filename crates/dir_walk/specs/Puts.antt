@@ -1,14 +1,15 @@
 -- What a delegate is given in a call, over any worktree, and how that is counted.
-use Rattle.std.specs.Prelude.{◌≡◌, ◌⊎◌, ◌≤◌, ◌<◌, ◌+◌, ◌-◌, ◌^◌, min, ℕ, true, List, [], length, count_by, Option, is_some, option_to_list, Result, Ok, Err}
+use Rattle.std.specs.Prelude.{◌≡◌, ◌⊎◌, ◌≤◌, ◌<◌, ◌+◌, ◌-◌, ◌^◌, min, ℕ, true, not, List, [], length, count_by, Option, is_some, option_to_list, Result, Ok, Err}
 use Rattle.std.specs.List.{AllByRecursion}
 use Rattle.std.specs.Str.{bytes_eq}
 use Rattle.gitbase_core.specs.Path.{is_path_prefix}
 use Rattle.dir_classify.specs.declared.entry.Entry.{Entry}
+use Rattle.dir_classify.specs.Chosen.{Chosen}
 use Rattle.dir_classify.specs.Rooted.{LeadsTo}
 use Rattle.dir_walk.specs.declared.handed.Handed.{Handed}
 use Rattle.dir_walk.specs.declared.handed.Stop.{Stop}
 use Rattle.dir_walk.specs.declared.outcome.Outcome.{Outcome}
-use Rattle.dir_walk.specs.Emissions.{Emission, path_of}
+use Rattle.dir_walk.specs.Emissions.{Emission, path_of, shows}
 use Rattle.dir_walk.specs.Fold.{one_if}
 use Rattle.dir_walk.specs.Given.{listed}
 
@@ -21,6 +22,16 @@ given_at path given = count_by (λ x. bytes_eq path (path_of x)) given
 -- among entries that are held
 abbrev pub held_at : List ℕ → List Entry → ℕ
 held_at path held = count_by (λ e. bytes_eq path e.rela_path) held
+
+-- ---- what is hidden
+
+-- among entries that were given, how many the options hide
+abbrev pub hidden_in : Chosen → List Emission → ℕ
+hidden_in o given = count_by (λ x. not (shows o x.0)) given
+
+-- of what was given since, the options hide nothing
+abbrev pub AddsShown : Chosen → Option (List Emission) → Option (List Emission) → Type 0
+AddsShown o before after = hidden_in o (listed after) ≡ hidden_in o (listed before)
 
 -- ---- how often it may be given
 

@@ -15,9 +15,10 @@ use Rattle.dir_walk.specs.declared.delegate.Delegate.{Ghosts as DelegateOf}
 use Rattle.dir_walk.specs.declared.handed.Stop.{Stop}
 use Rattle.dir_walk.specs.declared.outcome.Outcome.{Outcome}
 use Rattle.dir_walk.specs.Emissions.{Emission, plain}
-use Rattle.dir_walk.specs.Emits.{Emits, GivesAll, IsPart, shown_by}
+use Rattle.dir_walk.specs.Emits.{Emits, GivesAll, Within, shown_by}
 use Rattle.dir_walk.specs.Given.{OnRefused}
 use Rattle.dir_walk.specs.Root.{walked_at}
+use Rattle.dir_walk.specs.WalkRefused.{OnNoStart}
 use Rattle.dir_walk.specs.Walked.{Walked}
 
 -- It gives all that is walked from there, and the rules of all paths on the way could be read.
@@ -44,5 +45,6 @@ OnlyRoot top root reached errors.OutOfMemory = Unit {0}
 pub record PutsRoot {D T : Type 0} (d : DelegateOf D) (o : Chosen) (top root : List ℕ) (reached : RootOutcome) (d0 d1 : D) (start stop : Outcome) (result : Result T Stop) : Type 0 where
   pub there : OnOk result ((is_empty root && not (holds_names reached.outcome.disk_kind)) ≡ false)
   pub gives : OnOk result (Emits (d.given d0) (d.given d1) start stop (λ p. shown_by o p (plain (entry_at reached.path reached.outcome) ∷ [])) 1 0)
-  pub part : OnErr result (IsPart o (plain (entry_at reached.path reached.outcome) ∷ []) (d.given d0) (d.given d1))
+  pub part : OnErr result (Within (d.given d0) (d.given d1) start stop (λ p. shown_by o p (plain (entry_at reached.path reached.outcome) ∷ [])) 1)
   pub refused : IfErr result (OnRefused (OnlyRoot top root reached))
+  pub unfed : IfErr result (OnRefused (OnNoStart (d.given d1 ≡ d.given d0)))

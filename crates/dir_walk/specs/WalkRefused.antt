@@ -162,6 +162,19 @@ OnNoRoot Holds (errors.ReadDir path why) = Unit {0}
 OnNoRoot Holds (errors.DirEntry path) = Unit {0}
 OnNoRoot Holds errors.OutOfMemory = Unit {0}
 
+-- what holds where there is nothing to start from: no traversal root, or the worktree root is refused
+abbrev pub OnNoStart : Type 0 → Error → Type 0
+OnNoStart Holds errors.Interrupted = Unit {0}
+OnNoStart Holds (errors.WorktreeRootIsFile root) = Holds
+OnNoStart Holds (errors.NormalizeRoot root) = Holds
+OnNoStart Holds (errors.SymlinkInRoot whole worktree_root index) = Holds
+OnNoStart Holds (errors.SymlinkMetadata full why) = Holds
+OnNoStart Holds (errors.ExcludesAccess e) = Unit {0}
+OnNoStart Holds (errors.TooDeep path) = Unit {0}
+OnNoStart Holds (errors.ReadDir path why) = Unit {0}
+OnNoStart Holds (errors.DirEntry path) = Unit {0}
+OnNoStart Holds errors.OutOfMemory = Unit {0}
+
 -- ---- the whole: there is no traversal root, or what is walked from it is refused
 
 -- what a refusal says of what was handed in

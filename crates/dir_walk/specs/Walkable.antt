@@ -5,7 +5,7 @@ use Rattle.gitbase_core.specs.Objects.{Object, object_at, blob, other as other_o
 use Rattle.gitbase_core.specs.Path.{components}
 use Rattle.worktree_fs.specs.declared.answers.NodeKind.TheVariants as nodes
 use Rattle.worktree_fs.specs.Answers.{kind_of}
-use Rattle.worktree_fs.specs.Paths.{full_path, spelled, without_last}
+use Rattle.worktree_fs.specs.Paths.{full_path, spelled, all_but_last}
 use Rattle.worktree_fs.specs.Tree.{Names, Look, look, found, absent, too_many_links, file, link, directory, other}
 use Rattle.worktree_stack.specs.Reading.{Place, Sources, in_store, in_tree, places_of}
 use Rattle.worktree_stack.specs.Setup.{Made}
@@ -51,7 +51,7 @@ is_fit s (in_store path id) = is_fit_object (object_at s.objects id)
 -- so is each place for the rules of each directory above a path
 abbrev pub AreFitAbove : Sources → Made → List ℕ → Type 0
 AreFitAbove s made path =
-    (above rest : List (List ℕ)) → without_last (components path) ≡ above ++ rest → list_all (is_fit s) (places_of made (spelled above)) ≡ true
+    (above rest : List (List ℕ)) → all_but_last (components path) ≡ above ++ rest → list_all (is_fit s) (places_of made (spelled above)) ≡ true
 
 -- ---- directories
 

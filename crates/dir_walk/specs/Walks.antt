@@ -14,7 +14,7 @@ use Rattle.worktree_stack.specs.Setup.{Made}
 use Rattle.worktree_stack.specs.Stacked.{Stacked}
 use Rattle.dir_classify.specs.declared.error.Error.{Error}
 use Rattle.dir_classify.specs.declared.error.Error.TheVariants.{OutOfMemory}
-use Rattle.dir_classify.specs.Excludes.{made_with, tells_attributes, TellsIf, InStepIf}
+use Rattle.dir_classify.specs.Excludes.{made_with, maps_blobs, tells_attributes, TellsIf, InStepIf}
 use Rattle.dir_classify.specs.Kept.{KeepsRules}
 use Rattle.dir_classify.specs.Layers.{Setting, evidence}
 use Rattle.dir_classify.specs.Refused.{OnFault}
@@ -27,16 +27,16 @@ use Rattle.dir_walk.specs.declared.strategy.Strategy.{Strategy}
 use Rattle.dir_walk.specs.declared.strategy.Strategy.TheVariants.{Held}
 use Rattle.dir_walk.specs.Covered.{Covers, as_matching, without_folding}
 use Rattle.dir_walk.specs.Emissions.{Emission}
-use Rattle.dir_walk.specs.Emits.{IsPart, size}
+use Rattle.dir_walk.specs.Emits.{IsAmong}
 use Rattle.dir_walk.specs.Given.{listed}
 use Rattle.dir_walk.specs.Kept.{AsksInterrupt, Caused, Heeds, KeepsDelegate, KeepsTree, OnInterrupt, OnListingFault}
-use Rattle.dir_walk.specs.Opens.{IsListed, reads_rules_alone}
-use Rattle.dir_walk.specs.Puts.{AddsAtMost, once_at, once_within}
+use Rattle.dir_walk.specs.Opens.{count_within, IsListed, reads_rules_alone}
+use Rattle.dir_walk.specs.Puts.{AddsAtMost, AddsShown, hidden_in, once_at, once_within}
 use Rattle.dir_walk.specs.Report.{counts, is_walk_refused, out_of, shown}
 use Rattle.dir_walk.specs.Rooting.{IsNormalized}
 use Rattle.dir_walk.specs.Root.{Walk, rooted, traversal_root, walk_in, walked_at}
 use Rattle.dir_walk.specs.Safe.{IsSafe}
-use Rattle.dir_walk.specs.WalkRefused.{IsNoTop, OnNoRoot, Recursion, WalkAbout, WalkFound, WalkRefuses, recursion_of}
+use Rattle.dir_walk.specs.WalkRefused.{IsNoTop, OnNoRoot, OnNoStart, Recursion, WalkAbout, WalkFound, WalkRefuses, recursion_of}
 use Rattle.dir_walk.specs.Walkable.{IsValid}
 use Rattle.dir_walk.specs.Walked.{Walked}
 
@@ -57,35 +57,35 @@ abbrev pub ReadsAtMost : {T : Type 0} → Setting → Option (List ℕ) → (T �
 ReadsAtMost given explicit path_of result before now opened =
     (now ≡ before) ⊎ ((root : List ℕ) × IsRootOf given explicit path_of result root × (now ≤ before + opened + length (components root) + refused_one result))
 
--- how many directories a walk enters, if there is one; `spare` more may be opened
-abbrev pub most_opened : Option Walk → ℕ → ℕ
-most_opened None spare = 0
-most_opened (Some walk) spare = length walk.gives.entered + spare
+-- how many directories a walk enters that lie within the limit, if there is a walk; `spare` more may be opened
+abbrev pub most_opened : ℕ → Option Walk → ℕ → ℕ
+most_opened limit None spare = 0
+most_opened limit (Some walk) spare = count_within limit walk.gives.entered + spare
 
 -- and of what is walked from a traversal root on
-abbrev pub most_from : Option Walked → ℕ → ℕ
-most_from None spare = 0
-most_from (Some w) spare = size w.entered + spare
+abbrev pub most_from : ℕ → Option Walked → ℕ → ℕ
+most_from limit None spare = 0
+most_from limit (Some w) spare = count_within limit w.entered + spare
 
 -- Over what is told, without a fault of the worktree and where recursion is by default, no more directories are opened than the walk
--- enters, none where there is no walk; a refusal may come with one more.
-abbrev pub EntersInWalk : {W F T : Type 0} → WorktreeOf W → FindOf F → W → W → F → Option Stacked → Recursion → Setting → Option (List ℕ) → Result T Error → ℕ → Type 0
-EntersInWalk w f w0 w1 o0 old recursion given explicit result opened =
+-- enters within the limit, none where there is no walk; a refusal may come with one more.
+abbrev pub EntersInWalk : {W F T : Type 0} → WorktreeOf W → FindOf F → W → W → F → Option Stacked → Recursion → Setting → Option (List ℕ) → ℕ → Result T Error → ℕ → Type 0
+EntersInWalk w f w0 w1 o0 old recursion given explicit limit result opened =
     (s : Sources) → Tells w f w0 o0 old s → recursion.is_default ≡ true → NotIncreased (w.faults w0) (w.faults w1)
-    → opened ≤ most_opened (walk_in given (made_with old) s explicit) (refused_one result)
+    → opened ≤ most_opened limit (walk_in given (made_with old) s explicit) (refused_one result)
 
 -- the same of what is walked
-abbrev pub EntersWalked : {W F D : Type 0} → WorktreeOf W → FindOf F → DelegateOf D → W → W → F → Option Stacked → D → (Sources → Walked) → ℕ → ℕ → Type 0
-EntersWalked w f d w0 w1 o0 old d0 walked spare opened =
-    (s : Sources) → Tells w f w0 o0 old s → d.is_default d0 ≡ true → NotIncreased (w.faults w0) (w.faults w1) → opened ≤ size (walked s).entered + spare
+abbrev pub EntersWalked : {W F D : Type 0} → WorktreeOf W → FindOf F → DelegateOf D → W → W → F → Option Stacked → D → ℕ → (Sources → Walked) → ℕ → ℕ → Type 0
+EntersWalked w f d w0 w1 o0 old d0 limit walked spare opened =
+    (s : Sources) → Tells w f w0 o0 old s → d.is_default d0 ≡ true → NotIncreased (w.faults w0) (w.faults w1) → opened ≤ count_within limit (walked s).entered + spare
 
 -- and from a traversal root on
-abbrev pub EntersFrom : {W F D : Type 0} → WorktreeOf W → FindOf F → DelegateOf D → W → W → F → Option Stacked → D → Setting → List ℕ → ℕ → ℕ → Type 0
-EntersFrom w f d w0 w1 o0 old d0 given root spare opened =
-    (s : Sources) → Tells w f w0 o0 old s → d.is_default d0 ≡ true → NotIncreased (w.faults w0) (w.faults w1) → opened ≤ most_from (walked_at given (made_with old) s root) spare
+abbrev pub EntersFrom : {W F D : Type 0} → WorktreeOf W → FindOf F → DelegateOf D → W → W → F → Option Stacked → D → Setting → List ℕ → ℕ → ℕ → ℕ → Type 0
+EntersFrom w f d w0 w1 o0 old d0 given root limit spare opened =
+    (s : Sources) → Tells w f w0 o0 old s → d.is_default d0 ≡ true → NotIncreased (w.faults w0) (w.faults w1) → opened ≤ most_from limit (walked_at given (made_with old) s root) spare
 
 -- So many directories were opened, of which `Within` says how many: they were listed, or that was refused. The walk counted each as
--- entered, and before each the interrupt was asked. The worktree counted each as listed, or where subtrees are walked at once, over
+-- entered, and before each the interrupt was asked, and once more where it was raised. The worktree counted each as listed, or where subtrees are walked at once, over
 -- forks, at most one. Where files are read for their rules alone, the rules are ignore rules alone, and all is read over this
 -- worktree, it was read at most once for each and once for each component of the traversal root; a refusal may come with one more.
 pub record OpensDirectories {W I T : Type 0} (w : WorktreeOf W) (i : InterruptOf I) (w0 w1 : W) (i0 i1 : I) (strategy : Strategy) (given : Setting) (made : Option Made) (explicit : Option (List ℕ))
@@ -93,7 +93,7 @@ pub record OpensDirectories {W I T : Type 0} (w : WorktreeOf W) (i : InterruptOf
   pub opened : ℕ
   pub within : Within opened
   pub listed : IsListed strategy (w.lists w0) (w.lists w1) opened
-  pub asked : with_more (i.questions i0) opened ≤ i.questions i1
+  pub asked : with_more (i.questions i0) (opened + (i.raised i1 - i.raised i0)) ≤ i.questions i1
   pub counted : IfOk result (λ r. (outcome_of r).read_dir_calls ≡ min opened (2 ^ 32 - 1))
   pub reads : strategy ≡ Held → reads_rules_alone given.options ≡ true → tells_attributes made ≡ false → ReadsAtMost given explicit path_of result (w.reads w0) (w.reads w1) opened
 
@@ -112,6 +112,8 @@ pub record WalksWorktree {W F I T : Type 0} (w : WorktreeOf W) (f : FindOf F) (i
       → IfErr result (WalkRefuses given (made_with old) s explicit limit (Increased (f.faults o0) (f.faults o1)))
   pub no_root : (s : Sources) → w.told w0 ≡ Some s.tree → NotIncreased (w.faults w0) (w.faults w1)
       → IfErr result (OnNoRoot ((traversal_root given s.tree explicit ≡ rooted []) × IsNoTop given (made_with old) s recursion))
+  -- Where there is nothing to start from, nothing was listed before and the interrupt is as it was.
+  pub unstarted : IfErr result (OnNoStart ((w.lists w1 ≡ w.lists w0) × (i1 ≡ i0)))
   -- For valid input, and where nothing failed or was raised, only memory may be wanted.
   pub complete : (s : Sources) → Tells w f w0 o0 old s → recursion.is_default ≡ true
       → NotIncreased (w.faults w0) (w.faults w1) → NotIncreased (f.faults o0) (f.faults o1) → NotIncreased (i.raised i0) (i.raised i1)
@@ -119,15 +121,16 @@ pub record WalksWorktree {W F I T : Type 0} (w : WorktreeOf W) (f : FindOf F) (i
   -- An answer names the traversal root, also where the walk was broken off.
   pub named : (t : Names) → w.told w0 ≡ Some t → NotIncreased (w.faults w0) (w.faults w1)
       → IfOk result (λ r. (root : List ℕ) × (traversal_root given t explicit ≡ rooted root) × (path_of r ≡ full_path given.root root))
-  -- What stays.
+  -- What stays; the store is not asked where nothing is mapped and all is walked over it.
   pub worktree : KeepsTree w w0 w1
   pub store : AsksStore f o0 o1
+  pub unmapped : strategy ≡ Held → maps_blobs (made_with old) ≡ false → o1 ≡ o0
   pub rules : KeepsRules w f w0 w1 o0 old new
   pub interrupt : AsksInterrupt i i0 i1
   pub listed : OnOk result (w.list_faults w1 ≡ w.list_faults w0)
   pub calm : OnOk result (i.raised i1 ≡ i.raised i0)
   -- What is opened and read.
-  pub opens : OpensDirectories w i w0 w1 i0 i1 strategy given (made_with old) explicit outcome_of path_of result (EntersInWalk w f w0 w1 o0 old recursion given explicit result)
+  pub opens : OpensDirectories w i w0 w1 i0 i1 strategy given (made_with old) explicit outcome_of path_of result (EntersInWalk w f w0 w1 o0 old recursion given explicit limit result)
 
 -- How what is walked from a traversal root ends, and what it leaves.
 pub record Ends {W F I D T : Type 0} (w : WorktreeOf W) (f : FindOf F) (i : InterruptOf I) (d : DelegateOf D) (w0 w1 : W) (o0 o1 : F) (i0 i1 : I) (old new : Option Stacked) (d0 d1 : D)
@@ -179,14 +182,19 @@ pub record Feeds {W F D : Type 0} (w : WorktreeOf W) (f : FindOf F) (d : Delegat
   -- The report, unless it broke the walk off.
   pub gives : (s : Sources) → Tells w f w0 o0 old s → d.is_default d0 ≡ true → NotIncreased (w.faults w0) (w.faults w1) → NotIncreased (d.breaks d0) (d.breaks d1)
       → IfOk result (WalkGives given (made_with old) s explicit limit (d.given d0) (d.given d1))
-  -- A part of it, however the walk ended.
+  -- A part of it, however the walk ended, and no more is counted as seen.
   pub part : (s : Sources) → Tells w f w0 o0 old s → d.is_default d0 ≡ true → NotIncreased (w.faults w0) (w.faults w1)
-      → (walk : Walk) → walk_in given (made_with old) s explicit ≡ Some walk → IsPart given.options (out_of walk.gives) (d.given d0) (d.given d1)
+      → (walk : Walk) → walk_in given (made_with old) s explicit ≡ Some walk → IsAmong given.options (out_of walk.gives) (d.given d0) (d.given d1)
+  pub counted_within : (s : Sources) → Tells w f w0 o0 old s → d.is_default d0 ≡ true → NotIncreased (w.faults w0) (w.faults w1)
+      → (walk : Walk) → walk_in given (made_with old) s explicit ≡ Some walk → IfOk result (λ r. r.0.seen_entries ≤ (counts given.options walk.gives).seen_entries)
+  -- Nothing, where there is nothing to start from.
+  pub unfed : IfErr result (OnNoStart (d.given d1 ≡ d.given d0))
   -- It answered Break at most once, and then it was given nothing more; and a walk that it broke off is not refused.
   pub heeded : (d.breaks d1 ≡ d.breaks d0) ⊎ (Incremented (d.breaks d0) (d.breaks d1) × (d.is_stopped d1 ≡ true))
   pub unbroken : IfErr result (λ _. d.breaks d1 ≡ d.breaks d0)
   pub delegate : KeepsDelegate d d0 d1
-  -- Over any worktree no path comes twice, and the counts are of what is given.
+  -- Over any worktree nothing comes that the options hide, no path comes twice, and the counts are of what is given.
+  pub filtered : AddsShown given.options (d.given d0) (d.given d1)
   pub once : GivesOnce given explicit (λ (r : Outcome × List ℕ). r.1) result (d.given d0) (d.given d1)
   pub returned : IfOk result (λ r. is_some (d.given d0) ≡ true → r.0.returned_entries ≡ min (length (listed (d.given d1)) - length (listed (d.given d0))) (2 ^ 64 - 1))
   pub seen : IfOk result (λ r. min r.0.returned_entries (2 ^ 32 - 1) ≤ r.0.seen_entries)
@@ -214,7 +222,8 @@ pub record Collects {W F : Type 0} (w : WorktreeOf W) (f : FindOf F) (w0 w1 : W)
   -- They are those of the report.
   pub gives : (s : Sources) → Tells w f w0 o0 old s → NotIncreased (w.faults w0) (w.faults w1)
       → IfOk result (λ r. WalkGives given (made_with old) s explicit limit (Some []) (Some r.2.unorded_entries) (r.0, r.1))
-  -- Over any worktree no path comes twice, and the counts are of what is given.
+  -- Over any worktree nothing comes that the options hide, no path comes twice, and the counts are of what is given.
+  pub filtered : IfOk result (λ r. hidden_in given.options r.2.unorded_entries ≡ 0)
   pub once : IfOk result (λ r. GivesOnce given explicit root_in result (Some []) (Some r.2.unorded_entries))
   pub returned : IfOk result (λ r. r.0.returned_entries ≡ min (length r.2.unorded_entries) (2 ^ 64 - 1))
   pub seen : IfOk result (λ r. min r.0.returned_entries (2 ^ 32 - 1) ≤ r.0.seen_entries)

@@ -23,7 +23,7 @@ use worktree_fs::{Interrupt, Worktree};
 /// A job has a fork of the worktree, of the store and of the interrupt, and rules of which nothing is pushed; it is all
 /// that a thread would need, but the jobs run one after another on the caller. Each fork is absorbed, also where its job is
 /// refused, so the counts of what is handed in rise by those of the forks, but for that of listings: it rises by one at
-/// most. After a refusal no further job is begun.
+/// most. After a refusal no further job is begun. Of this the clauses have what becomes of the count of listings alone.
 ///
 /// See docs/DECISIONS.md#jobs-one-after-another.
 /// See docs/DECISIONS.md#refused-job.

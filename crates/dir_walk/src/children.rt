@@ -1,6 +1,7 @@
 //! The names of a traversal root, of which each that is entered is a job of its own.
 ghost use Rattle.std.specs.Prelude.{◌≡◌, ◌+◌, ℕ, true, false, Option, Some, IfOk, IfErr, OnOk, OnErr};
 ghost use Rattle.gitbase_core.specs.Path.{joined};
+ghost use Rattle.gitbase_core.specs.View.{IsBeneath};
 ghost use Rattle.worktree_fs.specs.Causes.{NotIncreased, Increased};
 ghost use Rattle.worktree_fs.specs.Kept.{AsksStore};
 ghost use Rattle.worktree_fs.specs.Naming.{IsName};
@@ -14,7 +15,7 @@ ghost use Rattle.dir_walk.specs.Emits.{Gives, IsPart};
 ghost use Rattle.dir_walk.specs.Given.{OnRefused};
 ghost use Rattle.dir_walk.specs.Kept.{KeepsTree, AsksInterrupt, KeepsDelegate, Heeds, Caused};
 ghost use Rattle.dir_walk.specs.Opens.{EntersAtMost, OpensApart, refused_walk};
-ghost use Rattle.dir_walk.specs.Puts.{Hands, once_within};
+ghost use Rattle.dir_walk.specs.Puts.{AddsShown, Hands, once_within};
 ghost use Rattle.dir_walk.specs.Refused.{IsAbout, IsInTree, Refuses, DirectoryRefuses};
 ghost use Rattle.dir_walk.specs.Report.{depth_of};
 ghost use Rattle.dir_walk.specs.Told.{Stands, item_told, directory_told};
@@ -29,21 +30,21 @@ use crate::open::{is_entered, open, too_deep};
 use crate::outcome::Outcome;
 use crate::place::Place;
 use dir_classify::{Shared, classify};
-use gitbase_core::{Find, PathText};
+use gitbase_core::{Beneath, Find, PathText};
 use glob_rules::pathspec::Matcher;
 use std::alloc::Global;
 use worktree_fs::{Interrupt, Worktree};
 use worktree_stack::Stack;
 
-/// Walks a name in the traversal root; so many more levels of directories may be entered below that. What is entered is a job.
-/// `child` is the room for the name's place.
+/// Walks a name in the traversal root, at `place`; so many more levels of directories may be entered below that. What is entered is
+/// a job. `beneath` are the entries of the index beneath the traversal root. The place is the root's again when the name is done.
 fn walk_child<W: Worktree, F: Find, I: Interrupt, M: Matcher, D: Delegate>(
     alloc: Global,
     shared: &Shared<'_, M>,
     blocked: &Option<PathText>,
-    directory: &Place,
+    place: &mut Place,
+    beneath: &Beneath<'_>,
     name: &[u8],
-    child: &mut Place,
     levels: usize,
     excludes: &mut Option<Stack>,
     worktree: &mut W,
@@ -53,7 +54,8 @@ fn walk_child<W: Worktree, F: Find, I: Interrupt, M: Matcher, D: Delegate>(
     outcome: &mut Outcome,
 ) -> Result<Handed, Stop>
     requires name { IsName name.now }
-    requires root { directory.now.root ≡ shared.now.worktree_root.now }
+    requires beneath { IsBeneath shared.now.index.now place.old.path beneath.now }
+    requires root { place.old.root ≡ shared.now.worktree_root.now }
     requires lookup { IsLookupIf shared.now.index.now shared.now.ignore_case_index_lookup.now }
     requires excludes { tells_excludes (made_with excludes.old) ≡ true }
     ensures gives { (made : Option Made) (s : Sources)
@@ -61,10 +63,10 @@ fn walk_child<W: Worktree, F: Find, I: Interrupt, M: Matcher, D: Delegate>(
         excludes.old blocked.now made s
         → NotIncreased (W.faults worktree.old) (W.faults worktree.new)
         → D.is_default delegate.old ≡ true
-        → (limit : ℕ) → levels + depth_of directory.now.path ≡ limit
+        → (limit : ℕ) → levels + depth_of place.old.path ≡ limit
         → IfOk result (Gives (chosen shared.now.options) limit
         (evidence (setting_of M.Matcher shared.now) made s)
-        (item_told (setting_of M.Matcher shared.now) made s (joined directory.now.path name.now))
+        (item_told (setting_of M.Matcher shared.now) made s (joined place.old.path name.now))
         (D.given delegate.old) (D.given delegate.new) outcome.old outcome.new) }
     ensures part { (made : Option Made) (s : Sources)
         → Stands (setting_of M.Matcher shared.now) (W.told worktree.old) (F.holds objects.old)
@@ -73,8 +75,9 @@ fn walk_child<W: Worktree, F: Find, I: Interrupt, M: Matcher, D: Delegate>(
         → D.is_default delegate.old ≡ true
         → OnErr result (IsPart (chosen shared.now.options)
         (item_told (setting_of M.Matcher shared.now) made s
-        (joined directory.now.path name.now)).out (D.given delegate.old) (D.given delegate.new)) }
-    ensures about { (limit : ℕ) → levels + depth_of directory.now.path ≡ limit
+        (joined place.old.path name.now)) (D.given delegate.old) (D.given delegate.new)
+        outcome.old outcome.new) }
+    ensures about { (limit : ℕ) → levels + depth_of place.old.path ≡ limit
         → IfErr result (OnRefused (IsAbout (made_with excludes.old) shared.now.worktree_root.now
         limit)) }
     ensures found { (s : Sources) → W.told worktree.old ≡ Some s.tree
@@ -84,11 +87,11 @@ fn walk_child<W: Worktree, F: Find, I: Interrupt, M: Matcher, D: Delegate>(
         → Stands (setting_of M.Matcher shared.now) (W.told worktree.old) (F.holds objects.old)
         excludes.old blocked.now made s
         → D.is_default delegate.old ≡ true
-        → (limit : ℕ) → levels + depth_of directory.now.path ≡ limit
+        → (limit : ℕ) → levels + depth_of place.old.path ≡ limit
         → IfErr result (OnRefused (Refuses (setting_of M.Matcher shared.now) made s limit
         (Increased (W.faults worktree.old) (W.faults worktree.new))
         (item_told (setting_of M.Matcher shared.now) made s
-        (joined directory.now.path name.now)))) }
+        (joined place.old.path name.now)))) }
     ensures worktree { KeepsTree W.Worktree worktree.old worktree.new }
     ensures store { AsksStore F.Find objects.old objects.new }
     ensures rules { KeepsRules W.Worktree F.Find worktree.old worktree.new objects.old excludes.old
@@ -98,29 +101,35 @@ fn walk_child<W: Worktree, F: Find, I: Interrupt, M: Matcher, D: Delegate>(
         interrupt.new outcome.old outcome.new 0 (EntersAtMost W.Worktree F.Find D.Delegate
         worktree.old worktree.new objects.old excludes.old delegate.old
         (setting_of M.Matcher shared.now) blocked.now
-        (λ made s. item_told (setting_of M.Matcher shared.now) made s
-        (joined directory.now.path name.now)) (refused_walk result)) }
-    ensures hands { Hands (joined directory.now.path name.now)
-        (once_within (joined directory.now.path name.now)) (D.given delegate.old)
+        (levels + depth_of place.old.path) (λ made s. item_told
+        (setting_of M.Matcher shared.now) made s (joined place.old.path name.now))
+        (refused_walk result)) }
+    ensures hands { Hands (joined place.old.path name.now)
+        (once_within (joined place.old.path name.now)) (D.given delegate.old)
         (D.given delegate.new) outcome.old outcome.new result }
     ensures delegate { KeepsDelegate D.Delegate delegate.old delegate.new }
+    ensures filtered { AddsShown (chosen shared.now.options) (D.given delegate.old)
+        (D.given delegate.new) }
     ensures heeds { Heeds D.Delegate delegate.old delegate.new result }
     ensures caused { Caused W.Worktree F.Find I.Interrupt worktree.old worktree.new objects.old
         objects.new interrupt.old interrupt.new result }
+    ensures stays { OnOk result (place.new ≡ place.old) }
 {
-    child.set_child(alloc, directory, name)?;
-    let path = child.path();
-    let full = child.whole();
-    let class = class_of(alloc, full, path, shared, excludes, worktree, objects)?;
+    let cut = place.push(alloc, name)?;
+    let path = place.path();
+    let full = place.whole();
+    let class = class_of(
+        alloc, full, path, name, beneath, shared, excludes, worktree, objects,
+    )?;
     if is_entered(&shared.options, path, &class, false, delegate) {
         if levels == 0 {
-            return Err(Stop::Refused(too_deep(alloc, child, interrupt)));
+            return Err(Stop::Refused(too_deep(alloc, place, interrupt)));
         }
-        return walk_job(
+        let handed = walk_job(
             alloc,
             shared,
             blocked,
-            child,
+            place,
             &class,
             levels - 1,
             excludes,
@@ -130,9 +139,13 @@ fn walk_child<W: Worktree, F: Find, I: Interrupt, M: Matcher, D: Delegate>(
             delegate,
             outcome,
         );
+        place.leave(cut, &handed);
+        return handed;
     }
-    let class = leaf_class(alloc, shared, child, &class, worktree)?;
-    put_leaf(alloc, &shared.options, path, &class, delegate, outcome)
+    let class = leaf_class(alloc, shared, place, &class, worktree)?;
+    let handed = put_leaf(alloc, &shared.options, path, &class, delegate, outcome);
+    place.leave(cut, &handed);
+    handed
 }
 
 /// Walks a directory that is entered as the traversal root, at `place` and of the class `class`, as
@@ -141,7 +154,7 @@ pub(crate) fn walk_children<W: Worktree, F: Find, I: Interrupt, M: Matcher, D: D
     alloc: Global,
     shared: &Shared<'_, M>,
     blocked: &Option<PathText>,
-    place: &Place,
+    place: &mut Place,
     class: &classify::Outcome,
     levels: usize,
     excludes: &mut Option<Stack>,
@@ -151,7 +164,7 @@ pub(crate) fn walk_children<W: Worktree, F: Find, I: Interrupt, M: Matcher, D: D
     delegate: &mut D,
     outcome: &mut Outcome,
 ) -> Result<Handed, Stop>
-    requires root { place.now.root ≡ shared.now.worktree_root.now }
+    requires root { place.old.root ≡ shared.now.worktree_root.now }
     requires lookup { IsLookupIf shared.now.index.now shared.now.ignore_case_index_lookup.now }
     requires excludes { tells_excludes (made_with excludes.old) ≡ true }
     ensures gives { (made : Option Made) (s : Sources)
@@ -159,10 +172,10 @@ pub(crate) fn walk_children<W: Worktree, F: Find, I: Interrupt, M: Matcher, D: D
         excludes.old blocked.now made s
         → NotIncreased (W.faults worktree.old) (W.faults worktree.new)
         → D.is_default delegate.old ≡ true
-        → (limit : ℕ) → levels + depth_of place.now.path ≡ limit
+        → (limit : ℕ) → levels + depth_of place.old.path ≡ limit
         → IfOk result (Gives (chosen shared.now.options) limit
         (evidence (setting_of M.Matcher shared.now) made s)
-        (directory_told (setting_of M.Matcher shared.now) made s place.now.path class.now)
+        (directory_told (setting_of M.Matcher shared.now) made s place.old.path class.now)
         (D.given delegate.old) (D.given delegate.new) outcome.old outcome.new) }
     ensures part { (made : Option Made) (s : Sources)
         → Stands (setting_of M.Matcher shared.now) (W.told worktree.old) (F.holds objects.old)
@@ -170,9 +183,9 @@ pub(crate) fn walk_children<W: Worktree, F: Find, I: Interrupt, M: Matcher, D: D
         → NotIncreased (W.faults worktree.old) (W.faults worktree.new)
         → D.is_default delegate.old ≡ true
         → OnErr result (IsPart (chosen shared.now.options)
-        (directory_told (setting_of M.Matcher shared.now) made s place.now.path class.now).out
-        (D.given delegate.old) (D.given delegate.new)) }
-    ensures about { (limit : ℕ) → levels + depth_of place.now.path ≡ limit
+        (directory_told (setting_of M.Matcher shared.now) made s place.old.path class.now)
+        (D.given delegate.old) (D.given delegate.new) outcome.old outcome.new) }
+    ensures about { (limit : ℕ) → levels + depth_of place.old.path ≡ limit
         → IfErr result (OnRefused (IsAbout (made_with excludes.old) shared.now.worktree_root.now
         limit)) }
     ensures found { (s : Sources) → W.told worktree.old ≡ Some s.tree
@@ -182,9 +195,9 @@ pub(crate) fn walk_children<W: Worktree, F: Find, I: Interrupt, M: Matcher, D: D
         → Stands (setting_of M.Matcher shared.now) (W.told worktree.old) (F.holds objects.old)
         excludes.old blocked.now made s
         → D.is_default delegate.old ≡ true
-        → (limit : ℕ) → levels + depth_of place.now.path ≡ limit
+        → (limit : ℕ) → levels + depth_of place.old.path ≡ limit
         → IfErr result (OnRefused (DirectoryRefuses (setting_of M.Matcher shared.now) made s
-        limit (Increased (W.faults worktree.old) (W.faults worktree.new)) place.now.path
+        limit (Increased (W.faults worktree.old) (W.faults worktree.new)) place.old.path
         class.now)) }
     ensures worktree { KeepsTree W.Worktree worktree.old worktree.new }
     ensures store { AsksStore F.Find objects.old objects.new }
@@ -195,11 +208,13 @@ pub(crate) fn walk_children<W: Worktree, F: Find, I: Interrupt, M: Matcher, D: D
         interrupt.new outcome.old outcome.new 1 (EntersAtMost W.Worktree F.Find D.Delegate
         worktree.old worktree.new objects.old excludes.old delegate.old
         (setting_of M.Matcher shared.now) blocked.now
-        (λ made s. directory_told (setting_of M.Matcher shared.now) made s place.now.path
-        class.now) (refused_walk result)) }
-    ensures hands { Hands place.now.path (once_within place.now.path) (D.given delegate.old)
+        (levels + depth_of place.old.path) (λ made s. directory_told
+        (setting_of M.Matcher shared.now) made s place.old.path class.now) (refused_walk result)) }
+    ensures hands { Hands place.old.path (once_within place.old.path) (D.given delegate.old)
         (D.given delegate.new) outcome.old outcome.new result }
     ensures delegate { KeepsDelegate D.Delegate delegate.old delegate.new }
+    ensures filtered { AddsShown (chosen shared.now.options) (D.given delegate.old)
+        (D.given delegate.new) }
     ensures heeds { Heeds D.Delegate delegate.old delegate.new result }
     ensures caused { Caused W.Worktree F.Find I.Interrupt worktree.old worktree.new objects.old
         objects.new interrupt.old interrupt.new result }
@@ -210,15 +225,15 @@ pub(crate) fn walk_children<W: Worktree, F: Find, I: Interrupt, M: Matcher, D: D
         return close_empty(alloc, shared, blocked, path, class, delegate, outcome);
     }
     let mut held = Held::new(alloc);
-    let mut child = Place::new(alloc);
+    let beneath = shared.index.beneath(path);
     for name in names.as_slice() {
         let handed = walk_child(
             alloc,
             shared,
             blocked,
             place,
+            &beneath,
             name.as_bytes(),
-            &mut child,
             levels,
             excludes,
             worktree,
@@ -229,5 +244,14 @@ pub(crate) fn walk_children<W: Worktree, F: Find, I: Interrupt, M: Matcher, D: D
         )?;
         held.take(alloc, handed)?;
     }
-    close(alloc, shared, blocked, path, class, held, delegate, outcome)
+    close(
+        alloc,
+        shared,
+        blocked,
+        place.path(),
+        class,
+        held,
+        delegate,
+        outcome,
+    )
 }

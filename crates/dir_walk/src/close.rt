@@ -11,7 +11,7 @@ ghost use Rattle.dir_classify.specs.Evidence.{Evidence, is_blocked, is_at};
 ghost use Rattle.dir_classify.specs.Layers.{setting_of, evidence};
 ghost use Rattle.dir_walk.specs.Emits.{Closes, IsPart, folded_of};
 ghost use Rattle.dir_walk.specs.Kept.{KeepsDelegate, Heeds, WantsMemory};
-ghost use Rattle.dir_walk.specs.Puts.{Hands, once_at, once_over};
+ghost use Rattle.dir_walk.specs.Puts.{AddsShown, Hands, once_at, once_over};
 ghost use Rattle.dir_walk.specs.Told.{IsEvidence};
 ghost use Rattle.dir_walk.specs.Walked.{closed, holding, empty_directory, empty_class, match_kind_of, property_without_names};
 
@@ -85,6 +85,8 @@ fn is_hiding(options: &Options<'_>, class: &classify::Outcome) -> bool
 }
 
 /// Whether a path is that of the directory that must not go.
+///
+/// See docs/DECISIONS.md#current-directory-stays.
 pub(crate) fn is_blocked(blocked: &Option<PathText>, path: &[u8]) -> bool
     ensures { result ≡ is_at blocked.now path.now }
 {
@@ -114,9 +116,11 @@ pub(crate) fn close_empty<M: Matcher, D: Delegate>(
     ensures part { (ev : Evidence)
         → IsEvidence (setting_of M.Matcher shared.now) blocked.now ev
         → OnErr result (IsPart (chosen shared.now.options)
-        (empty_directory (chosen shared.now.options) ev path.now class.now).out
-        (D.given delegate.old) (D.given delegate.new)) }
+        (empty_directory (chosen shared.now.options) ev path.now class.now)
+        (D.given delegate.old) (D.given delegate.new) outcome.old outcome.new) }
     ensures delegate { KeepsDelegate D.Delegate delegate.old delegate.new }
+    ensures filtered { AddsShown (chosen shared.now.options) (D.given delegate.old)
+        (D.given delegate.new) }
     ensures heeds { Heeds D.Delegate delegate.old delegate.new result }
     ensures hands { Hands path.now (once_at path.now) (D.given delegate.old) (D.given delegate.new)
         outcome.old outcome.new result }
@@ -150,6 +154,8 @@ fn empty_class<M: Matcher>(
 }
 
 /// The property of a directory without names.
+///
+/// See docs/DIFFERENCES.md#current-directory.
 fn property_without_names(blocks: bool, own: Option<Property>) -> Option<Property>
     ensures { result ≡ property_without_names blocks own }
 {
@@ -198,9 +204,11 @@ pub(crate) fn close<M: Matcher, D: Delegate>(
         → IsEvidence (setting_of M.Matcher shared.now) blocked.now ev
         → OnErr result (IsPart (chosen shared.now.options)
         (closed (chosen shared.now.options) ev path.now class.now
-        (holding held.entries.items held.blocked)).out (D.given delegate.old)
-        (D.given delegate.new)) }
+        (holding held.entries.items held.blocked)) (D.given delegate.old)
+        (D.given delegate.new) outcome.old outcome.new) }
     ensures delegate { KeepsDelegate D.Delegate delegate.old delegate.new }
+    ensures filtered { AddsShown (chosen shared.now.options) (D.given delegate.old)
+        (D.given delegate.new) }
     ensures heeds { Heeds D.Delegate delegate.old delegate.new result }
     ensures hands { Hands path.now (once_over path.now held.entries.items) (D.given delegate.old)
         (D.given delegate.new) outcome.old outcome.new result }
@@ -233,7 +241,8 @@ pub(crate) fn close<M: Matcher, D: Delegate>(
     }
 }
 
-/// The class of the entry that stands for all that a directory holds, or none where it is not folded.
+/// The class of the entry that stands for all that a directory holds, or none where it is not folded. Where nothing is held,
+/// nothing is counted and no path spec is asked.
 fn folded<M: Matcher>(
     shared: &Shared<'_, M>,
     blocked: &Option<PathText>,
@@ -246,6 +255,9 @@ fn folded<M: Matcher>(
         class.now (holding held.now.entries.items held.now.blocked) }
 {
     if held.blocked {
+        return None;
+    }
+    if held.is_empty() {
         return None;
     }
     let blocks = is_blocked(blocked, path);

@@ -1,7 +1,7 @@
 //! The entries that a walk emits, kept in a list.
 ghost use Rattle.std.specs.Prelude.{◌≡◌, ◌++◌, ◌∷◌, [], IsPermutation, IfOk, OnOk, OnErr};
 ghost use Rattle.dir_walk.specs.Emissions.{emission_of, by_path};
-ghost use Rattle.dir_walk.specs.Distinct.{HasDistinctPaths, IsAscending};
+ghost use Rattle.dir_walk.specs.Distinct.{Ascends, HasDistinctPaths, IsAscending};
 
 use crate::delegate::{Action, Delegate};
 use dir_classify::{Entry, EntryRef, Status};
@@ -12,6 +12,8 @@ use std::marker::Model;
 /// Entries as they were emitted, each with the status of the directory that was folded over it, if one was.
 ///
 /// Contracts see the list of the pairs.
+///
+/// See docs/DECISIONS.md#emitted-entries.
 #[derive(Debug, Drop)]
 pub struct EmittedEntries {
     items: Vec<(Entry, Option<Status>)>,
@@ -94,16 +96,17 @@ impl Collect {
         }
     }
 
-    /// The entries in ascending order of their paths, byte by byte, with those of one path beside one another. The room
-    /// comes from the allocator that made the list.
+    /// The entries in ascending order of their paths, byte by byte; those of one path stand in the order in which they were
+    /// kept. Where no path stands twice, as in what a walk gives, each path stands before the next one. The room comes from
+    /// the allocator that made the list.
     ///
     /// # Errors
     ///
     /// - `OutOfMemory`: memory was refused.
     pub fn into_entries_by_path(self, _alloc: Global) -> Result<EmittedEntries, OutOfMemory>
-        ensures sorted { HasDistinctPaths self.unorded_entries
-            → IfOk result (λ entries. entries ≡ by_path self.unorded_entries) }
+        ensures sorted { IfOk result (λ entries. entries ≡ by_path self.unorded_entries) }
         ensures ascending { IfOk result IsAscending }
+        ensures strict { HasDistinctPaths self.unorded_entries → IfOk result Ascends }
         ensures same { IfOk result (λ entries. IsPermutation self.unorded_entries entries) }
     {
         let mut items = self.unorded_entries.into_vec();

@@ -15,7 +15,7 @@ use std::alloc::Global;
 pub enum Action {
     /// It goes on.
     Continue,
-    /// It ends, and gives no more.
+    /// It ends, and what was given is all.
     Break,
 }
 
@@ -36,7 +36,7 @@ pub trait Delegate {
     /// How often it kept the walk out of what its status would have it look into; it never falls.
     ghost refusals: { Self → ℕ };
 
-    /// Whether it answered Break when it was last given an entry.
+    /// Whether it answered Break when it was last given an entry; nothing is said of it where it refused one.
     ghost is_stopped: { Self → Bool };
 
     /// Takes an entry, with the status of the directory that was folded over it, if one was.
@@ -44,6 +44,8 @@ pub trait Delegate {
     /// # Errors
     ///
     /// - `OutOfMemory`: memory was refused. It was not given the entry.
+    ///
+    /// See docs/DIFFERENCES.md#gix-emit-answer.
     fn emit(
         &mut self,
         alloc: Global,

@@ -5,7 +5,7 @@ ghost use Rattle.dir_classify.specs.Entries.{entry_of, entry_at};
 ghost use Rattle.dir_walk.specs.Emissions.{emission_of, shows, is_shown, is_wanted, is_empty_directory, is_unmatched};
 ghost use Rattle.dir_walk.specs.Emits.{Emits, Within, IsPart, Closes, shown_by, put_plain, put_within};
 ghost use Rattle.dir_walk.specs.Kept.{KeepsDelegate, Heeds, WantsMemory};
-ghost use Rattle.dir_walk.specs.Puts.{Puts, Hands, held_at, once_at};
+ghost use Rattle.dir_walk.specs.Puts.{AddsShown, Puts, Hands, held_at, once_at};
 ghost use Rattle.dir_walk.specs.Walked.{leaf};
 
 use crate::delegate::{Action, Delegate};
@@ -31,9 +31,12 @@ pub(crate) fn emit<D: Delegate>(
     ensures gives { OnOk result (Emits (D.given delegate.old) (D.given delegate.new) outcome.old
         outcome.new (λ p. shown_by (chosen options.now) p (emission_of (entry_of entry.entry)
         collapsed_directory_status ∷ [])) 1 0) }
-    ensures part { OnErr result (IsPart (chosen options.now) (emission_of (entry_of entry.entry)
-        collapsed_directory_status ∷ []) (D.given delegate.old) (D.given delegate.new)) }
+    ensures part { OnErr result (Within (D.given delegate.old) (D.given delegate.new) outcome.old
+        outcome.new (λ p. shown_by (chosen options.now) p (emission_of (entry_of entry.entry)
+        collapsed_directory_status ∷ [])) 1) }
     ensures delegate { KeepsDelegate D.Delegate delegate.old delegate.new }
+    ensures filtered { AddsShown (chosen options.now) (D.given delegate.old)
+        (D.given delegate.new) }
     ensures heeds { Heeds D.Delegate delegate.old delegate.new result }
     ensures puts { Puts (once_at (entry_of entry.entry).rela_path) (D.given delegate.old)
         (D.given delegate.new) outcome.old outcome.new [] }
@@ -63,9 +66,11 @@ pub(crate) fn emit_all<D: Delegate>(
 ) -> Result<(), Stop>
     ensures gives { OnOk result (Emits (D.given delegate.old) (D.given delegate.new) outcome.old
         outcome.new (put_plain (chosen options.now) held.now) (length held.now) 0) }
-    ensures part { OnErr result (Within (D.given delegate.old) (D.given delegate.new)
-        (put_plain (chosen options.now) held.now)) }
+    ensures part { OnErr result (Within (D.given delegate.old) (D.given delegate.new) outcome.old
+        outcome.new (put_plain (chosen options.now) held.now) (length held.now)) }
     ensures delegate { KeepsDelegate D.Delegate delegate.old delegate.new }
+    ensures filtered { AddsShown (chosen options.now) (D.given delegate.old)
+        (D.given delegate.new) }
     ensures heeds { Heeds D.Delegate delegate.old delegate.new result }
     ensures puts { Puts (λ path. held_at path held.now) (D.given delegate.old)
         (D.given delegate.new) outcome.old outcome.new [] }
@@ -79,6 +84,8 @@ pub(crate) fn emit_all<D: Delegate>(
 }
 
 /// Puts out what is to be seen of what a directory holds besides the directory, which was folded over it with a status.
+///
+/// See docs/DIFFERENCES.md#gix-break-while-folding.
 pub(crate) fn emit_collapsed<D: Delegate>(
     alloc: Global,
     options: &Options<'_>,
@@ -89,9 +96,11 @@ pub(crate) fn emit_collapsed<D: Delegate>(
 ) -> Result<(), Stop>
     ensures gives { OnOk result (Emits (D.given delegate.old) (D.given delegate.new) outcome.old
         outcome.new (put_within (chosen options.now) status held.now) (length held.now) 0) }
-    ensures part { OnErr result (Within (D.given delegate.old) (D.given delegate.new)
-        (put_within (chosen options.now) status held.now)) }
+    ensures part { OnErr result (Within (D.given delegate.old) (D.given delegate.new) outcome.old
+        outcome.new (put_within (chosen options.now) status held.now) (length held.now)) }
     ensures delegate { KeepsDelegate D.Delegate delegate.old delegate.new }
+    ensures filtered { AddsShown (chosen options.now) (D.given delegate.old)
+        (D.given delegate.new) }
     ensures heeds { Heeds D.Delegate delegate.old delegate.new result }
     ensures puts { Puts (λ path. held_at path held.now) (D.given delegate.old)
         (D.given delegate.new) outcome.old outcome.new [] }
@@ -115,9 +124,11 @@ fn emit_merged<D: Delegate>(
 ) -> Result<(), Stop>
     ensures gives { OnOk result (Emits (D.given delegate.old) (D.given delegate.new) outcome.old
         outcome.new (put_within (chosen options.now) status (entry.now ∷ [])) 1 0) }
-    ensures part { OnErr result (Within (D.given delegate.old) (D.given delegate.new)
-        (put_within (chosen options.now) status (entry.now ∷ []))) }
+    ensures part { OnErr result (Within (D.given delegate.old) (D.given delegate.new) outcome.old
+        outcome.new (put_within (chosen options.now) status (entry.now ∷ [])) 1) }
     ensures delegate { KeepsDelegate D.Delegate delegate.old delegate.new }
+    ensures filtered { AddsShown (chosen options.now) (D.given delegate.old)
+        (D.given delegate.new) }
     ensures heeds { Heeds D.Delegate delegate.old delegate.new result }
     ensures puts { Puts (once_at entry.now.rela_path) (D.given delegate.old)
         (D.given delegate.new) outcome.old outcome.new [] }
@@ -153,9 +164,11 @@ pub(crate) fn put_leaf<D: Delegate>(
         (leaf (chosen options.now) (entry_at path.now class.now)) (D.given delegate.old)
         (D.given delegate.new) outcome.old outcome.new) }
     ensures part { OnErr result (IsPart (chosen options.now)
-        (leaf (chosen options.now) (entry_at path.now class.now)).out (D.given delegate.old)
-        (D.given delegate.new)) }
+        (leaf (chosen options.now) (entry_at path.now class.now)) (D.given delegate.old)
+        (D.given delegate.new) outcome.old outcome.new) }
     ensures delegate { KeepsDelegate D.Delegate delegate.old delegate.new }
+    ensures filtered { AddsShown (chosen options.now) (D.given delegate.old)
+        (D.given delegate.new) }
     ensures heeds { Heeds D.Delegate delegate.old delegate.new result }
     ensures hands { Hands path.now (once_at path.now) (D.given delegate.old) (D.given delegate.new)
         outcome.old outcome.new result }
@@ -186,6 +199,8 @@ fn collapsed_mode(options: &Options<'_>) -> Option<CollapsedEntriesEmissionMode>
 }
 
 /// Whether an entry is given to the delegate.
+///
+/// See docs/DIFFERENCES.md#empty-directory.
 #[tactic(auto, unfolding(dir_classify::specs::Chosen::chosen))]
 fn is_shown(options: &Options<'_>, entry: &EntryRef<'_>) -> bool
     ensures { result ≡ shows (chosen options.now) (entry_of entry.now) }

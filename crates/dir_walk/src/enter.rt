@@ -7,16 +7,17 @@ ghost use Rattle.worktree_fs.specs.Paths.{is_normal, spelled};
 ghost use Rattle.worktree_stack.specs.Reading.{Sources};
 ghost use Rattle.worktree_stack.specs.Setup.{Made};
 ghost use Rattle.dir_classify.specs.Chosen.{chosen};
-ghost use Rattle.dir_classify.specs.Excludes.{made_with, tells_excludes};
+ghost use Rattle.dir_classify.specs.Excludes.{made_with, maps_blobs, tells_excludes};
 ghost use Rattle.dir_classify.specs.Kept.{KeepsRules};
 ghost use Rattle.dir_classify.specs.Layers.{setting_of, evidence, rest_behind, IsLookupIf};
-ghost use Rattle.dir_walk.specs.Emits.{Emits, Gives, GivesAll, IsPart, Within, put_plain};
+ghost use Rattle.dir_walk.specs.declared.strategy.Strategy.TheVariants.{Held};
+ghost use Rattle.dir_walk.specs.Emits.{Emits, Gives, GivesAll, IsPart, IsPartOfAll, Within, put_plain};
 ghost use Rattle.dir_walk.specs.Given.{OnRefused};
 ghost use Rattle.dir_walk.specs.Kept.{KeepsTree, AsksInterrupt, KeepsDelegate, Heeds, Caused, WantsMemory};
 ghost use Rattle.dir_walk.specs.Opens.{EntersAtMost, OpensRoot, refused_walk};
-ghost use Rattle.dir_walk.specs.Puts.{Hands, Puts, held_at, once_within};
+ghost use Rattle.dir_walk.specs.Puts.{AddsShown, Hands, Puts, held_at, once_within};
 ghost use Rattle.dir_walk.specs.Refused.{IsAbout, IsInTree, DirectoryRefuses};
-ghost use Rattle.dir_walk.specs.Report.{depth_of, out_of};
+ghost use Rattle.dir_walk.specs.Report.{depth_of};
 ghost use Rattle.dir_walk.specs.Told.{Stands, directory_told};
 ghost use Rattle.dir_walk.specs.Walks.{Ends, EntersWalked, Tells};
 
@@ -100,12 +101,15 @@ fn put_handed<D: Delegate>(
     ensures gives { OnOk result (Emits (D.given delegate.old) (D.given delegate.new) outcome.old
         outcome.new (put_plain (chosen options.now) (option_to_list handed.now.entry))
         (length (option_to_list handed.now.entry)) 0) }
-    ensures part { OnErr result (Within (D.given delegate.old) (D.given delegate.new)
-        (put_plain (chosen options.now) (option_to_list handed.now.entry))) }
+    ensures part { OnErr result (Within (D.given delegate.old) (D.given delegate.new) outcome.old
+        outcome.new (put_plain (chosen options.now) (option_to_list handed.now.entry))
+        (length (option_to_list handed.now.entry))) }
     ensures puts { Puts (λ path. held_at path (option_to_list handed.now.entry))
         (D.given delegate.old) (D.given delegate.new) outcome.old outcome.new [] }
     ensures entered { outcome.new.read_dir_calls ≡ outcome.old.read_dir_calls }
     ensures delegate { KeepsDelegate D.Delegate delegate.old delegate.new }
+    ensures filtered { AddsShown (chosen options.now) (D.given delegate.old)
+        (D.given delegate.new) }
     ensures heeds { Heeds D.Delegate delegate.old delegate.new result }
     ensures memory { WantsMemory result }
 {
@@ -120,7 +124,7 @@ fn walk_deep<W: Worktree, F: Find, I: Interrupt, M: Matcher, D: Delegate>(
     alloc: Global,
     shared: &Shared<'_, M>,
     blocked: &Option<PathText>,
-    place: &Place,
+    place: &mut Place,
     class: &classify::Outcome,
     depth_limit: usize,
     strategy: Strategy,
@@ -131,7 +135,7 @@ fn walk_deep<W: Worktree, F: Find, I: Interrupt, M: Matcher, D: Delegate>(
     delegate: &mut D,
     outcome: &mut Outcome,
 ) -> Result<Handed, Stop>
-    requires root { place.now.root ≡ shared.now.worktree_root.now }
+    requires root { place.old.root ≡ shared.now.worktree_root.now }
     requires lookup { IsLookupIf shared.now.index.now shared.now.ignore_case_index_lookup.now }
     requires excludes { tells_excludes (made_with excludes.old) ≡ true }
     ensures gives { (made : Option Made) (s : Sources)
@@ -141,7 +145,7 @@ fn walk_deep<W: Worktree, F: Find, I: Interrupt, M: Matcher, D: Delegate>(
         → D.is_default delegate.old ≡ true
         → IfOk result (Gives (chosen shared.now.options) depth_limit
         (evidence (setting_of M.Matcher shared.now) made s)
-        (directory_told (setting_of M.Matcher shared.now) made s place.now.path class.now)
+        (directory_told (setting_of M.Matcher shared.now) made s place.old.path class.now)
         (D.given delegate.old) (D.given delegate.new) outcome.old outcome.new) }
     ensures part { (made : Option Made) (s : Sources)
         → Stands (setting_of M.Matcher shared.now) (W.told worktree.old) (F.holds objects.old)
@@ -149,14 +153,14 @@ fn walk_deep<W: Worktree, F: Find, I: Interrupt, M: Matcher, D: Delegate>(
         → NotIncreased (W.faults worktree.old) (W.faults worktree.new)
         → D.is_default delegate.old ≡ true
         → OnErr result (IsPart (chosen shared.now.options)
-        (directory_told (setting_of M.Matcher shared.now) made s place.now.path class.now).out
-        (D.given delegate.old) (D.given delegate.new)) }
+        (directory_told (setting_of M.Matcher shared.now) made s place.old.path class.now)
+        (D.given delegate.old) (D.given delegate.new) outcome.old outcome.new) }
     ensures refused { (made : Option Made) (s : Sources)
         → Stands (setting_of M.Matcher shared.now) (W.told worktree.old) (F.holds objects.old)
         excludes.old blocked.now made s
         → D.is_default delegate.old ≡ true
         → IfErr result (OnRefused (DirectoryRefuses (setting_of M.Matcher shared.now) made s
-        depth_limit (Increased (W.faults worktree.old) (W.faults worktree.new)) place.now.path
+        depth_limit (Increased (W.faults worktree.old) (W.faults worktree.new)) place.old.path
         class.now)) }
     ensures about { IfErr result (OnRefused (IsAbout (made_with excludes.old)
         shared.now.worktree_root.now depth_limit)) }
@@ -165,13 +169,17 @@ fn walk_deep<W: Worktree, F: Find, I: Interrupt, M: Matcher, D: Delegate>(
         (F.holds objects.old) s (made_with excludes.old))) }
     ensures opens { OpensRoot W.Worktree I.Interrupt worktree.old worktree.new interrupt.old
         interrupt.new outcome.old outcome.new strategy (chosen shared.now.options) excludes.old
-        excludes.new (components place.now.path) (refused_walk result)
+        excludes.new (components place.old.path) (refused_walk result)
         (EntersAtMost W.Worktree F.Find D.Delegate worktree.old worktree.new objects.old
-        excludes.old delegate.old (setting_of M.Matcher shared.now) blocked.now
-        (λ made s. directory_told (setting_of M.Matcher shared.now) made s place.now.path
+        excludes.old delegate.old (setting_of M.Matcher shared.now) blocked.now depth_limit
+        (λ made s. directory_told (setting_of M.Matcher shared.now) made s place.old.path
         class.now) (refused_walk result)) }
-    ensures hands { Hands place.now.path (once_within place.now.path) (D.given delegate.old)
+    ensures hands { Hands place.old.path (once_within place.old.path) (D.given delegate.old)
         (D.given delegate.new) outcome.old outcome.new result }
+    ensures filtered { AddsShown (chosen shared.now.options) (D.given delegate.old)
+        (D.given delegate.new) }
+    ensures unmapped { strategy ≡ Held → maps_blobs (made_with excludes.old) ≡ false
+        → objects.new ≡ objects.old }
     ensures ends { Ends W.Worktree F.Find I.Interrupt D.Delegate worktree.old worktree.new
         objects.old objects.new interrupt.old interrupt.new excludes.old excludes.new delegate.old
         delegate.new result }
@@ -225,9 +233,10 @@ pub(crate) fn walk_entered<W: Worktree, F: Find, I: Interrupt, M: Matcher, D: De
         → Tells W.Worktree F.Find worktree.old objects.old excludes.old s
         → NotIncreased (W.faults worktree.old) (W.faults worktree.new)
         → D.is_default delegate.old ≡ true
-        → OnErr result (IsPart (chosen shared.now.options)
-        (out_of (directory_told (setting_of M.Matcher shared.now) (made_with excludes.old) s
-        path.now class.now)) (D.given delegate.old) (D.given delegate.new)) }
+        → OnErr result (IsPartOfAll (chosen shared.now.options)
+        (directory_told (setting_of M.Matcher shared.now) (made_with excludes.old) s
+        path.now class.now) (D.given delegate.old) (D.given delegate.new) outcome.old
+        outcome.new) }
     ensures refused { (s : Sources)
         → Tells W.Worktree F.Find worktree.old objects.old excludes.old s
         → NotIncreased (W.faults worktree.old) (W.faults worktree.new)
@@ -243,21 +252,25 @@ pub(crate) fn walk_entered<W: Worktree, F: Find, I: Interrupt, M: Matcher, D: De
         interrupt.new outcome.old outcome.new strategy (chosen shared.now.options) excludes.old
         excludes.new (components path.now) (refused_walk result)
         (EntersWalked W.Worktree F.Find D.Delegate worktree.old worktree.new objects.old
-        excludes.old delegate.old (λ s. directory_told (setting_of M.Matcher shared.now)
+        excludes.old delegate.old depth_limit (λ s. directory_told (setting_of M.Matcher shared.now)
         (made_with excludes.old) s path.now class.now) (refused_walk result)) }
     ensures puts { Puts (once_within path.now) (D.given delegate.old) (D.given delegate.new)
         outcome.old outcome.new [] }
+    ensures filtered { AddsShown (chosen shared.now.options) (D.given delegate.old)
+        (D.given delegate.new) }
+    ensures unmapped { strategy ≡ Held → maps_blobs (made_with excludes.old) ≡ false
+        → objects.new ≡ objects.old }
     ensures ends { Ends W.Worktree F.Find I.Interrupt D.Delegate worktree.old worktree.new
         objects.old objects.new interrupt.old interrupt.new excludes.old excludes.new delegate.old
         delegate.new result }
 {
-    let place = Place::at(alloc, shared.worktree_root, path)?;
+    let mut place = Place::at(alloc, shared.worktree_root, path)?;
     let blocked = blocked_directory(alloc, shared, worktree)?;
     let handed = walk_deep(
         alloc,
         shared,
         &blocked,
-        &place,
+        &mut place,
         class,
         depth_limit,
         strategy,

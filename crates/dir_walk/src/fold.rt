@@ -171,6 +171,10 @@ fn has_no_names(entry: &Entry) -> bool
 }
 
 /// Whether no directory folds over an entry: a repository, or what a spec names in full or takes out.
+///
+/// See docs/DIFFERENCES.md#folded-over-repository.
+/// See docs/DIFFERENCES.md#folded-over-spec.
+/// See docs/DIFFERENCES.md#folded-over-ignored.
 fn is_barring(entry: &Entry) -> bool
     ensures { result ≡ is_barring entry.now }
 {
@@ -319,6 +323,8 @@ fn folded_class(options: &Options<'_>, class: &Outcome, counts: &Tally, status: 
 }
 
 /// Its property: its own, else that it has no names where nothing that it holds has, outside deletion.
+///
+/// See docs/DIFFERENCES.md#gone-tracked-files.
 #[tactic(auto, unfolding(dir_classify::specs::Chosen::chosen))]
 fn property_over(
     options: &Options<'_>,
@@ -343,6 +349,8 @@ fn property_over(
 }
 
 /// Its match: the greatest of what it holds, else its own where no spec was needed for it or one names it.
+///
+/// See docs/DIFFERENCES.md#folded-by-spec.
 fn match_over(counts: &Tally, class: &Outcome) -> Option<PathspecMatch>
     ensures { result ≡ match_over (greatest counts.now) class.now }
 {

@@ -1,11 +1,12 @@
 //! What a path hands up to the directory above it, and why a walk ends before it is done.
-ghost use Rattle.std.specs.Prelude.{◌≡◌, ◌++◌, ◌||◌, [], false, OnOk, option_to_list};
+ghost use Rattle.std.specs.Prelude.{◌≡◌, ◌==◌, ◌++◌, ◌||◌, [], false, length, OnOk, option_to_list};
 
 use dir_classify::{Entry, Error};
 use gitbase_core::OutOfMemory;
 use std::alloc::Global;
 
-/// What a path hands up to the directory above it when it is done.
+/// What a path hands up to the directory above it when it is done. It is public for the contracts, which name it; no public call
+/// takes or gives one.
 #[derive(Debug, Drop)]
 pub struct Handed {
     /// The entry that may go into that directory's own, if there is one.
@@ -14,7 +15,7 @@ pub struct Handed {
     pub blocks: bool,
 }
 
-/// Why a walk ends before it is done.
+/// Why a walk ends before it is done. It is public for the contracts, which name it; no public call takes or gives one.
 #[derive(Debug, Drop)]
 pub enum Stop {
     /// It was refused.
@@ -65,6 +66,13 @@ impl Held {
             entries: Vec::new(alloc),
             blocked: false,
         }
+    }
+
+    /// Whether there are no entries.
+    pub fn is_empty(&self) -> bool
+        ensures { result ≡ (length self.now.entries.items == 0) }
+    {
+        self.entries.is_empty()
     }
 
     /// Adds what one name hands up. The room comes from the allocator that made the list.

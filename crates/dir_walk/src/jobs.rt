@@ -1,5 +1,5 @@
 //! A subtree as a job of its own, over forks of what the walk was handed.
-ghost use Rattle.std.specs.Prelude.{◌≡◌, true, IfOk};
+ghost use Rattle.std.specs.Prelude.{◌≡◌, true, IfOk, OnOk};
 ghost use Rattle.worktree_stack.specs.Reading.{Sources};
 ghost use Rattle.dir_classify.specs.Excludes.{made_with, tells_excludes, InStepIf};
 ghost use Rattle.dir_classify.specs.Layers.{setting_of, IsLookupIf};
@@ -24,7 +24,7 @@ pub(crate) fn walk_job<W: Worktree, F: Find, I: Interrupt, M: Matcher, D: Delega
     alloc: Global,
     shared: &Shared<'_, M>,
     blocked: &Option<PathText>,
-    place: &Place,
+    place: &mut Place,
     class: &classify::Outcome,
     levels: usize,
     excludes: &Option<Stack>,
@@ -34,13 +34,14 @@ pub(crate) fn walk_job<W: Worktree, F: Find, I: Interrupt, M: Matcher, D: Delega
     delegate: &mut D,
     outcome: &mut Outcome,
 ) -> Result<Handed, Stop>
-    requires root { place.now.root ≡ shared.now.worktree_root.now }
+    requires root { place.old.root ≡ shared.now.worktree_root.now }
     requires lookup { IsLookupIf shared.now.index.now shared.now.ignore_case_index_lookup.now }
     requires excludes { tells_excludes (made_with excludes.now) ≡ true }
     ensures job { WalksJob W.Worktree F.Find I.Interrupt D.Delegate worktree.old worktree.new
         objects.old objects.new interrupt.old interrupt.new excludes.now delegate.old delegate.new
         outcome.old outcome.new (setting_of M.Matcher shared.now) blocked.now levels
-        place.now.path class.now result }
+        place.old.path class.now result }
+    ensures stays { OnOk result (place.new ≡ place.old) }
     ensures lists { W.lists worktree.new ≡ W.lists worktree.old }
 {
     let mut rules = fresh_rules(alloc, excludes)?;
@@ -66,7 +67,7 @@ fn on_worktree<W: Worktree, F: Find, I: Interrupt, M: Matcher, D: Delegate>(
     alloc: Global,
     shared: &Shared<'_, M>,
     blocked: &Option<PathText>,
-    place: &Place,
+    place: &mut Place,
     class: &classify::Outcome,
     levels: usize,
     rules: &mut Option<Stack>,
@@ -76,13 +77,14 @@ fn on_worktree<W: Worktree, F: Find, I: Interrupt, M: Matcher, D: Delegate>(
     delegate: &mut D,
     outcome: &mut Outcome,
 ) -> Result<Handed, Stop>
-    requires root { place.now.root ≡ shared.now.worktree_root.now }
+    requires root { place.old.root ≡ shared.now.worktree_root.now }
     requires lookup { IsLookupIf shared.now.index.now shared.now.ignore_case_index_lookup.now }
     requires excludes { tells_excludes (made_with rules.old) ≡ true }
     ensures job { WalksJob W.Worktree F.Find I.Interrupt D.Delegate worktree.old worktree.new
         objects.old objects.new interrupt.old interrupt.new rules.old delegate.old delegate.new
         outcome.old outcome.new (setting_of M.Matcher shared.now) blocked.now levels
-        place.now.path class.now result }
+        place.old.path class.now result }
+    ensures stays { OnOk result (place.new ≡ place.old) }
     ensures lists { W.lists worktree.new ≡ W.lists worktree.old }
 {
     let mut fork = worktree.fork(alloc)?;
@@ -99,7 +101,7 @@ fn on_store<W: Worktree, F: Find, I: Interrupt, M: Matcher, D: Delegate>(
     alloc: Global,
     shared: &Shared<'_, M>,
     blocked: &Option<PathText>,
-    place: &Place,
+    place: &mut Place,
     class: &classify::Outcome,
     levels: usize,
     rules: &mut Option<Stack>,
@@ -109,13 +111,14 @@ fn on_store<W: Worktree, F: Find, I: Interrupt, M: Matcher, D: Delegate>(
     delegate: &mut D,
     outcome: &mut Outcome,
 ) -> Result<Handed, Stop>
-    requires root { place.now.root ≡ shared.now.worktree_root.now }
+    requires root { place.old.root ≡ shared.now.worktree_root.now }
     requires lookup { IsLookupIf shared.now.index.now shared.now.ignore_case_index_lookup.now }
     requires excludes { tells_excludes (made_with rules.old) ≡ true }
-    ensures { WalksJob W.Worktree F.Find I.Interrupt D.Delegate worktree.old worktree.new
+    ensures job { WalksJob W.Worktree F.Find I.Interrupt D.Delegate worktree.old worktree.new
         objects.old objects.new interrupt.old interrupt.new rules.old delegate.old delegate.new
         outcome.old outcome.new (setting_of M.Matcher shared.now) blocked.now levels
-        place.now.path class.now result }
+        place.old.path class.now result }
+    ensures stays { OnOk result (place.new ≡ place.old) }
 {
     let mut fork = objects.fork(alloc)?;
     let result = on_interrupt(
@@ -131,7 +134,7 @@ fn on_interrupt<W: Worktree, F: Find, I: Interrupt, M: Matcher, D: Delegate>(
     alloc: Global,
     shared: &Shared<'_, M>,
     blocked: &Option<PathText>,
-    place: &Place,
+    place: &mut Place,
     class: &classify::Outcome,
     levels: usize,
     rules: &mut Option<Stack>,
@@ -141,13 +144,14 @@ fn on_interrupt<W: Worktree, F: Find, I: Interrupt, M: Matcher, D: Delegate>(
     delegate: &mut D,
     outcome: &mut Outcome,
 ) -> Result<Handed, Stop>
-    requires root { place.now.root ≡ shared.now.worktree_root.now }
+    requires root { place.old.root ≡ shared.now.worktree_root.now }
     requires lookup { IsLookupIf shared.now.index.now shared.now.ignore_case_index_lookup.now }
     requires excludes { tells_excludes (made_with rules.old) ≡ true }
-    ensures { WalksJob W.Worktree F.Find I.Interrupt D.Delegate worktree.old worktree.new
+    ensures job { WalksJob W.Worktree F.Find I.Interrupt D.Delegate worktree.old worktree.new
         objects.old objects.new interrupt.old interrupt.new rules.old delegate.old delegate.new
         outcome.old outcome.new (setting_of M.Matcher shared.now) blocked.now levels
-        place.now.path class.now result }
+        place.old.path class.now result }
+    ensures stays { OnOk result (place.new ≡ place.old) }
 {
     let mut fork = interrupt.fork(alloc)?;
     let result = walk_directory(

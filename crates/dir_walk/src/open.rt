@@ -29,6 +29,9 @@ use worktree_fs::{Interrupt, ListError, NameList, Worktree};
 
 /// Lists the names of a directory that is entered, unless the interrupt is raised. A last link is followed for the worktree root
 /// alone.
+///
+/// See docs/DECISIONS.md#when-interrupt-is-asked.
+/// See docs/DIFFERENCES.md#gix-link-as-directory.
 #[inline(never)]
 pub(crate) fn open<W: Worktree, I: Interrupt>(
     alloc: Global,
@@ -106,6 +109,7 @@ fn read_error(alloc: Global, path: &[u8], refused: ListError) -> Result<Error, O
 /// The refusal of a directory that lies too deep to be entered; the interrupt is asked first.
 ///
 /// See docs/DECISIONS.md#depth-limit.
+/// See docs/DIFFERENCES.md#gix-depth.
 #[inline(never)]
 pub(crate) fn too_deep<I: Interrupt>(alloc: Global, place: &Place, interrupt: &mut I) -> Error
     ensures deep { IsDeep (full_path place.now.root place.now.path)

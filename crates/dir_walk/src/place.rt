@@ -1,16 +1,18 @@
 //! Where a walk stands.
-ghost use Rattle.std.specs.Prelude.{◌≡◌, true, false, [], IfOk, OnOk, length};
+ghost use Rattle.std.specs.Prelude.{◌≡◌, true, false, [], IfOk, OnOk, OnErr, length};
 ghost use Rattle.gitbase_core.specs.Path.{joined, components, directory_prefix, ends_in_slash};
 ghost use Rattle.worktree_fs.specs.Naming.{IsName};
 ghost use Rattle.worktree_fs.specs.Paths.{full_path, is_normal, spelled};
+ghost use Rattle.dir_walk.specs.Placed.{Standing, IsPushed};
 
+use crate::handed::{Handed, Stop};
 use dir_classify::full_path;
 use gitbase_core::{OutOfMemory, PathText, needs_slash};
 use std::alloc::Global;
 use std::marker::Model;
 
 /// A path of a worktree, relative to its root, in one text with the root: the relative path is the tail of the whole one.
-/// The room is used again for the next path.
+/// A walk goes on to a name by putting it behind the path of its directory, and back by cutting it off.
 ///
 /// Contracts see the root and the relative path, which is normal: one slash parts each two components, and none stands at
 /// the end.
@@ -32,15 +34,6 @@ impl Model for Place {
 }
 
 impl Place {
-    /// No place yet; takes no memory.
-    pub fn new(alloc: Global) -> Place {
-        Place {
-            whole: PathText::new(alloc),
-            root_length: 0,
-            start: 0,
-        }
-    }
-
     /// The path `path` of a worktree; it is normal: one slash parts each two components, and none stands at the end.
     pub fn at(alloc: Global, worktree_root: &[u8], path: &[u8]) -> Result<Place, OutOfMemory>
         requires normal { is_normal path.now ≡ true }
@@ -79,42 +72,33 @@ impl Place {
         &whole[self.start..]
     }
 
-    /// Goes to a name in a directory.
+    /// Goes on to a name in the directory that stands here, and answers how long the directory's whole path is.
     #[inline(never)]
-    pub fn set_child(
-        &mut self,
-        alloc: Global,
-        directory: &Place,
-        name: &[u8],
-    ) -> Result<(), OutOfMemory>
+    pub fn push(&mut self, alloc: Global, name: &[u8]) -> Result<usize, OutOfMemory>
         requires { IsName name.now }
-        ensures { OnOk result (self.new
-            ≡ record { root = directory.now.root; path = joined directory.now.path name.now }) }
+        ensures pushed { OnOk result (self.new
+            ≡ record { root = self.old.root; path = joined self.old.path name.now }) }
+        ensures within { IfOk result (λ cut. IsPushed cut self.old self.new) }
     {
-        self.set(alloc, directory)?;
-        self.push(alloc, name)
+        let length = self.whole.as_bytes().len();
+        self.whole.push_component(alloc, name)?;
+        Ok(length)
     }
 
-    /// Goes to another place.
-    fn set(&mut self, alloc: Global, place: &Place) -> Result<(), OutOfMemory>
-        ensures { OnOk result (self.new ≡ place.now) }
+    /// Goes back to the directory whose whole path has so many bytes, where the walk of a name in it ended well. A walk that is
+    /// refused or broken ends wherever it stands.
+    #[inline(never)]
+    pub fn leave(&mut self, cut: usize, handed: &Result<Handed, Stop>)
+        requires { (directory : Standing)
+            × OnOk handed.now (IsPushed cut directory self.old) }
+        ensures { (directory : Standing)
+            → OnOk handed.now (IsPushed cut directory self.old)
+            → OnOk handed.now (self.new ≡ directory) }
     {
-        self.root_length = 0;
-        self.start = 0;
-        self.whole.truncate(0);
-        self.whole.push_component(alloc, place.whole.as_bytes())?;
-        self.root_length = place.root_length;
-        self.start = place.start;
-        Ok(())
-    }
-
-    /// Goes on to a name in the directory that stands here; stays where memory is refused.
-    pub fn push(&mut self, alloc: Global, name: &[u8]) -> Result<(), OutOfMemory>
-        requires { IsName name.now }
-        ensures { OnOk result (self.new
-            ≡ record self.old { path = joined self.old.path name.now }) }
-    {
-        self.whole.push_component(alloc, name)
+        if handed.is_err() {
+            return;
+        }
+        self.whole.truncate(cut);
     }
 }
 

@@ -3,8 +3,10 @@ ghost use Rattle.std.specs.Prelude.{◌≡◌, ◌≤◌, ◌-◌, ◌^◌, min,
 ghost use Rattle.dir_walk.specs.Distinct.{Ascends};
 ghost use Rattle.worktree_fs.specs.Causes.{NotIncreased};
 ghost use Rattle.worktree_stack.specs.Reading.{Sources};
+ghost use Rattle.dir_classify.specs.Chosen.{chosen};
 ghost use Rattle.dir_classify.specs.Excludes.{made_with, tells_excludes};
 ghost use Rattle.dir_classify.specs.Layers.{setting_in, IsLookupIf};
+ghost use Rattle.dir_walk.specs.Puts.{hidden_in};
 ghost use Rattle.dir_walk.specs.Reports.{IsFromRoot, IsReport};
 ghost use Rattle.dir_walk.specs.WalkRefused.{by_default};
 ghost use Rattle.dir_walk.specs.Walks.{Tells, WalksWorktree};
@@ -60,6 +62,8 @@ pub fn walk_by_path<W: Worktree, F: Find, I: Interrupt, M: Matcher>(
         (λ r. r.outcome.returned_entries ≡ min (length r.entries) (2 ^ 64 - 1)) }
     ensures seen { IfOk result
         (λ r. min r.outcome.returned_entries (2 ^ 32 - 1) ≤ r.outcome.seen_entries) }
+    // None of them is one that the options hide.
+    ensures filtered { IfOk result (λ r. hidden_in (chosen options.entry) r.entries ≡ 0) }
     // They are from the traversal root on that is named, which was asked for.
     ensures once { IfOk result
         (IsFromRoot (setting_in M.Matcher worktree_root.now options.entry ctx.entry)

@@ -26,6 +26,8 @@ use worktree_fs::{NodeKind, ReadError, Worktree, next_component};
 /// - `SymlinkMetadata`: one of its components is not there, or its kind could not be had, which the worktree counted.
 /// - `SymlinkInRoot`: one of its components is a link, and no earlier one is.
 /// - `OutOfMemory`: memory was refused.
+///
+/// See docs/DIFFERENCES.md#gix-traversal-root.
 pub(crate) fn traversal_root<W: Worktree, M: Matcher>(
     alloc: Global,
     shared: &Shared<'_, M>,

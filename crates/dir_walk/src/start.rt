@@ -5,23 +5,23 @@ ghost use Rattle.worktree_fs.specs.Kept.{Asks};
 ghost use Rattle.worktree_stack.specs.Reading.{Sources};
 ghost use Rattle.worktree_stack.specs.Setup.{Made};
 ghost use Rattle.dir_classify.specs.Chosen.{chosen};
-ghost use Rattle.dir_classify.specs.Excludes.{made_with, tells_excludes};
+ghost use Rattle.dir_classify.specs.Excludes.{made_with, maps_blobs, tells_excludes};
 ghost use Rattle.gitbase_core.specs.Path.{is_empty};
 ghost use Rattle.dir_classify.specs.Kinds.{holds_names, is_symlink};
 ghost use Rattle.dir_classify.specs.Layers.{setting_of, evidence, IsLookupIf};
 ghost use Rattle.dir_classify.specs.Rooted.{reached_by, way_to};
+ghost use Rattle.dir_walk.specs.declared.strategy.Strategy.TheVariants.{Held};
 ghost use Rattle.dir_walk.specs.Emissions.{plain};
-ghost use Rattle.dir_walk.specs.Emits.{Emits, IsPart, shown_by};
+ghost use Rattle.dir_walk.specs.Emits.{Emits, IsPartOfAll, shown_by};
 ghost use Rattle.dir_walk.specs.Given.{IsAnswered, OnRefused};
 ghost use Rattle.dir_walk.specs.Kept.{KeepsDelegate, Heeds};
 ghost use Rattle.dir_walk.specs.Opens.{OpensFrom, refused_walk};
-ghost use Rattle.dir_walk.specs.Puts.{Puts, PutsFrom, once_at};
-ghost use Rattle.dir_walk.specs.Report.{out_of};
+ghost use Rattle.dir_walk.specs.Puts.{AddsShown, Puts, PutsFrom, once_at};
 ghost use Rattle.dir_walk.specs.Root.{is_root_entered, root_kind, walked_at};
 ghost use Rattle.dir_walk.specs.Rooting.{IsRoot};
 ghost use Rattle.dir_walk.specs.Starts.{StartGives, PutsRoot};
 ghost use Rattle.dir_walk.specs.Walked.{Walked};
-ghost use Rattle.dir_walk.specs.WalkRefused.{IsNoTop, OnNoRoot, StartAbout, StartFound, StartRefuses, recursion_of};
+ghost use Rattle.dir_walk.specs.WalkRefused.{IsNoTop, OnNoRoot, OnNoStart, StartAbout, StartFound, StartRefuses, recursion_of};
 ghost use Rattle.dir_walk.specs.Walks.{Ends, EntersFrom, Tells};
 
 use crate::delegate::Delegate;
@@ -148,6 +148,8 @@ fn put_root<D: Delegate, M: Matcher>(
     ensures entered { outcome.new.read_dir_calls ≡ outcome.old.read_dir_calls }
     ensures refusals { D.refusals delegate.new ≡ D.refusals delegate.old }
     ensures delegate { KeepsDelegate D.Delegate delegate.old delegate.new }
+    ensures filtered { AddsShown (chosen shared.now.options) (D.given delegate.old)
+        (D.given delegate.new) }
     ensures heeds { Heeds D.Delegate delegate.old delegate.new result }
 {
     let class = &reached.outcome;
@@ -202,8 +204,8 @@ pub(crate) fn walk_from<W: Worktree, F: Find, I: Interrupt, M: Matcher, D: Deleg
         → D.is_default delegate.old ≡ true
         → (w : Walked) → walked_at (setting_of M.Matcher shared.now) (made_with excludes.old) s
         root.now ≡ Some w
-        → OnErr result (IsPart (chosen shared.now.options) (out_of w) (D.given delegate.old)
-        (D.given delegate.new)) }
+        → OnErr result (IsPartOfAll (chosen shared.now.options) w (D.given delegate.old)
+        (D.given delegate.new) outcome.old outcome.new) }
     ensures refused { (s : Sources)
         → Tells W.Worktree F.Find worktree.old objects.old excludes.old s
         → NotIncreased (W.faults worktree.old) (W.faults worktree.new)
@@ -215,6 +217,9 @@ pub(crate) fn walk_from<W: Worktree, F: Find, I: Interrupt, M: Matcher, D: Deleg
         → NotIncreased (W.faults worktree.old) (W.faults worktree.new)
         → IfErr result (OnRefused (OnNoRoot (IsNoTop (setting_of M.Matcher shared.now)
         (made_with excludes.old) s (recursion_of D.Delegate delegate.old delegate.new)))) }
+    ensures unstarted { IfErr result (OnRefused (OnNoStart
+        ((W.lists worktree.new ≡ W.lists worktree.old) × (interrupt.new ≡ interrupt.old)
+        × (D.given delegate.new ≡ D.given delegate.old)))) }
     ensures about { IfErr result (OnRefused (StartAbout (made_with excludes.old)
         shared.now.worktree_root.now root.now depth_limit)) }
     ensures found { (s : Sources) → W.told worktree.old ≡ Some s.tree
@@ -224,9 +229,13 @@ pub(crate) fn walk_from<W: Worktree, F: Find, I: Interrupt, M: Matcher, D: Deleg
         interrupt.new outcome.old outcome.new strategy (chosen shared.now.options)
         (made_with excludes.old) root.now result (EntersFrom W.Worktree F.Find D.Delegate
         worktree.old worktree.new objects.old excludes.old delegate.old
-        (setting_of M.Matcher shared.now) root.now (refused_walk result)) }
+        (setting_of M.Matcher shared.now) root.now depth_limit (refused_walk result)) }
     ensures puts { PutsFrom root.now (D.given delegate.old) (D.given delegate.new) outcome.old
         outcome.new }
+    ensures filtered { AddsShown (chosen shared.now.options) (D.given delegate.old)
+        (D.given delegate.new) }
+    ensures unmapped { strategy ≡ Held → maps_blobs (made_with excludes.old) ≡ false
+        → objects.new ≡ objects.old }
     ensures ends { Ends W.Worktree F.Find I.Interrupt D.Delegate worktree.old worktree.new
         objects.old objects.new interrupt.old interrupt.new excludes.old excludes.new delegate.old
         delegate.new result }

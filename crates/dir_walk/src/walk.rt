@@ -23,22 +23,25 @@ use worktree_stack::Stack;
 ///
 /// `worktree_root` is absolute and has no component `.` or `..`. The walk begins at the traversal root: the one that the
 /// context has, else the common directory of what the path specs match where that is a directory, else the worktree root,
-/// which may be a link to a directory. It is classed component by component; where the way ends before it, or the
-/// delegate does not look into it, nothing is entered, and at most one entry is given: that of the path where the way
-/// ended.
+/// which may be a link to a directory. It is classed component by component; where the way ends before it, or its status
+/// has it not looked into and the delegate goes by that, nothing is entered, and at most one entry is given: that of the
+/// path where the way ended.
 ///
 /// A directory is folded over what lies in it as the options ask for it; in deletion neither a directory that holds
 /// precious paths among others is folded nor the current one.
 ///
-/// Each directory that is entered is listed once; where files are read for their rules alone, the worktree is read at
-/// most once for each of them and for each component of the traversal root. Each level below the traversal root takes
-/// room on the stack, up to `depth_limit` of the context.
+/// Each directory that is entered is listed once; where files are read for their rules alone, and these are ignore rules
+/// alone, the worktree is read at most once for each of them and for each component of the traversal root, and once more
+/// where the walk is refused. Each level below the traversal root takes room on the stack, up to `depth_limit` of the
+/// context.
 ///
 /// Three faults of the worktree are no refusal, but are counted: of the question for the kind of a name, of a look for a
 /// repository, and of the real path of the worktree root. The name has no kind then, is seen as no repository or as
 /// another one, or no directory is the current one. So is the fault of the question whether the common directory is one,
-/// which is then not begun at. After a refusal the delegate has what it was given before. Where it answers Break the walk
-/// ends with what was counted so far.
+/// which is then not begun at; and that of the question where a link at the worktree root leads, which then counts as no
+/// directory, so that a walk from there is refused with `WorktreeRootIsFile`. After a refusal the delegate has what it was
+/// given before, and where there is no traversal root, or the worktree root is refused, that is nothing. Where it answers
+/// Break the walk ends with what was counted so far.
 ///
 /// See docs/DECISIONS.md#traversal-root.
 /// See docs/DECISIONS.md#nothing-entered.
@@ -54,15 +57,20 @@ use worktree_stack::Stack;
 /// - `WorktreeRootIsFile`: the traversal root is the worktree root, which is not entered, by its status or as the delegate
 ///   refuses, and is no directory, a link not followed.
 /// - `Interrupted`: the interrupt was raised, which is asked before each directory is read.
-/// - `TooDeep`: a directory is to be entered and has more components below the worktree root than the limit.
+/// - `TooDeep`: a directory is to be entered and has more components below the worktree root than the limit; none that has
+///   is listed.
 /// - `ReadDir`: what is to be entered could not be listed, for a fault, or is no directory on disk: as the index calls it
-///   one, or an up-to-date repository; at the traversal root also as it is of the worktree set or is excluded; and
-///   anything that a delegate of its own recursion looks into.
+///   an up-to-date directory; at the traversal root also as it is an up-to-date repository, of the worktree set or
+///   excluded; and anything that a delegate of its own recursion looks into.
 /// - `DirEntry`: a name in a directory could not be had, for a fault.
 /// - `ExcludesAccess`: for a path whose class asks the rules, the rules file of a directory above it is a link that is
 ///   not followed or without an end, or neither file nor directory, or could not be read, or is mapped to a blob that
 ///   could not be had.
 /// - `OutOfMemory`: memory was refused.
+///
+/// See docs/DECISIONS.md#root-may-be-link.
+/// See docs/DECISIONS.md#answered-path.
+/// See docs/DECISIONS.md#said-by-counts.
 pub fn walk<W: Worktree, F: Find, I: Interrupt, M: Matcher, D: Delegate>(
     alloc: Global,
     worktree_root: &[u8],

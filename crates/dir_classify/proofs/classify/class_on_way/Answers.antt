@@ -1,7 +1,5 @@
-use Rattle.std.proofs.Common.{◌∙◌, false}
+use Rattle.std.proofs.Common.{◌∙◌}
 use Rattle.std.proofs.lemmas.Result.{err_from_is_err_and}
-use Rattle.dir_classify.specs.Chosen.{chosen}
-use Rattle.dir_classify.specs.Class.{asks_nothing}
 use Rattle.dir_classify.specs.Layers.{setting_of}
 use Rattle.dir_classify.proofs.OnWay.{on-way, on-way-refused}
 use Rattle.dir_classify.proofs.classify.class_on_way.Goals as goal
@@ -9,8 +7,7 @@ use Rattle.dir_classify.proofs.classify.class_on_way.Goals as goal
 pub returns : goal.returns
 returns g c =
     on-way g.W.Worktree g.F.Find c.args.worktree.now c.kind_on_disk.new.worktree c.at.new.worktree c.args.objects.now c.at.new.objects c.args.excludes.now c.at.new.excludes
-    (setting_of g.M.Matcher c.args.shared.now) c.args.rela_path.now c.as_bytes.result.now c.in_ok-kind.kind (c.as_bytes.ensures ∙ c.in_ok-full.ensures) c.in_ok-kind.ensures.keeps c.in_ok-kind.ensures.reads c.in_ok-kind.ensures.kind c.in_ok-kind.ensures.swallowed
-    (λ ev. asks_nothing (chosen c.args.shared.now.options) ev c.args.rela_path.now c.in_ok-kind.kind false) c.in_ok-class.class c.in_ok-class.ensures
+    (setting_of g.M.Matcher c.args.shared.now) c.args.rela_path.now c.as_bytes.result.now c.in_ok-kind.kind (c.as_bytes.ensures ∙ c.in_ok-full.ensures) c.in_ok-kind.ensures.keeps c.in_ok-kind.ensures.reads c.in_ok-kind.ensures.kind c.in_ok-kind.ensures.swallowed c.in_ok-class.class c.in_ok-class.ensures
 
 pub returns-in_err-class : goal.returns-in_err-class
 returns-in_err-class g c =
@@ -18,5 +15,4 @@ returns-in_err-class g c =
     rw (p.1, p.2)
     (on-way-refused g.W.Worktree g.F.Find c.args.worktree.now c.kind_on_disk.new.worktree c.at.new.worktree c.args.objects.now c.at.new.objects c.args.excludes.now c.at.new.excludes
     (setting_of g.M.Matcher c.args.shared.now) c.args.rela_path.now c.as_bytes.result.now c.in_ok-kind.kind (c.as_bytes.ensures ∙ c.in_ok-full.ensures) c.in_ok-kind.ensures.keeps c.in_ok-kind.ensures.reads
-    c.in_ok-kind.ensures.kind c.in_ok-kind.ensures.swallowed
-    (λ ev. asks_nothing (chosen c.args.shared.now.options) ev c.args.rela_path.now c.in_ok-kind.kind false) c.in_err-class.field-0.0 c.in_err-class.ensures)
+    c.in_ok-kind.ensures.kind c.in_ok-kind.ensures.swallowed c.in_err-class.field-0.0 c.in_err-class.ensures)

@@ -1,4 +1,4 @@
-use Rattle.std.proofs.Common.{◌≡◌, ◌∙◌, ap, sym, true, false, ℕ, List, [], Option, None, inl, rules}
+use Rattle.std.proofs.Common.{◌≡◌, ◌∙◌, ap, sym, refl, subst, true, false, ℕ, List, [], Option, None, inl, rules, arith}
 use Rattle.std.proofs.lemmas.Result.{err_from_is_err_and}
 use Rattle.dir_classify.specs.declared.entry.Kind.{Kind}
 use Rattle.dir_classify.specs.Excludes.{made_with}
@@ -6,7 +6,10 @@ use Rattle.gitbase_core.specs.Path.{components}
 use Rattle.worktree_fs.specs.Paths.{is_nil}
 use Rattle.worktree_stack.specs.Reading.{Sources}
 use Rattle.dir_classify.specs.Layers.{setting_of, evidence, on_disk}
-use Rattle.dir_classify.proofs.Onward.{way-init, top-init, never-asked, never-unread, ends-init, root-unasked, grown-normal, grown-spelled, onward-grown, Reaches-refused, Reaches-ended, Reaches-stopped, Reaches-unrooted, ended-short, ended-whole}
+use Rattle.dir_classify.specs.Way.{IsReached, Reached, reached_so}
+use Rattle.dir_classify.proofs.Asking.{unasked-needed}
+use Rattle.dir_classify.proofs.Onward.{way-init, top-init, never-asked, never-unread, ends-init, root-unasked, root-unread, grown-normal, grown-spelled, onward-grown, Reaches-refused}
+use Rattle.dir_classify.proofs.Ended.{Reaches-ended, Reaches-stopped, Reaches-unrooted, ended-short, ended-whole}
 use Rattle.dir_classify.proofs.classify.root_at.Goals as goal
 
 pub loop-next-init : goal.loop-next-init
@@ -32,8 +35,20 @@ loop-next-init g c =
       ends = λ s tells step now r end.
           let given = setting_of g.M.Matcher c.args.shared.now in
           ends-init _ _ now given.options (evidence given (made_with c.args.excludes.now) s) (λ p. on_disk given s.tree p true) (components c.args.worktree_relative_root.now) c.in_ok-path.path c.in_ok-class.class
-          c.is_repository-in_repository.result r path_is c.is_repository-in_repository.ensures (first.swallowed s tells step) end;
+          c.is_repository-in_repository.result r path_is c.is_repository-in_repository.ensures (first.swallowed s tells step).0 end;
+      stands = λ s tells step.
+          let given = setting_of g.M.Matcher c.args.shared.now in
+          let ev = evidence given (made_with c.args.excludes.now) s in
+          let kinds : List ℕ → Option Kind = λ p. on_disk given s.tree p true in
+          let now = g.W.Worktree.faults c.class_on_way.new.worktree in
+          let at_root : Reached = reached_so c.in_ok-path.path c.in_ok-class.class c.is_repository-in_repository.result true in
+          subst (λ (l : List (List ℕ)). IsReached (g.W.Worktree.faults c.args.worktree.now) now given.options ev kinds l at_root) (sym (ap components path_is))
+          (ends-init (g.W.Worktree.faults c.args.worktree.now) now now given.options ev kinds [] c.in_ok-path.path c.in_ok-class.class c.is_repository-in_repository.result at_root path_is c.is_repository-in_repository.ensures
+          (first.swallowed s tells step).0 (omega arith, refl));
       reads = inl (root-unasked first);
+      unsought = λ s tells step quiet never.
+          inl (root-unread first s tells.tree_is quiet (never [] (record { spelled_is = refl; rest = []; components_are = ap components path_is })));
+      needed = λ s told quiet. unasked-needed (root-unasked first) _;
       spared = λ s never. root-unasked first;
       unasked = λ s told quiet no. root-unasked first;
     }
@@ -83,7 +98,7 @@ returns-then-not-goes_on g c =
     c.is_repository-in_repository.result (components c.loop-next.rest.now) (components c.in-Some.next.rest.now) c.in-Some.ensures.0 (rw c.as_bytes.ensures at (sym c.goes_on.ensures ∙ c.if-not-goes_on.true)) in
     Reaches-ended g.W.Worktree g.F.Find c.args.worktree.now c.loop-next.worktree c.args.objects.now c.loop-next.objects c.args.excludes.now c.loop-next.excludes given
     c.args.worktree_relative_root.now c.loop-next.path c.loop-next.rest.now c.loop-next.class c.is_repository-in_repository.result c.loop-next.invariant c.requires.spelled
-    c.reached.result false c.reached.ensures (ap is_nil (sym c.in-Some.ensures.0)) (λ s. (short s).0) (λ s. (short s).1)
+    c.reached.result false c.reached.ensures (ap is_nil (sym c.in-Some.ensures.0)) (λ part. rw c.as_bytes.ensures at (sym c.goes_on.ensures ∙ c.if-not-goes_on.true)) (λ s. (short s).0) (λ s. (short s).1)
 
 pub returns-in_err-push_component : goal.returns-in_err-push_component
 returns-in_err-push_component g c =
@@ -100,4 +115,4 @@ returns g c =
     c.is_repository-in_repository.result (components c.loop-next.rest.now) none in
     Reaches-ended g.W.Worktree g.F.Find c.args.worktree.now c.loop-next.worktree c.args.objects.now c.loop-next.objects c.args.excludes.now c.loop-next.excludes given
     c.args.worktree_relative_root.now c.loop-next.path c.loop-next.rest.now c.loop-next.class c.is_repository-in_repository.result c.loop-next.invariant c.requires.spelled
-    c.reached-2.result true c.reached-2.ensures (ap is_nil (sym none)) (λ s. (whole s).0) (λ s. (whole s).1)
+    c.reached-2.result true c.reached-2.ensures (ap is_nil (sym none)) (λ part. absurd (cc part)) (λ s. (whole s).0) (λ s. (whole s).1)

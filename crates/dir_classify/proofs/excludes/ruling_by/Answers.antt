@@ -1,4 +1,4 @@
-use Rattle.std.proofs.Common.{◌≡◌, ◌∙◌, sym, subst, refl, inr}
+use Rattle.std.proofs.Common.{◌≡◌, ◌∙◌, sym, subst, refl, inr, Some}
 use Rattle.std.proofs.lemmas.Result.{err_from_is_err_and}
 use Rattle.gitbase_core.specs.Path.{components}
 use Rattle.worktree_stack.specs.Setup.{excluded_kind}
@@ -6,15 +6,18 @@ use Rattle.worktree_stack.specs.Excludes.{exclude, rule_of, origin_of}
 use Rattle.worktree_stack.specs.Reading.{rulebook}
 use Rattle.worktree_stack.specs.Lookups.{IsLookedUp}
 use Rattle.worktree_stack.specs.Stacked.{Stacked, made_of, IsInStep}
+use Rattle.worktree_fs.specs.Causes.{Increased}
+use Rattle.dir_classify.specs.Refused.{StopsIf}
 use Rattle.dir_classify.proofs.Keeping.{nothing-mapped}
+use Rattle.dir_classify.proofs.Stopped.{stopped-access}
 use Rattle.dir_classify.proofs.Looked.{tells-given, ruling-looked, read-looked, leaves-refused}
 use Rattle.dir_classify.proofs.excludes.ruling_by.Goals as goal
 
 pub returns-clause-ruling : goal.returns-clause-ruling
 returns-clause-ruling g c = λ s told step.
-    let looks = c.in_ok-at_path.ensures.looks_up in
+    let looks = c.in_ok-look_up.ensures.looks_up in
     let tells = tells-given (g.W.Worktree.told c.args.worktree.now) (g.F.Find.holds c.args.objects.now) (made_of c.args.stack.now) s told in
-    let now : Stacked = c.at_path.new.self in
+    let now : Stacked = c.look_up.new.stack in
     let path = c.args.rela_path.now in
     let in_step = subst (IsInStep s) (sym c.platform-platform.ensures) (looks.in_step s tells step) in
     let looked_up = subst (λ (p : Stacked). IsLookedUp p (components path)) (sym c.platform-platform.ensures) looks.looked_up in
@@ -26,31 +29,42 @@ returns-clause-ruling g c = λ s told step.
 
 pub returns-clause-read : goal.returns-clause-read
 returns-clause-read g c = λ s told step.
-    let looks = c.in_ok-at_path.ensures.looks_up in
+    let looks = c.in_ok-look_up.ensures.looks_up in
     let tells = tells-given (g.W.Worktree.told c.args.worktree.now) (g.F.Find.holds c.args.objects.now) (made_of c.args.stack.now) s told in
-    read-looked s (made_of c.args.stack.now) c.at_path.new.self c.args.rela_path.now c.requires.excludes looks.made (looks.in_step s tells step) looks.looked_up
+    read-looked s (made_of c.args.stack.now) c.look_up.new.stack c.args.rela_path.now c.requires.excludes looks.made (looks.in_step s tells step) looks.looked_up
 
-pub returns-in_err-at_path-clause-reads : goal.returns-in_err-at_path-clause-reads
-returns-in_err-at_path-clause-reads g c =
-    let looks = c.in_err-at_path.ensures.looks_up in
+pub returns-in_err-look_up-clause-reads : goal.returns-in_err-look_up-clause-reads
+returns-in_err-look_up-clause-reads g c =
+    let looks = c.in_err-look_up.ensures.looks_up in
     let p = err_from_is_err_and c.from_residual.result c.from_residual.ensures.1 in
     rw (p.1, p.2)
     (inr (record {
       given = refl;
+      once = looks.platforms;
       looked_up = tt;
       on_way = looks.on_way c.requires.normal;
-      leaves = leaves-refused _ _ _ _ c.args.rela_path.now c.args.stack.now c.at_path.new.self c.in_err-at_path.field-0.0 (looks.stopped c.requires.normal);
+      leaves = leaves-refused _ _ _ _ c.args.rela_path.now c.args.stack.now c.look_up.new.stack c.in_err-look_up.field-0.0 (looks.stopped c.requires.normal);
       reads = λ on alone. looks.reads alone;
     }))
 
 pub returns-clause-unmapped : goal.returns-clause-unmapped
-returns-clause-unmapped g c = λ none. c.in_ok-at_path.ensures.looks_up.store_untouched (nothing-mapped (made_of c.args.stack.now) none)
+returns-clause-unmapped g c = λ none. c.in_ok-look_up.ensures.looks_up.store_untouched (nothing-mapped (made_of c.args.stack.now) none)
 
-pub returns-in_err-at_path-clause-unmapped : goal.returns-in_err-at_path-clause-unmapped
-returns-in_err-at_path-clause-unmapped g c = λ none. c.in_err-at_path.ensures.looks_up.store_untouched (nothing-mapped (made_of c.args.stack.now) none)
+pub returns-in_err-look_up-clause-unmapped : goal.returns-in_err-look_up-clause-unmapped
+returns-in_err-look_up-clause-unmapped g c = λ none. c.in_err-look_up.ensures.looks_up.store_untouched (nothing-mapped (made_of c.args.stack.now) none)
 
 pub returns-clause-by_mappings : goal.returns-clause-by_mappings
-returns-clause-by_mappings g c = λ none. c.in_ok-at_path.ensures.looks_up.untouched none
+returns-clause-by_mappings g c = λ none. c.in_ok-look_up.ensures.looks_up.untouched none
 
-pub returns-in_err-at_path-clause-by_mappings : goal.returns-in_err-at_path-clause-by_mappings
-returns-in_err-at_path-clause-by_mappings g c = λ none. c.in_err-at_path.ensures.looks_up.untouched none
+pub returns-in_err-look_up-clause-by_mappings : goal.returns-in_err-look_up-clause-by_mappings
+returns-in_err-look_up-clause-by_mappings g c = λ none. c.in_err-look_up.ensures.looks_up.untouched none
+
+pub returns-in_err-look_up-clause-stopped : goal.returns-in_err-look_up-clause-stopped
+returns-in_err-look_up-clause-stopped g c =
+    let looks = c.in_err-look_up.ensures.looks_up in
+    let p = err_from_is_err_and c.from_residual.result c.from_residual.ensures.1 in
+    rw (p.1, p.2)
+    (stopped-access
+    (StopsIf (g.W.Worktree.told c.args.worktree.now) (g.F.Find.holds c.args.objects.now) (Increased (g.W.Worktree.faults c.args.worktree.now) (g.W.Worktree.faults c.look_up.new.worktree))
+    (Increased (g.F.Find.faults c.args.objects.now) (g.F.Find.faults c.look_up.new.objects)) c.args.rela_path.now (Some c.args.stack.now) (Some c.look_up.new.stack))
+    c.in_err-look_up.field-0.0 (looks.stopped c.requires.normal))

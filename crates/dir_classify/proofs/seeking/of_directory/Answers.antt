@@ -1,6 +1,10 @@
-use Rattle.std.proofs.Common.{◌∙◌}
+use Rattle.std.proofs.Common.{◌∙◌, ap, sym}
+use Rattle.dir_classify.specs.Chosen.{chosen}
+use Rattle.dir_classify.specs.Class.{may_have_sought}
+use Rattle.dir_classify.specs.declared.classify.Outcome.{Outcome}
 use Rattle.dir_classify.specs.Layers.{setting_of}
-use Rattle.dir_classify.proofs.ByParts.{directory-class, directory-judged}
+use Rattle.dir_classify.proofs.ByParts.{directory-class, directory-judged, directory-still}
+use Rattle.dir_classify.proofs.Sought.{sought-directory}
 use Rattle.dir_classify.proofs.seeking.of_directory.Goals as goal
 
 pub returns-clause-class : goal.returns-clause-class
@@ -14,3 +18,16 @@ returns-clause-swallowed g c = λ s told made on_disk.
     rw c.class_free.ensures
     (directory-judged (setting_of g.M.Matcher c.args.shared.now) made s c.args.rela_path.now c.args.full.now c.requires.full c.args.entry c.requires.entry c.args.kind
     c.match_of-found.result (c.match_of-found.ensures made s) _ _ on_disk c.in_ok-disk_kind.disk_kind (rw c.is_hard-hard.ensures at (c.in_ok-disk_kind.ensures.swallowed s.tree told)))
+
+pub returns-clause-sought : goal.returns-clause-sought
+returns-clause-sought g c = λ no.
+    let o = chosen c.args.shared.now.options in
+    c.in_ok-disk_kind.ensures.unasked
+    (sought-directory o c.args.entry c.args.kind c.in_ok-disk_kind.disk_kind c.match_of-found.result c.requires.directory c.in_ok-disk_kind.ensures.either
+    (ap (λ (x : Outcome). may_have_sought o x) (sym c.class_free.ensures) ∙ no))
+
+pub returns-clause-certain : goal.returns-clause-certain
+returns-clause-certain g c = λ idle made s.
+    c.class_free.ensures
+    ∙ directory-still (setting_of g.M.Matcher c.args.shared.now) made s c.args.rela_path.now c.args.full.now c.requires.full c.args.entry c.requires.entry c.args.kind
+    c.match_of-found.result (c.match_of-found.ensures made s) c.in_ok-disk_kind.disk_kind (c.in_ok-disk_kind.ensures.certain idle) idle

@@ -1,6 +1,6 @@
 use Rattle.std.proofs.Common.{◌∙◌, ap, sym, None, arith}
 use Rattle.dir_classify.specs.Chosen.{chosen}
-use Rattle.dir_classify.specs.Class.{class_by_rules, class_directory, class_free}
+use Rattle.dir_classify.specs.Class.{class_by_rules, class_directory, class_free, is_idle}
 use Rattle.dir_classify.specs.Faults.{read_as}
 use Rattle.dir_classify.specs.Layers.{setting_of, evidence}
 use Rattle.dir_classify.proofs.ByParts.{other-class, other-judged, directory-by-rules}
@@ -30,3 +30,15 @@ returns-clause-swallowed g c = λ s told made on_disk.
     rw (c.class_free.ensures, c.status_without.ensures)
     (other-judged (setting_of g.M.Matcher c.args.shared.now) made s c.args.rela_path.now c.args.full.now c.requires.full c.args.entry c.requires.entry c.args.kind
     c.match_of-found.result (c.match_of-found.ensures made s) _ _ (omega arith) (sym c.holds_names.ensures ∙ c.if-holds_names.false) on_disk)
+
+pub returns-then-holds_names-clause-certain : goal.returns-then-holds_names-clause-certain
+returns-then-holds_names-clause-certain g c = λ idle made s.
+    let is = sym c.holds_names.ensures ∙ c.if-holds_names.true in
+    c.in_ok-class.ensures.certain (ap (is_idle (chosen c.args.shared.now.options)) (sym is) ∙ idle) made s
+    ∙ directory-by-rules (chosen c.args.shared.now.options) (evidence (setting_of g.M.Matcher c.args.shared.now) made s) c.args.rela_path.now c.args.kind is
+
+pub returns-clause-certain : goal.returns-clause-certain
+returns-clause-certain g c = λ idle made s.
+    c.class_free.ensures ∙ ap (λ status. class_free status c.args.entry c.args.kind c.match_of-found.result) c.status_without.ensures
+    ∙ other-class (setting_of g.M.Matcher c.args.shared.now) made s c.args.rela_path.now c.args.full.now c.requires.full c.args.entry c.requires.entry c.args.kind
+    c.match_of-found.result (c.match_of-found.ensures made s) (sym c.holds_names.ensures ∙ c.if-holds_names.false)

@@ -1,4 +1,4 @@
-use Rattle.std.proofs.Common.{◌∙◌, ap, sym, refl, None, not, ◌&&◌, arith, rules}
+use Rattle.std.proofs.Common.{◌≡◌, ◌∙◌, ap, sym, refl, None, false, true, ◌&&◌, arith}
 use Rattle.std.specs.Prelude.{is_some}
 use Rattle.std.proofs.lemmas.Result.{err_from_is_err_and}
 use Rattle.dir_classify.specs.Chosen.{chosen}
@@ -6,104 +6,129 @@ use Rattle.dir_classify.specs.Class.{class_dot_git, dot_git_ruling}
 use Rattle.dir_classify.specs.Excludes.{made_with}
 use Rattle.dir_classify.specs.Faults.{none_failed, read_as}
 use Rattle.dir_classify.specs.Layers.{setting_of, evidence, on_disk}
-use Rattle.dir_classify.proofs.Fitting.{dot_git-none, dot_git-nothing}
+use Rattle.dir_classify.specs.Question.{about_dot_git}
+use Rattle.dir_classify.proofs.Classed.{asked-so, classed-as-judged}
+use Rattle.dir_classify.proofs.Fitting.{dot_git-none, dot_git-nothing, not-true}
 use Rattle.dir_classify.proofs.Judging.{unruled}
 use Rattle.dir_classify.proofs.Keeping.{asks-same, at-most, at-most-refused}
-use Rattle.dir_classify.proofs.Refusals.{on-access-by}
+use Rattle.dir_classify.proofs.Refusals.{on-access, on-access-by}
 use Rattle.dir_classify.proofs.Ruled.{dot_git-unasked, dot_git-unruled, dot_git-asked, dot_git-read, dot_git-asks}
 use Rattle.dir_classify.proofs.Upgrades.{judged-unread}
 use Rattle.dir_classify.proofs.steps.of_dot_git.Goals as goal
 
 pub returns-then-not-is_deleting : goal.returns-then-not-is_deleting
 returns-then-not-is_deleting g c = λ ask_disk.
+    let o = chosen c.args.shared.now.options in
+    let given = setting_of g.M.Matcher c.args.shared.now in
     let made = made_with c.args.excludes.now in
     let path = c.args.rela_path.now in
     let off = sym c.is_deleting.ensures ∙ c.if-not-is_deleting.true in
-    unruled g.W.Worktree g.F.Find c.args.worktree.now c.args.worktree.now c.args.objects.now c.args.excludes.now (setting_of g.M.Matcher c.args.shared.now) path
-    (λ _ ev. class_dot_git (chosen c.args.shared.now.options) ev path c.args.disk_kind (dot_git_ruling (chosen c.args.shared.now.options) ev path c.args.disk_kind)) (λ _ ev. is_some (chosen c.args.shared.now.options).for_deletion && ev.is_ruled)
-    (λ ev. not (is_some (chosen c.args.shared.now.options).for_deletion && ev.is_ruled)) ask_disk c.class_dot_git.result
+    unruled g.W.Worktree g.F.Find c.args.worktree.now c.args.worktree.now c.args.objects.now c.args.excludes.now given (about_dot_git o path c.args.disk_kind ask_disk) c.class_dot_git.result
     (asks-same g.W.Worktree c.args.worktree.now) (λ on. refl)
-    (λ s told quiet. c.class_dot_git.ensures made s ∙ dot_git-unasked (chosen c.args.shared.now.options) (evidence (setting_of g.M.Matcher c.args.shared.now) made s) path c.args.disk_kind off)
-    (λ s told. let ev = evidence (setting_of g.M.Matcher c.args.shared.now) made s in
-    judged-unread _ _ (λ _ read. class_dot_git (chosen c.args.shared.now.options) read path c.args.disk_kind (dot_git_ruling (chosen c.args.shared.now.options) read path c.args.disk_kind)) ev (on_disk (setting_of g.M.Matcher c.args.shared.now) s.tree path ask_disk) c.class_dot_git.result (omega arith)
-    (c.class_dot_git.ensures made s ∙ dot_git-unasked (chosen c.args.shared.now.options) (read_as none_failed ev) path c.args.disk_kind off))
-    (λ s. rw off refl)
-    (λ s no. refl)
+    (λ s told quiet. c.class_dot_git.ensures made s ∙ dot_git-unasked o (evidence given made s) path c.args.disk_kind off)
+    (λ s told. let ev = evidence given made s in
+    judged-unread _ _ (λ _ read. class_dot_git o read path c.args.disk_kind (dot_git_ruling o read path c.args.disk_kind)) ev (on_disk given s.tree path ask_disk) c.class_dot_git.result (omega arith)
+    (c.class_dot_git.ensures made s ∙ dot_git-unasked o (read_as none_failed ev) path c.args.disk_kind off))
+    (λ s kind. rw off refl)
+    (λ s no. refl) (λ no. refl)
+    (λ s no. (refl, c.class_dot_git.ensures made s ∙ dot_git-unasked o (evidence given made s) path c.args.disk_kind off))
 
 pub returns-in_err-ruling : goal.returns-in_err-ruling
 returns-in_err-ruling g c = λ ask_disk.
-    record {
-      class = search rules;
-      read = search rules;
-      swallowed = search rules;
-      unruled = search rules;
-      about = search rules;
-      refused = search rules;
-      asked = λ s told quiet.
-          let p = err_from_is_err_and c.from_residual.result c.from_residual.ensures.1 in
-          let on = sym c.is_deleting.ensures ∙ c.if-not-is_deleting.false in
-          rw (p.1, p.2) (on-access-by (made_with c.args.excludes.now) c.args.rela_path.now _ (dot_git-asks (chosen c.args.shared.now.options) (setting_of g.M.Matcher c.args.shared.now) (made_with c.args.excludes.now) s on)
-          c.in_err-ruling.field-0.0 c.in_err-ruling.ensures.about);
-      cause = search rules;
-      keeps = c.in_err-ruling.ensures.keeps;
-      store = c.in_err-ruling.ensures.store;
-      unmapped = c.in_err-ruling.ensures.unmapped;
-      rules = c.in_err-ruling.ensures.rules;
-      reads =
-          let p = err_from_is_err_and c.from_residual.result c.from_residual.ensures.1 in
-          rw (p.1, p.2) (at-most-refused (chosen c.args.shared.now.options).recurse_repositories c.args.rela_path.now _ _ _ _ _ _ c.in_err-ruling.field-0.0 c.in_err-ruling.ensures.reads);
+    let o = chosen c.args.shared.now.options in
+    let given = setting_of g.M.Matcher c.args.shared.now in
+    let made = made_with c.args.excludes.now in
+    let path = c.args.rela_path.now in
+    let on = sym c.is_deleting.ensures ∙ c.if-not-is_deleting.false in
+    let asked = c.in_err-ruling.ensures in
+    let e = c.in_err-ruling.field-0.0 in
+    let p = err_from_is_err_and c.from_residual.result c.from_residual.ensures.1 in
+    rw (p.1, p.2)
+    (record {
+      class = λ s tells step quiet. tt;
+      read = λ s tells step quiet. tt;
+      swallowed = λ s tells step. tt;
+      unruled = λ s told quiet no. tt;
+      about = asked.about;
+      refused = asked.refused;
+      asked = λ s told.
+          asked-so _ _ (λ _. is_some o.for_deletion && (evidence given made s).is_ruled) (on_disk given s.tree path ask_disk) _ e asked.keeps.faults
+          (on-access-by made path _ (dot_git-asks o given made s on) e asked.about) asked.cause;
+      stopped = asked.stopped;
+      cause = asked.cause;
+      keeps = asked.keeps;
+      store = asked.store;
+      unmapped = asked.unmapped;
+      rules = asked.rules;
+      reads = at-most-refused o.recurse_repositories path _ _ _ _ _ _ e asked.reads;
+      unsought = λ s tells step quiet no. at-most-refused true path _ _ _ _ _ _ e asked.reads;
+      sought = tt;
+      early = on-access _ (at-most-refused true path _ _ _ _ _ _ e asked.reads) e;
       spared = λ s never.
-          let kept = c.in_err-ruling.ensures.untouched
-          (dot_git-none (chosen c.args.shared.now.options) (setting_of g.M.Matcher c.args.shared.now) (made_with c.args.excludes.now) s (sym c.is_deleting.ensures ∙ c.if-not-is_deleting.false) (never None)) in
+          let kept = asked.untouched (dot_git-none o given made s on (never None)) in
           record { same = kept.rules; store = kept.store; reads = λ on. ap g.W.Worktree.reads kept.worktree };
       memory = λ s never.
-          let p = err_from_is_err_and c.from_residual.result c.from_residual.ensures.1 in
-          let off = dot_git-none (chosen c.args.shared.now.options) (setting_of g.M.Matcher c.args.shared.now) (made_with c.args.excludes.now) s (sym c.is_deleting.ensures ∙ c.if-not-is_deleting.false) (never None) in
-          rw (p.1, p.2) (on-access-by (made_with c.args.excludes.now) c.args.rela_path.now ⊥ (λ some. absurd (let no = sym some ∙ off in cc no)) c.in_err-ruling.field-0.0 c.in_err-ruling.ensures.about);
+          let off = dot_git-none o given made s on (never None) in
+          on-access-by made path ⊥ (λ some. absurd (let no = sym some ∙ off in cc no)) e asked.about;
       unasked = λ s told quiet no.
-          let kept = c.in_err-ruling.ensures.untouched
-          (dot_git-none (chosen c.args.shared.now.options) (setting_of g.M.Matcher c.args.shared.now) (made_with c.args.excludes.now) s (sym c.is_deleting.ensures ∙ c.if-not-is_deleting.false) no) in
+          let kept = asked.untouched (dot_git-none o given made s on no) in
           record { same = kept.rules; store = kept.store; reads = λ on. ap g.W.Worktree.reads kept.worktree };
-      untouched = λ s no.
-          c.in_err-ruling.ensures.untouched
-          (dot_git-nothing (chosen c.args.shared.now.options) (setting_of g.M.Matcher c.args.shared.now) (made_with c.args.excludes.now) s (sym c.is_deleting.ensures ∙ c.if-not-is_deleting.false) no);
-    }
+      unread = λ s told quiet no none_sought. ap g.W.Worktree.reads (asked.untouched (dot_git-none o given made s on no)).worktree;
+      untouched = λ s no. asked.untouched (dot_git-nothing o given made s on no);
+      certain = λ s no. tt;
+    })
 
 pub returns : goal.returns
 returns g c = λ ask_disk.
+    let o = chosen c.args.shared.now.options in
+    let given = setting_of g.M.Matcher c.args.shared.now in
     let made = made_with c.args.excludes.now in
     let path = c.args.rela_path.now in
     let on = sym c.is_deleting.ensures ∙ c.if-not-is_deleting.false in
     let asked = c.in_ok-ruling.ensures in
+    let result = c.class_dot_git-2.result in
     record {
       class = λ s tells step quiet.
           c.class_dot_git-2.ensures made s
-          ∙ dot_git-asked (chosen c.args.shared.now.options) (setting_of g.M.Matcher c.args.shared.now) made s path c.args.disk_kind c.in_ok-ruling.ruling c.is_dir-is_dir.result on c.is_dir-is_dir.ensures (asked.ruling s tells step);
-      read = λ s tells step quiet. dot_git-read (chosen c.args.shared.now.options) (setting_of g.M.Matcher c.args.shared.now) made s path (asked.read s tells step);
-      swallowed = λ s tells step. let ev = evidence (setting_of g.M.Matcher c.args.shared.now) made s in
-          judged-unread _ _ (λ _ read. class_dot_git (chosen c.args.shared.now.options) read path c.args.disk_kind (dot_git_ruling (chosen c.args.shared.now.options) read path c.args.disk_kind)) ev (on_disk (setting_of g.M.Matcher c.args.shared.now) s.tree path ask_disk) c.class_dot_git-2.result asked.keeps.faults
-          (c.class_dot_git-2.ensures made s
-          ∙ dot_git-asked (chosen c.args.shared.now.options) (setting_of g.M.Matcher c.args.shared.now) made s path c.args.disk_kind c.in_ok-ruling.ruling c.is_dir-is_dir.result on c.is_dir-is_dir.ensures (asked.ruling s tells step));
+          ∙ dot_git-asked o given made s path c.args.disk_kind c.in_ok-ruling.ruling c.is_dir-is_dir.result on c.is_dir-is_dir.ensures (asked.ruling s tells step);
+      read = λ s tells step quiet. dot_git-read o given made s path (asked.read s tells step);
+      swallowed = λ s tells step. let ev = evidence given made s in
+          classed-as-judged _ _ (about_dot_git o path c.args.disk_kind ask_disk) ev (on_disk given s.tree path ask_disk) result
+          (judged-unread _ _ (λ _ read. class_dot_git o read path c.args.disk_kind (dot_git_ruling o read path c.args.disk_kind)) ev (on_disk given s.tree path ask_disk) result asked.keeps.faults
+          (c.class_dot_git-2.ensures made s ∙ dot_git-asked o given made s path c.args.disk_kind c.in_ok-ruling.ruling c.is_dir-is_dir.result on c.is_dir-is_dir.ensures (asked.ruling s tells step)))
+          (λ kind. dot_git-read o given made s path (asked.read s tells step))
+          (λ kind no.
+          let kept = asked.untouched (dot_git-none o given made s on no) in
+          record { same = kept.rules; store = kept.store; reads = λ on. ap g.W.Worktree.reads kept.worktree });
       unruled = λ s told quiet no.
           c.class_dot_git-2.ensures made s
-          ∙ ap (class_dot_git (chosen c.args.shared.now.options) (evidence (setting_of g.M.Matcher c.args.shared.now) made s) path c.args.disk_kind)
-          (asked.no_rules (dot_git-none (chosen c.args.shared.now.options) (setting_of g.M.Matcher c.args.shared.now) made s on no))
-          ∙ dot_git-unruled (chosen c.args.shared.now.options) (evidence (setting_of g.M.Matcher c.args.shared.now) made s) path c.args.disk_kind no;
+          ∙ ap (class_dot_git o (evidence given made s) path c.args.disk_kind) (asked.no_rules (dot_git-none o given made s on no))
+          ∙ dot_git-unruled o (evidence given made s) path c.args.disk_kind no;
       about = tt;
       refused = λ s tells. tt;
-      asked = λ s told quiet. tt;
+      asked = λ s told. tt;
+      stopped = tt;
       cause = tt;
       keeps = asked.keeps;
       store = asked.store;
       unmapped = asked.unmapped;
       rules = asked.rules;
-      reads = at-most (chosen c.args.shared.now.options).recurse_repositories path _ _ _ _ _ _ _ c.in_ok-ruling.ruling c.class_dot_git-2.result (λ on. refl) asked.reads;
+      reads = at-most o.recurse_repositories path _ _ _ _ _ _ _ c.in_ok-ruling.ruling result (λ on. refl) asked.reads;
+      unsought = λ s tells step quiet no. at-most true path _ _ _ _ _ _ _ c.in_ok-ruling.ruling result (λ on. refl) asked.reads;
+      sought = λ no. at-most true path _ _ _ _ _ _ _ c.in_ok-ruling.ruling result (λ on. refl) asked.reads;
+      early = tt;
       spared = λ s never.
-          let kept = asked.untouched (dot_git-none (chosen c.args.shared.now.options) (setting_of g.M.Matcher c.args.shared.now) made s on (never None)) in
+          let kept = asked.untouched (dot_git-none o given made s on (never None)) in
           record { same = kept.rules; store = kept.store; reads = λ on. ap g.W.Worktree.reads kept.worktree };
       memory = λ s never. tt;
       unasked = λ s told quiet no.
-          let kept = asked.untouched (dot_git-none (chosen c.args.shared.now.options) (setting_of g.M.Matcher c.args.shared.now) made s on no) in
+          let kept = asked.untouched (dot_git-none o given made s on no) in
           record { same = kept.rules; store = kept.store; reads = λ on. ap g.W.Worktree.reads kept.worktree };
-      untouched = λ s no. asked.untouched (dot_git-nothing (chosen c.args.shared.now.options) (setting_of g.M.Matcher c.args.shared.now) made s on no);
+      unread = λ s told quiet no none_sought. ap g.W.Worktree.reads (asked.untouched (dot_git-none o given made s on no)).worktree;
+      untouched = λ s no. asked.untouched (dot_git-nothing o given made s on no);
+      certain = λ s no.
+          let off : (is_some o.for_deletion && (evidence given made s).is_ruled) ≡ false = not-true _ no in
+          c.class_dot_git-2.ensures made s
+          ∙ ap (class_dot_git o (evidence given made s) path c.args.disk_kind) (asked.no_rules (dot_git-none o given made s on off))
+          ∙ dot_git-unruled o (evidence given made s) path c.args.disk_kind off;
     }

@@ -1,10 +1,11 @@
-use Rattle.std.proofs.Common.{◌≡◌, refl, false, rules}
+use Rattle.std.proofs.Common.{◌≡◌, refl, false, arith, rules}
 use Rattle.gitbase_core.specs.Path.{is_empty}
 use Rattle.std.proofs.lemmas.Result.{err_from_is_err_and}
 use Rattle.dir_classify.specs.Excludes.{made_with}
 use Rattle.dir_classify.specs.Layers.{setting_of}
 use Rattle.dir_classify.proofs.Keeping.{tells-then}
 use Rattle.dir_classify.proofs.Refusals.{on-access}
+use Rattle.dir_classify.proofs.Stopped.{stopped-later}
 use Rattle.dir_classify.proofs.Ruled.{made-some, ruled-read}
 use Rattle.dir_classify.proofs.steps.ruling_at.Goals as goal
 
@@ -13,6 +14,13 @@ returns-clause-swallowed g c = λ s tells step.
     ruled-read _ _ _ (setting_of g.M.Matcher c.args.shared.now) (made_with c.args.excludes.now) s c.args.rela_path.now c.args.full.now c.args.kind c.in_ok-is_dir.is_dir c.in_ok-ruling.ruling
     c.in_ok-is_dir.ensures.keeps.faults c.in_ok-ruling.ensures.keeps.faults c.requires.full (made-some c.args.excludes.now (search rules)) (search rules) (c.in_ok-is_dir.ensures.is_dir s.tree tells.tree_is) (c.in_ok-is_dir.ensures.swallowed s.tree tells.tree_is) (c.in_ok-ruling.ensures.ruling s
     (tells-then (g.W.Worktree.told c.args.worktree.now) (g.W.Worktree.told c.ruled_as.new.worktree) (g.F.Find.holds c.args.objects.now) (made_with c.args.excludes.now) s c.in_ok-is_dir.ensures.keeps.tree tells) step)
+
+pub returns-in_err-ruling-clause-stopped : goal.returns-in_err-ruling-clause-stopped
+returns-in_err-ruling-clause-stopped g c =
+    let p = err_from_is_err_and c.from_residual-in_err-ruling.result c.from_residual-in_err-ruling.ensures.1 in
+    rw (p.1, p.2)
+    (stopped-later _ _ _ _ _ _ _ _ _ _ c.args.rela_path.now c.args.excludes.now c.ruling_of.new.excludes c.in_err-ruling.field-0.0
+    c.in_ok-is_dir.ensures.keeps.tree refl c.in_ok-is_dir.ensures.keeps.faults (omega arith) c.in_err-ruling.ensures.stopped)
 
 pub returns-in_err-ruling-clause-asked : goal.returns-in_err-ruling-clause-asked
 returns-in_err-ruling-clause-asked g c =

@@ -47,7 +47,7 @@ returns-then-is_empty-clause-part g c = λ made s stands quiet default.
     let lists : ListsNames (look_directory given s.tree d) names = rw c.requires.root at (c.in_ok-names.ensures.lists s.tree stands.tree) in
     let opened = c.in_ok-names.ensures.counted (g.D.Delegate.given a.delegate.now) in
     let is = IsEvidence-told given made s a.blocked.now stands.blocked_is in
-    on_err_weaker c.close_empty.result (λ part. part-empty given made s d a.class.now names lists bare _ _ _ a.outcome.now c.open.new.outcome opened part) (rw c.path-path.ensures.path at (c.close_empty.ensures.part ev is))
+    on_err_weaker c.close_empty.result (λ part. part-empty given made s d a.class.now names lists bare _ _ _ a.outcome.now c.open.new.outcome c.close_empty.new.outcome opened part) (rw c.path-path.ensures.path at (c.close_empty.ensures.part ev is))
 
 pub loop-name-init : goal.loop-name-init
 loop-name-init g c =
@@ -60,9 +60,11 @@ loop-name-init g c =
       opens = apart-end (λ n one made s stands quiet default. omega (arith, one)) (apart-one c.in_ok-names.ensures.opens c.open.ensures.once) refl;
       puts = Puts-start a.place.now.path c.as_slice-name-items.result.now c.open.ensures.returned c.open.ensures.seen c.new-held.ensures.entries;
       delegate = KeepsDelegate-same;
+      filtered = refl;
       listed = c.in_ok-names.ensures.listed;
       calm = c.in_ok-names.ensures.calm;
       kept_on = refl;
+      stays = refl;
       so_far = λ made s stands quiet default limit level.
           rw (c.new-held.ensures.entries, c.new-held.ensures.blocked) (SoFar-none given made s limit a.place.now.path (told a.delegate.now) (told a.delegate.now) a.outcome.now c.open.new.outcome (c.in_ok-names.ensures.counted (told a.delegate.now)));
     }
@@ -77,8 +79,8 @@ returns-in_err-handed-clause-part g c = λ made s stands quiet default.
     let here : NotIncreased (w.faults c.loop-name.worktree) (w.faults c.walk_child.new.worktree) = omega (arith, quiet, kept.worktree.faults) in
     let so_far = kept.so_far made s stands before default (a.levels + depth_of d) refl in
     let p = err_from_is_err_and c.from_residual-in_err-handed.result c.from_residual-in_err-handed.ensures.1 in
-    rw p.1 (part-name given made s d a.class.now c.as_slice-name-items.result.now has.lists has.are c.path-path.ensures.plain has.some (a.levels + depth_of d) c.loop-name.name-index c.name-item.result _ _ _ _ _ _ _ c.loop-name-test.true c.name-item.is so_far
-    (rw c.as_bytes.ensures at (c.in_err-handed.ensures.part made s now here (kept.delegate.default ∙ default))))
+    rw p.1 (part-name given made s d a.class.now c.as_slice-name-items.result.now has.lists has.are c.path-path.ensures.plain has.some (a.levels + depth_of d) c.loop-name.name-index c.name-item.result _ _ _ _ _ _ _ _ c.loop-name-test.true c.name-item.is so_far
+    (rw (c.as_bytes.ensures, c.loop-name.invariant.stays) at (c.in_err-handed.ensures.part made s now here (kept.delegate.default ∙ default))))
 
 pub returns-in_err-handed-clause-rules : goal.returns-in_err-handed-clause-rules
 returns-in_err-handed-clause-rules g c = let kept = c.loop-name.invariant in KeepsRules-then kept.worktree.tree kept.store.holds kept.rules c.walk_child.ensures.rules
@@ -97,10 +99,10 @@ returns-in_err-take-clause-part g c = λ made s stands quiet default.
     let here : NotIncreased (w.faults c.loop-name.worktree) (w.faults c.walk_child.new.worktree) = omega (arith, quiet, kept.worktree.faults) in
     let name = c.name-item.result in
     let gives : Gives o (a.levels + depth_of d) ev (item_told given made s (joined d name)) (told c.loop-name.delegate) (told c.walk_child.new.delegate) c.loop-name.outcome c.walk_child.new.outcome c.in_ok-handed.handed =
-    rw c.as_bytes.ensures at (c.in_ok-handed.ensures.gives made s now here (kept.delegate.default ∙ default) (a.levels + depth_of d) refl) in
+    rw (c.as_bytes.ensures, c.loop-name.invariant.stays) at (c.in_ok-handed.ensures.gives made s now here (kept.delegate.default ∙ default) (a.levels + depth_of d) (rw kept.stays refl)) in
     let so_far = kept.so_far made s stands before default (a.levels + depth_of d) refl in
     let p = err_from_is_err_and c.from_residual-in_err-take.result c.from_residual-in_err-take.ensures.1 in
-    rw p.1 (part-name given made s d a.class.now c.as_slice-name-items.result.now has.lists has.are c.path-path.ensures.plain has.some (a.levels + depth_of d) c.loop-name.name-index name _ _ _ _ _ _ _ c.loop-name-test.true c.name-item.is so_far (Within-all _ _ _ _ _ _ _ _ gives.emits (λ q. omega arith)))
+    rw p.1 (part-name given made s d a.class.now c.as_slice-name-items.result.now has.lists has.are c.path-path.ensures.plain has.some (a.levels + depth_of d) c.loop-name.name-index name _ _ _ _ _ _ _ _ c.loop-name-test.true c.name-item.is so_far (Within-all _ _ _ _ _ _ _ _ _ gives.emits (λ q. omega arith) (omega arith)))
 
 pub returns-in_err-take-clause-rules : goal.returns-in_err-take-clause-rules
 returns-in_err-take-clause-rules g c = let kept = c.loop-name.invariant in KeepsRules-then kept.worktree.tree kept.store.holds kept.rules c.walk_child.ensures.rules
@@ -116,12 +118,14 @@ loop-name-preserved g c =
       store = AsksStore-then kept.store c.walk_child.ensures.store;
       rules = KeepsRules-then kept.worktree.tree kept.store.holds kept.rules c.walk_child.ensures.rules;
       interrupt = AsksInterrupt-then kept.interrupt c.walk_child.ensures.interrupt;
-      opens = apart-then (enters-more (setting_of g.M.Matcher c.args.shared.now) c.args.blocked.now c.args.place.now.path c.as_slice-name-items.result.now c.loop-name.name-index c.name-item.result c.loop-name-test.true c.name-item.is kept.worktree kept.store kept.rules kept.delegate c.walk_child.ensures.worktree.faults) kept.opens (rw c.as_bytes.ensures at c.in_ok-handed.ensures.opens);
-      puts = rw c.in_ok-take.ensures.entries (Puts-name c.args.place.now.path c.as_slice-name-items.result.now c.loop-name.name-index c.name-item.result c.loop-name-test.true c.name-item.is kept.puts (rw c.as_bytes.ensures at c.in_ok-handed.ensures.hands.puts));
+      opens = apart-then (enters-more (setting_of g.M.Matcher c.args.shared.now) c.args.blocked.now (c.args.levels + depth_of c.args.place.now.path) c.args.place.now.path c.as_slice-name-items.result.now c.loop-name.name-index c.name-item.result c.loop-name-test.true c.name-item.is kept.worktree kept.store kept.rules kept.delegate c.walk_child.ensures.worktree.faults) kept.opens (rw (c.as_bytes.ensures, c.loop-name.invariant.stays) at c.in_ok-handed.ensures.opens);
+      puts = rw c.in_ok-take.ensures.entries (Puts-name c.args.place.now.path c.as_slice-name-items.result.now c.loop-name.name-index c.name-item.result c.loop-name-test.true c.name-item.is kept.puts (rw (c.as_bytes.ensures, c.loop-name.invariant.stays) at c.in_ok-handed.ensures.hands.puts));
       delegate = KeepsDelegate-then kept.delegate c.walk_child.ensures.delegate;
+      filtered = c.walk_child.ensures.filtered ∙ kept.filtered;
       listed = c.in_ok-handed.ensures.caused.listed ∙ kept.listed;
       calm = c.in_ok-handed.ensures.caused.calm ∙ kept.calm;
       kept_on = c.in_ok-handed.ensures.heeds.kept_on ∙ kept.kept_on;
+      stays = c.in_ok-handed.ensures.stays ∙ kept.stays;
       so_far = λ made s stands quiet default limit level.
           let a = c.args in let w = g.W.Worktree in let told = g.D.Delegate.given in let o = chosen a.shared.now.options in
           let given = setting_of g.M.Matcher a.shared.now in let d = a.place.now.path in let ev = evidence given made s in
@@ -130,7 +134,7 @@ loop-name-preserved g c =
           let here : NotIncreased (w.faults c.loop-name.worktree) (w.faults c.walk_child.new.worktree) = omega (arith, quiet, kept.worktree.faults) in
           let name = c.name-item.result in
           let gives : Gives o limit ev (item_told given made s (joined d name)) (told c.loop-name.delegate) (told c.walk_child.new.delegate) c.loop-name.outcome c.walk_child.new.outcome c.in_ok-handed.handed =
-          rw c.as_bytes.ensures at (c.in_ok-handed.ensures.gives made s now here (kept.delegate.default ∙ default) limit level) in
+          rw (c.as_bytes.ensures, c.loop-name.invariant.stays) at (c.in_ok-handed.ensures.gives made s now here (kept.delegate.default ∙ default) limit (rw kept.stays level)) in
           SoFar-more given made s limit d c.as_slice-name-items.result.now c.loop-name.name-index name _ _ _ _ _ _ _ _ _ _ c.in_ok-handed.handed c.loop-name-test.true c.name-item.is (kept.so_far made s stands before default limit level) gives c.in_ok-take.ensures.entries c.in_ok-take.ensures.blocked;
     }
 
@@ -141,7 +145,7 @@ returns-clause-gives g c = λ made s stands quiet default limit level.
     let has = HasNames-listed given s.tree d c.as_slice.ensures c.is_empty.ensures c.if-is_empty.false c.as_slice-name-items.ensures c.in_ok-names.ensures.names (rw c.requires.root at (c.in_ok-names.ensures.lists s.tree stands.tree)) in
     let held = c.loop-name.held in let is = IsEvidence-told given made s a.blocked.now stands.blocked_is in
     IfOk-weaker c.close.result _ _ (λ h closes. Gives-listed given made s d a.class.now c.as_slice-name-items.result.now has.lists has.are c.path-path.ensures.plain has.some limit c.loop-name.name-index _ _ _ _ _ held.entries.items held.blocked c.loop-name-test.false (c.loop-name.invariant.so_far made s stands quiet default limit level) _ h (omega (arith, level)) closes)
-    (rw c.path-path.ensures.path at (c.close.ensures.gives ev is))
+    (rw (c.path.ensures.path, c.loop-name.invariant.stays) at (c.close.ensures.gives ev is))
 
 pub returns-clause-part : goal.returns-clause-part
 returns-clause-part g c = λ made s stands quiet default.
@@ -150,8 +154,8 @@ returns-clause-part g c = λ made s stands quiet default.
     let has = HasNames-listed given s.tree d c.as_slice.ensures c.is_empty.ensures c.if-is_empty.false c.as_slice-name-items.ensures c.in_ok-names.ensures.names (rw c.requires.root at (c.in_ok-names.ensures.lists s.tree stands.tree)) in
     let held = c.loop-name.held in let is = IsEvidence-told given made s a.blocked.now stands.blocked_is in
     let so_far = c.loop-name.invariant.so_far made s stands quiet default (a.levels + depth_of d) refl in
-    on_err_weaker c.close.result (λ part. part-close given made s d a.class.now c.as_slice-name-items.result.now has.lists has.are c.path-path.ensures.plain has.some (a.levels + depth_of d) c.loop-name.name-index (told a.delegate.now) (told c.loop-name.delegate) (told c.close.new.delegate) a.outcome.now c.loop-name.outcome held.entries.items held.blocked c.loop-name-test.false so_far part)
-    (rw c.path-path.ensures.path at (c.close.ensures.part ev is))
+    on_err_weaker c.close.result (λ part. part-close given made s d a.class.now c.as_slice-name-items.result.now has.lists has.are c.path-path.ensures.plain has.some (a.levels + depth_of d) c.loop-name.name-index (told a.delegate.now) (told c.loop-name.delegate) (told c.close.new.delegate) a.outcome.now c.loop-name.outcome held.entries.items held.blocked c.loop-name-test.false so_far c.close.new.outcome part)
+    (rw (c.path.ensures.path, c.loop-name.invariant.stays) at (c.close.ensures.part ev is))
 
 pub returns-clause-delegate : goal.returns-clause-delegate
 returns-clause-delegate g c = KeepsDelegate-then c.loop-name.invariant.delegate c.close.ensures.delegate
@@ -192,7 +196,7 @@ returns-clause-refused g c = λ made s stands default limit level. memory-only c
 pub returns-in_err-handed-clause-about : goal.returns-in_err-handed-clause-about
 returns-in_err-handed-clause-about g c = λ limit level.
     let p = err_from_is_err_and c.from_residual-in_err-handed.result c.from_residual-in_err-handed.ensures.1 in
-    rw (p.1, p.2) (rw c.loop-name.invariant.rules.made at (c.in_err-handed.ensures.about limit level))
+    rw (p.1, p.2) (rw c.loop-name.invariant.rules.made at (c.in_err-handed.ensures.about limit (rw c.loop-name.invariant.stays level)))
 
 pub returns-in_err-handed-clause-found : goal.returns-in_err-handed-clause-found
 returns-in_err-handed-clause-found g c = λ s told.
@@ -210,7 +214,7 @@ returns-in_err-handed-clause-refused g c = λ made s stands default limit level.
     let here : Type 0 = Increased (w.faults c.loop-name.worktree) (w.faults c.walk_child.new.worktree) in
     let whole : Type 0 = Increased (w.faults a.worktree.now) (w.faults c.walk_child.new.worktree) in
     let p = err_from_is_err_and c.from_residual-in_err-handed.result c.from_residual-in_err-handed.ensures.1 in
-    rw (p.1, p.2) (DirectoryRefuses-name given made s limit here whole v d a.class.now within (λ rose. omega (arith, rose, kept.worktree.faults)) _ (rw c.as_bytes.ensures at (c.in_err-handed.ensures.refused made s now (kept.delegate.default ∙ default) limit level)))
+    rw (p.1, p.2) (DirectoryRefuses-name given made s limit here whole v d a.class.now within (λ rose. omega (arith, rose, kept.worktree.faults)) _ (rw (c.as_bytes.ensures, c.loop-name.invariant.stays) at (c.in_err-handed.ensures.refused made s now (kept.delegate.default ∙ default) limit (rw kept.stays level))))
 
 pub returns-in_err-names-clause-hands : goal.returns-in_err-names-clause-hands
 returns-in_err-names-clause-hands g c =
@@ -222,18 +226,18 @@ returns-then-is_empty-clause-hands g c = Hands-empty c.open.ensures.returned c.o
 pub returns-in_err-handed-clause-hands : goal.returns-in_err-handed-clause-hands
 returns-in_err-handed-clause-hands g c =
     let p = err_from_is_err_and c.from_residual-in_err-handed.result c.from_residual-in_err-handed.ensures.1 in
-    rw p.1 (Hands-refused c.args.place.now.path c.as_slice-name-items.result.now c.loop-name.name-index c.name-item.result c.loop-name-test.true c.name-item.is c.loop-name.invariant.puts (rw c.as_bytes.ensures at c.in_err-handed.ensures.hands.puts) (rw c.as_slice-name-items.ensures c.in_ok-names.ensures.names)
+    rw p.1 (Hands-refused c.args.place.now.path c.as_slice-name-items.result.now c.loop-name.name-index c.name-item.result c.loop-name-test.true c.name-item.is c.loop-name.invariant.puts (rw (c.as_bytes.ensures, c.loop-name.invariant.stays) at c.in_err-handed.ensures.hands.puts) (rw c.as_slice-name-items.ensures c.in_ok-names.ensures.names)
     c.path-path.ensures.plain)
 
 pub returns-in_err-take-clause-hands : goal.returns-in_err-take-clause-hands
 returns-in_err-take-clause-hands g c =
     let p = err_from_is_err_and c.from_residual-in_err-take.result c.from_residual-in_err-take.ensures.1 in
-    rw p.1 (Hands-refused c.args.place.now.path c.as_slice-name-items.result.now c.loop-name.name-index c.name-item.result c.loop-name-test.true c.name-item.is c.loop-name.invariant.puts (rw c.as_bytes.ensures at c.in_ok-handed.ensures.hands.puts) (rw c.as_slice-name-items.ensures c.in_ok-names.ensures.names)
+    rw p.1 (Hands-refused c.args.place.now.path c.as_slice-name-items.result.now c.loop-name.name-index c.name-item.result c.loop-name-test.true c.name-item.is c.loop-name.invariant.puts (rw (c.as_bytes.ensures, c.loop-name.invariant.stays) at c.in_ok-handed.ensures.hands.puts) (rw c.as_slice-name-items.ensures c.in_ok-names.ensures.names)
     c.path-path.ensures.plain)
 
 pub returns-clause-hands : goal.returns-clause-hands
 returns-clause-hands g c =
-    Hands-closed c.args.place.now.path c.as_slice-name-items.result.now c.loop-name.name-index (rw c.as_slice-name-items.ensures c.in_ok-names.ensures.names) c.path-path.ensures.plain c.loop-name.invariant.puts (rw c.path-path.ensures.path at c.close.ensures.hands)
+    Hands-closed c.args.place.now.path c.as_slice-name-items.result.now c.loop-name.name-index (rw c.as_slice-name-items.ensures c.in_ok-names.ensures.names) c.path-path.ensures.plain c.loop-name.invariant.puts (rw (c.path.ensures.path, c.loop-name.invariant.stays) at c.close.ensures.hands)
 
 pub returns-in_err-handed-clause-heeds : goal.returns-in_err-handed-clause-heeds
 returns-in_err-handed-clause-heeds g c =
@@ -272,7 +276,7 @@ returns-then-is_empty-clause-opens g c =
     apart-end
     (λ n one made s stands quiet default.
     let lists : ListsNames (look_directory given s.tree d) names = rw c.requires.root at (c.in_ok-names.ensures.lists s.tree stands.tree) in
-    let itself = entered-empty given made s d a.class.now names lists bare in omega (arith, one, itself))
+    let itself = entered-empty given made s d a.class.now names lists bare (a.levels + depth_of d) (omega arith) in omega (arith, one, itself))
     (apart-one c.in_ok-names.ensures.opens c.open.ensures.once) c.close_empty.ensures.entered
 
 pub returns-in_err-handed-clause-opens : goal.returns-in_err-handed-clause-opens
@@ -280,22 +284,35 @@ returns-in_err-handed-clause-opens g c =
     let kept = c.loop-name.invariant in let p = err_from_is_err_and c.from_residual-in_err-handed.result c.from_residual-in_err-handed.ensures.1 in
     rw (p.1, p.2)
     (apart-then
-    (enters-last (setting_of g.M.Matcher c.args.shared.now) c.args.blocked.now c.args.place.now.path c.as_slice-name-items.result.now c.loop-name.name-index c.name-item.result c.loop-name-test.true c.name-item.is kept.worktree kept.store kept.rules kept.delegate c.walk_child.ensures.worktree.faults c.args.class.now _
+    (enters-last (setting_of g.M.Matcher c.args.shared.now) c.args.blocked.now (c.args.levels + depth_of c.args.place.now.path) c.args.place.now.path c.as_slice-name-items.result.now c.loop-name.name-index c.name-item.result c.loop-name-test.true c.name-item.is kept.worktree kept.store kept.rules kept.delegate c.walk_child.ensures.worktree.faults (omega arith) c.args.class.now _
     (λ s told. HasNames-listed (setting_of g.M.Matcher c.args.shared.now) s.tree c.args.place.now.path c.as_slice.ensures c.is_empty.ensures c.if-is_empty.false c.as_slice-name-items.ensures c.in_ok-names.ensures.names (rw c.requires.root at (c.in_ok-names.ensures.lists s.tree told))) c.path-path.ensures.plain)
-    kept.opens (rw c.as_bytes.ensures at c.in_err-handed.ensures.opens))
+    kept.opens (rw (c.as_bytes.ensures, c.loop-name.invariant.stays) at c.in_err-handed.ensures.opens))
 
 pub returns-in_err-take-clause-opens : goal.returns-in_err-take-clause-opens
 returns-in_err-take-clause-opens g c =
     let kept = c.loop-name.invariant in let p = err_from_is_err_and c.from_residual-in_err-take.result c.from_residual-in_err-take.ensures.1 in
-    let ends = (enters-last (setting_of g.M.Matcher c.args.shared.now) c.args.blocked.now c.args.place.now.path c.as_slice-name-items.result.now c.loop-name.name-index c.name-item.result c.loop-name-test.true c.name-item.is kept.worktree kept.store kept.rules kept.delegate c.walk_child.ensures.worktree.faults c.args.class.now 0
+    let ends = (enters-last (setting_of g.M.Matcher c.args.shared.now) c.args.blocked.now (c.args.levels + depth_of c.args.place.now.path) c.args.place.now.path c.as_slice-name-items.result.now c.loop-name.name-index c.name-item.result c.loop-name-test.true c.name-item.is kept.worktree kept.store kept.rules kept.delegate c.walk_child.ensures.worktree.faults (omega arith) c.args.class.now 0
     (λ s told. HasNames-listed (setting_of g.M.Matcher c.args.shared.now) s.tree c.args.place.now.path c.as_slice.ensures c.is_empty.ensures c.if-is_empty.false c.as_slice-name-items.ensures c.in_ok-names.ensures.names (rw c.requires.root at (c.in_ok-names.ensures.lists s.tree told))) c.path-path.ensures.plain) in
     rw p.1
     (apart-then (λ m n so_far here made s stands quiet default. let most = ends m n so_far here made s stands quiet default in omega (arith, most))
-    kept.opens (rw c.as_bytes.ensures at c.in_ok-handed.ensures.opens))
+    kept.opens (rw (c.as_bytes.ensures, c.loop-name.invariant.stays) at c.in_ok-handed.ensures.opens))
 
 pub returns-clause-opens : goal.returns-clause-opens
 returns-clause-opens g c =
     apart-end
-    (enters-all g.W.Worktree g.F.Find g.D.Delegate c.args.worktree.now c.loop-name.worktree c.args.objects.now c.args.excludes.now c.args.delegate.now (setting_of g.M.Matcher c.args.shared.now) c.args.blocked.now c.args.place.now.path c.as_slice-name-items.result.now c.loop-name.name-index c.loop-name-test.false c.args.class.now _
+    (enters-all g.W.Worktree g.F.Find g.D.Delegate c.args.worktree.now c.loop-name.worktree c.args.objects.now c.args.excludes.now c.args.delegate.now (setting_of g.M.Matcher c.args.shared.now) c.args.blocked.now (c.args.levels + depth_of c.args.place.now.path) c.args.place.now.path c.as_slice-name-items.result.now c.loop-name.name-index (omega arith) c.loop-name-test.false c.args.class.now _
     (λ s told. HasNames-listed (setting_of g.M.Matcher c.args.shared.now) s.tree c.args.place.now.path c.as_slice.ensures c.is_empty.ensures c.if-is_empty.false c.as_slice-name-items.ensures c.in_ok-names.ensures.names (rw c.requires.root at (c.in_ok-names.ensures.lists s.tree told))) c.path-path.ensures.plain)
     c.loop-name.invariant.opens c.close.ensures.entered
+
+pub returns-in_err-handed-clause-filtered : goal.returns-in_err-handed-clause-filtered
+returns-in_err-handed-clause-filtered g c = c.walk_child.ensures.filtered ∙ c.loop-name.invariant.filtered
+
+pub returns-in_err-take-clause-filtered : goal.returns-in_err-take-clause-filtered
+returns-in_err-take-clause-filtered g c = c.walk_child.ensures.filtered ∙ c.loop-name.invariant.filtered
+
+pub returns-clause-filtered : goal.returns-clause-filtered
+returns-clause-filtered g c = c.close.ensures.filtered ∙ c.loop-name.invariant.filtered
+
+pub returns-in_err-take-clause-refused : goal.returns-in_err-take-clause-refused
+returns-in_err-take-clause-refused g c = λ made s stands default limit level.
+    let p = err_from_is_err_and c.from_residual-in_err-take.result c.from_residual-in_err-take.ensures.1 in rw (p.1, p.2) (inl tt)

@@ -4,9 +4,9 @@ use Rattle.std.specs.Prelude.{option_map}
 use Rattle.dir_classify.specs.declared.entry.Entry.{Entry}
 use Rattle.dir_classify.specs.Chosen.{chosen}
 use Rattle.dir_classify.specs.Entries.{entry_at}
-use Rattle.dir_walk.specs.Emits.{Emits, folded_of, put_within}
+use Rattle.dir_walk.specs.Emits.{Emits, Within, folded_of, put_within}
 use Rattle.dir_walk.specs.Walked.{holding}
-use Rattle.dir_walk.proofs.Closes.{closes-none, closes-some}
+use Rattle.dir_walk.proofs.Closes.{closes-none, closes-some, part-none, part-some}
 use Rattle.dir_walk.proofs.Rooms.{Hands-put, Hands-fold}
 use Rattle.dir_walk.proofs.close.close.Goals as goal
 
@@ -48,3 +48,25 @@ returns-clause-hands g c =
     let f : Entry = c.in_ok-entry-in-Some.entry in
     let path = ap (λ (e : Entry). e.rela_path) (c.in_ok-entry-in-Some.ensures ∙ c.entry_over.ensures) in
     Hands-fold c.args.path.now c.args.held.entries.items (rw c.deref-in-Some.ensures.value at c.emit_collapsed.ensures.puts) f refl path
+
+pub returns-in_err-emit_all-in-None-clause-part : goal.returns-in_err-emit_all-in-None-clause-part
+returns-in_err-emit_all-in-None-clause-part g c = λ ev is.
+    let a = c.args in
+    let o = chosen a.shared.now.options in
+    let none : folded_of o ev a.path.now a.class.now (holding a.held.entries.items a.held.blocked) ≡ None = sym (c.folded.ensures ev is) ∙ ap (option_map (entry_at a.path.now)) c.in-None.is in
+    let p = err_from_is_err_and c.from_residual.result c.from_residual.ensures.1 in
+    rw p.1 (part-none o ev a.path.now a.class.now a.held.entries.items a.held.blocked _ _ _ _ none (rw c.deref.ensures.value at c.in_err-emit_all-in-None.ensures.part))
+
+pub returns-in_err-emit_collapsed-in-Some-clause-part : goal.returns-in_err-emit_collapsed-in-Some-clause-part
+returns-in_err-emit_collapsed-in-Some-clause-part g c = λ ev is.
+    let a = c.args in
+    let o = chosen a.shared.now.options in
+    let given = g.D.Delegate.given in
+    let items = a.held.entries.items in
+    let f : Entry = c.in_ok-entry-in-Some.entry in
+    let f-is : f ≡ entry_at a.path.now c.in-Some.class = c.in_ok-entry-in-Some.ensures ∙ c.entry_over.ensures in
+    let some : folded_of o ev a.path.now a.class.now (holding items a.held.blocked) ≡ Some f =
+    sym (c.folded.ensures ev is) ∙ ap (option_map (entry_at a.path.now)) c.in-Some.is ∙ ap (λ (e : Entry). Some e) (sym f-is) in
+    let P : Entry → Type 0 = λ e. Within (given a.delegate.now) (given c.emit_collapsed.new.delegate) a.outcome.now c.emit_collapsed.new.outcome (put_within o e.status items) (length items) in
+    let p = err_from_is_err_and c.from_residual-in_err-emit_collapsed-in-Some.result c.from_residual-in_err-emit_collapsed-in-Some.ensures.1 in
+    rw p.1 (part-some o ev a.path.now a.class.now items a.held.blocked _ _ _ _ f some (subst P (sym f-is) (rw c.deref-in-Some.ensures.value at c.in_err-emit_collapsed-in-Some.ensures.part)))

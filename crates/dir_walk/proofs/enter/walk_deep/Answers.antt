@@ -1,7 +1,8 @@
-use Rattle.std.proofs.Common.{ℕ, inl, inr, ap, refl, arith}
+use Rattle.std.proofs.Common.{◌≡◌, ◌∙◌, sym, ◌+◌, ◌-◌, ℕ, inl, inr, ap, refl, arith}
 use Rattle.dir_classify.specs.Chosen.{chosen}
 use Rattle.dir_classify.specs.Layers.{setting_of, evidence}
 use Rattle.worktree_fs.specs.Causes.{Increased}
+use Rattle.dir_walk.specs.declared.strategy.Strategy.TheVariants.{AtOnce, Held}
 use Rattle.dir_walk.specs.Report.{depth_of}
 use Rattle.dir_walk.specs.Told.{directory_told, look_directory}
 use Rattle.dir_walk.proofs.FromRoot.{opens-not}
@@ -40,7 +41,19 @@ pub returns-then-depth-depth_limit-clause-opens : goal.returns-then-depth-depth_
 returns-then-depth-depth_limit-clause-opens g c = opens-not c.args.strategy _ _ _ _ _ _ _ _ _ _ (λ n none made s stands quiet default. omega (arith, none)) refl refl c.too_deep.ensures.interrupt.questions
 
 pub returns-in-Held-clause-opens : goal.returns-in-Held-clause-opens
-returns-in-Held-clause-opens g c = rw c.in-Held.is c.walk_directory.ensures.opens
+returns-in-Held-clause-opens g c =
+    let level : (c.args.depth_limit - c.depth_of-depth.result) + depth_of c.args.place.now.path ≡ c.args.depth_limit =
+    omega (arith, c.if-depth-depth_limit.false, c.depth_of-depth.ensures, ap {B = ℕ} depth_of c.path.ensures.path) in
+    rw c.in-Held.is (rw level at c.walk_directory.ensures.opens)
 
 pub returns-in-AtOnce-clause-opens : goal.returns-in-AtOnce-clause-opens
-returns-in-AtOnce-clause-opens g c = rw c.in-AtOnce.is c.walk_children.ensures.opens
+returns-in-AtOnce-clause-opens g c =
+    let level : (c.args.depth_limit - c.depth_of-depth.result) + depth_of c.args.place.now.path ≡ c.args.depth_limit =
+    omega (arith, c.if-depth-depth_limit.false, c.depth_of-depth.ensures, ap {B = ℕ} depth_of c.path.ensures.path) in
+    rw c.in-AtOnce.is (rw level at c.walk_children.ensures.opens)
+
+pub returns-in-Held-clause-unmapped : goal.returns-in-Held-clause-unmapped
+returns-in-Held-clause-unmapped g c = λ held. c.walk_directory.ensures.unmapped
+
+pub returns-in-AtOnce-clause-unmapped : goal.returns-in-AtOnce-clause-unmapped
+returns-in-AtOnce-clause-unmapped g c = λ held. absurd (let other : AtOnce ≡ Held = sym c.in-AtOnce.is ∙ held in cc other)

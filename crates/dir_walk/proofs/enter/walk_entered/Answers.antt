@@ -1,4 +1,4 @@
-use Rattle.std.proofs.Common.{arith, refl, option_to_list, Err}
+use Rattle.std.proofs.Common.{arith, refl, ◌∙◌, option_to_list, Err}
 use Rattle.std.proofs.lemmas.Result.{err_from_is_err_and, on_err_weaker, on_ok_weaker}
 use Rattle.worktree_fs.specs.Causes.{Increased, NotIncreased}
 use Rattle.dir_classify.specs.Chosen.{chosen}
@@ -24,7 +24,7 @@ returns-in_err-handed-clause-part g c = λ s tells quiet default.
     let here : NotIncreased (w.faults c.blocked_directory.new.worktree) (w.faults c.walk_deep.new.worktree) = omega (arith, quiet, asked.keeps.faults) in
     let stands = Stands-asked given tells asked.keeps (asked.blocked made s tells.tells.tree_is before) in
     let p = err_from_is_err_and c.from_residual-in_err-handed.result c.from_residual-in_err-handed.ensures.1 in
-    rw p.1 (part-out (chosen a.shared.now.options) (directory_told given made s a.path.now a.class.now) _ _ (rw c.in_ok-place.ensures at (c.in_err-handed.ensures.part made s stands here default)))
+    rw p.1 (part-out (chosen a.shared.now.options) (directory_told given made s a.path.now a.class.now) _ _ _ _ (rw c.in_ok-place.ensures at (c.in_err-handed.ensures.part made s stands here default)))
 
 pub returns-in_err-handed-clause-refused : goal.returns-in_err-handed-clause-refused
 returns-in_err-handed-clause-refused g c = λ s tells quiet default.
@@ -69,7 +69,7 @@ returns-clause-part g c = λ s tells quiet default.
     let stands = Stands-asked given tells asked.keeps (asked.blocked made s tells.tells.tree_is before) in
     on_err_weaker c.put_handed.result
     (part-all (chosen a.shared.now.options) (directory_told given made s a.path.now a.class.now) a.depth_limit (evidence given made s) c.in_ok-handed.handed _ _ _ a.outcome.now c.walk_deep.new.outcome
-    (rw c.in_ok-place.ensures at (c.in_ok-handed.ensures.gives made s stands here default)))
+    (rw c.in_ok-place.ensures at (c.in_ok-handed.ensures.gives made s stands here default)) c.put_handed.new.outcome)
     c.put_handed.ensures.part
 
 pub returns-clause-ends : goal.returns-clause-ends
@@ -135,3 +135,15 @@ returns-clause-opens g c =
     let stands = Stands-asked given tells asked.keeps (asked.blocked made s tells.tells.tree_is before) in
     let most = few made s stands here default in omega (arith, most))
     asked.keeps.lists asked.reads c.put_handed.ensures.entered (omega arith) (rw c.in_ok-place.ensures at c.in_ok-handed.ensures.opens)
+
+pub returns-in_err-handed-clause-filtered : goal.returns-in_err-handed-clause-filtered
+returns-in_err-handed-clause-filtered g c = c.walk_deep.ensures.filtered
+
+pub returns-clause-filtered : goal.returns-clause-filtered
+returns-clause-filtered g c = c.put_handed.ensures.filtered ∙ c.walk_deep.ensures.filtered
+
+pub returns-in_err-handed-clause-unmapped : goal.returns-in_err-handed-clause-unmapped
+returns-in_err-handed-clause-unmapped g c = c.walk_deep.ensures.unmapped
+
+pub returns-clause-unmapped : goal.returns-clause-unmapped
+returns-clause-unmapped g c = c.walk_deep.ensures.unmapped

@@ -3,12 +3,12 @@ use Rattle.dir_classify.specs.Layers.{setting_of}
 use Rattle.dir_walk.proofs.Forked.{job-interrupt, job-memory}
 use Rattle.dir_walk.proofs.jobs.on_interrupt.Goals as goal
 
-pub returns-in_err-fork : goal.returns-in_err-fork
-returns-in_err-fork g c =
+pub returns-in_err-fork-clause-job : goal.returns-in_err-fork-clause-job
+returns-in_err-fork-clause-job g c =
     let p = err_from_is_err_and c.from_residual.result c.from_residual.ensures.1 in rw (p.1, p.2) (job-memory g.W.Worktree g.F.Find g.I.Interrupt g.D.Delegate)
 
-pub returns : goal.returns
-returns g c =
+pub returns-clause-job : goal.returns-clause-job
+returns-clause-job g c =
     let a = c.args in
     let forked = c.in_ok-fork.ensures in
     let absorbed = c.absorb.ensures in
@@ -26,6 +26,7 @@ returns g c =
       store = walked.store;
       interrupt = walked.interrupt;
       enters = record { opened = walked.opens.opened; counted = walked.opens.opens.counted; asked = walked.opens.opens.asked; within = walked.opens.within };
+      filtered = walked.filtered;
       hands = walked.hands;
       delegate = walked.delegate;
       heeds = walked.heeds;

@@ -3,14 +3,14 @@ use Rattle.dir_classify.specs.Layers.{setting_of}
 use Rattle.dir_walk.proofs.Forked.{job-memory, job-store}
 use Rattle.dir_walk.proofs.jobs.on_store.Goals as goal
 
-pub returns-in_err-fork : goal.returns-in_err-fork
-returns-in_err-fork g c =
+pub returns-in_err-fork-clause-job : goal.returns-in_err-fork-clause-job
+returns-in_err-fork-clause-job g c =
     let p = err_from_is_err_and c.from_residual.result c.from_residual.ensures.1 in rw (p.1, p.2) (job-memory g.W.Worktree g.F.Find g.I.Interrupt g.D.Delegate)
 
-pub returns : goal.returns
-returns g c =
+pub returns-clause-job : goal.returns-clause-job
+returns-clause-job g c =
     let a = c.args in
     let forked = c.in_ok-fork.ensures in
     let absorbed = c.absorb.ensures in
     job-store g.W.Worktree g.F.Find g.I.Interrupt g.D.Delegate a.objects.now (setting_of g.M.Matcher a.shared.now) a.place.now.path a.class.now c.on_interrupt-result.result
-    forked.held forked.faults absorbed.held absorbed.faults absorbed.later c.on_interrupt-result.ensures
+    forked.held forked.faults absorbed.held absorbed.faults absorbed.later c.on_interrupt-result.ensures.job

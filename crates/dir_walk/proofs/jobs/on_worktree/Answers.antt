@@ -14,4 +14,4 @@ returns-clause-job g c =
     let absorbed = c.absorb.ensures in
     job-worktree g.W.Worktree g.F.Find g.I.Interrupt g.D.Delegate a.worktree.now (setting_of g.M.Matcher a.shared.now) a.place.now.path a.class.now c.on_store-result.result
     forked.tree forked.faults forked.list_faults absorbed.tree absorbed.faults absorbed.later absorbed.list_faults absorbed.list_faults_later absorbed.reads_later absorbed.lists absorbed.precomposes
-    c.on_store-result.ensures
+    c.on_store-result.ensures.job

@@ -1,10 +1,12 @@
-use Rattle.std.proofs.Common.{Some, refl, ap, subst, List, ℕ, length, arith}
-use Rattle.std.proofs.lemmas.List.Sorted.{length_permutation}
+use Rattle.std.proofs.Common.{Some, refl, ap, subst, List, ℕ, length, cond, not, arith}
+use Rattle.std.proofs.lemmas.List.Sorted.{length_permutation, sum_by-IsPermutation}
 use Rattle.std.proofs.lemmas.Result.{err_from_is_err_and}
+use Rattle.dir_classify.specs.Chosen.{chosen}
 use Rattle.dir_classify.specs.Excludes.{made_with}
 use Rattle.dir_classify.specs.Layers.{setting_in}
 use Rattle.dir_walk.specs.declared.report.Report.{Report}
-use Rattle.dir_walk.specs.Emissions.{Emission}
+use Rattle.dir_walk.specs.Emissions.{Emission, shows}
+use Rattle.dir_walk.specs.Puts.{hidden_in}
 use Rattle.dir_walk.specs.WalkRefused.{by_default}
 use Rattle.dir_walk.specs.Walks.{WalkGives}
 use Rattle.dir_walk.proofs.ByPath.{ascends-given, distinct-given, from-root, is-report}
@@ -69,3 +71,14 @@ returns-clause-once g c =
     let a = c.args in
     from-root (setting_in g.M.Matcher a.worktree_root.now a.options a.ctx) a.ctx.explicit_traversal_root.now c.in_ok-outcome.outcome c.in_ok-outcome.root c.new-delegate.result.unorded_entries c.walk_as.new.delegate.unorded_entries
     c.in_ok-entries.entries c.new-delegate.ensures c.in_ok-entries.ensures.same c.in_ok-outcome.ensures.feeds.once
+
+pub returns-clause-filtered : goal.returns-clause-filtered
+returns-clause-filtered g c =
+    let o = chosen c.args.options in
+    let got = c.walk_as.new.delegate.unorded_entries in
+    omega (
+      arith,
+      c.in_ok-outcome.ensures.feeds.filtered,
+      ap {B = ℕ} (λ (xs : List Emission). hidden_in o xs) c.new-delegate.ensures,
+      sum_by-IsPermutation (λ (x : Emission). cond (not (shows o x.0)) 1 0) got c.in_ok-entries.entries c.in_ok-entries.ensures.same,
+    )

@@ -1,23 +1,28 @@
 use Rattle.std.proofs.Common.{◌≡◌, ◌∙◌, ap, refl, sym, arith, ℕ, List, [], Option, Bool, true, false, subst}
 use Rattle.std.proofs.lemmas.Result.{IfErr-weaker, err_from_is_err_and, on_err_weaker, on_ok_weaker}
 use Rattle.worktree_fs.specs.Causes.{Increased, NotIncreased}
+use Rattle.dir_classify.specs.Chosen.{chosen}
 use Rattle.dir_classify.specs.Excludes.{made_with}
 use Rattle.dir_classify.specs.Layers.{setting_of, evidence}
 use Rattle.dir_classify.specs.Rooted.{reached_by, way_to}
 use Rattle.dir_walk.specs.Given.{IsAnswered, OnRefused}
 use Rattle.dir_walk.specs.Opens.{refused_walk}
-use Rattle.dir_walk.specs.Refused.{DirectoryRefuses}
+use Rattle.dir_walk.specs.Refused.{DirectoryRefuses, IsAbout}
 use Rattle.dir_walk.specs.Root.{is_root_entered}
 use Rattle.dir_walk.specs.Starts.{OnlyRoot}
-use Rattle.dir_walk.specs.WalkRefused.{IsNoTop, OnNoRoot, StartRefuses, recursion_of}
+use Rattle.dir_walk.specs.WalkRefused.{IsNoTop, OnNoRoot, OnNoStart, StartRefuses, recursion_of}
 use Rattle.dir_walk.specs.Walked.{Walked}
 use Rattle.dir_walk.specs.Walks.{most_from}
 use Rattle.gitbase_core.specs.Path.{is_empty}
 use Rattle.dir_walk.proofs.CallByCall.{Before-asked, Before-classed, Before-then, Ends-after, Ends-asked, Tells-later}
+use Rattle.dir_walk.proofs.Emitting.{Within-none}
 use Rattle.dir_walk.proofs.FromRoot.{asks-from, opens-entered, opens-short}
+use Rattle.dir_walk.proofs.Hiding.{AddsShown-same}
+use Rattle.dir_walk.proofs.Keeping.{unmapped-then}
 use Rattle.dir_walk.proofs.Refusals.{refused-any}
-use Rattle.dir_walk.proofs.Started.{gives-entered, gives-put, no-node, no-root, part-entered, refuses-entered, walked-entered}
+use Rattle.dir_walk.proofs.Started.{gives-entered, gives-put, no-node, no-root, part-entered, part-only, refuses-entered, walked-entered}
 use Rattle.dir_walk.proofs.Starting.{bare}
+use Rattle.dir_walk.proofs.Unstarted.{no-start-about, no-start-weaker, on-no-start}
 use Rattle.dir_walk.proofs.WayRefused.{only-no_root, only-refuses, way-about, way-found, way-refuses}
 use Rattle.dir_walk.proofs.start.walk_from.Goals as goal
 
@@ -81,7 +86,7 @@ returns-then-branch-clause-part g c = λ s tells quiet default walked walk.
     let is = way.reached s tells.tells tells.in_step first in
     let into : is_root_entered given.options (evidence given made s) (reached_by r false) ≡ true = sym (asked.entered made s (way.keeps.tree ∙ tells.tells.tree_is) second default) ∙ c.if-branch.true in
     let here = Tells-later (Before-then (Before-classed way.keeps way.store way.rules) (Before-asked asked.keeps)) tells in
-    on_err_weaker c.walk_entered.result (part-entered given made s a.root.now c.requires.root r is into walked _ _ walk)
+    on_err_weaker c.walk_entered.result (part-entered given made s a.root.now c.requires.root r is into walked _ _ _ _ walk)
     (rw (way.rules.made, asked.given) at (c.walk_entered.ensures.part s here third (asked.delegate.default ∙ default)))
 
 pub returns-then-branch-clause-refused : goal.returns-then-branch-clause-refused
@@ -218,7 +223,7 @@ returns-then-branch-clause-opens g c =
     let into : is_root_entered given.options (evidence given made s) (reached_by r false) ≡ true = sym (asked.entered made s (way.keeps.tree ∙ tells.tells.tree_is) second default) ∙ c.if-branch.true in
     let here = Tells-later (Before-then (Before-classed way.keeps way.store way.rules) (Before-asked asked.keeps)) tells in
     let most = rw way.rules.made at (few s here (asked.delegate.default ∙ default) third) in
-    let all = ap {B = ℕ} (λ (v : Option Walked). most_from v (refused_walk c.walk_entered.result)) (walked-entered given made s a.root.now c.requires.root r is into) in
+    let all = ap {B = ℕ} (λ (v : Option Walked). most_from a.depth_limit v (refused_walk c.walk_entered.result)) (walked-entered given made s a.root.now c.requires.root r is into) in
     omega (arith, most, all))
     way.rules.made (asked.keeps.lists ∙ way.keeps.lists) asked.reads refl c.walk_entered.ensures.opens
 
@@ -227,3 +232,75 @@ returns-clause-opens g c =
     let way = c.in_ok-reached.ensures in
     let asked = c.in_ok-is_root_entered.ensures in
     opens-short c.root_at.new.worktree c.args.strategy (asks-from way.prefix way.reads) (λ s tells default quiet. omega arith) c.put_root.result (asked.keeps.lists ∙ way.keeps.lists) asked.reads c.put_root.ensures.entered (omega arith)
+
+pub returns-in_err-reached-clause-unstarted : goal.returns-in_err-reached-clause-unstarted
+returns-in_err-reached-clause-unstarted g c =
+    let p = err_from_is_err_and c.from_residual.result c.from_residual.ensures.1 in rw (p.1, p.2) (on-no-start (c.in_err-reached.ensures.keeps.lists, refl, refl) c.in_err-reached.field-0.0)
+
+pub returns-then-branch-clause-unstarted : goal.returns-then-branch-clause-unstarted
+returns-then-branch-clause-unstarted g c =
+    let a = c.args in
+    let way = c.in_ok-reached.ensures in
+    let made = made_with a.excludes.now in
+    let top = a.shared.now.worktree_root.now in
+    let told = g.D.Delegate.given in
+    let lists = g.W.Worktree.lists in
+    let Same : Type 0 = (lists c.walk_entered.new.worktree ≡ lists a.worktree.now) × (c.walk_entered.new.interrupt ≡ a.interrupt.now) × (told c.walk_entered.new.delegate ≡ told a.delegate.now) in
+    IfErr-weaker c.walk_entered.result (OnRefused (IsAbout made top a.depth_limit)) (OnRefused (OnNoStart Same)) (refused-any (IsAbout made top a.depth_limit) (OnNoStart Same) (no-start-about Same made top a.depth_limit))
+    (rw way.rules.made at c.walk_entered.ensures.about)
+
+pub returns-clause-unstarted : goal.returns-clause-unstarted
+returns-clause-unstarted g c =
+    let a = c.args in
+    let way = c.in_ok-reached.ensures in
+    let asked = c.in_ok-is_root_entered.ensures in
+    let told = g.D.Delegate.given in
+    let lists = g.W.Worktree.lists in
+    let Unfed : Type 0 = told c.put_root.new.delegate ≡ told c.is_root_entered.new.delegate in
+    let Same : Type 0 = (lists c.is_root_entered.new.worktree ≡ lists a.worktree.now) × (a.interrupt.now ≡ a.interrupt.now) × (told c.put_root.new.delegate ≡ told a.delegate.now) in
+    IfErr-weaker c.put_root.result (OnRefused (OnNoStart Unfed)) (OnRefused (OnNoStart Same)) (refused-any (OnNoStart Unfed) (OnNoStart Same) (no-start-weaker (λ unfed. (asked.keeps.lists ∙ way.keeps.lists, refl, unfed ∙ asked.given))))
+    c.put_root.ensures.puts.unfed
+
+pub returns-in_err-is_root_entered-clause-part : goal.returns-in_err-is_root_entered-clause-part
+returns-in_err-is_root_entered-clause-part g c = λ s tells quiet default walked walk.
+    let p = err_from_is_err_and c.from_residual-in_err-is_root_entered.result c.from_residual-in_err-is_root_entered.ensures.1 in
+    rw p.1 (Within-none _ _ _ _ _ _ c.in_err-is_root_entered.ensures.given refl)
+
+pub returns-in_err-is_root_entered-clause-filtered : goal.returns-in_err-is_root_entered-clause-filtered
+returns-in_err-is_root_entered-clause-filtered g c = AddsShown-same (chosen c.args.shared.now.options) c.in_err-is_root_entered.ensures.given
+
+pub returns-then-branch-clause-filtered : goal.returns-then-branch-clause-filtered
+returns-then-branch-clause-filtered g c = c.walk_entered.ensures.filtered ∙ AddsShown-same (chosen c.args.shared.now.options) c.in_ok-is_root_entered.ensures.given
+
+pub returns-clause-filtered : goal.returns-clause-filtered
+returns-clause-filtered g c = c.put_root.ensures.filtered ∙ AddsShown-same (chosen c.args.shared.now.options) c.in_ok-is_root_entered.ensures.given
+
+pub returns-in_err-reached-clause-unmapped : goal.returns-in_err-reached-clause-unmapped
+returns-in_err-reached-clause-unmapped g c = λ held. c.in_err-reached.ensures.unmapped
+
+pub returns-in_err-is_root_entered-clause-unmapped : goal.returns-in_err-is_root_entered-clause-unmapped
+returns-in_err-is_root_entered-clause-unmapped g c = λ held. c.in_ok-reached.ensures.unmapped
+
+pub returns-then-branch-clause-unmapped : goal.returns-then-branch-clause-unmapped
+returns-then-branch-clause-unmapped g c =
+    λ held. let way = c.in_ok-reached.ensures in unmapped-then c.args.excludes.now c.root_at.new.excludes way.rules.made way.unmapped (c.walk_entered.ensures.unmapped held)
+
+pub returns-clause-unmapped : goal.returns-clause-unmapped
+returns-clause-unmapped g c = λ held. c.in_ok-reached.ensures.unmapped
+
+pub returns-clause-part : goal.returns-clause-part
+returns-clause-part g c = λ s tells quiet default walked walk.
+    let a = c.args in
+    let w = g.W.Worktree in
+    let given = setting_of g.M.Matcher a.shared.now in
+    let made = made_with a.excludes.now in
+    let way = c.in_ok-reached.ensures in
+    let r = c.in_ok-reached.reached in
+    let asked = c.in_ok-is_root_entered.ensures in
+    let told = g.D.Delegate.given in
+    let first : NotIncreased (w.faults a.worktree.now) (w.faults c.root_at.new.worktree) = omega (arith, quiet, asked.keeps.faults) in
+    let second : NotIncreased (w.faults c.root_at.new.worktree) (w.faults c.is_root_entered.new.worktree) = omega (arith, quiet, way.keeps.faults) in
+    let is = way.reached s tells.tells tells.in_step first in
+    let out : is_root_entered given.options (evidence given made s) (reached_by r false) ≡ false = sym (asked.entered made s (way.keeps.tree ∙ tells.tells.tree_is) second default) ∙ c.if-branch.false in
+    rw asked.given at
+    (on_err_weaker c.put_root.result (part-only given made s a.root.now c.requires.root r is out walked (told c.is_root_entered.new.delegate) (told c.put_root.new.delegate) a.outcome.now c.put_root.new.outcome walk) c.put_root.ensures.puts.part)

@@ -14,6 +14,7 @@ use Rattle.dir_walk.specs.WalkRefused.{recursion_of}
 use Rattle.dir_walk.specs.Walks.{IsRootOf}
 use Rattle.dir_walk.proofs.FeedsSo.{feeds-broken, feeds-done, feeds-nothing, feeds-refused}
 use Rattle.dir_walk.proofs.Overall.{enters-walk, opens-whole, refused-most}
+use Rattle.dir_walk.proofs.Unstarted.{no-start-weaker}
 use Rattle.dir_walk.proofs.WalksSo.{walks-done, walks-outside, walks-refused}
 use Rattle.dir_walk.proofs.walk.walk_parts.Goals as goal
 
@@ -66,13 +67,13 @@ returns-in-Ok g c =
     let none : refused_walk c.walk_from.result ≤ 0 = rw c.in-Ok.is (omega arith) in
     record {
       walks_worktree =
-          walks-done w f i d a.strategy given a.explicit.now a.depth_limit recursion (λ r. r.0) (λ r. r.1) root found.keeps normal rooted_is (c.walk_from.new.outcome, c.in_ok-full.full) full_is (Ok tt) from.ends from.ends.caused.listed from.ends.caused.calm
+          walks-done w f i d a.strategy given a.explicit.now a.depth_limit recursion (λ r. r.0) (λ r. r.1) root found.keeps normal rooted_is (c.walk_from.new.outcome, c.in_ok-full.full) full_is (Ok tt) from.ends from.ends.caused.listed from.ends.caused.calm c.walk_from.ensures.unmapped
           (opens-whole a.strategy found.keeps.lists found.reads
-          (enters-walk {T = Outcome × List ℕ} w f d recursion given a.explicit.now root (Ok (c.walk_from.new.outcome, c.in_ok-full.full)) (refused_walk c.walk_from.result) found.keeps from.ends.worktree.faults refl rooted_is none)
+          (enters-walk {T = Outcome × List ℕ} w f d recursion given a.explicit.now a.depth_limit root (Ok (c.walk_from.new.outcome, c.in_ok-full.full)) (refused_walk c.walk_from.result) found.keeps from.ends.worktree.faults refl rooted_is none)
           c.walk_from.result (Ok (c.walk_from.new.outcome, c.in_ok-full.full)) zeros.0 is_root refl none c.walk_from.ensures.opens);
       feeds =
           feeds-done w f d a.worktree.now c.traversal_root.new.worktree c.walk_from.new.worktree a.objects.now a.excludes.now a.delegate.now c.walk_from.new.delegate given a.explicit.now a.depth_limit root c.default-outcome.result c.walk_from.new.outcome
-          found.keeps from.ends.worktree.faults normal rooted_is from.ends.delegate c.walk_from.ensures.puts zeros.0 zeros.1.0 zeros.1.1 c.in_ok-full.full full_is from.ends.heeds.kept_on
+          found.keeps from.ends.worktree.faults normal rooted_is from.ends.delegate c.walk_from.ensures.puts c.walk_from.ensures.filtered zeros.0 zeros.1.0 zeros.1.1 c.in_ok-full.full full_is from.ends.heeds.kept_on
           (λ s told. g.met.W.Worktree.is_tree a.worktree.now s.tree told) from.gives;
     }
 
@@ -97,13 +98,13 @@ returns-in-Err-Broken g c =
     let none : refused_walk c.walk_from.result ≤ 0 = rw (c.in-Err-Broken.is, c.in-Err-Broken.field-0-is) (omega arith) in
     record {
       walks_worktree =
-          walks-done w f i d a.strategy given a.explicit.now a.depth_limit recursion (λ r. r.0) (λ r. r.1) root found.keeps normal rooted_is (c.walk_from.new.outcome, c.in_ok-full.full) full_is (Err Broken) from.ends from.ends.caused.listed from.ends.caused.calm
+          walks-done w f i d a.strategy given a.explicit.now a.depth_limit recursion (λ r. r.0) (λ r. r.1) root found.keeps normal rooted_is (c.walk_from.new.outcome, c.in_ok-full.full) full_is (Err Broken) from.ends from.ends.caused.listed from.ends.caused.calm c.walk_from.ensures.unmapped
           (opens-whole a.strategy found.keeps.lists found.reads
-          (enters-walk {T = Outcome × List ℕ} w f d recursion given a.explicit.now root (Ok (c.walk_from.new.outcome, c.in_ok-full.full)) (refused_walk c.walk_from.result) found.keeps from.ends.worktree.faults refl rooted_is none)
+          (enters-walk {T = Outcome × List ℕ} w f d recursion given a.explicit.now a.depth_limit root (Ok (c.walk_from.new.outcome, c.in_ok-full.full)) (refused_walk c.walk_from.result) found.keeps from.ends.worktree.faults refl rooted_is none)
           c.walk_from.result (Ok (c.walk_from.new.outcome, c.in_ok-full.full)) zeros.0 is_root refl none c.walk_from.ensures.opens);
       feeds =
           feeds-broken w f d a.worktree.now c.traversal_root.new.worktree c.walk_from.new.worktree a.objects.now a.excludes.now a.delegate.now c.walk_from.new.delegate given a.explicit.now a.depth_limit root c.default-outcome.result c.walk_from.new.outcome
-          found.keeps from.ends.worktree.faults normal rooted_is from.ends.delegate c.walk_from.ensures.puts zeros.0 zeros.1.0 zeros.1.1 c.in_ok-full.full full_is from.ends.heeds
+          found.keeps from.ends.worktree.faults normal rooted_is from.ends.delegate c.walk_from.ensures.puts c.walk_from.ensures.filtered zeros.0 zeros.1.0 zeros.1.1 c.in_ok-full.full full_is from.ends.heeds
           (λ s tells by quiet v is. from.part s tells quiet by v is);
     }
 
@@ -126,12 +127,12 @@ returns g c =
     record {
       walks_worktree =
           walks-refused w f i d a.strategy given a.explicit.now a.depth_limit recursion (λ r. r.0) (λ r. r.1) root found.keeps normal rooted_is e from.ends from.about from.found
-          (λ s tells by quiet. from.refused s tells quiet by) from.no_root
+          (λ s tells by quiet. from.refused s tells quiet by) from.no_root (no-start-weaker (λ same. (same.0, same.1)) e from.unstarted) c.walk_from.ensures.unmapped
           (opens-whole a.strategy found.keeps.lists found.reads
-          (enters-walk {T = Outcome × List ℕ} w f d recursion given a.explicit.now root (Err e) (refused_walk c.walk_from.result) found.keeps from.ends.worktree.faults refl rooted_is (refused-most c.walk_from.result))
+          (enters-walk {T = Outcome × List ℕ} w f d recursion given a.explicit.now a.depth_limit root (Err e) (refused_walk c.walk_from.result) found.keeps from.ends.worktree.faults refl rooted_is (refused-most c.walk_from.result))
           c.walk_from.result (Err e) c.default-outcome.ensures.0 (record { normalized = normal; named = tt }) tt (refused-most c.walk_from.result) c.walk_from.ensures.opens);
       feeds =
           feeds-refused w f d a.worktree.now c.traversal_root.new.worktree c.walk_from.new.worktree a.objects.now a.excludes.now a.delegate.now c.walk_from.new.delegate given a.explicit.now a.depth_limit root c.default-outcome.result c.walk_from.new.outcome
-          found.keeps from.ends.worktree.faults normal rooted_is from.ends.delegate c.walk_from.ensures.puts e from.ends.heeds
-          (λ s tells by quiet v is. from.part s tells quiet by v is);
+          found.keeps from.ends.worktree.faults normal rooted_is from.ends.delegate c.walk_from.ensures.puts c.walk_from.ensures.filtered e from.ends.heeds
+          (λ s tells by quiet v is. from.part s tells quiet by v is) (no-start-weaker (λ same. same.2) e from.unstarted);
     }

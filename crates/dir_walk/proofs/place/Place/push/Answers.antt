@@ -1,19 +1,20 @@
-use Rattle.std.proofs.Common.{ap, ◌∙◌}
-use Rattle.std.proofs.lemmas.Result.{on_ok_weaker}
-use Rattle.gitbase_core.specs.Path.{joined}
-use Rattle.dir_walk.specs.Placed.{Standing}
-use Rattle.dir_walk.proofs.Standing.{IsPlaced-pushed, standing-name}
+use Rattle.std.proofs.Common.{ap, length, ℕ, List}
+use Rattle.dir_walk.proofs.Standing.{IsPlaced-name, IsPushed-name, standing-pushed}
 use Rattle.dir_walk.proofs.place.Place.push.Goals as goal
 
-pub invariant_of-self : goal.invariant_of-self
-invariant_of-self c =
+pub invariant_of-self-2 : goal.invariant_of-self-2
+invariant_of-self-2 c =
     let at = c.self.inside in
-    IsPlaced-pushed c.push_component.result at.root_length at.start at.whole c.push_component.new.self c.args.name.now c.requires c.self.invariant c.push_component.ensures.pushed c.push_component.ensures.refused
+    IsPlaced-name at.root_length at.start at.whole c.push_component.new.self c.args.name.now c.requires c.self.invariant c.in_ok-push_component.ensures.pushed
 
-pub returns : goal.returns
-returns c =
+pub returns-clause-pushed : goal.returns-clause-pushed
+returns-clause-pushed c =
     let at = c.self.inside in
-    let f : Standing → Standing = λ s. record { root = s.root; path = joined s.path c.args.name.now } in
-    on_ok_weaker c.push_component.result
-    (λ pushed. standing-name at.root_length at.start at.whole c.push_component.new.self c.args.name.now c.requires c.self.invariant pushed ∙ ap f c.self.view_is)
-    c.push_component.ensures.pushed
+    standing-pushed at.root_length at.start at.whole c.push_component.new.self c.args.name.now (length c.as_bytes-length.result.now) c.args.self.now c.requires c.self.invariant c.in_ok-push_component.ensures.pushed c.self.view_is
+    (ap (λ (w : List ℕ). length w) c.as_bytes-length.ensures)
+
+pub returns-clause-within : goal.returns-clause-within
+returns-clause-within c =
+    let at = c.self.inside in
+    IsPushed-name at.root_length at.start at.whole c.push_component.new.self c.args.name.now (length c.as_bytes-length.result.now) c.args.self.now c.requires c.self.invariant c.in_ok-push_component.ensures.pushed c.self.view_is
+    (ap (λ (w : List ℕ). length w) c.as_bytes-length.ensures)
