@@ -1,5 +1,7 @@
 //! Reports over a worktree in memory, whole: words in, a status and two texts out.
 mod calls;
+mod depths;
+mod endings;
 mod faults;
 mod mapped;
 mod modules;
@@ -8,9 +10,11 @@ mod rows;
 mod walks;
 
 use crate::dispatch::dispatch;
+use depths::{DEEPEST, is_walked};
+use endings::ENDINGS;
 use faults::{
-    AT_ONCE, COLLAPSE, CONFIGURED, EACH_CALL, EACH_CALL_AT_ONCE, EACH_LOOK, Failing, IGNORING,
-    IN_ORDER, MISREAD_FIRST, NESTED,
+    AT_ONCE, COLLAPSE, COLLAPSE_AT_ONCE, CONFIGURED, EACH_IN_TURN, EACH_LOOK, Ending, Failing,
+    IGNORING, IN_ORDER, MISREAD_FIRST, NESTED,
 };
 use git_config_lite::Source;
 use gitbase_core::{Bytes, OutOfMemory};
@@ -20,7 +24,7 @@ use plans::{CHANGED, CLEANED, UPDATED};
 use rows::{A_FILE, IGNORED, OPTIONS, REFUSALS, REPORTS, REQUIRED, Row, WITHOUT_RULES};
 use std::alloc::Global;
 use walks::{DELETED, FOLDED, ROOTED, RULED, SPECIFIED};
-use worktree_fs::{AddError, CallKind, MemorySink, MemoryWorktree, NewNode, PlannedInterrupt};
+use worktree_fs::{AddError, MemorySink, MemoryWorktree, NewNode, PlannedInterrupt};
 use worktree_report::Permissions;
 
 const REPORT: &[&[u8]] = &[b"report", b"/w", b"/s"];
@@ -74,24 +78,12 @@ fn answer_of(
     room: usize,
     nth: u64,
 ) -> Result<Answer, OutOfMemory> {
-    let mut never = PlannedInterrupt::never();
-    interrupted_answer_of(alloc, texts, tree, &mut never, room, nth)
-}
-
-/// The same with an interrupt.
-fn interrupted_answer_of(
-    alloc: Global,
-    texts: &[&[u8]],
-    tree: &mut MemoryWorktree,
-    interrupt: &mut PlannedInterrupt,
-    room: usize,
-    nth: u64,
-) -> Result<Answer, OutOfMemory> {
     let words = words(alloc, texts)?;
+    let mut interrupt = PlannedInterrupt::never();
     let mut out = MemorySink::new(alloc, room)?;
     out.fail_from(nth);
     let mut err = MemorySink::new(alloc, ROOM)?;
-    let status = dispatch(alloc, &words, tree, interrupt, &mut out, &mut err);
+    let status = dispatch(alloc, &words, tree, &mut interrupt, &mut out, &mut err);
     Ok(Answer { status, out, err })
 }
 
@@ -136,21 +128,24 @@ fn at_once(alloc: Global, setup: &[u8]) -> Result<Vec<u8>, OutOfMemory> {
     Ok(text)
 }
 
-/// Whether a row's worktree is answered as the row says where subtrees are walked at once.
-fn holds_at_once(alloc: Global, row: &Row) -> bool {
+/// Whether a row's worktree, listed in this order, is answered as the row says where subtrees are walked at once.
+fn holds_at_once(alloc: Global, row: &Row, reversed: bool) -> bool {
     let Ok(setup) = at_once(alloc, row.setup) else {
         return false;
     };
     match tree(alloc, row.nodes, &setup) {
-        Ok(mut tree) => answers(alloc, REPORT, &mut tree, (row.status, row.out, row.err)),
+        Ok(mut tree) => {
+            tree.set_reversed(reversed);
+            answers(alloc, REPORT, &mut tree, (row.status, row.out, row.err))
+        }
         Err(_) => false,
     }
 }
 
-/// The name of the first row that is answered otherwise where subtrees are walked at once.
+/// The name of the first row that is answered otherwise where subtrees are walked at once, in one order of listing or the other.
 fn first_lie_at_once(alloc: Global, rows: &[Row]) -> Option<&'static str> {
     for row in rows {
-        if !holds_at_once(alloc, row) {
+        if !holds_at_once(alloc, row, false) || !holds_at_once(alloc, row, true) {
             return Some(row.name);
         }
     }
@@ -244,31 +239,10 @@ fn reports_the_same_where_subtrees_are_walked_at_once(rt: HostRuntime) {
     assert_eq!(rt; first_lie_at_once(alloc, &MODULED), None);
 }
 
-/// Whether a report of two directories is stopped at this question.
-fn is_stopped(alloc: Global, nth: u64) -> bool {
-    let mut interrupt = PlannedInterrupt::at(nth);
-    match tree(alloc, &[(b"/w/d/a", A_FILE)], b"") {
-        Ok(mut tree) => {
-            match interrupted_answer_of(alloc, REPORT, &mut tree, &mut interrupt, ROOM, u64::MAX) {
-                Ok(answer) => answer.is(1, b"", b"interrupted\n"),
-                Err(_) => false,
-            }
-        }
-        Err(_) => false,
-    }
-}
-
-#[test]
-fn stops_where_it_is_interrupted(rt: HostRuntime) {
-    let alloc = rt.alloc();
-    assert!(rt; is_stopped(alloc, 1));
-    assert!(rt; is_stopped(alloc, 2));
-    assert!(rt; !is_stopped(alloc, 3));
-}
-
 #[test]
 fn refuses_what_it_must(rt: HostRuntime) {
     assert_eq!(rt; first_lie(rt.alloc(), &REFUSALS), None);
+    assert_eq!(rt; first_lie_at_once(rt.alloc(), &REFUSALS), None);
 }
 
 /// Words that are no command.
@@ -367,35 +341,6 @@ fn tells_the_states_of_the_index(rt: HostRuntime) {
     assert_eq!(rt; plans::first_lie(rt.alloc(), &CHANGED), None);
 }
 
-/// `/w/d/d/..`, so many directories one in another below `/w`.
-fn chain(alloc: Global, depth: usize) -> Result<Vec<u8>, OutOfMemory> {
-    let mut path = b"/w".to_vec(alloc)?;
-    for _ in 0..depth {
-        path.extend_from_slice(b"/d")?;
-    }
-    Ok(path)
-}
-
-/// Whether the directory at this path is said to be too deep.
-fn is_too_deep(said: &[u8], path: &[u8]) -> bool {
-    match said.strip_prefix(b"walk: too-deep ") {
-        Some(rest) => rest.strip_suffix(b"\n") == Some(path),
-        None => false,
-    }
-}
-
-/// Whether a chain of this depth is walked to its end, or else its last directory is said to be too deep.
-fn is_walked(alloc: Global, depth: usize, setup: &[u8]) -> Option<bool> {
-    let path = chain(alloc, depth).ok()?;
-    let mut tree = tree(alloc, &[(&path, NewNode::Directory)], setup).ok()?;
-    let answer = answer_of(alloc, REPORT, &mut tree, ROOM, u64::MAX).ok()?;
-    match answer.status {
-        0 => Some(answer.is(0, b"", b"")),
-        4 if is_too_deep(answer.err.written(), &path) => Some(false),
-        _ => None,
-    }
-}
-
 #[test]
 fn enters_directories_to_the_limit(rt: HostRuntime) {
     let alloc = rt.alloc();
@@ -405,80 +350,114 @@ fn enters_directories_to_the_limit(rt: HostRuntime) {
     }
 }
 
-/// The deepest tree that a setup can ask for, in which each directory is entered without a look for rules or repositories.
-const DEEPEST: &[u8] = b"depth 1000\noption recurse_repositories yes\noption excludes no\n";
-
 #[test]
 fn enters_a_thousand_directories_in_one_another(rt: HostRuntime) {
     assert_eq!(rt; is_walked(rt.alloc(), 1000, DEEPEST), Some(true));
 }
 
-/// Whether a report of these nodes ends as a row says where a call fails, and so many failures were counted.
+/// A run for these words with what fails in it planned; with no words where the sink of messages fails.
+fn run_where_it_fails(
+    alloc: Global,
+    texts: &[&[u8]],
+    tree: &mut MemoryWorktree,
+    failing: Failing,
+) -> Result<Answer, OutOfMemory> {
+    let mut interrupt = PlannedInterrupt::never();
+    let mut out = MemorySink::new(alloc, ROOM)?;
+    let mut err = MemorySink::new(alloc, ROOM)?;
+    let mut asked = words(alloc, texts)?;
+    match failing {
+        Failing::Nothing => (),
+        Failing::Call(call, nth) => tree.fail(alloc, call, nth)?,
+        Failing::Out => out.fail_from(1),
+        Failing::Err => {
+            err.fail_from(1);
+            asked = Vec::new(alloc);
+        }
+        Failing::Interrupt(nth) => interrupt = PlannedInterrupt::at(nth),
+    }
+    let status = dispatch(alloc, &asked, tree, &mut interrupt, &mut out, &mut err);
+    Ok(Answer { status, out, err })
+}
+
+/// Whether a run for these words over these nodes ends so where this fails in it.
 fn ends_so(
     alloc: Global,
+    texts: &[&[u8]],
     nodes: &[(&[u8], NewNode<'_>)],
     setup: &[u8],
-    failing: &Failing,
-    counted: u64,
+    failing: Failing,
+    ending: Ending,
 ) -> bool {
-    let (call, nth, status, text) = *failing;
+    let (status, text, faults) = ending;
     let Ok(mut tree) = tree(alloc, nodes, setup) else {
         return false;
     };
-    let want: (u8, &[u8], &[u8]) = if status == 0 {
-        (status, text, b"")
+    let (out, err): (&[u8], &[u8]) = if status == 0 {
+        (text, b"")
     } else {
-        (status, b"", text)
+        (b"", text)
     };
-    tree.fail(alloc, call, nth).is_ok()
-        && answers(alloc, REPORT, &mut tree, want)
-        && tree.fault_count() == counted
+    match run_where_it_fails(alloc, texts, &mut tree, failing) {
+        Ok(answer) => answer.is(status, out, err) && tree.fault_count() == faults,
+        Err(_) => false,
+    }
+}
+
+/// Whether a report over these nodes ends so where this fails in it.
+fn reports_so(
+    alloc: Global,
+    nodes: &[(&[u8], NewNode<'_>)],
+    setup: &[u8],
+    failing: Failing,
+    ending: Ending,
+) -> bool {
+    ends_so(alloc, REPORT, nodes, setup, failing, ending)
 }
 
 #[test]
-fn counts_each_call_that_fails(rt: HostRuntime) {
-    for failing in &EACH_CALL {
-        assert!(rt;
-            ends_so(rt.alloc(), IGNORING, REQUIRED, failing, 1),
-            "{:?} {}",
-            failing.0,
-            failing.1
-        );
+fn ends_each_plan_as_it_must(rt: HostRuntime) {
+    let alloc = rt.alloc();
+    assert!(rt; endings::miss_the_setup(alloc));
+    for case in &ENDINGS {
+        assert!(rt; endings::is_so(alloc, case), "{case:?}");
     }
 }
 
 #[test]
-fn counts_each_call_that_fails_outside_of_jobs(rt: HostRuntime) {
-    for (failing, counted) in &EACH_CALL_AT_ONCE {
+fn ends_as_it_must_whatever_fails(rt: HostRuntime) {
+    for (failing, held, at_once) in &EACH_IN_TURN {
         assert!(rt;
-            ends_so(rt.alloc(), IGNORING, AT_ONCE, failing, *counted),
-            "{:?} {}",
-            failing.0,
-            failing.1
+            reports_so(rt.alloc(), IGNORING, REQUIRED, *failing, *held),
+            "{failing:?}"
+        );
+        assert!(rt;
+            reports_so(rt.alloc(), IGNORING, AT_ONCE, *failing, *at_once),
+            "{failing:?} at once"
         );
     }
 }
 
 #[test]
 fn reads_no_file_behind_one_that_is_refused(rt: HostRuntime) {
-    for (failing, counted) in &IN_ORDER {
+    for (failing, ending) in &IN_ORDER {
         assert!(rt;
-            ends_so(rt.alloc(), MISREAD_FIRST, CONFIGURED, failing, *counted),
-            "{:?} {}",
-            failing.0,
-            failing.1
+            reports_so(rt.alloc(), MISREAD_FIRST, CONFIGURED, *failing, *ending),
+            "{failing:?}"
         );
     }
 }
 
 #[test]
 fn looks_for_a_repository_in_vain_where_a_call_fails(rt: HostRuntime) {
-    for failing in &EACH_LOOK {
+    for (failing, held, at_once) in &EACH_LOOK {
         assert!(rt;
-            ends_so(rt.alloc(), NESTED, COLLAPSE, failing, 1),
-            "{:?} {}",
-            failing.0,
-            failing.1
+            reports_so(rt.alloc(), NESTED, COLLAPSE, *failing, *held),
+            "{failing:?}"
+        );
+        assert!(rt;
+            reports_so(rt.alloc(), NESTED, COLLAPSE_AT_ONCE, *failing, *at_once),
+            "{failing:?} at once"
         );
     }
 }

@@ -284,6 +284,16 @@ answered is = cc
 pub told-blobs : {told : Option Names} {holds : Option Objects} {made : Option Made} {t : Names} (setup : Setup) → holds ≡ Some setup.blobs → told ≡ Some t → TellsIf told holds made (read_in t setup)
 told-blobs setup held tree = record { tree_is = tree; objects_are = λ some. held }
 
+-- what is read once for each of some directories is for more of them
+reads-more : (composes : Bool) (root : List ℕ) (setup : Setup) (result : Result Report ReportError) (before now opened most : ℕ) → opened ≤ most
+    → ReadsWithin composes root setup result before now opened 0 → ReadsWithin composes root setup result before now most 0
+reads-more composes root setup result before now opened most fits reads =
+    record {
+      between = reads.between;
+      loaded = reads.loaded;
+      walked = elim reads.walked [ inl same ↦ inl same | inr found ↦ inr (found.0, found.1, found.2, let few = found.3 in omega (arith, few, fits)) ];
+    }
+
 module _ {W F I : Type 0} {w : WorktreeOf W} {f : FindOf F} {i : InterruptOf I} {w0 w1 : W} {o0 o1 : F} {i0 i1 : I} {root : List ℕ} {setup : Setup} where
   -- the text of a report
   pub Texts-ok : (r : Report) (text : List ℕ) → MakesReport w f i w0 w1 o0 o1 i0 i1 root setup (Ok r) → f.holds o0 ≡ Some setup.blobs → text ≡ text_with setup.options r
@@ -298,9 +308,9 @@ module _ {W F I : Type 0} {w : WorktreeOf W} {f : FindOf F} {i : InterruptOf I} 
               made = r;
               is = report_is (reports.gives (read_in t setup) (told-blobs setup held told) quiet);
               asked = let o = reports.opens.opened in let asks = reports.opens.asked in let counts = reports.opens.counted in omega (arith, asks, counts);
-              reads = λ over_itself rules_alone few.
-                  let same : reports.opens.opened ≡ r.outcome.read_dir_calls = let counts = reports.opens.counted in omega (arith, counts, few) in
-                  subst (λ (n : ℕ). ReadsWithin {E = ReportError} (w.precomposes w0) root setup (Ok r) (w.reads w0) (w.reads w1) n 0) same (reports.opens.reads over_itself rules_alone);
+              reads = λ over_itself rules_alone.
+                  reads-more (w.precomposes w0) root setup (Ok r) (w.reads w0) (w.reads w1) _ _ (reports.opens.within (read_in t setup) (told-blobs setup held told) quiet)
+                  (reports.opens.reads over_itself rules_alone);
             };
         refused = λ t told quiet word path is. absurd cc;
         misread = λ t told which is. absurd cc;

@@ -2,7 +2,7 @@
 use Rattle.std.proofs.Common.{◌≡◌, ◌+◌, ℕ, List, [], Bool, false, Some, Ok, refl, sym, ap, ◌∙◌, add-one}
 use Rattle.gitbase_core.specs.Path.{components}
 use Rattle.worktree_fs.specs.Composed.{as_kept}
-use Rattle.worktree_fs.specs.Grow.{grown, names_at}
+use Rattle.worktree_fs.specs.Grow.{grown, children_of}
 use Rattle.worktree_fs.specs.Tree.{Node, Names, file, directory, none}
 use Rattle.worktree_report.specs.Generate.{entries_of, file_path, generated_report, generated_setup, setup_text, tracked_paths, tree_of, with_file, worktree_root}
 use Rattle.worktree_report.specs.SetupText.{setup_of}
@@ -17,10 +17,10 @@ pub tree_of-more : (n : ℕ) (before after : Names) (composes : Bool) (path : Li
 unfolding tree_of
 tree_of-more n before after composes path plain is named added =
     rw add-one
-    (ap (λ (node : Node). names_at (Some node)) added
-    ∙ ap (λ (b : Bool). names_at (Some (grown (components (as_kept b path)) (file []) (Some (directory before))))) plain
-    ∙ ap (λ (p : List ℕ). names_at (Some (grown (components p) (file []) (Some (directory before))))) named
-    ∙ ap (λ (t : Names). names_at (Some (grown (components (file_path n)) (file []) (Some (directory t))))) is)
+    (ap (λ (node : Node). children_of (Some node)) added
+    ∙ ap (λ (b : Bool). children_of (Some (grown (components (as_kept b path)) (file []) (Some (directory before))))) plain
+    ∙ ap (λ (p : List ℕ). children_of (Some (grown (components p) (file []) (Some (directory before))))) named
+    ∙ ap (λ (t : Names). children_of (Some (grown (components (file_path n)) (file []) (Some (directory t))))) is)
 
 pub tree_of-none : none ≡ tree_of 0
 unfolding tree_of

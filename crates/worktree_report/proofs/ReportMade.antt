@@ -310,9 +310,9 @@ no_attributes root setup = go setup.options.excludes
     go true = refl
     go false = refl
 
-most_more : (walk : Option Walk) (less more : ℕ) → less ≤ more → most_opened walk less ≤ most_opened walk more
-most_more None less more fits = omega arith
-most_more (Some walk) less more fits = omega (arith, fits)
+most_more : (limit : ℕ) (walk : Option Walk) (less more : ℕ) → less ≤ more → most_opened limit walk less ≤ most_opened limit walk more
+most_more limit None less more fits = omega arith
+most_more limit (Some walk) less more fits = omega (arith, fits)
 
 opened_later : {W F I : Type 0} (w : WorktreeOf W) (f : FindOf F) (i : InterruptOf I) (w0 wl w1 : W) (o0 : F) (i0 i1 : I) (root : List ℕ) (setup : Setup) (walked : Result WalkReport Error) (result : Result Report ReportError)
     → LoadsFiles w w0 wl (files_if setup) → w.faults wl ≤ w.faults w1
@@ -327,8 +327,8 @@ opened_later w f i w0 wl w1 o0 i0 i1 root setup walked result loads more opens c
           let first = loads.faults in
           let second : NotIncreased (w.faults wl) (w.faults w1) = omega (arith, quiet, first, more) in
           let most = opens.within s (record { tree_is = loads.tree ∙ told.tree_is; objects_are = told.objects_are }) second in
-          let same = ap {B = ℕ} (λ (b : Bool). most_opened (walk_in (asked_of b root setup) (excludes_of root setup) s setup.root) (refused_one walked)) loads.precomposes in
-          let fits = most_more (walk_in (asked_of (w.precomposes w0) root setup) (excludes_of root setup) s setup.root) (refused_one walked) (refused_one result) spare in
+          let same = ap {B = ℕ} (λ (b : Bool). most_opened setup.depth (walk_in (asked_of b root setup) (excludes_of root setup) s setup.root) (refused_one walked)) loads.precomposes in
+          let fits = most_more setup.depth (walk_in (asked_of (w.precomposes w0) root setup) (excludes_of root setup) s setup.root) (refused_one walked) (refused_one result) spare in
           omega (arith, most, same, fits);
       listed = subst (λ (n : ℕ). IsListed setup.options.strategy n (w.lists w1) opens.opened) loads.lists opens.listed;
       asked = opens.asked;

@@ -231,7 +231,7 @@ module _ {W I : Type 0} {w : WorktreeOf W} {i : InterruptOf I} {w0 w1 w2 : W} {i
         list_faults_kept = subst (λ (n : ℕ). OnOk answer (w.list_faults w2 ≡ n)) listed kept;
         lists = omega (arith, none_listed, worktree.lists);
         precomposes = worktree.precomposes ∙ composes;
-        questions = interrupt.questions;
+        questions = omega (arith, interrupt.questions);
         raised = interrupt.raised;
         calm = calm;
       }

@@ -90,7 +90,7 @@ Reports-walked {w = w} {f = f} {w0 = w0} {o0 = o0} {o1 = o1} {root = root} {setu
           record {
             opened = walks.opens.opened;
             within = λ s told quiet.
-                subst (λ m. walks.opens.opened ≤ most_opened (walk_in (asked_of (w.precomposes w0) root setup) m s setup.root) (refused_one result)) made
+                subst (λ m. walks.opens.opened ≤ most_opened setup.depth (walk_in (asked_of (w.precomposes w0) root setup) m s setup.root) (refused_one result)) made
                 (walks.opens.within s (tells_of {w = w} {f = f} made step s told) refl quiet);
             listed = walks.opens.listed;
             asked = walks.opens.asked;

@@ -1,5 +1,5 @@
 -- The report of a work tree that a setup asks for.
-use Rattle.std.specs.Prelude.{◌≡◌, ◌⊎◌, ◌≤◌, ◌<◌, ◌-◌, ◌^◌, ℕ, List, [], Bool, codes, length, Option, Some, None, option_map, true, false, ◌+◌, Result, Ok, Err, IfOk}
+use Rattle.std.specs.Prelude.{◌≡◌, ◌⊎◌, ◌≤◌, ℕ, List, [], Bool, codes, length, Option, Some, None, option_map, true, false, ◌+◌, Result, Ok, Err, IfOk}
 use Rattle.gitbase_core.specs.declared.entry.IndexEntry.{IndexEntry}
 use Rattle.gitbase_core.specs.Objects.{Objects}
 use Rattle.gitbase_core.specs.Path.{components, joined}
@@ -19,8 +19,9 @@ use Rattle.dir_walk.specs.Report.{report}
 use Rattle.dir_walk.specs.Reports.{IsReport}
 use Rattle.dir_walk.specs.WalkRefused.{by_default, IsNoTop, OnNoRoot, WalkAbout, WalkFound, WalkRefuses}
 use Rattle.dir_walk.specs.Rooting.{IsNormalized}
-use Rattle.dir_walk.specs.Root.{rooted, traversal_root}
+use Rattle.dir_walk.specs.Root.{rooted, traversal_root, walk_in}
 use Rattle.dir_walk.specs.Walkable.{IsValid}
+use Rattle.dir_walk.specs.Walks.{most_opened}
 use Rattle.worktree_report.specs.declared.known.Known.{Known}
 use Rattle.worktree_report.specs.declared.report.Report.{Report}
 use Rattle.worktree_report.specs.declared.refusal.Misread.{Misread}
@@ -147,14 +148,15 @@ pub record ReadsWithin {E : Type 0} (composes : Bool) (root : List ℕ) (setup :
   pub walked : ReadsFrom composes root setup result between now opened spare
 
 -- Of the report over a tree: the interrupt was asked at least as often as directories are counted, or stands at its last value;
--- and where files are read for their rules alone, and all over the worktree itself, it was read at most once for each of these and
--- once for each component of the traversal root, besides what tells of submodules. The count is to be below its last value.
+-- and where files are read for their rules alone, and all over the worktree itself, it was read at most once for each directory that
+-- the walk enters and once for each component of the traversal root, besides what tells of submodules.
 pub record WorksAt (composes : Bool) (t : Names) (root : List ℕ) (setup : Setup) (questions0 questions1 reads0 reads1 : ℕ) : Type 0 where
   pub made : Report
   pub is : report_of composes (read_in t setup) root setup ≡ Some made
   pub asked : with_more questions0 made.outcome.read_dir_calls ≤ questions1
-  pub reads : setup.options.strategy ≡ Held → reads_rules_alone (chosen_of composes setup) ≡ true → made.outcome.read_dir_calls < 2 ^ 32 - 1
-      → ReadsWithin {E = ReportError} composes root setup (Ok made) reads0 reads1 made.outcome.read_dir_calls 0
+  pub reads : setup.options.strategy ≡ Held → reads_rules_alone (chosen_of composes setup) ≡ true
+      → ReadsWithin {E = ReportError} composes root setup (Ok made) reads0 reads1
+      (most_opened setup.depth (walk_in (asked_of composes root setup) (excludes_of root setup) (read_in t setup) setup.root) 0) 0
 
 -- ---- refusals
 

@@ -29,6 +29,7 @@ rules_of root setup =
       root = root;
       case = case_of setup.options.ignore_case;
       mappings = mappings_in (case_of setup.options.ignore_case) None (Some (rules_given setup)) setup.index;
+      checkout = None;
       attributes = None;
       ignore = Some (rules_given setup);
     }

@@ -8,7 +8,7 @@ use Rattle.gitbase_core.specs.Entry.{file_mode}
 use Rattle.gitbase_core.specs.Path.{components}
 use Rattle.gitbase_core.specs.declared.entry.IndexEntry.{IndexEntry}
 use Rattle.worktree_fs.specs.Causes.{with_more}
-use Rattle.worktree_fs.specs.Grow.{grown, names_at}
+use Rattle.worktree_fs.specs.Grow.{grown, children_of}
 use Rattle.worktree_fs.specs.Tree.{Names, file, directory, none}
 use Rattle.dir_walk.specs.declared.report.Report.{Report}
 use Rattle.worktree_report.specs.declared.refusal.Refusal.{Refusal}
@@ -35,7 +35,7 @@ file_path i = codes "/w/" ++ file_below i
 -- the tree of so many files, none of which has bytes
 unfoldable pub tree_of : ℕ → Names
 tree_of zero = none
-tree_of (suc i) = names_at (Some (grown (components (file_path i)) (file []) (Some (directory (tree_of i)))))
+tree_of (suc i) = children_of (Some (grown (components (file_path i)) (file []) (Some (directory (tree_of i)))))
 
 -- ---- the index
 

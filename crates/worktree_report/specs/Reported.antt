@@ -46,12 +46,12 @@ abbrev pub IsNamedRoot : Bool → Names → List ℕ → Setup → List ℕ → 
 IsNamedRoot composes t root setup path =
     (start : List ℕ) × (traversal_root (asked_of composes root setup) t setup.root ≡ rooted start) × (path ≡ full_path root start)
 
--- Over what is told, and without a fault of the worktree, so many directories are opened at most as the walk of a setup enters, and
--- `spare` more; none where there is no walk.
+-- Over what is told, and without a fault of the worktree, so many directories are opened at most as the walk of a setup enters within
+-- its depth, and `spare` more; none where there is no walk.
 abbrev pub EntersAsAsked : {W F : Type 0} → WorktreeOf W → FindOf F → W → W → F → List ℕ → Setup → ℕ → ℕ → Type 0
 EntersAsAsked w f w0 w1 o0 root setup spare opened =
     (s : Sources) → TellsIf (w.told w0) (f.holds o0) (excludes_of root setup) s → NotIncreased (w.faults w0) (w.faults w1)
-    → opened ≤ most_opened (walk_in (asked_of (w.precomposes w0) root setup) (excludes_of root setup) s setup.root) spare
+    → opened ≤ most_opened setup.depth (walk_in (asked_of (w.precomposes w0) root setup) (excludes_of root setup) s setup.root) spare
 
 -- What the walk of the work tree at `root` gives, where a worktree was `w0` and is `w1`, a store was `o0` and is `o1`, and an interrupt
 -- was `i0` and is `i1`.
@@ -126,12 +126,13 @@ Describes (Err error) known (Ok walked) = error ≡ errors.OutOfMemory
 Describes (Err error) known (Err e) = error ≡ of_walk e
 
 -- What is opened and read: what tells of submodules first, and then as the walk does. Over what is told, and without a fault, no more
--- directories are opened than the walk enters; a refusal may come with one more.
+-- directories are opened than the walk enters within its depth; a refusal may come with one more. The interrupt is asked before each, and
+-- once more where it was raised.
 pub record LoadsAndOpens {W F I : Type 0} (w : WorktreeOf W) (f : FindOf F) (i : InterruptOf I) (w0 w1 : W) (o0 : F) (i0 i1 : I) (root : List ℕ) (setup : Setup) (result : Result Report ReportError) : Type 0 where
   pub opened : ℕ
   pub within : EntersAsAsked w f w0 w1 o0 root setup (refused_one result) opened
   pub listed : IsListed setup.options.strategy (w.lists w0) (w.lists w1) opened
-  pub asked : with_more (i.questions i0) opened ≤ i.questions i1
+  pub asked : with_more (i.questions i0) (opened + (i.raised i1 - i.raised i0)) ≤ i.questions i1
   pub counted : IfOk result (λ r. r.outcome.read_dir_calls ≡ min opened (2 ^ 32 - 1))
   pub reads : setup.options.strategy ≡ Held → reads_rules_alone (chosen_of (w.precomposes w0) setup) ≡ true
       → ReadsWithin (w.precomposes w0) root setup result (w.reads w0) (w.reads w1) opened (refused_one result)

@@ -38,8 +38,9 @@ const CHECKOUT: &[(&[u8], NewNode<'static>)] = &[
     (b"/w/target/x.o", FILE),
 ];
 
+/// It asks for what a plan does not: for directories that are folded, and for what there is of them.
 const CHECKED_OUT: &[u8] =
-    b"index 100644 0 - - .gitignore\nindex 100644 0 - - .gitmodules\nindex 160000 0 - - lib\nindex 100644 0 - - src/main.c\n";
+    b"index 100644 0 - - .gitignore\nindex 100644 0 - - .gitmodules\nindex 160000 0 - - lib\nindex 100644 0 - - src/main.c\noption emit_untracked collapse\noption emit_ignored collapse\noption print_outcome yes\n";
 
 const ALL: &[&[u8]] = &[b"clean", b"all", b"nonbare", b"/w", b"/s"];
 
@@ -74,14 +75,14 @@ pub static CLEANED: [Plan; 8] = [
         name: "what lies beside a precious file",
         words: ALL,
         nodes: &[(b"/w/d/key", FILE), (b"/w/d/x", FILE)],
-        setup: b"global $key\noption precious yes\n",
+        setup: b"global $key\noption precious yes\noption for_deletion nonbare\noption emit_untracked collapse\noption emit_ignored collapse\n",
         out: b"d/x\n",
     },
     Plan {
         name: "what lies in the current directory",
         words: ALL,
         nodes: &[(b"/w/d/x", FILE)],
-        setup: b"global $key\noption precious yes\ncurrent_dir /w/d\n",
+        setup: b"global $key\noption precious yes\noption for_deletion nonbare\noption emit_untracked collapse\noption emit_ignored collapse\ncurrent_dir /w/d\n",
         out: b"d/x\n",
     },
     Plan {
@@ -120,7 +121,18 @@ const URL: NewNode<'static> = NewNode::File(b"[submodule \"m\"]\nurl = u\n");
 
 const LINK: NewNode<'static> = NewNode::File(b"gitdir: /g/m\n");
 
-const ADDED: &[u8] = b"index 100644 0 - - .gitmodules\nindex 160000 0 - - lib\nconfig local /c\n";
+/// What makes the git directory that [`LINK`] leads to a whole one.
+const LINKED_HEAD: (&[u8], NewNode<'static>) = (b"/g/m/HEAD", HEAD);
+
+const LINKED_OBJECTS: (&[u8], NewNode<'static>) = (b"/g/m/objects", NewNode::Directory);
+
+const LINKED_REFS: (&[u8], NewNode<'static>) = (b"/g/m/refs", NewNode::Directory);
+
+const ADDED: &[u8] =
+    b"index 100644 0 - - .gitmodules\nindex 160000 0 - - lib\noption emit_tracked yes\noption submodules yes\nconfig local /c\n";
+
+const ADDED_ALONE: &[u8] =
+    b"index 100644 0 - - .gitmodules\nindex 160000 0 - - lib\noption emit_tracked yes\noption submodules yes\n";
 
 /// What an update of the submodules would do.
 pub static UPDATED: [Plan; 6] = [
@@ -130,6 +142,9 @@ pub static UPDATED: [Plan; 6] = [
         nodes: &[
             (b"/w/.gitmodules", SUBMODULE),
             (b"/w/lib/.git", LINK),
+            LINKED_HEAD,
+            LINKED_OBJECTS,
+            LINKED_REFS,
             (b"/c", URL),
         ],
         setup: ADDED,
@@ -138,8 +153,14 @@ pub static UPDATED: [Plan; 6] = [
     Plan {
         name: "an inactive one is left out",
         words: MODULES,
-        nodes: &[(b"/w/.gitmodules", SUBMODULE), (b"/w/lib/.git", LINK)],
-        setup: b"index 100644 0 - - .gitmodules\nindex 160000 0 - - lib\n",
+        nodes: &[
+            (b"/w/.gitmodules", SUBMODULE),
+            (b"/w/lib/.git", LINK),
+            LINKED_HEAD,
+            LINKED_OBJECTS,
+            LINKED_REFS,
+        ],
+        setup: ADDED_ALONE,
         out: b"skip inactive\tm\n",
     },
     Plan {
@@ -151,6 +172,9 @@ pub static UPDATED: [Plan; 6] = [
                 NewNode::File(b"[submodule \"m\"]\npath = lib\nurl = u\nupdate = !x\n"),
             ),
             (b"/w/lib/.git", LINK),
+            LINKED_HEAD,
+            LINKED_OBJECTS,
+            LINKED_REFS,
             (b"/c", URL),
         ],
         setup: ADDED,
@@ -162,6 +186,9 @@ pub static UPDATED: [Plan; 6] = [
         nodes: &[
             (b"/w/.gitmodules", SUBMODULE),
             (b"/w/lib/.git", LINK),
+            LINKED_HEAD,
+            LINKED_OBJECTS,
+            LINKED_REFS,
             (
                 b"/c",
                 NewNode::File(b"[submodule \"m\"]\nurl = u\nupdate = !x\n"),
@@ -176,6 +203,9 @@ pub static UPDATED: [Plan; 6] = [
         nodes: &[
             (b"/w/.gitmodules", SUBMODULE),
             (b"/w/lib", NewNode::Link(b"/g")),
+            LINKED_HEAD,
+            LINKED_OBJECTS,
+            LINKED_REFS,
             (b"/c", URL),
         ],
         setup: ADDED,
@@ -190,6 +220,9 @@ pub static UPDATED: [Plan; 6] = [
                 NewNode::File(b"[submodule \"f g\"]\npath = lib\nurl = u\n"),
             ),
             (b"/w/lib/.git", LINK),
+            LINKED_HEAD,
+            LINKED_OBJECTS,
+            LINKED_REFS,
             (b"/c", NewNode::File(b"[submodule \"f g\"]\nurl = u\n")),
         ],
         setup: ADDED,

@@ -175,7 +175,7 @@ const NESTED: &[(&[u8], NewNode<'static>)] = &[
     (b"/w/d/r/.git/refs", NewNode::Directory),
 ];
 
-pub static OPTIONS: [Row; 12] = [
+pub static OPTIONS: [Row; 15] = [
     Row {
         name: "how much was walked",
         nodes: &[(b"/w/d/a", A_FILE), (b"/w/d/b", A_FILE)],
@@ -231,6 +231,30 @@ pub static OPTIONS: [Row; 12] = [
         status: 4,
         out: b"",
         err: b"walk: not-a-directory /w/d\n",
+    },
+    Row {
+        name: "an up-to-date directory that is a file",
+        nodes: &[(b"/w/d", A_FILE)],
+        setup: b"index 100644 0 u - d/t\n",
+        status: 4,
+        out: b"",
+        err: b"walk: not-a-directory /w/d\n",
+    },
+    Row {
+        name: "no level below the root, and none is needed",
+        nodes: &[(b"/w/a", A_FILE)],
+        setup: b"depth 0\n",
+        status: 0,
+        out: b"untracked file - always - -\ta\n",
+        err: b"",
+    },
+    Row {
+        name: "no level below the root, and a directory there",
+        nodes: &[(b"/w/d", NewNode::Directory)],
+        setup: b"depth 0\n",
+        status: 4,
+        out: b"",
+        err: b"walk: too-deep /w/d\n",
     },
     Row {
         name: "a limit that is given",
