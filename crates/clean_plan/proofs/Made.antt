@@ -32,7 +32,7 @@ use Rattle.clean_plan.specs.declared.outcome.Plan.{Plan}
 use Rattle.clean_plan.specs.declared.what.Finding.{Finding}
 use Rattle.clean_plan.specs.declared.what.What.{What}
 use Rattle.clean_plan.specs.Plans.{IsPlan, entries_of}
-use Rattle.clean_plan.specs.Planned.{IsPlanBy, MakesPlan, asked_of}
+use Rattle.clean_plan.specs.Planned.{MakesPlan, asked_of}
 use Rattle.clean_plan.specs.Prepared.{is_matching, is_matching_if, is_prepared, is_unfolded}
 use Rattle.clean_plan.specs.Refusals.{StopsAsking, of_report}
 use Rattle.clean_plan.specs.Setups.{asked_in, start_of}
@@ -146,7 +146,7 @@ module _ {W F I : Type 0} (w : WorktreeOf W) (f : FindOf F) (i : InterruptOf I) 
           made = Ok r;
           between = wm;
           reported = made;
-          ends = record { asks = asks; reads = reads; by_entries = tt; by_report = λ t told. tt; refused = stops };
+          ends = record { asks = asks; reads = reads; by_report = tt; refused = stops };
           complete = λ s tells quiet store_quiet calm valid. memory-alone _ e (λ rose. absurd (omega (arith, rose, quiet, made.worktree.faults))) stops;
           worktree = keeps-then made.worktree asks;
           store = made.store;
@@ -160,12 +160,12 @@ module _ {W F I : Type 0} (w : WorktreeOf W) (f : FindOf F) (i : InterruptOf I) 
         → ((t : Names) → w.told wm ≡ Some t → current ≡ current_below t root (current_dir_or root setup.current_dir)) → (plan : Plan)
         → IsPlan (asked_in what setup (start_of root r.root) current) (entries_of r.entries) plan.paths.items → MakesPlan w f i w0 w1 o0 o1 i0 i1 root setup what (Ok plan)
     plan-made finding prepared current is_current plan is =
-        let by_report : (t : Names) → w.told wm ≡ Some t → IsPlanBy what t root setup r plan =
+        let in_tree : (t : Names) → w.told wm ≡ Some t → IsPlan (asked_of what t root setup r) (entries_of r.entries) plan.paths.items =
         λ t told. subst (λ (c : Option (List ℕ)). IsPlan (asked_in what setup (start_of root r.root) c) (entries_of r.entries) plan.paths.items) (is_current t told) is in
         record {
           gives = λ s tells quiet.
               let of : IsReportOf (w.precomposes w0) s root setup r = made.gives s tells (omega (arith, quiet, asks.faults)) in
-              let plan_is : IsPlanBy what s.tree root setup r plan = by_report s.tree (made.worktree.tree ∙ tells.tree_is) in
+              let plan_is : IsPlan (asked_of what s.tree root setup r) (entries_of r.entries) plan.paths.items = in_tree s.tree (made.worktree.tree ∙ tells.tree_is) in
               let flat : AreFlat (entries_of r.entries) = report-flat (w.precomposes w0) s root setup r of finding prepared in
               record {
                 report = r;
@@ -178,7 +178,7 @@ module _ {W F I : Type 0} (w : WorktreeOf W) (f : FindOf F) (i : InterruptOf I) 
           made = Ok r;
           between = wm;
           reported = made;
-          ends = record { asks = asks; reads = reads; by_entries = (current, is); by_report = by_report; refused = tt };
+          ends = record { asks = asks; reads = reads; by_report = record { current = current; current_is = is_current; plan_is = is }; refused = tt };
           complete = λ s tells quiet store_quiet calm valid. tt;
           worktree = keeps-then made.worktree asks;
           store = made.store;

@@ -12,6 +12,7 @@ use Rattle.worktree_report.specs.Converted.{IsOfReading}
 use Rattle.worktree_report.specs.Asked.{WorksAt}
 use Rattle.worktree_report.specs.Run.{SetupRefuses}
 use Rattle.worktree_report.specs.SetupAt.{setup_at}
+use Rattle.clean_plan.specs.declared.what.What.{What}
 use Rattle.clean_plan.specs.Words.{Request}
 use Rattle.worktree_report.proofs.Runs.{HasCauses-refused, HasCauses-unread, Keeps-made, Keeps-unread, Quiet-later}
 use Rattle.clean_plan.specs.Prepared.{prepared}
@@ -25,20 +26,22 @@ output-made : (composes : Bool) (t : Names) (request : Request) (setup : Setup) 
 output-made composes t request setup (Ok text) read is = record { setup = setup; read = read; text_is = is }
 output-made composes t request setup (Err refusal) read is = tt
 
-by-report-made : (composes : Bool) (t : Names) (request : Request) (setup : Setup) (answer : Result (List ℕ) Refusal) → setup_at (look t request.places.setup true) ≡ Ok setup
-    → IfOk answer (top.IsTextByReport composes t request.places.root (top.made_by request.finding setup) request.what) → IfOk answer (top.IsTextByReportAt composes t request)
-by-report-made composes t request setup (Ok text) read is = record { setup = setup; read = read; text_is = is }
-by-report-made composes t request setup (Err refusal) read is = tt
+by-report-made : (composes : Bool) (told : Option Names) (request : Request) (setup : Setup) (answer : Result (List ℕ) Refusal)
+    → ((t : Names) → told ≡ Some t → setup_at (look t request.places.setup true) ≡ Ok setup)
+    → IfOk answer (top.IsTextByReport composes told request.places.root (top.made_by request.finding setup) request.what) → IfOk answer (top.IsTextByReportAt composes told request)
+by-report-made composes told request setup (Ok text) read is = record { setup = setup; read = read; text_is = is }
+by-report-made composes told request setup (Err refusal) read is = tt
 
-outside-git : (setup : Setup) (answer : Result (List ℕ) Refusal) → IfOk answer (top.IsSparedText setup) → IfOk answer top.IsTextOutsideGit
-outside-git setup (Ok text) is =
+outside-git : (composes : Bool) (told : Option Names) (root : List ℕ) (setup : Setup) (what : What) (answer : Result (List ℕ) Refusal)
+    → IfOk answer (top.IsTextByReport composes told root setup what) → IfOk answer top.IsTextOutsideGit
+outside-git composes told root setup what (Ok text) is =
     record {
-      paths = is.paths;
+      paths = is.plan.paths.items;
       ascends = is.spared.ascends;
       each = λ path among. let one : IsSpared setup.options.ignore_case setup.index path = is.spared.each path among in record { below = one.below; no_git = one.no_git };
       text_is = is.text_is;
     }
-outside-git setup (Err refusal) is = tt
+outside-git composes told root setup what (Err refusal) is = tt
 
 -- what the plan takes is what is asked for, with the setup
 works-made : (composes : Bool) (t : Names) (request : Request) (setup : Setup) (answer : Result (List ℕ) Refusal) (questions0 questions1 reads0 reads reads1 : ℕ)
@@ -63,7 +66,7 @@ module _ {W I : Type 0} {w : WorktreeOf W} {i : InterruptOf I} {w0 w1 : W} {i0 :
   AnswersClean-unread refusal of outside fault tree faults listed once lists composes =
       record {
         gives = λ t told quiet. tt;
-        by_report = λ t told. tt;
+        by_report = tt;
         outside_git = tt;
         works = λ t told quiet. tt;
         causes = HasCauses-unread w i w0 w1 i0 i0 (top.made_by request.finding) request.places refusal of outside fault once lists refl;
@@ -84,8 +87,8 @@ module _ {W I : Type 0} {w : WorktreeOf W} {i : InterruptOf I} {w0 w1 w2 : W} {i
       subst (λ b. top.PlanTexts w i b w1 w2 i0 i1 request.places.root (top.made_by request.finding setup) request.what answer) composes same in
       record {
         gives = λ t told quiet. output-made _ t request setup answer (read t told) (texts.gives t (tree ∙ told) (Quiet-later _ _ _ faults quiet));
-        by_report = λ t told. by-report-made _ t request setup answer (read t told) (texts.by_report t (tree ∙ told));
-        outside_git = outside-git (top.made_by request.finding setup) answer texts.spares;
+        by_report = by-report-made _ _ request setup answer read (subst (λ (told : Option Names). IfOk answer (top.IsTextByReport (w.precomposes w0) told request.places.root (top.made_by request.finding setup) request.what)) tree texts.by_report);
+        outside_git = outside-git _ _ _ (top.made_by request.finding setup) _ answer texts.by_report;
         works = λ t told quiet. works-made _ t request setup answer _ _ _ _ _ (read t told) once (texts.works t (tree ∙ told) (Quiet-later _ _ _ faults quiet));
         causes = HasCauses-refused w i w0 w1 w2 i0 i1 (top.made_by request.finding) request.places setup answer read tree faults once lists texts.refused;
         keeps = Keeps-made answer tree faults listed lists composes texts.worktree texts.interrupt texts.listed texts.calm;

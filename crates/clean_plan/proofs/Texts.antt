@@ -14,7 +14,6 @@ use Rattle.worktree_report.specs.declared.report.Report.{Report}
 use Rattle.worktree_report.specs.Asked.{read_in, WorksAt}
 use Rattle.worktree_report.specs.Converted as converted
 use Rattle.worktree_report.specs.Lines.{text_with}
-use Rattle.worktree_report.specs.Orderly.{IsOrderly}
 use Rattle.worktree_report.specs.Reported.{MakesReport, RefusesText, Texts}
 use Rattle.worktree_report.proofs.Runs.{Rose-before}
 use Rattle.worktree_report.proofs.Answered.{told-blobs, Texts-ok, Texts-refused}
@@ -22,7 +21,7 @@ use Rattle.clean_plan.specs.declared.error.CleanError.{CleanError}
 use Rattle.clean_plan.specs.declared.error.CleanError.TheVariants as errors
 use Rattle.clean_plan.specs.declared.outcome.Plan.{Plan}
 use Rattle.clean_plan.specs.declared.what.What.{What}
-use Rattle.clean_plan.specs.Planned.{EndsAs, MakesPlan}
+use Rattle.clean_plan.specs.Planned.{EndsAs, IsPlanBy, MakesPlan}
 use Rattle.clean_plan.specs.Refusals.{of_report}
 use Rattle.clean_plan.specs.Safe.{AreSpared}
 use Rattle.clean_plan.specs.Run as top
@@ -31,17 +30,17 @@ module _ {W F I : Type 0} {w : WorktreeOf W} {f : FindOf F} {i : InterruptOf I} 
   -- the text is that of a plan by the report that was made
   by-report : (what : What) (made : Result Report ReportError) (between w1 : W) (plan : Plan) (text : List ℕ) → MakesReport w f i w0 between o0 o1 i0 i1 root setup made
       → EndsAs w between w1 root setup what made (Ok plan) → AreSpared setup.options.ignore_case setup.index plan.paths.items → text ≡ top.plan_text plan.paths.items
-      → (t : Names) → w.told w0 ≡ Some t → top.IsTextByReport (w.precomposes w0) t root setup what text
-  by-report what (Ok r) between w1 plan text reported ends spared lines t told =
+      → top.IsTextByReport (w.precomposes w0) (w.told w0) root setup what text
+  by-report what (Ok r) between w1 plan text reported ends spared lines =
       record {
         report = r;
-        orderly = subst (λ (x : Option Names). IsOrderly (w.precomposes w0) x root setup r) told reported.orderly;
+        orderly = reported.orderly;
         plan = plan;
-        plan_is = ends.by_report t (reported.worktree.tree ∙ told);
+        plan_is = subst (λ (told : Option Names). IsPlanBy told root setup what r plan) reported.worktree.tree ends.by_report;
         spared = spared;
         text_is = lines;
       }
-  by-report what (Err e) between w1 plan text reported ends spared lines t told = absurd (let is = ends.0 in cc)
+  by-report what (Err e) between w1 plan text reported ends spared lines = absurd (let is = ends.0 in cc)
 
 -- what did not rise later on did not rise before
 quiet_before : (before middle now : ℕ) → middle ≤ now → NotIncreased before now → NotIncreased before middle
@@ -90,7 +89,6 @@ module _ {W F I : Type 0} {w : WorktreeOf W} {f : FindOf F} {i : InterruptOf I} 
       record {
         gives = λ t told quiet. record { plan = plan; plan_is = made.gives (read_in t setup) (told-blobs setup held told) quiet; text_is = lines };
         by_report = by-report what made.made made.between w1 plan text made.reported made.ends made.spares lines;
-        spares = record { paths = plan.paths.items; spared = made.spares; text_is = lines };
         works = λ t told quiet. works-by what made.made made.between w1 plan made.reported made.ends held t told quiet;
         refused = tt;
         worktree = made.worktree;
@@ -104,8 +102,7 @@ module _ {W F I : Type 0} {w : WorktreeOf W} {f : FindOf F} {i : InterruptOf I} 
   PlanTexts-memory made =
       record {
         gives = λ t told quiet. tt;
-        by_report = λ t told. tt;
-        spares = tt;
+        by_report = tt;
         works = λ t told quiet. tt;
         refused = inl refl;
         worktree = made.worktree;
@@ -120,8 +117,7 @@ module _ {W F I : Type 0} {w : WorktreeOf W} {f : FindOf F} {i : InterruptOf I} 
   PlanTexts-refused e refusal made held kept same =
       record {
         gives = λ t told quiet. tt;
-        by_report = λ t told. tt;
-        spares = tt;
+        by_report = tt;
         works = λ t told quiet. tt;
         refused = refused-text what made.made made.between e refusal made.reported made.ends held kept same;
         worktree = made.worktree;

@@ -40,25 +40,21 @@ pub record IsPlanAt (composes : Bool) (s : Sources) (root : List ℕ) (setup : S
   pub safe : AreSafe (asked_of what s.tree root setup report) (entries_of report.entries) plan.paths.items
       (removable_paths (asked_of what s.tree root setup report) (entries_of report.entries))
 
--- it is the plan by the entries of a report of the work tree at `root`, over a tree
-abbrev pub IsPlanBy : What → Names → List ℕ → Setup → Report → Plan → Type 0
-IsPlanBy what t root setup report plan = IsPlan (asked_of what t root setup report) (entries_of report.entries) plan.paths.items
-
--- whatever a worktree tells, it is the plan by the entries of a report of the work tree at `root`, wherever the current directory is
-abbrev pub IsPlanByEntries : What → List ℕ → Setup → Report → Plan → Type 0
-IsPlanByEntries what root setup report plan = (current : Option (List ℕ))
-    × IsPlan (asked_in what setup (start_of root report.root) current) (entries_of report.entries) plan.paths.items
+-- Whatever a worktree tells, it is the plan by the entries of a report of the work tree at `root`; where it tells its tree, it is that by
+-- where the current directory is there.
+pub record IsPlanBy (told : Option Names) (root : List ℕ) (setup : Setup) (what : What) (report : Report) (plan : Plan) : Type 0 where
+  pub current : Option (List ℕ)
+  pub current_is : (t : Names) → told ≡ Some t → current ≡ current_below t root (current_dir_or root setup.current_dir)
+  pub plan_is : IsPlan (asked_in what setup (start_of root report.root) current) (entries_of report.entries) plan.paths.items
 
 -- After the report was made, or refused, which left the worktree as `between`: a refusal of the report is that of the plan, and
--- nothing was asked after it; else only the real path was asked for, and a fault comes only where the worktree counted one there.
--- A plan is the one by the entries of that report, over a worktree that tells nothing too; and over a told tree, whatever failed,
--- it is that by where the current directory is there.
+-- nothing was asked after it; else a fault comes only where the worktree counted one there, and a plan is the one by the entries of that
+-- report, whatever failed.
 pub record AsksAfter {W : Type 0} (w : WorktreeOf W) (between w1 : W)
     (root : List ℕ) (setup : Setup) (what : What) (report : Report) (result : Result Plan CleanError) : Type 0 where
   pub asks : Asks w between w1
   pub reads : w.reads w1 ≡ w.reads between
-  pub by_entries : IfOk result (IsPlanByEntries what root setup report)
-  pub by_report : (t : Names) → w.told between ≡ Some t → IfOk result (IsPlanBy what t root setup report)
+  pub by_report : IfOk result (IsPlanBy (w.told between) root setup what report)
   pub refused : IfErr result (StopsAsking (Increased (w.faults between) (w.faults w1)))
 
 abbrev pub EndsAs : {W : Type 0} → WorktreeOf W → W → W → List ℕ → Setup → What → Result Report ReportError → Result Plan CleanError → Type 0
@@ -74,7 +70,7 @@ pub record MakesPlan {W F I : Type 0} (w : WorktreeOf W) (f : FindOf F) (i : Int
       → IfOk result (IsPlanAt (w.precomposes w0) s root setup what)
   -- Over any worktree the paths ascend strictly, and none has an index entry at it or beneath it.
   pub spares : IfOk result (λ plan. AreSpared setup.options.ignore_case setup.index plan.paths.items)
-  -- One report is made, and all that its making says holds of it; and then the real path of the root is asked for.
+  -- One report is made, and all that its making says holds of it; the plan comes of it.
   pub made : Result Report ReportError
   pub between : W
   pub reported : MakesReport w f i w0 between o0 o1 i0 i1 root setup made

@@ -58,12 +58,6 @@ pub record IsTextIn (composes : Bool) (t : Names) (root : List ℕ) (setup : Set
   pub plan_is : IsPlanAt composes (read_in t setup) root setup what plan
   pub text_is : text ≡ plan_text plan.paths.items
 
--- it is the text of paths that the setup's index spares
-pub record IsSparedText (setup : Setup) (text : List ℕ) : Type 0 where
-  pub paths : List (List ℕ)
-  pub spared : AreSpared setup.options.ignore_case setup.index paths
-  pub text_is : text ≡ plan_text paths
-
 -- a path is not that of the root, and has no component `.git`
 pub record IsOutsideGit (path : List ℕ) : Type 0 where
   pub below : is_top path ≡ false
@@ -76,21 +70,21 @@ pub record IsTextOutsideGit (text : List ℕ) : Type 0 where
   pub each : (path : List ℕ) → is_among path paths ≡ true → IsOutsideGit path
   pub text_is : text ≡ plan_text paths
 
--- It is the text of a plan by the entries of some report of the work tree at `root` that is in order, and by where the current
--- directory is in the tree: none of its paths has an index entry at it or beneath it.
-pub record IsTextByReport (composes : Bool) (t : Names) (root : List ℕ) (setup : Setup) (what : What) (text : List ℕ) : Type 0 where
+-- Whatever a worktree tells, it is the text of a plan by the entries of some report of the work tree at `root` that is in order, and by
+-- where the current directory is in its tree, if it tells one: none of its paths has an index entry at it or beneath it.
+pub record IsTextByReport (composes : Bool) (told : Option Names) (root : List ℕ) (setup : Setup) (what : What) (text : List ℕ) : Type 0 where
   pub report : Report
-  pub orderly : IsOrderly composes (Some t) root setup report
+  pub orderly : IsOrderly composes told root setup report
   pub plan : Plan
-  pub plan_is : IsPlanBy what t root setup report plan
+  pub plan_is : IsPlanBy told root setup what report plan
   pub spared : AreSpared setup.options.ignore_case setup.index plan.paths.items
   pub text_is : text ≡ plan_text plan.paths.items
 
--- the same by the setup that is read in the tree, and prepared
-pub record IsTextByReportAt (composes : Bool) (t : Names) (request : Request) (text : List ℕ) : Type 0 where
+-- the same by a setup, prepared; where a tree is told, by the one that is read there
+pub record IsTextByReportAt (composes : Bool) (told : Option Names) (request : Request) (text : List ℕ) : Type 0 where
   pub setup : Setup
-  pub read : setup_at (look t request.places.setup true) ≡ Ok setup
-  pub text_is : IsTextByReport composes t request.places.root (made_by request.finding setup) request.what text
+  pub read : (t : Names) → told ≡ Some t → setup_at (look t request.places.setup true) ≡ Ok setup
+  pub text_is : IsTextByReport composes told request.places.root (made_by request.finding setup) request.what text
 
 -- what making it takes: the setup is read once, and the rest is what the report by the prepared setup takes
 pub record PlanWorks (composes : Bool) (t : Names) (questions0 questions1 reads0 reads1 : ℕ) (request : Request) : Type 0 where
@@ -125,8 +119,7 @@ of_clean errors.OutOfMemory = refusals.OutOfMemory
 -- says whether the worktree composes names.
 pub record PlanTexts {W I : Type 0} (w : WorktreeOf W) (i : InterruptOf I) (composes : Bool) (w0 w1 : W) (i0 i1 : I) (root : List ℕ) (setup : Setup) (what : What) (answer : Result (List ℕ) Refusal) : Type 0 where
   pub gives : (t : Names) → w.told w0 ≡ Some t → NotIncreased (w.faults w0) (w.faults w1) → IfOk answer (IsTextIn composes t root setup what)
-  pub by_report : (t : Names) → w.told w0 ≡ Some t → IfOk answer (IsTextByReport composes t root setup what)
-  pub spares : IfOk answer (IsSparedText setup)
+  pub by_report : IfOk answer (IsTextByReport composes (w.told w0) root setup what)
   -- the interrupt and the worktree's files are asked for the report alone
   pub works : (t : Names) → w.told w0 ≡ Some t → NotIncreased (w.faults w0) (w.faults w1)
       → OnOk answer (WorksAt composes t root setup (i.questions i0) (i.questions i1) (w.reads w0) (w.reads w1))
@@ -142,8 +135,8 @@ pub record PlanTexts {W I : Type 0} (w : WorktreeOf W) (i : InterruptOf I) (comp
 pub record AnswersClean {W I : Type 0} (w : WorktreeOf W) (i : InterruptOf I) (w0 w1 : W) (i0 i1 : I) (request : Request) (answer : Result (List ℕ) Refusal) : Type 0 where
   -- Over a told tree and with no fault counted it is exactly the one that the prepared setup asks for, and safe to act on.
   pub gives : (t : Names) → w.told w0 ≡ Some t → NotIncreased (w.faults w0) (w.faults w1) → IfOk answer (IsTextAt (w.precomposes w0) t request)
-  -- Over a told tree, whatever failed, it is the text of a plan by some report, and spares what the index has.
-  pub by_report : (t : Names) → w.told w0 ≡ Some t → IfOk answer (IsTextByReportAt (w.precomposes w0) t request)
+  -- Over any worktree, whatever failed, it is the text of a plan by some report, and spares what the index has.
+  pub by_report : IfOk answer (IsTextByReportAt (w.precomposes w0) (w.told w0) request)
   -- Over any worktree it has neither the root nor what has a component `.git`.
   pub outside_git : IfOk answer IsTextOutsideGit
   pub works : (t : Names) → w.told w0 ≡ Some t → NotIncreased (w.faults w0) (w.faults w1)

@@ -52,8 +52,8 @@ fn plan_by(
 /// path specs take out neither it nor a directory between it and such an entry. Planned is what may go and lies beneath no
 /// directory that does.
 ///
-/// One report is made, and the real path of the root is asked once. Blobs that ignore rules are mapped to are looked up in
-/// `objects`. The report's entries are gone over once. The path specs are asked about each directory above one that may go, but not
+/// One report is made. Blobs that ignore rules are mapped to are looked up in `objects`. The report's entries are gone over once.
+/// The path specs are asked about each directory above one that may go, but not
 /// again about those that are above the entry before it too. The index is searched for each entry that may go but for its path,
 /// and for each directory above one that may go which no entry is in the way of, until one goes as a whole.
 ///
@@ -68,6 +68,7 @@ fn plan_by(
 /// See docs/DECISIONS.md#plan-traversal-root.
 /// See docs/DIFFERENCES.md#clean-replaced-directory.
 /// See docs/DIFFERENCES.md#clean-broken-git.
+/// See docs/DIFFERENCES.md#clean-replaced-file.
 pub fn plan<W: Worktree, F: Find, I: Interrupt>(
     alloc: Global,
     worktree: &mut W,

@@ -68,6 +68,8 @@ fn is_indexed(cleaning: &Cleaning<'_>, path: &[u8], prefix: &[u8]) -> bool
 }
 
 /// Whether a path is kept that is not the top; `prefix` is the path and a slash.
+///
+/// See docs/DECISIONS.md#plan-root-kept.
 pub(crate) fn is_kept(cleaning: &Cleaning<'_>, path: &[u8], prefix: &[u8]) -> bool
     requires lookup { IsLookupIf cleaning.now.index.now cleaning.now.lookup.now }
     requires prefix { prefix.now ≡ path.now ++ 47 ∷ [] }

@@ -1,6 +1,8 @@
 //! What is asked for.
 
 /// Which paths may be removed.
+///
+/// See docs/DIFFERENCES.md#clean-without-d.
 #[derive(Clone, Copy, Debug, PartialEq, Eq, Hash)]
 pub enum What {
     /// Those that are untracked.

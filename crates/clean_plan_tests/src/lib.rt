@@ -1,9 +1,12 @@
-//! What a plan of a cleaning answers: cases worked out by hand, and each call that takes memory with enough of it.
+//! What a plan of a cleaning answers: cases worked out by hand, each call that takes memory with enough of it, and the
+//! texts of errors.
 #![tactic(auto)]
 
 #[cfg(test)]
 mod plans;
 #[cfg(test)]
 mod prepared;
+#[cfg(test)]
+mod texts;
 #[cfg(test)]
 mod tree;

@@ -31,7 +31,7 @@ use worktree_fs::Worktree;
 /// # Errors
 ///
 /// - `Fault`: the worktree failed at this path, which it counted. It is on the way to that of an entry whose state is neither
-///   `Conflicted` nor `Skipped`, or there, and everything before it on that way is a directory.
+///   `Conflicted` nor `Skipped`, or there, and over a told tree everything before it on that way is a directory.
 /// - `OutOfMemory`: memory was refused.
 pub fn states<W: Worktree>(
     alloc: Global,
@@ -160,6 +160,8 @@ fn known_of(entry: &IndexEntry, barred: Option<PathText>) -> Known<'_>
 }
 
 /// Whether the index says not to look at an entry's path.
+///
+/// See docs/DIFFERENCES.md#status-skipped.
 fn is_left_out(entry: &IndexEntry) -> bool
     ensures { result ≡ states.is_left_out entry.now }
 {

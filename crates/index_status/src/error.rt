@@ -1,5 +1,4 @@
 //! Why the states are not known.
-use bstr::BStr;
 use gitbase_core::{OutOfMemory, PathText};
 use thiserror::Error;
 use worktree_report::ReportError;
@@ -8,16 +7,11 @@ use worktree_report::ReportError;
 #[derive(Debug, Drop, PartialEq, Eq, Error)]
 pub enum StatesError {
     /// The worktree failed at this path, which begins with the root.
-    #[error("Could not learn what stands at '{}'", shown(.path))]
+    #[error("Could not learn what stands at '{path}'")]
     Fault { path: PathText },
     /// Want of memory.
     #[error("Out of memory: the allocator refused to make room")]
     OutOfMemory,
-}
-
-/// A path as text, with U+FFFD for what is not UTF-8.
-fn shown(path: &PathText) -> BStr<'_> {
-    BStr::new(path.as_bytes())
 }
 
 impl From<OutOfMemory> for StatesError {
@@ -38,7 +32,7 @@ pub enum StatusError {
     #[error("Failed to make the report")]
     Report(ReportError),
     /// The worktree failed at this path, which begins with the root, while index paths were looked at.
-    #[error("Could not learn what stands at '{}'", shown(.path))]
+    #[error("Could not learn what stands at '{path}'")]
     Fault { path: PathText },
     /// Want of memory.
     #[error("Out of memory: the allocator refused to make room")]

@@ -20,6 +20,8 @@ use worktree_fs::{NodeKind, ReadAnswer, ReadError, Worktree};
 /// See docs/DECISIONS.md#mode-is-file.
 /// See docs/DIFFERENCES.md#status-unlooked.
 /// See docs/DIFFERENCES.md#status-bytes.
+/// See docs/DIFFERENCES.md#status-replaced-file.
+/// See docs/DIFFERENCES.md#status-other-node.
 pub(crate) fn state_at<W: Worktree>(
     alloc: Global,
     worktree: &mut W,
@@ -101,6 +103,8 @@ fn link_state<W: Worktree>(
 }
 
 /// The state of a file, which is read once.
+///
+/// See docs/DIFFERENCES.md#status-intended.
 fn file_state<W: Worktree>(
     alloc: Global,
     worktree: &mut W,

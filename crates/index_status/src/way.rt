@@ -31,6 +31,8 @@ pub enum Way {
 }
 
 /// Whether directories alone lead to the node at a path below a root. What is known of another way is not looked at again.
+///
+/// See docs/DIFFERENCES.md#status-behind-link.
 pub(crate) fn way_to<W: Worktree>(
     alloc: Global,
     worktree: &mut W,

@@ -1,5 +1,5 @@
 -- What files tell of submodules, or why it is not known; and the text of their plan.
-use Rattle.std.proofs.Common.{◌≡◌, ℕ, List, ◌++◌, Bool, Option, Some, None, Result, Ok, Err, IsErrOf, refl, ap, sym, subst, ◌∙◌}
+use Rattle.std.proofs.Common.{◌≡◌, ◌≤◌, ◌+◌, ℕ, List, ◌++◌, Bool, Option, Some, None, Result, Ok, Err, IsErrOf, refl, ap, sym, subst, ◌∙◌}
 use Rattle.std.specs.List.{flat_map}
 use Rattle.glob_rules.specs.PathSpec.{PathSpec}
 use Rattle.submodule.specs.Active.{platform}
@@ -16,9 +16,9 @@ use Rattle.worktree_report.specs.declared.error.ReportError.{ReportError}
 use Rattle.worktree_report.specs.declared.error.ReportError.TheVariants as reports
 use Rattle.worktree_report.specs.declared.refusal.Refusal.TheVariants as refusals
 use Rattle.worktree_report.specs.Converted.{of_report}
-use Rattle.worktree_report.specs.Loading.{and_then, known_by, known_in, modules_in, with_specs, IsKnown}
+use Rattle.worktree_report.specs.Loading.{and_then, files_of, known_by, known_in, modules_in, with_specs, IsKnown}
 use Rattle.worktree_report.specs.Loads.{OfModules}
-use Rattle.worktree_report.specs.Outside.{IsOutside, Stops, StopsAt}
+use Rattle.worktree_report.specs.Outside.{files_to, IsOutside, Stops, StopsAt}
 use Rattle.module_plan.specs.declared.step.ModulePlan.{ModulePlan}
 use Rattle.module_plan.specs.declared.step.Step.{Step}
 use Rattle.module_plan.specs.declared.step.Skipped.{Skipped}
@@ -81,6 +81,25 @@ stops-loading w w0 w1 setup reports.ReadFault Failed of stops is = stops
 stops-loading w w0 w1 setup (reports.Walk error) Failed of stops is = absurd of
 stops-loading w w0 w1 setup reports.OutOfMemory Failed of stops is = absurd cc
 
+same-misread : {a b : Misread} → refusals.Misread a ≡ refusals.Misread b → a ≡ b
+same-misread is = cc
+
+-- no file behind the one that is outside its grammar was read
+pub reads-loading : {W : Type 0} (w : WorktreeOf W) (w0 w1 : W) (setup : Setup) (e : ReportError) (Failed : Type 0) (m : Misread) → OfModules Failed e → Stops w w0 w1 setup e
+    → of_report e ≡ refusals.Misread m → w.reads w1 ≤ w.reads w0 + files_to setup m
+reads-loading w w0 w1 setup (reports.Config at line) Failed m of stops is = subst (λ (x : Misread). w.reads w1 ≤ w.reads w0 + files_to setup x) (same-misread is) stops
+reads-loading w w0 w1 setup (reports.Modules line) Failed m of stops is = subst (λ (x : Misread). w.reads w1 ≤ w.reads w0 + files_to setup x) (same-misread is) stops
+reads-loading w w0 w1 setup (reports.ActiveSpec at) Failed m of stops is = subst (λ (x : Misread). w.reads w1 ≤ w.reads w0 + files_to setup x) (same-misread is) stops
+reads-loading w w0 w1 setup reports.ReadFault Failed m of stops is = absurd cc
+reads-loading w w0 w1 setup (reports.Walk error) Failed m of stops is = absurd of
+reads-loading w w0 w1 setup reports.OutOfMemory Failed m of stops is = absurd cc
+
+-- so many files are read up to one, whether or not a setup asks for submodules
+pub files-asking : (setup : Setup) (m : Misread) → files_to setup m ≡ files_to (asking setup) m
+files-asking setup (misread.Config at line) = refl
+files-asking setup (misread.Modules line) = refl
+files-asking setup (misread.ActiveSpec at) = refl
+
 -- ---- what is outside its grammar
 
 -- the same where submodules are asked for
@@ -100,6 +119,13 @@ pub outside-specs : (root : List ℕ) (setup : Setup) (modules : Modules) (m : M
 outside-specs root setup modules m is =
     let spec = refused-spec modules (platform setup.options.ignore_case modules.config.sections) m is in
     subst (λ (x : Misread). IsOutside root (asking setup) x) (sym spec.1) (record { modules = modules; outside = is ∙ ap (λ (x : Misread). Err x) spec.1 })
+
+-- it is told by all files
+pub reads-specs : (setup : Setup) (modules : Modules) (m : Misread) (reads0 reads1 : ℕ) → with_specs setup.options.ignore_case modules ≡ Err m
+    → reads1 ≤ reads0 + files_of setup → reads1 ≤ reads0 + files_to setup m
+reads-specs setup modules m reads0 reads1 is fits =
+    let spec = refused-spec modules (platform setup.options.ignore_case modules.config.sections) m is in
+    subst (λ (x : Misread). reads1 ≤ reads0 + files_to setup x) (sym spec.1) fits
 
 -- ---- the text
 

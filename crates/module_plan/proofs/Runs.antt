@@ -14,13 +14,13 @@ use Rattle.worktree_report.specs.declared.setup.Setup.{Setup}
 use Rattle.worktree_report.specs.Converted.{IsOfReading}
 use Rattle.worktree_report.specs.Loading.{files_of, known_in, modules_in, with_specs, IsKnown}
 use Rattle.worktree_report.specs.Loads.{LoadsFiles}
-use Rattle.worktree_report.specs.Outside.{IsOutside, StopsAt}
+use Rattle.worktree_report.specs.Outside.{files_to, IsOutside, StopsAt}
 use Rattle.worktree_report.specs.Run.{SetupRefuses}
 use Rattle.worktree_report.specs.SetupAt.{setup_at}
 use Rattle.worktree_report.specs.Words.{Places}
 use Rattle.worktree_report.proofs.Runs.{Rose-before}
 use Rattle.module_plan.specs.Run as top
-use Rattle.module_plan.proofs.Loaded.{known-loaded, known-misread, known-refused, outside-asking, outside-specs, stops-asking, which}
+use Rattle.module_plan.proofs.Loaded.{files-asking, known-loaded, known-misread, known-refused, outside-asking, outside-specs, reads-specs, stops-asking, which}
 
 -- a fault of a part is one of the whole
 pub planning-weaker : (Failed Broken : Type 0) → (Failed → Broken) → (refusal : Refusal) → top.IsOfPlanning Failed refusal → top.IsOfPlanning Broken refusal
@@ -40,15 +40,18 @@ module _ {W : Type 0} {w : WorktreeOf W} {w0 w1 : W} {root : List ℕ} {setup : 
   pub PlansText-unloaded : (refusal : Refusal)
       → ((t : Names) → w.told w0 ≡ Some t → (m : Misread) → IsErrOf {T = Modules} (Err refusal) (refusals.Misread m) → modules_in t root setup ≡ Err m)
       → ((m : Misread) → IsErrOf {T = Modules} (Err refusal) (refusals.Misread m) → IsOutside root setup m)
+      → ((m : Misread) → IsErrOf {T = Modules} (Err refusal) (refusals.Misread m) → w.reads w1 ≤ w.reads w0 + files_to setup m)
       → top.IsOfPlanning (Increased (w.faults w0) (w.faults w1)) refusal
       → ((t : Names) → w.told w0 ≡ Some t → IsErrOf {T = Modules} (Err refusal) refusals.Fault → StopsAt t setup (w.reads w0) (w.reads w1))
       → LoadsFiles w w0 w1 (files_of setup) → top.PlansText w w0 w1 root setup (Err refusal)
-  PlansText-unloaded refusal outside about of stops loads =
+  PlansText-unloaded refusal outside about files of stops loads =
       record {
         gives = λ t told. tt;
         safe = λ t told. tt;
+        orderly = tt;
         misread = λ t told m is. known-misread t root setup m (outside t told m (ap Err (which is)));
         about = λ m is. record { asked = refl; outside = outside-asking root setup m (about m (ap Err (which is))) };
+        misread_reads = λ m is. files m (ap Err (which is));
         refused = of;
         fault_late = λ is t told. inl (stops t told (ap Err (which is)));
         reads = loads.reads;
@@ -78,16 +81,19 @@ module _ {W : Type 0} {w : WorktreeOf W} {w0 w1 w2 : W} {root : List ℕ} {setup
   pub PlansText-loaded : (modules : Modules) (answer : Result (List ℕ) Refusal) → ((t : Names) → w.told w0 ≡ Some t → modules_in t root setup ≡ Ok modules) → LoadsFiles w w0 w1 (files_of setup)
       → ((t : Names) → w.told w1 ≡ Some t → IfOk answer (λ text. top.text_of_modules t root setup.options.ignore_case modules ≡ Some text))
       → ((t : Names) → w.told w1 ≡ Some t → OnOk answer (top.IsSafePlanOf t root setup.options.ignore_case modules))
+      → IfOk answer (top.IsPlanText (w.told w1) root)
       → ((m : Misread) → IsErrOf answer (refusals.Misread m) → with_specs setup.options.ignore_case modules ≡ Err m)
       → IfErr answer (top.IsOfPlanning (Increased (w.faults w1) (w.faults w2)))
       → (IsErrOf answer refusals.Fault → IsKnown (with_specs setup.options.ignore_case modules)) → Asks w w1 w2 → w.reads w2 ≡ w.reads w1
       → top.PlansText w w0 w2 root setup answer
-  PlansText-loaded modules answer read loads gives safe outside of late asks unread =
+  PlansText-loaded modules answer read loads gives safe orderly outside of late asks unread =
       record {
         gives = λ t told. text-loaded t root setup modules answer (read t told) (gives t (loads.tree ∙ told));
         safe = λ t told. safe-loaded t root setup modules answer (read t told) (safe t (loads.tree ∙ told));
+        orderly = subst (λ (told : Option Names). IfOk answer (top.IsPlanText told root)) loads.tree orderly;
         misread = λ t told m is. known-refused t root setup modules m (read t told) (outside m is);
         about = λ m is. record { asked = refl; outside = outside-specs root setup modules m (outside m is) };
+        misread_reads = λ m is. reads-specs setup modules m (w.reads w0) (w.reads w2) (outside m is) (omega (arith, loads.reads, unread));
         refused = refused-later answer _ _ (Rose-before _ _ _ loads.faults) of;
         fault_late = λ is t told. inr (known-loaded t root setup modules (read t told) (late is));
         reads = omega (arith, loads.reads, unread);
@@ -170,12 +176,15 @@ module _ {W : Type 0} {w : WorktreeOf W} {w0 w1 : W} {places : Places} where
       record {
         gives = λ t told. tt;
         safe = λ t told. tt;
+        orderly = tt;
         refused = call-read _ refusal of fault;
         fault_late = λ is t told. inl (omega (arith, once));
         reads = λ t told. inl (omega (arith, once));
         setup = λ t told line is. outside t told line (which is);
         misread = λ t told m is. absurd (subst IsOfReading (which is) of);
         misread_about = λ m is. absurd (subst IsOfReading (which is) of);
+        setup_reads = λ line is. omega (arith, once);
+        misread_reads = λ m is. absurd (subst IsOfReading (which is) of);
         complete = λ t told quiet ready. no_setup w w0 w1 places refusal of outside fault t told quiet ready;
         tree = tree;
         faults = faults;
@@ -212,12 +221,21 @@ module _ {W : Type 0} {w : WorktreeOf W} {w0 w1 w2 : W} {places : Places} (setup
       record {
         gives = λ t told. output-planned t places setup answer (read t told) (plans.gives t (tree ∙ told));
         safe = λ t told. safe-planned t places setup answer (read t told) (plans.safe t (tree ∙ told));
+        orderly = subst (λ (told : Option Names). IfOk answer (top.IsPlanText told places.root)) tree plans.orderly;
         refused = call-planned _ _ (Rose-before _ _ _ faults) answer plans.refused;
         fault_late = λ is t told. on-time t places setup _ _ _ (read t told) once (plans.fault_late is t (tree ∙ told));
         reads = λ t told. inr (setup, read t told, subst (λ (n : ℕ). w.reads w2 ≤ n + files_of setup) once plans.reads);
         setup = λ t told line is. absurd (subst (λ r. IfErr r (top.IsOfPlanning (Increased (w.faults w1) (w.faults w2)))) is plans.refused);
         misread = λ t told m is. record { setup = setup; read = read t told; misread = plans.misread t (tree ∙ told) m is };
         misread_about = λ m is. record { setup = setup; read = read; about = plans.about m is };
+        setup_reads = λ line is. absurd (subst (λ r. IfErr r (top.IsOfPlanning (Increased (w.faults w1) (w.faults w2)))) is plans.refused);
+        misread_reads = λ m is.
+            record {
+              setup = setup;
+              read = read;
+              reads = subst (λ (n : ℕ). w.reads w2 ≤ n + files_to (top.asking setup) m) once
+                  (subst (λ (n : ℕ). w.reads w2 ≤ w.reads w1 + n) (files-asking setup m) (plans.misread_reads m is));
+            };
         complete = λ t told quiet ready. no_plan answer plans t told quiet ready;
         tree = plans.tree ∙ tree;
         faults = omega (arith, faults, plans.faults);

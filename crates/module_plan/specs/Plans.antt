@@ -30,7 +30,8 @@ use Rattle.module_plan.specs.Ways.{obstacle}
 abbrev pub verdicts : Names → List ℕ → Asked → List Verdict
 verdicts t root asked = verdicts_after t root asked [] (module_names asked.modules)
 
--- A plan of these verdicts: their steps in the order of the paths, and what is left out in the order of the names.
+-- A plan of these verdicts: their steps in the order of the paths, and what is left out in the order in which `.gitmodules` first tells
+-- the names.
 pub record IsPlan (vs : List Verdict) (plan : ModulePlan) : Type 0 where
   pub steps : IsPermutation (steps_of vs) plan.steps.items
   pub skipped : plan.skipped.items ≡ skipped_of vs

@@ -12,7 +12,7 @@ use Rattle.module_plan.specs.declared.step.ModulePlan.{ModulePlan}
 use Rattle.module_plan.specs.declared.step.Verdict.{Verdict}
 use Rattle.module_plan.specs.Lines.{plan_text}
 use Rattle.module_plan.specs.Order.{by_path}
-use Rattle.module_plan.specs.Plans.{AreOpen, AreSafe, IsPlan, refused_value, verdicts}
+use Rattle.module_plan.specs.Plans.{AreOpen, AreSafe, Ascends, IsPlan, IsPlanned, refused_value, verdicts}
 use Rattle.module_plan.specs.Verdicts.{steps_of, skipped_of}
 use Rattle.module_plan.specs.Wanted.{asked_of}
 use Rattle.worktree_report.specs.declared.known.Known.{Known}
@@ -23,8 +23,8 @@ use Rattle.worktree_report.specs.declared.refusal.Refusal.{Refusal}
 use Rattle.worktree_report.specs.declared.refusal.Refusal.TheVariants as refusals
 use Rattle.worktree_report.specs.declared.setup.Setup.{Setup}
 use Rattle.worktree_report.specs.Loading.{files_of, known_in, modules_in, IsKnown}
-use Rattle.worktree_report.specs.Outside.{IsAboutMisreadAt, StopsAt}
-use Rattle.worktree_report.specs.Run.{AnswersIf, IsAboutMisread, IsKnownReport, MisreadsReport, SetupRefuses, StopsReport}
+use Rattle.worktree_report.specs.Outside.{files_to, IsAboutMisreadAt, StopsAt}
+use Rattle.worktree_report.specs.Run.{AnswersIf, IsAboutMisread, IsKnownReport, MisreadsReport, ReadsToMisread, SetupRefuses, StopsReport}
 use Rattle.worktree_report.specs.SetupAt.{setup_at}
 use Rattle.worktree_report.specs.Steps.{◌>>=◌}
 use Rattle.worktree_report.specs.Words.{Places, places_behind}
@@ -85,6 +85,17 @@ pub record IsSafePlanOf (t : Names) (root : List ℕ) (fold : Bool) (modules : M
   pub safe : AreSafe (asked_of fold modules.file modules.config) plan
   pub open_way : AreOpen t root plan
 
+-- Whatever a worktree tells: a text that is the lines of a plan of some submodules and some configuration. Each of their names has its verdict
+-- there, open but for what bars the way; the steps ascend strictly by path, and each is safe to take.
+pub record IsPlanText (told : Option Names) (root text : List ℕ) : Type 0 where
+  pub fold : Bool
+  pub modules : Modules
+  pub plan : ModulePlan
+  pub possible : IsPlanned told root (asked_of fold modules.file modules.config) plan
+  pub ascends : Ascends plan.steps.items
+  pub safe : AreSafe (asked_of fold modules.file modules.config) plan
+  pub text_is : text ≡ plan_text plan.steps.items plan.skipped.items
+
 pub record IsSafeIn (t : Names) (root : List ℕ) (setup : Setup) : Type 0 where
   pub modules : Modules
   pub read : modules_in t root setup ≡ Ok modules
@@ -129,8 +140,10 @@ IsOfCall Failed refusals.OutOfMemory = Unit {0}
 pub record PlansText {W : Type 0} (w : WorktreeOf W) (w0 w1 : W) (root : List ℕ) (setup : Setup) (answer : Result (List ℕ) Refusal) : Type 0 where
   pub gives : (t : Names) → w.told w0 ≡ Some t → IfOk answer (λ text. text_in t root setup ≡ Some text)
   pub safe : (t : Names) → w.told w0 ≡ Some t → OnOk answer (IsSafeIn t root setup)
+  pub orderly : IfOk answer (IsPlanText (w.told w0) root)
   pub misread : (t : Names) → w.told w0 ≡ Some t → (which : Misread) → IsErrOf answer (refusals.Misread which) → known_in t root (asking setup) ≡ Err which
   pub about : (which : Misread) → IsErrOf answer (refusals.Misread which) → IsAboutMisreadAt root (asking setup) which
+  pub misread_reads : (which : Misread) → IsErrOf answer (refusals.Misread which) → w.reads w1 ≤ w.reads w0 + files_to setup which
   pub refused : IfErr answer (IsOfPlanning (Increased (w.faults w0) (w.faults w1)))
   pub fault_late : IsErrOf answer refusals.Fault → (t : Names) → w.told w0 ≡ Some t
       → StopsAt t setup (w.reads w0) (w.reads w1) ⊎ IsKnown (known_in t root (asking setup))
@@ -164,6 +177,8 @@ pub record AnswersPlan {W : Type 0} (w : WorktreeOf W) (w0 w1 : W) (places : Pla
   -- Over a told tree it is exactly the one that the files ask for, and safe to carry out.
   pub gives : (t : Names) → w.told w0 ≡ Some t → IfOk answer (λ text. output_at t places ≡ Some text)
   pub safe : (t : Names) → w.told w0 ≡ Some t → OnOk answer (IsSafePlan t places)
+  -- Whatever the worktree tells, it is that of a plan whose steps are safe and in order.
+  pub orderly : IfOk answer (IsPlanText (w.told w0) places.root)
   -- Each refusal has its cause.
   pub refused : IfErr answer (IsOfCall (Increased (w.faults w0) (w.faults w1)))
   -- Over a told tree a fault comes where the setup was not read, or a file that tells of submodules was not, or all that tells of them is
@@ -172,6 +187,9 @@ pub record AnswersPlan {W : Type 0} (w : WorktreeOf W) (w0 w1 : W) (places : Pla
   pub setup : (t : Names) → w.told w0 ≡ Some t → (line : ℕ) → IsErrOf answer (refusals.Setup line) → SetupRefuses t places line
   pub misread : (t : Names) → w.told w0 ≡ Some t → (which : Misread) → IsErrOf answer (refusals.Misread which) → MisreadsReport asking t places which
   pub misread_about : (which : Misread) → IsErrOf answer (refusals.Misread which) → IsAboutMisread asking (w.told w0) places which
+  -- Told or not, nothing is read behind a setup that is refused, nor behind what is outside its grammar.
+  pub setup_reads : (line : ℕ) → IsErrOf answer (refusals.Setup line) → w.reads w1 ≤ next (w.reads w0)
+  pub misread_reads : (which : Misread) → IsErrOf answer (refusals.Misread which) → ReadsToMisread asking (w.told w0) places which (w.reads w0) (w.reads w1)
   -- For valid input, and where nothing failed, only memory may be wanted.
   pub complete : (t : Names) → w.told w0 ≡ Some t → NotIncreased (w.faults w0) (w.faults w1) → IsReady t places
       → IfErr answer (λ refusal. refusal ≡ refusals.OutOfMemory)

@@ -1,5 +1,4 @@
 //! Why there is no plan.
-use bstr::BStr;
 use gitbase_core::{OutOfMemory, PathText};
 use thiserror::Error;
 
@@ -10,16 +9,11 @@ pub enum ModuleError {
     #[error("The pathspec in value {value} of 'submodule.active' is refused")]
     ActiveSpec { value: usize },
     /// The worktree failed when it was asked for the node at this path, which begins with the root.
-    #[error("Could not learn what stands at '{}'", shown(.path))]
+    #[error("Could not learn what stands at '{path}'")]
     Fault { path: PathText },
     /// Want of memory.
     #[error("Out of memory: the allocator refused to make room")]
     OutOfMemory,
-}
-
-/// A path as text, with U+FFFD for what is not UTF-8.
-fn shown(path: &PathText) -> BStr<'_> {
-    BStr::new(path.as_bytes())
 }
 
 impl From<OutOfMemory> for ModuleError {

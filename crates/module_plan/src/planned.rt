@@ -25,14 +25,17 @@ use worktree_fs::Worktree;
 /// Each submodule that `.gitmodules` names is updated, or left out for the first reason of `Why` that holds. Which are active
 /// says the configuration, by `IsActivePlatform::is_active`; in the path specs of `submodule.active` letters fold if
 /// `defaults` says so. The worktree is asked for the nodes on the way to each path that no earlier submodule asks for, links
-/// not followed; for one that is on several ways once.
+/// not followed; for one that is on several ways once. A real disk fails at a path that is not UTF-8.
 ///
 /// # Errors
 ///
 /// - `ActiveSpec`: `modules.is_active_platform` refuses this value.
 /// - `Fault`: the worktree failed at this path, which it counted; no value is refused. It is on the way to that of a submodule
-///   that is left out for none of the reasons before `Link`, or there, and everything before it on that way is a directory.
+///   that is left out for none of the reasons before `Link`, or there, and over a told tree everything before it on that way is a
+///   directory.
 /// - `OutOfMemory`: memory was refused.
+///
+/// See docs/DIFFERENCES.md#modules-utf8.
 pub fn plan<W: Worktree>(
     alloc: Global,
     worktree: &mut W,

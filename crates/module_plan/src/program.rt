@@ -1,5 +1,5 @@
 //! The top call.
-ghost use Rattle.std.specs.Prelude.{◌≡◌, ◌⊎◌, ◌↔◌, ℕ, List, Some, None, Ok, Err, IfOk, IfErr, OnOk, IsErrOf};
+ghost use Rattle.std.specs.Prelude.{◌≡◌, ◌⊎◌, ◌↔◌, ◌≤◌, ◌+◌, ℕ, List, Some, None, Ok, Err, IfOk, IfErr, OnOk, IsErrOf};
 ghost use Rattle.worktree_fs.specs.Causes.{Increased, NotIncreased};
 ghost use Rattle.worktree_fs.specs.Kept.{Asks};
 ghost use Rattle.worktree_fs.specs.Tree.{Names};
@@ -8,7 +8,7 @@ ghost use Rattle.worktree_report.specs.Ends.{Runs};
 ghost use Rattle.worktree_report.specs.Loading.{files_of, modules_in, with_specs, IsKnown};
 ghost use Rattle.worktree_report.specs.Loads.{LoadsFiles};
 ghost use Rattle.worktree_report.specs.Named.{named_by};
-ghost use Rattle.worktree_report.specs.Outside.{IsOutside, StopsAt};
+ghost use Rattle.worktree_report.specs.Outside.{files_to, IsOutside, StopsAt};
 ghost use Rattle.worktree_report.specs.Written.{Appends};
 ghost use Rattle.worktree_report.specs.declared.refusal.Misread.{Misread as Place};
 
@@ -57,6 +57,8 @@ fn modules_of<W: Worktree>(
         → IsErrOf result (Refusal.Misread which) → modules_in t root.now setup.now ≡ Err which }
     ensures outside { (which : Place) → IsErrOf result (Refusal.Misread which)
         → IsOutside root.now setup.now which }
+    ensures misread_reads { (which : Place) → IsErrOf result (Refusal.Misread which)
+        → W.reads worktree.new ≤ W.reads worktree.old + files_to setup.now which }
     ensures refused { IfErr result (top.IsOfPlanning (Increased (W.faults worktree.old)
         (W.faults worktree.new))) }
     ensures stops { (t : Names) → W.told worktree.old ≡ Some t → IsErrOf result Refusal.Fault
@@ -81,6 +83,7 @@ fn text_of_modules<W: Worktree>(
         (λ text. top.text_of_modules t root.now ignore_case modules.now ≡ Some text) }
     ensures safe { (t : Names) → W.told worktree.old ≡ Some t
         → OnOk result (top.IsSafePlanOf t root.now ignore_case modules.now) }
+    ensures orderly { IfOk result (top.IsPlanText (W.told worktree.old) root.now) }
     ensures misread { (which : Place) → IsErrOf result (Refusal.Misread which)
         → with_specs ignore_case modules.now ≡ Err which }
     ensures refused { IfErr result (top.IsOfPlanning (Increased (W.faults worktree.old)

@@ -15,6 +15,8 @@ pub enum StepKind {
 }
 
 /// One submodule to be updated.
+///
+/// See docs/DECISIONS.md#normalised-step.
 #[derive(Debug, Drop, PartialEq, Eq)]
 pub struct Step {
     /// Its name.

@@ -21,6 +21,7 @@ use worktree_fs::{NodeKind, ReadError, Worktree};
 /// See docs/DECISIONS.md#absent-bars-nothing.
 /// See docs/DECISIONS.md#way-to-first-gap.
 /// See docs/DECISIONS.md#too-long-path.
+/// See docs/DECISIONS.md#plan-root-link.
 pub(crate) fn obstacle<W: Worktree>(
     alloc: Global,
     worktree: &mut W,

@@ -8,4 +8,6 @@ mod modules;
 #[cfg(test)]
 mod states;
 #[cfg(test)]
+mod texts;
+#[cfg(test)]
 mod tree;

@@ -6,10 +6,10 @@ pub returns-in_err-modules : goal.returns-in_err-modules
 returns-in_err-modules g c =
     let p = err_from_is_err_and c.from_residual.result c.from_residual.ensures.1 in
     let unread = c.in_err-modules.ensures in
-    rw (p.1, p.2) (PlansText-unloaded c.in_err-modules.field-0.0 unread.misread unread.outside unread.refused unread.stops unread.loads)
+    rw (p.1, p.2) (PlansText-unloaded c.in_err-modules.field-0.0 unread.misread unread.outside unread.misread_reads unread.refused unread.stops unread.loads)
 
 pub returns : goal.returns
 returns g c =
     let read = c.in_ok-modules.ensures in
     let text = c.text_of_modules.ensures in
-    PlansText-loaded c.in_ok-modules.modules c.text_of_modules.result read.gives read.loads text.gives text.safe text.misread text.refused text.late text.keeps text.reads
+    PlansText-loaded c.in_ok-modules.modules c.text_of_modules.result read.gives read.loads text.gives text.safe text.orderly text.misread text.refused text.late text.keeps text.reads

@@ -10,6 +10,17 @@ pub returns-in_ok-plan_bytes-in-Ok-clause-safe : goal.returns-in_ok-plan_bytes-i
 returns-in_ok-plan_bytes-in-Ok-clause-safe g c = λ t told.
     record { plan = c.in-Ok.plan; is_plan = c.in-Ok.ensures.planned t told; safe = c.in-Ok.ensures.safe; open_way = c.in-Ok.ensures.open_way t told }
 
+pub returns-in_ok-plan_bytes-in-Ok-clause-orderly : goal.returns-in_ok-plan_bytes-in-Ok-clause-orderly
+returns-in_ok-plan_bytes-in-Ok-clause-orderly g c = record {
+  fold = c.args.ignore_case;
+  modules = c.args.modules.now;
+  plan = c.in-Ok.plan;
+  possible = c.in-Ok.ensures.possible;
+  ascends = c.in-Ok.ensures.ascends;
+  safe = c.in-Ok.ensures.safe;
+  text_is = c.in_ok-plan_bytes-in-Ok.ensures;
+}
+
 pub returns-in-Err-clause-late : goal.returns-in-Err-clause-late
 returns-in-Err-clause-late g c = λ is.
     known-late _ _ _ _ c.args.ignore_case c.args.modules.now c.in-Err.error c.in-Err.ensures.refused (sym c.from.ensures ∙ which is)

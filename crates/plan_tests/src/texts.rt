@@ -1,0 +1,68 @@
+//! The texts of errors.
+use crate::tree::parted;
+use dir_classify as walk;
+use gitbase_core::{OutOfMemory, PathText};
+use index_status::{StatesError, StatusError};
+use module_plan::ModuleError;
+use std::alloc::Global;
+use std::fmt::Display;
+use worktree_report::ReportError;
+
+/// Rows, parted by bars: an error and its text, parted by a backquote.
+const ROWS: &[u8] = b"\
+report config`Got an unexpected token on line 3 of configuration 2|\
+report modules`Got an unexpected token on line 3 of the '.gitmodules' file|\
+report active`Value 2 of 'submodule.active' is no pathspec of the repository|\
+report read`Could not read a configuration or the '.gitmodules' file|\
+report walk`Failed to walk the worktree|\
+report no room`Out of memory: the allocator refused to make room|\
+plan active`The pathspec in value 2 of 'submodule.active' is refused|\
+plan fault`Could not learn what stands at '/w/a'|\
+plan no room`Out of memory: the allocator refused to make room|\
+states fault`Could not learn what stands at '/w/a'|\
+states no room`Out of memory: the allocator refused to make room|\
+status report`Failed to make the report|\
+status fault`Could not learn what stands at '/w/a'|\
+status no room`Out of memory: the allocator refused to make room";
+
+/// Whether an error is shown by a text.
+fn is_shown<E: Display + Drop>(alloc: Global, error: E, want: &[u8]) -> bool {
+    match format!(in alloc; "{error}") {
+        Ok(text) => text.as_bytes() == want,
+        Err(_) => false,
+    }
+}
+
+/// Whether an error about a path, if any, is shown by a text.
+fn shows(alloc: Global, error: &[u8], path: PathText, want: &[u8]) -> bool {
+    match error {
+        b"report config" => is_shown(alloc, ReportError::Config { at: 2, line: 3 }, want),
+        b"report modules" => is_shown(alloc, ReportError::Modules { line: 3 }, want),
+        b"report active" => is_shown(alloc, ReportError::ActiveSpec { at: 2 }, want),
+        b"report read" => is_shown(alloc, ReportError::ReadFault, want),
+        b"report walk" => is_shown(alloc, ReportError::Walk(walk::Error::Interrupted), want),
+        b"report no room" => is_shown(alloc, ReportError::OutOfMemory, want),
+        b"plan active" => is_shown(alloc, ModuleError::ActiveSpec { value: 2 }, want),
+        b"plan fault" => is_shown(alloc, ModuleError::Fault { path }, want),
+        b"plan no room" => is_shown(alloc, ModuleError::OutOfMemory, want),
+        b"states fault" => is_shown(alloc, StatesError::Fault { path }, want),
+        b"states no room" => is_shown(alloc, StatesError::OutOfMemory, want),
+        b"status report" => is_shown(alloc, StatusError::Report(ReportError::ReadFault), want),
+        b"status fault" => is_shown(alloc, StatusError::Fault { path }, want),
+        b"status no room" => is_shown(alloc, StatusError::OutOfMemory, want),
+        _ => false,
+    }
+}
+
+/// Whether a row holds.
+fn holds(alloc: Global, row: &[u8]) -> Result<bool, OutOfMemory> {
+    let (error, text) = parted(row);
+    Ok(shows(alloc, error, PathText::from_bytes(alloc, b"/w/a")?, text))
+}
+
+#[test]
+fn errors_are_shown_by_sentences(rt: HostRuntime) {
+    for row in ROWS.split(|byte| *byte == b'|') {
+        assert!(rt; matches!(holds(rt.alloc(), row), Ok(true)), "{row:?}");
+    }
+}
