@@ -12,13 +12,26 @@ def die(why):
     sys.exit(2)
 
 
+def drop_output():
+    """What was printed and not taken is not tried once more at the end, where the status would be another."""
+    null = os.open(os.devnull, os.O_WRONLY)
+    os.dup2(null, sys.stdout.fileno())
+    os.close(null)
+
+
 def run_main(main):
-    """Runs a script; where something that it calls or opens fails, it ends with 2 and a word."""
+    """Runs a script; where something that it calls or opens fails, or what it prints is not taken, it ends with 2 and a word."""
     try:
-        main()
+        if sys.stdout is None:
+            die("standard output is closed")
+        try:
+            main()
+        finally:
+            sys.stdout.flush()
     except subprocess.CalledProcessError as error:
         die("this ended with %d: %s" % (error.returncode, " ".join(map(str, error.cmd))))
     except OSError as error:
+        drop_output()
         die(error)
     except KeyboardInterrupt:
         sys.exit(130)

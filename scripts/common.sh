@@ -1,4 +1,4 @@
-# What the scripts share; each begins with `. "$(dirname -- "$(readlink -f -- "$0")")/common.sh"`.
+# What the scripts share; each begins by finding it beside itself.
 #
 # It takes git's own variables out of the environment, so that the repository that is asked is the one at ROOT and no
 # other, and CDPATH, so that `cd` goes where it is told. It sets $here to the top of this repository, and ends the script
@@ -7,19 +7,21 @@
 set -Eeuo pipefail
 shopt -s inherit_errexit
 export LC_ALL=C
-unset CDPATH PERL_UNICODE PERL5OPT
-here=$(dirname -- "$(dirname -- "$(readlink -f -- "${BASH_SOURCE[0]}")")")
-name=${0##*/}
+# Functions that the caller exports, and what it has bash run before a script, have no say in what follows.
+while IFS= read -r name; do unset -f -- "$name" || true; done < <(compgen -A function || true)
+unset BASH_ENV ENV CDPATH PERL_UNICODE PERL5OPT PERL5LIB PERLLIB PERLIO PERL5DB POSIXLY_CORRECT
+here=${BASH_SOURCE[0]%/*/*}
+script=${0##*/}
 
 # Says why the script ends, and ends it with 2.
 fail() {
-    echo "$name: $1" >&2
+    echo "$script: $1" >&2
     exit 2
 }
 
 # Ends the script with 2 where a command of its own fails, and says where; one that ended with 2 has said why.
 failed() {
-    [ "$1" -eq 2 ] || echo "$name: line $2 ended with $1: ${3%%$'\n'*}" >&2
+    [ "$1" -eq 2 ] || echo "$script: line $2 ended with $1: ${3%%$'\n'*}" >&2
     exit 2
 }
 trap 'failed "$?" "$LINENO" "$BASH_COMMAND"' ERR
@@ -75,7 +77,7 @@ work_tree() {
     root=$(directory "$1")
     if ! top=$(git -C "$root" rev-parse --show-toplevel 2>/dev/null); then
         said=$(git -C "$root" rev-parse --show-toplevel 2>&1 >/dev/null || true)
-        fail "$root is in no git work tree; git says: ${said:-nothing}"
+        fail "git finds no work tree at $root; it says: ${said:-nothing}"
     fi
     [ "$top" = "$root" ] || fail "$root is not the top of its git work tree, which is $top"
     echo "$root"
@@ -108,6 +110,9 @@ make_setup() {
     esac
     has_option strict_parents "$@" || set -- strict_parents=yes "$@"
     "$here/scripts/setup-of" "$root" "$@" > "$work/setup"
+    # Each entry of the index has its line, or what is tracked would be untracked.
+    [ "$(grep -c '^index ' "$work/setup" || true)" -eq "$(git -C "$root" ls-files -s -z | tr -dc '\0' | wc -c)" ] ||
+        fail "the setup lacks entries of the index"
 }
 
 # Runs the program at $program with these words; $status is its status. Where it names a line of the setup at $work/setup, which is
@@ -118,7 +123,7 @@ answer() {
     "$program" "$@" 2> "$work/said" || status=$?
     cat -- "$work/said" >&2
     line=$(sed -n 's/^setup: line \([0-9]*\)$/\1/p' "$work/said")
-    [ "$status" -ne 3 ] || echo "$name: that line is: $(sed -n "${line}p" "$work/setup")" >&2
+    [ "$status" -ne 3 ] || echo "$script: that line is: $(sed -n "${line}p" "$work/setup")" >&2
 }
 
 # Whether one of the words behind $1 gives the option $1 a value.
