@@ -1,8 +1,8 @@
 //! Whether a path leads to a repository.
-ghost use Rattle.std.specs.Prelude.{◌≡◌, ◌≤◌, ◌+◌, Some, None, Ok, IfOk, IsErrOf, if◌then◌else◌, unwrap_or, option_and_then, [], true};
+ghost use Rattle.std.specs.Prelude.{◌≡◌, ◌≤◌, ◌<◌, ◌+◌, Some, None, Ok, IfOk, IsErrOf, if◌then◌else◌, unwrap_or, option_and_then, [], true, false};
 ghost use Rattle.gitbase_core.specs.Path.{parent};
 ghost use Rattle.worktree_fs.specs.Tree.{Names, look};
-ghost use Rattle.worktree_fs.specs.Answers.{kind_of};
+ghost use Rattle.worktree_fs.specs.Answers.{kind_of, UnlessFault};
 ghost use Rattle.worktree_fs.specs.Causes.{NotIncreased, Increased};
 ghost use Rattle.worktree_fs.specs.Kept.{Asks};
 ghost use Rattle.worktree_fs.specs.Changes.{real_path, from_directory};
@@ -32,6 +32,7 @@ pub fn real_path_is<W: Worktree>(
         → IfOk result (λ is. is ≡ is_path (real_path t path.now cwd.now) own.now) }
     ensures true_only { (t : Names) → W.told worktree.old ≡ Some t → result ≡ Ok true
         → is_path (real_path t path.now cwd.now) own.now ≡ true }
+    ensures faulted { W.faults worktree.old < W.faults worktree.new → result ≡ Ok false }
     ensures kept { Asks W.Worktree worktree.old worktree.new }
     ensures reads { W.reads worktree.new ≡ W.reads worktree.old }
 {
@@ -62,6 +63,7 @@ pub fn is_git<W: Worktree>(
         → IfOk result (λ is. is ≡ is_git t path.now) }
     ensures true_only { (t : Names) → W.told worktree.old ≡ Some t → result ≡ Ok true
         → is_git t path.now ≡ true }
+    ensures faulted { W.faults worktree.old < W.faults worktree.new → result ≡ Ok false }
     ensures kept { Asks W.Worktree worktree.old worktree.new }
     ensures unread { (t : Names) → W.told worktree.old ≡ Some t
         → kind_of (look t path.now true) ≡ None → W.reads worktree.new ≡ W.reads worktree.old }
@@ -87,6 +89,7 @@ fn is_repository<W: Worktree>(
         → kind_of (look t path.now true) ≡ None → W.reads worktree.new ≡ W.reads worktree.old }
     ensures cause { IsErrOf result ReadError.Fault
         → Increased (W.faults worktree.old) (W.faults worktree.new) }
+    ensures unfaulted { UnlessFault result (W.faults worktree.new ≡ W.faults worktree.old) }
     ensures reads_most { W.reads worktree.new ≤ W.reads worktree.old + 3 }
 {
     match worktree.kind_following(alloc, path)? {
@@ -106,6 +109,7 @@ fn is_git_file<W: Worktree>(alloc: Global, worktree: &mut W, path: &[u8]) -> Res
     ensures kept { Asks W.Worktree worktree.old worktree.new }
     ensures cause { IsErrOf result ReadError.Fault
         → Increased (W.faults worktree.old) (W.faults worktree.new) }
+    ensures unfaulted { UnlessFault result (W.faults worktree.new ≡ W.faults worktree.old) }
     ensures reads_most { W.reads worktree.new ≤ W.reads worktree.old + 3 }
 {
     let mut bytes = Bytes::new(alloc);
@@ -128,6 +132,7 @@ fn is_git_below<W: Worktree>(alloc: Global, worktree: &mut W, git: &[u8]) -> Res
     ensures kept { Asks W.Worktree worktree.old worktree.new }
     ensures cause { IsErrOf result ReadError.Fault
         → Increased (W.faults worktree.old) (W.faults worktree.new) }
+    ensures unfaulted { UnlessFault result (W.faults worktree.new ≡ W.faults worktree.old) }
     ensures reads_most { W.reads worktree.new ≤ W.reads worktree.old + 2 }
 {
     let common = common_of(alloc, worktree, git)?;
@@ -141,6 +146,7 @@ fn common_of<W: Worktree>(alloc: Global, worktree: &mut W, git: &[u8]) -> Result
     ensures kept { Asks W.Worktree worktree.old worktree.new }
     ensures cause { IsErrOf result ReadError.Fault
         → Increased (W.faults worktree.old) (W.faults worktree.new) }
+    ensures unfaulted { UnlessFault result (W.faults worktree.new ≡ W.faults worktree.old) }
     ensures reads_most { W.reads worktree.new ≤ W.reads worktree.old + 1 }
 {
     let path = from_directory(alloc, b"commondir".as_slice(), git)?;
@@ -164,6 +170,7 @@ fn is_git_directory<W: Worktree>(
     ensures kept { Asks W.Worktree worktree.old worktree.new }
     ensures cause { IsErrOf result ReadError.Fault
         → Increased (W.faults worktree.old) (W.faults worktree.new) }
+    ensures unfaulted { UnlessFault result (W.faults worktree.new ≡ W.faults worktree.old) }
     ensures reads_most { W.reads worktree.new ≤ W.reads worktree.old + 1 }
 {
     let head = from_directory(alloc, b"HEAD".as_slice(), git)?;
@@ -185,6 +192,7 @@ fn has_head<W: Worktree>(alloc: Global, worktree: &mut W, path: &[u8]) -> Result
     ensures kept { Asks W.Worktree worktree.old worktree.new }
     ensures cause { IsErrOf result ReadError.Fault
         → Increased (W.faults worktree.old) (W.faults worktree.new) }
+    ensures unfaulted { UnlessFault result (W.faults worktree.new ≡ W.faults worktree.old) }
     ensures reads_most { W.reads worktree.new ≤ W.reads worktree.old + 1 }
 {
     let mut bytes = Bytes::new(alloc);
@@ -205,6 +213,7 @@ fn is_directory<W: Worktree>(
     ensures kept { Asks W.Worktree worktree.old worktree.new }
     ensures cause { IsErrOf result ReadError.Fault
         → Increased (W.faults worktree.old) (W.faults worktree.new) }
+    ensures unfaulted { UnlessFault result (W.faults worktree.new ≡ W.faults worktree.old) }
     ensures reads { W.reads worktree.new ≡ W.reads worktree.old }
 {
     let kind = worktree.kind_following(alloc, path)?;
@@ -224,6 +233,7 @@ fn read_file<W: Worktree>(
     ensures kept { Asks W.Worktree worktree.old worktree.new }
     ensures cause { IsErrOf result ReadError.Fault
         → Increased (W.faults worktree.old) (W.faults worktree.new) }
+    ensures unfaulted { UnlessFault result (W.faults worktree.new ≡ W.faults worktree.old) }
     ensures reads_most { W.reads worktree.new ≤ W.reads worktree.old + 1 }
 {
     match worktree.read(alloc, path, true, into)? {

@@ -1,4 +1,4 @@
-use Rattle.std.proofs.Common.{◌≡◌, ◌∙◌, Some, false, true, rules}
+use Rattle.std.proofs.Common.{◌≡◌, ◌∙◌, Some, true, rules}
 use Rattle.worktree_fs.specs.Tree.{look}
 use Rattle.worktree_fs.specs.Answers.{kind_of}
 use Rattle.worktree_fs.specs.declared.answers.NodeKind.TheVariants as kinds
