@@ -1,7 +1,7 @@
 //! The files of the system as a worktree: the edge of which nothing is proved but its counts.
-ghost use Rattle.std.specs.Prelude.{◌≡◌, ◌≤◌, ◌^◌, ◌&&◌, length, None, Ok, IfOk, IsErrOf, false, All, IsTrue};
+ghost use Rattle.std.specs.Prelude.{◌≡◌, ◌≤◌, ◌^◌, ◌&&◌, length, None, Ok, IfOk, IsErrOf, MatchResult, false, All, IsTrue};
 ghost use Rattle.worktree_fs.specs.Causes.{Increased, next};
-ghost use Rattle.worktree_fs.specs.Disk.{is_fault, is_list_fault, is_unaskable, more_if, counted_call, counted_read, counted_listing, IsGiven};
+ghost use Rattle.worktree_fs.specs.Disk.{is_fault, is_list_fault, has_nul, is_unaskable, more_if, counted_call, counted_read, counted_listing, IsGiven};
 ghost use Rattle.std.specs.List.Sorted.{IsStrictlySortedBy};
 ghost use Rattle.worktree_fs.specs.Changes.{from_directory};
 ghost use Rattle.worktree_fs.specs.Naming.{AreNames};
@@ -135,6 +135,7 @@ impl<'a> Worktree for DiskWorktree<'a> {
             → Increased self.old.faults self.new.faults }
         ensures unfaulted { UnlessFault result (self.new.faults ≡ self.old.faults) }
         ensures unaskable { IsTrue (is_unaskable path.now) → IsErrOf result ReadError.Fault }
+        ensures nowhere { IsTrue (has_nul path.now) → result ≡ Ok None }
     {
         let found = look(self.rt, path, false);
         self.count(is_fault(&found), false);
@@ -149,6 +150,7 @@ impl<'a> Worktree for DiskWorktree<'a> {
             → Increased self.old.faults self.new.faults }
         ensures unfaulted { UnlessFault result (self.new.faults ≡ self.old.faults) }
         ensures unaskable { IsTrue (is_unaskable path.now) → IsErrOf result ReadError.Fault }
+        ensures nowhere { IsTrue (has_nul path.now) → result ≡ Ok None }
     {
         let found = look(self.rt, path, true);
         self.count(is_fault(&found), false);
@@ -174,6 +176,7 @@ impl<'a> Worktree for DiskWorktree<'a> {
         ensures lists_later { self.old.lists ≤ self.new.lists }
         ensures unaskable { IsTrue (is_unaskable path.now)
             → IsErrOf result ListError.OpenFault }
+        ensures nowhere { IsTrue (has_nul path.now) → IsErrOf result ListError.Absent }
     {
         self.lists = self.lists.saturating_add(1);
         let names = listed(
@@ -203,6 +206,7 @@ impl<'a> Worktree for DiskWorktree<'a> {
             → Increased self.old.faults self.new.faults }
         ensures unfaulted { UnlessFault result (self.new.faults ≡ self.old.faults) }
         ensures unaskable { IsTrue (is_unaskable path.now) → IsErrOf result ReadError.Fault }
+        ensures nowhere { IsTrue (has_nul path.now) → result ≡ Ok ReadAnswer.Absent }
         ensures into { UnlessRead result (into.new ≡ into.old) }
         ensures link { result ≡ Ok ReadAnswer.IsLink → follow ≡ false }
         ensures short { result ≡ Ok ReadAnswer.Read → length into.new ≤ 2 ^ 30 }
@@ -228,6 +232,8 @@ impl<'a> Worktree for DiskWorktree<'a> {
         ensures unfaulted { UnlessFault result (self.new.faults ≡ self.old.faults) }
         ensures unaskable { IsTrue (is_unaskable (from_directory path.now cwd.now))
             → IfOk result (λ _. ⊥) }
+        ensures nowhere { IsTrue (has_nul (from_directory path.now cwd.now))
+            → MatchResult result (λ real. real ≡ None) (λ error. error ≡ ReadError.OutOfMemory) }
     {
         let real = real_path(self.rt, alloc, path, cwd);
         self.count(is_fault(&real), false);
@@ -242,6 +248,7 @@ impl<'a> Worktree for DiskWorktree<'a> {
             → Increased self.old.faults self.new.faults }
         ensures unfaulted { UnlessFault result (self.new.faults ≡ self.old.faults) }
         ensures unaskable { IsTrue (is_unaskable path.now) → IsErrOf result ReadError.Fault }
+        ensures nowhere { IsTrue (has_nul path.now) → result ≡ Ok MakeAnswer.NoParent }
     {
         let answer = make_dir(self.rt, alloc, self.composes, path);
         self.count(is_fault(&answer), false);
@@ -256,6 +263,7 @@ impl<'a> Worktree for DiskWorktree<'a> {
             → Increased self.old.faults self.new.faults }
         ensures unfaulted { UnlessFault result (self.new.faults ≡ self.old.faults) }
         ensures unaskable { IsTrue (is_unaskable path.now) → IsErrOf result ReadError.Fault }
+        ensures nowhere { IsTrue (has_nul path.now) → result ≡ Ok RemoveAnswer.Absent }
     {
         let answer = remove_node(self.rt, path);
         self.count(is_fault(&answer), false);

@@ -2,7 +2,7 @@
 ghost use Rattle.std.specs.Prelude.{◌≡◌, ◌≤◌, ◌<◌, ◌++◌, ◌∷◌, [], length, Some, None, if◌then◌else◌, IfOk, OnOk, IfNone, IfSome, All, IsTrue, IsErrOf};
 ghost use Rattle.std.specs.List.Sorted.{IsStrictlySortedBy};
 ghost use Rattle.worktree_fs.specs.Composed.{as_kept};
-ghost use Rattle.worktree_fs.specs.Disk.{is_unaskable, IsGiven, AreListed, kept_names, names_between, given_names};
+ghost use Rattle.worktree_fs.specs.Disk.{has_nul, is_unaskable, IsGiven, AreListed, kept_names, names_between, given_names};
 ghost use Rattle.worktree_fs.specs.Naming.{AreNames, is_name};
 ghost use Rattle.worktree_fs.specs.Order.{path_cmp};
 
@@ -37,6 +37,7 @@ pub fn listed(
     ensures few { IfOk result (λ names. length names ≤ 1000000) }
     ensures sorted { IfOk result (IsStrictlySortedBy path_cmp) }
     ensures unaskable { IsTrue (is_unaskable path.now) → IsErrOf result ListError.OpenFault }
+    ensures nowhere { IsTrue (has_nul path.now) → IsErrOf result ListError.Absent }
 {
     let Ok(text) = text_of(path) else {
         return Err(ListError::OpenFault);

@@ -1,8 +1,8 @@
 //! The calls of the system on one node, with its answers as those of a worktree.
-ghost use Rattle.std.specs.Prelude.{◌≡◌, ◌≤◌, ◌^◌, length, Ok, IfOk, IsErrOf, IsTrue, false};
+ghost use Rattle.std.specs.Prelude.{◌≡◌, ◌≤◌, ◌^◌, length, None, Ok, IfOk, IfErr, IsErrOf, MatchResult, IsTrue, false};
 ghost use Rattle.worktree_fs.specs.Answers.{UnlessRead};
 ghost use Rattle.worktree_fs.specs.Changes.{from_directory};
-ghost use Rattle.worktree_fs.specs.Disk.{is_unaskable};
+ghost use Rattle.worktree_fs.specs.Disk.{has_nul, is_unaskable};
 
 use crate::composed::as_kept;
 use crate::names::{from_directory, is_utf8};
@@ -24,14 +24,17 @@ fn is_unaskable(path: &[u8]) -> bool
     !is_utf8(path) && !path.contains(&0)
 }
 
-/// The path as the system takes it, without slashes at its end; none where it has a NUL, and so leads nowhere.
+/// The path as the system takes it, without slashes at its end; none exactly where it has a NUL, and so leads nowhere.
 ///
 /// # Errors
 ///
-/// - `Fault` where std cannot ask the system for it.
+/// - `Fault` exactly where std cannot ask the system for it.
 pub fn text_of(path: &[u8]) -> Result<Option<&str>, ReadError>
     ensures refused { IsTrue (is_unaskable path.now) → IsErrOf result ReadError.Fault }
     ensures asked { IfOk result (λ _. is_unaskable path.now ≡ false) }
+    ensures askable { is_unaskable path.now ≡ false → IfErr result (λ _. ⊥) }
+    ensures nowhere { IsTrue (has_nul path.now) → result ≡ Ok None }
+    ensures somewhere { result ≡ Ok None → IsTrue (has_nul path.now) }
 {
     if is_unaskable(path) {
         return Err(ReadError::Fault);
@@ -67,6 +70,7 @@ pub fn is_absent(error: &io::Error) -> bool {
 /// See docs/DIFFERENCES.md#gix-link-limit.
 pub fn look(rt: &HostRuntime, path: &[u8], follow: bool) -> Result<Option<NodeKind>, ReadError>
     ensures unaskable { IsTrue (is_unaskable path.now) → IsErrOf result ReadError.Fault }
+    ensures nowhere { IsTrue (has_nul path.now) → result ≡ Ok None }
 {
     let Some(text) = text_of(path)? else {
         return Ok(None);
@@ -95,6 +99,7 @@ pub fn read_into(
     ensures link { result ≡ Ok ReadAnswer.IsLink → follow ≡ false }
     ensures short { result ≡ Ok ReadAnswer.Read → length into.new ≤ 2 ^ 30 }
     ensures unaskable { IsTrue (is_unaskable path.now) → IsErrOf result ReadError.Fault }
+    ensures nowhere { IsTrue (has_nul path.now) → result ≡ Ok ReadAnswer.Absent }
 {
     match look(rt, path, follow)? {
         None => Ok(ReadAnswer::Absent),
@@ -143,6 +148,8 @@ pub fn real_path(
 ) -> Result<Option<PathText>, ReadError>
     ensures unaskable { IsTrue (is_unaskable (from_directory path.now cwd.now))
         → IfOk result (λ _. ⊥) }
+    ensures nowhere { IsTrue (has_nul (from_directory path.now cwd.now))
+        → MatchResult result (λ real. real ≡ None) (λ error. error ≡ ReadError.OutOfMemory) }
 {
     let full = from_directory(alloc, path, cwd)?;
     let Some(text) = text_of(full.as_bytes())? else {
@@ -177,6 +184,7 @@ pub fn make_dir(
     path: &[u8],
 ) -> Result<MakeAnswer, ReadError>
     ensures unaskable { IsTrue (is_unaskable path.now) → IsErrOf result ReadError.Fault }
+    ensures nowhere { IsTrue (has_nul path.now) → result ≡ Ok MakeAnswer.NoParent }
 {
     let Some(given) = text_of(path)? else {
         return Ok(MakeAnswer::NoParent);
@@ -196,6 +204,7 @@ pub fn make_dir(
 /// Removes a node that is no directory.
 pub fn remove_node(rt: &HostRuntime, path: &[u8]) -> Result<RemoveAnswer, ReadError>
     ensures unaskable { IsTrue (is_unaskable path.now) → IsErrOf result ReadError.Fault }
+    ensures nowhere { IsTrue (has_nul path.now) → result ≡ Ok RemoveAnswer.Absent }
 {
     match look(rt, path, false)? {
         None => Ok(RemoveAnswer::Absent),
