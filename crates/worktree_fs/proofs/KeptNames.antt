@@ -1,31 +1,29 @@
 -- The names of a tree stay as they are kept.
-use Rattle.std.proofs.Common.{◌≡◌, ◌∙◌, ℕ, Bool, true, false, ◌||◌, List, [], ◌∷◌, ◌++◌, reverse, Option, Some, None, Result, Ok, Err, IfOk, All, IsTrue, refl, sym, ap, subst, if◌then◌else◌}
-use Rattle.std.specs.Prelude.{MatchResult, IsUtf8, chars, encode_utf8_all}
-use Rattle.std.specs.List.{AllByRecursion, list_any, list_all}
+use Rattle.std.proofs.Common.{◌≡◌, ◌∙◌, ℕ, Bool, true, false, ◌||◌, List, [], ◌∷◌, ◌++◌, reverse, Option, Some, None, Result, Ok, Err, IfOk, All, refl, sym, ap, subst, if◌then◌else◌}
+use Rattle.std.specs.Prelude.{MatchResult, chars, encode_utf8_all}
+use Rattle.std.specs.List.{AllByRecursion, list_any}
 use Rattle.std.specs.Ordering.{is_lt}
 use Rattle.std.specs.Str.{bytes_eq, is_utf8}
-use Rattle.std.proofs.lemmas.Bool.{and_parts}
 use Rattle.std.proofs.lemmas.List.Elements.{All-from_recursion}
 use Rattle.std.proofs.lemmas.Slice.Eq.{bytes_eq-Decides}
-use Rattle.std.proofs.lemmas.Str.{is_utf8-from_IsUtf8, IsUtf8-from_is_utf8}
 use mathlib.Core.List.{reverse-cons}
 use Rattle.unicode_normalization.specs.Forms.{nfc}
-use Rattle.gitbase_core.specs.Path.{components, pieces}
-use Rattle.worktree_fs.specs.Tree.{Names, Node, Spot, reached, missing, nowhere, endless, found, file, link, directory, other, none, named, names_of, child, is_directory, is_nil, look, spot}
+use Rattle.gitbase_core.specs.Path.{components}
+use Rattle.worktree_fs.specs.Tree.{Names, Node, Spot, reached, missing, nowhere, endless, file, link, directory, other, none, named, names_of, child, is_directory, is_nil, look, spot}
 use Rattle.worktree_fs.specs.Answers.{ListRefuses}
-use Rattle.worktree_fs.specs.Changes.{slashed, kept_last, with_directory, after_make, cut, cut_names, after_remove}
-use Rattle.worktree_fs.specs.Composed.{composed, as_kept, IsKept, HasKept, AreKept}
+use Rattle.worktree_fs.specs.Changes.{slashed, with_directory, after_make, cut, cut_names, after_remove}
+use Rattle.worktree_fs.specs.Composed.{as_kept, IsKept, HasKept, AreKept}
 use Rattle.worktree_fs.specs.Disk.{IsGiven}
 use Rattle.worktree_fs.specs.Grow.{grown, put, children_of, is_full_path, add_refusal, node_of_new}
 use Rattle.worktree_fs.specs.Memory.{in_order, ListsInOrder}
-use Rattle.worktree_fs.specs.Naming.{IsName, IsTree, AreNames, is_name}
+use Rattle.worktree_fs.specs.Naming.{IsName, IsTree, AreNames}
 use Rattle.worktree_fs.specs.Order.{path_cmp}
 use Rattle.worktree_fs.specs.declared.answers.ListError.{ListError}
 use Rattle.worktree_fs.specs.declared.memory.grow.AddError.{AddError}
 use Rattle.worktree_fs.specs.declared.memory.grow.NewNode.{NewNode}
 use Rattle.worktree_fs.specs.declared.memory.grow.NewNode.TheVariants as new
 use Rattle.worktree_fs.proofs.MissingNames.{MissesName, missed-name, from_all, components-slashed}
-use Rattle.worktree_fs.proofs.NameParts.{name_parts, pieces-name}
+use Rattle.worktree_fs.proofs.NameParts.{pieces-name}
 use Rattle.worktree_fs.proofs.Subtree.{tree-leaf, tree-inside}
 use Rattle.worktree_fs.proofs.TextPieces.{utf8-from_full, utf8-from_name}
 use Rattle.worktree_fs.proofs.Texts.{pieces-join}

@@ -1,11 +1,10 @@
 -- The name that a path misses may stand in a directory: it is a component of the path, or of a link's target on its way, and
 -- neither `.` nor `..`; the names before it are those of the tree.
 use Rattle.std.proofs.Common.{◌≡◌, ℕ, zero, suc, Bool, true, false, not, ◌||◌, List, [], ◌∷◌, ◌++◌, Option, Some, None, reverse, if◌then◌else◌, refl, sym, ap, subst, ◌∙◌}
-use Rattle.std.specs.Str.{bytes_eq}
 use Rattle.std.specs.List.{AllByRecursion}
 use mathlib.Core.List.{reverse-cons}
 use Rattle.gitbase_core.specs.Path.{components}
-use Rattle.worktree_fs.specs.Tree.{Node, Names, Place, Jump, Spot, reached, missing, nowhere, endless, file, link, directory, other, none, named, names_of, child, is_text, is_dot, is_dot_dot, is_nil, trail, enter, parent_place, start, onward, walking, along, behind, resolve, spot}
+use Rattle.worktree_fs.specs.Tree.{Node, Names, Place, Jump, Spot, reached, missing, nowhere, endless, file, link, directory, other, child, is_text, is_dot, is_dot_dot, is_nil, trail, enter, parent_place, start, onward, walking, along, behind, resolve, spot}
 use Rattle.worktree_fs.specs.Naming.{IsName, IsTree}
 use Rattle.worktree_fs.specs.Paths.{IsComponent}
 use Rattle.worktree_fs.specs.Changes.{slashed}

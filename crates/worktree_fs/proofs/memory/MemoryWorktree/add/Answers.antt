@@ -1,4 +1,4 @@
-use Rattle.std.proofs.Common.{◌≡◌, ◌∙◌, ℕ, List, sym, ap, subst}
+use Rattle.std.proofs.Common.{◌≡◌, ◌∙◌, sym, ap, subst}
 use Rattle.std.specs.List.{AllByRecursion}
 use Rattle.gitbase_core.specs.Path.{components, pieces}
 use Rattle.worktree_fs.specs.Composed.{as_kept, IsKept, HasKept}

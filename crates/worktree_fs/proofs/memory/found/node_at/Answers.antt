@@ -1,6 +1,5 @@
 use Rattle.std.proofs.Common.{◌∙◌, ap, sym, arith}
 use Rattle.worktree_fs.specs.Tree.{found}
-use Rattle.worktree_fs.specs.Stored.{names_in}
 use Rattle.worktree_fs.proofs.Ways.{nth_node, nth_none}
 use Rattle.worktree_fs.proofs.memory.found.node_at.Goals as goal
 
