@@ -44,8 +44,8 @@ pub fn real_path_is<W: Worktree>(
 }
 
 /// Whether a path, links followed, leads to a repository: to a git directory, or to a file that names one; false too
-/// where a question failed, which is counted. A path that leads nowhere is looked at once, and nothing is read; else at
-/// most three files are: the one at the path, and `commondir` and `HEAD` of the git directory.
+/// where a question failed, which is counted. Nothing is read where the path leads nowhere; else at most three files
+/// are: the one at the path, and `commondir` and `HEAD` of the git directory.
 ///
 /// # Errors
 ///

@@ -15,11 +15,10 @@ use std::alloc::Global;
 /// A tree of files, asked call by call.
 ///
 /// In a told tree paths begin at `/`, whether or not they are written so; what a relative path means to a worktree that
-/// tells nothing is its own affair. Links on the way are followed, at most 32 of them in one call, and a last one only
-/// where the call says so. Absence, a wrong kind and a link are answers; whatever else a
-/// device may say is a fault, and is counted. Counts are of 64 bits, and stand
-/// at their last value. Only
-/// `make_dir` and `remove_node` change the tree.
+/// tells nothing is its own affair. Links on the way are followed, in a told tree at most 32 of them in one call, and a
+/// last one only where the call says so. Absence, a wrong kind and a link are answers; whatever else a device may say is
+/// a fault, and is counted. Counts are of 64 bits, and stand at their last value. Only `make_dir` and `remove_node`
+/// change the tree.
 ///
 /// Contracts speak of the tree where the worktree tells it, and of the counts always.
 ///
@@ -28,10 +27,10 @@ pub trait Worktree {
     /// What is in `/`, where the worktree tells it.
     ghost told: { Self → Option Names };
 
-    /// How many calls failed; it never falls.
+    /// How many calls failed at least, since one that fails may raise it by more than one; it never falls.
     ghost faults: { Self → ℕ };
 
-    /// How many listings failed, at opening or while names were read; it never falls.
+    /// How many listings failed, at opening or while names were read, at least so too; it never falls.
     ghost list_faults: { Self → ℕ };
 
     /// How many reads were asked for.
