@@ -37,7 +37,7 @@ alike_directory (Some (link target)) e = absurd (cc e)
 alike_directory (Some (directory names)) e = (names, refl)
 alike_directory (Some other) e = absurd (cc e)
 
--- a path whose last piece is that of a node ends at the node, where a last link is not followed
+-- a path whose last component is that of a node ends at the node, where a last link is not followed
 ends_at : (jump : Jump) (follow : Bool) (place : Place) (name : List ℕ) (node : Node) (rest : List (List ℕ)) → follow ≡ false → rest ≡ []
     → onward (walking (λ s. along jump follow s rest) jump follow) place rest name (Some node) ≡ reached (name ∷ trail place) node
 ends_at jump true place name node rest stays ended = absurd (cc stays)
@@ -45,7 +45,7 @@ ends_at jump false place name (file bytes) [] stays ended = refl
 ends_at jump false place name (link target) [] stays ended = refl
 ends_at jump false place name (directory names) [] stays ended = refl
 ends_at jump false place name other [] stays ended = refl
-ends_at jump false place name node (piece ∷ rest) stays ended = absurd (cc ended)
+ends_at jump false place name node (component ∷ rest) stays ended = absurd (cc ended)
 
 -- the same place in two trees
 record Pair (without beside : Names) (p q : Place) : Type 0 where
@@ -108,31 +108,31 @@ module _ (at : List (List ℕ)) (there : Node) (without beside : Names) (follow 
         (either (is_nil rest) _ _ _ _ (to_leaf p q pair name other) (inr refl))
 
     module _ (apart : Apart at without beside) (gone : node_at (reverse at) (Some (directory without)) ≡ None) (has : node_at (reverse at) (Some (directory beside)) ≡ Some there) where
-      by_piece : (rest : List (List ℕ)) → Goes jump rest → (p q : Place) → Pair without beside p q → (piece : List ℕ)
-          → LeadsAlike follow at there (onward (walking (λ s. along jump follow s rest) jump follow) p rest piece (child p.here piece)) (onward (walking (λ s. along jump follow s rest) jump follow) q rest piece (child q.here piece))
-      by_piece rest goes p q pair piece = elim (apart (piece ∷ trail p)) [
+      by_component : (rest : List (List ℕ)) → Goes jump rest → (p q : Place) → Pair without beside p q → (component : List ℕ)
+          → LeadsAlike follow at there (onward (walking (λ s. along jump follow s rest) jump follow) p rest component (child p.here component)) (onward (walking (λ s. along jump follow s rest) jump follow) q rest component (child q.here component))
+      by_component rest goes p q pair component = elim (apart (component ∷ trail p)) [
         | inl is ↦
-            let lost : child p.here piece ≡ None = sym (chain-child without p.here p.above piece (child p.here piece) pair.first refl) ∙ ap (λ (l : List (List ℕ)). node_at (reverse l) (Some (directory without))) is ∙ gone in
-            let is_other : piece ∷ trail q ≡ at = ap (λ (l : List (List ℕ)). piece ∷ l) (sym pair.same) ∙ is in
-            let met : child q.here piece ≡ Some there = sym (chain-child beside q.here q.above piece (child q.here piece) pair.second refl) ∙ ap (λ (l : List (List ℕ)). node_at (reverse l) (Some (directory beside))) is_other ∙ has in
+            let lost : child p.here component ≡ None = sym (chain-child without p.here p.above component (child p.here component) pair.first refl) ∙ ap (λ (l : List (List ℕ)). node_at (reverse l) (Some (directory without))) is ∙ gone in
+            let is_other : component ∷ trail q ≡ at = ap (λ (l : List (List ℕ)). component ∷ l) (sym pair.same) ∙ is in
+            let met : child q.here component ≡ Some there = sym (chain-child beside q.here q.above component (child q.here component) pair.second refl) ∙ ap (λ (l : List (List ℕ)). node_at (reverse l) (Some (directory beside))) is_other ∙ has in
             inl (record {
               rest = rest;
-              is_missing = ap (λ (o : Option Node). onward (walking (λ s. along jump follow s rest) jump follow) p rest piece o) lost ∙ ap (λ (l : List (List ℕ)). missing l rest) is;
-              ends = λ stays ended. ap (λ (o : Option Node). onward (walking (λ s. along jump follow s rest) jump follow) q rest piece o) met ∙ ends_at jump follow q piece there rest stays ended ∙ ap (λ (l : List (List ℕ)). reached l there) is_other;
+              is_missing = ap (λ (o : Option Node). onward (walking (λ s. along jump follow s rest) jump follow) p rest component o) lost ∙ ap (λ (l : List (List ℕ)). missing l rest) is;
+              ends = λ stays ended. ap (λ (o : Option Node). onward (walking (λ s. along jump follow s rest) jump follow) q rest component o) met ∙ ends_at jump follow q component there rest stays ended ∙ ap (λ (l : List (List ℕ)). reached l there) is_other;
             })
-        | inr e ↦ through rest goes p q pair piece (child p.here piece) (child q.here piece) refl refl (
-            sym (ap (option_map outline) (chain-child without p.here p.above piece (child p.here piece) pair.first refl))
+        | inr e ↦ through rest goes p q pair component (child p.here component) (child q.here component) refl refl (
+            sym (ap (option_map outline) (chain-child without p.here p.above component (child p.here component) pair.first refl))
             ∙ e
-            ∙ ap (λ (l : List (List ℕ)). option_map outline (node_at (reverse (piece ∷ l)) (Some (directory beside)))) pair.same
-            ∙ ap (option_map outline) (chain-child beside q.here q.above piece (child q.here piece) pair.second refl))
+            ∙ ap (λ (l : List (List ℕ)). option_map outline (node_at (reverse (component ∷ l)) (Some (directory beside)))) pair.same
+            ∙ ap (option_map outline) (chain-child beside q.here q.above component (child q.here component) pair.second refl))
       ]
 
       steps : (rest : List (List ℕ)) → Goes jump rest
       steps [] p q pair = inr (ap (λ (names : List (List ℕ)). reached names (directory none)) pair.same)
-      steps (piece ∷ rest) p q pair =
-          either (is_dot piece) _ _ _ _ (steps rest p q pair)
-          (either (is_dot_dot piece) _ _ _ _ (steps rest (parent_place p) (parent_place q) (pair_up p.here q.here p.above q.above pair.first pair.second pair.same))
-          (by_piece rest (steps rest) p q pair piece))
+      steps (component ∷ rest) p q pair =
+          either (is_dot component) _ _ _ _ (steps rest p q pair)
+          (either (is_dot_dot component) _ _ _ _ (steps rest (parent_place p) (parent_place q) (pair_up p.here q.here p.above q.above pair.first pair.second pair.same))
+          (by_component rest (steps rest) p q pair component))
 
   module _ (apart : Apart at without beside) (gone : node_at (reverse at) (Some (directory without)) ≡ None) (has : node_at (reverse at) (Some (directory beside)) ≡ Some there) where
     all_jumps : (links : ℕ) → Jumps (behind links follow)

@@ -84,13 +84,13 @@ through root follow jump keeps rest goes place is name (Some other) e = go (is_n
 
 steps : (root : Names) (follow : Bool) (jump : Jump) → Keeps root jump → (rest : List (List ℕ)) → Goes root follow jump rest
 steps root follow jump keeps [] place is = chain-node root place.here place.above is
-steps root follow jump keeps (piece ∷ rest) place is = go (steps root follow jump keeps rest) (is_dot piece) (is_dot_dot piece)
+steps root follow jump keeps (component ∷ rest) place is = go (steps root follow jump keeps rest) (is_dot component) (is_dot_dot component)
   where
     go : Goes root follow jump rest → (dot up : Bool)
-        → LeadsByNames root (if dot then along jump follow place rest else if up then along jump follow (parent_place place) rest else onward (walking (λ p. along jump follow p rest) jump follow) place rest piece (child place.here piece))
+        → LeadsByNames root (if dot then along jump follow place rest else if up then along jump follow (parent_place place) rest else onward (walking (λ p. along jump follow p rest) jump follow) place rest component (child place.here component))
     go goes true up = goes place is
     go goes false true = goes (parent_place place) (in_parent root place.here place.above is)
-    go goes false false = through root follow jump keeps rest goes place is piece (child place.here piece) refl
+    go goes false false = through root follow jump keeps rest goes place is component (child place.here component) refl
 
 all_jumps : (root : Names) (links : ℕ) (follow : Bool) → Keeps root (behind links follow)
 unfolding behind

@@ -114,7 +114,7 @@ made_free composes t (missing names []) e = (names, refl, go (add_refusal t (sla
     go (Some refusals.NoParent) e = absurd (cc e)
     go (Some refusals.Exists) e = absurd (cc e)
     go (Some refusals.OutOfMemory) e = absurd (cc e)
-made_free composes t (missing names (piece ∷ rest)) e = absurd (cc e)
+made_free composes t (missing names (component ∷ rest)) e = absurd (cc e)
 made_free composes t nowhere e = absurd (cc e)
 made_free composes t endless e = absurd (cc e)
 
@@ -178,7 +178,7 @@ came_to_none (reached [] node) name e = absurd (cc e)
 came_to_none (reached (n ∷ below) node) name e = absurd (cc (ap node_of_last e))
 came_to_none (missing [] rest) name e = absurd (cc e)
 came_to_none (missing (n ∷ below) []) name e = (below, ap (λ (l : List ℕ). missing (l ∷ below) []) (ap name_of_last e))
-came_to_none (missing (n ∷ below) (piece ∷ rest)) name e = absurd (cc e)
+came_to_none (missing (n ∷ below) (component ∷ rest)) name e = absurd (cc e)
 came_to_none nowhere name e = absurd (cc e)
 came_to_none endless name e = absurd (cc e)
 
@@ -187,7 +187,7 @@ stands_there composes t (reached [] end) name node e = absurd (cc e)
 stands_there composes t (reached (n ∷ below) end) name node e = refl
 stands_there composes t (missing [] rest) name node e = absurd (cc e)
 stands_there composes t (missing (n ∷ below) []) name node e = absurd (cc (ap node_of_last e))
-stands_there composes t (missing (n ∷ below) (piece ∷ rest)) name node e = absurd (cc e)
+stands_there composes t (missing (n ∷ below) (component ∷ rest)) name node e = absurd (cc e)
 stands_there composes t nowhere name node e = absurd (cc e)
 stands_there composes t endless name node e = absurd (cc e)
 

@@ -11,28 +11,28 @@ module _ (names : Names) where
   abbrev Goes : Jump → Jump → List (List ℕ) → Type 0
   Goes staying following rest = (place : Place) → look_at (along staying false place rest) ≡ found (directory names) → look_at (along following true place rest) ≡ found (directory names)
 
-  through : (staying following : Jump) → Jumps staying following → (rest : List (List ℕ)) → Goes staying following rest → (place : Place) (piece : List ℕ) (o : Option Node)
-      → look_at (onward (walking (λ p. along staying false p rest) staying false) place rest piece o) ≡ found (directory names)
-      → look_at (onward (walking (λ p. along following true p rest) following true) place rest piece o) ≡ found (directory names)
-  through staying following jumps rest goes place piece None e = absurd (cc e)
-  through staying following jumps rest goes place piece (Some (directory sub)) e = goes (enter place piece sub) e
-  through staying following jumps [] goes place piece (Some (link target)) e = absurd (cc e)
-  through staying following jumps (r ∷ rest) goes place piece (Some (link target)) e = jumps place target (r ∷ rest) e
-  through staying following jumps [] goes place piece (Some (file bytes)) e = absurd (cc e)
-  through staying following jumps (r ∷ rest) goes place piece (Some (file bytes)) e = absurd (cc e)
-  through staying following jumps [] goes place piece (Some other) e = absurd (cc e)
-  through staying following jumps (r ∷ rest) goes place piece (Some other) e = absurd (cc e)
+  through : (staying following : Jump) → Jumps staying following → (rest : List (List ℕ)) → Goes staying following rest → (place : Place) (component : List ℕ) (o : Option Node)
+      → look_at (onward (walking (λ p. along staying false p rest) staying false) place rest component o) ≡ found (directory names)
+      → look_at (onward (walking (λ p. along following true p rest) following true) place rest component o) ≡ found (directory names)
+  through staying following jumps rest goes place component None e = absurd (cc e)
+  through staying following jumps rest goes place component (Some (directory sub)) e = goes (enter place component sub) e
+  through staying following jumps [] goes place component (Some (link target)) e = absurd (cc e)
+  through staying following jumps (r ∷ rest) goes place component (Some (link target)) e = jumps place target (r ∷ rest) e
+  through staying following jumps [] goes place component (Some (file bytes)) e = absurd (cc e)
+  through staying following jumps (r ∷ rest) goes place component (Some (file bytes)) e = absurd (cc e)
+  through staying following jumps [] goes place component (Some other) e = absurd (cc e)
+  through staying following jumps (r ∷ rest) goes place component (Some other) e = absurd (cc e)
 
-  split : (staying following : Jump) → Jumps staying following → (rest : List (List ℕ)) → Goes staying following rest → (place : Place) (piece : List ℕ) (dot up : Bool)
-      → look_at (if dot then along staying false place rest else if up then along staying false (parent_place place) rest else onward (walking (λ p. along staying false p rest) staying false) place rest piece (child place.here piece)) ≡ found (directory names)
-      → look_at (if dot then along following true place rest else if up then along following true (parent_place place) rest else onward (walking (λ p. along following true p rest) following true) place rest piece (child place.here piece)) ≡ found (directory names)
-  split staying following jumps rest goes place piece true up e = goes place e
-  split staying following jumps rest goes place piece false true e = goes (parent_place place) e
-  split staying following jumps rest goes place piece false false e = through staying following jumps rest goes place piece (child place.here piece) e
+  split : (staying following : Jump) → Jumps staying following → (rest : List (List ℕ)) → Goes staying following rest → (place : Place) (component : List ℕ) (dot up : Bool)
+      → look_at (if dot then along staying false place rest else if up then along staying false (parent_place place) rest else onward (walking (λ p. along staying false p rest) staying false) place rest component (child place.here component)) ≡ found (directory names)
+      → look_at (if dot then along following true place rest else if up then along following true (parent_place place) rest else onward (walking (λ p. along following true p rest) following true) place rest component (child place.here component)) ≡ found (directory names)
+  split staying following jumps rest goes place component true up e = goes place e
+  split staying following jumps rest goes place component false true e = goes (parent_place place) e
+  split staying following jumps rest goes place component false false e = through staying following jumps rest goes place component (child place.here component) e
 
   steps : (staying following : Jump) → Jumps staying following → (rest : List (List ℕ)) → Goes staying following rest
   steps staying following jumps [] place e = e
-  steps staying following jumps (piece ∷ rest) place e = split staying following jumps rest (steps staying following jumps rest) place piece (is_dot piece) (is_dot_dot piece) e
+  steps staying following jumps (component ∷ rest) place e = split staying following jumps rest (steps staying following jumps rest) place component (is_dot component) (is_dot_dot component) e
 
   text_goes : (b : Bool) (l k : Spot) → (look_at l ≡ found (directory names) → look_at k ≡ found (directory names)) → look_at (if b then l else nowhere) ≡ found (directory names) → look_at (if b then k else nowhere) ≡ found (directory names)
   text_goes true l k f e = f e

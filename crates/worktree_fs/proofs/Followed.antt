@@ -30,10 +30,10 @@ NoLink-onward go jump place rest name (Some other) along_on jumps = NoLink-if (i
 
 NoLink-along : (jump : Jump) (place : Place) (rest : List (List ℕ)) → ((p : Place) (target : List ℕ) (more : List (List ℕ)) → NoLink (look_at (jump p target more))) → NoLink (look_at (along jump true place rest))
 NoLink-along jump place [] jumps = tt
-NoLink-along jump place (piece ∷ rest) jumps =
-    NoLink-if (is_dot piece) _ _ (NoLink-along jump place rest jumps)
-    (NoLink-if (is_dot_dot piece) _ _ (NoLink-along jump (parent_place place) rest jumps)
-    (NoLink-onward (λ p. along jump true p rest) jump place rest piece (child place.here piece) (λ p. NoLink-along jump p rest jumps) jumps))
+NoLink-along jump place (component ∷ rest) jumps =
+    NoLink-if (is_dot component) _ _ (NoLink-along jump place rest jumps)
+    (NoLink-if (is_dot_dot component) _ _ (NoLink-along jump (parent_place place) rest jumps)
+    (NoLink-onward (λ p. along jump true p rest) jump place rest component (child place.here component) (λ p. NoLink-along jump p rest jumps) jumps))
 
 NoLink-behind : (links : ℕ) (place : Place) (target : List ℕ) (rest : List (List ℕ)) → NoLink (look_at (behind links true place target rest))
 unfolding behind

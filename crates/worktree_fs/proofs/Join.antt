@@ -31,7 +31,7 @@ look-last (reached [] node) name stands e = absurd (cc e)
 look-last (reached (n ∷ below) node) name stands e = ap look_of_last e
 look-last (missing [] rest) name stands e = absurd (cc e)
 look-last (missing (n ∷ below) []) name stands e = ap look_of_last e
-look-last (missing (n ∷ below) (piece ∷ rest)) name stands e = absurd (cc e)
+look-last (missing (n ∷ below) (component ∷ rest)) name stands e = absurd (cc e)
 look-last nowhere name stands e = absurd (cc e)
 look-last endless name stands e = absurd (cc e)
 
@@ -60,31 +60,31 @@ module _ (names : Names) (name : List ℕ) (is_name : IsName name) where
   abbrev Goes : Jump → Jump → List (List ℕ) → Type 0
   Goes following staying rest = (place : Place) → look_at (along following true place rest) ≡ found (directory names) → last_of (along staying false place (rest ++ name ∷ [])) ≡ at_name
 
-  last : (staying : Jump) (place : Place) (piece : List ℕ) (o : Option Node) → last_of (onward (walking (λ p. reached (trail p) (directory p.here)) staying false) place [] piece o) ≡ Some (record { name = piece; node = o })
-  last staying place piece None = refl
-  last staying place piece (Some (directory sub)) = refl
-  last staying place piece (Some (link target)) = refl
-  last staying place piece (Some (file bytes)) = refl
-  last staying place piece (Some other) = refl
+  last : (staying : Jump) (place : Place) (component : List ℕ) (o : Option Node) → last_of (onward (walking (λ p. reached (trail p) (directory p.here)) staying false) place [] component o) ≡ Some (record { name = component; node = o })
+  last staying place component None = refl
+  last staying place component (Some (directory sub)) = refl
+  last staying place component (Some (link target)) = refl
+  last staying place component (Some (file bytes)) = refl
+  last staying place component (Some other) = refl
 
-  through : (following staying : Jump) → Jumps following staying → (rest : List (List ℕ)) → Goes following staying rest → (place : Place) (piece : List ℕ) (o : Option Node)
-      → look_at (onward (walking (λ p. along following true p rest) following true) place rest piece o) ≡ found (directory names)
-      → last_of (onward (walking (λ p. along staying false p (rest ++ name ∷ [])) staying false) place (rest ++ name ∷ []) piece o) ≡ at_name
-  through following staying jumps rest goes place piece None e = absurd (cc e)
-  through following staying jumps rest goes place piece (Some (directory sub)) e = goes (enter place piece sub) e
-  through following staying jumps rest goes place piece (Some (link target)) e =
-      ap (λ b. last_of (if not b then staying place target (rest ++ name ∷ []) else reached (piece ∷ trail place) (link target))) (is_nil-push rest name) ∙ jumps place target rest e
-  through following staying jumps [] goes place piece (Some (file bytes)) e = absurd (cc e)
-  through following staying jumps (r ∷ rest) goes place piece (Some (file bytes)) e = absurd (cc e)
-  through following staying jumps [] goes place piece (Some other) e = absurd (cc e)
-  through following staying jumps (r ∷ rest) goes place piece (Some other) e = absurd (cc e)
+  through : (following staying : Jump) → Jumps following staying → (rest : List (List ℕ)) → Goes following staying rest → (place : Place) (component : List ℕ) (o : Option Node)
+      → look_at (onward (walking (λ p. along following true p rest) following true) place rest component o) ≡ found (directory names)
+      → last_of (onward (walking (λ p. along staying false p (rest ++ name ∷ [])) staying false) place (rest ++ name ∷ []) component o) ≡ at_name
+  through following staying jumps rest goes place component None e = absurd (cc e)
+  through following staying jumps rest goes place component (Some (directory sub)) e = goes (enter place component sub) e
+  through following staying jumps rest goes place component (Some (link target)) e =
+      ap (λ b. last_of (if not b then staying place target (rest ++ name ∷ []) else reached (component ∷ trail place) (link target))) (is_nil-push rest name) ∙ jumps place target rest e
+  through following staying jumps [] goes place component (Some (file bytes)) e = absurd (cc e)
+  through following staying jumps (r ∷ rest) goes place component (Some (file bytes)) e = absurd (cc e)
+  through following staying jumps [] goes place component (Some other) e = absurd (cc e)
+  through following staying jumps (r ∷ rest) goes place component (Some other) e = absurd (cc e)
 
-  split : (following staying : Jump) → Jumps following staying → (rest : List (List ℕ)) → Goes following staying rest → (place : Place) (piece : List ℕ) (dot up : Bool)
-      → look_at (if dot then along following true place rest else if up then along following true (parent_place place) rest else onward (walking (λ p. along following true p rest) following true) place rest piece (child place.here piece)) ≡ found (directory names)
-      → last_of (if dot then along staying false place (rest ++ name ∷ []) else if up then along staying false (parent_place place) (rest ++ name ∷ []) else onward (walking (λ p. along staying false p (rest ++ name ∷ [])) staying false) place (rest ++ name ∷ []) piece (child place.here piece)) ≡ at_name
-  split following staying jumps rest goes place piece true up e = goes place e
-  split following staying jumps rest goes place piece false true e = goes (parent_place place) e
-  split following staying jumps rest goes place piece false false e = through following staying jumps rest goes place piece (child place.here piece) e
+  split : (following staying : Jump) → Jumps following staying → (rest : List (List ℕ)) → Goes following staying rest → (place : Place) (component : List ℕ) (dot up : Bool)
+      → look_at (if dot then along following true place rest else if up then along following true (parent_place place) rest else onward (walking (λ p. along following true p rest) following true) place rest component (child place.here component)) ≡ found (directory names)
+      → last_of (if dot then along staying false place (rest ++ name ∷ []) else if up then along staying false (parent_place place) (rest ++ name ∷ []) else onward (walking (λ p. along staying false p (rest ++ name ∷ [])) staying false) place (rest ++ name ∷ []) component (child place.here component)) ≡ at_name
+  split following staying jumps rest goes place component true up e = goes place e
+  split following staying jumps rest goes place component false true e = goes (parent_place place) e
+  split following staying jumps rest goes place component false false e = through following staying jumps rest goes place component (child place.here component) e
 
   steps : (following staying : Jump) → Jumps following staying → (rest : List (List ℕ)) → Goes following staying rest
   steps following staying jumps [] place e =
@@ -92,7 +92,7 @@ module _ (names : Names) (name : List ℕ) (is_name : IsName name) where
       ∙ ap (λ b. last_of (if b then along staying false (parent_place place) [] else onward (walking (λ p. along staying false p []) staying false) place [] name (child place.here name))) (name_parts name is_name).no_dot_dot
       ∙ last staying place name (child place.here name)
       ∙ ap (λ (n : Names). Some (record { name = name; node = child n name })) (cc e)
-  steps following staying jumps (piece ∷ rest) place e = split following staying jumps rest (steps following staying jumps rest) place piece (is_dot piece) (is_dot_dot piece) e
+  steps following staying jumps (component ∷ rest) place e = split following staying jumps rest (steps following staying jumps rest) place component (is_dot component) (is_dot_dot component) e
 
   all_jumps : (links : ℕ) → Jumps (behind links true) (behind links false)
   unfolding behind

@@ -48,13 +48,13 @@ through follow jump jumps rest are goes place name is (Some other) = either (is_
 
 steps : (follow : Bool) (jump : Jump) → Jumps jump → (rest : List (List ℕ)) → AreParts rest → (place : Place) → MissesName (along jump follow place rest)
 steps follow jump jumps [] are place = tt
-steps follow jump jumps (piece ∷ rest) are place = go (is_dot piece) (is_dot_dot piece) refl refl (steps follow jump jumps rest are.1)
+steps follow jump jumps (component ∷ rest) are place = go (is_dot component) (is_dot_dot component) refl refl (steps follow jump jumps rest are.1)
   where
-    go : (dot up : Bool) → is_dot piece ≡ dot → is_dot_dot piece ≡ up → ((place : Place) → MissesName (along jump follow place rest))
-        → MissesName (if dot then along jump follow place rest else if up then along jump follow (parent_place place) rest else onward (walking (λ s. along jump follow s rest) jump follow) place rest piece (child place.here piece))
+    go : (dot up : Bool) → is_dot component ≡ dot → is_dot_dot component ≡ up → ((place : Place) → MissesName (along jump follow place rest))
+        → MissesName (if dot then along jump follow place rest else if up then along jump follow (parent_place place) rest else onward (walking (λ s. along jump follow s rest) jump follow) place rest component (child place.here component))
     go true up d u goes = goes place
     go false true d u goes = goes (parent_place place)
-    go false false d u goes = through follow jump jumps rest are.1 goes place piece (name-from_part piece are.0 d u) (child place.here piece)
+    go false false d u goes = through follow jump jumps rest are.1 goes place component (name-from_part component are.0 d u) (child place.here component)
 
 all_jumps : (links : ℕ) (follow : Bool) → Jumps (behind links follow)
 unfolding behind

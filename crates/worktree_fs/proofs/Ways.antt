@@ -212,18 +212,18 @@ trail-take way k root dir lt here =
     ∙ ap trail (place-push root (take k way) (slice_index way k))
     ∙ ap (λ (h : Names). name_nth h (slice_index way k) ∷ trail (place_by root (take k way))) here
 
--- a piece leads on from the node of its name
+-- a component leads on from the node of its name
 third : (x y : Bool) (a b c : Spot) → x ≡ false → y ≡ false → (if x then a else if y then b else c) ≡ c
 third false false a b c e f = refl
 third false true a b c e f = absurd (cc f)
 third true y a b c e f = absurd (cc e)
 
-pub piece-leads : (links : ℕ) (follow : Bool) (at : Place) (piece : List ℕ) (rest : List (List ℕ)) (o : Option Node) → is_dot piece ≡ false → is_dot_dot piece ≡ false → child at.here piece ≡ o
-    → resolve links follow at (piece ∷ rest) ≡ onward (walking (λ p. resolve links follow p rest) (behind links follow) follow) at rest piece o
-piece-leads links follow at piece rest o dot up is =
-    third (is_dot piece) (is_dot_dot piece) (resolve links follow at rest) (resolve links follow (parent_place at) rest)
-    (onward (walking (λ p. resolve links follow p rest) (behind links follow) follow) at rest piece (child at.here piece)) dot up
-    ∙ ap (λ (n : Option Node). onward (walking (λ p. resolve links follow p rest) (behind links follow) follow) at rest piece n) is
+pub component-leads : (links : ℕ) (follow : Bool) (at : Place) (component : List ℕ) (rest : List (List ℕ)) (o : Option Node) → is_dot component ≡ false → is_dot_dot component ≡ false → child at.here component ≡ o
+    → resolve links follow at (component ∷ rest) ≡ onward (walking (λ p. resolve links follow p rest) (behind links follow) follow) at rest component o
+component-leads links follow at component rest o dot up is =
+    third (is_dot component) (is_dot_dot component) (resolve links follow at rest) (resolve links follow (parent_place at) rest)
+    (onward (walking (λ p. resolve links follow p rest) (behind links follow) follow) at rest component (child at.here component)) dot up
+    ∙ ap (λ (n : Option Node). onward (walking (λ p. resolve links follow p rest) (behind links follow) follow) at rest component n) is
 
 -- a file or another node that ends a path is no directory
 pub leaf_stands : (root : List Entry) (way : List ℕ) (i : ℕ) (b : Bool) (turn : Turn) → IsWay way (names_in root) × IsLeaf (here_by way (names_in root)) i → turn ≡ (if b then turns.Node i else turns.Nowhere) → TurnStands root way turn

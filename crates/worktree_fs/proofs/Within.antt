@@ -60,13 +60,13 @@ module _ (P : Node → Type 0) (Q : List ℕ → Type 0) (leaf : (node : Node) �
 
   steps : (follow : Bool) (jump : Jump) → Jumps jump → (rest : List (List ℕ)) → Goes follow jump rest
   steps follow jump jumps [] place is = is.0
-  steps follow jump jumps (piece ∷ rest) place is = go (steps follow jump jumps rest) (is_dot piece) (is_dot_dot piece)
+  steps follow jump jumps (component ∷ rest) place is = go (steps follow jump jumps rest) (is_dot component) (is_dot_dot component)
     where
       go : Goes follow jump rest → (dot up : Bool)
-          → Leads (if dot then along jump follow place rest else if up then along jump follow (parent_place place) rest else onward (walking (λ p. along jump follow p rest) jump follow) place rest piece (child place.here piece))
+          → Leads (if dot then along jump follow place rest else if up then along jump follow (parent_place place) rest else onward (walking (λ p. along jump follow p rest) jump follow) place rest component (child place.here component))
       go goes true up = goes place is
       go goes false true = goes (parent_place place) (in_parent place.here place.above is.0 is.1)
-      go goes false false = through follow jump jumps rest goes place is piece (child place.here piece) (λ n there. inside place.here piece n is.0 there)
+      go goes false false = through follow jump jumps rest goes place is component (child place.here component) (λ n there. inside place.here component n is.0 there)
 
   all_jumps : (links : ℕ) (follow : Bool) → Jumps (behind links follow)
   unfolding behind

@@ -41,11 +41,11 @@ is_text bytes = is_utf8 bytes && not (list_any (λ b. b == 0) bytes)
 
 -- `.`, the directory itself
 abbrev pub is_dot : List ℕ → Bool
-is_dot piece = bytes_eq piece (46 ∷ [])
+is_dot component = bytes_eq component (46 ∷ [])
 
 -- `..`, the directory above
 abbrev pub is_dot_dot : List ℕ → Bool
-is_dot_dot piece = bytes_eq piece (46 ∷ 46 ∷ [])
+is_dot_dot component = bytes_eq component (46 ∷ 46 ∷ [])
 
 -- a directory above, and the name in it by which one goes down
 pub record Level : Type 0 where
@@ -111,7 +111,7 @@ pub record Walking : Type 0 where
 abbrev pub walking : (Place → Spot) → Jump → Bool → Walking
 walking go jump follow = record { go = go; jump = jump; follow = follow }
 
--- from the node of a piece on: into a directory, behind a link unless it is the last and not to be followed,
+-- from the node of a component on: into a directory, behind a link unless it is the last and not to be followed,
 -- and no further than a file or another node
 abbrev pub onward : Walking → Place → List (List ℕ) → List ℕ → Option Node → Spot
 onward on place rest name None = missing (name ∷ trail place) rest
@@ -123,10 +123,10 @@ onward on place rest name (Some other) = if is_nil rest then reached (name ∷ t
 -- along the components from a place, by `jump` behind each link on the way
 abbrev pub along : Jump → Bool → Place → List (List ℕ) → Spot
 along jump follow place [] = reached (trail place) (directory place.here)
-along jump follow place (piece ∷ rest) =
-    if is_dot piece then along jump follow place rest
-    else if is_dot_dot piece then along jump follow (parent_place place) rest
-    else onward (walking (λ p. along jump follow p rest) jump follow) place rest piece (child place.here piece)
+along jump follow place (component ∷ rest) =
+    if is_dot component then along jump follow place rest
+    else if is_dot_dot component then along jump follow (parent_place place) rest
+    else onward (walking (λ p. along jump follow p rest) jump follow) place rest component (child place.here component)
 
 -- behind a link, where so many links may still be followed; a target that is no text leads nowhere
 unfoldable pub behind : ℕ → Bool → Jump

@@ -88,7 +88,7 @@ TurnStands root way (turns.Node i) = IsWay way (names_in root) × IsLeaf (here_b
 TurnStands root way turns.Nowhere = IsWay way (names_in root)
 TurnStands root way turns.Endless = IsWay way (names_in root)
 
--- a name that the directory of a place does not have, and whether it is the last piece of the path
+-- a name that the directory of a place does not have, and whether it is the last component of the path
 pub record IsMissing (at : Spot) (place : Place) (name : List ℕ) (last : Bool) : Type 0 where
   pub left : List (List ℕ)
   pub is_missing : at ≡ missing (name ∷ trail place) left

@@ -1,7 +1,7 @@
 //! The files of the system as a worktree: the edge of which nothing is proved but its counts.
 ghost use Rattle.std.specs.Prelude.{◌≡◌, ◌≤◌, ◌^◌, ◌&&◌, length, None, Ok, IfOk, IsErrOf, MatchResult, false, All, IsTrue};
 ghost use Rattle.worktree_fs.specs.Causes.{Increased, next};
-ghost use Rattle.worktree_fs.specs.Disk.{is_fault, is_list_fault, has_nul, is_unaskable, more_if, counted_call, counted_read, counted_listing, IsGiven};
+ghost use Rattle.worktree_fs.specs.Disk.{is_fault, is_listing_fault, has_nul, is_unaskable, more_if, counted_call, counted_read, counted_listing, IsGiven};
 ghost use Rattle.std.specs.List.Sorted.{IsStrictlySortedBy};
 ghost use Rattle.worktree_fs.specs.Changes.{from_directory};
 ghost use Rattle.worktree_fs.specs.Naming.{AreNames};
@@ -160,7 +160,7 @@ impl<'a> Worktree for DiskWorktree<'a> {
     /// Sorted by bytes. The directory is opened once; where the system says that it is absent or no directory its path is
     /// looked at once more.
     fn list(&mut self, alloc: Global, path: &[u8], follow: bool) -> Result<NameList, ListError>
-        ensures state { self.new ≡ counted_listing (is_list_fault result) self.old }
+        ensures state { self.new ≡ counted_listing (is_listing_fault result) self.old }
         ensures names { IfOk result AreNames }
         ensures kept { IfOk result (All (IsGiven self.old.composes)) }
         ensures few { IfOk result (λ names. length names ≤ 1000000) }

@@ -1,6 +1,6 @@
 //! Which answers are faults, which a worktree counts.
 ghost use Rattle.std.specs.Prelude.{◌≡◌};
-ghost use Rattle.worktree_fs.specs.Disk.{is_fault, is_list_fault};
+ghost use Rattle.worktree_fs.specs.Disk.{is_fault, is_listing_fault};
 
 use crate::{ListError, NameList, ReadError};
 
@@ -16,7 +16,7 @@ pub fn is_fault<T>(answer: &Result<T, ReadError>) -> bool
 
 /// Whether a listing failed, but for want of memory of its own.
 pub fn is_listing_fault(names: &Result<NameList, ListError>) -> bool
-    ensures { result ≡ is_list_fault names.now }
+    ensures { result ≡ is_listing_fault names.now }
 {
     match names {
         Err(ListError::OpenFault | ListError::EntryFault) => true,

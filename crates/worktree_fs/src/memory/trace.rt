@@ -25,7 +25,7 @@ pub enum End<'a> {
     Endless,
 }
 
-/// What a piece of a path leads to, beside the way down to the directory of it.
+/// What a component of a path leads to, beside the way down to the directory of it.
 #[derive(Drop)]
 pub enum Turn<'a> {
     /// Into the directory, with its entries.
@@ -60,8 +60,8 @@ pub fn trace<'a>(root: &'a [Entry], path: &'a [u8], follow: bool, way: &mut Vec<
     }
     let mut route = Route::new(path);
     let mut dir = root;
-    while let Some(piece) = route.next() {
-        match take_piece(root, dir, piece, &mut route, follow, way) {
+    while let Some(component) = route.next() {
+        match take_component(root, dir, component, &mut route, follow, way) {
             Turn::Into(entries) => dir = entries,
             Turn::Missing(name) => return End::Missing(name, route.is_done()),
             Turn::Node(at) => return End::Node(at),
@@ -72,11 +72,11 @@ pub fn trace<'a>(root: &'a [Entry], path: &'a [u8], follow: bool, way: &mut Vec<
     End::Directory
 }
 
-/// Goes along one piece, from the directory at the end of the way.
-fn take_piece<'a>(
+/// Goes along one component, from the directory at the end of the way.
+fn take_component<'a>(
     root: &'a [Entry],
     dir: &'a [Entry],
-    piece: &'a [u8],
+    component: &'a [u8],
     route: &mut Route<'a>,
     follow: bool,
     way: &mut Vec<usize>,
@@ -85,7 +85,7 @@ fn take_piece<'a>(
     requires stands { StandsAt root.now dir.now way.old.items }
     requires room { depth_in (names_in root.now) ≤ vec_capacity way.old }
     ensures leads { resolve route.old.links follow (place_by (names_in root.now) way.old.items)
-        (piece.now ∷ route.old.left)
+        (component.now ∷ route.old.left)
         ≡ turned follow (place_by (names_in root.now) way.new.items) route.new.links
         route.new.left result }
     ensures stands { TurnStands root.now way.new.items result }
@@ -93,15 +93,15 @@ fn take_piece<'a>(
     ensures smaller { route.new.links * 2 ^ 64 + length route.new.left
         ≤ route.old.links * 2 ^ 64 + length route.old.left }
 {
-    if is_dot(piece) {
+    if is_dot(component) {
         return Turn::Into(dir);
     }
-    if is_dot_dot(piece) {
+    if is_dot_dot(component) {
         return Turn::Into(up(root, dir, way));
     }
-    match search(dir, piece) {
+    match search(dir, component) {
         Ok(at) => on(root, dir, at, &dir[at].node, route, follow, way),
-        Err(_) => Turn::Missing(piece),
+        Err(_) => Turn::Missing(component),
     }
 }
 
