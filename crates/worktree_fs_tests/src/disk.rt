@@ -172,8 +172,8 @@ fn holds(rt: &HostRuntime, folder: &[u8], row: &[u8]) -> bool {
     }
 }
 
-/// A path that is longer than the system takes is a fault of each call, and of a listing one of listings too. A name that
-/// is too long is one of these.
+/// A path that is longer than the system takes is a fault, and so is a name that is too long, in each call but a listing,
+/// which is asked below.
 fn refuses_long(rt: &HostRuntime) -> bool {
     let alloc = rt.alloc();
     let mut disk = DiskWorktree::new(rt, false);
@@ -183,8 +183,10 @@ fn refuses_long(rt: &HostRuntime) -> bool {
         && has_kind(alloc, &mut disk, &name, false, b"fault")
         && has_kind(alloc, &mut disk, &name, true, b"fault")
         && reads(alloc, &mut disk, &name, false, b"fault")
+        && has_real_path(alloc, &mut disk, &name, b"fault")
         && makes(alloc, &mut disk, &name, b"fault")
-        && disk.fault_count() == 5
+        && removes(alloc, &mut disk, &name, b"fault")
+        && disk.fault_count() == 7
         && disk.list_fault_count() == 0
 }
 
