@@ -29,6 +29,7 @@ fn is_unaskable(path: &[u8]) -> bool
 /// # Errors
 ///
 /// - `Fault` exactly where std cannot ask the system for it.
+#[tactic(auto, using(crate::proofs::Texts::is_utf8_not))]
 pub fn text_of(path: &[u8]) -> Result<Option<&str>, ReadError>
     ensures refused { IsTrue (is_unaskable path.now) → IsErrOf result ReadError.Fault }
     ensures asked { IfOk result (λ _. is_unaskable path.now ≡ false) }
