@@ -21,6 +21,8 @@ use worktree_fs::{MakeAnswer, NodeKind, ReadError, Worktree};
 /// - `Directory` with `NoParent`: there is no directory above the path.
 /// - `Directory` with `Fault`: the worktree failed, which it counted. What was in the way may be gone then.
 /// - `OutOfMemory`: memory is refused.
+///
+/// See docs/DECISIONS.md#checkout-delegate.
 pub fn create_leading_directory<W: Worktree>(
     alloc: Global,
     path: &[u8],
@@ -81,6 +83,7 @@ fn prepare<W: Worktree>(
 }
 
 /// Makes a directory at a path where something was met: a directory is kept.
+/// See docs/DIFFERENCES.md#gix-checkout-gone.
 fn collide<W: Worktree>(
     alloc: Global,
     path: &[u8],

@@ -1,16 +1,13 @@
 //! The steps of a lookup that makes the directories on its way, in a checkout.
-ghost use Rattle.std.specs.Prelude.{◌≡◌, ◌≤◌, ◌++◌, ◌∷◌, [], true, false, is_some, length, None, IfErr, OnOk, OnErr};
+ghost use Rattle.std.specs.Prelude.{◌≡◌, ◌≤◌, ◌++◌, ◌∷◌, [], true, false, is_some, length, None, OnOk, OnErr};
 ghost use Rattle.gitbase_core.specs.Path.{components};
-ghost use Rattle.worktree_fs.specs.Causes.{Increased};
-ghost use Rattle.worktree_fs.specs.Kept.{AsksStore};
-ghost use Rattle.worktree_fs.specs.Paths.{IsComponent, full_path, spelled};
+ghost use Rattle.worktree_fs.specs.Paths.{IsComponent};
 ghost use Rattle.worktree_fs.specs.PathStack.{deepest_names, push, calls_for, calls_below, lookup_calls, IsOnWay};
 ghost use Rattle.worktree_stack.specs.ChecksOut.{left_of};
 ghost use Rattle.worktree_stack.specs.GoesOn.{Goes, GoesWithin, KeepsAll, KeepsOn, LeavesLast, PushesOut, Readies, is_wanted};
 ghost use Rattle.worktree_stack.specs.Lookups.{is_dir_of, IsLookedUp, staying};
-ghost use Rattle.worktree_stack.specs.Making.{is_link_of, is_known, is_made, way_of};
-ghost use Rattle.worktree_stack.specs.Stacked.{IsLevel, made_of, pushed};
-ghost use Rattle.worktree_stack.specs.Validate.{component_error};
+ghost use Rattle.worktree_stack.specs.Making.{is_link_of, way_of};
+ghost use Rattle.worktree_stack.specs.Stacked.{pushed};
 
 use super::Stack;
 use super::steps::mode_is_dir;
@@ -159,6 +156,7 @@ impl Stack {
 
     /// Goes to a normal path, and makes the directories on the way to it.
     /// See docs/DECISIONS.md#checkout-composes.
+    /// See docs/DECISIONS.md#checkout-removes-rules.
     pub(super) fn check_out<W: Worktree, F: Find>(
         &mut self,
         alloc: Global,
