@@ -79,7 +79,8 @@ fn components(rt: HostRuntime) {
     }
 }
 
-/// The tree of a row: what stands at `/w/a`, and a directory `/w/d`; or a rules file of the root (`r`), or names that are composed (`c`).
+/// The tree of a row: what stands at `/w/a`, and a directory `/w/d`; or a rules file of the root (`r`), or names that are composed (`c`),
+/// or a link to a directory that has a rules file (`t`).
 pub fn tree_of(alloc: Global, node: &[u8]) -> Result<MemoryWorktree, AddError> {
     let mut tree = MemoryWorktree::new(alloc, node == b"c".as_slice());
     tree.add(alloc, b"/w", NewNode::Directory)?;
@@ -87,6 +88,10 @@ pub fn tree_of(alloc: Global, node: &[u8]) -> Result<MemoryWorktree, AddError> {
     match node {
         b"f" => tree.add(alloc, b"/w/a", NewNode::File(b"x"))?,
         b"l" => tree.add(alloc, b"/w/a", NewNode::Link(b"d"))?,
+        b"t" => {
+            tree.add(alloc, b"/w/a", NewNode::Link(b"d"))?;
+            tree.add(alloc, b"/w/d/.gitattributes", NewNode::File(b"f x\n"))?;
+        },
         b"o" => tree.add(alloc, b"/w/a", NewNode::Other)?,
         b"d" => tree.add(alloc, b"/w/a", NewNode::Directory)?,
         b"r" => tree.add(alloc, b"/w/.gitattributes", NewNode::File(b"f x\n"))?,

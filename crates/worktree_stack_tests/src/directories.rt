@@ -1,6 +1,7 @@
 //! Lookups that make the directories on their way, in a checkout.
+use crate::attributes::has;
 use crate::checkout::{component_word, kind_word, parted, plan, tree_of};
-use crate::steps::is_digit;
+use crate::steps::{Scene, is_digit};
 use bstr::ByteSlice;
 use gitbase_core::{Bytes, MemoryStore, Mode, OutOfMemory, PathText};
 use glob_rules::Case;
@@ -12,7 +13,8 @@ use worktree_stack::{AtPathError, Attributes, DirectoryWhy, Stack, State, attrib
 
 /// What stands at `/w/a` (`l` a link to a directory, `f` a file, `-` nothing), or what else the tree is; whether what is in the way is
 /// removed (`u`), and the call that fails with its number. Then for each lookup the path, the mode (`m` a submodule, `l` a link, `e` none, for
-/// an entry), what is answered, how often a directory was asked for and pushed in all, and a path with the node that is there then.
+/// an entry), what is answered, how often a directory was asked for and pushed in all, and a path with the node that is there then; where
+/// it stands, the state of the attribute `x` of the path that was looked up.
 ///
 /// See docs/DECISIONS.md#checkout-removes-rules.
 const LOOKUPS: &[u8] = b"\
@@ -34,6 +36,7 @@ r`-`-`.gitattributes/f`-`collision`1`1`/w/.gitattributes`f\n\
 r`u`-`.gitattributes/f`-`ok`2`2`/w/.gitattributes`d\n\
 -`-`-`x\x00/f`-`no parent`1`1`/w/x\x00`-\n\
 c`u`-`a\xcc\x88/f`-`ok`1`2`/w/\xc3\xa4`d;b/f`-`ok`2`3`/w/b`d;a\xcc\x88/g`-`collision`4`3`/w/a\xcc\x88`-\n\
+t`u`-`d/f`-`ok`1`2`/w/d`d`set;a/f`-`ok`3`3`/w/a`d`-;d/f`-`ok`4`4`/w/d`d`set\n\
 c`-`-`a\xcc\x88/b/f`-`no parent`2`2`/w/a\xcc\x88/b`-\n";
 
 /// A stack for a checkout below `/w`.
@@ -114,7 +117,8 @@ fn goes(alloc: Global, stack: &mut Stack, tree: &mut MemoryWorktree, step: &[u8]
     let (want, rest) = parted(rest);
     let (mkdirs, rest) = parted(rest);
     let (pushed, rest) = parted(rest);
-    let (at, kind) = parted(rest);
+    let (at, rest) = parted(rest);
+    let (kind, state) = parted(rest);
     let answer = look(alloc, stack, tree, path, mode);
     let counts = stack.statistics().delegate;
     let after = tree.kind(alloc, at).unwrap_or(None);
@@ -122,6 +126,24 @@ fn goes(alloc: Global, stack: &mut Stack, tree: &mut MemoryWorktree, step: &[u8]
         && is_digit(counts.num_mkdir_calls, mkdirs)
         && is_digit(counts.push_directory, pushed)
         && kind_word(after) == kind
+        && (state.is_empty() || says(alloc, stack, tree, path, state))
+}
+
+/// Whether the attribute `x` of a path reads so in a checkout.
+fn says(
+    alloc: Global,
+    stack: &mut Stack,
+    tree: &mut MemoryWorktree,
+    path: &[u8],
+    state: &[u8],
+) -> bool {
+    let mut store = MemoryStore::new(alloc);
+    let mut scene = Scene {
+        stack,
+        tree,
+        store: &mut store,
+    };
+    has(alloc, &mut scene, path, b"x", state)
 }
 
 /// Whether each lookup of some goes so.
