@@ -3,7 +3,7 @@ use Rattle.std.proofs.Common.{◌≡◌, ◌⊎◌, inl, inr, ◌≤◌, ◌+◌
 use Rattle.std.specs.Prelude.{OnOk, OnErr, IsErrOf}
 use Rattle.gitbase_core.specs.Causes.{next as one_more}
 use Rattle.std.proofs.lemmas.Result.{on_err_weaker, IfOk-weaker}
-use Rattle.worktree_fs.specs.Answers.{kind_of}
+use Rattle.worktree_fs.specs.Answers.{kind_of, UnlessFault}
 use Rattle.worktree_fs.specs.MadeAndRemoved.{Makes, Removes}
 use Rattle.worktree_fs.specs.Changes.{make_answer, after_make, remove_answer, after_remove, cut, kept_last, slashed, made_unless, with_directory}
 use Rattle.worktree_fs.specs.Grow.{add_refusal, children_of}
@@ -18,6 +18,7 @@ use Rattle.worktree_fs.specs.declared.answers.NodeKind.{NodeKind}
 use Rattle.worktree_fs.specs.declared.answers.NodeKind.TheVariants as kinds
 use Rattle.worktree_fs.specs.declared.answers.RemoveAnswer.TheVariants as removes
 use Rattle.worktree_fs.proofs.Changed.{makes-there, removes-gone}
+use Rattle.worktree_fs.proofs.Lookups.{on_ok}
 use Rattle.worktree_stack.specs.declared.error.AtPathError.{AtPathError}
 use Rattle.worktree_stack.specs.Checkout.{Prepared, IsOutcome, IsPartly, Changes, Prepares, IsReplaced, LeadsToDirectory, KeepsName, NoDirectory, Creates, IsAsked, IsAskedOnce, making, unlinking, colliding}
 use Rattle.worktree_stack.proofs.Refusals.{rose-earlier}
@@ -40,10 +41,15 @@ outcome-told (Ok answer) outcome told calls is tree counted = record { answer_is
 outcome-told (Err error) outcome told calls is tree counted = tt
 
 -- a tree that stayed where a call failed
-pub partly-kept : {T E : Type 0} (result : Result T E) (unlinks : Bool) (t : Names) (path : List ℕ) (before now : Option Names) → before ≡ Some t → OnErr result (now ≡ before)
-    → OnErr result (IsPartly unlinks t path now)
-partly-kept (Ok x) unlinks t path before now told kept = tt
-partly-kept (Err e) unlinks t path before now told kept = inl (kept ∙ told)
+pub partly-kept : {T E : Type 0} (result : Result T E) (unlinks : Bool) (t : Names) (path : List ℕ) (calls again : ℕ) (before now : Option Names) → before ≡ Some t → OnErr result (now ≡ before)
+    → OnErr result (IsPartly unlinks t path calls again now)
+partly-kept (Ok x) unlinks t path calls again before now told kept = tt
+partly-kept (Err e) unlinks t path calls again before now told kept = inl (kept ∙ told)
+
+-- an answer that hides no failure
+pub ok-unless : {T : Type 0} (P : Type 0) (result : Result T ReadError) → UnlessFault result P → OnOk result P
+ok-unless P (Ok x) holds = holds
+ok-unless P (Err e) holds = tt
 
 -- a directory that was made is there
 pub made-there : (result : Result MakeAnswer ReadError) (composes : Bool) (t : Names) (path : List ℕ) → IsTree (directory t) → KeepsName composes path
@@ -168,16 +174,17 @@ outcome-same result a b told calls e was = subst (λ (p : Prepared). IfOk result
 module _ {W : Type 0} (w : WorktreeOf W) (path : List ℕ) where
   -- a directory is made behind a removal
   pub prepares-removed : {w0 w1 w2 : W} {calls0 calls1 : ℕ} {result : Result MakeAnswer ReadError} → ((t : Names) → w.told w0 ≡ Some t → IsTree (directory t)) → Changes w w0 w1
-      → ((t : Names) → w.told w0 ≡ Some t → w.told w1 ≡ Some (after_remove t (spot t path false)))
-      → Prepares w w1 w2 false path (λ t. making (w.precomposes w1) t path calls0) calls0 calls1 (calls0 + 1) (λ n. n ≡ one_more calls0) result
-      → Prepares w w0 w2 true path (λ t. unlinking true (w.precomposes w0) t path calls0) calls0 calls1 (calls0 + 1) (IsAskedOnce calls0) result
-  prepares-removed {w0} {w1} {w2} {calls0} {calls1} {result} tree first removed made = record {
+      → w.faults w1 ≡ w.faults w0 → ((t : Names) → w.told w0 ≡ Some t → w.told w1 ≡ Some (after_remove t (spot t path false)))
+      → Prepares w w1 w2 false path (λ t. making (w.precomposes w1) t path calls0) calls0 calls1 (calls0 + 1) (one_more calls0) (λ n. n ≡ one_more calls0) result
+      → Prepares w w0 w2 true path (λ t. unlinking true (w.precomposes w0) t path calls0) calls0 calls1 (calls0 + 1) (one_more calls0) (IsAskedOnce calls0) result
+  prepares-removed {w0} {w1} {w2} {calls0} {calls1} {result} tree first unfaulted removed made = record {
     done = λ t told. outcome-same result _ _ (w.told w2) calls1 (ap (λ b. making b (after_remove t (spot t path false)) path calls0) first.precomposes)
         (made.done (after_remove t (spot t path false)) (removed t told));
     there = λ t told keeps. IfOk-weaker result _ _ (λ answer there is. subst (λ b. LeadsToDirectory (making b (after_remove t (spot t path false)) path calls0).tree path) first.precomposes (there is))
         (made.there (after_remove t (spot t path false)) (removed t told) (subst (λ b. KeepsName b path) (sym first.precomposes) keeps));
     partly = λ t told. on_err_weaker result (left t) (made.partly (after_remove t (spot t path false)) (removed t told));
     cause = λ is. rose-earlier (w.faults w0) (w.faults w1) (w.faults w2) first.faults (made.cause is);
+    unfaulted = on_ok result (λ e. e ∙ unfaulted) made.unfaulted;
     calls = made.calls;
     most_calls = made.most_calls;
     asked = inr made.asked;
@@ -186,22 +193,23 @@ module _ {W : Type 0} (w : WorktreeOf W) (path : List ℕ) where
         (replaced-plain (made.changed (after_remove t (spot t path false)) now (removed t told) told1 (subst (λ b. KeepsName b path) (sym first.precomposes) keeps)));
   }
     where
-      left : (t : Names) → IsPartly false (after_remove t (spot t path false)) path (w.told w2) → IsPartly true t path (w.told w2)
+      left : (t : Names) → IsPartly false (after_remove t (spot t path false)) path calls1 (one_more calls0) (w.told w2) → IsPartly true t path calls1 (one_more calls0) (w.told w2)
       left t partly = elim partly [
-        | inl is ↦ inr (refl, is)
-        | inr (never, is) ↦ absurd (cc never)
+        | inl is ↦ inr (refl, made.asked, is)
+        | inr (never, counted, is) ↦ absurd (cc never)
       ]
 
   -- a step behind others that left the tree as it was
-  pub prepares-behind : {w0 w1 w2 : W} {calls0 calls1 calls2 middle most : ℕ} {Asked Before : ℕ → Type 0} {result : Result MakeAnswer ReadError} (unlinks : Bool) (outcome before : Names → Prepared) → Changes w w0 w1
-      → ((t : Names) → w.told w0 ≡ Some t → (w.told w1 ≡ Some t) × (outcome t ≡ before t)) → calls0 ≤ calls1 → middle ≤ most → ((n : ℕ) → Asked n → Before n)
-      → Prepares w w1 w2 unlinks path outcome calls1 calls2 middle Asked result → Prepares w w0 w2 unlinks path before calls0 calls2 most Before result
-  prepares-behind {w0} {w1} {w2} {calls0} {calls1} {calls2} {middle} {most} {Asked} {Before} {result} unlinks outcome before first same begun less also next = record {
+  pub prepares-behind : {w0 w1 w2 : W} {calls0 calls1 calls2 middle most again : ℕ} {Asked Before : ℕ → Type 0} {result : Result MakeAnswer ReadError} (unlinks : Bool) (outcome before : Names → Prepared) → Changes w w0 w1
+      → w.faults w1 ≡ w.faults w0 → ((t : Names) → w.told w0 ≡ Some t → (w.told w1 ≡ Some t) × (outcome t ≡ before t)) → calls0 ≤ calls1 → middle ≤ most → ((n : ℕ) → Asked n → Before n)
+      → Prepares w w1 w2 unlinks path outcome calls1 calls2 middle again Asked result → Prepares w w0 w2 unlinks path before calls0 calls2 most again Before result
+  prepares-behind {w0} {w1} {w2} {calls0} {calls1} {calls2} {middle} {most} {again} {Asked} {Before} {result} unlinks outcome before first unfaulted same begun less also next = record {
     done = λ t told. outcome-same result _ _ (w.told w2) calls2 (same t told).1 (next.done t (same t told).0);
     there = λ t told keeps. IfOk-weaker result _ _ (λ answer leads is. subst (λ (p : Prepared). LeadsToDirectory p.tree path) (same t told).1 (leads is))
         (next.there t (same t told).0 (subst (λ b. KeepsName b path) (sym first.precomposes) keeps));
     partly = λ t told. next.partly t (same t told).0;
     cause = λ is. rose-earlier (w.faults w0) (w.faults w1) (w.faults w2) first.faults (next.cause is);
+    unfaulted = on_ok result (λ e. e ∙ unfaulted) next.unfaulted;
     calls = omega (arith, begun, next.calls);
     most_calls = omega (arith, less, next.most_calls);
     asked = also calls2 next.asked;
@@ -210,16 +218,17 @@ module _ {W : Type 0} (w : WorktreeOf W) (path : List ℕ) where
   }
 
   -- a call that fails leaves what was, and where nothing may be removed no more is said of it
-  pub prepares-more : {w0 w1 : W} {calls0 calls1 most : ℕ} {Asked : ℕ → Type 0} {result : Result MakeAnswer ReadError} (unlinks : Bool) (outcome : Names → Prepared)
-      → Prepares w w0 w1 false path outcome calls0 calls1 most Asked result → Prepares w w0 w1 unlinks path outcome calls0 calls1 most Asked result
-  prepares-more {w0} {w1} {calls0} {calls1} {most} {Asked} {result} unlinks outcome made = record {
+  pub prepares-more : {w0 w1 : W} {calls0 calls1 most again : ℕ} {Asked : ℕ → Type 0} {result : Result MakeAnswer ReadError} (unlinks : Bool) (outcome : Names → Prepared)
+      → Prepares w w0 w1 false path outcome calls0 calls1 most again Asked result → Prepares w w0 w1 unlinks path outcome calls0 calls1 most again Asked result
+  prepares-more {w0} {w1} {calls0} {calls1} {most} {again} {Asked} {result} unlinks outcome made = record {
     done = made.done;
     there = made.there;
-    partly = λ t told. on_err_weaker result (λ (partly : IsPartly false t path (w.told w1)). elim partly [
+    partly = λ t told. on_err_weaker result (λ (partly : IsPartly false t path calls1 again (w.told w1)). elim partly [
       | inl is ↦ inl is
-      | inr (never, is) ↦ absurd (cc never)
+      | inr (never, counted, is) ↦ absurd (cc never)
     ]) (made.partly t told);
     cause = made.cause;
+    unfaulted = made.unfaulted;
     calls = made.calls;
     most_calls = made.most_calls;
     asked = made.asked;
@@ -228,17 +237,18 @@ module _ {W : Type 0} (w : WorktreeOf W) (path : List ℕ) where
   }
 
   -- nothing is made, and the tree stays
-  pub prepares-nothing : {w0 w1 : W} (calls : ℕ) (answer : MakeAnswer) (unlinks : Bool) (outcome : Names → Prepared) → Changes w w0 w1 → w.told w1 ≡ w.told w0
+  pub prepares-nothing : {w0 w1 : W} (calls : ℕ) (answer : MakeAnswer) (unlinks : Bool) (outcome : Names → Prepared) → Changes w w0 w1 → w.faults w1 ≡ w.faults w0 → w.told w1 ≡ w.told w0
       → ((t : Names) → w.told w0 ≡ Some t → outcome t ≡ record { answer = answer; tree = t; calls = calls })
       → ((t : Names) → w.told w0 ≡ Some t → answer ≡ makes.Made → LeadsToDirectory t path)
-      → Prepares w w0 w1 unlinks path outcome calls calls (calls + 1) (IsAskedOnce calls) (Ok answer)
-  prepares-nothing {w0} {w1} calls answer unlinks outcome changes told_is same leads = record {
+      → Prepares w w0 w1 unlinks path outcome calls calls (calls + 1) (one_more calls) (IsAskedOnce calls) (Ok answer)
+  prepares-nothing {w0} {w1} calls answer unlinks outcome changes unfaulted told_is same leads = record {
     done = λ t told.
         let is : outcome t ≡ record { answer = answer; tree = t; calls = calls } = same t told in
         record { answer_is = sym (ap (λ (p : Prepared). p.answer) is); tree_is = told_is ∙ told ∙ sym (ap (λ (p : Prepared). Some p.tree) is); calls_are = sym (ap (λ (p : Prepared). p.calls) is) };
     there = λ t told keeps is. subst (λ (tree : Names). LeadsToDirectory tree path) (sym (ap (λ (p : Prepared). p.tree) (same t told))) (leads t told is);
     partly = λ t told. tt;
     cause = λ is. absurd (is-answer answer _ is);
+    unfaulted = unfaulted;
     calls = omega arith;
     most_calls = omega arith;
     asked = inl refl;
@@ -248,12 +258,13 @@ module _ {W : Type 0} (w : WorktreeOf W) (path : List ℕ) where
 
   -- a directory that is to be there is refused
   pub creates-refused : {w0 w1 : W} {calls0 calls1 : ℕ} {result : Result MakeAnswer ReadError} {unlinks : Bool} {outcome : Names → Prepared} (error : AtPathError)
-      → Prepares w w0 w1 unlinks path outcome calls0 calls1 (calls0 + 2) (IsAsked calls0) result
+      → Prepares w w0 w1 unlinks path outcome calls0 calls1 (calls0 + 2) (one_more (one_more calls0)) (IsAsked calls0) result
       → NoDirectory w w0 w1 unlinks path calls0 calls1 error → Creates w w0 w1 unlinks path calls0 calls1 (Err error)
   creates-refused error prepares refused = record {
     made = λ t told. tt;
     there = λ t told keeps. tt;
     refused = refused;
+    unfaulted = tt;
     asked = prepares.asked;
     calls = prepares.calls;
     most_calls = prepares.most_calls;

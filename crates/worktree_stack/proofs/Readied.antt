@@ -42,6 +42,7 @@ module _ {W : Type 0} (w : WorktreeOf W) (way : Way) (is_link protects : Bool) (
         made = λ t told. tt;
         there = λ t told wanted keeps. tt;
         refused = (bad, refl, refl);
+        unfaulted = tt;
         least = omega arith;
         most = omega arith;
         changes = record { untold = λ none. none; faults = omega arith; list_faults = refl; reads = refl; lists = refl; precomposes = refl };
@@ -63,6 +64,7 @@ module _ {W : Type 0} (w : WorktreeOf W) (way : Way) (is_link protects : Bool) (
             subst (λ (p : List ℕ). LeadsToDirectory (pushed_out way (unchanged t (mkdirs old)) (spelled old.current) is_last).tree p) path_is (subst (λ (p : Prepared). LeadsToDirectory p.tree path) (sym (here t)) leads))
             (creates.there t told (kept keeps));
         refused = refused r creates.refused;
+        unfaulted = creates.unfaulted;
         least = omega (arith, creates.calls, calls0_is);
         most = omega (arith, creates.most_calls, calls0_is, ap {B = ℕ} (λ b. if b then 1 else 0) wanted);
         changes = creates.changes;

@@ -58,9 +58,10 @@ pub record IsOutcome (outcome : Prepared) (told : Option Names) (calls : ℕ) (a
   pub tree_is : told ≡ Some outcome.tree
   pub calls_are : calls ≡ outcome.calls
 
--- a tree in which a failure or want of memory left a path: as it was, or, where that is asked for, without what was in the way
-abbrev pub IsPartly : Bool → Names → List ℕ → Option Names → Type 0
-IsPartly unlinks t path told = (told ≡ Some t) ⊎ ((unlinks ≡ true) × (told ≡ Some (after_remove t (spot t path false))))
+-- A tree in which a failure or want of memory left a path: as it was, or, where that is asked for, without what was in the way. That is
+-- gone only where a directory was asked to be made once more behind it, so that as many are counted as `again`.
+abbrev pub IsPartly : Bool → Names → List ℕ → ℕ → ℕ → Option Names → Type 0
+IsPartly unlinks t path calls again told = (told ≡ Some t) ⊎ ((unlinks ≡ true) × (calls ≡ again) × (told ≡ Some (after_remove t (spot t path false))))
 
 -- What stays of a worktree in which directories are made and nodes removed, and what does not fall.
 pub record Changes {W : Type 0} (w : WorktreeOf W) (before now : W) : Type 0 where
@@ -93,13 +94,15 @@ abbrev pub IsAsked : ℕ → ℕ → Type 0
 IsAsked calls0 calls1 = (calls1 ≡ one_more calls0) ⊎ (calls1 ≡ one_more (one_more calls0))
 
 -- What is made of a worktree that was `w0` and is `w1`, and of a count, where a directory is to be at a path. Over a told tree it is
--- the outcome that the tree gives, unless there was a failure, which comes only where it was counted, or no memory.
+-- the outcome that the tree gives, unless there was a failure, which comes only where it was counted, or no memory. An answer hides no
+-- failure.
 pub record Prepares {W : Type 0} (w : WorktreeOf W) (w0 w1 : W) (unlinks : Bool) (path : List ℕ) (outcome : Names → Prepared)
-    (calls0 calls1 most : ℕ) (Asked : ℕ → Type 0) (result : Result MakeAnswer ReadError) : Type 0 where
+    (calls0 calls1 most again : ℕ) (Asked : ℕ → Type 0) (result : Result MakeAnswer ReadError) : Type 0 where
   pub done : (t : Names) → w.told w0 ≡ Some t → IfOk result (IsOutcome (outcome t) (w.told w1) calls1)
   pub there : (t : Names) → w.told w0 ≡ Some t → KeepsName (w.precomposes w0) path → IfOk result (λ answer. answer ≡ makes.Made → LeadsToDirectory (outcome t).tree path)
-  pub partly : (t : Names) → w.told w0 ≡ Some t → OnErr result (IsPartly unlinks t path (w.told w1))
+  pub partly : (t : Names) → w.told w0 ≡ Some t → OnErr result (IsPartly unlinks t path calls1 again (w.told w1))
   pub cause : IsErrOf result read_errors.Fault → Increased (w.faults w0) (w.faults w1)
+  pub unfaulted : OnOk result (w.faults w1 ≡ w.faults w0)
   pub calls : calls0 ≤ calls1
   pub most_calls : calls1 ≤ most
   pub asked : Asked calls1
@@ -119,22 +122,24 @@ OnNoDirectory Collision NoParent Fault Memory (errors.Blob id why) = ⊥
 OnNoDirectory Collision NoParent Fault Memory errors.OutOfMemory = Memory
 
 -- Why a directory that is to be at a path is not there, where a worktree was `w0` and is `w1`: over a told tree that is what the tree
--- gives, and after a failure, which was counted, or for want of memory what was in the way may be gone. It was asked to be made.
+-- gives, which hides no failure; and after a failure, which was counted, or for want of memory what was in the way may be gone, if it was asked to be made
+-- twice. It was asked to be made.
 abbrev pub NoDirectory : {W : Type 0} → WorktreeOf W → W → W → Bool → List ℕ → ℕ → ℕ → AtPathError → Type 0
 NoDirectory w w0 w1 unlinks path calls0 calls1 error =
     IsAsked calls0 calls1
     × OnNoDirectory
-    (λ at. (at ≡ path) × ((t : Names) → w.told w0 ≡ Some t → IsOutcome (prepared unlinks (w.precomposes w0) t path calls0) (w.told w1) calls1 makes.Exists))
-    (λ at. (at ≡ path) × ((t : Names) → w.told w0 ≡ Some t → IsOutcome (prepared unlinks (w.precomposes w0) t path calls0) (w.told w1) calls1 makes.NoParent))
-    (λ at. (at ≡ path) × Increased (w.faults w0) (w.faults w1) × ((t : Names) → w.told w0 ≡ Some t → IsPartly unlinks t path (w.told w1)))
-    ((t : Names) → w.told w0 ≡ Some t → IsPartly unlinks t path (w.told w1) ⊎ (w.told w1 ≡ Some (prepared unlinks (w.precomposes w0) t path calls0).tree))
+    (λ at. (at ≡ path) × (w.faults w1 ≡ w.faults w0) × ((t : Names) → w.told w0 ≡ Some t → IsOutcome (prepared unlinks (w.precomposes w0) t path calls0) (w.told w1) calls1 makes.Exists))
+    (λ at. (at ≡ path) × (w.faults w1 ≡ w.faults w0) × ((t : Names) → w.told w0 ≡ Some t → IsOutcome (prepared unlinks (w.precomposes w0) t path calls0) (w.told w1) calls1 makes.NoParent))
+    (λ at. (at ≡ path) × Increased (w.faults w0) (w.faults w1) × ((t : Names) → w.told w0 ≡ Some t → IsPartly unlinks t path calls1 (one_more (one_more calls0)) (w.told w1)))
+    ((t : Names) → w.told w0 ≡ Some t → IsPartly unlinks t path calls1 (one_more (one_more calls0)) (w.told w1) ⊎ (w.told w1 ≡ Some (prepared unlinks (w.precomposes w0) t path calls0).tree))
     error
 
--- What comes of a directory that is to be at a path in a checkout: it is there, or is refused.
+-- What comes of a directory that is to be at a path in a checkout: it is there, and no call failed on the way, or it is refused.
 pub record Creates {W : Type 0} (w : WorktreeOf W) (w0 w1 : W) (unlinks : Bool) (path : List ℕ) (calls0 calls1 : ℕ) (result : Result (Unit {0}) AtPathError) : Type 0 where
   pub made : (t : Names) → w.told w0 ≡ Some t → OnOk result (IsOutcome (prepared unlinks (w.precomposes w0) t path calls0) (w.told w1) calls1 makes.Made)
   pub there : (t : Names) → w.told w0 ≡ Some t → KeepsName (w.precomposes w0) path → OnOk result (LeadsToDirectory (prepared unlinks (w.precomposes w0) t path calls0).tree path)
   pub refused : IfErr result (NoDirectory w w0 w1 unlinks path calls0 calls1)
+  pub unfaulted : OnOk result (w.faults w1 ≡ w.faults w0)
   pub asked : IsAsked calls0 calls1
   pub calls : calls0 ≤ calls1
   pub most_calls : calls1 ≤ calls0 + 2

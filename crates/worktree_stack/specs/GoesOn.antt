@@ -44,6 +44,7 @@ pub record Readies {W : Type 0} (w : WorktreeOf W) (w0 w1 : W) (way : Way) (is_l
   pub there : (t : Names) → w.told w0 ≡ Some t → is_made way is_last ≡ true → KeepsName way.composes (full_path way.root (spelled old.current))
       → OnOk result (LeadsToDirectory (pushed_out way (unchanged t (mkdirs old)) (spelled old.current) is_last).tree (full_path way.root (spelled old.current)))
   pub refused : IfErr result (NotReady w w0 w1 way is_link protects (mkdirs old) (mkdirs new) name (full_path way.root (spelled old.current)) is_last)
+  pub unfaulted : OnOk result (w.faults w1 ≡ w.faults w0)
   pub least : mkdirs old ≤ mkdirs new
   pub most : mkdirs new ≤ mkdirs old + 2 * (if is_made way is_last then 1 else 0)
   pub changes : Changes w w0 w1
@@ -62,6 +63,7 @@ pub record PushesOut {W : Type 0} (w : WorktreeOf W) (w0 w1 : W) (way : Way) (is
   pub refused : IfErr result (λ e. ((e ≡ errors.OutOfMemory) × (w1 ≡ w0) × (new ≡ record old { current = deepest_names old.at }))
       ⊎ ((new ≡ record (with_mkdirs (stepped old name) (mkdirs new)) { current = deepest_names old.at })
       × NotReady w w0 w1 way is_link protects (mkdirs old) (mkdirs new) name (full_path way.root (spelled (deepest_names old.at ++ name ∷ []))) is_last e))
+  pub unfaulted : OnOk result (w.faults w1 ≡ w.faults w0)
   pub least : mkdirs old ≤ mkdirs new
   pub most : mkdirs new ≤ mkdirs old + 2 * (if is_made way is_last then 1 else 0)
   pub changes : Changes w w0 w1

@@ -19,8 +19,11 @@ use worktree_fs::{MakeAnswer, NodeKind, ReadError, Worktree};
 ///
 /// - `Collision`: a node that is no directory is there, and may not be removed; or one came there meanwhile.
 /// - `Directory` with `NoParent`: there is no directory above the path.
-/// - `Directory` with `Fault`: the worktree failed, which it counted. What was in the way may be gone then.
+/// - `Directory` with `Fault`: the worktree failed, which it counted.
 /// - `OutOfMemory`: memory is refused.
+///
+/// After the last two what was in the way may be gone, where it was to be removed and a directory was asked for twice. An answer
+/// hides no fault: where a directory is there, none was counted.
 ///
 /// See docs/DECISIONS.md#checkout-delegate.
 pub fn create_leading_directory<W: Worktree>(
@@ -74,7 +77,7 @@ fn prepare<W: Worktree>(
     ensures { Prepares W.Worktree worktree.old worktree.new unlink_on_collision path.now
         (λ t. prepared unlink_on_collision (W.precomposes worktree.old) t path.now
         mkdir_calls.old) mkdir_calls.old mkdir_calls.new (mkdir_calls.old + 2)
-        (IsAsked mkdir_calls.old) result }
+        (one_more (one_more mkdir_calls.old)) (IsAsked mkdir_calls.old) result }
 {
     match make_dir(alloc, path, worktree, mkdir_calls)? {
         MakeAnswer::Exists => collide(alloc, path, unlink_on_collision, worktree, mkdir_calls),
@@ -94,7 +97,7 @@ fn collide<W: Worktree>(
     ensures { Prepares W.Worktree worktree.old worktree.new unlink_on_collision path.now
         (λ t. colliding unlink_on_collision (W.precomposes worktree.old) t path.now mkdir_calls.old
         (kind_of (look t path.now false))) mkdir_calls.old mkdir_calls.new
-        (mkdir_calls.old + 1) (IsAskedOnce mkdir_calls.old) result }
+        (mkdir_calls.old + 1) (one_more mkdir_calls.old) (IsAskedOnce mkdir_calls.old) result }
 {
     let Some(kind) = worktree.kind(alloc, path)? else {
         return make_dir(alloc, path, worktree, mkdir_calls);
@@ -116,7 +119,7 @@ fn unlink<W: Worktree>(
     ensures { Prepares W.Worktree worktree.old worktree.new unlink_on_collision path.now
         (λ t. unlinking unlink_on_collision (W.precomposes worktree.old) t path.now
         mkdir_calls.old) mkdir_calls.old mkdir_calls.new (mkdir_calls.old + 1)
-        (IsAskedOnce mkdir_calls.old) result }
+        (one_more mkdir_calls.old) (IsAskedOnce mkdir_calls.old) result }
 {
     if !unlink_on_collision {
         return Ok(MakeAnswer::Exists);
@@ -134,7 +137,8 @@ fn make_dir<W: Worktree>(
 ) -> Result<MakeAnswer, ReadError>
     ensures { Prepares W.Worktree worktree.old worktree.new false path.now
         (λ t. making (W.precomposes worktree.old) t path.now mkdir_calls.old) mkdir_calls.old
-        mkdir_calls.new (mkdir_calls.old + 1) (λ n. n ≡ one_more mkdir_calls.old) result }
+        mkdir_calls.new (mkdir_calls.old + 1) (one_more mkdir_calls.old)
+        (λ n. n ≡ one_more mkdir_calls.old) result }
 {
     *mkdir_calls = mkdir_calls.saturating_add(1);
     worktree.make_dir(alloc, path)

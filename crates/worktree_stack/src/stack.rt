@@ -359,6 +359,8 @@ impl Stack {
     /// After `RulesFile` and `Blob` the directories above that one are pushed, and after `OutOfMemory` those up to some directory on
     /// the way; the next lookup goes on from there, and reads the information file where the root is still to be pushed. After any of these `platform` may not be asked until a lookup is answered.
     ///
+    /// An answered lookup hides no fault: the worktree and the store have counted none.
+    ///
     /// See docs/DIFFERENCES.md#gix-at-path.
     pub fn at_path<W: Worktree, F: Find>(
         &mut self,
@@ -380,6 +382,8 @@ impl Stack {
         ensures leaves { Leaves (keeps_tree (made_of self.old)) W.Worktree worktree.old
             worktree.new }
         ensures leaves_store { AsksStore F.Find objects.old objects.new }
+        ensures unfaulted { OnOk result (W.faults worktree.new ≡ W.faults worktree.old) }
+        ensures unfaulted_store { OnOk result (F.faults objects.new ≡ F.faults objects.old) }
     {
         self.count_platform();
         if !is_normal(relative) {
@@ -421,6 +425,8 @@ impl Stack {
         ensures leaves { Leaves (keeps_tree (made_of self.old)) W.Worktree worktree.old
             worktree.new }
         ensures leaves_store { AsksStore F.Find objects.old objects.new }
+        ensures unfaulted { OnOk result (W.faults worktree.new ≡ W.faults worktree.old) }
+        ensures unfaulted_store { OnOk result (F.faults objects.new ≡ F.faults objects.old) }
     {
         self.at_path(
             alloc,

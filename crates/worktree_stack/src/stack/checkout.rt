@@ -106,6 +106,8 @@ impl Stack {
         ensures keeps { KeepsOn W.Worktree F.Find worktree.old worktree.new objects.old
             (way_of checkout (W.precomposes worktree.old) self.old.root (is_dir_of mode))
             (name.now ∷ []) self.old self.new result }
+        ensures unfaulted { OnOk result (W.faults worktree.new ≡ W.faults worktree.old) }
+        ensures unfaulted_store { OnOk result (F.faults objects.new ≡ F.faults objects.old) }
     {
         self.push_out(alloc, name, false, checkout, mode, worktree)?;
         self.push_directory(alloc, worktree, objects)
@@ -141,6 +143,8 @@ impl Stack {
         ensures last { LeavesLast W.Worktree worktree.new
             (way_of checkout (W.precomposes worktree.old) self.old.root (is_dir_of mode))
             (deepest_names self.old.at) (components left.now) result }
+        ensures unfaulted { OnOk result (W.faults worktree.new ≡ W.faults worktree.old) }
+        ensures unfaulted_store { OnOk result (F.faults objects.new ≡ F.faults objects.old) }
     {
         let mut rest = left;
         while let Some(next) = next_component(rest) {
@@ -179,6 +183,8 @@ impl Stack {
             objects.new (way_of checkout (W.precomposes worktree.old) self.old.root
             (is_dir_of mode)) (components relative.now)
             (left_of self.old.at (components relative.now)) self.old self.new result }
+        ensures unfaulted { OnOk result (W.faults worktree.new ≡ W.faults worktree.old) }
+        ensures unfaulted_store { OnOk result (F.faults objects.new ≡ F.faults objects.old) }
     {
         self.push_root(alloc, worktree, objects)?;
         self.pop_surplus(relative);

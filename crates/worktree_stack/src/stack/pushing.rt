@@ -40,6 +40,8 @@ impl Stack {
         ensures reads { Reads W.Worktree F.Find worktree.old worktree.new objects.old objects.new
             (ignore_readings (made_of self.old) (made_of self.old).ignore
             (spelled self.old.current)) self.old.statistics self.new.statistics result }
+        ensures unfaulted { OnOk result (W.faults worktree.new ≡ W.faults worktree.old) }
+        ensures unfaulted_store { OnOk result (F.faults objects.new ≡ F.faults objects.old) }
     {
         let Some(ignore) = self.state.ignore() else {
             return Ok(List::new(alloc));
@@ -91,6 +93,8 @@ impl Stack {
         ensures reads { Reads W.Worktree F.Find worktree.old worktree.new objects.old objects.new
             (ignore_readings (made_of self.old) (made_of self.old).ignore
             (spelled self.old.current)) self.old.statistics self.new.statistics result }
+        ensures unfaulted { OnOk result (W.faults worktree.new ≡ W.faults worktree.old) }
+        ensures unfaulted_store { OnOk result (F.faults objects.new ≡ F.faults objects.old) }
     {
         if !self.has_excludes() {
             return Ok(());
@@ -126,6 +130,8 @@ impl Stack {
         ensures reads { Reads W.Worktree F.Find worktree.old worktree.new objects.old objects.new
             (own_readings (made_of self.old) (made_of self.old).attributes
             (spelled self.old.current)) self.old.statistics self.new.statistics result }
+        ensures unfaulted { OnOk result (W.faults worktree.new ≡ W.faults worktree.old) }
+        ensures unfaulted_store { OnOk result (F.faults objects.new ≡ F.faults objects.old) }
     {
         let Some(attributes) = self.state.attributes() else {
             return Ok(());
@@ -186,6 +192,8 @@ impl Stack {
         ensures reads { Reads W.Worktree F.Find worktree.old worktree.new objects.old objects.new
             (info_readings_if (made_of self.old).attributes (spelled self.old.current))
             self.old.statistics self.new.statistics result }
+        ensures unfaulted { OnOk result (W.faults worktree.new ≡ W.faults worktree.old) }
+        ensures unfaulted_store { OnOk result (F.faults objects.new ≡ F.faults objects.old) }
     {
         let Some(attributes) = self.state.attributes() else {
             return Ok(());
@@ -237,6 +245,8 @@ impl Stack {
         ensures reads { Reads W.Worktree F.Find worktree.old worktree.new objects.old objects.new
             (attribute_readings (made_of self.old) (made_of self.old).attributes
             (spelled self.old.current)) self.old.statistics self.new.statistics result }
+        ensures unfaulted { OnOk result (W.faults worktree.new ≡ W.faults worktree.old) }
+        ensures unfaulted_store { OnOk result (F.faults objects.new ≡ F.faults objects.old) }
     {
         self.push_own(alloc, worktree, objects)?;
         if let Err(refused) = self.push_info(alloc, worktree, objects) {
@@ -279,6 +289,8 @@ impl Stack {
         ensures reads { Reads W.Worktree F.Find worktree.old worktree.new objects.old objects.new
             (readings_of (made_of self.old) (spelled self.old.current)) self.old.statistics
             self.new.statistics result }
+        ensures unfaulted { OnOk result (W.faults worktree.new ≡ W.faults worktree.old) }
+        ensures unfaulted_store { OnOk result (F.faults objects.new ≡ F.faults objects.old) }
     {
         self.count_push();
         self.push_attributes(alloc, worktree, objects)?;

@@ -49,6 +49,8 @@ pub(super) fn read_text<W: Worktree, F: Find>(
     ensures leaves_store { AsksStore F.Find objects.old objects.new }
     ensures reads { W.reads worktree.new ≤ W.reads worktree.old + files_in
         (places_by order whole.now path.now) }
+    ensures unfaulted { OnOk result (W.faults worktree.new ≡ W.faults worktree.old) }
+    ensures unfaulted_store { OnOk result (F.faults objects.new ≡ F.faults objects.old) }
 {
     match order {
         Order::Nowhere => Ok(None),
@@ -91,6 +93,7 @@ fn read_file<W: Worktree>(
         follow statistics.old statistics.new)) }
     ensures leaves { Asks W.Worktree worktree.old worktree.new }
     ensures reads { W.reads worktree.new ≤ W.reads worktree.old + 1 }
+    ensures unfaulted { OnOk result (W.faults worktree.new ≡ W.faults worktree.old) }
 {
     let why = match worktree.read(alloc, path, follow, buffer) {
         Ok(ReadAnswer::Read) => {
@@ -134,6 +137,7 @@ fn read_blob<F: Find>(
         ((statistics.new ≡ statistics.old) ⊎ CountsBlob (F.holds objects.old) id statistics.old
         statistics.new)) }
     ensures leaves { AsksStore F.Find objects.old objects.new }
+    ensures unfaulted_store { OnOk result (F.faults objects.new ≡ F.faults objects.old) }
 {
     let why = match objects.find_blob(alloc, &id, buffer) {
         Ok(Found::Blob) => {

@@ -127,6 +127,8 @@ impl Stack {
             (places_in (readings_of (made_of self.old) (spelled self.old.current))) }
         ensures reads { has_attributes (made_of self.old) ≡ false
             → W.reads worktree.new ≤ W.reads worktree.old + 1 }
+        ensures unfaulted { OnOk result (W.faults worktree.new ≡ W.faults worktree.old) }
+        ensures unfaulted_store { OnOk result (F.faults objects.new ≡ F.faults objects.old) }
     {
         if let Err(refused) = self.push_rules(alloc, worktree, objects) {
             self.leave();
@@ -203,6 +205,8 @@ impl Stack {
         ensures reads { has_attributes (made_of self.old) ≡ false
             → W.reads worktree.new ≤ W.reads worktree.old + length
             (root_calls self.old.at) }
+        ensures unfaulted { OnOk result (W.faults worktree.new ≡ W.faults worktree.old) }
+        ensures unfaulted_store { OnOk result (F.faults objects.new ≡ F.faults objects.old) }
     {
         if self.is_root_pushed() {
             return Ok(());
@@ -244,6 +248,8 @@ impl Stack {
             (made_of self.old) (calls_for (deepest_names self.old.at) name.now false) }
         ensures reads { has_attributes (made_of self.old) ≡ false
             → W.reads worktree.new ≤ W.reads worktree.old + 1 }
+        ensures unfaulted { OnOk result (W.faults worktree.new ≡ W.faults worktree.old) }
+        ensures unfaulted_store { OnOk result (F.faults objects.new ≡ F.faults objects.old) }
     {
         self.push(alloc, name)?;
         self.push_directory(alloc, worktree, objects)
@@ -287,6 +293,8 @@ impl Stack {
         ensures reads { has_attributes (made_of self.old) ≡ false
             → W.reads worktree.new + length (deepest_names self.old.at) ≤ W.reads
             worktree.old + length (deepest_names self.new.at) + refused_one result }
+        ensures unfaulted { OnOk result (W.faults worktree.new ≡ W.faults worktree.old) }
+        ensures unfaulted_store { OnOk result (F.faults objects.new ≡ F.faults objects.old) }
     {
         let mut rest = left;
         while let Some(next) = next_component(rest) {
@@ -336,6 +344,8 @@ impl Stack {
             → W.reads worktree.new + length
             (pushed (staying self.old.at (components relative.now))) ≤ W.reads worktree.old + length
             (pushed self.new.at) + refused_one result }
+        ensures unfaulted { OnOk result (W.faults worktree.new ≡ W.faults worktree.old) }
+        ensures unfaulted_store { OnOk result (F.faults objects.new ≡ F.faults objects.old) }
     {
         self.push_root(alloc, worktree, objects)?;
         self.pop_surplus(relative);

@@ -15,6 +15,7 @@ returns-in_err-kind g c =
       there = λ t told keeps. tt;
       partly = λ t told. inl (now.tree ∙ told);
       cause = λ is. now.cause (met-error _ _ is);
+      unfaulted = tt;
       calls = omega arith;
       most_calls = omega arith;
       asked = inl refl;
@@ -29,7 +30,7 @@ returns-in-Directory g c =
     let now = c.in_ok-kind.ensures in
     prepares-nothing W a.path.now a.mkdir_calls.now makes.Made a.unlink_on_collision _
     (record { untold = λ none. now.tree ∙ none; faults = now.faults; list_faults = now.list_faults; reads = now.reads; lists = now.lists; precomposes = now.precomposes })
-    now.tree
+    now.unfaulted now.tree
     (λ t told. ap (colliding a.unlink_on_collision (W.precomposes a.worktree.now) t a.path.now a.mkdir_calls.now) (sym (now.answer t told) ∙ c.in-Some.is ∙ ap Some c.in-Directory.is))
     (λ t told is. directory-leads t a.path.now (sym (now.answer t told) ∙ c.in-Some.is ∙ ap Some c.in-Directory.is))
 
@@ -40,6 +41,7 @@ returns-in_default g c =
     let now = c.in_ok-kind.ensures in
     prepares-behind W a.path.now a.unlink_on_collision _ _
     (record { untold = λ none. now.tree ∙ none; faults = now.faults; list_faults = now.list_faults; reads = now.reads; lists = now.lists; precomposes = now.precomposes })
+    now.unfaulted
     (λ t told. (
       now.tree ∙ told,
       ap (λ b. making b t a.path.now a.mkdir_calls.now) now.precomposes
@@ -55,6 +57,7 @@ returns-in_default-kind g c =
     let now = c.in_ok-kind.ensures in
     prepares-behind W a.path.now a.unlink_on_collision _ _
     (record { untold = λ none. now.tree ∙ none; faults = now.faults; list_faults = now.list_faults; reads = now.reads; lists = now.lists; precomposes = now.precomposes })
+    now.unfaulted
     (λ t told. (
       now.tree ∙ told,
       ap (λ b. unlinking a.unlink_on_collision b t a.path.now a.mkdir_calls.now) now.precomposes

@@ -16,6 +16,7 @@ returns-in-Ok-Made g c =
           met.field-0-is (met.ensures.done t told);
       there = λ t told keeps. met.ensures.there t told keeps met.field-0-is;
       refused = tt;
+      unfaulted = met.ensures.unfaulted;
       asked = c.prepare.ensures.asked;
       calls = c.prepare.ensures.calls;
       most_calls = c.prepare.ensures.most_calls;
@@ -35,6 +36,7 @@ returns-in-Ok-Exists g c =
         c.prepare.ensures.asked,
         (
           refl,
+          met.ensures.unfaulted,
           λ t told. subst (λ (answer : MakeAnswer). IsOutcome (prepared a.unlink_on_collision (W.precomposes a.worktree.now) t a.path.now a.mkdir_calls.now) (W.told c.prepare.new.worktree) c.prepare.new.mkdir_calls answer)
               met.field-0-is (met.ensures.done t told),
         ),
@@ -54,6 +56,7 @@ returns-in-Ok-NoParent g c =
         c.prepare.ensures.asked,
         (
           refl,
+          met.ensures.unfaulted,
           λ t told. subst (λ (answer : MakeAnswer). IsOutcome (prepared a.unlink_on_collision (W.precomposes a.worktree.now) t a.path.now a.mkdir_calls.now) (W.told c.prepare.new.worktree) c.prepare.new.mkdir_calls answer)
               met.field-0-is (met.ensures.done t told),
         ),

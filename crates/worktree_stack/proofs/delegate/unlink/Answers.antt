@@ -10,7 +10,7 @@ returns-then-not-unlink_on_collision g c =
     rw (c.if-not-unlink_on_collision.true)
     (prepares-nothing g.W.Worktree a.path.now a.mkdir_calls.now makes.Exists false _
     (record { untold = λ none. none; faults = omega arith; list_faults = refl; reads = refl; lists = refl; precomposes = refl })
-    refl (λ t told. refl) (λ t told is. absurd (cc is)))
+    refl refl (λ t told. refl) (λ t told is. absurd (cc is)))
 
 pub returns-in_err-remove_node : goal.returns-in_err-remove_node
 returns-in_err-remove_node g c =
@@ -22,6 +22,7 @@ returns-in_err-remove_node g c =
       there = λ t told keeps. tt;
       partly = λ t told. inl (now.kept ∙ told);
       cause = λ is. now.cause (met-error _ _ is);
+      unfaulted = tt;
       calls = omega arith;
       most_calls = omega arith;
       asked = inl refl;
@@ -35,4 +36,4 @@ returns g c =
     rw (c.if-not-unlink_on_collision.false)
     (prepares-removed g.W.Worktree c.args.path.now (λ t told. g.met.W.Worktree.is_tree c.args.worktree.now t told)
     (record { untold = now.untold; faults = now.faults; list_faults = now.list_faults; reads = now.reads; lists = now.lists; precomposes = now.precomposes })
-    now.removed c.make_dir.ensures)
+    now.unfaulted now.removed c.make_dir.ensures)

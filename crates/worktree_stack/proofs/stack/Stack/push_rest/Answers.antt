@@ -38,6 +38,8 @@ loop-next-init g c =
       store_untouched = λ none. refl;
       leaves = record { tree = refl; faults = omega arith; list_faults = refl; reads = omega arith; lists = refl; precomposes = refl };
       leaves_store = record { holds = refl; faults = omega arith };
+      unfaulted = refl;
+      unfaulted_store = refl;
       stays = omega arith;
       asked = omega arith;
       reads = λ alone. omega arith;
@@ -143,6 +145,8 @@ loop-next-preserved g c =
       store_untouched = λ none. c.descend.ensures.store_untouched (ap (λ (m : Made). m.mappings) before.setup ∙ none) ∙ before.store_untouched none;
       leaves = leaves-then W c.args.worktree.now c.loop-next.worktree c.descend.new.worktree before.leaves c.descend.ensures.leaves;
       leaves_store = store-then F c.args.objects.now c.loop-next.objects c.descend.new.objects before.leaves_store c.descend.ensures.leaves_store;
+      unfaulted = c.in_ok-descend.ensures.unfaulted ∙ before.unfaulted;
+      unfaulted_store = c.in_ok-descend.ensures.unfaulted_store ∙ before.unfaulted_store;
       stays = omega (arith, before.stays, ap length names_is, length-append names (name ∷ []));
       asked = omega (
         arith,

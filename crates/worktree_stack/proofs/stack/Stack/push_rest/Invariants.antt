@@ -33,6 +33,8 @@ invariant-loop-next g l =
       store_untouched : (made_of l.fn.self).mappings ≡ [] → l.objects ≡ l.fn.objects;
       leaves : Asks W l.fn.worktree l.worktree;
       leaves_store : AsksStore F l.fn.objects l.objects;
+      unfaulted : W.faults l.worktree ≡ W.faults l.fn.worktree;
+      unfaulted_store : F.faults l.objects ≡ F.faults l.fn.objects;
       stays : length names ≤ length (deepest_names l.self.at);
       asked : W.reads l.worktree ≤ W.reads l.fn.worktree + asked_on (made_of l.fn.self) made;
       reads : has_attributes (made_of l.fn.self) ≡ false → W.reads l.worktree + length names ≤ W.reads l.fn.worktree + length (deepest_names l.self.at);

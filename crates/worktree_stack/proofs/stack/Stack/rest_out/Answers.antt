@@ -37,6 +37,8 @@ loop-next-init g c =
       front = refl;
       parts = refl;
       goes = goes-nothing g.W.Worktree g.F.Find _ _ _ c.args.worktree.now c.args.objects.now c.args.self.now;
+      unfaulted = refl;
+      unfaulted_store = refl;
       stays = omega arith;
       keeps = λ s0 t t1 told holds told1 may kept keeping. subst (λ x. Keeping (made_of c.args.self.now) s0 x c.args.self.now.at c.args.self.now.attributes c.args.self.now.ignore) (some-same (sym told ∙ told1)) keeping;
     }
@@ -72,6 +74,8 @@ loop-next-preserved g c =
           ∙ ap (λ (n : List (List ℕ)). (before.done ++ calls_for names name false) ++ calls_below n more) (sym names_is);
       parts = before.parts ∙ ap (λ (l : List (List ℕ)). before.taken ++ l) c.in-Some.ensures.0 ∙ sym (append_assoc before.taken (name ∷ []) more);
       goes = goes;
+      unfaulted = c.in_ok-step_out.ensures.unfaulted ∙ before.unfaulted;
+      unfaulted_store = c.in_ok-step_out.ensures.unfaulted_store ∙ before.unfaulted_store;
       stays = omega (arith, before.stays, ap length names_is, length-append names (name ∷ []));
       keeps = λ s0 t t1 told holds told1 may kept k.
           let is : IsOutcome (checked_out way (unchanged t (mkdirs a.self.now)) before.done) (W.told c.loop-next.worktree) (mkdirs c.loop-next.self) makes.Made = before.goes.works.tree t told in

@@ -26,6 +26,8 @@ invariant-loop-next g l =
       front : calls_below names (components l.fn.left) ≡ done ++ calls_below (deepest_names l.self.at) (components l.rest);
       parts : components l.fn.left ≡ taken ++ components l.rest;
       goes : Goes W F l.fn.worktree l.worktree l.fn.objects l.objects way (is_link_of l.fn.mode) l.fn.checkout.validate.protect_windows done taken l.fn.self l.self (Ok tt);
+      unfaulted : W.faults l.worktree ≡ W.faults l.fn.worktree;
+      unfaulted_store : F.faults l.objects ≡ F.faults l.fn.objects;
       stays : length names ≤ length (deepest_names l.self.at);
       keeps : (s0 : Sources) (t t1 : Names) → W.told l.fn.worktree ≡ Some t → F.holds l.fn.objects ≡ Some s0.objects → W.told l.worktree ≡ Some t1
           → MayGoOn way (made_of l.fn.self) l.fn.self.at (components l.fn.left) → KeepsNames way (components l.fn.left) → Keeping (made_of l.fn.self) s0 t l.fn.self.at l.fn.self.attributes l.fn.self.ignore
