@@ -93,6 +93,19 @@ OnLookup-weaker P Q (errors.SymlinkMetadata path why) f h = tt
 OnLookup-weaker P Q (errors.TooDeep path) f h = tt
 OnLookup-weaker P Q errors.OutOfMemory f h = tt
 
+-- and beside what holds of the refusal itself
+pub OnLookup-beside : (P : AtPathError → Type 0) (Q : Error → Type 0) (e : Error) → Q e → OnLookup P e → OnLookup (λ a. P a × Q (errors.ExcludesAccess a)) e
+OnLookup-beside P Q errors.Interrupted q h = tt
+OnLookup-beside P Q (errors.WorktreeRootIsFile root) q h = tt
+OnLookup-beside P Q (errors.NormalizeRoot root) q h = tt
+OnLookup-beside P Q (errors.SymlinkInRoot root worktree_root index) q h = tt
+OnLookup-beside P Q (errors.ExcludesAccess e) q h = (h, q)
+OnLookup-beside P Q (errors.ReadDir path why) q h = tt
+OnLookup-beside P Q (errors.DirEntry path) q h = tt
+OnLookup-beside P Q (errors.SymlinkMetadata path why) q h = tt
+OnLookup-beside P Q (errors.TooDeep path) q h = tt
+OnLookup-beside P Q errors.OutOfMemory q h = tt
+
 pub asked-as : (n0 n1 : ℕ) (asks other : Option Kind → Bool) (on_disk : Option Kind) (e : Error) → ((k : Option Kind) → asks k ≡ other k)
     → OnLookup (IsAsked n0 n1 asks on_disk) e → OnLookup (IsAsked n0 n1 other on_disk) e
 asked-as n0 n1 asks other on_disk e same asked =

@@ -11,6 +11,7 @@ use Rattle.worktree_fs.specs.Paths.{IsComponent, is_normal, spelled}
 use Rattle.worktree_fs.specs.Tree.{none}
 use Rattle.worktree_fs.specs.declared.worktree.Worktree.{Ghosts as WorktreeOf}
 use Rattle.worktree_fs.proofs.Spelled.{grown-is, grown-components}
+use Rattle.worktree_stack.specs.declared.error.AtPathError.{AtPathError}
 use Rattle.worktree_stack.specs.Reading.{Sources}
 use Rattle.worktree_stack.specs.Setup.{Made}
 use Rattle.worktree_stack.specs.Stacked.{Stacked}
@@ -19,15 +20,16 @@ use Rattle.dir_classify.specs.Excludes.{made_with, maps_blobs, platforms_of, Tel
 use Rattle.dir_classify.specs.Kept.{AsksRules, KeepsRules, Unasked}
 use Rattle.dir_classify.specs.Layers.{Setting, evidence, is_unread_in, on_disk}
 use Rattle.dir_classify.specs.declared.error.Error.{Error}
+use Rattle.dir_classify.specs.declared.error.Error.TheVariants as errors
 use Rattle.dir_classify.specs.Class.{class as class_of, asks as asks_of, seeks as seeks_of, asks_of_kind, is_dot_git, is_indexed, is_worktree, settled_kind}
 use Rattle.dir_classify.specs.Classes.{Judges}
 use Rattle.dir_classify.specs.Question.{about_way}
 use Rattle.dir_classify.specs.Faults.{IsAsked}
 use Rattle.dir_classify.specs.Refused.{IsAbout, Refuses, OnAccess, StopsIf}
-use Rattle.dir_classify.specs.Rooted.{AsksOnWay, LeadsTo, Reaches, way_to}
+use Rattle.dir_classify.specs.Rooted.{AsksOnWay, IsRefusedOf, LeadsTo, Reaches, way_to}
 use Rattle.dir_classify.proofs.NormalPaths.{normal-front}
 use Rattle.dir_classify.proofs.Keeping.{asks-then, increased-later, quiet-first, quiet-second, unmapped-then}
-use Rattle.dir_classify.proofs.Classed.{OnLookup-weaker, asked-quiet}
+use Rattle.dir_classify.proofs.Classed.{OnLookup-beside, OnLookup-weaker, asked-quiet}
 use Rattle.dir_classify.proofs.Stopped.{stopped-later}
 use Rattle.dir_classify.proofs.Refusals.{OnAccess-both, OnFault-weaker, unread-refused}
 use Rattle.gitbase_core.proofs.Names.{AreNames-components}
@@ -327,6 +329,11 @@ module _ {W F : Type 0} (w : WorktreeOf W) (f : FindOf F) (w0 w1 w2 : W) (o0 o1 
       → Reaches w f w0 w2 o0 o2 old new given root (Err e)
   Reaches-refused e goes step =
       let leads : LeadsTo root (joined path name) = record { spelled_is = grown-spelled; rest = components left; components_are = grown-split } in
+      let refused-here : (s : Sources) → TellsIf (w.told w0) (f.holds o0) (made_with old) s → IsRefusedOf s (made_with old) (joined path name) e =
+      λ s tells. (
+        subst (λ (m : Option Made). IsAbout m (joined path name) e) at.rules.made step.about,
+        subst (λ (m : Option Made). Refuses s m (joined path name) e) at.rules.made (step.refused s (tells-here s tells)),
+      ) in
       record {
         reached = λ s tells stepped quiet. tt;
         top = λ is s told quiet. tt;
@@ -336,7 +343,7 @@ module _ {W F : Type 0} (w : WorktreeOf W) (f : FindOf F) (w0 w1 w2 : W) (o0 o1 
         ended = tt;
         about = (joined path name, leads, subst (λ (m : Option Made). IsAbout m (joined path name) e) at.rules.made step.about);
         refused = λ s tells.
-            (joined path name, leads, (subst (λ (m : Option Made). IsAbout m (joined path name) e) at.rules.made step.about, subst (λ (m : Option Made). Refuses s m (joined path name) e) at.rules.made (step.refused s (tells-here s tells))));
+            (joined path name, leads, refused-here s tells);
         met = λ s tells stepped quiet.
             let ev = evidence given (made_with old) s in
             let kinds = λ (p : List ℕ). on_disk given s.tree p true in
@@ -345,7 +352,7 @@ module _ {W F : Type 0} (w : WorktreeOf W) (f : FindOf F) (w0 w1 w2 : W) (o0 o1 
               joined path name,
               subst (λ (r : Reached). LeadsTo r.path (joined path name)) way
                   (leads-next given.options ev kinds path name (components left) c in_repository goes at.spelled_is component (AreNames-components left)),
-              (subst (λ (m : Option Made). IsAbout m (joined path name) e) at.rules.made step.about, subst (λ (m : Option Made). Refuses s m (joined path name) e) at.rules.made (step.refused s (tells-here s tells))),
+              refused-here s tells,
             );
         asked = λ s tells stepped quiet.
             let ev = evidence given (made_with old) s in
@@ -369,20 +376,24 @@ module _ {W F : Type 0} (w : WorktreeOf W) (f : FindOf F) (w0 w1 w2 : W) (o0 o1 
             step.about (step.refused s (tells-here s tells)) step.cause);
         asked_so = λ s tells stepped.
             let kind = on_disk given s.tree (joined path name) true in
-            OnLookup-weaker (IsAsked (w.faults w1) (w.faults w2) (λ k. asks_of given.options (evidence given (made_with now) s) (joined path name) k None) kind) _ e
-            (λ a is. record {
-              first = components path;
-              name = name;
-              left = components left;
-              names_are = at.split ∙ ap (λ (l : List (List ℕ)). components path ++ l) rest_is;
-              above = reached_so path c in_repository true;
-              then_ = w.faults w1;
-              reaches = at.stands s tells stepped;
-              whole = refl;
-              goes = goes;
-              asked = subst (λ (m : Option Made). IsAsked (w.faults w1) (w.faults w2) (λ k. asks_of given.options (evidence given m s) (joined path name) k None) kind a) at.rules.made is;
-            })
-            (step.asked s (at.keeps.tree ∙ tells.tree_is));
+            let Asked : AtPathError → Type 0 = IsAsked (w.faults w1) (w.faults w2) (λ k. asks_of given.options (evidence given (made_with now) s) (joined path name) k None) kind in
+            OnLookup-weaker (λ a. Asked a × IsRefusedOf s (made_with old) (joined path name) (errors.ExcludesAccess a)) _ e
+            (λ a is. (
+              record {
+                first = components path;
+                name = name;
+                left = components left;
+                names_are = at.split ∙ ap (λ (l : List (List ℕ)). components path ++ l) rest_is;
+                above = reached_so path c in_repository true;
+                then_ = w.faults w1;
+                reaches = at.stands s tells stepped;
+                whole = refl;
+                goes = goes;
+                asked = subst (λ (m : Option Made). IsAsked (w.faults w1) (w.faults w2) (λ k. asks_of given.options (evidence given m s) (joined path name) k None) kind a) at.rules.made is.0;
+              },
+              is.1,
+            ))
+            (OnLookup-beside Asked (IsRefusedOf s (made_with old) (joined path name)) e (refused-here s tells) (step.asked s (at.keeps.tree ∙ tells.tree_is)));
         stopped =
             let since = stands-above given.options.recurse_repositories path name (joined path name) (w.reads w0) (w.reads w1) o0 o1 old now (grown-components path name at.spelled_is component) at.reads in
             OnLookup-weaker (StopsIf (w.told w0) (f.holds o0) (Increased (w.faults w0) (w.faults w2)) (Increased (f.faults o0) (f.faults o2)) (joined path name) now new) _ e

@@ -2,7 +2,7 @@
 use Rattle.std.specs.Prelude.{◌≡◌, ◌≤◌, ◌⊎◌, ℕ, ◌+◌, Bool, true, false, List, [], ◌++◌, length, Option, Some, None, Result, Ok, Err, IfOk, IfErr, OnOk, is_some}
 use Rattle.std.specs.Str.{bytes_eq}
 use Rattle.gitbase_core.specs.Objects.{Objects}
-use Rattle.gitbase_core.specs.Path.{components, is_empty}
+use Rattle.gitbase_core.specs.Path.{components, is_empty, joined}
 use Rattle.gitbase_core.specs.declared.find.Find.{Ghosts as FindOf}
 use Rattle.worktree_fs.specs.declared.worktree.Worktree.{Ghosts as WorktreeOf}
 use Rattle.worktree_fs.specs.Causes.{NotIncreased, Increased}
@@ -18,6 +18,7 @@ use Rattle.worktree_stack.specs.Stacked.{Stacked, pushed}
 use Rattle.dir_classify.specs.declared.classify.RootOutcome.{RootOutcome}
 use Rattle.dir_classify.specs.declared.entry.Kind.{Kind}
 use Rattle.dir_classify.specs.declared.error.Error.{Error}
+use Rattle.dir_classify.specs.declared.error.Error.TheVariants as errors
 use Rattle.dir_classify.specs.Class.{asks, seeks}
 use Rattle.dir_classify.specs.Excludes.{made_with, maps_blobs, platforms_of, pushed_in, tells_attributes, TellsIf, InStepIf}
 use Rattle.dir_classify.specs.Kept.{AsksRules, KeepsRules, LeavesPushed, StandsAt, Unasked}
@@ -94,6 +95,10 @@ pub record StandsAbove (path : List ℕ) (old new : Option Stacked) : Type 0 whe
   pub at_most : platforms_of new ≤ platforms_of old + length behind.rest + 1
   pub looked_up : StandsAt new last
 
+-- The rules of a directory above a path were refused, and for what they are.
+abbrev pub IsRefusedOf : Sources → Option Made → List ℕ → Error → Type 0
+IsRefusedOf s made path e = IsAbout made path e × Refuses s made path e
+
 -- A lookup on the way stopped at a directory whose rules were refused so. It began as the rules were `before`: as they were at first, or
 -- when nothing but paths above on the way was looked up.
 pub record StopsOnWay (told : Option Names) (holds : Option Objects) (TreeFailed StoreFailed : Type 0) (path : List ℕ) (old new : Option Stacked) (e : AtPathError) : Type 0 where
@@ -125,15 +130,18 @@ pub record Reaches {W F : Type 0} (w : WorktreeOf W) (f : FindOf F) (w0 w1 : W) 
   -- Each refusal has its cause.
   pub about : IfErr result (λ e. OnWayTo root (λ path. IsAbout (made_with old) path e))
   pub refused : (s : Sources) → TellsIf (w.told w0) (f.holds o0) (made_with old) s
-      → IfErr result (λ e. OnWayTo root (λ path. IsAbout (made_with old) path e × Refuses s (made_with old) path e))
+      → IfErr result (λ e. OnWayTo root (λ path. IsRefusedOf s (made_with old) path e))
   -- In step and without a fault it is of a path on the way that is.
   pub met : (s : Sources) → TellsIf (w.told w0) (f.holds o0) (made_with old) s → InStepIf s old → NotIncreased (w.faults w0) (w.faults w1)
-      → IfErr result (λ e. OnWayTo (way_to given (made_with old) s root).path (λ path. IsAbout (made_with old) path e × Refuses s (made_with old) path e))
+      → IfErr result (λ e. OnWayTo (way_to given (made_with old) s root).path (λ path. IsRefusedOf s (made_with old) path e))
   pub asked : (s : Sources) → TellsIf (w.told w0) (f.holds o0) (made_with old) s → InStepIf s old → NotIncreased (w.faults w0) (w.faults w1)
       → IfErr result (OnAccess (((way_to given (made_with old) s root).is_unread ≡ true) ⊎ Increased (f.faults o0) (f.faults o1)))
-  -- With faults it is refused by what was read: the rules were asked beneath a path that the way came to.
+  -- With faults it is refused by what was read: the rules were asked about the next path beneath one that the way came to, and of no
+  -- other path is the lookup that was refused.
   pub asked_so : (s : Sources) → TellsIf (w.told w0) (f.holds o0) (made_with old) s → InStepIf s old
-      → IfErr result (OnLookup (IsRefusedOnWay (w.faults w0) (w.faults w1) given.options (evidence given (made_with old) s) (λ path. on_disk given s.tree path true) (components root)))
+      → IfErr result (OnLookup (λ e.
+      (so : IsRefusedOnWay (w.faults w0) (w.faults w1) given.options (evidence given (made_with old) s) (λ path. on_disk given s.tree path true) (components root) e)
+      × IsRefusedOf s (made_with old) (joined so.above.path so.name) (errors.ExcludesAccess e)))
   pub stopped : IfErr result (OnLookup (λ e. OnWayTo root (λ path. StopsOnWay (w.told w0) (f.holds o0) (Increased (w.faults w0) (w.faults w1)) (Increased (f.faults o0) (f.faults o1)) path old new e)))
   pub cause : IfErr result (OnFault (Increased (w.faults w0) (w.faults w1)) (Increased (f.faults o0) (f.faults o1)))
   -- What stays.
