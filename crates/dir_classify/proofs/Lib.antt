@@ -6,6 +6,7 @@ mod Fitting
 mod Judging
 mod Keeping
 mod Looked
+mod Most
 mod OnWay
 pub mod NormalPaths
 pub mod Onward

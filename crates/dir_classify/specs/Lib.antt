@@ -12,6 +12,7 @@ pub mod Kinds
 pub mod Layers
 pub mod Paths
 pub mod Question
+pub mod Reads
 pub mod Refused
 pub mod Rooted
 pub mod Way

@@ -1,5 +1,5 @@
 //! Whether a path leads to a repository of its own.
-ghost use Rattle.std.specs.Prelude.{◌≡◌, ◌⊎◌, ◌&&◌, true, false, Some, None, IfOk};
+ghost use Rattle.std.specs.Prelude.{◌≡◌, ◌≤◌, ◌+◌, ◌⊎◌, ◌&&◌, if◌then◌else◌, true, false, Some, None, IfOk};
 ghost use Rattle.gitbase_core.specs.Path.{joined};
 ghost use Rattle.worktree_fs.specs.Tree.{Names};
 ghost use Rattle.worktree_fs.specs.Causes.{NotIncreased};
@@ -8,6 +8,7 @@ ghost use Rattle.dir_classify.specs.Class.{upgraded, dot_git};
 ghost use Rattle.dir_classify.specs.Evidence.{is_foreign};
 ghost use Rattle.dir_classify.specs.Faults.{IsSeenAs, IsTested};
 ghost use Rattle.dir_classify.specs.Layers.{git_at};
+ghost use Rattle.dir_classify.specs.Reads.{most_upgraded};
 
 use crate::entry::Kind;
 use gitbase_core::{OutOfMemory, PathText};
@@ -20,7 +21,8 @@ use worktree_fs::{Worktree, is_git, real_path_is};
 ///
 /// `path` is whole; `current_dir` and `git_dir_realpath` are the real paths of the current directory and of the git directory
 /// of the worktree. A fault of a question reads as no repository, or as one that is not the worktree's own, and is counted. Of
-/// which question a fault is the contract does not say, but how many were misread at most.
+/// which question a fault is the contract does not say, but how many were misread at most. At most three files are read to tell
+/// whether a path leads to a repository, so three in all, and six with `find_harder`.
 ///
 /// See docs/DECISIONS.md#class-under-faults.
 /// See docs/DECISIONS.md#whole-git-directory.
@@ -53,6 +55,8 @@ pub fn maybe_upgrade_to_repository<W: Worktree>(
         (git_at t current_dir.now git_dir_realpath.now (joined path.now dot_git))) }
     ensures either { IfOk result (λ kind. (kind ≡ current_kind) ⊎ (kind ≡ Some Kind.Repository)) }
     ensures keeps { Asks W.Worktree worktree.old worktree.new }
+    ensures reads_most { W.reads worktree.new
+        ≤ W.reads worktree.old + most_upgraded recurse_repositories find_harder }
     ensures unasked { recurse_repositories ≡ true → worktree.new ≡ worktree.old }
     ensures same_kind { recurse_repositories ≡ true
         → IfOk result (λ kind. kind ≡ current_kind) }
@@ -102,6 +106,7 @@ fn is_foreign_if<W: Worktree>(
         (λ at. asked && is_foreign at)
         (git_at t current_dir.now git_dir_realpath.now path.now)) }
     ensures keeps { Asks W.Worktree worktree.old worktree.new }
+    ensures reads_most { W.reads worktree.new ≤ W.reads worktree.old + (if asked then 3 else 0) }
 {
     if !asked {
         return Ok(false);
@@ -126,6 +131,7 @@ fn is_foreign<W: Worktree>(
         → IfOk result (IsTested (W.faults worktree.old) (W.faults worktree.new) is_foreign
         (git_at t current_dir.now git_dir_realpath.now path.now)) }
     ensures keeps { Asks W.Worktree worktree.old worktree.new }
+    ensures reads_most { W.reads worktree.new ≤ W.reads worktree.old + 3 }
 {
     if !is_git(alloc, worktree, path)? {
         return Ok(false);
