@@ -38,3 +38,4 @@ pub mod Within
 pub mod LookedOut
 pub mod Plain
 pub mod Keeping
+pub mod HeldOut

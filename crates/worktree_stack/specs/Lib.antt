@@ -17,3 +17,4 @@ pub mod Checkout
 pub mod Making
 pub mod ChecksOut
 pub mod GoesOn
+pub mod HeldOut

@@ -12,13 +12,14 @@ ghost use Rattle.worktree_stack.specs.Lending.{LendsState};
 ghost use Rattle.worktree_fs.specs.Kept.{AsksStore};
 ghost use Rattle.worktree_stack.specs.ChecksOut.{ChecksOut};
 ghost use Rattle.worktree_stack.specs.LooksUp.{LooksUp, Leaves};
-ghost use Rattle.worktree_stack.specs.Making.{is_link_of};
+ghost use Rattle.worktree_stack.specs.HeldOut.{HoldsOut};
+ghost use Rattle.worktree_stack.specs.Making.{is_link_of, mkdirs, way_of};
 ghost use Rattle.worktree_stack.specs.declared.state.Checkout.{Checkout};
 ghost use Rattle.worktree_stack.specs.Lookups.{is_dir_of, is_dir_of_entry};
 ghost use Rattle.worktree_stack.specs.Mappings.{are_ascending, mappings_in, case_of};
 ghost use Rattle.worktree_stack.specs.Setup.{has_excludes, has_attributes, keeps_tree, attributes_setup_of, setup_of, deciding_if, all_lists, names_of};
 ghost use Rattle.worktree_stack.specs.Stacked.{made_of, attributes_of, checkout_of, ignore_of, IsInStep};
-ghost use Rattle.worktree_stack.specs.Reading.{Sources};
+ghost use Rattle.worktree_stack.specs.Reading.{Sources, Tells};
 
 mod checkout;
 mod pushing;
@@ -352,6 +353,8 @@ impl Stack {
     /// is the last one and the path is no directory by its mode; see [`crate::delegate::create_leading_directory`]. So the directories
     /// that are pushed below the root are there, and no link is among them, as long as nothing else changes the tree: one that stays
     /// pushed is not looked at again. In a worktree that composes names this holds of names that are composed already.
+    /// The rules of a directory are read once it is made, in the tree as it is then.
+    /// See docs/DECISIONS.md#checkout-rules-made.
     ///
     /// After `Component`, `Collision` and `Directory` the directories above that component are pushed; it is itself counted as pushed. After
     /// `Directory` with `Fault`, and after `OutOfMemory`, what was in the way may be gone.
@@ -384,6 +387,12 @@ impl Stack {
         ensures leaves_store { AsksStore F.Find objects.old objects.new }
         ensures unfaulted { OnOk result (W.faults worktree.new ≡ W.faults worktree.old) }
         ensures unfaulted_store { OnOk result (F.faults objects.new ≡ F.faults objects.old) }
+        ensures held { (checkout : Checkout) → self.old.checkout ≡ Some checkout
+            → (s : Sources) → Tells (W.told worktree.old) (F.holds objects.old) s
+            → OnOk result (HoldsOut (made_of self.old)
+            (way_of checkout (W.precomposes worktree.old) self.old.root (is_dir_of mode))
+            (mkdirs self.old) s (lookup_calls self.old.at (components relative.now))
+            self.old.attributes self.new.attributes) }
     {
         self.count_platform();
         if !is_normal(relative) {
@@ -427,6 +436,13 @@ impl Stack {
         ensures leaves_store { AsksStore F.Find objects.old objects.new }
         ensures unfaulted { OnOk result (W.faults worktree.new ≡ W.faults worktree.old) }
         ensures unfaulted_store { OnOk result (F.faults objects.new ≡ F.faults objects.old) }
+        ensures held { (checkout : Checkout) → self.old.checkout ≡ Some checkout
+            → (s : Sources) → Tells (W.told worktree.old) (F.holds objects.old) s
+            → OnOk result (HoldsOut (made_of self.old)
+            (way_of checkout (W.precomposes worktree.old) self.old.root
+            (is_dir_of_entry relative.now mode))
+            (mkdirs self.old) s (lookup_calls self.old.at (components relative.now))
+            self.old.attributes self.new.attributes) }
     {
         self.at_path(
             alloc,

@@ -5,9 +5,11 @@ ghost use Rattle.worktree_fs.specs.Paths.{IsComponent};
 ghost use Rattle.worktree_fs.specs.PathStack.{deepest_names, push, calls_for, calls_below, lookup_calls, IsOnWay};
 ghost use Rattle.worktree_stack.specs.ChecksOut.{left_of};
 ghost use Rattle.worktree_stack.specs.GoesOn.{Goes, GoesWithin, KeepsAll, KeepsOn, LeavesLast, PushesOut, Readies, is_wanted};
+ghost use Rattle.worktree_stack.specs.HeldOut.{AddsOut, HoldsOut};
 ghost use Rattle.worktree_stack.specs.Lookups.{is_dir_of, IsLookedUp, staying};
-ghost use Rattle.worktree_stack.specs.Making.{is_link_of, way_of};
-ghost use Rattle.worktree_stack.specs.Stacked.{pushed};
+ghost use Rattle.worktree_stack.specs.Making.{is_link_of, mkdirs, way_of};
+ghost use Rattle.worktree_stack.specs.Reading.{Sources, Tells};
+ghost use Rattle.worktree_stack.specs.Stacked.{made_of, pushed};
 
 use super::Stack;
 use super::steps::mode_is_dir;
@@ -108,6 +110,11 @@ impl Stack {
             (name.now ∷ []) self.old self.new result }
         ensures unfaulted { OnOk result (W.faults worktree.new ≡ W.faults worktree.old) }
         ensures unfaulted_store { OnOk result (F.faults objects.new ≡ F.faults objects.old) }
+        ensures held { (s : Sources) → Tells (W.told worktree.old) (F.holds objects.old) s
+            → OnOk result (AddsOut (made_of self.old)
+            (way_of checkout (W.precomposes worktree.old) self.old.root (is_dir_of mode))
+            (mkdirs self.old) s (calls_for (deepest_names self.old.at) name.now false)
+            self.old.attributes self.new.attributes) }
     {
         self.push_out(alloc, name, false, checkout, mode, worktree)?;
         self.push_directory(alloc, worktree, objects)
@@ -145,6 +152,11 @@ impl Stack {
             (deepest_names self.old.at) (components left.now) result }
         ensures unfaulted { OnOk result (W.faults worktree.new ≡ W.faults worktree.old) }
         ensures unfaulted_store { OnOk result (F.faults objects.new ≡ F.faults objects.old) }
+        ensures held { (s : Sources) → Tells (W.told worktree.old) (F.holds objects.old) s
+            → OnOk result (AddsOut (made_of self.old)
+            (way_of checkout (W.precomposes worktree.old) self.old.root (is_dir_of mode))
+            (mkdirs self.old) s (calls_below (deepest_names self.old.at) (components left.now))
+            self.old.attributes self.new.attributes) }
     {
         let mut rest = left;
         while let Some(next) = next_component(rest) {
@@ -185,6 +197,11 @@ impl Stack {
             (left_of self.old.at (components relative.now)) self.old self.new result }
         ensures unfaulted { OnOk result (W.faults worktree.new ≡ W.faults worktree.old) }
         ensures unfaulted_store { OnOk result (F.faults objects.new ≡ F.faults objects.old) }
+        ensures held { (s : Sources) → Tells (W.told worktree.old) (F.holds objects.old) s
+            → OnOk result (HoldsOut (made_of self.old)
+            (way_of checkout (W.precomposes worktree.old) self.old.root (is_dir_of mode))
+            (mkdirs self.old) s (lookup_calls self.old.at (components relative.now))
+            self.old.attributes self.new.attributes) }
     {
         self.push_root(alloc, worktree, objects)?;
         self.pop_surplus(relative);

@@ -10,6 +10,7 @@ ghost use Rattle.worktree_stack.specs.Asked.{asked_on};
 ghost use Rattle.worktree_stack.specs.Counted.{count_platform, count_call, files_in};
 ghost use Rattle.worktree_stack.specs.Excludes.{ancestors};
 ghost use Rattle.worktree_fs.specs.Kept.{Asks, AsksStore};
+ghost use Rattle.worktree_stack.specs.HeldOut.{AreLowest, root_lists};
 ghost use Rattle.worktree_stack.specs.Lookups.{IsIn, asks_worktree, is_dir_of, IsLookedUp, staying, stepped, refused_one};
 ghost use Rattle.worktree_stack.specs.Making.{mkdirs};
 ghost use Rattle.worktree_stack.specs.Reading.{Sources, Tells, places_in, readings_of};
@@ -35,6 +36,7 @@ impl Stack {
         ensures platforms { self.new.statistics.platforms ≡ self.old.statistics.platforms }
         ensures carried { (told : Option Names) (holds : Option Objects)
             → CarriesOut told holds (pop_directory ∷ []) self.old self.new }
+        ensures dropped { AreLowest (lists_of self.new.attributes) (lists_of self.old.attributes) }
     {
         self.state.pop_ignore();
         self.state.pop_attributes(self.stack.deepest());
@@ -78,6 +80,9 @@ impl Stack {
         ensures carried { (told : Option Names) (holds : Option Objects)
             → CarriesOut told holds (replicate (surplus self.old.at (components relative.now))
             pop_directory) self.old self.new }
+        ensures dropped { AreLowest (lists_of self.new.attributes) (lists_of self.old.attributes) }
+        ensures undropped { surplus self.old.at (components relative.now) ≡ 0
+            → lists_of self.new.attributes ≡ lists_of self.old.attributes }
     {
         for _ in 0..self.surplus(relative) {
             self.pop_directory();
@@ -207,6 +212,9 @@ impl Stack {
             (root_calls self.old.at) }
         ensures unfaulted { OnOk result (W.faults worktree.new ≡ W.faults worktree.old) }
         ensures unfaulted_store { OnOk result (F.faults objects.new ≡ F.faults objects.old) }
+        ensures lists { (s : Sources) → Tells (W.told worktree.old) (F.holds objects.old) s
+            → OnOk result (lists_of self.new.attributes ≡ lists_of self.old.attributes
+            ++ root_lists (made_of self.old) s self.old.at) }
     {
         if self.is_root_pushed() {
             return Ok(());

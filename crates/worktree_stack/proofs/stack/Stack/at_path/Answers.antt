@@ -15,6 +15,9 @@ use Rattle.worktree_stack.proofs.Asked.{asked-as}
 use Rattle.worktree_stack.proofs.LookedUp.{not-normal, look-refused}
 use Rattle.worktree_stack.proofs.LookedOut.{checks-answered, checks-not-normal, checks-refused, keeps-none, never-both, same-checkout}
 use Rattle.worktree_stack.proofs.Refusals.{is_err}
+use Rattle.worktree_stack.specs.HeldOut.{HoldsOut}
+use Rattle.worktree_stack.specs.Making.{mkdirs}
+use Rattle.worktree_stack.specs.Setup.{HeldAttributes}
 use Rattle.worktree_stack.proofs.stack.Stack.at_path.Goals as goal
 
 pub returns-then-not-is_normal-clause-looks_up : goal.returns-then-not-is_normal-clause-looks_up
@@ -93,3 +96,19 @@ returns-in_err-check_out-clause-asked g c =
 pub returns-clause-asked : goal.returns-clause-asked
 returns-clause-asked g c =
     asked-as g.W.Worktree c.args.worktree.now c.check_out.new.worktree (components c.args.relative.now) c.args.self.now c.count_platform.new.self c.count_platform.ensures c.check_out.ensures.goes.asked
+
+pub returns-clause-held : goal.returns-clause-held
+returns-clause-held g c checkout is s tells =
+    let W = g.W.Worktree in
+    let a = c.args in
+    let old : Stacked = a.self.now in
+    let k : Checkout = c.in-Some.checkout in
+    let counted = c.count_platform.ensures in
+    let parts : List (List ℕ) = components a.relative.now in
+    let composes = W.precomposes a.worktree.now in
+    let kind = is_dir_of a.mode in
+    let has : old.checkout ≡ Some k = sym (ap (λ (x : Stacked). x.checkout) counted) ∙ sym c.checkout.ensures.checkout ∙ c.in-Some.is in
+    subst (λ (x : Checkout). HoldsOut (made_of old) (way_of x composes old.root kind) (mkdirs old) s (lookup_calls old.at parts) old.attributes c.answer-2.new.self.attributes) (same-checkout old.checkout has is)
+    (subst (λ (h : Option HeldAttributes). HoldsOut (made_of old) (way_of k composes old.root kind) (mkdirs old) s (lookup_calls old.at parts) old.attributes h) (sym (ap (λ (x : Stacked). x.attributes) c.answer-2.ensures))
+    (subst (λ (m : Stacked). HoldsOut (made_of m) (way_of k composes m.root kind) (mkdirs m) s (lookup_calls m.at parts) m.attributes c.check_out.new.self.attributes) counted
+    (c.in_ok-check_out.ensures.held s tells)))

@@ -17,6 +17,10 @@ use Rattle.worktree_stack.proofs.Working.{unpushed-root, unpushed-pops, popped-m
 use Rattle.worktree_stack.proofs.Going.{goes-then, goes-more, goes-as, goes-unpushed}
 use Rattle.worktree_stack.proofs.RestOut.{way-same}
 use Rattle.worktree_stack.proofs.Within.{within-gone, within-same, there-staying}
+use Rattle.worktree_fs.proofs.Lookups.{on_ok}
+use Rattle.worktree_stack.specs.HeldOut.{AddsOut, HoldsOut}
+use Rattle.worktree_stack.specs.Making.{mkdirs}
+use Rattle.worktree_stack.proofs.HeldOut.{holds-whole, none-surplus}
 use Rattle.worktree_stack.proofs.stack.Stack.check_out.Goals as goal
 
 pub rest_out-requires-clause-end : goal.rest_out-requires-clause-end
@@ -134,3 +138,32 @@ returns-clause-within g c =
     (λ s tells step. c.pop_surplus.ensures.in_step s (root.in_step s tells step))
     (λ t are. subst (λ at. AreThere a.self.now.root t (pushed at)) (sym (c.pop_surplus.ensures.at ∙ ap (λ d. staying d parts) c.in_ok-push_root.ensures.at)) (there-staying a.self.now.root t a.self.now.at parts are))
     keeps last)
+
+pub returns-clause-held : goal.returns-clause-held
+returns-clause-held g c s tells =
+    let W = g.W.Worktree in
+    let F = g.F.Find in
+    let a = c.args in
+    let way : Way = way_of a.checkout (W.precomposes a.worktree.now) a.self.now.root (is_dir_of a.mode) in
+    let mid : Stacked = c.pop_surplus.new.self in
+    let made : made_of mid ≡ made_of a.self.now = c.pop_surplus.ensures.made ∙ c.push_root.ensures.made in
+    let there : Way = way_of a.checkout (W.precomposes c.push_root.new.worktree) mid.root (is_dir_of a.mode) in
+    let ways : there ≡ way = way-same a.checkout (is_dir_of a.mode) (W.precomposes a.worktree.now) (W.precomposes c.push_root.new.worktree) a.self.now.root mid.root c.push_root.ensures.leaves.precomposes (ap (λ (m : Made). m.root) made) in
+    let parts : List (List ℕ) = components a.relative.now in
+    let left : List (List ℕ) = components c.rest-left.result.now in
+    let staying_is : IsStaying a.self.now.at c.push_root.new.self.at mid.at parts left = record { rooted = c.in_ok-push_root.ensures.at; popped = c.pop_surplus.ensures.at; left_is = c.rest-left.ensures } in
+    let below : List Call = calls_below (deepest_names mid.at) left in
+    let n = surplus c.push_root.new.self.at parts in
+    let carried = c.pop_surplus.ensures.carried (W.told c.push_root.new.worktree) (F.holds c.push_root.new.objects) in
+    let counted : mkdirs mid ≡ mkdirs a.self.now = popped-mkdirs c.push_root.new.self mid (replicate n pop_directory) carried.counted ∙ c.push_root.ensures.mkdirs in
+    on_ok c.rest_out.result
+    (λ (added : AddsOut (made_of mid) there (mkdirs mid) s below mid.attributes c.rest_out.new.self.attributes).
+    subst (λ (calls : List Call). HoldsOut (made_of a.self.now) way (mkdirs a.self.now) s calls a.self.now.attributes c.rest_out.new.self.attributes)
+    (sym (calls_are a.self.now.at c.push_root.new.self.at mid.at parts left staying_is))
+    (holds-whole (made_of a.self.now) way (mkdirs a.self.now) s a.self.now.at n below a.self.now.attributes c.push_root.new.self.attributes mid.attributes c.rest_out.new.self.attributes
+    (c.in_ok-push_root.ensures.lists s tells) c.pop_surplus.ensures.dropped
+    (λ none. c.pop_surplus.ensures.undropped (none-surplus a.self.now.at c.push_root.new.self.at parts c.in_ok-push_root.ensures.at none))
+    (subst (λ (m : Made). AddsOut m way (mkdirs a.self.now) s below mid.attributes c.rest_out.new.self.attributes) made
+    (subst (λ (x : Way). AddsOut (made_of mid) x (mkdirs a.self.now) s below mid.attributes c.rest_out.new.self.attributes) ways
+    (subst (λ (k : ℕ). AddsOut (made_of mid) there k s below mid.attributes c.rest_out.new.self.attributes) counted added)))))
+    (c.rest_out.ensures.held s (record { tree_is = c.push_root.ensures.leaves.tree ∙ tells.tree_is; objects_are = c.push_root.ensures.leaves_store.holds ∙ tells.objects_are }))

@@ -1,5 +1,8 @@
-use Rattle.std.proofs.Common.{rules}
+use Rattle.std.proofs.Common.{◌≡◌, Option, sym, subst, rules}
+use Rattle.worktree_stack.specs.HeldOut.{AreLowest}
+use Rattle.worktree_stack.specs.Setup.{HeldAttributes, lists_of, pop_lists}
 use Rattle.worktree_stack.proofs.InStep.{popped}
+use Rattle.worktree_stack.proofs.HeldOut.{lowest-popped}
 use Rattle.worktree_stack.proofs.Levels.{popped-level}
 use Rattle.worktree_stack.proofs.Stepping.{carries-pop}
 use Rattle.worktree_stack.proofs.stack.Stack.pop_directory.Goals as goal
@@ -12,3 +15,8 @@ returns-clause-in_step c s in_step = popped s c.args.self.now c.count_pop.new.se
 
 pub returns-clause-levels : goal.returns-clause-levels
 returns-clause-levels c = popped-level c.args.self.now c.count_pop.new.self (search rules) (search rules) (search rules)
+
+pub returns-clause-dropped : goal.returns-clause-dropped
+returns-clause-dropped c =
+    let same : c.count_pop.new.self.attributes ≡ pop_lists c.deepest.result.now c.args.self.now.attributes = search rules in
+    subst (λ (held : Option HeldAttributes). AreLowest (lists_of held) (lists_of c.args.self.now.attributes)) (sym same) (lowest-popped c.deepest.result.now c.args.self.now.attributes)

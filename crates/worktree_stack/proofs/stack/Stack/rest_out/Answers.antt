@@ -25,6 +25,10 @@ use Rattle.worktree_stack.proofs.Holding.{kept-now}
 use Rattle.worktree_stack.proofs.KeptSteps.{pushed-field, pushed-kept}
 use Rattle.worktree_stack.proofs.Preparing.{some-same}
 use Rattle.worktree_stack.proofs.RestOut.{keeping-by, keeps-left, kept-by, nil-is, last-there, looked-pushed, may-behind, may-first, rest-none, taken-names, way-same}
+use Rattle.worktree_stack.specs.HeldOut.{AddsOut}
+use Rattle.worktree_stack.specs.Reading.{Sources, Tells}
+use Rattle.worktree_stack.specs.Setup.{HeldAttributes}
+use Rattle.worktree_stack.proofs.HeldOut.{adds-same, adds-then, always}
 use Rattle.worktree_stack.proofs.stack.Stack.rest_out.Goals as goal
 
 pub loop-next-init : goal.loop-next-init
@@ -39,6 +43,7 @@ loop-next-init g c =
       goes = goes-nothing g.W.Worktree g.F.Find _ _ _ c.args.worktree.now c.args.objects.now c.args.self.now;
       unfaulted = refl;
       unfaulted_store = refl;
+      held = λ s tells. adds-same c.args.self.now.attributes c.args.self.now.attributes refl;
       stays = omega arith;
       keeps = λ s0 t t1 told holds told1 may kept keeping. subst (λ x. Keeping (made_of c.args.self.now) s0 x c.args.self.now.at c.args.self.now.attributes c.args.self.now.ignore) (some-same (sym told ∙ told1)) keeping;
     }
@@ -76,6 +81,13 @@ loop-next-preserved g c =
       goes = goes;
       unfaulted = c.in_ok-step_out.ensures.unfaulted ∙ before.unfaulted;
       unfaulted_store = c.in_ok-step_out.ensures.unfaulted_store ∙ before.unfaulted_store;
+      held = λ s tells.
+          adds-then W (F.holds a.objects.now) way (made_of a.self.now) before.done (calls_for names name false) (mkdirs a.self.now) (mkdirs c.loop-next.self) a.self.now.statistics c.loop-next.self.statistics
+          a.self.now.attributes c.loop-next.self.attributes c.step_out.new.self.attributes before.goes.works s tells (before.held s tells)
+          (λ after now.
+          subst (λ (m : Made). AddsOut m way (mkdirs c.loop-next.self) after (calls_for names name false) c.loop-next.self.attributes c.step_out.new.self.attributes) before.goes.made
+          (subst (λ (x : Way). AddsOut (made_of c.loop-next.self) x (mkdirs c.loop-next.self) after (calls_for names name false) c.loop-next.self.attributes c.step_out.new.self.attributes) ways
+          (c.in_ok-step_out.ensures.held after (record { tree_is = now.tree_is; objects_are = before.goes.leaves_store.holds ∙ now.objects_are }))));
       stays = omega (arith, before.stays, ap length names_is, length-append names (name ∷ []));
       keeps = λ s0 t t1 told holds told1 may kept k.
           let is : IsOutcome (checked_out way (unchanged t (mkdirs a.self.now)) before.done) (W.told c.loop-next.worktree) (mkdirs c.loop-next.self) makes.Made = before.goes.works.tree t told in
@@ -282,3 +294,33 @@ returns-clause-last g c =
       last = λ t1 told1 makes path parts normal keeps. inl (rest-none (deepest_names c.args.self.now.at) (components c.args.left.now)
           (before.below.whole_is ∙ ap (λ (l : List (List ℕ)). deepest_names c.loop-next.self.at ++ l) none ∙ append-nil (deepest_names c.loop-next.self.at) ∙ before.below.end none));
     }
+
+pub returns-then-next-clause-held : goal.returns-then-next-clause-held
+returns-then-next-clause-held g c s tells =
+    let W = g.W.Worktree in
+    let F = g.F.Find in
+    let a = c.args in
+    let before = c.loop-next.invariant in
+    let way : Way = way_of a.checkout (W.precomposes a.worktree.now) a.self.now.root (is_dir_of a.mode) in
+    let names : List (List ℕ) = deepest_names c.loop-next.self.at in
+    let name : List ℕ = c.in-Some.next.name.now in
+    let more : List (List ℕ) = components c.in-Some.next.rest.now in
+    let none = sym c.in-Some.ensures.2 ∙ c.if-next.true in
+    let same : c.push_out.new.self.attributes ≡ c.loop-next.self.attributes = pushed-field W F _ _ _ (λ (s : Stacked). s.attributes) c.loop-next.self c.push_out.new.self name true c.push_out.result (λ n. refl) refl (λ n. refl) c.push_out.ensures in
+    always c.push_out.result
+    (subst (λ (calls : List Call). AddsOut (made_of a.self.now) way (mkdirs a.self.now) s calls a.self.now.attributes c.push_out.new.self.attributes)
+    (sym (last-calls _ before.done names (components c.loop-next.rest.now) more name before.front c.in-Some.ensures.0 none))
+    (adds-then W (F.holds a.objects.now) way (made_of a.self.now) before.done (calls_for names name true) (mkdirs a.self.now) (mkdirs c.loop-next.self) a.self.now.statistics c.loop-next.self.statistics
+    a.self.now.attributes c.loop-next.self.attributes c.push_out.new.self.attributes before.goes.works s tells (before.held s tells)
+    (λ after now. adds-same c.loop-next.self.attributes c.push_out.new.self.attributes same)))
+
+pub returns-clause-held : goal.returns-clause-held
+returns-clause-held g c s tells =
+    let W = g.W.Worktree in
+    let a = c.args in
+    let before = c.loop-next.invariant in
+    let way : Way = way_of a.checkout (W.precomposes a.worktree.now) a.self.now.root (is_dir_of a.mode) in
+    let none : components c.loop-next.rest.now ≡ [] = search rules in
+    subst (λ (calls : List Call). AddsOut (made_of a.self.now) way (mkdirs a.self.now) s calls a.self.now.attributes c.leave.new.self.attributes)
+    (sym (no-calls _ before.done (deepest_names c.loop-next.self.at) (components c.loop-next.rest.now) before.front none))
+    (subst (λ (h : Option HeldAttributes). AddsOut (made_of a.self.now) way (mkdirs a.self.now) s before.done a.self.now.attributes h) (sym (ap (λ (x : Stacked). x.attributes) c.leave.ensures)) (before.held s tells))

@@ -5,8 +5,9 @@ use Rattle.worktree_fs.specs.Tree.{Names}
 use Rattle.worktree_stack.specs.ChecksOut.{KeepsNames}
 use Rattle.worktree_stack.specs.GoesOn.{Goes, Keeping, MayGoOn}
 use Rattle.worktree_stack.specs.Lookups.{is_dir_of}
-use Rattle.worktree_stack.specs.Making.{is_link_of, way_of}
-use Rattle.worktree_stack.specs.Reading.{Sources}
+use Rattle.worktree_stack.specs.HeldOut.{AddsOut}
+use Rattle.worktree_stack.specs.Making.{is_link_of, mkdirs, way_of}
+use Rattle.worktree_stack.specs.Reading.{Sources, Tells}
 use Rattle.worktree_stack.specs.Stacked.{made_of}
 use Rattle.std.specs.Prelude.{Some}
 use Rattle.worktree_stack.proofs.Descent.{IsBelow}
@@ -28,6 +29,7 @@ invariant-loop-next g l =
       goes : Goes W F l.fn.worktree l.worktree l.fn.objects l.objects way (is_link_of l.fn.mode) l.fn.checkout.validate.protect_windows done taken l.fn.self l.self (Ok tt);
       unfaulted : W.faults l.worktree ≡ W.faults l.fn.worktree;
       unfaulted_store : F.faults l.objects ≡ F.faults l.fn.objects;
+      held : (s : Sources) → Tells (W.told l.fn.worktree) (F.holds l.fn.objects) s → AddsOut (made_of l.fn.self) way (mkdirs l.fn.self) s done l.fn.self.attributes l.self.attributes;
       stays : length names ≤ length (deepest_names l.self.at);
       keeps : (s0 : Sources) (t t1 : Names) → W.told l.fn.worktree ≡ Some t → F.holds l.fn.objects ≡ Some s0.objects → W.told l.worktree ≡ Some t1
           → MayGoOn way (made_of l.fn.self) l.fn.self.at (components l.fn.left) → KeepsNames way (components l.fn.left) → Keeping (made_of l.fn.self) s0 t l.fn.self.at l.fn.self.attributes l.fn.self.ignore

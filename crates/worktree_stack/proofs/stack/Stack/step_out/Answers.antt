@@ -13,6 +13,12 @@ use Rattle.worktree_stack.proofs.InStep.{pushed-below}
 use Rattle.worktree_stack.proofs.Refusals.{is_err}
 use Rattle.worktree_stack.proofs.Going.{goes-then, goes-more, goes-as, goes-pushed, goes-unpushed}
 use Rattle.worktree_stack.proofs.KeptSteps.{keeps-refused, keeps-passed}
+use Rattle.worktree_fs.proofs.Lookups.{on_ok}
+use Rattle.worktree_stack.specs.Checkout.{IsOutcome, Prepared}
+use Rattle.worktree_stack.specs.Making.{pushed_out, unchanged}
+use Rattle.worktree_stack.specs.Reading.{Sources}
+use Rattle.worktree_fs.specs.declared.answers.MakeAnswer.TheVariants as makes
+use Rattle.worktree_stack.proofs.HeldOut.{adds-step}
 use Rattle.worktree_stack.proofs.stack.Stack.step_out.Goals as goal
 
 pub returns-in_err-push_out-clause-goes : goal.returns-in_err-push_out-clause-goes
@@ -81,3 +87,18 @@ returns-clause-keeps g c =
     let went = c.push_directory.ensures in
     keeps-passed W F way (is_link_of a.mode) protects a.objects.now a.self.now mid c.push_directory.new.self a.name.now c.requires.some pushes went.leaves.tree
     c.push_directory.result went.made went.at went.at_refused went.held went.held_lists went.lists
+
+pub returns-clause-held : goal.returns-clause-held
+returns-clause-held g c s tells =
+    let W = g.W.Worktree in
+    let a = c.args in
+    let way : Way = way_of a.checkout (W.precomposes a.worktree.now) a.self.now.root (is_dir_of a.mode) in
+    let protects = a.checkout.validate.protect_windows in
+    let mid : Stacked = c.push_out.new.self in
+    let pushes : PushesOut W a.worktree.now c.push_out.new.worktree way (is_link_of a.mode) protects a.name.now false a.self.now mid (Ok tt) =
+    subst (λ (r : Result (Unit {0}) AtPathError). PushesOut W a.worktree.now c.push_out.new.worktree way (is_link_of a.mode) protects a.name.now false a.self.now mid r) c.in_ok-push_out.was c.push_out.ensures in
+    let p : Prepared = pushed_out way (unchanged s.tree (mkdirs a.self.now)) (spelled (deepest_names a.self.now.at ++ a.name.now ∷ [])) false in
+    let is : IsOutcome p (W.told c.push_out.new.worktree) (mkdirs mid) makes.Made = pushes.made s.tree tells.tree_is in
+    let after : Sources = record { tree = p.tree; objects = s.objects } in
+    on_ok c.push_directory.result (λ pushed. adds-step after a.self.now mid c.push_directory.new.self.attributes a.name.now (mkdirs mid) pushes.passed pushed.lists)
+    (c.push_directory.ensures.lists after (record { tree_is = is.tree_is; objects_are = tells.objects_are }))

@@ -1,0 +1,37 @@
+-- What a stack holds of attributes when a checkout has come to a path: the lists of each directory, as it is read in the tree that it
+-- was made in.
+use Rattle.std.specs.Prelude.{◌≡◌, ◌++◌, ℕ, List, [], ◌∷◌, Option, Some, None}
+use Rattle.gitbase_core.specs.Objects.{Objects}
+use Rattle.glob_rules.specs.Attributes.{AttributeList}
+use Rattle.worktree_fs.specs.PathStack.{Call, push_directory, push, pop_directory}
+use Rattle.worktree_stack.specs.Checkout.{Prepared}
+use Rattle.worktree_stack.specs.Making.{Way, pushed_out, unchanged}
+use Rattle.worktree_stack.specs.Reading.{Sources, lists_at, lists_if}
+use Rattle.worktree_stack.specs.Setup.{HeldAttributes, Made, lists_of}
+
+-- the lists of the directories that some calls push, the lowest first, each as it is read in the tree that it was made in
+abbrev pub lists_out : Made → Way → Objects → Prepared → List Call → List AttributeList
+lists_out made way objects p [] = []
+lists_out made way objects p (push path is_last ∷ calls) = lists_out made way objects (pushed_out way p path is_last) calls
+lists_out made way objects p (push_directory path ∷ calls) = lists_if made made.attributes (record { tree = p.tree; objects = objects }) path ++ lists_out made way objects p calls
+lists_out made way objects p (pop_directory ∷ calls) = lists_out made way objects p calls
+
+-- the lists of the root, where it is not pushed
+abbrev pub root_lists : Made → Sources → Option (List (List ℕ)) → List AttributeList
+root_lists made s None = lists_at made s []
+root_lists made s (Some names) = []
+
+-- Some lists are the lowest of others.
+pub record AreLowest (lists all : List AttributeList) : Type 0 where
+  pub above : List AttributeList
+  pub all_is : all ≡ lists ++ above
+
+-- the lists of the directories that some calls push came above those that were held
+abbrev pub AddsOut : Made → Way → ℕ → Sources → List Call → Option HeldAttributes → Option HeldAttributes → Type 0
+AddsOut made way count s calls old new = lists_of new ≡ lists_of old ++ lists_out made way s.objects (unchanged s.tree count) calls
+
+-- Of the lists that were held the lowest stayed, and those of the directories that a lookup pushes came above them.
+pub record HoldsOut (made : Made) (way : Way) (count : ℕ) (s : Sources) (calls : List Call) (old new : Option HeldAttributes) : Type 0 where
+  pub kept : List AttributeList
+  pub lowest : AreLowest kept (lists_of old)
+  pub lists : lists_of new ≡ kept ++ lists_out made way s.objects (unchanged s.tree count) calls
