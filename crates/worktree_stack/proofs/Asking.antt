@@ -1,17 +1,16 @@
 -- What the readings of a directory ask, by what a stack was made with.
 use Rattle.std.specs.Prelude.{◌≡◌, ◌≤◌, ◌||◌, ℕ, Bool, true, false, List, [], ◌∷◌, ◌++◌, Option, Some, None, is_some}
-use Rattle.std.proofs.Common.{refl, sym, ap, ◌∙◌, arith}
+use Rattle.std.proofs.Common.{refl, ap, ◌∙◌, arith}
 use Rattle.std.proofs.lemmas.List.{append-nil}
 use Rattle.gitbase_core.specs.Path.{joined}
 use Rattle.worktree_fs.specs.Paths.{full_path}
-use Rattle.glob_rules.specs.declared.Case.{Case}
 use Rattle.worktree_stack.specs.declared.attributes_source.Source.{Source as AttributesSource}
 use Rattle.worktree_stack.specs.declared.attributes_source.Source.TheVariants as attributes_sources
 use Rattle.worktree_stack.specs.declared.ignore_source.Source.{Source}
 use Rattle.worktree_stack.specs.declared.ignore_source.Source.TheVariants.{IdMapping, WorktreeThenIdMappingIfNotSkipped}
 use Rattle.worktree_stack.specs.Counted.{files_in, blobs_in}
 use Rattle.worktree_stack.specs.Lookups.{asks_for, asks_if, asks_for_attributes, asks_attributes_if, asks_worktree}
-use Rattle.worktree_stack.specs.Reading.{Place, OneReading, places_in, ignore_places, attribute_places, ignore_places_of, attribute_places_of, ignore_readings, own_readings, info_readings, info_readings_if, attribute_readings, readings_of, texts_of, reading}
+use Rattle.worktree_stack.specs.Reading.{OneReading, places_in, ignore_places, attribute_places, ignore_places_of, attribute_places_of, ignore_readings, own_readings, info_readings, info_readings_if, attribute_readings, readings_of, texts_of, reading}
 use Rattle.worktree_stack.specs.Setup.{AttributesSetup, Setup, Made, Mapping, attributes_name, has_attributes, mapped_to}
 use Rattle.gitbase_core.specs.Objects.{Objects}
 use Rattle.worktree_fs.specs.Tree.{Names}

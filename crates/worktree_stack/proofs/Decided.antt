@@ -10,7 +10,7 @@ use Rattle.glob_rules.specs.declared.Case.{Case}
 use Rattle.worktree_fs.specs.Paths.{spelled, fronts, all_but_last}
 use Rattle.worktree_fs.proofs.Spelled.{components-spelled}
 use Rattle.worktree_stack.specs.declared.state.Checkout.{Checkout}
-use Rattle.worktree_stack.specs.Setup.{AttributesSetup, Made, Mapping, Held, attributes_setup_of, setup_of, lists_of, globals_of, all_lists, names_of, has_excludes, deciding, deciding_if}
+use Rattle.worktree_stack.specs.Setup.{AttributesSetup, Made, Mapping, Held, attributes_setup_of, setup_of, globals_of, all_lists, has_excludes, deciding, deciding_if}
 use Rattle.worktree_stack.specs.Excludes.{Rulebook, Decision, is_positive, decisive, own, above, exclude}
 use Rattle.worktree_stack.specs.Stacked.{Stacked, AreThoseOf, HoldsRules, IsInStep, made_of, pushed}
 use Rattle.worktree_stack.specs.Reading.{Sources, rulebook, lists_at, attribute_lists}

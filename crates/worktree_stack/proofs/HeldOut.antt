@@ -1,6 +1,6 @@
 -- What a stack holds of attributes on the way of a checkout.
-use Rattle.std.specs.Prelude.{◌≡◌, ◌⊎◌, ℕ, zero, suc, ◌-◌, List, [], ◌∷◌, ◌++◌, length, replicate, take, drop, Bool, true, false, Option, Some, None, is_some, Result, Ok, Err, OnOk}
-use Rattle.std.proofs.Common.{inl, inr, refl, sym, ap, ◌∙◌, append_assoc, arith}
+use Rattle.std.specs.Prelude.{◌≡◌, ℕ, zero, suc, ◌-◌, List, [], ◌∷◌, ◌++◌, length, replicate, drop, true, false, Option, Some, None, is_some, Result, Ok, Err, OnOk}
+use Rattle.std.proofs.Common.{refl, sym, ap, ◌∙◌, append_assoc, arith}
 use Rattle.std.proofs.lemmas.List.{append-nil, take-append-drop}
 use Rattle.gitbase_core.specs.Objects.{Objects}
 use Rattle.glob_rules.specs.Attributes.{AttributeList}

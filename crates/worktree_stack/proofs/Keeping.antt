@@ -1,6 +1,6 @@
 -- A stack that tells which paths are excluded makes no directories.
 use Rattle.std.specs.Prelude.{◌≡◌, ◌||◌, not, Bool, true}
-use Rattle.std.proofs.Common.{refl, sym, ap, ◌∙◌}
+use Rattle.std.proofs.Common.{ap}
 use Rattle.worktree_fs.specs.declared.worktree.Worktree.{Ghosts as WorktreeOf}
 use Rattle.worktree_stack.specs.LooksUp.{Leaves}
 use Rattle.worktree_stack.specs.Setup.{Made, has_excludes, is_checkout, keeps_tree}

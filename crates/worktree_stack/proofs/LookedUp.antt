@@ -1,12 +1,12 @@
 -- What a lookup does, by its parts.
-use Rattle.std.specs.Prelude.{◌≡◌, ℕ, ◌+◌, ◌≤◌, Bool, true, false, List, [], length, Option, Result, Ok, Err, IsErrAnd}
+use Rattle.std.specs.Prelude.{◌≡◌, ℕ, ◌+◌, ◌≤◌, Bool, true, false, List, [], length, Option, Err}
 use Rattle.std.proofs.lemmas.List.{append-nil}
 use Rattle.worktree_fs.specs.Causes.{Increased}
 use Rattle.worktree_fs.specs.PathStack.{Call, lookup_calls, IsOnWay}
 use Rattle.worktree_stack.specs.Steps.{CarriesOut, Stops}
 use Rattle.worktree_stack.proofs.Carrying.{read-none, stops-after}
 use Rattle.worktree_stack.proofs.Above.{refuses}
-use Rattle.std.proofs.Common.{refl, sym, ap, ◌∙◌, subst, arith}
+use Rattle.std.proofs.Common.{refl, sym, ◌∙◌, subst, arith}
 use Rattle.gitbase_core.specs.Objects.{Objects}
 use Rattle.gitbase_core.specs.declared.find.Find.{Ghosts as FindOf}
 use Rattle.worktree_fs.specs.declared.worktree.Worktree.{Ghosts as WorktreeOf}

@@ -1,16 +1,14 @@
 -- The directories below a root to which no link leads stay where another node is removed.
-use Rattle.std.specs.Prelude.{◌≡◌, ◌⊎◌, ℕ, suc, ◌+◌, ◌-◌, length, get_or, Bool, true, false, ◌||◌, List, [], ◌∷◌, ◌++◌, map, reverse, Option, Some, None, option_map, if◌then◌else◌}
+use Rattle.std.specs.Prelude.{◌≡◌, ℕ, suc, ◌-◌, length, get_or, Bool, true, false, ◌||◌, List, [], ◌∷◌, ◌++◌, map, reverse, Option, Some, None, if◌then◌else◌}
 use Rattle.std.specs.List.{list_any}
-use Rattle.std.proofs.Common.{arith, eqb-true, inl, inr, refl, sym, ap, ◌∙◌, subst, append_assoc}
+use Rattle.std.proofs.Common.{arith, eqb-true, refl, sym, ap, ◌∙◌, subst, append_assoc}
 use Rattle.std.proofs.lemmas.List.{append-nil, map-append, reverse-reverse}
 use Rattle.gitbase_core.specs.Path.{components, joined, is_slash, ends_in_slash}
 use Rattle.gitbase_core.proofs.Names as gitbase
 use Rattle.worktree_fs.specs.ByNames.{node_at}
 use Rattle.worktree_fs.specs.MadeAndRemoved.{Removes}
-use Rattle.worktree_fs.specs.Outlines.{outline}
 use Rattle.worktree_fs.specs.Paths.{fronts, full_path, is_dots, spelled}
-use Rattle.worktree_fs.specs.Tree.{Names, Node, Spot, Place, Jump, reached, missing, nowhere, endless, file, link, directory, other, none, child, is_directory, is_dot, is_dot_dot, is_text, along, behind, enter, onward, parent_place, resolve, spot, trail, walking}
-use Rattle.worktree_fs.proofs.Alike.{alike_directory}
+use Rattle.worktree_fs.specs.Tree.{Names, Node, Place, Jump, reached, nowhere, file, link, directory, other, child, is_directory, is_dot, is_dot_dot, is_text, along, behind, enter, onward, parent_place, resolve, spot, trail, walking}
 use Rattle.worktree_fs.proofs.ByNames.{from_none}
 use Rattle.worktree_fs.proofs.Changed.{removed-stays}
 use Rattle.worktree_fs.proofs.Spelled.{components-spelled}

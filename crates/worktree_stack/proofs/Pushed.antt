@@ -1,7 +1,7 @@
 -- Which of some directories decides, with one more behind them.
 use Rattle.std.specs.Option.{option_or}
 use Rattle.std.specs.Prelude.{◌≡◌, ℕ, zero, suc, Bool, true, false, List, [], ◌∷◌, ◌++◌, length, reverse, slice_get, Option, Some, None, is_some, if◌then◌else◌}
-use Rattle.std.proofs.Common.{refl, sym, ap, ◌∙◌, subst}
+use Rattle.std.proofs.Common.{refl, sym, ap, ◌∙◌}
 use Rattle.std.proofs.lemmas.List.{reverse-append}
 use Rattle.worktree_stack.specs.Excludes.{Decision, is_positive, first_decision, first_positive}
 use Rattle.worktree_stack.specs.Setup.{decision_in, decision_of}

@@ -24,7 +24,7 @@ use Rattle.worktree_stack.specs.Excludes.{ancestors}
 use Rattle.worktree_fs.specs.PathStack.{push_directory}
 use Rattle.worktree_stack.proofs.Refusals.{on-weaker}
 use Rattle.worktree_stack.proofs.InStep.{take-last}
-use Rattle.worktree_stack.proofs.Readings.{reads-one, only-attributes, only-ignore, Others}
+use Rattle.worktree_stack.proofs.Readings.{reads-one, Others}
 
 -- ---- places
 

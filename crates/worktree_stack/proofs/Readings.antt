@@ -1,5 +1,5 @@
 -- How readings follow each other.
-use Rattle.std.specs.Prelude.{◌≡◌, ◌⊎◌, ◌≤◌, ℕ, ◌+◌, Bool, true, false, List, [], ◌∷◌, ◌++◌, Option, Some, None, Result, Ok, Err, IsErrAnd, IfErr, IfOk, OnOk}
+use Rattle.std.specs.Prelude.{◌≡◌, ◌⊎◌, ◌≤◌, ℕ, ◌+◌, Bool, true, List, [], ◌∷◌, ◌++◌, Option, Result, Ok, Err, IsErrAnd, IfErr, IfOk, OnOk}
 use Rattle.std.proofs.Common.{inl, inr, refl, sym, ap, ◌∙◌, subst, append_assoc, arith}
 use Rattle.std.proofs.lemmas.List.{append-nil}
 use Rattle.gitbase_core.specs.Objects.{Objects}
@@ -17,10 +17,10 @@ use Rattle.worktree_stack.specs.declared.error.BlobWhy.TheVariants as blob_whys
 use Rattle.worktree_stack.specs.declared.statistics.Statistics.{Statistics}
 use Rattle.worktree_stack.specs.declared.statistics.RulesStatistics.{RulesStatistics}
 use Rattle.worktree_stack.specs.Counted.{counts_of, count_each, try_each, try_at, files_of, blobs_of, files_in, blobs_in, places_for, where_same, count_places, tried_at}
-use Rattle.worktree_stack.specs.Placed.{CountsEach, CountsReadings, CountsPlaces, TriesPlaces, IsCut, IsCutOff, IsFileCut, IsBlobCut, IsMemoryCut, IsFileIn, IsBlobIn, Reads}
-use Rattle.worktree_stack.specs.Reading.{Sources, Tells, Refusal, Place, in_tree, in_store, Text, Texts, RulesKind, of_attributes, of_ignore, OneReading, of_file, of_blob, first_text, texts_of, with_text, places_in, is_read}
-use Rattle.worktree_stack.specs.Refused.{OnRefusal, IsAmong, IsFileWhy, IsBlobWhy, IsFileRefused, IsBlobRefused, IsRefused}
-use Rattle.worktree_stack.proofs.Refusals.{on-weaker, on-both, rose-earlier, rose-later}
+use Rattle.worktree_stack.specs.Placed.{CountsEach, CountsReadings, CountsPlaces, TriesPlaces, IsCut, IsCutOff, IsFileIn, IsBlobIn, Reads}
+use Rattle.worktree_stack.specs.Reading.{Sources, Tells, Refusal, Place, in_tree, in_store, Text, Texts, RulesKind, of_attributes, of_ignore, OneReading, first_text, texts_of, with_text, places_in, is_read}
+use Rattle.worktree_stack.specs.Refused.{IsAmong, IsFileWhy, IsBlobWhy, IsRefused}
+use Rattle.worktree_stack.proofs.Refusals.{on-weaker, on-both, rose-earlier}
 
 -- ---- lists of readings
 

@@ -1,37 +1,22 @@
 -- How the steps of a checkout follow each other.
-use Rattle.std.specs.Prelude.{◌≡◌, ◌⊎◌, ℕ, zero, suc, ◌+◌, ◌*◌, ◌≤◌, Bool, true, false, if◌then◌else◌, List, [], ◌∷◌, ◌++◌, map, replicate, Option, Some, None, Result, Ok, Err, OnOk, OnErr, IfErr}
-use Rattle.std.proofs.Common.{inl, inr, refl, sym, ap, ◌∙◌, subst, append_assoc, arith}
-use Rattle.std.proofs.lemmas.List.{append-nil}
+use Rattle.std.specs.Prelude.{◌≡◌, ℕ, zero, suc, ◌+◌, List, [], ◌∷◌, ◌++◌, replicate, Option, Some, None}
+use Rattle.std.proofs.Common.{refl, sym, ap, ◌∙◌, subst, arith}
 use Rattle.gitbase_core.specs.Objects.{Objects}
-use Rattle.gitbase_core.specs.declared.find.Find.{Ghosts as FindOf}
-use Rattle.worktree_fs.specs.Causes.{Increased}
-use Rattle.worktree_fs.specs.Kept.{Asks, AsksStore}
-use Rattle.worktree_fs.specs.Paths.{full_path, spelled}
-use Rattle.worktree_fs.specs.PathStack.{Call, push, push_directory, pop_directory, deepest_names, root_calls}
+use Rattle.worktree_fs.specs.PathStack.{Call, push, push_directory, pop_directory, root_calls}
 use Rattle.worktree_fs.specs.Tree.{Names}
 use Rattle.worktree_fs.specs.declared.answers.MakeAnswer.{MakeAnswer}
 use Rattle.worktree_fs.specs.declared.answers.MakeAnswer.TheVariants as makes
 use Rattle.worktree_fs.specs.declared.worktree.Worktree.{Ghosts as WorktreeOf}
-use Rattle.worktree_stack.specs.declared.error.AtPathError.{AtPathError}
-use Rattle.worktree_stack.specs.declared.error.AtPathError.TheVariants as errors
 use Rattle.worktree_stack.specs.declared.statistics.DelegateStatistics.{DelegateStatistics}
 use Rattle.worktree_stack.specs.declared.statistics.RulesStatistics.{RulesStatistics}
 use Rattle.worktree_stack.specs.declared.statistics.Statistics.{Statistics}
-use Rattle.worktree_stack.specs.Checkout.{Prepared, IsOutcome, Changes}
-use Rattle.worktree_stack.specs.ChecksOut.{AreFine, Halts, IsHaltedAt, IsHaltedIn, IsHaltedBefore, NotReady}
+use Rattle.worktree_stack.specs.Checkout.{Prepared, IsOutcome}
 use Rattle.worktree_stack.specs.Counted.{count_call, count_calls, count_each, count_readings, counts_of}
-use Rattle.worktree_stack.specs.GoesOn.{Alters, Goes, PushesOut, with_mkdirs}
-use Rattle.worktree_stack.specs.Lookups.{stepped}
-use Rattle.worktree_stack.specs.Making.{Way, WorksOn, checked_out, count_out, is_made, made_on, mkdirs, pushed_out, unchanged, where_made, without_mkdirs}
+use Rattle.worktree_stack.specs.Making.{Way, WorksOn, checked_out, count_out, made_on, mkdirs, pushed_out, unchanged, where_made, without_mkdirs}
 use Rattle.worktree_stack.specs.Reading.{Sources, Tells, RulesKind, of_attributes, of_ignore, readings_of}
-use Rattle.worktree_stack.specs.Refused.{RefusesAt}
 use Rattle.worktree_stack.specs.Setup.{Made}
-use Rattle.worktree_stack.specs.Stacked.{Stacked, IsLevel, made_of}
-use Rattle.worktree_stack.specs.Steps.{HasReadOf, HasRead, HasTried, CarriesOut, IsStopped, IsStoppedAt, IsStoppedBefore, Stops, the_call}
-use Rattle.worktree_stack.proofs.Carrying.{carries-then, read-none, read-then, stopped-after}
-use Rattle.worktree_stack.proofs.LookedUp.{store-then}
-use Rattle.worktree_stack.proofs.Refusals.{rose-earlier}
-use Rattle.worktree_stack.proofs.Stepping.{carries-stepped}
+use Rattle.worktree_stack.specs.Stacked.{Stacked, made_of}
+use Rattle.worktree_stack.specs.Steps.{HasReadOf, HasRead, CarriesOut}
 
 -- ---- what comes of calls and more behind them
 

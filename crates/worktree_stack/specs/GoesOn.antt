@@ -1,17 +1,15 @@
 -- What the steps of a lookup do that makes the directories on its way.
 use Rattle.std.specs.Prelude.{◌≡◌, ◌⊎◌, ◌≤◌, ◌*◌, ℕ, ◌+◌, Bool, true, false, not, ◌||◌, if◌then◌else◌, List, [], ◌∷◌, ◌++◌, length, reverse, Option, Some, None, Result, IfErr, OnOk, OnErr}
 use Rattle.std.specs.List.{list_any}
-use Rattle.gitbase_core.specs.Objects.{Objects}
 use Rattle.gitbase_core.specs.Path.{components}
 use Rattle.gitbase_core.specs.declared.find.Find.{Ghosts as FindOf}
 use Rattle.worktree_fs.specs.ByNames.{node_at}
 use Rattle.worktree_fs.specs.Causes.{Increased}
 use Rattle.worktree_fs.specs.Composed.{as_kept}
-use Rattle.worktree_fs.specs.MadeAndRemoved.{Makes, Removes}
 use Rattle.worktree_fs.specs.Kept.{AsksStore}
 use Rattle.worktree_fs.specs.Paths.{full_path, is_dots, spelled}
 use Rattle.worktree_fs.specs.PathStack.{Call, deepest_names}
-use Rattle.worktree_fs.specs.Tree.{Names, Node, reached, directory, none, spot}
+use Rattle.worktree_fs.specs.Tree.{Names, reached, directory, none, spot}
 use Rattle.worktree_fs.specs.declared.answers.MakeAnswer.TheVariants as makes
 use Rattle.worktree_fs.specs.declared.worktree.Worktree.{Ghosts as WorktreeOf}
 use Rattle.worktree_stack.specs.declared.error.AtPathError.{AtPathError}

@@ -2,7 +2,7 @@
 --
 -- Each component that is pushed is tested, and then a directory is to be at its path, unless it is the last one of a path that is
 -- no directory. The calls of a lookup say which components these are, one after the other.
-use Rattle.std.specs.Prelude.{◌≡◌, ◌≤◌, ℕ, ◌+◌, ◌*◌, Bool, true, false, not, ◌||◌, ◌==◌, List, [], ◌∷◌, Option, Some, None, option_map, if◌then◌else◌}
+use Rattle.std.specs.Prelude.{◌≡◌, ◌≤◌, ℕ, ◌+◌, ◌*◌, Bool, false, not, ◌||◌, ◌==◌, List, [], ◌∷◌, Option, Some, None, if◌then◌else◌}
 use Rattle.gitbase_core.specs.declared.entry.Mode.{Mode}
 use Rattle.gitbase_core.specs.Entry.{mode_bits, symlink_mode}
 use Rattle.gitbase_core.specs.Objects.{Objects}
@@ -13,15 +13,13 @@ use Rattle.worktree_fs.specs.declared.answers.MakeAnswer.{MakeAnswer}
 use Rattle.worktree_fs.specs.declared.answers.MakeAnswer.TheVariants as makes
 use Rattle.worktree_fs.specs.declared.worktree.Worktree.{Ghosts as WorktreeOf}
 use Rattle.worktree_stack.specs.declared.state.Checkout.{Checkout}
-use Rattle.worktree_stack.specs.declared.statistics.DelegateStatistics.{DelegateStatistics}
 use Rattle.worktree_stack.specs.declared.statistics.RulesStatistics.{RulesStatistics}
 use Rattle.worktree_stack.specs.declared.statistics.Statistics.{Statistics}
 use Rattle.worktree_stack.specs.Checkout.{Prepared, IsOutcome, prepared}
 use Rattle.worktree_stack.specs.Counted.{count_each, counts_of}
 use Rattle.worktree_stack.specs.Reading.{Sources, Tells, RulesKind, readings_of}
 use Rattle.worktree_stack.specs.Setup.{Made}
-use Rattle.worktree_stack.specs.Stacked.{Stacked, made_of}
-use Rattle.worktree_stack.specs.Steps.{CarriesOut}
+use Rattle.worktree_stack.specs.Stacked.{Stacked}
 
 -- whether a link is to be made at a path, by its mode
 abbrev pub is_link_of : Option Mode → Bool

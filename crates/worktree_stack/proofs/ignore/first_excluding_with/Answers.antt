@@ -1,4 +1,4 @@
-use Rattle.std.proofs.Common.{◌≡◌, true, false, is_some, sym, ◌∙◌, rules}
+use Rattle.std.proofs.Common.{◌≡◌, true, false, is_some, rules}
 use Rattle.worktree_stack.specs.Excludes.{is_positive}
 use Rattle.worktree_stack.specs.Setup.{decision_of}
 use Rattle.worktree_stack.proofs.Pushed.{excluding-same, excluding-more, excluding-none}

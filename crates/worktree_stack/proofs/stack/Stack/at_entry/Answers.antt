@@ -6,7 +6,7 @@ use Rattle.worktree_stack.specs.HeldOut.{HoldsOut}
 use Rattle.worktree_stack.specs.Stacked.{made_of}
 use Rattle.worktree_stack.specs.ChecksOut.{ChecksOut}
 use Rattle.worktree_stack.specs.LooksUp.{LooksUp}
-use Rattle.worktree_stack.specs.Lookups.{is_dir_of, is_dir_of_entry}
+use Rattle.worktree_stack.specs.Lookups.{is_dir_of}
 use Rattle.worktree_stack.specs.Making.{is_link_of, mkdirs, way_of}
 use Rattle.worktree_stack.proofs.stack.Stack.at_entry.Goals as goal
 

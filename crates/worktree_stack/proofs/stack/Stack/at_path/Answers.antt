@@ -7,13 +7,12 @@ use Rattle.worktree_stack.specs.GoesOn.{Goes, GoesWithin}
 use Rattle.worktree_stack.specs.LooksUp.{LooksUp}
 use Rattle.worktree_stack.specs.Lookups.{is_dir_of, staying}
 use Rattle.worktree_stack.specs.Making.{is_link_of, way_of}
-use Rattle.worktree_stack.specs.Setup.{setup_of}
 use Rattle.worktree_stack.specs.Stacked.{Stacked, made_of, pushed}
 use Rattle.worktree_stack.specs.declared.error.AtPathError.{AtPathError}
 use Rattle.worktree_stack.specs.declared.state.Checkout.{Checkout}
 use Rattle.worktree_stack.proofs.Asked.{asked-as}
 use Rattle.worktree_stack.proofs.LookedUp.{not-normal, look-refused}
-use Rattle.worktree_stack.proofs.LookedOut.{checks-answered, checks-not-normal, checks-refused, keeps-none, never-both, same-checkout}
+use Rattle.worktree_stack.proofs.LookedOut.{checks-answered, checks-not-normal, checks-refused, same-checkout}
 use Rattle.worktree_stack.proofs.Refusals.{is_err}
 use Rattle.worktree_stack.specs.HeldOut.{HoldsOut}
 use Rattle.worktree_stack.specs.Making.{mkdirs}

@@ -1,8 +1,6 @@
-use Rattle.std.proofs.Common.{append_assoc, ◌≡◌, ◌∙◌, ◌++◌, ◌∷◌, [], ℕ, List, Option, refl, sym, ap, subst, length, replicate, Ok, Err, Some, None, inl, inr, arith, rules}
+use Rattle.std.proofs.Common.{append_assoc, ◌≡◌, ◌∙◌, ◌++◌, ℕ, List, refl, sym, ap, subst, length, replicate, Ok, Err, arith, rules}
 use Rattle.std.specs.Prelude.{IsErrAnd, Result, OnOk, OnErr}
-use Rattle.std.proofs.lemmas.List.{append-nil}
 use Rattle.gitbase_core.specs.Path.{components}
-use Rattle.worktree_fs.specs.Paths.{full_path, spelled}
 use Rattle.worktree_fs.specs.PathStack.{Call, kept, deepest_names, IsOnWay, calls_below, root_calls, surplus, pop_directory, lookup_calls}
 use Rattle.worktree_stack.specs.declared.error.AtPathError.{AtPathError}
 use Rattle.worktree_stack.specs.ChecksOut.{AreThere, left_of}

@@ -5,7 +5,7 @@ use Rattle.worktree_stack.specs.Lookups.{staying}
 use Rattle.worktree_stack.proofs.Surplus.{staying-up, surplus-up, staying-all}
 use Rattle.worktree_stack.proofs.Carrying.{carries-then, carries-as}
 use Rattle.worktree_stack.proofs.Stepping.{replicate-more}
-use Rattle.worktree_stack.proofs.HeldOut.{lowest-all, lowest-then}
+use Rattle.worktree_stack.proofs.HeldOut.{lowest-then}
 use Rattle.worktree_stack.proofs.stack.Stack.pop_surplus.Goals as goal
 
 pub loop-preserved : goal.loop-preserved

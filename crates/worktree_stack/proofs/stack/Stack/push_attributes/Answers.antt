@@ -1,19 +1,17 @@
-use Rattle.std.proofs.Common.{◌≡◌, ◌∙◌, ◌∷◌, ◌++◌, [], ℕ, List, Option, Some, None, Result, Ok, Err, refl, sym, ap, subst, rules}
+use Rattle.std.proofs.Common.{◌≡◌, ◌∙◌, ◌++◌, ℕ, List, Option, Result, Ok, Err, sym, ap, subst, rules}
 use Rattle.std.specs.Prelude.{IsErrAnd}
 use Rattle.worktree_fs.specs.Paths.{spelled}
 use Rattle.worktree_stack.specs.declared.error.AtPathError.{AtPathError}
-use Rattle.worktree_stack.specs.declared.error.AtPathError.TheVariants as errors
 use Rattle.worktree_stack.specs.declared.statistics.Statistics.{Statistics}
-use Rattle.worktree_stack.specs.declared.statistics.RulesStatistics.{RulesStatistics}
 use Rattle.worktree_stack.specs.Placed.{Reads}
-use Rattle.worktree_stack.specs.Reading.{Place, Text, OneReading, RulesKind, of_attributes, of_ignore, text_of, places_by, ignore_readings, own_readings, info_readings, info_readings_if, info_places, ignore_places_of, attribute_places_of}
-use Rattle.worktree_stack.specs.Setup.{AttributesSetup, Setup, Made, attributes_setup_of, setup_of, mapped_to}
-use Rattle.worktree_stack.specs.Stacked.{Stacked, made_of}
+use Rattle.worktree_stack.specs.Reading.{OneReading, own_readings, info_readings_if}
+use Rattle.worktree_stack.specs.Setup.{AttributesSetup, Made, attributes_setup_of}
+use Rattle.worktree_stack.specs.Stacked.{made_of}
 use Rattle.worktree_stack.specs.Setup.{HeldAttributes, IsLonger, lists_of, pop_list}
 use Rattle.worktree_stack.specs.Stacked.{own_count, info_count_if, attributes_of}
 use Rattle.worktree_stack.proofs.Refusals.{is_err}
 use Rattle.worktree_stack.proofs.Readings.{reads-cut, reads-then}
-use Rattle.worktree_stack.proofs.Pushing.{info-same, reads-as, own-dropped, longer-then}
+use Rattle.worktree_stack.proofs.Pushing.{info-same, own-dropped, longer-then}
 use Rattle.worktree_stack.proofs.stack.Stack.push_attributes.Goals as goal
 
 pub returns-in_err-push_own-clause-reads : goal.returns-in_err-push_own-clause-reads

@@ -1,14 +1,12 @@
-use Rattle.std.proofs.Common.{◌≡◌, ◌∙◌, ◌∷◌, [], ℕ, List, Option, Some, None, Result, Ok, Err, refl, sym, ap, subst, rules}
+use Rattle.std.proofs.Common.{◌≡◌, [], ℕ, List, refl, sym, subst, rules}
 use Rattle.std.specs.Prelude.{IsErrAnd}
 use Rattle.worktree_fs.specs.Paths.{spelled}
-use Rattle.worktree_stack.specs.declared.error.AtPathError.{AtPathError}
 use Rattle.worktree_stack.specs.declared.error.AtPathError.TheVariants as errors
 use Rattle.worktree_stack.specs.declared.statistics.Statistics.{Statistics}
-use Rattle.worktree_stack.specs.declared.statistics.RulesStatistics.{RulesStatistics}
 use Rattle.worktree_stack.specs.Placed.{Reads}
-use Rattle.worktree_stack.specs.Reading.{Place, Text, OneReading, RulesKind, of_attributes, of_ignore, text_of, places_by, ignore_readings, own_readings, info_readings, info_readings_if, info_places, ignore_places_of, attribute_places_of}
-use Rattle.worktree_stack.specs.Setup.{AttributesSetup, Setup, Made, attributes_setup_of, setup_of, mapped_to}
-use Rattle.worktree_stack.specs.Stacked.{Stacked, made_of}
+use Rattle.worktree_stack.specs.Reading.{ignore_readings}
+use Rattle.worktree_stack.specs.Setup.{Made}
+use Rattle.worktree_stack.specs.Stacked.{made_of}
 use Rattle.worktree_stack.specs.Stacked.{ignore_of}
 use Rattle.worktree_stack.proofs.InStep.{pushed_more}
 use Rattle.worktree_stack.proofs.Levels.{pushed-level}

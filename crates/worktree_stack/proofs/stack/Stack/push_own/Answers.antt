@@ -1,14 +1,13 @@
-use Rattle.std.proofs.Common.{◌≡◌, ◌∙◌, ◌∷◌, [], ℕ, List, Option, Some, None, Result, Ok, Err, refl, sym, ap, subst, rules}
+use Rattle.std.proofs.Common.{◌≡◌, ◌∙◌, ◌∷◌, [], ℕ, List, Option, Some, None, Result, refl, ap, subst, rules}
 use Rattle.std.specs.Prelude.{IsErrAnd}
 use Rattle.worktree_fs.specs.Paths.{spelled}
 use Rattle.worktree_stack.specs.declared.error.AtPathError.{AtPathError}
 use Rattle.worktree_stack.specs.declared.error.AtPathError.TheVariants as errors
 use Rattle.worktree_stack.specs.declared.statistics.Statistics.{Statistics}
-use Rattle.worktree_stack.specs.declared.statistics.RulesStatistics.{RulesStatistics}
 use Rattle.worktree_stack.specs.Placed.{Reads}
-use Rattle.worktree_stack.specs.Reading.{Place, Text, bytes_of, attributes_from, OneReading, RulesKind, of_attributes, of_ignore, text_of, places_by, ignore_readings, own_readings, info_readings, info_readings_if, info_places, ignore_places_of, attribute_places_of}
-use Rattle.worktree_stack.specs.Setup.{AttributesSetup, HeldAttributes, Setup, Made, attributes_name, attributes_setup_of, setup_of, push_list, mapped_to}
-use Rattle.worktree_stack.specs.Stacked.{Stacked, made_of, own_count, attributes_of}
+use Rattle.worktree_stack.specs.Reading.{Text, bytes_of, attributes_from, OneReading, of_attributes, text_of, places_by, own_readings, attribute_places_of}
+use Rattle.worktree_stack.specs.Setup.{AttributesSetup, HeldAttributes, Made, attributes_name, attributes_setup_of, push_list, mapped_to}
+use Rattle.worktree_stack.specs.Stacked.{made_of, own_count, attributes_of}
 use Rattle.glob_rules.specs.AttributeLines.{lines}
 use Rattle.glob_rules.specs.AttributeNames.{names_in}
 use Rattle.glob_rules.specs.Attributes.{AttributeList}

@@ -1,19 +1,17 @@
-use Rattle.std.proofs.Common.{true, ◌≡◌, ◌∙◌, ◌∷◌, ◌++◌, [], ℕ, List, Option, Some, None, Result, Ok, Err, refl, sym, ap, subst, rules}
+use Rattle.std.proofs.Common.{true, ◌≡◌, ◌∙◌, ◌++◌, ℕ, List, Option, Result, Ok, Err, refl, sym, ap, subst, rules}
 use Rattle.std.specs.Prelude.{IsErrAnd}
 use Rattle.worktree_fs.specs.Paths.{spelled}
 use Rattle.worktree_stack.specs.declared.error.AtPathError.{AtPathError}
-use Rattle.worktree_stack.specs.declared.error.AtPathError.TheVariants as errors
 use Rattle.worktree_stack.specs.declared.statistics.Statistics.{Statistics}
-use Rattle.worktree_stack.specs.declared.statistics.RulesStatistics.{RulesStatistics}
 use Rattle.worktree_stack.specs.Placed.{Reads}
-use Rattle.worktree_stack.specs.Reading.{is_read, texts_of, reading, Place, Text, OneReading, RulesKind, Sources, Tells, attribute_readings, readings_of, lists_at, of_attributes, of_ignore, text_of, places_by, ignore_readings, own_readings, info_readings, info_readings_if, info_places, ignore_places_of, attribute_places_of}
-use Rattle.worktree_stack.specs.Setup.{AttributesSetup, HeldAttributes, lists_of, IsLonger, pop_lists, Setup, Made, attributes_setup_of, setup_of, mapped_to}
-use Rattle.worktree_stack.specs.Stacked.{Stacked, made_of, attributes_of, count_at, HoldsFor, HasAsMany}
+use Rattle.worktree_stack.specs.Reading.{is_read, texts_of, reading, OneReading, Sources, attribute_readings, readings_of, lists_at, ignore_readings}
+use Rattle.worktree_stack.specs.Setup.{AttributesSetup, HeldAttributes, lists_of, IsLonger, pop_lists, Made, attributes_setup_of}
+use Rattle.worktree_stack.specs.Stacked.{Stacked, made_of, attributes_of, count_at}
 use Rattle.worktree_stack.proofs.Refusals.{is_err}
 use Rattle.worktree_stack.proofs.Readings.{reads-cut, reads-then, later}
 use Rattle.worktree_stack.proofs.InStep.{pushed_all}
 use Rattle.worktree_stack.proofs.Levels.{lists-level}
-use Rattle.worktree_stack.proofs.Pushing.{reads-counted, reads-as, all-dropped, rules-bridge, level-bridge}
+use Rattle.worktree_stack.proofs.Pushing.{reads-counted, all-dropped, rules-bridge, level-bridge}
 use Rattle.worktree_stack.proofs.stack.Stack.push_rules.Goals as goal
 
 pub returns-in_err-push_attributes-clause-reads : goal.returns-in_err-push_attributes-clause-reads

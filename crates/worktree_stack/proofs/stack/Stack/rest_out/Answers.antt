@@ -1,21 +1,19 @@
-use Rattle.std.proofs.Common.{◌≡◌, ◌∙◌, ◌++◌, ◌∷◌, [], ℕ, List, Option, Bool, inl, inr, refl, sym, ap, subst, is_some, true, false, length, Ok, Err, Some, arith, rules}
-use Rattle.std.specs.Prelude.{IsErrAnd, Result, OnOk, OnErr}
+use Rattle.std.proofs.Common.{◌≡◌, ◌∙◌, ◌++◌, ◌∷◌, [], ℕ, List, Option, inl, inr, refl, sym, ap, subst, is_some, true, false, length, Ok, Err, arith, rules}
+use Rattle.std.specs.Prelude.{IsErrAnd, Result}
 use Rattle.std.proofs.lemmas.List.{length-append, append-nil}
-use Rattle.gitbase_core.specs.Objects.{Objects}
 use Rattle.gitbase_core.specs.Path.{components}
-use Rattle.worktree_fs.specs.Paths.{spelled, full_path}
-use Rattle.worktree_fs.specs.PathStack.{Call, deepest_names, push, calls_for, calls_below}
+use Rattle.worktree_fs.specs.PathStack.{Call, deepest_names, calls_for, calls_below}
 use Rattle.worktree_stack.specs.declared.error.AtPathError.{AtPathError}
-use Rattle.worktree_stack.specs.GoesOn.{Goes, PushesOut, Keeping, Kept, MayGoOn, KeepsOn}
+use Rattle.worktree_stack.specs.GoesOn.{Goes, PushesOut, Keeping, Kept, KeepsOn}
 use Rattle.worktree_stack.specs.Lookups.{is_dir_of}
 use Rattle.worktree_stack.specs.Making.{Way, is_link_of, way_of}
 use Rattle.worktree_stack.specs.Setup.{Made}
 use Rattle.worktree_stack.specs.Stacked.{Stacked, made_of}
 use Rattle.worktree_stack.proofs.Stepping.{on_err}
-use Rattle.worktree_stack.proofs.Descent.{IsBelow, below_first, below_next, on_way, on_way_same, next-calls, further, last-calls, no-calls}
+use Rattle.worktree_stack.proofs.Descent.{below_first, below_next, on_way, on_way_same, next-calls, further, last-calls, no-calls}
 use Rattle.worktree_stack.proofs.Refusals.{is_err}
 use Rattle.worktree_stack.proofs.Going.{goes-then, goes-more, goes-as, goes-nothing, goes-left, goes-pushed}
-use Rattle.worktree_stack.specs.Checkout.{IsOutcome, KeepsName, LeadsToDirectory}
+use Rattle.worktree_stack.specs.Checkout.{IsOutcome}
 use Rattle.worktree_stack.specs.GoesOn.{KeepsAll, LeavesLast}
 use Rattle.worktree_stack.specs.Making.{checked_out, mkdirs, unchanged}
 use Rattle.worktree_fs.specs.Tree.{Names}
@@ -24,9 +22,8 @@ use Rattle.std.proofs.Common.{append_assoc}
 use Rattle.worktree_stack.proofs.Holding.{kept-now}
 use Rattle.worktree_stack.proofs.KeptSteps.{pushed-field, pushed-kept}
 use Rattle.worktree_stack.proofs.Preparing.{some-same}
-use Rattle.worktree_stack.proofs.RestOut.{keeping-by, keeps-left, kept-by, nil-is, last-there, looked-pushed, may-behind, may-first, rest-none, taken-names, way-same}
+use Rattle.worktree_stack.proofs.RestOut.{keeping-by, keeps-left, kept-by, nil-is, last-there, looked-pushed, may-first, rest-none, taken-names, way-same}
 use Rattle.worktree_stack.specs.HeldOut.{AddsOut}
-use Rattle.worktree_stack.specs.Reading.{Sources, Tells}
 use Rattle.worktree_stack.specs.Setup.{HeldAttributes}
 use Rattle.worktree_stack.proofs.HeldOut.{adds-same, adds-then, always}
 use Rattle.worktree_stack.proofs.stack.Stack.rest_out.Goals as goal

@@ -1,4 +1,4 @@
-use Rattle.std.proofs.Common.{◌≡◌, ◌≤◌, ◌++◌, [], List, ℕ, is_some, true, length, Ok}
+use Rattle.std.proofs.Common.{◌≡◌, ◌≤◌, ◌++◌, List, ℕ, is_some, true, length, Ok}
 use Rattle.gitbase_core.specs.Path.{components}
 use Rattle.worktree_fs.specs.PathStack.{Call, deepest_names, calls_below}
 use Rattle.worktree_fs.specs.Tree.{Names}

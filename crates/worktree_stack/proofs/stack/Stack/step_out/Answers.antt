@@ -1,17 +1,16 @@
-use Rattle.std.proofs.Common.{◌≡◌, ◌∙◌, ◌++◌, ◌∷◌, [], ℕ, List, refl, sym, ap, subst, arith, Ok, Err, rules}
+use Rattle.std.proofs.Common.{◌≡◌, ◌∙◌, ◌++◌, ◌∷◌, [], ℕ, List, sym, ap, subst, arith, Ok, Err, rules}
 use Rattle.std.specs.Prelude.{IsErrAnd, Result, is_some, false}
-use Rattle.gitbase_core.specs.Objects.{Objects}
 use Rattle.worktree_fs.specs.Paths.{spelled}
 use Rattle.worktree_fs.specs.PathStack.{deepest_names, push, push_directory}
 use Rattle.worktree_stack.specs.declared.error.AtPathError.{AtPathError}
-use Rattle.worktree_stack.specs.GoesOn.{Goes, KeepsOn, PushesOut, with_mkdirs}
-use Rattle.worktree_stack.specs.Lookups.{is_dir_of, stepped}
+use Rattle.worktree_stack.specs.GoesOn.{Goes, KeepsOn, PushesOut}
+use Rattle.worktree_stack.specs.Lookups.{is_dir_of}
 use Rattle.worktree_stack.specs.Making.{Way, is_link_of, mkdirs, way_of}
 use Rattle.worktree_stack.specs.Stacked.{Stacked, made_of}
 use Rattle.worktree_stack.proofs.Asked.{asked-directory}
 use Rattle.worktree_stack.proofs.InStep.{pushed-below}
 use Rattle.worktree_stack.proofs.Refusals.{is_err}
-use Rattle.worktree_stack.proofs.Going.{goes-then, goes-more, goes-as, goes-pushed, goes-unpushed}
+use Rattle.worktree_stack.proofs.Going.{goes-then, goes-more, goes-pushed, goes-unpushed}
 use Rattle.worktree_stack.proofs.KeptSteps.{keeps-refused, keeps-passed}
 use Rattle.worktree_fs.proofs.Lookups.{on_ok}
 use Rattle.worktree_stack.specs.Checkout.{IsOutcome, Prepared}

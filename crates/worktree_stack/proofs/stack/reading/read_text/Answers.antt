@@ -1,4 +1,4 @@
-use Rattle.std.proofs.Common.{◌≡◌, ◌∙◌, ◌∷◌, [], ℕ, List, Option, Bool, false, None, Ok, IfErr, refl, sym, ap, subst, rules}
+use Rattle.std.proofs.Common.{◌≡◌, ◌∷◌, [], ℕ, List, Option, false, Ok, IfErr, refl, sym, ap, subst, rules}
 use Rattle.std.specs.Prelude.{IsErrAnd}
 use Rattle.std.proofs.lemmas.Result.{IfErr-weaker}
 use Rattle.worktree_fs.specs.Causes.{Increased}
