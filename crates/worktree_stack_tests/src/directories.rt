@@ -1,6 +1,7 @@
 //! Lookups that make the directories on their way, in a checkout.
 use crate::attributes::has;
 use crate::checkout::{component_word, kind_word, parted, plan, tree_of};
+use crate::lookups::{look_up_entry, look_up_path};
 use crate::steps::{Scene, is_digit};
 use bstr::ByteSlice;
 use gitbase_core::{Bytes, MemoryStore, Mode, OutOfMemory, PathText};
@@ -105,9 +106,9 @@ fn look(
 ) -> Result<(), AtPathError> {
     let mut store = MemoryStore::new(alloc);
     if mode == b"e".as_slice() {
-        return stack.at_entry(alloc, path, None, tree, &mut store);
+        return look_up_entry(alloc, stack, path, None, tree, &mut store);
     }
-    stack.at_path(alloc, path, mode_of(mode), tree, &mut store)
+    look_up_path(alloc, stack, path, mode_of(mode), tree, &mut store)
 }
 
 /// Whether a lookup answers so, and leaves the counts and the node.

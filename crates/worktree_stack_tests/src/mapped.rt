@@ -1,5 +1,6 @@
 //! Cases of rules files that an index maps to blobs.
 use crate::failing::FailingStore;
+use crate::lookups::look_up_path;
 use crate::steps::{Scene, first_lie, id_of, is_digit, parse, parted};
 use bstr::ByteSlice;
 use gitbase_core::{Flags, IndexEntry, MemoryStore, Mode, OutOfMemory, PathText, State as Index};
@@ -161,7 +162,7 @@ fn is_fault(
     tree: &mut MemoryWorktree,
     store: &mut FailingStore,
 ) -> bool {
-    match &stack.at_path(alloc, b"a.o", None, tree, store) {
+    match &look_up_path(alloc, stack, b"a.o", None, tree, store) {
         Err(AtPathError::Blob { id, why }) => *id == id_of(b"1") && *why == BlobWhy::Fault,
         _ => false,
     }

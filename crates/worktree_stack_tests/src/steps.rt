@@ -163,10 +163,7 @@ fn is_file_refused(
     file: &[u8],
     reason: RulesWhy,
 ) -> bool {
-    match &scene
-        .stack
-        .at_path(alloc, path, None, scene.tree, scene.store)
-    {
+    match &look_up_path(alloc, scene.stack, path, None, scene.tree, scene.store) {
         Err(AtPathError::RulesFile { path, why }) => path.as_bytes() == file && *why == reason,
         _ => false,
     }
@@ -180,10 +177,7 @@ fn is_blob_refused(
     digit: &[u8],
     reason: BlobWhy,
 ) -> bool {
-    match &scene
-        .stack
-        .at_path(alloc, path, None, scene.tree, scene.store)
-    {
+    match &look_up_path(alloc, scene.stack, path, None, scene.tree, scene.store) {
         Err(AtPathError::Blob { id, why }) => *id == id_of(digit) && *why == reason,
         _ => false,
     }
@@ -191,9 +185,7 @@ fn is_blob_refused(
 
 fn is_not_normal(alloc: Global, scene: &mut Scene<'_>, path: &[u8]) -> bool {
     matches!(
-        &scene
-            .stack
-            .at_path(alloc, path, None, scene.tree, scene.store),
+        &look_up_path(alloc, scene.stack, path, None, scene.tree, scene.store),
         Err(AtPathError::NotNormal)
     )
 }
