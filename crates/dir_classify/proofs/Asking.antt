@@ -43,18 +43,18 @@ module _ (o : Chosen) (ev : Evidence) (kinds : List ℕ → Option Kind) where
       omega (arith, asking-more [] names rest, whole, most)
 
 -- they were not asked
-pub unasked-needed : {F : Type 0} {recurses : Bool} {r0 r1 : ℕ} {o0 o1 : F} {old new : Option Stacked} → Unasked recurses r0 r1 o0 o1 old new → (n : ℕ) → platforms_of new ≤ platforms_of old + n
+pub unasked-needed : {F : Type 0} {most : ℕ} {r0 r1 : ℕ} {o0 o1 : F} {old new : Option Stacked} → Unasked most r0 r1 o0 o1 old new → (n : ℕ) → platforms_of new ≤ platforms_of old + n
 unasked-needed {old = old} {new = new} a n = let same : platforms_of new ≡ platforms_of old = ap (λ (x : Option Stacked). platforms_of x) a.same in omega (arith, same)
 
-needed-if : {F T E : Type 0} (recurses : Bool) (path : List ℕ) (r0 r1 : ℕ) (o0 o1 : F) (old new : Option Stacked) (result : Result T E) (asks : Bool)
-    → (asks ≡ false → Unasked recurses r0 r1 o0 o1 old new) → AsksAtMost recurses path r0 r1 o0 o1 old new result → platforms_of new ≤ platforms_of old + (if asks then 1 else 0)
-needed-if recurses path r0 r1 o0 o1 old new result false none asked = unasked-needed (none refl) 0
-needed-if recurses path r0 r1 o0 o1 old new result true none (inl a) = unasked-needed a 1
-needed-if recurses path r0 r1 o0 o1 old new result true none (inr b) = let once = b.once in omega (arith, once)
+needed-if : {F T E : Type 0} (most : ℕ) (path : List ℕ) (r0 r1 : ℕ) (o0 o1 : F) (old new : Option Stacked) (result : Result T E) (asks : Bool)
+    → (asks ≡ false → Unasked most r0 r1 o0 o1 old new) → AsksAtMost most path r0 r1 o0 o1 old new result → platforms_of new ≤ platforms_of old + (if asks then 1 else 0)
+needed-if most path r0 r1 o0 o1 old new result false none asked = unasked-needed (none refl) 0
+needed-if most path r0 r1 o0 o1 old new result true none (inl a) = unasked-needed a 1
+needed-if most path r0 r1 o0 o1 old new result true none (inr b) = let once = b.once in omega (arith, once)
 
 -- or only where they are asked
-pub asked-needed : {F T E : Type 0} (o : Chosen) (ev : Evidence) (kinds : List ℕ → Option Kind) (recurses : Bool) (path : List ℕ) (r0 r1 : ℕ) (o0 o1 : F) (old new : Option Stacked) (result : Result T E)
-    → (asks_of o ev path (kinds path) None ≡ false → Unasked recurses r0 r1 o0 o1 old new) → AsksAtMost recurses path r0 r1 o0 o1 old new result
+pub asked-needed : {F T E : Type 0} (o : Chosen) (ev : Evidence) (kinds : List ℕ → Option Kind) (most : ℕ) (path : List ℕ) (r0 r1 : ℕ) (o0 o1 : F) (old new : Option Stacked) (result : Result T E)
+    → (asks_of o ev path (kinds path) None ≡ false → Unasked most r0 r1 o0 o1 old new) → AsksAtMost most path r0 r1 o0 o1 old new result
     → platforms_of new ≤ platforms_of old + asking_at o ev kinds path
 unfolding asking_at
-asked-needed o ev kinds recurses path r0 r1 o0 o1 old new result none asked = needed-if recurses path r0 r1 o0 o1 old new result (asks_of o ev path (kinds path) None) none asked
+asked-needed o ev kinds most path r0 r1 o0 o1 old new result none asked = needed-if most path r0 r1 o0 o1 old new result (asks_of o ev path (kinds path) None) none asked

@@ -22,13 +22,15 @@ use Rattle.dir_classify.specs.declared.error.Error.TheVariants as errors
 use Rattle.dir_classify.specs.Class.{asks as asks_of}
 use Rattle.dir_classify.specs.Classes.{Judges}
 use Rattle.dir_classify.specs.Question.{about_way}
+use Rattle.dir_classify.specs.Kept.{Unasked}
+use Rattle.dir_classify.specs.Reads.{most_on_way, most_sought}
 use Rattle.dir_classify.specs.Refused.{StopsIf}
 use Rattle.dir_classify.specs.Rooted.{AsksOnWay, LeadsTo, Reaches, reached_by, way_to}
 use Rattle.dir_classify.proofs.Classed.{OnLookup-weaker, asked-quiet}
 use Rattle.dir_classify.proofs.Refusals.{OnAccess-both, unread-refused}
 use Rattle.dir_classify.proofs.WayUnread.{either-unread, quiet-not, unread-onward, unread-way, yes-no}
 use Rattle.dir_classify.proofs.Asking.{needed-root, unasked-needed}
-use Rattle.dir_classify.proofs.WayAsked.{leads-further, way-answered, way-root, way-stopped}
+use Rattle.dir_classify.proofs.WayAsked.{leads-further, unasked-first, unasked-root, way-answered, way-root, way-stopped}
 use Rattle.dir_classify.specs.declared.entry.Kind.{Kind}
 use Rattle.dir_classify.specs.Chosen.{Chosen}
 use Rattle.dir_classify.specs.Evidence.{Evidence}
@@ -76,6 +78,10 @@ module _ {W F : Type 0} (w : WorktreeOf W) (f : FindOf F) (w0 w1 : W) (o0 o1 : F
   path_is : r.path ≡ path
   path_is = ap (λ (x : Reached). x.path) r_is
 
+  unasked-there : Unasked (most_on_way (most_sought given.options) (components path)) (w.reads w0) (w.reads w1) o0 o1 old new
+      → Unasked (most_on_way (most_sought given.options) (components r.path)) (w.reads w0) (w.reads w1) o0 o1 old new
+  unasked-there = subst (λ (p : List ℕ). Unasked (most_on_way (most_sought given.options) (components p)) (w.reads w0) (w.reads w1) o0 o1 old new) (sym path_is)
+
   pub Reaches-ended : Reaches w f w0 w1 o0 o1 old new given root (Ok r)
   Reaches-ended =
       record {
@@ -110,17 +116,17 @@ module _ {W F : Type 0} (w : WorktreeOf W) (f : FindOf F) (w0 w1 : W) (o0 o1 : F
         unmapped = at.unmapped;
         rules = at.rules;
         reads =
-            subst (λ (p : List ℕ). AsksOnWay {E = Error} given.options.recurse_repositories p (w.reads w0) (w.reads w1) o0 o1 old new (Ok r)) (sym path_is)
-            (way-answered given.options.recurse_repositories path (w.reads w0) (w.reads w1) o0 o1 old new tt r at.reads);
+            subst (λ (p : List ℕ). AsksOnWay {E = Error} (most_sought given.options) p (w.reads w0) (w.reads w1) o0 o1 old new (Ok r)) (sym path_is)
+            (way-answered (most_sought given.options) path (w.reads w0) (w.reads w1) o0 o1 old new tt r at.reads);
         unsought = λ s tells stepped quiet never.
-            subst (λ (p : List ℕ). AsksOnWay {E = Error} true p (w.reads w0) (w.reads w1) o0 o1 old new (Ok r)) (sym path_is)
-            (way-answered true path (w.reads w0) (w.reads w1) o0 o1 old new tt r
+            subst (λ (p : List ℕ). AsksOnWay {E = Error} 0 p (w.reads w0) (w.reads w1) o0 o1 old new (Ok r)) (sym path_is)
+            (way-answered 0 path (w.reads w0) (w.reads w1) o0 o1 old new tt r
             (at.unsought s tells stepped quiet (λ p leads. never p (subst (λ (x : List ℕ). LeadsTo x p) (sym path_is) leads))));
         needed = λ s told quiet.
             subst (λ (p : List ℕ). platforms_of new ≤ platforms_of old + asking_behind given.options (evidence given (made_with old) s) (λ q. on_disk given s.tree q true) [] (components p)) (sym path_is)
             (at.needed s told quiet);
-        spared = λ s never. (at.spared s (λ p leads. never p (subst (λ (x : List ℕ). LeadsTo x p) (sym path_is) leads)), tt);
-        unasked = λ s told quiet never. at.unasked s told quiet (λ p leads. never p (subst (λ (x : List ℕ). LeadsTo x p) (sym path_is) leads));
+        spared = λ s never. (unasked-there (at.spared s (λ p leads. never p (subst (λ (x : List ℕ). LeadsTo x p) (sym path_is) leads))), tt);
+        unasked = λ s told quiet never. unasked-there (at.unasked s told quiet (λ p leads. never p (subst (λ (x : List ℕ). LeadsTo x p) (sym path_is) leads)));
       }
 
 -- no component is left
@@ -173,17 +179,20 @@ Reaches-stopped w f w0 w1 o0 o1 old new given root path rest c in_repository at 
       store = at.store;
       unmapped = at.unmapped;
       rules = at.rules;
-      reads = way-root given.options.recurse_repositories root path (components rest) (w.reads w0) (w.reads w1) o0 o1 old new (Err errors.OutOfMemory) at.split
-          (way-stopped given.options.recurse_repositories path (w.reads w0) (w.reads w1) o0 o1 old new errors.OutOfMemory at.reads);
+      reads = way-root (most_sought given.options) root path (components rest) (w.reads w0) (w.reads w1) o0 o1 old new (Err errors.OutOfMemory) at.split
+          (way-stopped (most_sought given.options) path (w.reads w0) (w.reads w1) o0 o1 old new errors.OutOfMemory at.reads);
       unsought = λ s tells stepped quiet never.
-          way-root true root path (components rest) (w.reads w0) (w.reads w1) o0 o1 old new (Err errors.OutOfMemory) at.split
-          (way-stopped true path (w.reads w0) (w.reads w1) o0 o1 old new errors.OutOfMemory
+          way-root 0 root path (components rest) (w.reads w0) (w.reads w1) o0 o1 old new (Err errors.OutOfMemory) at.split
+          (way-stopped 0 path (w.reads w0) (w.reads w1) o0 o1 old new errors.OutOfMemory
           (at.unsought s tells stepped quiet (λ p leads. never p (leads-further root path p (components rest) at.split leads))));
       needed = λ s told quiet.
           needed-root given.options (evidence given (made_with old) s) (λ p. on_disk given s.tree p true) (components path) (components rest) (components root) (platforms_of old) (platforms_of new) at.split
           (at.needed s told quiet);
-      spared = λ s never. (at.spared s (λ p leads. never p (leads-further root path p (components rest) at.split leads)), tt);
-      unasked = λ s told quiet never. at.unasked s told quiet (λ p leads. never p (leads-further root path p (components rest) at.split leads));
+      spared = λ s never.
+          (unasked-root (most_sought given.options) (components root) (components path) (components rest) at.split (at.spared s (λ p leads. never p (leads-further root path p (components rest) at.split leads))), tt);
+      unasked = λ s told quiet never.
+          unasked-root (most_sought given.options) (components root) (components path) (components rest) at.split
+          (at.unasked s told quiet (λ p leads. never p (leads-further root path p (components rest) at.split leads)));
     }
 
 -- the class of the worktree root was refused
@@ -230,9 +239,9 @@ Reaches-unrooted w f w0 w1 o0 o1 old new given root e step =
       store = step.store;
       unmapped = step.unmapped;
       rules = step.rules;
-      reads = inl (root-unasked step);
-      unsought = λ s tells stepped quiet never. inl (root-unread step s tells.tree_is quiet (never [] leads));
+      reads = inl (unasked-first (most_sought given.options) (components root) (root-unasked step));
+      unsought = λ s tells stepped quiet never. inl (unasked-first 0 (components root) (root-unread step s tells.tree_is quiet (never [] leads)));
       needed = λ s told quiet. unasked-needed (root-unasked step) _;
-      spared = λ s never. (root-unasked step, root-memory step);
-      unasked = λ s told quiet never. root-unasked step;
+      spared = λ s never. (unasked-first (most_sought given.options) (components root) (root-unasked step), root-memory step);
+      unasked = λ s told quiet never. unasked-first (most_sought given.options) (components root) (root-unasked step);
     }

@@ -23,10 +23,11 @@ use Rattle.dir_classify.specs.Kept.{Unasked}
 use Rattle.std.specs.Option.{option_or}
 use Rattle.dir_classify.specs.Kinds.{is_dir}
 use Rattle.dir_classify.specs.Layers.{Setting, evidence, indexed_as, kind_at, on_disk}
+use Rattle.dir_classify.specs.Reads.{most_sought}
 use Rattle.dir_classify.specs.Question.{Question, about_dot_git, about_kind, about_path}
 use Rattle.dir_classify.proofs.Classed.{asked-as, asked-kind, classed-as, classed-as-judged, classed-kind}
 use Rattle.dir_classify.proofs.Fitting.{asks-dot_git, can_match-of, dot_git-case, in_index-of, kind-asks, kind-case, kind-seeks, nothing-dot_git, nothing-kind, unmatched-asks, unmatched-case}
-use Rattle.dir_classify.proofs.Keeping.{asks-same, asks-then, at-most-later, increased-later, quiet-first, quiet-second, tells-then, unasked-later}
+use Rattle.dir_classify.proofs.Keeping.{asks-same, asks-then, at-most-later, increased-later, quiet-first, quiet-second, read-not, tells-then, unasked-later}
 use Rattle.dir_classify.proofs.Refusals.{OnAccess-weaker, OnFault-weaker}
 use Rattle.dir_classify.proofs.Stopped.{stopped-later}
 use Rattle.dir_classify.proofs.Upgrades.{judged-unread, rose-or}
@@ -38,7 +39,7 @@ none-unread true b e = absurd (cc e)
 none-unread false b e = refl
 
 pub unruled : {W F : Type 0} (w : WorktreeOf W) (f : FindOf F) (w0 w1 : W) (o0 : F) (old : Option Stacked) (given : Setting) (q : Question) (c : Outcome)
-    → Asks w w0 w1 → (given.options.recurse_repositories ≡ true → w.reads w1 ≡ w.reads w0)
+    → Asks w w0 w1 → w.reads w1 ≤ w.reads w0 + most_sought given.options
     → ((s : Sources) → w.told w0 ≡ Some s.tree → NotIncreased (w.faults w0) (w.faults w1) → c ≡ q.judge (on_disk given s.tree q.path q.ask_disk) (evidence given (made_with old) s))
     → ((s : Sources) → w.told w0 ≡ Some s.tree → IsJudged (w.faults w0) (w.faults w1) q.judge (evidence given (made_with old) s) (on_disk given s.tree q.path q.ask_disk) c)
     → ((s : Sources) (kind : Option Kind) → q.asks kind (evidence given (made_with old) s) ≡ false)
@@ -47,7 +48,7 @@ pub unruled : {W F : Type 0} (w : WorktreeOf W) (f : FindOf F) (w0 w1 : W) (o0 :
     → ((s : Sources) → q.nothing (evidence given (made_with old) s) ≡ true → (w1 ≡ w0) × (c ≡ q.judge None (evidence given (made_with old) s)))
     → Judges w f w0 w1 o0 o0 old old given q (Ok c)
 unruled w f w0 w1 o0 old given q c kept reads is judged none unsought sought same =
-    let unasked : Unasked given.options.recurse_repositories (w.reads w0) (w.reads w1) o0 o0 old old = record { same = refl; store = refl; reads = reads } in
+    let unasked : Unasked (most_sought given.options) (w.reads w0) (w.reads w1) o0 o0 old old = record { same = refl; store = refl; reads = reads } in
     record {
       class = λ s tells step quiet. is s tells.tree_is quiet;
       read = λ s tells step quiet. rw (none s (on_disk given s.tree q.path q.ask_disk)) refl;
@@ -65,8 +66,8 @@ unruled w f w0 w1 o0 old given q c kept reads is judged none unsought sought sam
       unmapped = λ none. refl;
       rules = record { made = refl; in_step = λ s tells step. step };
       reads = inl unasked;
-      unsought = λ s tells step quiet no. inl (record { same = refl; store = refl; reads = λ on. unsought s no });
-      sought = λ no. inl (record { same = refl; store = refl; reads = λ on. sought no });
+      unsought = λ s tells step quiet no. inl (record { same = refl; store = refl; reads = read-not 0 (unsought s no) });
+      sought = λ no. inl (record { same = refl; store = refl; reads = read-not 0 (sought no) });
       early = tt;
       spared = λ s never. unasked;
       memory = λ s never. tt;
@@ -158,7 +159,7 @@ pub at-unmatched : {W F : Type 0} (w : WorktreeOf W) (f : FindOf F) (w0 : W) (o0
     → Judges w f w0 w0 o0 o0 old old given (about_path given.options path known ask_disk) (Ok c)
 at-unmatched w f w0 o0 old given path known ask_disk c none cannot is =
     let unmatched = λ (s : Sources). can_match-of given (made_with old) s path (is_dir known) ∙ cannot in
-    unruled w f w0 w0 o0 old given (about_path given.options path known ask_disk) c (asks-same w w0) (λ on. refl)
+    unruled w f w0 w0 o0 old given (about_path given.options path known ask_disk) c (asks-same w w0) (read-not (most_sought given.options) refl)
     (λ s told quiet. is ∙ unmatched-case given.options (evidence given (made_with old) s) path known (on_disk given s.tree path ask_disk) none (unmatched s))
     (λ s told. let ev = evidence given (made_with old) s in
     judged-unread (w.faults w0) (w.faults w0) (λ k read. class given.options read path known k) ev (on_disk given s.tree path ask_disk) c (omega arith)
@@ -278,13 +279,13 @@ module _ {W F : Type 0} (w : WorktreeOf W) (f : FindOf F) (w0 w1 w2 : W) (o0 o1 
       go (inr is) (inr rose) = (true, rose, settled s kind None is)
 
   classed-read : (s : Sources) (c : Outcome) → w.told w0 ≡ Some s.tree
-      → IsClassedWith (w.faults w1) (w.faults w2) settled_so (evidence given (made_with old) s) (seen s.tree) (Unasked given.options.recurse_repositories (w.reads w1) (w.reads w2) o0 o1 old new) c
-      → IsClassedWith (w.faults w0) (w.faults w2) any_so (evidence given (made_with old) s) (seen s.tree) (Unasked given.options.recurse_repositories (w.reads w0) (w.reads w2) o0 o1 old new) c
+      → IsClassedWith (w.faults w1) (w.faults w2) settled_so (evidence given (made_with old) s) (seen s.tree) (Unasked (most_sought given.options) (w.reads w1) (w.reads w2) o0 o1 old new) c
+      → IsClassedWith (w.faults w0) (w.faults w2) any_so (evidence given (made_with old) s) (seen s.tree) (Unasked (most_sought given.options) (w.reads w0) (w.reads w2) o0 o1 old new) c
   classed-read s c told classed =
       let ev = evidence given (made_with old) s in
       let by = read-by s told in
       classed-kind (w.faults w0) (w.faults w1) (w.faults w2) settled_so any_so ev (seen s.tree) (seen s.tree) by.0 c
-      (unasked-later given.options.recurse_repositories (w.reads w0) (w.reads w1) (w.reads w2) o0 o1 old new unread) by.1 refl
+      (unasked-later (most_sought given.options) (w.reads w0) (w.reads w1) (w.reads w2) o0 o1 old new unread) by.1 refl
       (λ failed. ap (λ (x : Option Kind). class_of_kind given.options (read_as failed ev) path x) by.2
       ∙ kind-case given.options (read_as failed ev) path known (kind_read by.0 (seen s.tree)) none (can-of s))
       (λ b. asks-by s (kind_read by.0 (seen s.tree)) by.2) classed
@@ -312,17 +313,17 @@ module _ {W F : Type 0} (w : WorktreeOf W) (f : FindOf F) (w0 w1 w2 : W) (o0 o1 
         store = later.store;
         unmapped = later.unmapped;
         rules = record { made = later.rules.made; in_step = λ s tells step. later.rules.in_step s (tells-now s tells) step };
-        reads = at-most-later given.options.recurse_repositories path (w.reads w0) (w.reads w1) (w.reads w2) o0 o1 old new (Ok c) unread later.reads;
+        reads = at-most-later (most_sought given.options) path (w.reads w0) (w.reads w1) (w.reads w2) o0 o1 old new (Ok c) unread later.reads;
         unsought = λ s tells step quiet no.
-            at-most-later true path (w.reads w0) (w.reads w1) (w.reads w2) o0 o1 old new (Ok c) unread
+            at-most-later 0 path (w.reads w0) (w.reads w1) (w.reads w2) o0 o1 old new (Ok c) unread
             (later.unsought s (tells-now s tells) step (after quiet) (seeks-by s (seen s.tree) (exactly-settled s tells.tree_is (before quiet)) ∙ no));
-        sought = λ no. at-most-later true path (w.reads w0) (w.reads w1) (w.reads w2) o0 o1 old new (Ok c) unread (later.sought no);
+        sought = λ no. at-most-later 0 path (w.reads w0) (w.reads w1) (w.reads w2) o0 o1 old new (Ok c) unread (later.sought no);
         early = tt;
         spared = λ s never.
-            unasked-later given.options.recurse_repositories (w.reads w0) (w.reads w1) (w.reads w2) o0 o1 old new unread (later.spared s (λ k. never-by s never));
+            unasked-later (most_sought given.options) (w.reads w0) (w.reads w1) (w.reads w2) o0 o1 old new unread (later.spared s (λ k. never-by s never));
         memory = λ s never. tt;
         unasked = λ s told quiet no.
-            unasked-later given.options.recurse_repositories (w.reads w0) (w.reads w1) (w.reads w2) o0 o1 old new unread
+            unasked-later (most_sought given.options) (w.reads w0) (w.reads w1) (w.reads w2) o0 o1 old new unread
             (later.unasked s (first.tree ∙ told) (after quiet) (asks-by s (seen s.tree) (exactly-settled s told (before quiet)) ∙ no));
         unread = λ s told quiet no none_sought.
             let is = exactly-settled s told (before quiet) in
@@ -361,17 +362,17 @@ module _ {W F : Type 0} (w : WorktreeOf W) (f : FindOf F) (w0 w1 w2 : W) (o0 o1 
         store = later.store;
         unmapped = later.unmapped;
         rules = record { made = later.rules.made; in_step = λ s tells step. later.rules.in_step s (tells-now s tells) step };
-        reads = at-most-later given.options.recurse_repositories path (w.reads w0) (w.reads w1) (w.reads w2) o0 o1 old new (Err e) unread later.reads;
+        reads = at-most-later (most_sought given.options) path (w.reads w0) (w.reads w1) (w.reads w2) o0 o1 old new (Err e) unread later.reads;
         unsought = λ s tells step quiet no.
-            at-most-later true path (w.reads w0) (w.reads w1) (w.reads w2) o0 o1 old new (Err e) unread
+            at-most-later 0 path (w.reads w0) (w.reads w1) (w.reads w2) o0 o1 old new (Err e) unread
             (later.unsought s (tells-now s tells) step (after quiet) (seeks-by s (seen s.tree) (exactly-settled s tells.tree_is (before quiet)) ∙ no));
         sought = tt;
-        early = OnAccess-weaker _ _ e (at-most-later true path (w.reads w0) (w.reads w1) (w.reads w2) o0 o1 old new (Err e) unread) later.early;
+        early = OnAccess-weaker _ _ e (at-most-later 0 path (w.reads w0) (w.reads w1) (w.reads w2) o0 o1 old new (Err e) unread) later.early;
         spared = λ s never.
-            unasked-later given.options.recurse_repositories (w.reads w0) (w.reads w1) (w.reads w2) o0 o1 old new unread (later.spared s (λ k. never-by s never));
+            unasked-later (most_sought given.options) (w.reads w0) (w.reads w1) (w.reads w2) o0 o1 old new unread (later.spared s (λ k. never-by s never));
         memory = λ s never. later.memory s (λ k. never-by s never);
         unasked = λ s told quiet no.
-            unasked-later given.options.recurse_repositories (w.reads w0) (w.reads w1) (w.reads w2) o0 o1 old new unread
+            unasked-later (most_sought given.options) (w.reads w0) (w.reads w1) (w.reads w2) o0 o1 old new unread
             (later.unasked s (first.tree ∙ told) (after quiet) (asks-by s (seen s.tree) (exactly-settled s told (before quiet)) ∙ no));
         unread = λ s told quiet no none_sought.
             let is = exactly-settled s told (before quiet) in

@@ -1,5 +1,5 @@
 -- What stays, and what was asked, when steps follow one another.
-use Rattle.std.proofs.Common.{◌≡◌, ◌≤◌, ◌∙◌, ap, ℕ, List, [], ◌∷◌, true, false, Bool, Option, Some, Ok, Err, refl, inl, inr, subst, arith}
+use Rattle.std.proofs.Common.{◌≡◌, ◌≤◌, ◌+◌, ◌∙◌, ap, ℕ, List, [], ◌∷◌, true, false, Bool, Option, Some, Ok, Err, refl, inl, inr, subst, arith}
 use Rattle.std.specs.Prelude.{not, Result}
 use Rattle.gitbase_core.specs.Objects.{Objects}
 use Rattle.worktree_fs.specs.Causes.{Increased, NotIncreased}
@@ -56,37 +56,40 @@ unmapped-then old now same a b none = b (ap (λ (m : Option Made). maps_blobs m)
 
 -- ---- about which path the rules were asked
 
-pub unasked-later : {F : Type 0} (recurses : Bool) (r0 r1 r2 : ℕ) (o0 o1 : F) (old new : Option Stacked) → r1 ≡ r0 → Unasked recurses r1 r2 o0 o1 old new → Unasked recurses r0 r2 o0 o1 old new
-unasked-later recurses r0 r1 r2 o0 o1 old new same asked = record { same = asked.same; store = asked.store; reads = λ on. asked.reads on ∙ same }
+pub unasked-later : {F : Type 0} (most : ℕ) (r0 r1 r2 : ℕ) (o0 o1 : F) (old new : Option Stacked) → r1 ≡ r0 → Unasked most r1 r2 o0 o1 old new → Unasked most r0 r2 o0 o1 old new
+unasked-later most r0 r1 r2 o0 o1 old new same asked = record { same = asked.same; store = asked.store; reads = omega (arith, same, asked.reads) }
 
--- they were, and then the worktree was read no more where repositories are walked into
-pub at-most : {F T U E : Type 0} (recurses : Bool) (path : List ℕ) (r0 r1 r2 : ℕ) (o0 o1 : F) (old new : Option Stacked) (t : T) (u : U) → (recurses ≡ true → r2 ≡ r1)
-    → AsksAtMost {T = T} {E = E} true path r0 r1 o0 o1 old new (Ok t) → AsksAtMost {T = U} {E = E} recurses path r0 r2 o0 o1 old new (Ok u)
-at-most recurses path r0 r1 r2 o0 o1 old new t u same (inl asked) = inl (record { same = asked.same; store = asked.store; reads = λ on. same on ∙ asked.reads refl })
-at-most recurses path r0 r1 r2 o0 o1 old new t u same (inr asked) =
-    inr (record { given = asked.given; once = asked.once; looked_up = asked.looked_up; on_way = asked.on_way; leaves = asked.leaves; reads = λ on alone. let r = same on in let most = asked.reads refl alone in omega (arith, r, most) })
+-- they were, and then the worktree was read to find repositories
+pub at-most : {F T U E : Type 0} (most : ℕ) (path : List ℕ) (r0 r1 r2 : ℕ) (o0 o1 : F) (old new : Option Stacked) (t : T) (u : U) → r2 ≤ r1 + most
+    → AsksAtMost {T = T} {E = E} 0 path r0 r1 o0 o1 old new (Ok t) → AsksAtMost {T = U} {E = E} most path r0 r2 o0 o1 old new (Ok u)
+at-most most path r0 r1 r2 o0 o1 old new t u more (inl asked) = inl (record { same = asked.same; store = asked.store; reads = omega (arith, more, asked.reads) })
+at-most most path r0 r1 r2 o0 o1 old new t u more (inr asked) =
+    inr (record { given = asked.given; once = asked.once; looked_up = asked.looked_up; on_way = asked.on_way; leaves = asked.leaves; reads = λ alone. omega (arith, more, asked.reads alone) })
 
 -- they were, and a later step was refused
-pub at-most-stopped : {F T U E : Type 0} (recurses : Bool) (path : List ℕ) (r0 r1 r2 : ℕ) (o0 o1 : F) (old new : Option Stacked) (t : T) (e : E) → (recurses ≡ true → r2 ≡ r1)
-    → AsksAtMost {T = T} {E = E} true path r0 r1 o0 o1 old new (Ok t) → AsksAtMost {T = U} {E = E} recurses path r0 r2 o0 o1 old new (Err e)
-at-most-stopped recurses path r0 r1 r2 o0 o1 old new t e same (inl asked) = inl (record { same = asked.same; store = asked.store; reads = λ on. same on ∙ asked.reads refl })
-at-most-stopped recurses path r0 r1 r2 o0 o1 old new t e same (inr asked) =
-    inr (record { given = asked.given; once = asked.once; looked_up = tt; on_way = asked.on_way; leaves = asked.leaves; reads = λ on alone. let r = same on in let most = asked.reads refl alone in omega (arith, r, most) })
+pub at-most-stopped : {F T U E : Type 0} (most : ℕ) (path : List ℕ) (r0 r1 r2 : ℕ) (o0 o1 : F) (old new : Option Stacked) (t : T) (e : E) → r2 ≤ r1 + most
+    → AsksAtMost {T = T} {E = E} 0 path r0 r1 o0 o1 old new (Ok t) → AsksAtMost {T = U} {E = E} most path r0 r2 o0 o1 old new (Err e)
+at-most-stopped most path r0 r1 r2 o0 o1 old new t e more (inl asked) = inl (record { same = asked.same; store = asked.store; reads = omega (arith, more, asked.reads) })
+at-most-stopped most path r0 r1 r2 o0 o1 old new t e more (inr asked) =
+    inr (record { given = asked.given; once = asked.once; looked_up = tt; on_way = asked.on_way; leaves = asked.leaves; reads = λ alone. omega (arith, more, asked.reads alone) })
 
 -- they were asked and refused
-pub at-most-refused : {F T U E : Type 0} (recurses : Bool) (path : List ℕ) (r0 r1 : ℕ) (o0 o1 : F) (old new : Option Stacked) (e : E)
-    → AsksAtMost {T = T} {E = E} true path r0 r1 o0 o1 old new (Err e) → AsksAtMost {T = U} {E = E} recurses path r0 r1 o0 o1 old new (Err e)
-at-most-refused recurses path r0 r1 o0 o1 old new e (inl asked) = inl (record { same = asked.same; store = asked.store; reads = λ on. asked.reads refl })
-at-most-refused recurses path r0 r1 o0 o1 old new e (inr asked) = inr (record { given = asked.given; once = asked.once; looked_up = tt; on_way = asked.on_way; leaves = asked.leaves; reads = λ on. asked.reads refl })
+pub at-most-refused : {F T U E : Type 0} (most : ℕ) (path : List ℕ) (r0 r1 : ℕ) (o0 o1 : F) (old new : Option Stacked) (e : E)
+    → AsksAtMost {T = T} {E = E} 0 path r0 r1 o0 o1 old new (Err e) → AsksAtMost {T = U} {E = E} most path r0 r1 o0 o1 old new (Err e)
+at-most-refused most path r0 r1 o0 o1 old new e (inl asked) = inl (record { same = asked.same; store = asked.store; reads = omega (arith, asked.reads) })
+at-most-refused most path r0 r1 o0 o1 old new e (inr asked) = inr (record { given = asked.given; once = asked.once; looked_up = tt; on_way = asked.on_way; leaves = asked.leaves; reads = λ alone. omega (arith, asked.reads alone) })
 
 -- before they were asked, the worktree was not read
-pub at-most-later : {F T E : Type 0} (recurses : Bool) (path : List ℕ) (r0 r1 r2 : ℕ) (o0 o1 : F) (old new : Option Stacked) (result : Result T E) → r1 ≡ r0
-    → AsksAtMost recurses path r1 r2 o0 o1 old new result → AsksAtMost recurses path r0 r2 o0 o1 old new result
-at-most-later recurses path r0 r1 r2 o0 o1 old new result same (inl asked) = inl (unasked-later recurses r0 r1 r2 o0 o1 old new same asked)
-at-most-later recurses path r0 r1 r2 o0 o1 old new result same (inr asked) =
-    inr (record { given = asked.given; once = asked.once; looked_up = asked.looked_up; on_way = asked.on_way; leaves = asked.leaves; reads = λ on alone. let most = asked.reads on alone in omega (arith, same, most) })
+pub at-most-later : {F T E : Type 0} (most : ℕ) (path : List ℕ) (r0 r1 r2 : ℕ) (o0 o1 : F) (old new : Option Stacked) (result : Result T E) → r1 ≡ r0
+    → AsksAtMost most path r1 r2 o0 o1 old new result → AsksAtMost most path r0 r2 o0 o1 old new result
+at-most-later most path r0 r1 r2 o0 o1 old new result same (inl asked) = inl (unasked-later most r0 r1 r2 o0 o1 old new same asked)
+at-most-later most path r0 r1 r2 o0 o1 old new result same (inr asked) =
+    inr (record { given = asked.given; once = asked.once; looked_up = asked.looked_up; on_way = asked.on_way; leaves = asked.leaves; reads = λ alone. omega (arith, same, asked.reads alone) })
 
--- it is so whether or not repositories are walked into, where it is known that they are
-pub at-most-alone : {F T E : Type 0} (recurses : Bool) (path : List ℕ) (r0 r1 : ℕ) (o0 o1 : F) (old new : Option Stacked) (result : Result T E) → recurses ≡ true
-    → AsksAtMost recurses path r0 r1 o0 o1 old new result → AsksAtMost true path r0 r1 o0 o1 old new result
-at-most-alone recurses path r0 r1 o0 o1 old new result on asked = subst (λ (b : Bool). AsksAtMost b path r0 r1 o0 o1 old new result) on asked
+-- the worktree was not read
+pub read-not : {r0 r1 : ℕ} (most : ℕ) → r1 ≡ r0 → r1 ≤ r0 + most
+read-not most same = omega (arith, same)
+
+-- or not before it was read to find repositories
+pub read-then : {r0 r1 r2 most : ℕ} → r2 ≤ r1 + most → r1 ≡ r0 → r2 ≤ r0 + most
+read-then more same = omega (arith, more, same)

@@ -6,7 +6,7 @@ mod Fitting
 mod Judging
 mod Keeping
 mod Looked
-mod Most
+pub mod Most
 mod OnWay
 pub mod NormalPaths
 pub mod Onward

@@ -19,6 +19,7 @@ use Rattle.dir_classify.specs.Excludes.{made_with, TellsIf}
 use Rattle.dir_classify.specs.Faults.{AreCounted, IsClassedWith, kind_read, one_if, read_as}
 use Rattle.dir_classify.specs.Kept.{Unasked}
 use Rattle.dir_classify.specs.Layers.{Setting, evidence, kind_at, on_disk}
+use Rattle.dir_classify.specs.Reads.{most_sought}
 use Rattle.dir_classify.specs.Question.{Question, about_path, about_way}
 use Rattle.dir_classify.proofs.Classed.{asked-kind, classed-kind}
 use Rattle.dir_classify.proofs.Keeping.{asks-then, at-most-later, increased-later, quiet-first, quiet-second, tells-then, unasked-later}
@@ -79,13 +80,13 @@ module _ {W F : Type 0} (w : WorktreeOf W) (f : FindOf F) (w0 w1 w2 : W) (o0 o1 
       go (inr is) (inr rose) = (true, rose, is)
 
   classed-read : (s : Sources) (c : Outcome) → w.told w0 ≡ Some s.tree
-      → IsClassedWith (w.faults w1) (w.faults w2) first_known (evidence given (made_with old) s) None (Unasked given.options.recurse_repositories (w.reads w1) (w.reads w2) o0 o1 old new) c
-      → IsClassedWith (w.faults w0) (w.faults w2) any_so (evidence given (made_with old) s) (seen s.tree) (Unasked given.options.recurse_repositories (w.reads w0) (w.reads w2) o0 o1 old new) c
+      → IsClassedWith (w.faults w1) (w.faults w2) first_known (evidence given (made_with old) s) None (Unasked (most_sought given.options) (w.reads w1) (w.reads w2) o0 o1 old new) c
+      → IsClassedWith (w.faults w0) (w.faults w2) any_so (evidence given (made_with old) s) (seen s.tree) (Unasked (most_sought given.options) (w.reads w0) (w.reads w2) o0 o1 old new) c
   classed-read s c told classed =
       let ev = evidence given (made_with old) s in
       let by = read-by s told in
       classed-kind (w.faults w0) (w.faults w1) (w.faults w2) first_known any_so ev None (seen s.tree) by.0 c
-      (unasked-later given.options.recurse_repositories (w.reads w0) (w.reads w1) (w.reads w2) o0 o1 old new unread) by.1 refl
+      (unasked-later (most_sought given.options) (w.reads w0) (w.reads w1) (w.reads w2) o0 o1 old new unread) by.1 refl
       (λ failed. ap (λ (d : Option Kind). first_known.judge d (read_as failed ev)) (none-read failed.kind) ∙ class-by (read_as failed ev) (kind_read by.0 (seen s.tree)) by.2)
       (λ b. ap (λ (d : Option Kind). first_known.asks d ev) (none-read b) ∙ asks-by s (kind_read by.0 (seen s.tree)) by.2) classed
 
@@ -113,16 +114,16 @@ module _ {W F : Type 0} (w : WorktreeOf W) (f : FindOf F) (w0 w1 w2 : W) (o0 o1 
         store = later.store;
         unmapped = later.unmapped;
         rules = record { made = later.rules.made; in_step = λ s tells step. later.rules.in_step s (tells-now s tells) step };
-        reads = at-most-later given.options.recurse_repositories path (w.reads w0) (w.reads w1) (w.reads w2) o0 o1 old new (Ok c) unread later.reads;
+        reads = at-most-later (most_sought given.options) path (w.reads w0) (w.reads w1) (w.reads w2) o0 o1 old new (Ok c) unread later.reads;
         unsought = λ s tells step quiet no.
-            at-most-later true path (w.reads w0) (w.reads w1) (w.reads w2) o0 o1 old new (Ok c) unread
+            at-most-later 0 path (w.reads w0) (w.reads w1) (w.reads w2) o0 o1 old new (Ok c) unread
             (later.unsought s (tells-now s tells) step (after quiet) (seeks-by s (seen s.tree) (exactly s tells.tree_is (before quiet)) ∙ no));
-        sought = λ no. at-most-later true path (w.reads w0) (w.reads w1) (w.reads w2) o0 o1 old new (Ok c) unread (later.sought no);
+        sought = λ no. at-most-later 0 path (w.reads w0) (w.reads w1) (w.reads w2) o0 o1 old new (Ok c) unread (later.sought no);
         early = tt;
-        spared = λ s never. unasked-later given.options.recurse_repositories (w.reads w0) (w.reads w1) (w.reads w2) o0 o1 old new unread (later.spared s (λ k. never kind));
+        spared = λ s never. unasked-later (most_sought given.options) (w.reads w0) (w.reads w1) (w.reads w2) o0 o1 old new unread (later.spared s (λ k. never kind));
         memory = λ s never. tt;
         unasked = λ s told quiet no.
-            unasked-later given.options.recurse_repositories (w.reads w0) (w.reads w1) (w.reads w2) o0 o1 old new unread
+            unasked-later (most_sought given.options) (w.reads w0) (w.reads w1) (w.reads w2) o0 o1 old new unread
             (later.unasked s (first.tree ∙ told) (after quiet) (asks-by s (seen s.tree) (exactly s told (before quiet)) ∙ no));
         unread = λ s told quiet no none_sought.
             let is = exactly s told (before quiet) in
@@ -156,16 +157,16 @@ module _ {W F : Type 0} (w : WorktreeOf W) (f : FindOf F) (w0 w1 w2 : W) (o0 o1 
         store = later.store;
         unmapped = later.unmapped;
         rules = record { made = later.rules.made; in_step = λ s tells step. later.rules.in_step s (tells-now s tells) step };
-        reads = at-most-later given.options.recurse_repositories path (w.reads w0) (w.reads w1) (w.reads w2) o0 o1 old new (Err e) unread later.reads;
+        reads = at-most-later (most_sought given.options) path (w.reads w0) (w.reads w1) (w.reads w2) o0 o1 old new (Err e) unread later.reads;
         unsought = λ s tells step quiet no.
-            at-most-later true path (w.reads w0) (w.reads w1) (w.reads w2) o0 o1 old new (Err e) unread
+            at-most-later 0 path (w.reads w0) (w.reads w1) (w.reads w2) o0 o1 old new (Err e) unread
             (later.unsought s (tells-now s tells) step (after quiet) (seeks-by s (seen s.tree) (exactly s tells.tree_is (before quiet)) ∙ no));
         sought = tt;
-        early = OnAccess-weaker _ _ e (at-most-later true path (w.reads w0) (w.reads w1) (w.reads w2) o0 o1 old new (Err e) unread) later.early;
-        spared = λ s never. unasked-later given.options.recurse_repositories (w.reads w0) (w.reads w1) (w.reads w2) o0 o1 old new unread (later.spared s (λ k. never kind));
+        early = OnAccess-weaker _ _ e (at-most-later 0 path (w.reads w0) (w.reads w1) (w.reads w2) o0 o1 old new (Err e) unread) later.early;
+        spared = λ s never. unasked-later (most_sought given.options) (w.reads w0) (w.reads w1) (w.reads w2) o0 o1 old new unread (later.spared s (λ k. never kind));
         memory = λ s never. later.memory s (λ k. never kind);
         unasked = λ s told quiet no.
-            unasked-later given.options.recurse_repositories (w.reads w0) (w.reads w1) (w.reads w2) o0 o1 old new unread
+            unasked-later (most_sought given.options) (w.reads w0) (w.reads w1) (w.reads w2) o0 o1 old new unread
             (later.unasked s (first.tree ∙ told) (after quiet) (asks-by s (seen s.tree) (exactly s told (before quiet)) ∙ no));
         unread = λ s told quiet no none_sought.
             let is = exactly s told (before quiet) in

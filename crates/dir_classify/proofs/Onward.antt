@@ -25,10 +25,12 @@ use Rattle.dir_classify.specs.Class.{class as class_of, asks as asks_of, seeks a
 use Rattle.dir_classify.specs.Classes.{Judges}
 use Rattle.dir_classify.specs.Question.{about_way}
 use Rattle.dir_classify.specs.Faults.{IsAsked}
+use Rattle.dir_classify.specs.Reads.{most_on_way, most_sought}
 use Rattle.dir_classify.specs.Refused.{IsAbout, Refuses, OnAccess, StopsIf}
 use Rattle.dir_classify.specs.Rooted.{AsksOnWay, IsRefusedOf, LeadsTo, Reaches, way_to}
+use Rattle.dir_classify.proofs.Most.{most-further}
 use Rattle.dir_classify.proofs.NormalPaths.{normal-front}
-use Rattle.dir_classify.proofs.Keeping.{asks-then, increased-later, quiet-first, quiet-second, unmapped-then}
+use Rattle.dir_classify.proofs.Keeping.{asks-then, increased-later, quiet-first, quiet-second, read-not, unmapped-then}
 use Rattle.dir_classify.proofs.Classed.{OnLookup-beside, OnLookup-weaker, asked-quiet}
 use Rattle.dir_classify.proofs.Stopped.{stopped-later}
 use Rattle.dir_classify.proofs.Refusals.{OnAccess-both, OnFault-weaker, unread-refused}
@@ -37,7 +39,7 @@ use Rattle.dir_classify.proofs.WayLeads.{leads-next}
 use Rattle.dir_classify.proofs.WayReached.{reached-grown}
 use Rattle.dir_classify.proofs.WayUnread.{either-unread, quiet-not, unread-step, unread-way, yes-no}
 use Rattle.dir_classify.proofs.Asking.{asked-needed, needed-further, needed-root}
-use Rattle.dir_classify.proofs.WayAsked.{leads-further, nothing-more, stands-above, way-answered, way-asked, way-refused, way-root}
+use Rattle.dir_classify.proofs.WayAsked.{leads-further, nothing-more, stands-above, unasked-root, way-answered, way-asked, way-refused, way-root}
 use Rattle.dir_classify.specs.declared.entry.Kind.{Kind}
 use Rattle.dir_classify.specs.Chosen.{Chosen}
 use Rattle.dir_classify.specs.Evidence.{Evidence}
@@ -63,17 +65,17 @@ pub record IsOnward {W F : Type 0} (w : WorktreeOf W) (f : FindOf F) (w0 w1 : W)
       → IsReached (w.faults w0) now given.options (evidence given (made_with old) s) (λ p. on_disk given s.tree p true) (components root) r
   pub stands : (s : Sources) → TellsIf (w.told w0) (f.holds o0) (made_with old) s → InStepIf s old
       → IsReached (w.faults w0) (w.faults w1) given.options (evidence given (made_with old) s) (λ p. on_disk given s.tree p true) (components path) (reached_so path class in_repository true)
-  pub reads : AsksOnWay {T = Unit {0}} {E = Error} given.options.recurse_repositories path (w.reads w0) (w.reads w1) o0 o1 old new (Ok tt)
+  pub reads : AsksOnWay {T = Unit {0}} {E = Error} (most_sought given.options) path (w.reads w0) (w.reads w1) o0 o1 old new (Ok tt)
   pub unsought : (s : Sources) → TellsIf (w.told w0) (f.holds o0) (made_with old) s → InStepIf s old → NotIncreased (w.faults w0) (w.faults w1)
       → ((p : List ℕ) → LeadsTo path p → seeks_of given.options (evidence given (made_with old) s) p (on_disk given s.tree p true) None ≡ false)
-      → AsksOnWay {T = Unit {0}} {E = Error} true path (w.reads w0) (w.reads w1) o0 o1 old new (Ok tt)
+      → AsksOnWay {T = Unit {0}} {E = Error} 0 path (w.reads w0) (w.reads w1) o0 o1 old new (Ok tt)
   pub needed : (s : Sources) → w.told w0 ≡ Some s.tree → NotIncreased (w.faults w0) (w.faults w1)
       → platforms_of new ≤ platforms_of old + asking_behind given.options (evidence given (made_with old) s) (λ p. on_disk given s.tree p true) [] (components path)
   pub spared : (s : Sources) → ((p : List ℕ) → LeadsTo path p → (kind : Option Kind) → asks_of given.options (evidence given (made_with old) s) p kind None ≡ false)
-      → Unasked given.options.recurse_repositories (w.reads w0) (w.reads w1) o0 o1 old new
+      → Unasked (most_on_way (most_sought given.options) (components path)) (w.reads w0) (w.reads w1) o0 o1 old new
   pub unasked : (s : Sources) → w.told w0 ≡ Some s.tree → NotIncreased (w.faults w0) (w.faults w1)
       → ((p : List ℕ) → LeadsTo path p → asks_of given.options (evidence given (made_with old) s) p (on_disk given s.tree p true) None ≡ false)
-      → Unasked given.options.recurse_repositories (w.reads w0) (w.reads w1) o0 o1 old new
+      → Unasked (most_on_way (most_sought given.options) (components path)) (w.reads w0) (w.reads w1) o0 o1 old new
 
 -- ---- at the worktree root
 
@@ -147,24 +149,26 @@ module _ {W F : Type 0} {w : WorktreeOf W} {f : FindOf F} {w0 w1 : W} {o0 o1 : F
   never-there : (kind : Option Kind) → asks_of given.options (evidence given (made_with old) some-sources) [] kind None ≡ false
   never-there kind = never-asked given.options (evidence given (made_with old) some-sources) kind None
 
-  pub root-unasked : Unasked given.options.recurse_repositories (w.reads w0) (w.reads w1) o0 o1 old new
+  pub root-unasked : Unasked (most_sought given.options) (w.reads w0) (w.reads w1) o0 o1 old new
   root-unasked = step.spared some-sources never-there
 
   pub root-unread : (s : Sources) → w.told w0 ≡ Some s.tree → NotIncreased (w.faults w0) (w.faults w1)
-      → seeks_of given.options (evidence given (made_with old) s) [] (on_disk given s.tree [] true) None ≡ false → Unasked true (w.reads w0) (w.reads w1) o0 o1 old new
+      → seeks_of given.options (evidence given (made_with old) s) [] (on_disk given s.tree [] true) None ≡ false → Unasked 0 (w.reads w0) (w.reads w1) o0 o1 old new
   root-unread s told quiet none_sought =
       record {
         same = root-unasked.same;
         store = root-unasked.store;
-        reads = λ on. step.unread s told quiet (never-asked given.options (evidence given (made_with old) s) (on_disk given s.tree [] true) None) none_sought;
+        reads = read-not 0 (step.unread s told quiet (never-asked given.options (evidence given (made_with old) s) (on_disk given s.tree [] true) None) none_sought);
       }
 
   pub root-memory : IfErr result (OnAccess ⊥)
   root-memory = step.memory some-sources never-there
 
-pub unasked-then : {F : Type 0} {recurses : Bool} {r0 r1 r2 : ℕ} {o0 o1 o2 : F} {old now new : Option Stacked} → Unasked recurses r0 r1 o0 o1 old now → Unasked recurses r1 r2 o1 o2 now new
-    → Unasked recurses r0 r2 o0 o2 old new
-unasked-then a b = record { same = b.same ∙ a.same; store = b.store ∙ a.store; reads = λ on. b.reads on ∙ a.reads on }
+pub unasked-then : {F : Type 0} {most : ℕ} (all names : List (List ℕ)) (name : List ℕ) {r0 r1 r2 : ℕ} {o0 o1 o2 : F} {old now new : Option Stacked} → all ≡ names ++ name ∷ []
+    → Unasked (most_on_way most names) r0 r1 o0 o1 old now → Unasked most r1 r2 o1 o2 now new → Unasked (most_on_way most all) r0 r2 o0 o2 old new
+unasked-then {most = most} all names name grown a b =
+    let more : most_on_way most all ≡ most_on_way most names + most = ap (most_on_way most) grown ∙ most-further most names name in
+    record { same = b.same ∙ a.same; store = b.store ∙ a.store; reads = omega (arith, a.reads, b.reads, more) }
 
 -- ---- one component further
 
@@ -227,8 +231,8 @@ module _ {W F : Type 0} (w : WorktreeOf W) (f : FindOf F) (w0 w1 w2 : W) (o0 o1 
     never-now s never kind = ap (λ (m : Option Made). asks_of given.options (evidence given m s) (joined path name) kind None) at.rules.made ∙ never (joined path name) grown-itself kind
 
     grown-spared : (s : Sources) → ((p : List ℕ) → LeadsTo (joined path name) p → (kind : Option Kind) → asks_of given.options (evidence given (made_with old) s) p kind None ≡ false)
-        → Unasked given.options.recurse_repositories (w.reads w0) (w.reads w2) o0 o2 old new
-    grown-spared s never = unasked-then (at.spared s (λ p leads. never p (leads-grown p leads))) (step.spared s (never-now s never))
+        → Unasked (most_on_way (most_sought given.options) (components (joined path name))) (w.reads w0) (w.reads w2) o0 o2 old new
+    grown-spared s never = unasked-then (components (joined path name)) (components path) name (grown-components path name at.spelled_is component) (at.spared s (λ p leads. never p (leads-grown p leads))) (step.spared s (never-now s never))
 
     grown-memory : (s : Sources) → ((p : List ℕ) → LeadsTo (joined path name) p → (kind : Option Kind) → asks_of given.options (evidence given (made_with old) s) p kind None ≡ false)
         → IfErr result (OnAccess ⊥)
@@ -236,9 +240,9 @@ module _ {W F : Type 0} (w : WorktreeOf W) (f : FindOf F) (w0 w1 w2 : W) (o0 o1 
 
     grown-unsought : (s : Sources) → TellsIf (w.told w0) (f.holds o0) (made_with old) s → InStepIf s old → NotIncreased (w.faults w0) (w.faults w2)
         → ((p : List ℕ) → LeadsTo (joined path name) p → seeks_of given.options (evidence given (made_with old) s) p (on_disk given s.tree p true) None ≡ false)
-        → AsksOnWay true (joined path name) (w.reads w0) (w.reads w2) o0 o2 old new result
+        → AsksOnWay 0 (joined path name) (w.reads w0) (w.reads w2) o0 o2 old new result
     grown-unsought s tells stepped quiet never =
-        way-asked true path name (joined path name) (w.reads w0) (w.reads w1) (w.reads w2) o0 o1 o2 old now new result
+        way-asked 0 path name (joined path name) (w.reads w0) (w.reads w1) (w.reads w2) o0 o1 o2 old now new result
         at.rules.made (grown-components path name at.spelled_is component) grown-spelled
         (at.unsought s tells stepped (quiet-first (w.faults w0) (w.faults w1) (w.faults w2) at.keeps.faults step.keeps.faults quiet) (λ p leads. never p (leads-grown p leads)))
         (step.unsought s (tells-here s tells) (at.rules.in_step s tells stepped) (quiet-second (w.faults w0) (w.faults w1) (w.faults w2) at.keeps.faults step.keeps.faults quiet)
@@ -253,16 +257,16 @@ module _ {W F : Type 0} (w : WorktreeOf W) (f : FindOf F) (w0 w1 w2 : W) (o0 o1 
         needed-further given.options ev kinds (components path) name (joined path name) (components (joined path name)) (platforms_of old) (platforms_of now) (platforms_of new)
         (grown-is path name at.spelled_is component) (grown-components path name at.spelled_is component)
         (at.needed s told (quiet-first (w.faults w0) (w.faults w1) (w.faults w2) at.keeps.faults step.keeps.faults quiet))
-        (asked-needed given.options ev kinds given.options.recurse_repositories (joined path name) (w.reads w1) (w.reads w2) o1 o2 now new result
+        (asked-needed given.options ev kinds (most_sought given.options) (joined path name) (w.reads w1) (w.reads w2) o1 o2 now new result
         (λ none. step.unasked s (at.keeps.tree ∙ told) (quiet-second (w.faults w0) (w.faults w1) (w.faults w2) at.keeps.faults step.keeps.faults quiet)
         (ap (λ (m : Option Made). asks_of given.options (evidence given m s) (joined path name) (on_disk given s.tree (joined path name) true) None) at.rules.made ∙ none))
         step.reads)
 
     grown-unasked : (s : Sources) → w.told w0 ≡ Some s.tree → NotIncreased (w.faults w0) (w.faults w2)
         → ((p : List ℕ) → LeadsTo (joined path name) p → asks_of given.options (evidence given (made_with old) s) p (on_disk given s.tree p true) None ≡ false)
-        → Unasked given.options.recurse_repositories (w.reads w0) (w.reads w2) o0 o2 old new
+        → Unasked (most_on_way (most_sought given.options) (components (joined path name))) (w.reads w0) (w.reads w2) o0 o2 old new
     grown-unasked s told quiet never =
-        unasked-then
+        unasked-then (components (joined path name)) (components path) name (grown-components path name at.spelled_is component)
         (at.unasked s told (quiet-first (w.faults w0) (w.faults w1) (w.faults w2) at.keeps.faults step.keeps.faults quiet) (λ p leads. never p (leads-grown p leads)))
         (step.unasked s (at.keeps.tree ∙ told) (quiet-second (w.faults w0) (w.faults w1) (w.faults w2) at.keeps.faults step.keeps.faults quiet)
         (ap (λ (m : Option Made). asks_of given.options (evidence given m s) (joined path name) (on_disk given s.tree (joined path name) true) None) at.rules.made
@@ -313,11 +317,11 @@ module _ {W F : Type 0} (w : WorktreeOf W) (f : FindOf F) (w0 w1 w2 : W) (o0 o1 
               (reached-grown (w.faults w0) (w.faults w1) (w.faults w2) given.options ev kinds path name c next in_repository (components path) goes (class-here s tells stepped)
               (at.stands s tells stepped));
           reads =
-              way-answered given.options.recurse_repositories (joined path name) (w.reads w0) (w.reads w2) o0 o2 old new next tt
-              (way-asked given.options.recurse_repositories path name (joined path name) (w.reads w0) (w.reads w1) (w.reads w2) o0 o1 o2 old now new (Ok next)
+              way-answered (most_sought given.options) (joined path name) (w.reads w0) (w.reads w2) o0 o2 old new next tt
+              (way-asked (most_sought given.options) path name (joined path name) (w.reads w0) (w.reads w1) (w.reads w2) o0 o1 o2 old now new (Ok next)
               at.rules.made (grown-components path name at.spelled_is component) grown-spelled at.reads step.reads);
           unsought = λ s tells stepped quiet never.
-              way-answered true (joined path name) (w.reads w0) (w.reads w2) o0 o2 old new next tt (grown-unsought (Ok next) step s tells stepped quiet never);
+              way-answered 0 (joined path name) (w.reads w0) (w.reads w2) o0 o2 old new next tt (grown-unsought (Ok next) step s tells stepped quiet never);
           needed = grown-needed (Ok next) step;
           spared = grown-spared (Ok next) step;
           unasked = grown-unasked (Ok next) step;
@@ -395,7 +399,7 @@ module _ {W F : Type 0} (w : WorktreeOf W) (f : FindOf F) (w0 w1 w2 : W) (o0 o1 
             ))
             (OnLookup-beside Asked (IsRefusedOf s (made_with old) (joined path name)) e (refused-here s tells) (step.asked s (at.keeps.tree ∙ tells.tree_is)));
         stopped =
-            let since = stands-above given.options.recurse_repositories path name (joined path name) (w.reads w0) (w.reads w1) o0 o1 old now (grown-components path name at.spelled_is component) at.reads in
+            let since = stands-above (most_sought given.options) path name (joined path name) (w.reads w0) (w.reads w1) o0 o1 old now (grown-components path name at.spelled_is component) at.reads in
             OnLookup-weaker (StopsIf (w.told w0) (f.holds o0) (Increased (w.faults w0) (w.faults w2)) (Increased (f.faults o0) (f.faults o2)) (joined path name) now new) _ e
             (λ a stops. (joined path name, leads, record { before = now; since = since; made = at.rules.made; in_step = at.rules.in_step; stops = stops }))
             (stopped-later (w.told w0) (w.told w1) (f.holds o0) (f.holds o1) (w.faults w0) (w.faults w1) (w.faults w2) (f.faults o0) (f.faults o1) (f.faults o2) (joined path name) now new e
@@ -410,13 +414,13 @@ module _ {W F : Type 0} (w : WorktreeOf W) (f : FindOf F) (w0 w1 w2 : W) (o0 o1 
           made = step.rules.made ∙ at.rules.made;
           in_step = λ s tells stepped. step.rules.in_step s (tells-here s tells) (at.rules.in_step s tells stepped);
         };
-        reads = way-root given.options.recurse_repositories root (joined path name) (components left) (w.reads w0) (w.reads w2) o0 o2 old new (Err e) grown-split
-            (way-refused given.options.recurse_repositories (joined path name) (w.reads w0) (w.reads w2) o0 o2 old new e
-            (way-asked given.options.recurse_repositories path name (joined path name) (w.reads w0) (w.reads w1) (w.reads w2) o0 o1 o2 old now new (Err e)
+        reads = way-root (most_sought given.options) root (joined path name) (components left) (w.reads w0) (w.reads w2) o0 o2 old new (Err e) grown-split
+            (way-refused (most_sought given.options) (joined path name) (w.reads w0) (w.reads w2) o0 o2 old new e
+            (way-asked (most_sought given.options) path name (joined path name) (w.reads w0) (w.reads w1) (w.reads w2) o0 o1 o2 old now new (Err e)
             at.rules.made (grown-components path name at.spelled_is component) grown-spelled at.reads step.reads));
         unsought = λ s tells stepped quiet never.
-            way-root true root (joined path name) (components left) (w.reads w0) (w.reads w2) o0 o2 old new (Err e) grown-split
-            (way-refused true (joined path name) (w.reads w0) (w.reads w2) o0 o2 old new e
+            way-root 0 root (joined path name) (components left) (w.reads w0) (w.reads w2) o0 o2 old new (Err e) grown-split
+            (way-refused 0 (joined path name) (w.reads w0) (w.reads w2) o0 o2 old new e
             (grown-unsought (Err e) step s tells stepped quiet (λ p on. never p (leads-further root (joined path name) p (components left) grown-split on))));
         needed = λ s told quiet.
             needed-root given.options (evidence given (made_with old) s) (λ p. on_disk given s.tree p true) (components (joined path name)) (components left) (components root) (platforms_of old) (platforms_of new) grown-split
@@ -424,6 +428,8 @@ module _ {W F : Type 0} (w : WorktreeOf W) (f : FindOf F) (w0 w1 w2 : W) (o0 o1 
         spared = λ s never.
             let grown : (p : List ℕ) → LeadsTo (joined path name) p → (kind : Option Kind) → asks_of given.options (evidence given (made_with old) s) p kind None ≡ false =
             λ p on. never p (leads-further root (joined path name) p (components left) grown-split on) in
-            (grown-spared (Err e) step s grown, grown-memory (Err e) step s grown);
-        unasked = λ s told quiet never. grown-unasked (Err e) step s told quiet (λ p on. never p (leads-further root (joined path name) p (components left) grown-split on));
+            (unasked-root (most_sought given.options) (components root) (components (joined path name)) (components left) grown-split (grown-spared (Err e) step s grown), grown-memory (Err e) step s grown);
+        unasked = λ s told quiet never.
+            unasked-root (most_sought given.options) (components root) (components (joined path name)) (components left) grown-split
+            (grown-unasked (Err e) step s told quiet (λ p on. never p (leads-further root (joined path name) p (components left) grown-split on)));
       }

@@ -14,7 +14,9 @@ use Rattle.dir_classify.specs.declared.classify.RootOutcome.{RootOutcome}
 use Rattle.dir_classify.specs.declared.error.Error.{Error}
 use Rattle.dir_classify.specs.Excludes.{made_with, platforms_of, pushed_in, tells_attributes}
 use Rattle.dir_classify.specs.Kept.{AskedAbout, AsksAtMost, LeavesPushed, StandsAt, Unasked}
+use Rattle.dir_classify.specs.Reads.{most_on_way}
 use Rattle.dir_classify.specs.Rooted.{AskedOnWay, AsksOnWay, LeadsTo, StandsAbove}
+use Rattle.dir_classify.proofs.Most.{most-further, most-longer, most-once}
 
 -- ---- what lies on the way to a path lies on the way to those beneath it
 
@@ -80,12 +82,15 @@ some-more (x ∷ names) name = refl
 
 -- ---- one path further
 
-module _ {F T E : Type 0} (recurses : Bool) (path name next : List ℕ) (r0 r1 r2 : ℕ) (o0 o1 o2 : F) (old now new : Option Stacked) (result : Result T E)
+module _ {F T E : Type 0} (most : ℕ) (path name next : List ℕ) (r0 r1 r2 : ℕ) (o0 o1 o2 : F) (old now new : Option Stacked) (result : Result T E)
     (made : made_with now ≡ made_with old) (grown : components next ≡ components path ++ name ∷ []) (next_is : next ≡ spelled (components next)) where
+  more : most_on_way most (components next) ≡ most_on_way most (components path) + most
+  more = ap (most_on_way most) grown ∙ most-further most (components path) name
+
   next-itself : LeadsTo next next
   next-itself = record { spelled_is = next_is; rest = []; components_are = sym (append-nil (components next)) }
 
-  way-later : AskedOnWay {T = Unit {0}} {E = Error} recurses path r0 r1 old now (Ok tt) → Unasked recurses r1 r2 o1 o2 now new → AskedOnWay recurses next r0 r2 old new result
+  way-later : AskedOnWay {T = Unit {0}} {E = Error} most path r0 r1 old now (Ok tt) → Unasked most r1 r2 o1 o2 now new → AskedOnWay most next r0 r2 old new result
   way-later a b =
       record {
         given = a.given;
@@ -101,14 +106,12 @@ module _ {F T E : Type 0} (recurses : Bool) (path name next : List ℕ) (r0 r1 r
         before = a.before;
         before_is = a.before_is;
         leaves = subst (λ (o : Option Stacked). LeavesPushed a.last a.before (pushed_in o)) (sym b.same) a.leaves;
-        reads = λ on alone.
-            let same = b.reads on in
+        reads = λ alone.
             let all : length (pushed (pushed_in new)) ≡ length (pushed (pushed_in now)) = ap (λ (o : Option Stacked). length (pushed (pushed_in o))) b.same in
-            let most = a.reads on alone in
-            omega (arith, same, all, most);
+            omega (arith, b.reads, all, a.reads alone, more);
       }
 
-  way-first : Unasked recurses r0 r1 o0 o1 old now → AskedAbout recurses next r1 r2 now new result → AskedOnWay recurses next r0 r2 old new result
+  way-first : Unasked (most_on_way most (components path)) r0 r1 o0 o1 old now → AskedAbout most next r1 r2 now new result → AskedOnWay most next r0 r2 old new result
   way-first a b =
       record {
         given = subst (λ (o : Option Stacked). is_some o ≡ true) a.same b.given;
@@ -124,15 +127,13 @@ module _ {F T E : Type 0} (recurses : Bool) (path name next : List ℕ) (r0 r1 r
         before = pushed_in now;
         before_is = inl (refl, ap pushed_in a.same);
         leaves = b.leaves;
-        reads = λ on alone.
-            let same = a.reads on in
+        reads = λ alone.
             let stay : length (pushed (staying (pushed_in now) (components next))) ≡ length (pushed (staying (pushed_in old) (components next))) =
             ap (λ (o : Option Stacked). length (pushed (staying (pushed_in o) (components next)))) a.same in
-            let most = b.reads on (ap (λ (o : Option Stacked). tells_attributes (made_with o)) a.same ∙ alone) in
-            omega (arith, same, stay, most);
+            omega (arith, a.reads, stay, b.reads (ap (λ (o : Option Stacked). tells_attributes (made_with o)) a.same ∙ alone), more);
       }
 
-  way-on : AskedOnWay {T = Unit {0}} {E = Error} recurses path r0 r1 old now (Ok tt) → AskedAbout recurses next r1 r2 now new result → AskedOnWay recurses next r0 r2 old new result
+  way-on : AskedOnWay {T = Unit {0}} {E = Error} most path r0 r1 old now (Ok tt) → AskedAbout most next r1 r2 now new result → AskedOnWay most next r0 r2 old new result
   unfolding leads-further
   way-on a b =
       let leads : LeadsTo next a.last = leads-further next path a.last (name ∷ []) grown a.leads in
@@ -150,27 +151,25 @@ module _ {F T E : Type 0} (recurses : Bool) (path name next : List ℕ) (r0 r1 r
         before = pushed_in now;
         before_is = inr (a.last, a.behind, leads, pushed-above now a.last a.looked_up);
         leaves = b.leaves;
-        reads = λ on alone.
+        reads = λ alone.
             let way : IsOnWay (pushed_in now) (components next) = subst (IsOnWay (pushed_in now)) (sym leads.components_are) (on-way-further (pushed_in now) (components a.last) leads.rest a.on_way) in
             let stay : length (pushed (staying (pushed_in now) (components next))) ≡ length (pushed (pushed_in now)) =
             ap (λ (at : Option (List (List ℕ))). length (pushed at)) (stays-on-way (pushed_in now) (components next) way) in
-            let first = a.reads on alone in
-            let then_ = b.reads on (ap tells_attributes made ∙ alone) in
-            omega (arith, stay, first, then_);
+            omega (arith, stay, a.reads alone, b.reads (ap tells_attributes made ∙ alone), more);
       }
 
-  pub way-asked : AsksOnWay {T = Unit {0}} {E = Error} recurses path r0 r1 o0 o1 old now (Ok tt) → AsksAtMost recurses next r1 r2 o1 o2 now new result → AsksOnWay recurses next r0 r2 o0 o2 old new result
-  way-asked (inl a) (inl b) = inl (record { same = b.same ∙ a.same; store = b.store ∙ a.store; reads = λ on. b.reads on ∙ a.reads on })
+  pub way-asked : AsksOnWay {T = Unit {0}} {E = Error} most path r0 r1 o0 o1 old now (Ok tt) → AsksAtMost most next r1 r2 o1 o2 now new result → AsksOnWay most next r0 r2 o0 o2 old new result
+  way-asked (inl a) (inl b) = inl (record { same = b.same ∙ a.same; store = b.store ∙ a.store; reads = omega (arith, a.reads, b.reads, more) })
   way-asked (inl a) (inr b) = inr (way-first a b)
   way-asked (inr a) (inl b) = inr (way-later a b)
   way-asked (inr a) (inr b) = inr (way-on a b)
 
 -- the rules before a path is looked up
-pub stands-above : {F : Type 0} (recurses : Bool) (path name next : List ℕ) (r0 r1 : ℕ) (o0 o1 : F) (old now : Option Stacked) → components next ≡ components path ++ name ∷ []
-    → AsksOnWay {T = Unit {0}} {E = Error} recurses path r0 r1 o0 o1 old now (Ok tt) → (now ≡ old) ⊎ StandsAbove next old now
+pub stands-above : {F : Type 0} (most : ℕ) (path name next : List ℕ) (r0 r1 : ℕ) (o0 o1 : F) (old now : Option Stacked) → components next ≡ components path ++ name ∷ []
+    → AsksOnWay {T = Unit {0}} {E = Error} most path r0 r1 o0 o1 old now (Ok tt) → (now ≡ old) ⊎ StandsAbove next old now
 unfolding leads-further
-stands-above recurses path name next r0 r1 o0 o1 old now grown (inl a) = inl a.same
-stands-above recurses path name next r0 r1 o0 o1 old now grown (inr a) =
+stands-above most path name next r0 r1 o0 o1 old now grown (inl a) = inl a.same
+stands-above most path name next r0 r1 o0 o1 old now grown (inr a) =
     inr (record {
       first = a.first;
       beneath = a.beneath;
@@ -185,10 +184,21 @@ stands-above recurses path name next r0 r1 o0 o1 old now grown (inr a) =
 
 -- ---- the whole way
 
-pub way-root : {F T E : Type 0} (recurses : Bool) (root path : List ℕ) (rest : List (List ℕ)) (r0 r1 : ℕ) (o0 o1 : F) (old new : Option Stacked) (result : Result T E)
-    → components root ≡ components path ++ rest → AsksOnWay recurses path r0 r1 o0 o1 old new result → AsksOnWay recurses root r0 r1 o0 o1 old new result
-way-root recurses root path rest r0 r1 o0 o1 old new result split (inl a) = inl a
-way-root recurses root path rest r0 r1 o0 o1 old new result split (inr a) =
+-- they were not asked on a part of it
+pub unasked-root : {F : Type 0} (most : ℕ) (all names rest : List (List ℕ)) {r0 r1 : ℕ} {o0 o1 : F} {old new : Option Stacked} → all ≡ names ++ rest
+    → Unasked (most_on_way most names) r0 r1 o0 o1 old new → Unasked (most_on_way most all) r0 r1 o0 o1 old new
+unasked-root most all names rest split a =
+    let whole : most_on_way most all ≡ most_on_way most (names ++ rest) = ap (most_on_way most) split in
+    record { same = a.same; store = a.store; reads = omega (arith, a.reads, whole, most-longer most names rest) }
+
+-- nor of its first path
+pub unasked-first : {F : Type 0} (most : ℕ) (all : List (List ℕ)) {r0 r1 : ℕ} {o0 o1 : F} {old new : Option Stacked} → Unasked most r0 r1 o0 o1 old new → Unasked (most_on_way most all) r0 r1 o0 o1 old new
+unasked-first most all a = record { same = a.same; store = a.store; reads = omega (arith, a.reads, most-once most all) }
+
+pub way-root : {F T E : Type 0} (most : ℕ) (root path : List ℕ) (rest : List (List ℕ)) (r0 r1 : ℕ) (o0 o1 : F) (old new : Option Stacked) (result : Result T E)
+    → components root ≡ components path ++ rest → AsksOnWay most path r0 r1 o0 o1 old new result → AsksOnWay most root r0 r1 o0 o1 old new result
+way-root most root path rest r0 r1 o0 o1 old new result split (inl a) = inl (unasked-root most (components root) (components path) rest split a)
+way-root most root path rest r0 r1 o0 o1 old new result split (inr a) =
     inr (record {
       given = a.given;
       first = a.first;
@@ -203,14 +213,16 @@ way-root recurses root path rest r0 r1 o0 o1 old new result split (inr a) =
       before = a.before;
       before_is = a.before_is;
       leaves = a.leaves;
-      reads = a.reads;
+      reads = λ alone.
+          let whole : most_on_way most (components root) ≡ most_on_way most (components path ++ rest) = ap (most_on_way most) split in
+          omega (arith, a.reads alone, whole, most-longer most (components path) rest);
     })
 
 -- whatever was answered, and whatever was refused
-pub way-answered : {F T U : Type 0} (recurses : Bool) (path : List ℕ) (r0 r1 : ℕ) (o0 o1 : F) (old new : Option Stacked) (t : T) (u : U)
-    → AsksOnWay {T = T} {E = Error} recurses path r0 r1 o0 o1 old new (Ok t) → AsksOnWay {T = U} {E = Error} recurses path r0 r1 o0 o1 old new (Ok u)
-way-answered recurses path r0 r1 o0 o1 old new t u (inl a) = inl a
-way-answered recurses path r0 r1 o0 o1 old new t u (inr a) =
+pub way-answered : {F T U : Type 0} (most : ℕ) (path : List ℕ) (r0 r1 : ℕ) (o0 o1 : F) (old new : Option Stacked) (t : T) (u : U)
+    → AsksOnWay {T = T} {E = Error} most path r0 r1 o0 o1 old new (Ok t) → AsksOnWay {T = U} {E = Error} most path r0 r1 o0 o1 old new (Ok u)
+way-answered most path r0 r1 o0 o1 old new t u (inl a) = inl a
+way-answered most path r0 r1 o0 o1 old new t u (inr a) =
     inr (record {
       given = a.given;
       first = a.first;
@@ -228,10 +240,10 @@ way-answered recurses path r0 r1 o0 o1 old new t u (inr a) =
       reads = a.reads;
     })
 
-pub way-refused : {F T U : Type 0} (recurses : Bool) (path : List ℕ) (r0 r1 : ℕ) (o0 o1 : F) (old new : Option Stacked) (e : Error)
-    → AsksOnWay {T = T} {E = Error} recurses path r0 r1 o0 o1 old new (Err e) → AsksOnWay {T = U} {E = Error} recurses path r0 r1 o0 o1 old new (Err e)
-way-refused recurses path r0 r1 o0 o1 old new e (inl a) = inl a
-way-refused recurses path r0 r1 o0 o1 old new e (inr a) =
+pub way-refused : {F T U : Type 0} (most : ℕ) (path : List ℕ) (r0 r1 : ℕ) (o0 o1 : F) (old new : Option Stacked) (e : Error)
+    → AsksOnWay {T = T} {E = Error} most path r0 r1 o0 o1 old new (Err e) → AsksOnWay {T = U} {E = Error} most path r0 r1 o0 o1 old new (Err e)
+way-refused most path r0 r1 o0 o1 old new e (inl a) = inl a
+way-refused most path r0 r1 o0 o1 old new e (inr a) =
     inr (record {
       given = a.given;
       first = a.first;
@@ -250,10 +262,10 @@ way-refused recurses path r0 r1 o0 o1 old new e (inr a) =
     })
 
 -- memory was refused before the next path was asked about
-pub way-stopped : {F : Type 0} (recurses : Bool) (path : List ℕ) (r0 r1 : ℕ) (o0 o1 : F) (old new : Option Stacked) (e : Error)
-    → AsksOnWay {T = Unit {0}} {E = Error} recurses path r0 r1 o0 o1 old new (Ok tt) → AsksOnWay {T = RootOutcome} {E = Error} recurses path r0 r1 o0 o1 old new (Err e)
-way-stopped recurses path r0 r1 o0 o1 old new e (inl a) = inl a
-way-stopped recurses path r0 r1 o0 o1 old new e (inr a) =
+pub way-stopped : {F : Type 0} (most : ℕ) (path : List ℕ) (r0 r1 : ℕ) (o0 o1 : F) (old new : Option Stacked) (e : Error)
+    → AsksOnWay {T = Unit {0}} {E = Error} most path r0 r1 o0 o1 old new (Ok tt) → AsksOnWay {T = RootOutcome} {E = Error} most path r0 r1 o0 o1 old new (Err e)
+way-stopped most path r0 r1 o0 o1 old new e (inl a) = inl a
+way-stopped most path r0 r1 o0 o1 old new e (inr a) =
     inr (record {
       given = a.given;
       first = a.first;
@@ -268,5 +280,5 @@ way-stopped recurses path r0 r1 o0 o1 old new e (inr a) =
       before = a.before;
       before_is = a.before_is;
       leaves = a.leaves;
-      reads = λ on alone. let most = a.reads on alone in omega (arith, most);
+      reads = λ alone. omega (arith, a.reads alone);
     })

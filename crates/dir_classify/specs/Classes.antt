@@ -15,6 +15,7 @@ use Rattle.dir_classify.specs.Faults.{IsAsked, IsClassedWith}
 use Rattle.dir_classify.specs.Kept.{AsksRules, KeepsRules, AsksAtMost, AreUntouched, Unasked}
 use Rattle.dir_classify.specs.Layers.{Setting, evidence, on_disk}
 use Rattle.dir_classify.specs.Question.{Question, about_path}
+use Rattle.dir_classify.specs.Reads.{most_sought}
 use Rattle.dir_classify.specs.Refused.{IsAbout, Refuses, OnAccess, OnFault, OnLookup, StopsIf}
 
 -- What a question about the class of a path answers and leaves, by the kind on disk, where that may be asked, and by the evidence; a
@@ -31,7 +32,7 @@ pub record Judges {W F : Type 0} (w : WorktreeOf W) (f : FindOf F) (w0 w1 : W) (
   -- by that were read, and they are asked only then.
   pub swallowed : (s : Sources) → TellsIf (w.told w0) (f.holds o0) (made_with old) s → InStepIf s old
       → IfOk result (IsClassedWith (w.faults w0) (w.faults w1) q (evidence given (made_with old) s) (on_disk given s.tree q.path q.ask_disk)
-      (Unasked given.options.recurse_repositories (w.reads w0) (w.reads w1) o0 o1 old new))
+      (Unasked (most_sought given.options) (w.reads w0) (w.reads w1) o0 o1 old new))
   -- So it is where the rules are not asked, whether or not they and the store are told and in step.
   pub unruled : (s : Sources) → w.told w0 ≡ Some s.tree → NotIncreased (w.faults w0) (w.faults w1)
       → q.asks (on_disk given s.tree q.path q.ask_disk) (evidence given (made_with old) s) ≡ false
@@ -48,24 +49,24 @@ pub record Judges {W F : Type 0} (w : WorktreeOf W) (f : FindOf F) (w0 w1 : W) (
   pub store : AsksStore f o0 o1
   pub unmapped : maps_blobs (made_with old) ≡ false → o1 ≡ o0
   pub rules : KeepsRules w f w0 w1 o0 old new
-  -- Told or not, the rules were asked about this path alone.
-  pub reads : AsksAtMost given.options.recurse_repositories q.path (w.reads w0) (w.reads w1) o0 o1 old new result
+  -- Told or not, the rules were asked about this path alone, and to find a repository so often was the worktree read at most.
+  pub reads : AsksAtMost (most_sought given.options) q.path (w.reads w0) (w.reads w1) o0 o1 old new result
   -- The worktree is read for them alone where no repository is looked for: over a told tree and without a fault by the evidence; told
   -- or not, where the class says so, and where rules are refused.
   pub unsought : (s : Sources) → TellsIf (w.told w0) (f.holds o0) (made_with old) s → InStepIf s old → NotIncreased (w.faults w0) (w.faults w1)
       → q.seeks (on_disk given s.tree q.path q.ask_disk) (evidence given (made_with old) s) ≡ false
-      → AsksAtMost true q.path (w.reads w0) (w.reads w1) o0 o1 old new result
-  pub sought : IfOk result (λ c. may_have_sought given.options c ≡ false → AsksAtMost true q.path (w.reads w0) (w.reads w1) o0 o1 old new result)
-  pub early : IfErr result (OnAccess (AsksAtMost true q.path (w.reads w0) (w.reads w1) o0 o1 old new result))
+      → AsksAtMost 0 q.path (w.reads w0) (w.reads w1) o0 o1 old new result
+  pub sought : IfOk result (λ c. may_have_sought given.options c ≡ false → AsksAtMost 0 q.path (w.reads w0) (w.reads w1) o0 o1 old new result)
+  pub early : IfErr result (OnAccess (AsksAtMost 0 q.path (w.reads w0) (w.reads w1) o0 o1 old new result))
   -- Nor were they asked, where they are not whatever the kind on disk is; then it is refused for want of memory alone.
   pub spared : (s : Sources) → ((kind : Option Kind) → q.asks (if q.ask_disk then kind else None) (evidence given (made_with old) s) ≡ false)
-      → Unasked given.options.recurse_repositories (w.reads w0) (w.reads w1) o0 o1 old new
+      → Unasked (most_sought given.options) (w.reads w0) (w.reads w1) o0 o1 old new
   pub memory : (s : Sources) → ((kind : Option Kind) → q.asks (if q.ask_disk then kind else None) (evidence given (made_with old) s) ≡ false)
       → IfErr result (OnAccess ⊥)
   -- Over a told tree and without a fault, they are not asked in vain.
   pub unasked : (s : Sources) → w.told w0 ≡ Some s.tree → NotIncreased (w.faults w0) (w.faults w1)
       → q.asks (on_disk given s.tree q.path q.ask_disk) (evidence given (made_with old) s) ≡ false
-      → Unasked given.options.recurse_repositories (w.reads w0) (w.reads w1) o0 o1 old new
+      → Unasked (most_sought given.options) (w.reads w0) (w.reads w1) o0 o1 old new
   -- Where no repository is looked for either, it is not read.
   pub unread : (s : Sources) → w.told w0 ≡ Some s.tree → NotIncreased (w.faults w0) (w.faults w1)
       → q.asks (on_disk given s.tree q.path q.ask_disk) (evidence given (made_with old) s) ≡ false

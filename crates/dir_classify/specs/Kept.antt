@@ -21,12 +21,12 @@ pub record KeepsRules {W F : Type 0} (w : WorktreeOf W) (f : FindOf F) (w0 w1 : 
   pub made : made_with new ≡ made_with old
   pub in_step : (s : Sources) → TellsIf (w.told w0) (f.holds o0) (made_with old) s → InStepIf s old → InStepIf s new
 
--- The rules were not asked: they and the store are as they were, and nothing was read for them. Where repositories are not walked
--- into, the worktree may have been read to find some.
-pub record Unasked {F : Type 0} (recurses : Bool) (reads0 reads1 : ℕ) (o0 o1 : F) (old new : Option Stacked) : Type 0 where
+-- The rules were not asked: they and the store are as they were, and nothing was read for them. To find repositories the worktree was
+-- read so often at most.
+pub record Unasked {F : Type 0} (most reads0 reads1 : ℕ) (o0 o1 : F) (old new : Option Stacked) : Type 0 where
   pub same : new ≡ old
   pub store : o1 ≡ o0
-  pub reads : recurses ≡ true → reads1 ≡ reads0
+  pub reads : reads1 ≤ reads0 + most
 
 -- rules that are given stand looked up at a path
 abbrev pub StandsAt : Option Stacked → List ℕ → Type 0
@@ -40,21 +40,21 @@ pub record LeavesPushed (path : List ℕ) (old new : Option (List (List ℕ))) :
   pub left : directories new ≡ left_by (directories old) (map granted done)
 
 -- Rules that are given were asked about one path, once. Answered they stand at it, so that exactly the directories above it are pushed;
--- refused, what is pushed lies on the way to it, as its lookup left it. Where repositories are walked into, and the rules
--- are ignore rules alone, the worktree was read at most once for each directory that was pushed or refused.
-pub record AskedAbout {T E : Type 0} (recurses : Bool) (path : List ℕ) (reads0 reads1 : ℕ) (old new : Option Stacked) (result : Result T E) : Type 0 where
+-- refused, what is pushed lies on the way to it, as its lookup left it. Where they are ignore rules alone, the worktree was
+-- read at most once for each directory that was pushed or refused, and so often more to find repositories.
+pub record AskedAbout {T E : Type 0} (most : ℕ) (path : List ℕ) (reads0 reads1 : ℕ) (old new : Option Stacked) (result : Result T E) : Type 0 where
   pub given : is_some old ≡ true
   pub once : platforms_of new ≡ one_more (platforms_of old)
   pub looked_up : OnOk result (StandsAt new path)
   pub on_way : IsOnWay (pushed_in new) (components path)
   pub leaves : LeavesPushed path (pushed_in old) (pushed_in new)
-  pub reads : recurses ≡ true → tells_attributes (made_with old) ≡ false
-      → reads1 + length (pushed (staying (pushed_in old) (components path))) ≤ reads0 + length (pushed (pushed_in new)) + refused_one result
+  pub reads : tells_attributes (made_with old) ≡ false
+      → reads1 + length (pushed (staying (pushed_in old) (components path))) ≤ reads0 + length (pushed (pushed_in new)) + refused_one result + most
 
 -- The rules were asked about one path, or they were not asked.
-abbrev pub AsksAtMost : {F T E : Type 0} → Bool → List ℕ → ℕ → ℕ → F → F → Option Stacked → Option Stacked → Result T E → Type 0
-AsksAtMost recurses path reads0 reads1 o0 o1 old new result =
-    Unasked recurses reads0 reads1 o0 o1 old new ⊎ AskedAbout recurses path reads0 reads1 old new result
+abbrev pub AsksAtMost : {F T E : Type 0} → ℕ → List ℕ → ℕ → ℕ → F → F → Option Stacked → Option Stacked → Result T E → Type 0
+AsksAtMost most path reads0 reads1 o0 o1 old new result =
+    Unasked most reads0 reads1 o0 o1 old new ⊎ AskedAbout most path reads0 reads1 old new result
 
 -- a worktree, a store and the rules, where they are given, as they were
 pub record AreUntouched {W F : Type 0} (w0 w1 : W) (o0 o1 : F) (old new : Option Stacked) : Type 0 where

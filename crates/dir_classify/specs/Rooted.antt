@@ -23,6 +23,7 @@ use Rattle.dir_classify.specs.Class.{asks, seeks}
 use Rattle.dir_classify.specs.Excludes.{made_with, maps_blobs, platforms_of, pushed_in, tells_attributes, TellsIf, InStepIf}
 use Rattle.dir_classify.specs.Kept.{AsksRules, KeepsRules, LeavesPushed, StandsAt, Unasked}
 use Rattle.dir_classify.specs.Layers.{Setting, evidence, on_disk}
+use Rattle.dir_classify.specs.Reads.{most_on_way, most_sought}
 use Rattle.dir_classify.specs.Refused.{IsAbout, Refuses, OnAccess, OnFault, OnLookup, StopsIf}
 use Rattle.dir_classify.specs.Way.{Reached, asking_behind, goes_on, reached, IsReached, IsRefusedOnWay}
 
@@ -52,10 +53,10 @@ IsPushedBefore first last old before =
 
 -- The rules were asked about paths on the way to one, and not about the worktree root: about each at most once, and nothing that was
 -- counted is lost. Answered they stand at the last of these
--- paths; and what is pushed is what its lookup left, on the way there. Where repositories are walked into, and
--- the rules are ignore rules alone, the worktree was read at most once for each directory that was pushed or refused from the first of
--- these paths on.
-pub record AskedOnWay {T E : Type 0} (recurses : Bool) (root : List ℕ) (reads0 reads1 : ℕ) (old new : Option Stacked) (result : Result T E) : Type 0 where
+-- paths; and what is pushed is what its lookup left, on the way there. Where the rules are ignore rules alone,
+-- the worktree was read at most once for each directory that was pushed or refused from the first of these paths on, and for each path on
+-- the way so often more to find repositories.
+pub record AskedOnWay {T E : Type 0} (most : ℕ) (root : List ℕ) (reads0 reads1 : ℕ) (old new : Option Stacked) (result : Result T E) : Type 0 where
   pub given : is_some old ≡ true
   pub first : List ℕ
   pub beneath : is_empty first ≡ false
@@ -69,13 +70,14 @@ pub record AskedOnWay {T E : Type 0} (recurses : Bool) (root : List ℕ) (reads0
   pub before : Option (List (List ℕ))
   pub before_is : IsPushedBefore first last (pushed_in old) before
   pub leaves : LeavesPushed last before (pushed_in new)
-  pub reads : recurses ≡ true → tells_attributes (made_with old) ≡ false
-      → reads1 + length (pushed (staying (pushed_in old) (components first))) ≤ reads0 + length (pushed (pushed_in new)) + refused_one result
+  pub reads : tells_attributes (made_with old) ≡ false
+      → reads1 + length (pushed (staying (pushed_in old) (components first)))
+      ≤ reads0 + length (pushed (pushed_in new)) + refused_one result + most_on_way most (components root)
 
 -- The rules were asked about paths on the way to one, or they were not asked.
-abbrev pub AsksOnWay : {F T E : Type 0} → Bool → List ℕ → ℕ → ℕ → F → F → Option Stacked → Option Stacked → Result T E → Type 0
-AsksOnWay recurses root reads0 reads1 o0 o1 old new result =
-    Unasked recurses reads0 reads1 o0 o1 old new ⊎ AskedOnWay recurses root reads0 reads1 old new result
+abbrev pub AsksOnWay : {F T E : Type 0} → ℕ → List ℕ → ℕ → ℕ → F → F → Option Stacked → Option Stacked → Result T E → Type 0
+AsksOnWay most root reads0 reads1 o0 o1 old new result =
+    Unasked (most_on_way most (components root)) reads0 reads1 o0 o1 old new ⊎ AskedOnWay most root reads0 reads1 old new result
 
 -- How far the rules may have been asked: up to the path that was classed last, and refused somewhere on the way.
 abbrev pub ended_at : List ℕ → Result RootOutcome Error → List ℕ
@@ -149,11 +151,11 @@ pub record Reaches {W F : Type 0} (w : WorktreeOf W) (f : FindOf F) (w0 w1 : W) 
   pub store : AsksStore f o0 o1
   pub unmapped : maps_blobs (made_with old) ≡ false → o1 ≡ o0
   pub rules : KeepsRules w f w0 w1 o0 old new
-  pub reads : AsksOnWay given.options.recurse_repositories (ended_at root result) (w.reads w0) (w.reads w1) o0 o1 old new result
+  pub reads : AsksOnWay (most_sought given.options) (ended_at root result) (w.reads w0) (w.reads w1) o0 o1 old new result
   -- Over a told tree and without a fault the worktree is read for them alone where no path on the way looks for a repository.
   pub unsought : (s : Sources) → TellsIf (w.told w0) (f.holds o0) (made_with old) s → InStepIf s old → NotIncreased (w.faults w0) (w.faults w1)
       → ((path : List ℕ) → LeadsTo (ended_at root result) path → seeks given.options (evidence given (made_with old) s) path (on_disk given s.tree path true) None ≡ false)
-      → AsksOnWay true (ended_at root result) (w.reads w0) (w.reads w1) o0 o1 old new result
+      → AsksOnWay 0 (ended_at root result) (w.reads w0) (w.reads w1) o0 o1 old new result
   -- Nor are the rules asked in vain: over it and without a fault at most so often as paths on the way ask them.
   pub needed : (s : Sources) → w.told w0 ≡ Some s.tree → NotIncreased (w.faults w0) (w.faults w1)
       → platforms_of new ≤ platforms_of old + asking_behind given.options (evidence given (made_with old) s) (λ path. on_disk given s.tree path true) [] (components (ended_at root result))
@@ -161,7 +163,7 @@ pub record Reaches {W F : Type 0} (w : WorktreeOf W) (f : FindOf F) (w0 w1 : W) 
   -- alone; and over a told tree and without a fault, where none asks them by its kind.
   pub spared : (s : Sources)
       → ((path : List ℕ) → LeadsTo (ended_at root result) path → (kind : Option Kind) → asks given.options (evidence given (made_with old) s) path kind None ≡ false)
-      → Unasked given.options.recurse_repositories (w.reads w0) (w.reads w1) o0 o1 old new × IfErr result (OnAccess ⊥)
+      → Unasked (most_on_way (most_sought given.options) (components (ended_at root result))) (w.reads w0) (w.reads w1) o0 o1 old new × IfErr result (OnAccess ⊥)
   pub unasked : (s : Sources) → w.told w0 ≡ Some s.tree → NotIncreased (w.faults w0) (w.faults w1)
       → ((path : List ℕ) → LeadsTo (ended_at root result) path → asks given.options (evidence given (made_with old) s) path (on_disk given s.tree path true) None ≡ false)
-      → Unasked given.options.recurse_repositories (w.reads w0) (w.reads w1) o0 o1 old new
+      → Unasked (most_on_way (most_sought given.options) (components (ended_at root result))) (w.reads w0) (w.reads w1) o0 o1 old new

@@ -91,7 +91,8 @@ pub struct RootOutcome {
 /// contract does not say, but how many were misread at most.
 ///
 /// The worktree is read for rules, and where a repository is looked for: at a directory that is a submodule in the index, at one
-/// that neither the index nor the rules have, and at what the rules exclude, where deletion looks for repositories there.
+/// that neither the index nor the rules have, and at what the rules exclude, where deletion looks for repositories there. For
+/// ignore rules one file is read for each directory at most, and for a repository three files, or six where bare ones are looked for.
 ///
 /// The ignore rules are asked for a path below the worktree root that a path spec can match, that is not of the worktree set, and
 /// that the index does not have, or has in another shape (a directory in a file's place, or the other way round), and in

@@ -86,7 +86,7 @@ pub(crate) fn ruling_of<W: Worktree, F: Find>(
         → worktree.new ≡ worktree.old }
     ensures rules { KeepsRules W.Worktree F.Find worktree.old worktree.new objects.old excludes.old
         excludes.new }
-    ensures reads { AsksAtMost true rela_path.now (W.reads worktree.old) (W.reads worktree.new)
+    ensures reads { AsksAtMost 0 rela_path.now (W.reads worktree.old) (W.reads worktree.new)
         objects.old objects.new excludes.old excludes.new result }
     ensures no_rules { is_some (made_with excludes.old) ≡ false
         → IfOk result (λ r. r ≡ no_ruling) }
@@ -134,7 +134,7 @@ fn ruling_by<W: Worktree, F: Find>(
         → worktree.new ≡ worktree.old }
     ensures rules { KeepsRules W.Worktree F.Find worktree.old worktree.new objects.old
         (Some stack.old) (Some stack.new) }
-    ensures reads { AsksAtMost true rela_path.now (W.reads worktree.old) (W.reads worktree.new)
+    ensures reads { AsksAtMost 0 rela_path.now (W.reads worktree.old) (W.reads worktree.new)
         objects.old objects.new (Some stack.old) (Some stack.new) result }
 {
     look_up(alloc, rela_path, mode_of(is_dir), stack, worktree, objects)?;

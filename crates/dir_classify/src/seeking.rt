@@ -1,5 +1,5 @@
 //! The cases of a class that look for repositories.
-ghost use Rattle.std.specs.Prelude.{◌≡◌, ◌⊎◌, Option, Some, None, true, false, IfOk};
+ghost use Rattle.std.specs.Prelude.{◌≡◌, ◌≤◌, ◌+◌, ◌⊎◌, Option, Some, None, true, false, IfOk};
 ghost use Rattle.gitbase_core.specs.Path.{joined};
 ghost use Rattle.worktree_fs.specs.Causes.{NotIncreased};
 ghost use Rattle.worktree_fs.specs.Kept.{Asks};
@@ -11,6 +11,7 @@ ghost use Rattle.dir_classify.specs.Chosen.{chosen};
 ghost use Rattle.dir_classify.specs.Class.{class_indexed, class_unindexed, match_of, upgraded, dot_git, class_ignored, class_by_rules, class_directory, class_free, class_in_index, class_seen, ignored_kind, indexed_kind, finds_in_ignored, seeks_indexed, seeks_by_rules, is_idle, may_have_sought};
 ghost use Rattle.dir_classify.specs.Faults.{IsJudged, IsSeenAs};
 ghost use Rattle.dir_classify.specs.Kinds.{holds_names};
+ghost use Rattle.dir_classify.specs.Reads.{most_sought, most_upgraded};
 ghost use Rattle.dir_classify.specs.Layers.{setting_of, evidence, indexed_as, git_at};
 
 use crate::cases::{
@@ -52,6 +53,8 @@ fn upgrade<W: Worktree, M: Matcher>(
         (git_at t shared.now.current_dir.now shared.now.git_dir_realpath.now
         (joined full.now dot_git))) }
     ensures keeps { Asks W.Worktree worktree.old worktree.new }
+    ensures reads_most { W.reads worktree.new ≤ W.reads worktree.old
+        + most_upgraded (chosen shared.now.options).recurse_repositories hard }
     ensures unasked { is_idle (chosen shared.now.options) true ≡ true
         → worktree.new ≡ worktree.old }
     ensures either { IfOk result (λ k. (k ≡ kind) ⊎ (k ≡ Some Kind.Repository)) }
@@ -96,6 +99,8 @@ fn indexed_kind<W: Worktree, M: Matcher>(
         (git_at t shared.now.current_dir.now shared.now.git_dir_realpath.now
         (joined full.now dot_git))) }
     ensures keeps { Asks W.Worktree worktree.old worktree.new }
+    ensures reads_most { W.reads worktree.new
+        ≤ W.reads worktree.old + most_sought (chosen shared.now.options) }
     ensures unasked { is_idle (chosen shared.now.options) (seeks_indexed entry kind) ≡ true
         → worktree.new ≡ worktree.old }
     ensures either { IfOk result (λ k. (k ≡ kind) ⊎ (k ≡ Some Kind.Repository)) }
@@ -133,6 +138,8 @@ fn ignored_kind<W: Worktree, M: Matcher>(
         (git_at t shared.now.current_dir.now shared.now.git_dir_realpath.now
         (joined full.now dot_git))) }
     ensures keeps { Asks W.Worktree worktree.old worktree.new }
+    ensures reads_most { W.reads worktree.new
+        ≤ W.reads worktree.old + most_sought (chosen shared.now.options) }
     ensures unasked { is_idle (chosen shared.now.options)
         (finds_in_ignored (chosen shared.now.options)) ≡ true
         → worktree.new ≡ worktree.old }
@@ -167,6 +174,8 @@ pub(crate) fn of_indexed<W: Worktree, M: Matcher>(
         (λ _ ev. class_indexed (chosen shared.now.options) ev rela_path.now kind)
         (evidence (setting_of M.Matcher shared.now) made s) on_disk) }
     ensures keeps { Asks W.Worktree worktree.old worktree.new }
+    ensures reads_most { W.reads worktree.new
+        ≤ W.reads worktree.old + most_sought (chosen shared.now.options) }
     ensures unasked { is_idle (chosen shared.now.options) (seeks_indexed entry kind) ≡ true
         → worktree.new ≡ worktree.old }
     ensures sought { IfOk result (λ c. may_have_sought (chosen shared.now.options) c ≡ false
@@ -204,6 +213,8 @@ pub(crate) fn of_ignored<W: Worktree, M: Matcher>(
         (λ _ ev. class_ignored (chosen shared.now.options) ev rela_path.now kind excluded)
         (evidence (setting_of M.Matcher shared.now) made s) on_disk) }
     ensures keeps { Asks W.Worktree worktree.old worktree.new }
+    ensures reads_most { W.reads worktree.new
+        ≤ W.reads worktree.old + most_sought (chosen shared.now.options) }
     ensures unasked { is_idle (chosen shared.now.options)
         (finds_in_ignored (chosen shared.now.options)) ≡ true
         → worktree.new ≡ worktree.old }
@@ -245,6 +256,8 @@ pub(crate) fn of_directory<W: Worktree, M: Matcher>(
         (λ _ ev. class_directory (chosen shared.now.options) ev rela_path.now kind)
         (evidence (setting_of M.Matcher shared.now) made s) on_disk) }
     ensures keeps { Asks W.Worktree worktree.old worktree.new }
+    ensures reads_most { W.reads worktree.new
+        ≤ W.reads worktree.old + most_sought (chosen shared.now.options) }
     ensures unasked { is_idle (chosen shared.now.options) true ≡ true
         → worktree.new ≡ worktree.old }
     ensures sought { IfOk result (λ c. may_have_sought (chosen shared.now.options) c ≡ false
@@ -282,6 +295,8 @@ pub(crate) fn of_free<W: Worktree, M: Matcher>(
         (λ _ ev. class_by_rules (chosen shared.now.options) ev rela_path.now kind None)
         (evidence (setting_of M.Matcher shared.now) made s) on_disk) }
     ensures keeps { Asks W.Worktree worktree.old worktree.new }
+    ensures reads_most { W.reads worktree.new
+        ≤ W.reads worktree.old + most_sought (chosen shared.now.options) }
     ensures unasked { is_idle (chosen shared.now.options) (holds_names kind) ≡ true
         → worktree.new ≡ worktree.old }
     ensures sought { IfOk result (λ c. may_have_sought (chosen shared.now.options) c ≡ false
@@ -322,6 +337,8 @@ pub(crate) fn of_unindexed<W: Worktree, M: Matcher>(
         (λ _ ev. class_unindexed (chosen shared.now.options) ev rela_path.now kind ruling)
         (evidence (setting_of M.Matcher shared.now) made s) on_disk) }
     ensures keeps { Asks W.Worktree worktree.old worktree.new }
+    ensures reads_most { W.reads worktree.new
+        ≤ W.reads worktree.old + most_sought (chosen shared.now.options) }
     ensures unasked { is_idle (chosen shared.now.options)
         (seeks_by_rules (chosen shared.now.options) kind ruling.kind) ≡ true
         → worktree.new ≡ worktree.old }

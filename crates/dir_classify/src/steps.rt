@@ -199,7 +199,7 @@ fn ruling_at<W: Worktree, F: Find, M: Matcher>(
     ensures unmapped { maps_blobs (made_with excludes.old) ≡ false → objects.new ≡ objects.old }
     ensures rules { KeepsRules W.Worktree F.Find worktree.old worktree.new objects.old excludes.old
         excludes.new }
-    ensures reads { AsksAtMost true rela_path.now (W.reads worktree.old) (W.reads worktree.new)
+    ensures reads { AsksAtMost 0 rela_path.now (W.reads worktree.old) (W.reads worktree.new)
         objects.old objects.new excludes.old excludes.new result }
     ensures no_rules { (is_some (made_with excludes.old) && not (is_empty rela_path.now)) ≡ false
         → IfOk result (λ r. r ≡ no_ruling) }

@@ -13,7 +13,9 @@ use Rattle.worktree_stack.specs.Stacked.{Stacked, pushed}
 use Rattle.dir_classify.specs.declared.entry.Entry.{Entry}
 use Rattle.dir_classify.specs.Chosen.{Chosen}
 use Rattle.dir_classify.specs.Excludes.{made_with, pushed_in, tells_attributes}
+use Rattle.dir_classify.specs.Reads.{most_on_way, most_sought}
 use Rattle.dir_classify.specs.Rooted.{AsksOnWay, LeadsTo}
+use Rattle.dir_classify.proofs.Most.{most-none, most-nowhere}
 use Rattle.dir_classify.proofs.WayAsked.{on-way-further, way-root}
 use Rattle.dir_walk.specs.declared.handed.Stop.{Stop}
 use Rattle.dir_walk.specs.declared.handed.Stop.TheVariants.{Broken, Refused}
@@ -47,11 +49,15 @@ held-on-way (Some held) names way =
 on-way-to : (root : List ℕ) {path : List ℕ} (new : Option Stacked) → LeadsTo root path → IsOnWay (pushed_in new) (components path) → IsOnWay (pushed_in new) (components root)
 on-way-to root {path} new leads way = subst (IsOnWay (pushed_in new)) (sym leads.components_are) (on-way-further (pushed_in new) (components path) leads.rest way)
 
+-- nothing is read to find repositories
+most-way : (most : ℕ) (names : List (List ℕ)) → most ≡ 0 → most_on_way most names ≡ 0
+most-way most names none = ap (λ (n : ℕ). most_on_way n names) none ∙ most-nowhere names
+
 -- the classes on the way read at most once for each directory there whose rules are held then
-asks-on-way : {F T E : Type 0} (recurses : Bool) (root : List ℕ) (reads0 reads1 : ℕ) (o0 o1 : F) (old new : Option Stacked) (result : Result T E) → recurses ≡ true → tells_attributes (made_with old) ≡ false
-    → AsksOnWay recurses root reads0 reads1 o0 o1 old new result → reads1 ≤ reads0 + pushed_to (pushed_in new) (components root) + refused_one result
-asks-on-way recurses root reads0 reads1 o0 o1 old new result on alone (inl unasked) = omega (arith, unasked.reads on)
-asks-on-way recurses root reads0 reads1 o0 o1 old new result on alone (inr asked) = omega (arith, asked.reads on alone, held-on-way (pushed_in new) (components root) (on-way-to root new asked.leads asked.on_way))
+asks-on-way : {F T E : Type 0} (most : ℕ) (root : List ℕ) (reads0 reads1 : ℕ) (o0 o1 : F) (old new : Option Stacked) (result : Result T E) → most ≡ 0 → tells_attributes (made_with old) ≡ false
+    → AsksOnWay most root reads0 reads1 o0 o1 old new result → reads1 ≤ reads0 + pushed_to (pushed_in new) (components root) + refused_one result
+asks-on-way most root reads0 reads1 o0 o1 old new result none alone (inl unasked) = omega (arith, unasked.reads, most-way most (components root) none)
+asks-on-way most root reads0 reads1 o0 o1 old new result none alone (inr asked) = omega (arith, asked.reads alone, most-way most (components root) none, held-on-way (pushed_in new) (components root) (on-way-to root new asked.leads asked.on_way))
 
 -- what is pushed on the way to a directory lies above it, or is the worktree root
 above-last : (names : List (List ℕ)) → length (all_but_last names) ≤ length names - 1
@@ -69,20 +75,20 @@ some-names [] rest first is some = absurd (let e : is_empty first ≡ true = ap 
 some-names (name ∷ names) rest first is some = omega arith
 
 -- so the classes on the way read at most once for each component
-asks-above : {F T E : Type 0} (recurses : Bool) (root : List ℕ) (reads0 reads1 : ℕ) (o0 o1 : F) (old new : Option Stacked) (result : Result T E) → recurses ≡ true → tells_attributes (made_with old) ≡ false
-    → AsksOnWay recurses root reads0 reads1 o0 o1 old new result → reads1 ≤ reads0 + length (components root) + refused_one result
-asks-above recurses root reads0 reads1 o0 o1 old new result on alone (inl unasked) = omega (arith, unasked.reads on)
-asks-above recurses root reads0 reads1 o0 o1 old new result on alone (inr asked) =
+asks-above : {F T E : Type 0} (most : ℕ) (root : List ℕ) (reads0 reads1 : ℕ) (o0 o1 : F) (old new : Option Stacked) (result : Result T E) → most ≡ 0 → tells_attributes (made_with old) ≡ false
+    → AsksOnWay most root reads0 reads1 o0 o1 old new result → reads1 ≤ reads0 + length (components root) + refused_one result
+asks-above most root reads0 reads1 o0 o1 old new result none alone (inl unasked) = omega (arith, unasked.reads, most-way most (components root) none)
+asks-above most root reads0 reads1 o0 o1 old new result none alone (inr asked) =
     let some : 1 ≤ length (components asked.first ++ asked.behind.rest) = some-names (components asked.first) asked.behind.rest asked.first asked.behind.spelled_is asked.beneath in
     let last : length (components asked.last) ≡ length (components asked.first ++ asked.behind.rest) = ap {B = ℕ} (λ (l : List (List ℕ)). length l) asked.behind.components_are in
     let same : length (components root) ≡ length (components asked.last ++ asked.leads.rest) = ap {B = ℕ} (λ (l : List (List ℕ)). length l) asked.leads.components_are in
-    omega (arith, asked.reads on alone, pushed-above (pushed_in new) (components root) (on-way-to root new asked.leads asked.on_way), some, last, same, length-append (components asked.last) asked.leads.rest)
+    omega (arith, asked.reads alone, most-way most (components root) none, pushed-above (pushed_in new) (components root) (on-way-to root new asked.leads asked.on_way), some, last, same, length-append (components asked.last) asked.leads.rest)
 
 -- what was asked on the way to where it ended was asked on the way to the traversal root
-pub asks-from : {F T E : Type 0} {recurses : Bool} {root path : List ℕ} {reads0 reads1 : ℕ} {o0 o1 : F} {old new : Option Stacked} {result : Result T E} → LeadsTo root path
-    → AsksOnWay recurses path reads0 reads1 o0 o1 old new result → AsksOnWay recurses root reads0 reads1 o0 o1 old new result
-asks-from {recurses = recurses} {root = root} {path = path} {reads0 = reads0} {reads1 = reads1} {o0 = o0} {o1 = o1} {old = old} {new = new} {result = result} leads asks =
-    way-root recurses root path leads.rest reads0 reads1 o0 o1 old new result leads.components_are asks
+pub asks-from : {F T E : Type 0} {most : ℕ} {root path : List ℕ} {reads0 reads1 : ℕ} {o0 o1 : F} {old new : Option Stacked} {result : Result T E} → LeadsTo root path
+    → AsksOnWay most path reads0 reads1 o0 o1 old new result → AsksOnWay most root reads0 reads1 o0 o1 old new result
+asks-from {most = most} {root = root} {path = path} {reads0 = reads0} {reads1 = reads1} {o0 = o0} {o1 = o1} {old = old} {new = new} {result = result} leads asks =
+    way-root most root path leads.rest reads0 reads1 o0 o1 old new result leads.components_are asks
 
 -- ---- what is opened
 
@@ -110,7 +116,7 @@ opens-not Held w i o w0 w1 i0 i1 a at names none lists reads asked =
     }
 
 module _ {W F I T U E : Type 0} {w : WorktreeOf W} {i : InterruptOf I} {o : Chosen} {w0 w2 : W} (w1 : W) {o0 o1 : F} (strategy : Strategy) {i0 : I} {a b : Outcome} {old mid : Option Stacked} {root : List ℕ} {reached : Result U E}
-    (asks : AsksOnWay o.recurse_repositories root (w.reads w0) (w.reads w1) o0 o1 old mid reached) where
+    (asks : AsksOnWay (most_sought o) root (w.reads w0) (w.reads w1) o0 o1 old mid reached) where
   -- the way to the traversal root ended before it, or it is not entered
   pub opens-short : {Within : ℕ → Type 0} → Within 0 → (result : Result T Stop) → w.lists w2 ≡ w.lists w0 → w.reads w2 ≡ w.reads w1 → b.read_dir_calls ≡ a.read_dir_calls → refused_one reached ≤ refused_walk result
       → OpensFrom w i w0 w2 i0 i0 a b strategy o (made_with old) root result Within
@@ -121,7 +127,7 @@ module _ {W F I T U E : Type 0} {w : WorktreeOf W} {i : InterruptOf I} {o : Chos
         counted = λ small. omega (arith, counted, small);
         asked = omega arith;
         within = none;
-        reads = λ held on alone. omega (arith, asks-above o.recurse_repositories root (w.reads w0) (w.reads w1) o0 o1 old mid reached (and_left o.recurse_repositories _ on) alone asks, reads, fits);
+        reads = λ held on alone. omega (arith, asks-above (most_sought o) root (w.reads w0) (w.reads w1) o0 o1 old mid reached (most-none o (and_left o.recurse_repositories _ on)) alone asks, reads, fits);
       }
 
 -- what is opened is opened between calls that list and read nothing
@@ -151,7 +157,7 @@ refused-same S T Broken = omega arith
 
 -- it is entered
 pub opens-entered : {W F I T U E : Type 0} {w : WorktreeOf W} {i : InterruptOf I} {o : Chosen} {w0 : W} (w1 w2 : W) {o0 o1 : F} (strategy : Strategy) {i0 : I} {a b : Outcome} {old mid : Option Stacked} {root : List ℕ} {reached : Result U E}
-    → AsksOnWay o.recurse_repositories root (w.reads w0) (w.reads w1) o0 o1 old mid reached
+    → AsksOnWay (most_sought o) root (w.reads w0) (w.reads w1) o0 o1 old mid reached
     → {w3 : W} {i1 : I} (new : Option Stacked) (result : Result T Stop) {First Within : ℕ → Type 0} → ((n : ℕ) → First n → Within n) → made_with mid ≡ made_with old → w.lists w2 ≡ w.lists w0 → w.reads w2 ≡ w.reads w1 → refused_one reached ≡ 0
     → OpensRoot w i w2 w3 i0 i1 a b strategy o mid new (components root) (refused_walk result) First → OpensFrom w i w0 w3 i0 i1 a b strategy o (made_with old) root result Within
 opens-entered {w = w} {o = o} {w0 = w0} w1 w2 {o0 = o0} {o1 = o1} Held {old = old} {mid = mid} {root = root} {reached = reached} asks new result so made lists reads answered one =
@@ -164,7 +170,7 @@ opens-entered {w = w} {o = o} {w0 = w0} w1 w2 {o0 = o0} {o1 = o1} Held {old = ol
       reads = λ held on alone.
           omega (
             arith,
-            asks-on-way o.recurse_repositories root (w.reads w0) (w.reads w1) o0 o1 old mid reached (and_left o.recurse_repositories _ on) alone asks,
+            asks-on-way (most_sought o) root (w.reads w0) (w.reads w1) o0 o1 old mid reached (most-none o (and_left o.recurse_repositories _ on)) alone asks,
             one.reads on (ap tells_attributes made ∙ alone),
             pushed-most (pushed_in new) (components root),
             reads,

@@ -16,6 +16,8 @@ use Rattle.worktree_stack.specs.Stacked.{Stacked, pushed}
 use Rattle.dir_classify.specs.Chosen.{Chosen, may_hide_repositories}
 use Rattle.dir_classify.specs.Excludes.{made_with, pushed_in, tells_attributes}
 use Rattle.dir_classify.specs.Kept.{AsksAtMost}
+use Rattle.dir_classify.specs.Reads.{most_sought}
+use Rattle.dir_classify.proofs.Most.{most-none}
 use Rattle.dir_walk.specs.declared.outcome.Outcome.{Outcome}
 use Rattle.dir_walk.specs.Opens.{Opens, OpensWithin, pushed_to, reads_rules_alone}
 use Rattle.dir_walk.proofs.Lists.{and_left, and_right}
@@ -173,17 +175,17 @@ module _ (d name : List ℕ) (is : IsName name) where
       length-fronts held ∙ ap {B = ℕ} (λ (names : List (List ℕ)). length names + 1) (sym front)
 
   -- a look-up reads at most once for each directory above the path whose rules were not held and are held then
-  pub asks-reads : {F T E : Type 0} (recurses : Bool) (reads0 reads1 : ℕ) (o0 o1 : F) (old new : Option Stacked) (result : Result T E) → recurses ≡ true → tells_attributes (made_with old) ≡ false
-      → AsksAtMost recurses (joined d name) reads0 reads1 o0 o1 old new result → reads1 + pushed_to (pushed_in old) (components d) ≤ reads0 + pushed_to (pushed_in new) (components d) + refused_one result
-  asks-reads recurses reads0 reads1 o0 o1 old new result on alone (inl unasked) = omega (arith, unasked.reads on, ap {B = ℕ} (λ (x : Option Stacked). pushed_to (pushed_in x) (components d)) unasked.same)
-  asks-reads recurses reads0 reads1 o0 o1 old new result on alone (inr asked) = omega (arith, asked.reads on alone, stays (pushed_in old), on-way (pushed_in new) asked.on_way)
+  pub asks-reads : {F T E : Type 0} (most : ℕ) (reads0 reads1 : ℕ) (o0 o1 : F) (old new : Option Stacked) (result : Result T E) → most ≡ 0 → tells_attributes (made_with old) ≡ false
+      → AsksAtMost most (joined d name) reads0 reads1 o0 o1 old new result → reads1 + pushed_to (pushed_in old) (components d) ≤ reads0 + pushed_to (pushed_in new) (components d) + refused_one result
+  asks-reads most reads0 reads1 o0 o1 old new result none alone (inl unasked) = omega (arith, none, unasked.reads, ap {B = ℕ} (λ (x : Option Stacked). pushed_to (pushed_in x) (components d)) unasked.same)
+  asks-reads most reads0 reads1 o0 o1 old new result none alone (inr asked) = omega (arith, none, asked.reads alone, stays (pushed_in old), on-way (pushed_in new) asked.on_way)
 
 -- the rules are asked for a class, where files are read for rules alone
 pub opens-class : {W F I T E : Type 0} {w : WorktreeOf W} {i : InterruptOf I} {o : Chosen} {w0 w1 : W} {o0 o1 : F} {i0 : I} {a : Outcome} {old new : Option Stacked} (d name : List ℕ) {result : Result T E} → IsName name
-    → w.lists w1 ≡ w.lists w0 → AsksAtMost o.recurse_repositories (joined d name) (w.reads w0) (w.reads w1) o0 o1 old new result
+    → w.lists w1 ≡ w.lists w0 → AsksAtMost (most_sought o) (joined d name) (w.reads w0) (w.reads w1) o0 o1 old new result
     → OpensWithin w i w0 w1 i0 i0 a a o old new (components d) 0 (refused_one result) (λ n. n ≡ 0)
 opens-class {w = w} {o = o} {w0 = w0} {w1 = w1} {o0 = o0} {o1 = o1} {old = old} {new = new} d name {result = result} is lists asks =
-    opens-none refl lists refl (omega arith) (λ on alone. asks-reads d name is o.recurse_repositories (w.reads w0) (w.reads w1) o0 o1 old new result (and_left o.recurse_repositories _ on) alone asks)
+    opens-none refl lists refl (omega arith) (λ on alone. asks-reads d name is (most_sought o) (w.reads w0) (w.reads w1) o0 o1 old new result (most-none o (and_left o.recurse_repositories _ on)) alone asks)
 
 pub hides-none : (o : Chosen) → reads_rules_alone o ≡ true → may_hide_repositories o.for_deletion ≡ false
 hides-none o on = go (may_hide_repositories o.for_deletion) (and_right o.recurse_repositories _ on)

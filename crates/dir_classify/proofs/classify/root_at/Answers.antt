@@ -7,7 +7,9 @@ use Rattle.worktree_fs.specs.Paths.{is_nil}
 use Rattle.worktree_stack.specs.Reading.{Sources}
 use Rattle.dir_classify.specs.Layers.{setting_of, evidence, on_disk}
 use Rattle.dir_classify.specs.Way.{IsReached, Reached, reached_so}
+use Rattle.dir_classify.specs.Reads.{most_sought}
 use Rattle.dir_classify.proofs.Asking.{unasked-needed}
+use Rattle.dir_classify.proofs.WayAsked.{unasked-first}
 use Rattle.dir_classify.proofs.Onward.{way-init, top-init, never-asked, never-unread, ends-init, root-unasked, root-unread, grown-normal, grown-spelled, onward-grown, Reaches-refused}
 use Rattle.dir_classify.proofs.Ended.{Reaches-ended, Reaches-stopped, Reaches-unrooted, ended-short, ended-whole}
 use Rattle.dir_classify.proofs.classify.root_at.Goals as goal
@@ -45,12 +47,12 @@ loop-next-init g c =
           subst (λ (l : List (List ℕ)). IsReached (g.W.Worktree.faults c.args.worktree.now) now given.options ev kinds l at_root) (sym (ap components path_is))
           (ends-init (g.W.Worktree.faults c.args.worktree.now) now now given.options ev kinds [] c.in_ok-path.path c.in_ok-class.class c.is_repository-in_repository.result at_root path_is c.is_repository-in_repository.ensures
           (first.swallowed s tells step).0 (omega arith, refl));
-      reads = inl (root-unasked first);
+      reads = inl (unasked-first (most_sought (setting_of g.M.Matcher c.args.shared.now).options) (components c.in_ok-path.path) (root-unasked first));
       unsought = λ s tells step quiet never.
-          inl (root-unread first s tells.tree_is quiet (never [] (record { spelled_is = refl; rest = []; components_are = ap components path_is })));
+          inl (unasked-first 0 (components c.in_ok-path.path) (root-unread first s tells.tree_is quiet (never [] (record { spelled_is = refl; rest = []; components_are = ap components path_is }))));
       needed = λ s told quiet. unasked-needed (root-unasked first) _;
-      spared = λ s never. root-unasked first;
-      unasked = λ s told quiet no. root-unasked first;
+      spared = λ s never. unasked-first (most_sought (setting_of g.M.Matcher c.args.shared.now).options) (components c.in_ok-path.path) (root-unasked first);
+      unasked = λ s told quiet no. unasked-first (most_sought (setting_of g.M.Matcher c.args.shared.now).options) (components c.in_ok-path.path) (root-unasked first);
     }
 
 pub class_on_way-requires-in-Some-clause-normal : goal.class_on_way-requires-in-Some-clause-normal

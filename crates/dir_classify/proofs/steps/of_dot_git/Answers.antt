@@ -7,10 +7,11 @@ use Rattle.dir_classify.specs.Excludes.{made_with}
 use Rattle.dir_classify.specs.Faults.{none_failed, read_as}
 use Rattle.dir_classify.specs.Layers.{setting_of, evidence, on_disk}
 use Rattle.dir_classify.specs.Question.{about_dot_git}
+use Rattle.dir_classify.specs.Reads.{most_sought}
 use Rattle.dir_classify.proofs.Classed.{asked-so, classed-as-judged}
 use Rattle.dir_classify.proofs.Fitting.{dot_git-none, dot_git-nothing, not-true}
 use Rattle.dir_classify.proofs.Judging.{unruled}
-use Rattle.dir_classify.proofs.Keeping.{asks-same, at-most, at-most-refused}
+use Rattle.dir_classify.proofs.Keeping.{asks-same, at-most, at-most-refused, read-not}
 use Rattle.dir_classify.proofs.Refusals.{on-access, on-access-by}
 use Rattle.dir_classify.proofs.Ruled.{dot_git-unasked, dot_git-unruled, dot_git-asked, dot_git-read, dot_git-asks}
 use Rattle.dir_classify.proofs.Upgrades.{judged-unread}
@@ -24,7 +25,7 @@ returns-then-not-is_deleting g c = λ ask_disk.
     let path = c.args.rela_path.now in
     let off = sym c.is_deleting.ensures ∙ c.if-not-is_deleting.true in
     unruled g.W.Worktree g.F.Find c.args.worktree.now c.args.worktree.now c.args.objects.now c.args.excludes.now given (about_dot_git o path c.args.disk_kind ask_disk) c.class_dot_git.result
-    (asks-same g.W.Worktree c.args.worktree.now) (λ on. refl)
+    (asks-same g.W.Worktree c.args.worktree.now) (read-not (most_sought o) refl)
     (λ s told quiet. c.class_dot_git.ensures made s ∙ dot_git-unasked o (evidence given made s) path c.args.disk_kind off)
     (λ s told. let ev = evidence given made s in
     judged-unread _ _ (λ _ read. class_dot_git o read path c.args.disk_kind (dot_git_ruling o read path c.args.disk_kind)) ev (on_disk given s.tree path ask_disk) c.class_dot_git.result (omega arith)
@@ -60,19 +61,19 @@ returns-in_err-ruling g c = λ ask_disk.
       store = asked.store;
       unmapped = asked.unmapped;
       rules = asked.rules;
-      reads = at-most-refused o.recurse_repositories path _ _ _ _ _ _ e asked.reads;
-      unsought = λ s tells step quiet no. at-most-refused true path _ _ _ _ _ _ e asked.reads;
+      reads = at-most-refused (most_sought o) path _ _ _ _ _ _ e asked.reads;
+      unsought = λ s tells step quiet no. at-most-refused 0 path _ _ _ _ _ _ e asked.reads;
       sought = tt;
-      early = on-access _ (at-most-refused true path _ _ _ _ _ _ e asked.reads) e;
+      early = on-access _ (at-most-refused 0 path _ _ _ _ _ _ e asked.reads) e;
       spared = λ s never.
           let kept = asked.untouched (dot_git-none o given made s on (never None)) in
-          record { same = kept.rules; store = kept.store; reads = λ on. ap g.W.Worktree.reads kept.worktree };
+          record { same = kept.rules; store = kept.store; reads = read-not (most_sought o) (ap g.W.Worktree.reads kept.worktree) };
       memory = λ s never.
           let off = dot_git-none o given made s on (never None) in
           on-access-by made path ⊥ (λ some. absurd (let no = sym some ∙ off in cc no)) e asked.about;
       unasked = λ s told quiet no.
           let kept = asked.untouched (dot_git-none o given made s on no) in
-          record { same = kept.rules; store = kept.store; reads = λ on. ap g.W.Worktree.reads kept.worktree };
+          record { same = kept.rules; store = kept.store; reads = read-not (most_sought o) (ap g.W.Worktree.reads kept.worktree) };
       unread = λ s told quiet no none_sought. ap g.W.Worktree.reads (asked.untouched (dot_git-none o given made s on no)).worktree;
       untouched = λ s no. asked.untouched (dot_git-nothing o given made s on no);
       certain = λ s no. tt;
@@ -99,7 +100,7 @@ returns g c = λ ask_disk.
           (λ kind. dot_git-read o given made s path (asked.read s tells step))
           (λ kind no.
           let kept = asked.untouched (dot_git-none o given made s on no) in
-          record { same = kept.rules; store = kept.store; reads = λ on. ap g.W.Worktree.reads kept.worktree });
+          record { same = kept.rules; store = kept.store; reads = read-not (most_sought o) (ap g.W.Worktree.reads kept.worktree) });
       unruled = λ s told quiet no.
           c.class_dot_git-2.ensures made s
           ∙ ap (class_dot_git o (evidence given made s) path c.args.disk_kind) (asked.no_rules (dot_git-none o given made s on no))
@@ -113,17 +114,17 @@ returns g c = λ ask_disk.
       store = asked.store;
       unmapped = asked.unmapped;
       rules = asked.rules;
-      reads = at-most o.recurse_repositories path _ _ _ _ _ _ _ c.in_ok-ruling.ruling result (λ on. refl) asked.reads;
-      unsought = λ s tells step quiet no. at-most true path _ _ _ _ _ _ _ c.in_ok-ruling.ruling result (λ on. refl) asked.reads;
-      sought = λ no. at-most true path _ _ _ _ _ _ _ c.in_ok-ruling.ruling result (λ on. refl) asked.reads;
+      reads = at-most (most_sought o) path _ _ _ _ _ _ _ c.in_ok-ruling.ruling result (read-not (most_sought o) refl) asked.reads;
+      unsought = λ s tells step quiet no. at-most 0 path _ _ _ _ _ _ _ c.in_ok-ruling.ruling result (read-not 0 refl) asked.reads;
+      sought = λ no. at-most 0 path _ _ _ _ _ _ _ c.in_ok-ruling.ruling result (read-not 0 refl) asked.reads;
       early = tt;
       spared = λ s never.
           let kept = asked.untouched (dot_git-none o given made s on (never None)) in
-          record { same = kept.rules; store = kept.store; reads = λ on. ap g.W.Worktree.reads kept.worktree };
+          record { same = kept.rules; store = kept.store; reads = read-not (most_sought o) (ap g.W.Worktree.reads kept.worktree) };
       memory = λ s never. tt;
       unasked = λ s told quiet no.
           let kept = asked.untouched (dot_git-none o given made s on no) in
-          record { same = kept.rules; store = kept.store; reads = λ on. ap g.W.Worktree.reads kept.worktree };
+          record { same = kept.rules; store = kept.store; reads = read-not (most_sought o) (ap g.W.Worktree.reads kept.worktree) };
       unread = λ s told quiet no none_sought. ap g.W.Worktree.reads (asked.untouched (dot_git-none o given made s on no)).worktree;
       untouched = λ s no. asked.untouched (dot_git-nothing o given made s on no);
       certain = λ s no.

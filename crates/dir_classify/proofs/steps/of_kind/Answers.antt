@@ -7,10 +7,11 @@ use Rattle.dir_classify.specs.Excludes.{made_with}
 use Rattle.dir_classify.specs.Faults.{none_failed, read_as}
 use Rattle.dir_classify.specs.Layers.{setting_of, evidence, on_disk}
 use Rattle.dir_classify.specs.Question.{about_kind}
+use Rattle.dir_classify.specs.Reads.{most_sought}
 use Rattle.dir_classify.proofs.Classed.{asked-so, classed-as-judged}
 use Rattle.dir_classify.proofs.Fitting.{worktree-case, indexed-case, unindexed-case, unasked-worktree, unasked-indexed, asks-unindexed, indexed-as, read-case, in_index-of, none-asked, idle-indexed, idle-unindexed}
 use Rattle.dir_classify.proofs.Judging.{unruled}
-use Rattle.dir_classify.proofs.Keeping.{asks-same, asks-then, quiet-first, quiet-second, at-most, at-most-refused, at-most-stopped}
+use Rattle.dir_classify.proofs.Keeping.{asks-same, asks-then, quiet-first, quiet-second, at-most, at-most-refused, at-most-stopped, read-not, read-then}
 use Rattle.dir_classify.proofs.Refusals.{OnAccess-weaker, on-access}
 use Rattle.dir_classify.proofs.Ruled.{judged-unindexed, ruling-none}
 use Rattle.dir_classify.proofs.Sought.{idle-indexed-sought, idle-unindexed-sought}
@@ -26,7 +27,7 @@ returns-then-is_worktree g c = λ ask_disk.
     let path = c.args.rela_path.now in
     let is = sym c.is_worktree.ensures ∙ c.if-is_worktree.true in
     unruled g.W.Worktree g.F.Find c.args.worktree.now c.args.worktree.now c.args.objects.now c.args.excludes.now given (about_kind o path c.args.kind ask_disk) c.class_worktree.result
-    (asks-same g.W.Worktree c.args.worktree.now) (λ on. refl)
+    (asks-same g.W.Worktree c.args.worktree.now) (read-not (most_sought o) refl)
     (λ s told quiet. c.class_worktree.ensures made s ∙ worktree-case o (evidence given made s) path c.args.kind is)
     (λ s told. let ev = evidence given made s in
     judged-unread _ _ (λ _ read. class_of_kind o read path c.args.kind) ev (on_disk given s.tree path ask_disk) c.class_worktree.result (omega arith)
@@ -46,7 +47,7 @@ returns-then-is_indexed g c = λ ask_disk.
     let is = sym c.is_indexed.ensures ∙ c.if-is_indexed.true in
     let then = c.in_ok-class.ensures in
     unruled g.W.Worktree g.F.Find c.args.worktree.now c.of_indexed.new.worktree c.args.objects.now c.args.excludes.now given (about_kind o path kind ask_disk) c.in_ok-class.class
-    then.keeps (λ on. ap g.W.Worktree.reads (then.unasked (rw on refl)))
+    then.keeps then.reads_most
     (λ s told quiet. then.class s told quiet made
     ∙ indexed-case o (evidence given made s) path kind none (indexed-as given made s path c.args.entry kind true c.requires.entry is))
     (λ s told. let ev = evidence given made s in let od = on_disk given s.tree path ask_disk in
@@ -88,7 +89,7 @@ returns g c = λ ask_disk.
           (λ d. read-case given made s path kind none not_found (first.read s tells step))
           (λ d no.
           let kept = first.untouched (none-asked given made s path kind none not_found no) in
-          record { same = kept.rules; store = kept.store; reads = λ on. ap g.W.Worktree.reads (then.unasked (rw on refl) ∙ kept.worktree) });
+          record { same = kept.rules; store = kept.store; reads = read-then then.reads_most (ap g.W.Worktree.reads kept.worktree) });
       unruled = λ s told quiet no.
           let off = none-asked given made s path kind none not_found no in
           then.class s (first.keeps.tree ∙ told) (quiet-second _ _ _ first.keeps.faults then.keeps.faults quiet) made
@@ -103,20 +104,20 @@ returns g c = λ ask_disk.
       store = first.store;
       unmapped = first.unmapped;
       rules = record { made = first.rules.made; in_step = first.rules.in_step };
-      reads = at-most o.recurse_repositories path _ _ _ _ _ _ _ c.in_ok-ruling.ruling c.in_ok-class-2.class (λ on. ap g.W.Worktree.reads (then.unasked (rw on refl))) first.reads;
+      reads = at-most (most_sought o) path _ _ _ _ _ _ _ c.in_ok-ruling.ruling c.in_ok-class-2.class then.reads_most first.reads;
       unsought = λ s tells step quiet no.
           let idle = idle-unindexed-sought o (evidence given made s) path kind c.in_ok-ruling.ruling none
           (indexed-as given made s path c.args.entry kind false c.requires.entry not_indexed) (first.ruling s tells step (quiet-first _ _ _ first.keeps.faults then.keeps.faults quiet)) no in
-          at-most true path _ _ _ _ _ _ _ c.in_ok-ruling.ruling c.in_ok-class-2.class (λ on. ap g.W.Worktree.reads (then.unasked idle)) first.reads;
-      sought = λ no. at-most true path _ _ _ _ _ _ _ c.in_ok-ruling.ruling c.in_ok-class-2.class (λ on. ap g.W.Worktree.reads (then.sought no)) first.reads;
+          at-most 0 path _ _ _ _ _ _ _ c.in_ok-ruling.ruling c.in_ok-class-2.class (read-not 0 (ap g.W.Worktree.reads (then.unasked idle))) first.reads;
+      sought = λ no. at-most 0 path _ _ _ _ _ _ _ c.in_ok-ruling.ruling c.in_ok-class-2.class (read-not 0 (ap g.W.Worktree.reads (then.sought no))) first.reads;
       early = tt;
       spared = λ s never.
           let kept = first.untouched (none-asked given made s path kind none not_found (never None)) in
-          record { same = kept.rules; store = kept.store; reads = λ on. ap g.W.Worktree.reads (then.unasked (rw on refl) ∙ kept.worktree) };
+          record { same = kept.rules; store = kept.store; reads = read-then then.reads_most (ap g.W.Worktree.reads kept.worktree) };
       memory = λ s never. tt;
       unasked = λ s told quiet no.
           let kept = first.untouched (none-asked given made s path kind none not_found no) in
-          record { same = kept.rules; store = kept.store; reads = λ on. ap g.W.Worktree.reads (then.unasked (rw on refl) ∙ kept.worktree) };
+          record { same = kept.rules; store = kept.store; reads = read-then then.reads_most (ap g.W.Worktree.reads kept.worktree) };
       unread = λ s told quiet no none_sought.
           let off = none-asked given made s path kind none not_found no in
           let idle = idle-unindexed-sought o (evidence given made s) path kind c.in_ok-ruling.ruling none
@@ -166,19 +167,19 @@ returns-in_err-ruling g c = λ ask_disk.
       store = first.store;
       unmapped = first.unmapped;
       rules = first.rules;
-      reads = at-most-refused o.recurse_repositories path _ _ _ _ _ _ e first.reads;
-      unsought = λ s tells step quiet no. at-most-refused true path _ _ _ _ _ _ e first.reads;
+      reads = at-most-refused (most_sought o) path _ _ _ _ _ _ e first.reads;
+      unsought = λ s tells step quiet no. at-most-refused 0 path _ _ _ _ _ _ e first.reads;
       sought = tt;
-      early = on-access _ (at-most-refused true path _ _ _ _ _ _ e first.reads) e;
+      early = on-access _ (at-most-refused 0 path _ _ _ _ _ _ e first.reads) e;
       spared = λ s never.
           let kept = first.untouched (none-asked given made s path kind none not_found (never None)) in
-          record { same = kept.rules; store = kept.store; reads = λ on. ap g.W.Worktree.reads kept.worktree };
+          record { same = kept.rules; store = kept.store; reads = read-not (most_sought o) (ap g.W.Worktree.reads kept.worktree) };
       memory = λ s never.
           let off = none-asked given made s path kind none not_found (never None) in
           OnAccess-weaker _ ⊥ e (λ on. absurd (let no = sym on ∙ off in cc no)) first.asked;
       unasked = λ s told quiet no.
           let kept = first.untouched (none-asked given made s path kind none not_found no) in
-          record { same = kept.rules; store = kept.store; reads = λ on. ap g.W.Worktree.reads kept.worktree };
+          record { same = kept.rules; store = kept.store; reads = read-not (most_sought o) (ap g.W.Worktree.reads kept.worktree) };
       unread = λ s told quiet no none_sought. ap g.W.Worktree.reads (first.untouched (none-asked given made s path kind none not_found no)).worktree;
       untouched = λ s no. first.untouched (idle-unindexed given made s path kind none not_found no).0;
       certain = λ s no. tt;
@@ -211,19 +212,23 @@ returns-in_err-class-2 g c = λ ask_disk.
       store = search rules;
       unmapped = search rules;
       rules = search rules;
-      reads = search rules;
+      reads =
+          let p = err_from_is_err_and c.from_residual-in_err-class-2.result c.from_residual-in_err-class-2.ensures.1 in
+          rw (p.1, p.2) (at-most-stopped (most_sought o) path _ _ _ _ _ _ _ c.in_ok-ruling.ruling _ then.reads_most first.reads);
       unsought = λ s tells step quiet no.
           let p = err_from_is_err_and c.from_residual-in_err-class-2.result c.from_residual-in_err-class-2.ensures.1 in
           let idle = idle-unindexed-sought o (evidence given made s) path kind c.in_ok-ruling.ruling none
           (indexed-as given made s path c.args.entry kind false c.requires.entry not_indexed) (first.ruling s tells step (quiet-first _ _ _ first.keeps.faults then.keeps.faults quiet)) no in
-          rw (p.1, p.2) (at-most-stopped true path _ _ _ _ _ _ _ c.in_ok-ruling.ruling _ (λ on. ap g.W.Worktree.reads (then.unasked idle)) first.reads);
+          rw (p.1, p.2) (at-most-stopped 0 path _ _ _ _ _ _ _ c.in_ok-ruling.ruling _ (read-not 0 (ap g.W.Worktree.reads (then.unasked idle))) first.reads);
       sought = search rules;
       early = search rules;
       spared = λ s never.
           let kept = first.untouched (none-asked given made s path kind none not_found (never None)) in
-          record { same = kept.rules; store = kept.store; reads = λ on. ap g.W.Worktree.reads (then.unasked (rw on refl) ∙ kept.worktree) };
+          record { same = kept.rules; store = kept.store; reads = read-then then.reads_most (ap g.W.Worktree.reads kept.worktree) };
       memory = search rules;
-      unasked = search rules;
+      unasked = λ s told quiet no.
+          let kept = first.untouched (none-asked given made s path kind none not_found no) in
+          record { same = kept.rules; store = kept.store; reads = read-then then.reads_most (ap g.W.Worktree.reads kept.worktree) };
       unread = λ s told quiet no none_sought.
           let off = none-asked given made s path kind none not_found no in
           let idle = idle-unindexed-sought o (evidence given made s) path kind c.in_ok-ruling.ruling none
