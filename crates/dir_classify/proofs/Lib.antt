@@ -19,3 +19,4 @@ pub mod WayAsked
 mod WayLeads
 mod WayReached
 mod WayUnread
+mod WorktreeSet

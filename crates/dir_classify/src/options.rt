@@ -7,6 +7,7 @@ ghost use Rattle.dir_classify.specs.Chosen.{chosen, finds_repositories, finds_ba
 ghost use Rattle.dir_classify.specs.Class.{is_worktree, has_worktree_beneath};
 
 use gitbase_core::{PathText, lies_beneath};
+use std::alloc::Global;
 use std::collections::BTreeSet;
 
 /// How entries of a kind are emitted, as gitoxide's `gix_dir::walk::EmissionMode`.
@@ -84,12 +85,12 @@ pub struct Options<'a> {
 
 /// Whether a path is one of the worktree set.
 #[tactic(auto, unfolding(crate::specs::Chosen::chosen))]
-pub(crate) fn is_worktree(options: &Options<'_>, path: &[u8]) -> bool
+pub(crate) fn is_worktree(alloc: Global, options: &Options<'_>, path: &[u8]) -> bool
     ensures { result ≡ is_worktree (chosen options.now) path.now }
 {
     match options.worktree_relative_worktree_dirs {
         None => false,
-        Some(dirs) => has_path(dirs, path),
+        Some(dirs) => has_path(alloc, dirs, path),
     }
 }
 
@@ -104,10 +105,33 @@ pub(crate) fn has_worktree_beneath(options: &Options<'_>, path: &[u8]) -> bool
     }
 }
 
-/// Whether a path is one of a set: the set is passed over up to it.
+/// Whether a path is one of a set: by one search, for a copy of the path, and by none where the set is empty. Where memory for
+/// the copy is refused the set is passed over.
 ///
+/// See docs/DECISIONS.md#slower-without-memory.
 /// See docs/DIFFERENCES.md#gix-worktree-set.
-fn has_path(dirs: &BTreeSet<PathText>, path: &[u8]) -> bool
+fn has_path(alloc: Global, dirs: &BTreeSet<PathText>, path: &[u8]) -> bool
+    ensures { result ≡ list_any (bytes_eq path.now) dirs.now.keys }
+{
+    let count = dirs.len();
+    if count == 0 {
+        return false;
+    }
+    match PathText::from_bytes(alloc, path) {
+        Ok(key) => holds(dirs, &key),
+        Err(_) => is_passed(dirs, path),
+    }
+}
+
+/// Whether a path is one of a set, by a search.
+fn holds(dirs: &BTreeSet<PathText>, path: &PathText) -> bool
+    ensures { result ≡ list_any (bytes_eq path.now) dirs.now.keys }
+{
+    dirs.contains(path)
+}
+
+/// Whether a path is one of a set, by passing over it.
+fn is_passed(dirs: &BTreeSet<PathText>, path: &[u8]) -> bool
     ensures { result ≡ list_any (bytes_eq path.now) dirs.now.keys }
 {
     dirs.iter().any(|dir| path == dir.as_bytes())

@@ -135,7 +135,7 @@ fn of_kind<W: Worktree, F: Find, M: Matcher>(
         objects.new excludes.old excludes.new (setting_of M.Matcher shared.now)
         (about_kind (chosen shared.now.options) rela_path.now kind ask_disk) result }
 {
-    if is_worktree(&shared.options, rela_path) {
+    if is_worktree(alloc, &shared.options, rela_path) {
         return Ok(class_worktree(shared, rela_path, kind));
     }
     if is_indexed(entry, kind) {
