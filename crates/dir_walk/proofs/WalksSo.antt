@@ -1,5 +1,6 @@
 -- What every walk says, by how it ended.
 use Rattle.std.proofs.Common.{◌≡◌, inl, inr, ℕ, List, [], true, false, Option, Some, None, Result, Ok, Err, refl, ap, ◌∙◌, ◌≤◌, arith}
+use Rattle.std.specs.Prelude.{◌⊎◌}
 use Rattle.gitbase_core.specs.declared.find.Find.{Ghosts as FindOf}
 use Rattle.worktree_fs.specs.declared.interrupt.Interrupt.{Ghosts as InterruptOf}
 use Rattle.worktree_fs.specs.declared.worktree.Worktree.{Ghosts as WorktreeOf}
@@ -31,6 +32,7 @@ use Rattle.dir_walk.proofs.CallByCall.{Before-asked, Ends-after, unlisted}
 use Rattle.dir_walk.proofs.Walkable.{valid-memory}
 use Rattle.dir_walk.proofs.Keeping.{AsksStore-same, KeepsRules-same}
 use Rattle.dir_walk.proofs.Overall.{opens-nothing}
+use Rattle.dir_walk.proofs.Refusals.{rose-or}
 use Rattle.dir_walk.proofs.Unstarted.{no-start-weaker, on-no-start}
 
 -- ---- there is no traversal root
@@ -89,6 +91,7 @@ module _ {W F I T : Type 0} (w : WorktreeOf W) (f : FindOf F) (i : InterruptOf I
             valid-memory s (made_with r0) given explicit limit (w.faults w0) (w.faults w1) (f.faults o0) (f.faults o0) (i.raised i0) (i.raised i0) e (fault (f.faults o0) (f.faults o0))
             (interrupt-outside (Increased (i.raised i0) (i.raised i0)) given explicit e about) (inl (ends s.tree tells.tells.tree_is)) quiet store_quiet calm is;
         named = λ t told quiet. tt;
+        named_so = λ t told. tt;
         worktree = unlisted (Before-asked {f = f} {o = o0} {rules = r0} keeps).worktree;
         store = AsksStore-same;
         unmapped = λ held none. refl;
@@ -98,6 +101,17 @@ module _ {W F I T : Type 0} (w : WorktreeOf W) (f : FindOf F) (i : InterruptOf I
         calm = tt;
         opens = opens-nothing strategy keeps.lists reads (λ s tells by quiet. omega arith);
       }
+
+-- ---- where it began
+
+-- at the traversal root, or for a fault at the worktree root
+began-at : {Is Top : Type 0} (n0 n1 n2 : ℕ) → n1 ≤ n2 → (NotIncreased n0 n1 → Is) → Is ⊎ Top → Is ⊎ (Top × Increased n0 n2)
+began-at {Is} {Top} n0 n1 n2 more exact way = go way (rose-or n0 n1)
+  where
+    go : Is ⊎ Top → NotIncreased n0 n1 ⊎ Increased n0 n1 → Is ⊎ (Top × Increased n0 n2)
+    go (inl is) said = inl is
+    go (inr top) (inl quiet) = inl (exact quiet)
+    go (inr top) (inr rose) = inr (top, omega (arith, rose, more))
 
 -- ---- it was refused on the way from there
 
@@ -146,6 +160,7 @@ module _ {W F I D T : Type 0} (w : WorktreeOf W) (f : FindOf F) (i : InterruptOf
             valid-memory s (made_with r0) given explicit limit (w.faults w0) (w.faults w2) (f.faults o0) (f.faults o2) (i.raised i0) (i.raised i2) e ends.caused.fault ends.caused.interrupt
             (inr (root, rooted_is s.tree tells.tells.tree_is (first quiet), refused s (later s tells) by (second quiet))) quiet store_quiet calm is;
         named = λ t told quiet. tt;
+        named_so = λ t told. tt;
         worktree = ends.worktree;
         store = ends.store;
         unmapped = unmapped;
@@ -157,10 +172,10 @@ module _ {W F I D T : Type 0} (w : WorktreeOf W) (f : FindOf F) (i : InterruptOf
       }
 
   -- or it was done, or broken off
-  pub walks-done : (r : T) → path_of r ≡ full_path given.root root → (stop : Result (Unit {0}) Stop) → Ends w f i d w1 w2 o0 o2 i0 i2 r0 r2 d0 d2 stop → w.list_faults w2 ≡ w.list_faults w1 → i.raised i2 ≡ i.raised i0
+  pub walks-done : (r : T) → path_of r ≡ full_path given.root root → ((t : Names) → w.told w0 ≡ Some t → (traversal_root given t explicit ≡ rooted root) ⊎ (root ≡ [])) → (stop : Result (Unit {0}) Stop) → Ends w f i d w1 w2 o0 o2 i0 i2 r0 r2 d0 d2 stop → w.list_faults w2 ≡ w.list_faults w1 → i.raised i2 ≡ i.raised i0
       → (strategy ≡ Held → maps_blobs (made_with r0) ≡ false → o2 ≡ o0)
       → OpensDirectories w i w0 w2 i0 i2 strategy given (made_with r0) explicit outcome_of path_of (Ok r) (EntersInWalk {T = T} w f w0 w2 o0 r0 recursion given explicit limit (Ok r)) → WalksWorktree w f i w0 w2 o0 o2 i0 i2 r0 r2 strategy given explicit limit recursion outcome_of path_of (Ok r)
-  walks-done r full_is stop here lists calm unmapped opens =
+  walks-done r full_is way stop here lists calm unmapped opens =
       let ends = Ends-after w f i d stop (Before-asked keeps) here in
       record {
         about = tt;
@@ -173,6 +188,7 @@ module _ {W F I D T : Type 0} (w : WorktreeOf W) (f : FindOf F) (i : InterruptOf
         unstarted = tt;
         complete = λ s tells by quiet store_quiet raised is. tt;
         named = λ t told quiet. (root, rooted_is t told (omega (arith, quiet, here.worktree.faults)), full_is);
+        named_so = λ t told. (root, began-at (w.faults w0) (w.faults w1) (w.faults w2) here.worktree.faults (rooted_is t told) (way t told), full_is);
         worktree = ends.worktree;
         store = ends.store;
         unmapped = unmapped;
@@ -218,6 +234,7 @@ module _ {W F I S T : Type 0} (w : WorktreeOf W) (f : FindOf F) (i : InterruptOf
         unstarted = h.unstarted;
         complete = h.complete;
         named = λ t told quiet. tt;
+        named_so = λ t told. tt;
         worktree = h.worktree;
         store = h.store;
         unmapped = h.unmapped;
@@ -250,6 +267,7 @@ module _ {W F I S T : Type 0} (w : WorktreeOf W) (f : FindOf F) (i : InterruptOf
         unstarted = tt;
         complete = λ s tells by quiet store_quiet calm is. tt;
         named = λ t told quiet. let n = h.named t told quiet in (n.0, n.1, path ∙ n.2);
+        named_so = λ t told. let n = h.named_so t told in (n.0, n.1, path ∙ n.2);
         worktree = h.worktree;
         store = h.store;
         unmapped = h.unmapped;
@@ -282,6 +300,7 @@ module _ {W F I S T : Type 0} (w : WorktreeOf W) (f : FindOf F) (i : InterruptOf
         unstarted = tt;
         complete = λ s tells by quiet store_quiet calm is. refl;
         named = λ t told quiet. tt;
+        named_so = λ t told. tt;
         worktree = h.worktree;
         store = h.store;
         unmapped = h.unmapped;

@@ -121,6 +121,9 @@ pub record WalksWorktree {W F I T : Type 0} (w : WorktreeOf W) (f : FindOf F) (i
   -- An answer names the traversal root, also where the walk was broken off.
   pub named : (t : Names) → w.told w0 ≡ Some t → NotIncreased (w.faults w0) (w.faults w1)
       → IfOk result (λ r. (root : List ℕ) × (traversal_root given t explicit ≡ rooted root) × (path_of r ≡ full_path given.root root))
+  -- With faults too: or it names the worktree root, where one was counted, as of whether the common directory is one.
+  pub named_so : (t : Names) → w.told w0 ≡ Some t
+      → IfOk result (λ r. (root : List ℕ) × ((traversal_root given t explicit ≡ rooted root) ⊎ ((root ≡ []) × Increased (w.faults w0) (w.faults w1))) × (path_of r ≡ full_path given.root root))
   -- What stays; the store is not asked where nothing is mapped and all is walked over it.
   pub worktree : KeepsTree w w0 w1
   pub store : AsksStore f o0 o1

@@ -67,7 +67,7 @@ returns-in-Ok g c =
     let none : refused_walk c.walk_from.result ≤ 0 = rw c.in-Ok.is (omega arith) in
     record {
       walks_worktree =
-          walks-done w f i d a.strategy given a.explicit.now a.depth_limit recursion (λ r. r.0) (λ r. r.1) root found.keeps normal rooted_is (c.walk_from.new.outcome, c.in_ok-full.full) full_is (Ok tt) from.ends from.ends.caused.listed from.ends.caused.calm c.walk_from.ensures.unmapped
+          walks-done w f i d a.strategy given a.explicit.now a.depth_limit recursion (λ r. r.0) (λ r. r.1) root found.keeps normal rooted_is (c.walk_from.new.outcome, c.in_ok-full.full) full_is (rw c.as_bytes-2.ensures found.way) (Ok tt) from.ends from.ends.caused.listed from.ends.caused.calm c.walk_from.ensures.unmapped
           (opens-whole a.strategy found.keeps.lists found.reads
           (enters-walk {T = Outcome × List ℕ} w f d recursion given a.explicit.now a.depth_limit root (Ok (c.walk_from.new.outcome, c.in_ok-full.full)) (refused_walk c.walk_from.result) found.keeps from.ends.worktree.faults refl rooted_is none)
           c.walk_from.result (Ok (c.walk_from.new.outcome, c.in_ok-full.full)) zeros.0 is_root refl none c.walk_from.ensures.opens);
@@ -98,7 +98,7 @@ returns-in-Err-Broken g c =
     let none : refused_walk c.walk_from.result ≤ 0 = rw (c.in-Err-Broken.is, c.in-Err-Broken.field-0-is) (omega arith) in
     record {
       walks_worktree =
-          walks-done w f i d a.strategy given a.explicit.now a.depth_limit recursion (λ r. r.0) (λ r. r.1) root found.keeps normal rooted_is (c.walk_from.new.outcome, c.in_ok-full.full) full_is (Err Broken) from.ends from.ends.caused.listed from.ends.caused.calm c.walk_from.ensures.unmapped
+          walks-done w f i d a.strategy given a.explicit.now a.depth_limit recursion (λ r. r.0) (λ r. r.1) root found.keeps normal rooted_is (c.walk_from.new.outcome, c.in_ok-full.full) full_is (rw c.as_bytes-2.ensures found.way) (Err Broken) from.ends from.ends.caused.listed from.ends.caused.calm c.walk_from.ensures.unmapped
           (opens-whole a.strategy found.keeps.lists found.reads
           (enters-walk {T = Outcome × List ℕ} w f d recursion given a.explicit.now a.depth_limit root (Ok (c.walk_from.new.outcome, c.in_ok-full.full)) (refused_walk c.walk_from.result) found.keeps from.ends.worktree.faults refl rooted_is none)
           c.walk_from.result (Ok (c.walk_from.new.outcome, c.in_ok-full.full)) zeros.0 is_root refl none c.walk_from.ensures.opens);
