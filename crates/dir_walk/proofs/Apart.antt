@@ -8,17 +8,17 @@ use Rattle.dir_walk.specs.Opens.{Enters, Opens, OpensApart}
 
 module _ {W I : Type 0} {w : WorktreeOf W} {i : InterruptOf I} where
   -- nothing is opened
-  pub apart-none : {w0 w1 : W} {i0 i1 : I} {a b : Outcome} {Within : ℕ → Type 0} → Within 0 → w.lists w1 ≡ w.lists w0 → b.read_dir_calls ≡ a.read_dir_calls → with_more (i.questions i0) (i.raised i1 - i.raised i0) ≤ i.questions i1
-      → OpensApart w i w0 w1 i0 i1 a b 0 Within
+  pub apart-none : {w0 w1 : W} {i0 i1 : I} {a b : Outcome} {deep : ℕ} {Within : ℕ → Type 0} → Within 0 → w.lists w1 ≡ w.lists w0 → b.read_dir_calls ≡ a.read_dir_calls → with_more (i.questions i0) (deep + (i.raised i1 - i.raised i0)) ≤ i.questions i1
+      → OpensApart w i w0 w1 i0 i1 a b 0 deep Within
   apart-none none lists read asked = record { enters = record { opened = 0; counted = λ small. omega (arith, read, small); asked = omega (arith, asked); within = none }; listed = omega (arith, lists) }
 
   -- a job is done after a call that opened nothing, and what it opened is absorbed
-  pub apart-job : {w0 w1 : W} {i0 i1 : I} {a b : Outcome} {First Within : ℕ → Type 0} → ((n : ℕ) → First n → Within n) → Enters i i0 i1 a b First → w.lists w1 ≡ w.lists w0 → OpensApart w i w0 w1 i0 i1 a b 0 Within
+  pub apart-job : {w0 w1 : W} {i0 i1 : I} {a b : Outcome} {deep : ℕ} {First Within : ℕ → Type 0} → ((n : ℕ) → First n → Within n) → Enters i i0 i1 a b deep First → w.lists w1 ≡ w.lists w0 → OpensApart w i w0 w1 i0 i1 a b 0 deep Within
   apart-job so enters lists =
       record { enters = record { opened = enters.opened; counted = enters.counted; asked = enters.asked; within = so enters.opened enters.within }; listed = omega (arith, lists) }
 
-  pub apart-then : {w0 w1 w2 : W} {i0 i1 i2 : I} {a b c : Outcome} {own : ℕ} {First Then Within : ℕ → Type 0} → ((m n : ℕ) → First m → Then n → Within (m + n))
-      → OpensApart w i w0 w1 i0 i1 a b own First → OpensApart w i w1 w2 i1 i2 b c 0 Then → OpensApart w i w0 w2 i0 i2 a c own Within
+  pub apart-then : {w0 w1 w2 : W} {i0 i1 i2 : I} {a b c : Outcome} {own deep : ℕ} {First Then Within : ℕ → Type 0} → ((m n : ℕ) → First m → Then n → Within (m + n))
+      → OpensApart w i w0 w1 i0 i1 a b own 0 First → OpensApart w i w1 w2 i1 i2 b c 0 deep Then → OpensApart w i w0 w2 i0 i2 a c own deep Within
   apart-then both one two =
       record {
         enters = record {
@@ -31,18 +31,18 @@ module _ {W I : Type 0} {w : WorktreeOf W} {i : InterruptOf I} where
       }
 
   -- and then nothing more
-  pub apart-end : {w0 w1 : W} {i0 i1 : I} {a b c : Outcome} {own : ℕ} {First Within : ℕ → Type 0} → ((n : ℕ) → First n → Within n) → OpensApart w i w0 w1 i0 i1 a b own First → c.read_dir_calls ≡ b.read_dir_calls
-      → OpensApart w i w0 w1 i0 i1 a c own Within
-  apart-end so one read =
+  pub apart-end : {w0 w1 : W} {i0 i1 : I} {a b c : Outcome} {own deep : ℕ} {First Within : ℕ → Type 0} → ((n : ℕ) → First n → Within n) → OpensApart w i w0 w1 i0 i1 a b own 0 First → c.read_dir_calls ≡ b.read_dir_calls → deep ≡ 0
+      → OpensApart w i w0 w1 i0 i1 a c own deep Within
+  apart-end so one read none =
       record {
-        enters = record { opened = one.enters.opened; counted = λ small. omega (arith, read, one.enters.counted small); asked = one.enters.asked; within = so one.enters.opened one.enters.within };
+        enters = record { opened = one.enters.opened; counted = λ small. omega (arith, read, one.enters.counted small); asked = omega (arith, one.enters.asked, none); within = so one.enters.opened one.enters.within };
         listed = one.listed;
       }
 
   -- the traversal root itself is opened, or that is refused
-  pub apart-tried : {w0 w1 : W} {i0 i1 : I} {a b : Outcome} {Within : ℕ → Type 0} → ((n : ℕ) → n ≤ 1 → Within n) → (opened : ℕ) × (opened ≤ 1) × Opens w i w0 w1 i0 i1 a b opened → w.lists w1 ≤ w.lists w0 + 1
-      → OpensApart w i w0 w1 i0 i1 a b 1 Within
-  apart-tried most opens once = record { enters = record { opened = opens.0; counted = opens.2.counted; asked = opens.2.asked; within = most opens.0 opens.1 }; listed = once }
+  pub apart-tried : {w0 w1 : W} {i0 i1 : I} {a b : Outcome} {opened deep : ℕ} {Within : ℕ → Type 0} → Within opened → Opens w i w0 w1 i0 i1 a b opened deep → w.lists w1 ≤ w.lists w0 + 1
+      → OpensApart w i w0 w1 i0 i1 a b 1 deep Within
+  apart-tried {opened = opened} within opens once = record { enters = record { opened = opened; counted = opens.counted; asked = opens.asked; within = within }; listed = once }
 
-  pub apart-one : {w0 w1 : W} {i0 i1 : I} {a b : Outcome} → Opens w i w0 w1 i0 i1 a b 1 → w.lists w1 ≤ w.lists w0 + 1 → OpensApart w i w0 w1 i0 i1 a b 1 (λ n. n ≡ 1)
+  pub apart-one : {w0 w1 : W} {i0 i1 : I} {a b : Outcome} → Opens w i w0 w1 i0 i1 a b 1 0 → w.lists w1 ≤ w.lists w0 + 1 → OpensApart w i w0 w1 i0 i1 a b 1 0 (λ n. n ≡ 1)
   apart-one opens once = record { enters = record { opened = 1; counted = opens.counted; asked = opens.asked; within = refl }; listed = once }

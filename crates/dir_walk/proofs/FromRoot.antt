@@ -25,6 +25,7 @@ use Rattle.dir_walk.specs.declared.strategy.Strategy.TheVariants.{AtOnce, Held}
 use Rattle.dir_walk.specs.Emissions.{Emission}
 use Rattle.dir_walk.specs.Opens.{IsListed, OpensFrom, OpensRoot, pushed_to, refused_walk}
 use Rattle.dir_walk.specs.Puts.{Puts, held_at}
+use Rattle.dir_walk.specs.Unopened.{deep_walk, unlisted_walk}
 use Rattle.dir_walk.proofs.Lists.{and_left}
 use Rattle.dir_walk.proofs.Opening.{front-all, pushed-most}
 use Rattle.dir_walk.proofs.Putting.{Puts-as, Puts-over}
@@ -103,11 +104,11 @@ listed-later Held now opened same listed = λ small. omega (arith, same, small, 
 listed-later AtOnce now opened same listed = omega (arith, same, listed)
 
 -- a traversal root is to be entered, and a refusal comes first
-pub opens-not : {W I : Type 0} (strategy : Strategy) (w : WorktreeOf W) (i : InterruptOf I) (o : Chosen) (w0 w1 : W) (i0 i1 : I) (a : Outcome) (at : Option Stacked) (names : List (List ℕ)) {Within : ℕ → Type 0} → ((n : ℕ) → n ≡ 0 → Within n) → w.lists w1 ≡ w.lists w0
-    → w.reads w1 ≡ w.reads w0 → with_more (i.questions i0) (i.raised i1 - i.raised i0) ≤ i.questions i1 → OpensRoot w i w0 w1 i0 i1 a a strategy o at at names 1 Within
-opens-not AtOnce w i o w0 w1 i0 i1 a at names none lists reads asked =
+pub opens-not : {W I : Type 0} (strategy : Strategy) (w : WorktreeOf W) (i : InterruptOf I) (o : Chosen) (w0 w1 : W) (i0 i1 : I) (a : Outcome) (at : Option Stacked) (names : List (List ℕ)) (deep : ℕ) {Within : ℕ → Type 0} → ((n : ℕ) → n ≡ 0 → Within n) → w.lists w1 ≡ w.lists w0
+    → w.reads w1 ≡ w.reads w0 → with_more (i.questions i0) (deep + (i.raised i1 - i.raised i0)) ≤ i.questions i1 → OpensRoot w i w0 w1 i0 i1 a a strategy o at at names 1 deep Within
+opens-not AtOnce w i o w0 w1 i0 i1 a at names deep none lists reads asked =
     record { enters = record { opened = 0; counted = λ small. omega (arith, small); asked = omega (arith, asked); within = none 0 refl }; listed = omega (arith, lists) }
-opens-not Held w i o w0 w1 i0 i1 a at names none lists reads asked =
+opens-not Held w i o w0 w1 i0 i1 a at names deep none lists reads asked =
     record {
       opened = 0;
       opens = record { listed = λ small. omega (arith, lists, small); counted = λ small. omega (arith, small); asked = omega (arith, asked) };
@@ -118,36 +119,36 @@ opens-not Held w i o w0 w1 i0 i1 a at names none lists reads asked =
 module _ {W F I T U E : Type 0} {w : WorktreeOf W} {i : InterruptOf I} {o : Chosen} {w0 w2 : W} (w1 : W) {o0 o1 : F} (strategy : Strategy) {i0 : I} {a b : Outcome} {old mid : Option Stacked} {root : List ℕ} {reached : Result U E}
     (asks : AsksOnWay (most_sought o) root (w.reads w0) (w.reads w1) o0 o1 old mid reached) where
   -- the way to the traversal root ended before it, or it is not entered
-  pub opens-short : {Within : ℕ → Type 0} → Within 0 → (result : Result T Stop) → w.lists w2 ≡ w.lists w0 → w.reads w2 ≡ w.reads w1 → b.read_dir_calls ≡ a.read_dir_calls → refused_one reached ≤ refused_walk result
+  pub opens-short : {Within : ℕ → Type 0} → Within 0 → (result : Result T Stop) → deep_walk result ≡ 0 → w.lists w2 ≡ w.lists w0 → w.reads w2 ≡ w.reads w1 → b.read_dir_calls ≡ a.read_dir_calls → refused_one reached ≤ refused_walk result
       → OpensFrom w i w0 w2 i0 i0 a b strategy o (made_with old) root result Within
-  opens-short none result lists reads counted fits =
+  opens-short none result level lists reads counted fits =
       record {
         opened = 0;
         listed = listed-none strategy lists;
         counted = λ small. omega (arith, counted, small);
-        asked = omega arith;
+        asked = omega (arith, level);
         within = none;
         reads = λ held on alone. omega (arith, asks-above (most_sought o) root (w.reads w0) (w.reads w1) o0 o1 old mid reached (most-none o (and_left o.recurse_repositories _ on)) alone asks, reads, fits);
       }
 
 -- what is opened is opened between calls that list and read nothing
-pub opens-around : {W I : Type 0} (strategy : Strategy) (w : WorktreeOf W) (i : InterruptOf I) (o : Chosen) (w0 w1 w2 : W) (i0 i1 : I) (a b c : Outcome) (old new : Option Stacked) (names : List (List ℕ)) (less spare : ℕ)
-    {First Within : ℕ → Type 0} → ((n : ℕ) → First n → Within n) → w.lists w1 ≡ w.lists w0 → w.reads w1 ≡ w.reads w0 → c.read_dir_calls ≡ b.read_dir_calls → less ≤ spare
-    → OpensRoot w i w1 w2 i0 i1 a b strategy o old new names less First → OpensRoot w i w0 w2 i0 i1 a c strategy o old new names spare Within
-opens-around Held w i o w0 w1 w2 i0 i1 a b c old new names less spare so lists reads read fits one =
+pub opens-around : {W I : Type 0} (strategy : Strategy) (w : WorktreeOf W) (i : InterruptOf I) (o : Chosen) (w0 w1 w2 : W) (i0 i1 : I) (a b c : Outcome) (old new : Option Stacked) (names : List (List ℕ)) (less spare high deep : ℕ)
+    {First Within : ℕ → Type 0} → ((n : ℕ) → First n → Within n) → w.lists w1 ≡ w.lists w0 → w.reads w1 ≡ w.reads w0 → c.read_dir_calls ≡ b.read_dir_calls → less ≤ spare → deep ≤ high
+    → OpensRoot w i w1 w2 i0 i1 a b strategy o old new names less high First → OpensRoot w i w0 w2 i0 i1 a c strategy o old new names spare deep Within
+opens-around Held w i o w0 w1 w2 i0 i1 a b c old new names less spare high deep so lists reads read fits low one =
     record {
       opened = one.opened;
       opens = record {
         listed = λ small. omega (arith, lists, small, one.opens.listed (omega (arith, lists, small)));
         counted = λ small. omega (arith, read, one.opens.counted small);
-        asked = one.opens.asked;
+        asked = omega (arith, one.opens.asked, low);
       };
       within = so one.opened one.within;
       reads = λ on alone. omega (arith, reads, fits, one.reads on alone);
     }
-opens-around AtOnce w i o w0 w1 w2 i0 i1 a b c old new names less spare so lists reads read fits one =
+opens-around AtOnce w i o w0 w1 w2 i0 i1 a b c old new names less spare high deep so lists reads read fits low one =
     record {
-      enters = record { opened = one.enters.opened; counted = λ small. omega (arith, read, one.enters.counted small); asked = one.enters.asked; within = so one.enters.opened one.enters.within };
+      enters = record { opened = one.enters.opened; counted = λ small. omega (arith, read, one.enters.counted small); asked = omega (arith, one.enters.asked, low); within = so one.enters.opened one.enters.within };
       listed = omega (arith, lists, one.listed);
     }
 
@@ -155,11 +156,19 @@ pub refused-same : (S T : Type 0) (stop : Stop) → refused_walk {T = S} (Err st
 refused-same S T (Refused e) = omega arith
 refused-same S T Broken = omega arith
 
+pub unlisted-same : (S T : Type 0) (stop : Stop) → unlisted_walk {T = S} (Err stop) ≤ unlisted_walk {T = T} (Err stop)
+unlisted-same S T (Refused e) = omega arith
+unlisted-same S T Broken = omega arith
+
+pub deep-same : (S T : Type 0) (stop : Stop) → deep_walk {T = T} (Err stop) ≤ deep_walk {T = S} (Err stop)
+deep-same S T (Refused e) = omega arith
+deep-same S T Broken = omega arith
+
 -- it is entered
 pub opens-entered : {W F I T U E : Type 0} {w : WorktreeOf W} {i : InterruptOf I} {o : Chosen} {w0 : W} (w1 w2 : W) {o0 o1 : F} (strategy : Strategy) {i0 : I} {a b : Outcome} {old mid : Option Stacked} {root : List ℕ} {reached : Result U E}
     → AsksOnWay (most_sought o) root (w.reads w0) (w.reads w1) o0 o1 old mid reached
     → {w3 : W} {i1 : I} (new : Option Stacked) (result : Result T Stop) {First Within : ℕ → Type 0} → ((n : ℕ) → First n → Within n) → made_with mid ≡ made_with old → w.lists w2 ≡ w.lists w0 → w.reads w2 ≡ w.reads w1 → refused_one reached ≡ 0
-    → OpensRoot w i w2 w3 i0 i1 a b strategy o mid new (components root) (refused_walk result) First → OpensFrom w i w0 w3 i0 i1 a b strategy o (made_with old) root result Within
+    → OpensRoot w i w2 w3 i0 i1 a b strategy o mid new (components root) (refused_walk result) (deep_walk result) First → OpensFrom w i w0 w3 i0 i1 a b strategy o (made_with old) root result Within
 opens-entered {w = w} {o = o} {w0 = w0} w1 w2 {o0 = o0} {o1 = o1} Held {old = old} {mid = mid} {root = root} {reached = reached} asks new result so made lists reads answered one =
     record {
       opened = one.opened;

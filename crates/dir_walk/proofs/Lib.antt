@@ -56,6 +56,7 @@ pub mod Rootward
 pub mod Rows
 pub mod Safety
 pub mod Same
+pub mod Shallow
 pub mod ShownFolds
 pub mod Sorting
 pub mod Stable

@@ -76,7 +76,7 @@ pushed-most (Some held) names = omega (arith, shorter held names)
 -- ---- one call after another
 
 module _ {W I : Type 0} {w : WorktreeOf W} {i : InterruptOf I} where
-  Opens-then : {w0 w1 w2 : W} {i0 i1 i2 : I} {a b c : Outcome} (m n : ℕ) → Opens w i w0 w1 i0 i1 a b m → Opens w i w1 w2 i1 i2 b c n → Opens w i w0 w2 i0 i2 a c (m + n)
+  Opens-then : {w0 w1 w2 : W} {i0 i1 i2 : I} {a b c : Outcome} {deep : ℕ} (m n : ℕ) → Opens w i w0 w1 i0 i1 a b m 0 → Opens w i w1 w2 i1 i2 b c n deep → Opens w i w0 w2 i0 i2 a c (m + n) deep
   Opens-then m n one two =
       record {
         listed = λ small. let first = one.listed small in omega (arith, first, two.listed (omega (arith, first)));
@@ -86,10 +86,10 @@ module _ {W I : Type 0} {w : WorktreeOf W} {i : InterruptOf I} where
 
   module _ {o : Chosen} where
     -- nothing is opened
-    pub opens-none : {w0 w1 : W} {i0 i1 : I} {a b : Outcome} {old new : Option Stacked} {names : List (List ℕ)} {spare : ℕ} {Within : ℕ → Type 0} → Within 0 → w.lists w1 ≡ w.lists w0 → b.read_dir_calls ≡ a.read_dir_calls
-        → with_more (i.questions i0) (i.raised i1 - i.raised i0) ≤ i.questions i1
+    pub opens-none : {w0 w1 : W} {i0 i1 : I} {a b : Outcome} {old new : Option Stacked} {names : List (List ℕ)} {spare deep : ℕ} {Within : ℕ → Type 0} → Within 0 → w.lists w1 ≡ w.lists w0 → b.read_dir_calls ≡ a.read_dir_calls
+        → with_more (i.questions i0) (deep + (i.raised i1 - i.raised i0)) ≤ i.questions i1
         → (reads_rules_alone o ≡ true → tells_attributes (made_with old) ≡ false → w.reads w1 + pushed_to (pushed_in old) names ≤ w.reads w0 + pushed_to (pushed_in new) names + spare)
-        → OpensWithin w i w0 w1 i0 i1 a b o old new names 0 spare Within
+        → OpensWithin w i w0 w1 i0 i1 a b o old new names 0 spare deep Within
     opens-none none lists read asked reads =
         record {
           opened = 0;
@@ -98,9 +98,9 @@ module _ {W I : Type 0} {w : WorktreeOf W} {i : InterruptOf I} where
           reads = λ on alone. omega (arith, reads on alone);
         }
 
-    pub opens-then : {w0 w1 w2 : W} {i0 i1 i2 : I} {a b c : Outcome} {old mid new : Option Stacked} {names : List (List ℕ)} {own less spare : ℕ} {First Then Within : ℕ → Type 0}
+    pub opens-then : {w0 w1 w2 : W} {i0 i1 i2 : I} {a b c : Outcome} {old mid new : Option Stacked} {names : List (List ℕ)} {own less spare deep : ℕ} {First Then Within : ℕ → Type 0}
         → ((m n : ℕ) → First m → Then n → Within (m + n)) → made_with mid ≡ made_with old → less ≤ spare
-        → OpensWithin w i w0 w1 i0 i1 a b o old mid names own 0 First → OpensWithin w i w1 w2 i1 i2 b c o mid new names 0 less Then → OpensWithin w i w0 w2 i0 i2 a c o old new names own spare Within
+        → OpensWithin w i w0 w1 i0 i1 a b o old mid names own 0 0 First → OpensWithin w i w1 w2 i1 i2 b c o mid new names 0 less deep Then → OpensWithin w i w0 w2 i0 i2 a c o old new names own spare deep Within
     opens-then both made fits one two =
         record {
           opened = one.opened + two.opened;
@@ -110,9 +110,9 @@ module _ {W I : Type 0} {w : WorktreeOf W} {i : InterruptOf I} where
         }
 
     -- and then nothing more
-    pub opens-still : {w0 w1 w2 : W} {i0 i1 i2 : I} {a b c : Outcome} {old new : Option Stacked} {names : List (List ℕ)} {own spare : ℕ} {First Within : ℕ → Type 0} → ((n : ℕ) → First n → Within n)
-        → OpensWithin w i w0 w1 i0 i1 a b o old new names own 0 First → w.lists w2 ≡ w.lists w1 → c.read_dir_calls ≡ b.read_dir_calls → with_more (i.questions i1) (i.raised i2 - i.raised i1) ≤ i.questions i2
-        → (reads_rules_alone o ≡ true → w.reads w2 ≡ w.reads w1) → OpensWithin w i w0 w2 i0 i2 a c o old new names own spare Within
+    pub opens-still : {w0 w1 w2 : W} {i0 i1 i2 : I} {a b c : Outcome} {old new : Option Stacked} {names : List (List ℕ)} {own spare deep : ℕ} {First Within : ℕ → Type 0} → ((n : ℕ) → First n → Within n)
+        → OpensWithin w i w0 w1 i0 i1 a b o old new names own 0 0 First → w.lists w2 ≡ w.lists w1 → c.read_dir_calls ≡ b.read_dir_calls → with_more (i.questions i1) (deep + (i.raised i2 - i.raised i1)) ≤ i.questions i2
+        → (reads_rules_alone o ≡ true → w.reads w2 ≡ w.reads w1) → OpensWithin w i w0 w2 i0 i2 a c o old new names own spare deep Within
     opens-still so one lists read asked reads =
         record {
           opened = one.opened;
@@ -126,28 +126,34 @@ module _ {W I : Type 0} {w : WorktreeOf W} {i : InterruptOf I} where
         }
 
     -- not even of a worktree or an interrupt
-    pub opens-end : {w0 w1 : W} {i0 i1 : I} {a b c : Outcome} {old new : Option Stacked} {names : List (List ℕ)} {own spare : ℕ} {First Within : ℕ → Type 0} → ((n : ℕ) → First n → Within n)
-        → OpensWithin w i w0 w1 i0 i1 a b o old new names own 0 First → c.read_dir_calls ≡ b.read_dir_calls → OpensWithin w i w0 w1 i0 i1 a c o old new names own spare Within
-    opens-end so one read = opens-still so one refl read (omega arith) (λ on. refl)
+    pub opens-end : {w0 w1 : W} {i0 i1 : I} {a b c : Outcome} {old new : Option Stacked} {names : List (List ℕ)} {own spare deep : ℕ} {First Within : ℕ → Type 0} → ((n : ℕ) → First n → Within n)
+        → OpensWithin w i w0 w1 i0 i1 a b o old new names own 0 0 First → c.read_dir_calls ≡ b.read_dir_calls → deep ≡ 0 → OpensWithin w i w0 w1 i0 i1 a c o old new names own spare deep Within
+    opens-end so one read none = opens-still so one refl read (omega (arith, none)) (λ on. refl)
 
-    -- the same, of which more may be said
-    pub opens-least : {w0 w1 : W} {i0 i1 : I} {a b : Outcome} {old new : Option Stacked} {names : List (List ℕ)} {own spare : ℕ} {First Within : ℕ → Type 0} → ((n : ℕ) → First n → Within n)
-        → OpensWithin w i w0 w1 i0 i1 a b o old new names own spare First → OpensWithin w i w0 w1 i0 i1 a b o old new names own spare Within
-    opens-least so one = record { opened = one.opened; opens = one.opens; within = so one.opened one.within; reads = one.reads }
+    -- the same, of which more may be said, where nothing is too deep
+    pub opens-least : {w0 w1 : W} {i0 i1 : I} {a b : Outcome} {old new : Option Stacked} {names : List (List ℕ)} {own spare deep : ℕ} {First Within : ℕ → Type 0} → ((n : ℕ) → First n → Within n) → deep ≡ 0
+        → OpensWithin w i w0 w1 i0 i1 a b o old new names own spare 0 First → OpensWithin w i w0 w1 i0 i1 a b o old new names own spare deep Within
+    opens-least so none one =
+        record {
+          opened = one.opened;
+          opens = record { listed = one.opens.listed; counted = one.opens.counted; asked = omega (arith, one.opens.asked, none) };
+          within = so one.opened one.within;
+          reads = one.reads;
+        }
 
     -- the directory itself is opened, and before it nothing was read
-    pub opens-one : {w0 w1 : W} {i0 i1 : I} {a b : Outcome} {at : Option Stacked} {names : List (List ℕ)} → Opens w i w0 w1 i0 i1 a b 1 → w.reads w1 ≡ w.reads w0
-        → OpensWithin w i w0 w1 i0 i1 a b o at at names 1 0 (λ n. n ≡ 1)
+    pub opens-one : {w0 w1 : W} {i0 i1 : I} {a b : Outcome} {at : Option Stacked} {names : List (List ℕ)} → Opens w i w0 w1 i0 i1 a b 1 0 → w.reads w1 ≡ w.reads w0
+        → OpensWithin w i w0 w1 i0 i1 a b o at at names 1 0 0 (λ n. n ≡ 1)
     opens-one opens reads = record { opened = 1; opens = opens; within = refl; reads = λ on alone. omega (arith, reads) }
 
     -- or that is refused
-    pub opens-refused : {w0 w1 : W} {i0 i1 : I} {a b : Outcome} {at : Option Stacked} {names : List (List ℕ)} {Within : ℕ → Type 0} → ((n : ℕ) → n ≤ 1 → Within n)
-        → (n : ℕ) × (n ≤ 1) × Opens w i w0 w1 i0 i1 a b n → w.reads w1 ≡ w.reads w0 → OpensWithin w i w0 w1 i0 i1 a b o at at names 1 1 Within
-    opens-refused most opens reads = record { opened = opens.0; opens = opens.2; within = most opens.0 opens.1; reads = λ on alone. omega (arith, reads) }
+    pub opens-refused : {w0 w1 : W} {i0 i1 : I} {a b : Outcome} {at : Option Stacked} {names : List (List ℕ)} {opened deep : ℕ} {Within : ℕ → Type 0} → Within opened
+        → Opens w i w0 w1 i0 i1 a b opened deep → w.reads w1 ≡ w.reads w0 → OpensWithin w i w0 w1 i0 i1 a b o at at names 1 1 deep Within
+    opens-refused {opened = opened} within opens reads = record { opened = opened; opens = opens; within = within; reads = λ on alone. omega (arith, reads) }
 
     -- what is opened in a directory below another is opened below that one
-    pub opens-below : {w0 w1 : W} {i0 i1 : I} {a b : Outcome} {old new : Option Stacked} (d name path : List ℕ) {spare : ℕ} {Within : ℕ → Type 0} → IsName name → path ≡ joined d name
-        → OpensWithin w i w0 w1 i0 i1 a b o old new (components path) 1 spare Within → OpensWithin w i w0 w1 i0 i1 a b o old new (components d) 0 spare Within
+    pub opens-below : {w0 w1 : W} {i0 i1 : I} {a b : Outcome} {old new : Option Stacked} (d name path : List ℕ) {spare deep : ℕ} {Within : ℕ → Type 0} → IsName name → path ≡ joined d name
+        → OpensWithin w i w0 w1 i0 i1 a b o old new (components path) 1 spare deep Within → OpensWithin w i w0 w1 i0 i1 a b o old new (components d) 0 spare deep Within
     opens-below {old = old} {new = new} d name path is at one =
         let was : pushed_to (pushed_in old) (components path) ≡ pushed_to (pushed_in old) (components (joined d name)) = ap {B = ℕ} (λ (p : List ℕ). pushed_to (pushed_in old) (components p)) at in
         let are : pushed_to (pushed_in new) (components path) ≡ pushed_to (pushed_in new) (components (joined d name)) = ap {B = ℕ} (λ (p : List ℕ). pushed_to (pushed_in new) (components p)) at in
@@ -183,7 +189,7 @@ module _ (d name : List ℕ) (is : IsName name) where
 -- the rules are asked for a class, where files are read for rules alone
 pub opens-class : {W F I T E : Type 0} {w : WorktreeOf W} {i : InterruptOf I} {o : Chosen} {w0 w1 : W} {o0 o1 : F} {i0 : I} {a : Outcome} {old new : Option Stacked} (d name : List ℕ) {result : Result T E} → IsName name
     → w.lists w1 ≡ w.lists w0 → AsksAtMost (most_sought o) (joined d name) (w.reads w0) (w.reads w1) o0 o1 old new result
-    → OpensWithin w i w0 w1 i0 i0 a a o old new (components d) 0 (refused_one result) (λ n. n ≡ 0)
+    → OpensWithin w i w0 w1 i0 i0 a a o old new (components d) 0 (refused_one result) 0 (λ n. n ≡ 0)
 opens-class {w = w} {o = o} {w0 = w0} {w1 = w1} {o0 = o0} {o1 = o1} {old = old} {new = new} d name {result = result} is lists asks =
     opens-none refl lists refl (omega arith) (λ on alone. asks-reads d name is (most_sought o) (w.reads w0) (w.reads w1) o0 o1 old new result (most-none o (and_left o.recurse_repositories _ on)) alone asks)
 

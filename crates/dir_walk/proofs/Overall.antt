@@ -24,6 +24,7 @@ use Rattle.dir_walk.specs.Opens.{OpensFrom, refused_walk}
 use Rattle.dir_walk.specs.Puts.{AddsAtMost, Puts, PutsFrom}
 use Rattle.dir_walk.proofs.FromRoot.{listed-later, listed-none}
 use Rattle.dir_walk.specs.Root.{rooted, traversal_root}
+use Rattle.dir_walk.specs.Unopened.{deep_answer, deep_one, deep_walk, unlisted_answer}
 use Rattle.dir_walk.specs.WalkRefused.{Recursion}
 use Rattle.dir_walk.specs.Walks.{EntersFrom, EntersInWalk, GivesOnce, IsRootOf, OpensDirectories}
 use Rattle.dir_walk.proofs.WalkedAt.{most-walked}
@@ -38,18 +39,18 @@ refused-most (Err Broken) = omega arith
 module _ {W I T : Type 0} {w : WorktreeOf W} {i : InterruptOf I} {w0 w1 : W} {i0 : I} (strategy : Strategy) {given : Setting} {made : Option Made} {explicit : Option (List ℕ)} {outcome_of : T → Outcome} {path_of : T → List ℕ}
     (lists : w.lists w1 ≡ w.lists w0) (reads : w.reads w1 ≡ w.reads w0) where
   -- it was refused before
-  pub opens-nothing : {e : Error} {Within : ℕ → Type 0} → Within 0 → OpensDirectories w i w0 w1 i0 i0 strategy given made explicit outcome_of path_of (Err e) Within
-  opens-nothing none = record { opened = 0; within = none; listed = listed-none strategy lists; asked = omega arith; counted = tt; reads = λ held on alone. inl reads }
+  pub opens-nothing : {e : Error} {Within : ℕ → Type 0} → Within 0 → deep_one e ≡ 0 → OpensDirectories w i w0 w1 i0 i0 strategy given made explicit outcome_of path_of (Err e) Within
+  opens-nothing none level = record { opened = 0; within = none; listed = listed-none strategy lists; asked = omega (arith, level); counted = tt; reads = λ held on alone. inl reads }
 
   pub opens-whole : {U : Type 0} {First Within : ℕ → Type 0} → ((n : ℕ) → First n → Within n) → {w2 : W} {i1 : I} {a b : Outcome} {root : List ℕ} (ended : Result U Stop) (result : Result T Error) → a.read_dir_calls ≡ 0 → IsRootOf given explicit path_of result root
-      → IfOk result (λ r. outcome_of r ≡ b) → refused_walk ended ≤ refused_one result → OpensFrom w i w1 w2 i0 i1 a b strategy given.options made root ended First
+      → IfOk result (λ r. outcome_of r ≡ b) → refused_walk ended ≤ refused_one result → deep_answer result ≤ deep_walk ended → OpensFrom w i w1 w2 i0 i1 a b strategy given.options made root ended First
       → OpensDirectories w i w0 w2 i0 i1 strategy given made explicit outcome_of path_of result Within
-  opens-whole so {b = b} {root = root} ended result zero is outcome_is fits one =
+  opens-whole so {b = b} {root = root} ended result zero is outcome_is fits low one =
       record {
         opened = one.opened;
         within = so one.opened one.within;
         listed = listed-later strategy _ _ lists one.listed;
-        asked = one.asked;
+        asked = omega (arith, one.asked, low);
         counted = in_numbers one.opened result outcome_is (omega (arith, zero, one.counted (omega (arith, zero))));
         reads = λ held on alone. inr (root, is, omega (arith, one.reads held on alone, reads, fits));
       }
@@ -61,13 +62,13 @@ module _ {W I T : Type 0} {w : WorktreeOf W} {i : InterruptOf I} {w0 w1 : W} {i0
 -- no more are opened than the walk enters
 pub enters-walk : {W F D T : Type 0} (w : WorktreeOf W) (f : FindOf F) (d : DelegateOf D) {w0 w1 w2 : W} {o0 : F} {old : Option Stacked} {d0 : D} (recursion : Recursion) (given : Setting) (explicit : Option (List ℕ)) (limit : ℕ) (root : List ℕ) (result : Result T Error) (less : ℕ)
     → Asks w w0 w1 → w.faults w1 ≤ w.faults w2 → d.is_default d0 ≡ recursion.is_default
-    → ((t : Names) → w.told w0 ≡ Some t → NotIncreased (w.faults w0) (w.faults w1) → traversal_root given t explicit ≡ rooted root) → less ≤ refused_one result
+    → ((t : Names) → w.told w0 ≡ Some t → NotIncreased (w.faults w0) (w.faults w1) → traversal_root given t explicit ≡ rooted root) → less ≤ unlisted_answer result
     → (n : ℕ) → EntersFrom w f d w1 w2 o0 old d0 given root limit less n → EntersInWalk w f w0 w2 o0 old recursion given explicit limit result n
 enters-walk w f d {w0 = w0} {w1 = w1} {w2 = w2} {old = old} recursion given explicit limit root result less keeps more by rooted_is fits n few = λ s tells default quiet.
     let first : NotIncreased (w.faults w0) (w.faults w1) = omega (arith, quiet, more) in
     let second : NotIncreased (w.faults w1) (w.faults w2) = let k = keeps.faults in omega (arith, quiet, k) in
     let most = few s (record { tells = record { tree_is = keeps.tree ∙ tells.tells.tree_is; objects_are = tells.tells.objects_are }; in_step = tells.in_step }) (by ∙ default) second in
-    omega (arith, most, most-walked given (made_with old) s explicit limit root less (refused_one result) (rooted_is s.tree tells.tells.tree_is first) fits)
+    omega (arith, most, most-walked given (made_with old) s explicit limit root less (unlisted_answer result) (rooted_is s.tree tells.tells.tree_is first) fits)
 
 -- ---- what is given
 

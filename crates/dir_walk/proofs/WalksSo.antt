@@ -33,6 +33,7 @@ use Rattle.dir_walk.proofs.Walkable.{valid-memory}
 use Rattle.dir_walk.proofs.Keeping.{AsksStore-same, KeepsRules-same}
 use Rattle.dir_walk.proofs.Overall.{opens-nothing}
 use Rattle.dir_walk.proofs.Refusals.{rose-or}
+use Rattle.dir_walk.proofs.Shallow.{shallow-outside}
 use Rattle.dir_walk.proofs.Unstarted.{no-start-weaker, on-no-start}
 
 -- ---- there is no traversal root
@@ -99,7 +100,7 @@ module _ {W F I T : Type 0} (w : WorktreeOf W) (f : FindOf F) (i : InterruptOf I
         interrupt = record { questions = omega arith; raised = omega arith };
         listed = tt;
         calm = tt;
-        opens = opens-nothing strategy keeps.lists reads (λ s tells by quiet. omega arith);
+        opens = opens-nothing strategy keeps.lists reads (λ s tells by quiet. omega arith) (shallow-outside given explicit e about);
       }
 
 -- ---- where it began
@@ -201,7 +202,7 @@ module _ {W F I D T : Type 0} (w : WorktreeOf W) (f : FindOf F) (i : InterruptOf
 
 -- ---- a walk by another name
 
--- a refusal may come with one more
+-- want of memory may come with one more
 spare-more : (limit : ℕ) (walk : Option Walk) → most_opened limit walk 0 ≤ most_opened limit walk 1
 spare-more limit None = omega arith
 spare-more limit (Some walk) = omega arith

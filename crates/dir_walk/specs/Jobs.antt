@@ -18,11 +18,12 @@ use Rattle.dir_walk.specs.declared.outcome.Outcome.{Outcome}
 use Rattle.dir_walk.specs.Emits.{Gives, IsPart}
 use Rattle.dir_walk.specs.Given.{OnRefused}
 use Rattle.dir_walk.specs.Kept.{AsksInterrupt, Caused, Heeds, KeepsDelegate, KeepsTree}
-use Rattle.dir_walk.specs.Opens.{Enters, EntersAtMost, refused_walk}
+use Rattle.dir_walk.specs.Opens.{Enters, EntersAtMost}
 use Rattle.dir_walk.specs.Puts.{AddsShown, Hands, once_within}
 use Rattle.dir_walk.specs.Refused.{DirectoryRefuses, IsAbout, IsInTree}
 use Rattle.dir_walk.specs.Report.{depth_of}
 use Rattle.dir_walk.specs.Told.{Stands, directory_told}
+use Rattle.dir_walk.specs.Unopened.{deep_walk, unlisted_walk}
 
 -- The directory at `path`, of a class, is walked; so many more levels of directories may be entered below it. A worktree was
 -- `w0` and is `w1`, a store was `o0` and is `o1`, an interrupt was `i0` and is `i1`, a delegate was `d0` and is `d1`, and
@@ -45,7 +46,7 @@ pub record WalksJob {W F I D : Type 0} (w : WorktreeOf W) (f : FindOf F) (i : In
   pub worktree : KeepsTree w w0 w1
   pub store : AsksStore f o0 o1
   pub interrupt : AsksInterrupt i i0 i1
-  pub enters : Enters i i0 i1 start stop (EntersAtMost w f d w0 w1 o0 rules d0 given blocked (levels + depth_of path) (λ made s. directory_told given made s path class) (refused_walk result))
+  pub enters : Enters i i0 i1 start stop (deep_walk result) (EntersAtMost w f d w0 w1 o0 rules d0 given blocked (levels + depth_of path) (λ made s. directory_told given made s path class) (unlisted_walk result))
   pub hands : Hands path (once_within path) (d.given d0) (d.given d1) start stop result
   pub delegate : KeepsDelegate d d0 d1
   pub filtered : AddsShown given.options (d.given d0) (d.given d1)

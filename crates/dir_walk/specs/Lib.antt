@@ -20,6 +20,7 @@ pub mod Rooting
 pub mod Safe
 pub mod Starts
 pub mod Told
+pub mod Unopened
 pub mod WalkRefused
 pub mod Walkable
 pub mod Walked

@@ -20,14 +20,16 @@ use Rattle.dir_walk.specs.declared.strategy.Strategy.{Strategy}
 use Rattle.dir_walk.specs.declared.strategy.Strategy.TheVariants.{Held, AtOnce}
 use Rattle.dir_walk.specs.Report.{depth_of}
 use Rattle.dir_walk.specs.Told.{Stands}
+use Rattle.dir_walk.specs.Unopened.{deep_walk}
 use Rattle.dir_walk.specs.Walked.{Walked}
 
--- So many directories were opened: they were listed, or that was refused. The worktree counted each as listed and the walk as
--- entered, and before each the interrupt was asked, and once more where it was raised. A count stands at its type's end.
-pub record Opens {W I : Type 0} (w : WorktreeOf W) (i : InterruptOf I) (w0 w1 : W) (i0 i1 : I) (start stop : Outcome) (opened : ℕ) : Type 0 where
+-- So many directories were opened: they were listed, or that was refused; and so many more were found too deep and were not. The
+-- worktree counted each that was opened as listed and the walk as entered, and before each of both the interrupt was asked, and once
+-- more where it was raised. A count stands at its type's end.
+pub record Opens {W I : Type 0} (w : WorktreeOf W) (i : InterruptOf I) (w0 w1 : W) (i0 i1 : I) (start stop : Outcome) (opened deep : ℕ) : Type 0 where
   pub listed : w.lists w0 < 2 ^ 64 → w.lists w1 ≡ with_more (w.lists w0) opened
   pub counted : start.read_dir_calls < 2 ^ 32 → stop.read_dir_calls ≡ min (start.read_dir_calls + opened) (2 ^ 32 - 1)
-  pub asked : with_more (i.questions i0) (opened + (i.raised i1 - i.raised i0)) ≤ i.questions i1
+  pub asked : with_more (i.questions i0) (opened + deep + (i.raised i1 - i.raised i0)) ≤ i.questions i1
 
 -- how many of the directories on the way to one, itself and the worktree root among them, hold their rules
 abbrev pub pushed_to : Option (List (List ℕ)) → List (List ℕ) → ℕ
@@ -42,32 +44,32 @@ reads_rules_alone o = o.recurse_repositories && not (may_hide_repositories o.for
 -- In the directory of these names, or beneath it, some directories were opened, of which `Within` says how many; `own` is one where
 -- it was itself among them. Where files are read for their rules alone, and the rules are ignore rules alone, the
 -- worktree was read at most once for each of the others, and once for each directory on the way to this one whose rules
--- were not held; and at most `spare` times more.
+-- were not held; and at most `spare` times more. `deep` more were found too deep.
 pub record OpensWithin {W I : Type 0} (w : WorktreeOf W) (i : InterruptOf I) (w0 w1 : W) (i0 i1 : I) (start stop : Outcome)
-    (o : Chosen) (old new : Option Stacked) (names : List (List ℕ)) (own spare : ℕ) (Within : ℕ → Type 0) : Type 0 where
+    (o : Chosen) (old new : Option Stacked) (names : List (List ℕ)) (own spare deep : ℕ) (Within : ℕ → Type 0) : Type 0 where
   pub opened : ℕ
-  pub opens : Opens w i w0 w1 i0 i1 start stop opened
+  pub opens : Opens w i w0 w1 i0 i1 start stop opened deep
   pub within : Within opened
   pub reads : reads_rules_alone o ≡ true → tells_attributes (made_with old) ≡ false
       → w.reads w1 + pushed_to (pushed_in old) names + own ≤ w.reads w0 + pushed_to (pushed_in new) names + opened + spare
 
--- So many directories were opened over forks of a worktree: the walk counted each as entered, and before each the interrupt
--- was asked, or a fork of it. A count stands at its type's end.
-pub record Enters {I : Type 0} (i : InterruptOf I) (i0 i1 : I) (start stop : Outcome) (Within : ℕ → Type 0) : Type 0 where
+-- So many directories were opened over forks of a worktree, and `deep` more were found too deep: the walk counted each that was
+-- opened as entered, and before each of both the interrupt was asked, or a fork of it. A count stands at its type's end.
+pub record Enters {I : Type 0} (i : InterruptOf I) (i0 i1 : I) (start stop : Outcome) (deep : ℕ) (Within : ℕ → Type 0) : Type 0 where
   pub opened : ℕ
   pub counted : start.read_dir_calls < 2 ^ 32 → stop.read_dir_calls ≡ min (start.read_dir_calls + opened) (2 ^ 32 - 1)
-  pub asked : with_more (i.questions i0) (opened + (i.raised i1 - i.raised i0)) ≤ i.questions i1
+  pub asked : with_more (i.questions i0) (opened + deep + (i.raised i1 - i.raised i0)) ≤ i.questions i1
   pub within : Within opened
 
 -- The same where the worktree counted no more than `own` of them as listed, as all others were opened over forks.
-pub record OpensApart {W I : Type 0} (w : WorktreeOf W) (i : InterruptOf I) (w0 w1 : W) (i0 i1 : I) (start stop : Outcome) (own : ℕ) (Within : ℕ → Type 0) : Type 0 where
-  pub enters : Enters i i0 i1 start stop Within
+pub record OpensApart {W I : Type 0} (w : WorktreeOf W) (i : InterruptOf I) (w0 w1 : W) (i0 i1 : I) (start stop : Outcome) (own deep : ℕ) (Within : ℕ → Type 0) : Type 0 where
+  pub enters : Enters i i0 i1 start stop deep Within
   pub listed : w.lists w1 ≤ w.lists w0 + own
 
 -- A traversal root is opened, itself over the worktree, and what lies beneath it there too or over forks.
-abbrev pub OpensRoot : {W I : Type 0} → WorktreeOf W → InterruptOf I → W → W → I → I → Outcome → Outcome → Strategy → Chosen → Option Stacked → Option Stacked → List (List ℕ) → ℕ → (ℕ → Type 0) → Type 0
-OpensRoot w i w0 w1 i0 i1 start stop Held o old new names spare Within = OpensWithin w i w0 w1 i0 i1 start stop o old new names 1 spare Within
-OpensRoot w i w0 w1 i0 i1 start stop AtOnce o old new names spare Within = OpensApart w i w0 w1 i0 i1 start stop 1 Within
+abbrev pub OpensRoot : {W I : Type 0} → WorktreeOf W → InterruptOf I → W → W → I → I → Outcome → Outcome → Strategy → Chosen → Option Stacked → Option Stacked → List (List ℕ) → ℕ → ℕ → (ℕ → Type 0) → Type 0
+OpensRoot w i w0 w1 i0 i1 start stop Held o old new names spare deep Within = OpensWithin w i w0 w1 i0 i1 start stop o old new names 1 spare deep Within
+OpensRoot w i w0 w1 i0 i1 start stop AtOnce o old new names spare deep Within = OpensApart w i w0 w1 i0 i1 start stop 1 deep Within
 
 -- one where a walk was refused, none where it was done or broken off
 abbrev pub refused_walk : {T : Type 0} → Result T Stop → ℕ
@@ -90,7 +92,7 @@ pub record OpensFrom {W I T : Type 0} (w : WorktreeOf W) (i : InterruptOf I) (w0
   pub opened : ℕ
   pub listed : IsListed strategy (w.lists w0) (w.lists w1) opened
   pub counted : start.read_dir_calls < 2 ^ 32 → stop.read_dir_calls ≡ min (start.read_dir_calls + opened) (2 ^ 32 - 1)
-  pub asked : with_more (i.questions i0) (opened + (i.raised i1 - i.raised i0)) ≤ i.questions i1
+  pub asked : with_more (i.questions i0) (opened + deep_walk result + (i.raised i1 - i.raised i0)) ≤ i.questions i1
   pub within : Within opened
   pub reads : strategy ≡ Held → reads_rules_alone o ≡ true → tells_attributes made ≡ false
       → w.reads w1 ≤ w.reads w0 + opened + length (components root) + refused_walk result
@@ -102,7 +104,7 @@ abbrev pub count_within : ℕ → List (List ℕ) → ℕ
 count_within limit paths = count_by (λ path. not (nat_lt limit (depth_of path))) paths
 
 -- Where what is walked is told and the worktree did not fail, and a delegate recurses by default, no more directories are opened than
--- are entered in what is walked and lie within the limit; `spare` more may be, where the walk is refused.
+-- are entered in what is walked and lie within the limit; `spare` more may be, where a listing is refused.
 abbrev pub EntersAtMost : {W F D : Type 0} → WorktreeOf W → FindOf F → DelegateOf D → W → W → F → Option Stacked → D → Setting → Option (List ℕ) → ℕ → (Option Made → Sources → Walked) → ℕ → ℕ → Type 0
 EntersAtMost w f d w0 w1 o0 rules d0 given blocked limit walked spare opened =
     (made : Option Made) (s : Sources) → Stands given (w.told w0) (f.holds o0) rules blocked made s → NotIncreased (w.faults w0) (w.faults w1) → d.is_default d0 ≡ true

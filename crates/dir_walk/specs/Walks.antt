@@ -37,6 +37,7 @@ use Rattle.dir_walk.specs.Rooting.{IsNormalized}
 use Rattle.dir_walk.specs.Root.{Walk, rooted, traversal_root, walk_in, walked_at}
 use Rattle.dir_walk.specs.Safe.{IsSafe}
 use Rattle.dir_walk.specs.WalkRefused.{IsNoTop, OnNoRoot, OnNoStart, Recursion, WalkAbout, WalkFound, WalkRefuses, recursion_of}
+use Rattle.dir_walk.specs.Unopened.{deep_answer, unlisted_answer}
 use Rattle.dir_walk.specs.Walkable.{IsValid}
 use Rattle.dir_walk.specs.Walked.{Walked}
 
@@ -68,11 +69,12 @@ most_from limit None spare = 0
 most_from limit (Some w) spare = count_within limit w.entered + spare
 
 -- Over what is told, without a fault of the worktree and where recursion is by default, no more directories are opened than the walk
--- enters within the limit, none where there is no walk; a refusal may come with one more.
+-- enters within the limit, none where there is no walk. A refused listing and want of memory may come with one more; what lies too
+-- deep, and the interrupt, may not.
 abbrev pub EntersInWalk : {W F T : Type 0} → WorktreeOf W → FindOf F → W → W → F → Option Stacked → Recursion → Setting → Option (List ℕ) → ℕ → Result T Error → ℕ → Type 0
 EntersInWalk w f w0 w1 o0 old recursion given explicit limit result opened =
     (s : Sources) → Tells w f w0 o0 old s → recursion.is_default ≡ true → NotIncreased (w.faults w0) (w.faults w1)
-    → opened ≤ most_opened limit (walk_in given (made_with old) s explicit) (refused_one result)
+    → opened ≤ most_opened limit (walk_in given (made_with old) s explicit) (unlisted_answer result)
 
 -- the same of what is walked
 abbrev pub EntersWalked : {W F D : Type 0} → WorktreeOf W → FindOf F → DelegateOf D → W → W → F → Option Stacked → D → ℕ → (Sources → Walked) → ℕ → ℕ → Type 0
@@ -85,15 +87,15 @@ EntersFrom w f d w0 w1 o0 old d0 given root limit spare opened =
     (s : Sources) → Tells w f w0 o0 old s → d.is_default d0 ≡ true → NotIncreased (w.faults w0) (w.faults w1) → opened ≤ most_from limit (walked_at given (made_with old) s root) spare
 
 -- So many directories were opened, of which `Within` says how many: they were listed, or that was refused. The walk counted each as
--- entered, and before each the interrupt was asked, and once more where it was raised. The worktree counted each as listed, or where subtrees are walked at once, over
--- forks, at most one. Where files are read for their rules alone, the rules are ignore rules alone, and all is read over this
--- worktree, it was read at most once for each and once for each component of the traversal root; a refusal may come with one more.
+-- entered, and before each of them, and before one was found too deep, the interrupt was asked, and once more where it was raised. The
+-- worktree counted each as listed, or where subtrees are walked at once, over forks, at most one. Where files are read for their
+-- rules alone, the rules are ignore rules alone, and all is read over this worktree, it was read at most once for each and once for each component of the traversal root; a refusal may come with one more.
 pub record OpensDirectories {W I T : Type 0} (w : WorktreeOf W) (i : InterruptOf I) (w0 w1 : W) (i0 i1 : I) (strategy : Strategy) (given : Setting) (made : Option Made) (explicit : Option (List ℕ))
     (outcome_of : T → Outcome) (path_of : T → List ℕ) (result : Result T Error) (Within : ℕ → Type 0) : Type 0 where
   pub opened : ℕ
   pub within : Within opened
   pub listed : IsListed strategy (w.lists w0) (w.lists w1) opened
-  pub asked : with_more (i.questions i0) (opened + (i.raised i1 - i.raised i0)) ≤ i.questions i1
+  pub asked : with_more (i.questions i0) (opened + deep_answer result + (i.raised i1 - i.raised i0)) ≤ i.questions i1
   pub counted : IfOk result (λ r. (outcome_of r).read_dir_calls ≡ min opened (2 ^ 32 - 1))
   pub reads : strategy ≡ Held → reads_rules_alone given.options ≡ true → tells_attributes made ≡ false → ReadsAtMost given explicit path_of result (w.reads w0) (w.reads w1) opened
 

@@ -14,11 +14,12 @@ ghost use Rattle.dir_classify.specs.Layers.{setting_of, evidence, IsLookupIf};
 ghost use Rattle.dir_walk.specs.Emits.{Gives, IsPart};
 ghost use Rattle.dir_walk.specs.Given.{OnRefused};
 ghost use Rattle.dir_walk.specs.Kept.{KeepsTree, AsksInterrupt, KeepsDelegate, Heeds, Caused};
-ghost use Rattle.dir_walk.specs.Opens.{EntersAtMost, OpensApart, refused_walk};
+ghost use Rattle.dir_walk.specs.Opens.{EntersAtMost, OpensApart};
 ghost use Rattle.dir_walk.specs.Puts.{AddsShown, Hands, once_within};
 ghost use Rattle.dir_walk.specs.Refused.{IsAbout, IsInTree, Refuses, DirectoryRefuses};
 ghost use Rattle.dir_walk.specs.Report.{depth_of};
 ghost use Rattle.dir_walk.specs.Told.{Stands, item_told, directory_told};
+ghost use Rattle.dir_walk.specs.Unopened.{deep_walk, unlisted_walk};
 
 use crate::close::{close, close_empty, leaf_class};
 use crate::delegate::Delegate;
@@ -98,12 +99,12 @@ fn walk_child<W: Worktree, F: Find, I: Interrupt, M: Matcher, D: Delegate>(
         excludes.new }
     ensures interrupt { AsksInterrupt I.Interrupt interrupt.old interrupt.new }
     ensures opens { OpensApart W.Worktree I.Interrupt worktree.old worktree.new interrupt.old
-        interrupt.new outcome.old outcome.new 0 (EntersAtMost W.Worktree F.Find D.Delegate
-        worktree.old worktree.new objects.old excludes.old delegate.old
+        interrupt.new outcome.old outcome.new 0 (deep_walk result) (EntersAtMost W.Worktree
+        F.Find D.Delegate worktree.old worktree.new objects.old excludes.old delegate.old
         (setting_of M.Matcher shared.now) blocked.now
         (levels + depth_of place.old.path) (λ made s. item_told
         (setting_of M.Matcher shared.now) made s (joined place.old.path name.now))
-        (refused_walk result)) }
+        (unlisted_walk result)) }
     ensures hands { Hands (joined place.old.path name.now)
         (once_within (joined place.old.path name.now)) (D.given delegate.old)
         (D.given delegate.new) outcome.old outcome.new result }
@@ -205,11 +206,12 @@ pub(crate) fn walk_children<W: Worktree, F: Find, I: Interrupt, M: Matcher, D: D
         excludes.new }
     ensures interrupt { AsksInterrupt I.Interrupt interrupt.old interrupt.new }
     ensures opens { OpensApart W.Worktree I.Interrupt worktree.old worktree.new interrupt.old
-        interrupt.new outcome.old outcome.new 1 (EntersAtMost W.Worktree F.Find D.Delegate
-        worktree.old worktree.new objects.old excludes.old delegate.old
+        interrupt.new outcome.old outcome.new 1 (deep_walk result) (EntersAtMost W.Worktree
+        F.Find D.Delegate worktree.old worktree.new objects.old excludes.old delegate.old
         (setting_of M.Matcher shared.now) blocked.now
         (levels + depth_of place.old.path) (λ made s. directory_told
-        (setting_of M.Matcher shared.now) made s place.old.path class.now) (refused_walk result)) }
+        (setting_of M.Matcher shared.now) made s place.old.path class.now)
+        (unlisted_walk result)) }
     ensures hands { Hands place.old.path (once_within place.old.path) (D.given delegate.old)
         (D.given delegate.new) outcome.old outcome.new result }
     ensures delegate { KeepsDelegate D.Delegate delegate.old delegate.new }

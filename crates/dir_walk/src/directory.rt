@@ -21,6 +21,7 @@ ghost use Rattle.dir_walk.specs.Puts.{AddsShown, Hands, once_within};
 ghost use Rattle.dir_walk.specs.Refused.{IsAbout, IsInTree, Refuses, DirectoryRefuses};
 ghost use Rattle.dir_walk.specs.Report.{depth_of};
 ghost use Rattle.dir_walk.specs.Told.{Stands, item_told, directory_told};
+ghost use Rattle.dir_walk.specs.Unopened.{deep_walk, unlisted_walk};
 
 use crate::close::{close, close_empty, leaf_class};
 use crate::delegate::Delegate;
@@ -129,12 +130,12 @@ fn walk_name<W: Worktree, F: Find, I: Interrupt, M: Matcher, D: Delegate>(
     ensures interrupt { AsksInterrupt I.Interrupt interrupt.old interrupt.new }
     ensures opens { OpensWithin W.Worktree I.Interrupt worktree.old worktree.new interrupt.old
         interrupt.new outcome.old outcome.new (chosen shared.now.options) excludes.old
-        excludes.new (components place.old.path) 0 (refused_walk result)
+        excludes.new (components place.old.path) 0 (refused_walk result) (deep_walk result)
         (EntersAtMost W.Worktree F.Find D.Delegate worktree.old worktree.new objects.old
         excludes.old delegate.old (setting_of M.Matcher shared.now) blocked.now
         (levels + depth_of place.old.path) (λ made s. item_told
         (setting_of M.Matcher shared.now) made s (joined place.old.path name.now))
-        (refused_walk result)) }
+        (unlisted_walk result)) }
     ensures hands { Hands (joined place.old.path name.now)
         (once_within (joined place.old.path name.now)) (D.given delegate.old)
         (D.given delegate.new) outcome.old outcome.new result }
@@ -254,11 +255,12 @@ pub(crate) fn walk_directory<W: Worktree, F: Find, I: Interrupt, M: Matcher, D: 
     ensures interrupt { AsksInterrupt I.Interrupt interrupt.old interrupt.new }
     ensures opens { OpensWithin W.Worktree I.Interrupt worktree.old worktree.new interrupt.old
         interrupt.new outcome.old outcome.new (chosen shared.now.options) excludes.old
-        excludes.new (components place.old.path) 1 (refused_walk result)
+        excludes.new (components place.old.path) 1 (refused_walk result) (deep_walk result)
         (EntersAtMost W.Worktree F.Find D.Delegate worktree.old worktree.new objects.old
         excludes.old delegate.old (setting_of M.Matcher shared.now) blocked.now
         (levels + depth_of place.old.path) (λ made s. directory_told
-        (setting_of M.Matcher shared.now) made s place.old.path class.now) (refused_walk result)) }
+        (setting_of M.Matcher shared.now) made s place.old.path class.now)
+        (unlisted_walk result)) }
     ensures hands { Hands place.old.path (once_within place.old.path) (D.given delegate.old)
         (D.given delegate.new) outcome.old outcome.new result }
     ensures delegate { KeepsDelegate D.Delegate delegate.old delegate.new }

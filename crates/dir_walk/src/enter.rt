@@ -19,6 +19,7 @@ ghost use Rattle.dir_walk.specs.Puts.{AddsShown, Hands, Puts, held_at, once_with
 ghost use Rattle.dir_walk.specs.Refused.{IsAbout, IsInTree, DirectoryRefuses};
 ghost use Rattle.dir_walk.specs.Report.{depth_of};
 ghost use Rattle.dir_walk.specs.Told.{Stands, directory_told};
+ghost use Rattle.dir_walk.specs.Unopened.{deep_walk, unlisted_walk};
 ghost use Rattle.dir_walk.specs.Walks.{Ends, EntersWalked, Tells};
 
 use crate::children::walk_children;
@@ -169,11 +170,11 @@ fn walk_deep<W: Worktree, F: Find, I: Interrupt, M: Matcher, D: Delegate>(
         (F.holds objects.old) s (made_with excludes.old))) }
     ensures opens { OpensRoot W.Worktree I.Interrupt worktree.old worktree.new interrupt.old
         interrupt.new outcome.old outcome.new strategy (chosen shared.now.options) excludes.old
-        excludes.new (components place.old.path) (refused_walk result)
+        excludes.new (components place.old.path) (refused_walk result) (deep_walk result)
         (EntersAtMost W.Worktree F.Find D.Delegate worktree.old worktree.new objects.old
         excludes.old delegate.old (setting_of M.Matcher shared.now) blocked.now depth_limit
         (λ made s. directory_told (setting_of M.Matcher shared.now) made s place.old.path
-        class.now) (refused_walk result)) }
+        class.now) (unlisted_walk result)) }
     ensures hands { Hands place.old.path (once_within place.old.path) (D.given delegate.old)
         (D.given delegate.new) outcome.old outcome.new result }
     ensures filtered { AddsShown (chosen shared.now.options) (D.given delegate.old)
@@ -250,10 +251,10 @@ pub(crate) fn walk_entered<W: Worktree, F: Find, I: Interrupt, M: Matcher, D: De
         (F.holds objects.old) s (made_with excludes.old))) }
     ensures opens { OpensRoot W.Worktree I.Interrupt worktree.old worktree.new interrupt.old
         interrupt.new outcome.old outcome.new strategy (chosen shared.now.options) excludes.old
-        excludes.new (components path.now) (refused_walk result)
+        excludes.new (components path.now) (refused_walk result) (deep_walk result)
         (EntersWalked W.Worktree F.Find D.Delegate worktree.old worktree.new objects.old
         excludes.old delegate.old depth_limit (λ s. directory_told (setting_of M.Matcher shared.now)
-        (made_with excludes.old) s path.now class.now) (refused_walk result)) }
+        (made_with excludes.old) s path.now class.now) (unlisted_walk result)) }
     ensures puts { Puts (once_within path.now) (D.given delegate.old) (D.given delegate.new)
         outcome.old outcome.new [] }
     ensures filtered { AddsShown (chosen shared.now.options) (D.given delegate.old)

@@ -2,7 +2,7 @@
 ghost use Rattle.std.specs.Prelude.{◌≡◌, ◌≤◌, ◌-◌, ◌+◌, ◌^◌, min, ℕ, List, Option, Some, true, false, IfOk, IfErr, OnOk, OnErr};
 ghost use Rattle.gitbase_core.specs.Path.{is_empty};
 ghost use Rattle.worktree_fs.specs.Answers.{ListsNames};
-ghost use Rattle.worktree_fs.specs.Causes.{Increased};
+ghost use Rattle.worktree_fs.specs.Causes.{Increased, with_more};
 ghost use Rattle.worktree_fs.specs.Kept.{Lists};
 ghost use Rattle.worktree_fs.specs.Naming.{AreNames};
 ghost use Rattle.worktree_fs.specs.Paths.{full_path};
@@ -17,6 +17,7 @@ ghost use Rattle.dir_walk.specs.Given.{IsAnswered};
 ghost use Rattle.dir_walk.specs.Kept.{AsksInterrupt, OnInterrupt, OnListingFault};
 ghost use Rattle.dir_walk.specs.Opens.{Opens};
 ghost use Rattle.dir_walk.specs.Refused.{IsAbout, OpenRefuses, IsDeep, read_error};
+ghost use Rattle.dir_walk.specs.Unopened.{deep_one, unlisted_one};
 
 use crate::delegate::Delegate;
 use crate::outcome::Outcome;
@@ -53,9 +54,9 @@ pub(crate) fn open<W: Worktree, I: Interrupt>(
     ensures worktree { Lists W.Worktree worktree.old worktree.new }
     ensures interrupt { AsksInterrupt I.Interrupt interrupt.old interrupt.new }
     ensures opens { OnOk result (Opens W.Worktree I.Interrupt worktree.old worktree.new
-        interrupt.old interrupt.new outcome.old outcome.new 1) }
-    ensures tried { OnErr result ((opened : ℕ) × (opened ≤ 1) × Opens W.Worktree I.Interrupt
-        worktree.old worktree.new interrupt.old interrupt.new outcome.old outcome.new opened) }
+        interrupt.old interrupt.new outcome.old outcome.new 1 0) }
+    ensures tried { IfErr result (λ e. Opens W.Worktree I.Interrupt worktree.old worktree.new
+        interrupt.old interrupt.new outcome.old outcome.new (unlisted_one e) (deep_one e)) }
     ensures once { W.lists worktree.new ≤ W.lists worktree.old + 1 }
     ensures returned { outcome.new.returned_entries ≡ outcome.old.returned_entries }
     ensures seen { outcome.new.seen_entries ≡ outcome.old.seen_entries }
@@ -115,6 +116,8 @@ pub(crate) fn too_deep<I: Interrupt>(alloc: Global, place: &Place, interrupt: &m
     ensures deep { IsDeep (full_path place.now.root place.now.path)
         (Increased (I.raised interrupt.old) (I.raised interrupt.new)) result }
     ensures interrupt { AsksInterrupt I.Interrupt interrupt.old interrupt.new }
+    ensures asked { with_more (I.questions interrupt.old) (deep_one result
+        + (I.raised interrupt.new - I.raised interrupt.old)) ≤ I.questions interrupt.new }
 {
     let raised = interrupt.is_raised();
     if raised {

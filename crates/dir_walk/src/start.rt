@@ -15,11 +15,12 @@ ghost use Rattle.dir_walk.specs.Emissions.{plain};
 ghost use Rattle.dir_walk.specs.Emits.{Emits, IsPartOfAll, shown_by};
 ghost use Rattle.dir_walk.specs.Given.{IsAnswered, OnRefused};
 ghost use Rattle.dir_walk.specs.Kept.{KeepsDelegate, Heeds};
-ghost use Rattle.dir_walk.specs.Opens.{OpensFrom, refused_walk};
+ghost use Rattle.dir_walk.specs.Opens.{OpensFrom};
 ghost use Rattle.dir_walk.specs.Puts.{AddsShown, Puts, PutsFrom, once_at};
 ghost use Rattle.dir_walk.specs.Root.{is_root_entered, root_kind, walked_at};
 ghost use Rattle.dir_walk.specs.Rooting.{IsRoot};
 ghost use Rattle.dir_walk.specs.Starts.{StartGives, PutsRoot};
+ghost use Rattle.dir_walk.specs.Unopened.{unlisted_walk};
 ghost use Rattle.dir_walk.specs.Walked.{Walked};
 ghost use Rattle.dir_walk.specs.WalkRefused.{IsNoTop, OnNoRoot, OnNoStart, StartAbout, StartFound, StartRefuses, recursion_of};
 ghost use Rattle.dir_walk.specs.Walks.{Ends, EntersFrom, Tells};
@@ -229,7 +230,7 @@ pub(crate) fn walk_from<W: Worktree, F: Find, I: Interrupt, M: Matcher, D: Deleg
         interrupt.new outcome.old outcome.new strategy (chosen shared.now.options)
         (made_with excludes.old) root.now result (EntersFrom W.Worktree F.Find D.Delegate
         worktree.old worktree.new objects.old excludes.old delegate.old
-        (setting_of M.Matcher shared.now) root.now depth_limit (refused_walk result)) }
+        (setting_of M.Matcher shared.now) root.now depth_limit (unlisted_walk result)) }
     ensures puts { PutsFrom root.now (D.given delegate.old) (D.given delegate.new) outcome.old
         outcome.new }
     ensures filtered { AddsShown (chosen shared.now.options) (D.given delegate.old)

@@ -27,6 +27,7 @@ use Rattle.dir_walk.proofs.Rooms.{Hands-none, Hands-leaf}
 use Rattle.dir_walk.proofs.Hiding.{AddsShown-same}
 use Rattle.dir_walk.proofs.Judged.{indexed-unlisted}
 use Rattle.dir_walk.proofs.Refusals.{HasPaths, IsAbout-class, IsAbout-deep, IsInTree-class, Refuses-class, Refuses-deep, Refuses-directory, memory-only, refused-any, rose-or, either}
+use Rattle.dir_walk.proofs.Shallow.{shallow-class, shallow-memory}
 use Rattle.dir_walk.proofs.children.walk_child.Goals as goal
 
 pub returns-then-is_entered-clause-rules : goal.returns-then-is_entered-clause-rules
@@ -205,13 +206,16 @@ returns-clause-hands g c =
     Hands-leaf (rw (c.path-path.ensures.path, path, c.is_entered.ensures.given) at c.put_leaf-handed.ensures.hands)
 
 pub returns-in_err-cut-clause-opens : goal.returns-in_err-cut-clause-opens
-returns-in_err-cut-clause-opens g c = apart-none (λ made s stands quiet default. omega arith) refl refl (omega arith)
+returns-in_err-cut-clause-opens g c =
+    let r = err_from_is_err_and c.from_residual.result c.from_residual.ensures.1 in rw (r.1, r.2) (apart-none (λ made s stands quiet default. omega arith) refl refl (omega arith))
 
 pub returns-in_err-class-clause-opens : goal.returns-in_err-class-clause-opens
-returns-in_err-class-clause-opens g c = apart-none (λ made s stands quiet default. omega arith) c.class_of.ensures.keeps.lists refl (omega arith)
+returns-in_err-class-clause-opens g c =
+    let r = err_from_is_err_and c.from_residual-in_err-class.result c.from_residual-in_err-class.ensures.1 in
+    rw (r.1, r.2) (apart-none (λ made s stands quiet default. omega arith) c.class_of.ensures.keeps.lists refl (omega (arith, shallow-class _ _ c.in_err-class.field-0.0 c.in_err-class.ensures.about)))
 
 pub returns-then-levels-eq0-clause-opens : goal.returns-then-levels-eq0-clause-opens
-returns-then-levels-eq0-clause-opens g c = apart-none (λ made s stands quiet default. omega arith) c.class_of.ensures.keeps.lists refl c.too_deep.ensures.interrupt.questions
+returns-then-levels-eq0-clause-opens g c = apart-none (λ made s stands quiet default. omega arith) c.class_of.ensures.keeps.lists refl c.too_deep.ensures.asked
 
 pub returns-then-is_entered-clause-opens : goal.returns-then-is_entered-clause-opens
 returns-then-is_entered-clause-opens g c =
@@ -234,10 +238,14 @@ returns-then-is_entered-clause-opens g c =
     c.walk_job-handed.ensures.job.enters (c.walk_job-handed.ensures.lists ∙ c.class_of.ensures.keeps.lists)
 
 pub returns-in_err-class-2-clause-opens : goal.returns-in_err-class-2-clause-opens
-returns-in_err-class-2-clause-opens g c = apart-none (λ made s stands quiet default. omega arith) (c.leaf_class.ensures.worktree.lists ∙ c.class_of.ensures.keeps.lists) refl (omega arith)
+returns-in_err-class-2-clause-opens g c =
+    let r = err_from_is_err_and c.from_residual-in_err-class-2.result c.from_residual-in_err-class-2.ensures.1 in
+    rw (r.1, r.2) (apart-none (λ made s stands quiet default. omega arith) (c.leaf_class.ensures.worktree.lists ∙ c.class_of.ensures.keeps.lists) refl (omega arith))
 
 pub returns-clause-opens : goal.returns-clause-opens
-returns-clause-opens g c = apart-none (λ made s stands quiet default. omega arith) (c.leaf_class.ensures.worktree.lists ∙ c.class_of.ensures.keeps.lists) c.put_leaf-handed.ensures.entered (omega arith)
+returns-clause-opens g c =
+    apart-none (λ made s stands quiet default. omega arith) (c.leaf_class.ensures.worktree.lists ∙ c.class_of.ensures.keeps.lists) c.put_leaf-handed.ensures.entered
+    (omega (arith, shallow-memory c.put_leaf-handed.result c.put_leaf-handed.ensures.memory))
 
 pub returns-then-levels-eq0-clause-filtered : goal.returns-then-levels-eq0-clause-filtered
 returns-then-levels-eq0-clause-filtered g c = AddsShown-same (chosen c.args.shared.now.options) c.is_entered.ensures.given

@@ -19,6 +19,8 @@ use Rattle.dir_walk.proofs.Named.{SoFar-none, SoFar-more}
 use Rattle.dir_walk.proofs.Steps.{IsEvidence-told, Stands-later}
 use Rattle.dir_walk.proofs.Rooms.{Hands-none, Hands-empty, Hands-refused, Hands-closed, Puts-start, Puts-name}
 use Rattle.dir_walk.proofs.Refusals.{IsInTree-open, DirectoryRefuses-name, memory-only}
+use Rattle.dir_walk.specs.Unopened.{unlisted_one}
+use Rattle.dir_walk.proofs.Shallow.{shallow-memory}
 use Rattle.dir_walk.proofs.children.walk_children.Goals as goal
 
 pub returns-in_err-names-clause-delegate : goal.returns-in_err-names-clause-delegate
@@ -57,7 +59,7 @@ loop-name-init g c =
       store = AsksStore-same;
       rules = KeepsRules-same;
       interrupt = c.open.ensures.interrupt;
-      opens = apart-end (λ n one made s stands quiet default. omega (arith, one)) (apart-one c.in_ok-names.ensures.opens c.open.ensures.once) refl;
+      opens = apart-end (λ n one made s stands quiet default. omega (arith, one)) (apart-one c.in_ok-names.ensures.opens c.open.ensures.once) refl refl;
       puts = Puts-start a.place.now.path c.as_slice-name-items.result.now c.open.ensures.returned c.open.ensures.seen c.new-held.ensures.entries;
       delegate = KeepsDelegate-same;
       filtered = refl;
@@ -267,7 +269,7 @@ returns-clause-caused g c =
 
 pub returns-in_err-names-clause-opens : goal.returns-in_err-names-clause-opens
 returns-in_err-names-clause-opens g c =
-    let p = err_from_is_err_and c.from_residual.result c.from_residual.ensures.1 in rw (p.1, p.2) (apart-tried (λ n few made s stands quiet default. omega (arith, few)) c.in_err-names.ensures.tried c.open.ensures.once)
+    let p = err_from_is_err_and c.from_residual.result c.from_residual.ensures.1 in rw (p.1, p.2) (apart-tried {opened = unlisted_one c.in_err-names.field-0.0} (λ made s stands quiet default. omega arith) c.in_err-names.ensures.tried c.open.ensures.once)
 
 pub returns-then-is_empty-clause-opens : goal.returns-then-is_empty-clause-opens
 returns-then-is_empty-clause-opens g c =
@@ -277,7 +279,7 @@ returns-then-is_empty-clause-opens g c =
     (λ n one made s stands quiet default.
     let lists : ListsNames (look_directory given s.tree d) names = rw c.requires.root at (c.in_ok-names.ensures.lists s.tree stands.tree) in
     let itself = entered-empty given made s d a.class.now names lists bare (a.levels + depth_of d) (omega arith) in omega (arith, one, itself))
-    (apart-one c.in_ok-names.ensures.opens c.open.ensures.once) c.close_empty.ensures.entered
+    (apart-one c.in_ok-names.ensures.opens c.open.ensures.once) c.close_empty.ensures.entered (shallow-memory c.close_empty.result c.close_empty.ensures.memory)
 
 pub returns-in_err-handed-clause-opens : goal.returns-in_err-handed-clause-opens
 returns-in_err-handed-clause-opens g c =
@@ -293,7 +295,7 @@ returns-in_err-take-clause-opens g c =
     let kept = c.loop-name.invariant in let p = err_from_is_err_and c.from_residual-in_err-take.result c.from_residual-in_err-take.ensures.1 in
     let ends = (enters-last (setting_of g.M.Matcher c.args.shared.now) c.args.blocked.now (c.args.levels + depth_of c.args.place.now.path) c.args.place.now.path c.as_slice-name-items.result.now c.loop-name.name-index c.name-item.result c.loop-name-test.true c.name-item.is kept.worktree kept.store kept.rules kept.delegate c.walk_child.ensures.worktree.faults (omega arith) c.args.class.now 0
     (λ s told. HasNames-listed (setting_of g.M.Matcher c.args.shared.now) s.tree c.args.place.now.path c.as_slice.ensures c.is_empty.ensures c.if-is_empty.false c.as_slice-name-items.ensures c.in_ok-names.ensures.names (rw c.requires.root at (c.in_ok-names.ensures.lists s.tree told))) c.path-path.ensures.plain) in
-    rw p.1
+    rw (p.1, p.2)
     (apart-then (λ m n so_far here made s stands quiet default. let most = ends m n so_far here made s stands quiet default in omega (arith, most))
     kept.opens (rw (c.as_bytes.ensures, c.loop-name.invariant.stays) at c.in_ok-handed.ensures.opens))
 
@@ -302,7 +304,7 @@ returns-clause-opens g c =
     apart-end
     (enters-all g.W.Worktree g.F.Find g.D.Delegate c.args.worktree.now c.loop-name.worktree c.args.objects.now c.args.excludes.now c.args.delegate.now (setting_of g.M.Matcher c.args.shared.now) c.args.blocked.now (c.args.levels + depth_of c.args.place.now.path) c.args.place.now.path c.as_slice-name-items.result.now c.loop-name.name-index (omega arith) c.loop-name-test.false c.args.class.now _
     (λ s told. HasNames-listed (setting_of g.M.Matcher c.args.shared.now) s.tree c.args.place.now.path c.as_slice.ensures c.is_empty.ensures c.if-is_empty.false c.as_slice-name-items.ensures c.in_ok-names.ensures.names (rw c.requires.root at (c.in_ok-names.ensures.lists s.tree told))) c.path-path.ensures.plain)
-    c.loop-name.invariant.opens c.close.ensures.entered
+    c.loop-name.invariant.opens c.close.ensures.entered (shallow-memory c.close.result c.close.ensures.memory)
 
 pub returns-in_err-handed-clause-filtered : goal.returns-in_err-handed-clause-filtered
 returns-in_err-handed-clause-filtered g c = c.walk_child.ensures.filtered ∙ c.loop-name.invariant.filtered

@@ -18,6 +18,7 @@ use Rattle.dir_walk.specs.Opens.{count_within}
 use Rattle.dir_walk.specs.Report.{depth_of}
 use Rattle.dir_walk.specs.Emits.{Gives}
 use Rattle.dir_walk.specs.Told.{look_name, look_directory, item_told, directory_told}
+use Rattle.dir_walk.specs.Unopened.{unlisted_one}
 use Rattle.dir_classify.proofs.Classed.{asked-quiet}
 use Rattle.dir_walk.proofs.Emitting.{Within-all}
 use Rattle.dir_walk.proofs.Ending.{Caused-later, Caused-memory}
@@ -34,6 +35,7 @@ use Rattle.dir_walk.proofs.Rooms.{Hands-none, Hands-leaf, Hands-empty, Hands-ref
 use Rattle.dir_walk.proofs.Hiding.{AddsShown-same}
 use Rattle.dir_walk.proofs.Judged.{indexed-unlisted}
 use Rattle.dir_walk.proofs.Refusals.{HasPaths, IsAbout-class, IsAbout-deep, IsInTree-class, IsInTree-open, Refuses-class, Refuses-deep, Refuses-directory, DirectoryRefuses-name, memory-only, refused-any, rose-or, either}
+use Rattle.dir_walk.proofs.Shallow.{shallow-class, shallow-memory}
 use Rattle.dir_walk.proofs.directory.+walk.Goals as goal
 
 pub walk_directory-returns-in_err-names-clause-delegate : goal.walk_directory-returns-in_err-names-clause-delegate
@@ -73,7 +75,7 @@ walk_directory-loop-name-init g t c =
       unmapped = λ none. refl;
       rules = KeepsRules-same;
       interrupt = c.open.ensures.interrupt;
-      opens = opens-end (λ n one made s stands quiet default. omega (arith, one)) (opens-one c.in_ok-names.ensures.opens c.open.ensures.reads) refl;
+      opens = opens-end (λ n one made s stands quiet default. omega (arith, one)) (opens-one c.in_ok-names.ensures.opens c.open.ensures.reads) refl refl;
       puts = Puts-start a.place.now.path c.as_slice-name-items.result.now c.open.ensures.returned c.open.ensures.seen c.new-held.ensures.entries;
       delegate = KeepsDelegate-same;
       filtered = refl;
@@ -383,7 +385,7 @@ walk_name-returns-clause-refused g t c = λ made s stands default limit level. m
 
 pub walk_directory-returns-in_err-names-clause-opens : goal.walk_directory-returns-in_err-names-clause-opens
 walk_directory-returns-in_err-names-clause-opens g t c =
-    let p = err_from_is_err_and c.from_residual.result c.from_residual.ensures.1 in rw (p.1, p.2) (opens-refused (λ n few made s stands quiet default. omega (arith, few)) c.in_err-names.ensures.tried c.open.ensures.reads)
+    let p = err_from_is_err_and c.from_residual.result c.from_residual.ensures.1 in rw (p.1, p.2) (opens-refused {opened = unlisted_one c.in_err-names.field-0.0} (λ made s stands quiet default. omega arith) c.in_err-names.ensures.tried c.open.ensures.reads)
 
 pub walk_directory-returns-then-is_empty-clause-opens : goal.walk_directory-returns-then-is_empty-clause-opens
 walk_directory-returns-then-is_empty-clause-opens g t c =
@@ -393,7 +395,7 @@ walk_directory-returns-then-is_empty-clause-opens g t c =
     (λ n one made s stands quiet default.
     let lists : ListsNames (look_directory given s.tree d) names = rw c.requires.root at (c.in_ok-names.ensures.lists s.tree stands.tree) in
     let itself = entered-empty given made s d a.class.now names lists bare (a.levels + depth_of d) (omega arith) in omega (arith, one, itself))
-    (opens-one c.in_ok-names.ensures.opens c.open.ensures.reads) c.close_empty.ensures.entered
+    (opens-one c.in_ok-names.ensures.opens c.open.ensures.reads) c.close_empty.ensures.entered (shallow-memory c.close_empty.result c.close_empty.ensures.memory)
 
 pub walk_directory-returns-in_err-handed-clause-opens : goal.walk_directory-returns-in_err-handed-clause-opens
 walk_directory-returns-in_err-handed-clause-opens g t c =
@@ -409,7 +411,7 @@ walk_directory-returns-in_err-take-clause-opens g t c =
     let kept = c.loop-name.invariant in let p = err_from_is_err_and c.from_residual-in_err-take.result c.from_residual-in_err-take.ensures.1 in
     let ends = (enters-last (setting_of g.M.Matcher c.args.shared.now) c.args.blocked.now (c.args.levels + depth_of c.args.place.now.path) c.args.place.now.path c.as_slice-name-items.result.now c.loop-name.name-index c.name-item.result c.loop-name-test.true c.name-item.is kept.worktree kept.store kept.rules kept.delegate c.walk_name.ensures.worktree.faults (omega arith) c.args.class.now 0
     (λ s told. HasNames-listed (setting_of g.M.Matcher c.args.shared.now) s.tree c.args.place.now.path c.as_slice.ensures c.is_empty.ensures c.if-is_empty.false c.as_slice-name-items.ensures c.in_ok-names.ensures.names (rw c.requires.root at (c.in_ok-names.ensures.lists s.tree told))) c.path-path.ensures.plain) in
-    rw p.1
+    rw (p.1, p.2)
     (opens-then (λ m n so_far here made s stands quiet default. let most = ends m n so_far here made s stands quiet default in omega (arith, most))
     kept.rules.made (omega arith) kept.opens (rw (c.as_bytes.ensures, c.loop-name.invariant.stays) at c.in_ok-handed.ensures.opens))
 
@@ -418,23 +420,26 @@ walk_directory-returns-clause-opens g t c =
     opens-end
     (enters-all g.W.Worktree g.F.Find g.D.Delegate c.args.worktree.now c.loop-name.worktree c.args.objects.now c.args.excludes.now c.args.delegate.now (setting_of g.M.Matcher c.args.shared.now) c.args.blocked.now (c.args.levels + depth_of c.args.place.now.path) c.args.place.now.path c.as_slice-name-items.result.now c.loop-name.name-index (omega arith) c.loop-name-test.false c.args.class.now _
     (λ s told. HasNames-listed (setting_of g.M.Matcher c.args.shared.now) s.tree c.args.place.now.path c.as_slice.ensures c.is_empty.ensures c.if-is_empty.false c.as_slice-name-items.ensures c.in_ok-names.ensures.names (rw c.requires.root at (c.in_ok-names.ensures.lists s.tree told))) c.path-path.ensures.plain)
-    c.loop-name.invariant.opens c.close.ensures.entered
+    c.loop-name.invariant.opens c.close.ensures.entered (shallow-memory c.close.result c.close.ensures.memory)
 
 pub walk_name-returns-in_err-cut-clause-opens : goal.walk_name-returns-in_err-cut-clause-opens
-walk_name-returns-in_err-cut-clause-opens g t c = opens-none (λ made s stands quiet default. omega arith) refl refl (omega arith) (λ on alone. omega arith)
+walk_name-returns-in_err-cut-clause-opens g t c =
+    let r = err_from_is_err_and c.from_residual.result c.from_residual.ensures.1 in
+    rw (r.1, r.2) (opens-none (λ made s stands quiet default. omega arith) refl refl (omega arith) (λ on alone. omega arith))
 
 pub walk_name-returns-in_err-class-clause-opens : goal.walk_name-returns-in_err-class-clause-opens
 walk_name-returns-in_err-class-clause-opens g t c =
     let path = ap (λ (x : Standing). x.path) c.in_ok-cut.ensures.pushed in
     let r = err_from_is_err_and c.from_residual-in_err-class.result c.from_residual-in_err-class.ensures.1 in
     rw (r.1, r.2)
-    (opens-least (λ n none made s stands quiet default. omega (arith, none)) (opens-class c.args.place.now.path c.args.name.now c.requires.name c.class_of.ensures.keeps.lists (rw (c.path-path.ensures.path, path) at c.in_err-class.ensures.reads)))
+    (opens-least (λ n none made s stands quiet default. omega (arith, none)) (shallow-class _ _ c.in_err-class.field-0.0 c.in_err-class.ensures.about)
+    (opens-class c.args.place.now.path c.args.name.now c.requires.name c.class_of.ensures.keeps.lists (rw (c.path-path.ensures.path, path) at c.in_err-class.ensures.reads)))
 
 pub walk_name-returns-then-levels-eq0-clause-opens : goal.walk_name-returns-then-levels-eq0-clause-opens
 walk_name-returns-then-levels-eq0-clause-opens g t c =
     let path = ap (λ (x : Standing). x.path) c.in_ok-cut.ensures.pushed in
     opens-still (λ n none made s stands quiet default. omega (arith, none))
-    (opens-class c.args.place.now.path c.args.name.now c.requires.name c.class_of.ensures.keeps.lists (rw (c.path-path.ensures.path, path) at c.in_ok-class.ensures.reads)) refl refl c.too_deep.ensures.interrupt.questions (λ on. refl)
+    (opens-class c.args.place.now.path c.args.name.now c.requires.name c.class_of.ensures.keeps.lists (rw (c.path-path.ensures.path, path) at c.in_ok-class.ensures.reads)) refl refl c.too_deep.ensures.asked (λ on. refl)
 
 pub walk_name-returns-then-is_entered-clause-opens : goal.walk_name-returns-then-is_entered-clause-opens
 walk_name-returns-then-is_entered-clause-opens g t c =
@@ -461,14 +466,16 @@ walk_name-returns-then-is_entered-clause-opens g t c =
 pub walk_name-returns-in_err-class-2-clause-opens : goal.walk_name-returns-in_err-class-2-clause-opens
 walk_name-returns-in_err-class-2-clause-opens g t c =
     let path = ap (λ (x : Standing). x.path) c.in_ok-cut.ensures.pushed in let o = chosen c.args.shared.now.options in
-    opens-still (λ n none made s stands quiet default. omega (arith, none))
-    (opens-class c.args.place.now.path c.args.name.now c.requires.name c.class_of.ensures.keeps.lists (rw (c.path-path.ensures.path, path) at c.in_ok-class.ensures.reads)) c.leaf_class.ensures.worktree.lists refl (omega arith) (λ on. c.leaf_class.ensures.reads (hides-none o on))
+    let r = err_from_is_err_and c.from_residual-in_err-class-2.result c.from_residual-in_err-class-2.ensures.1 in
+    rw (r.1, r.2)
+    (opens-still (λ n none made s stands quiet default. omega (arith, none))
+    (opens-class c.args.place.now.path c.args.name.now c.requires.name c.class_of.ensures.keeps.lists (rw (c.path-path.ensures.path, path) at c.in_ok-class.ensures.reads)) c.leaf_class.ensures.worktree.lists refl (omega arith) (λ on. c.leaf_class.ensures.reads (hides-none o on)))
 
 pub walk_name-returns-clause-opens : goal.walk_name-returns-clause-opens
 walk_name-returns-clause-opens g t c =
     let path = ap (λ (x : Standing). x.path) c.in_ok-cut.ensures.pushed in let o = chosen c.args.shared.now.options in
     opens-still (λ n none made s stands quiet default. omega (arith, none))
-    (opens-class c.args.place.now.path c.args.name.now c.requires.name c.class_of.ensures.keeps.lists (rw (c.path-path.ensures.path, path) at c.in_ok-class.ensures.reads)) c.leaf_class.ensures.worktree.lists c.put_leaf-handed.ensures.entered (omega arith)
+    (opens-class c.args.place.now.path c.args.name.now c.requires.name c.class_of.ensures.keeps.lists (rw (c.path-path.ensures.path, path) at c.in_ok-class.ensures.reads)) c.leaf_class.ensures.worktree.lists c.put_leaf-handed.ensures.entered (omega (arith, shallow-memory c.put_leaf-handed.result c.put_leaf-handed.ensures.memory))
     (λ on. c.leaf_class.ensures.reads (hides-none o on))
 
 pub walk_directory-returns-in_err-names-clause-hands : goal.walk_directory-returns-in_err-names-clause-hands

@@ -37,7 +37,7 @@ invariant-walk_directory-loop-name g l =
       unmapped : maps_blobs (made_with l.fn.excludes) ≡ false → l.objects ≡ l.fn.objects;
       rules : KeepsRules w f l.fn.worktree l.worktree l.fn.objects l.fn.excludes l.excludes;
       interrupt : AsksInterrupt i l.fn.interrupt l.interrupt;
-      opens : OpensWithin w i l.fn.worktree l.worktree l.fn.interrupt l.interrupt l.fn.outcome l.outcome (chosen l.shared.options) l.fn.excludes l.excludes (components l.fn.place.path) 1 0
+      opens : OpensWithin w i l.fn.worktree l.worktree l.fn.interrupt l.interrupt l.fn.outcome l.outcome (chosen l.shared.options) l.fn.excludes l.excludes (components l.fn.place.path) 1 0 0
           (EntersSoFar w f d l.fn.worktree l.worktree l.fn.objects l.fn.excludes l.fn.delegate given l.blocked (l.levels + depth_of l.fn.place.path) l.fn.place.path (take l.name-index l.name-items));
       puts : Puts (once_below l.fn.place.path (take l.name-index l.name-items)) (d.given l.fn.delegate) (d.given l.delegate) l.fn.outcome l.outcome l.held.entries.items;
       delegate : KeepsDelegate d l.fn.delegate l.delegate;

@@ -38,7 +38,7 @@ pub returns-in-AtOnce-clause-about : goal.returns-in-AtOnce-clause-about
 returns-in-AtOnce-clause-about g c = c.walk_children.ensures.about c.args.depth_limit (omega (arith, c.if-depth-depth_limit.false, c.depth_of-depth.ensures, ap {B = ℕ} depth_of c.path.ensures.path))
 
 pub returns-then-depth-depth_limit-clause-opens : goal.returns-then-depth-depth_limit-clause-opens
-returns-then-depth-depth_limit-clause-opens g c = opens-not c.args.strategy _ _ _ _ _ _ _ _ _ _ (λ n none made s stands quiet default. omega (arith, none)) refl refl c.too_deep.ensures.interrupt.questions
+returns-then-depth-depth_limit-clause-opens g c = opens-not c.args.strategy _ _ _ _ _ _ _ _ _ _ _ (λ n none made s stands quiet default. omega (arith, none)) refl refl c.too_deep.ensures.asked
 
 pub returns-in-Held-clause-opens : goal.returns-in-Held-clause-opens
 returns-in-Held-clause-opens g c =

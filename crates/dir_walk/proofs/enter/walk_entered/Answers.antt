@@ -8,9 +8,10 @@ use Rattle.dir_walk.specs.declared.handed.Handed.{Handed}
 use Rattle.dir_walk.specs.Refused.{DirectoryRefuses}
 use Rattle.dir_walk.specs.Told.{directory_told}
 use Rattle.dir_walk.proofs.CallByCall.{Before-asked, Ends-after, Ends-err, Ends-then}
-use Rattle.dir_walk.proofs.FromRoot.{Puts-out, opens-around, opens-not, refused-same}
+use Rattle.dir_walk.proofs.FromRoot.{Puts-out, deep-same, opens-around, opens-not, refused-same, unlisted-same}
 use Rattle.dir_walk.proofs.HandedOn.{DirectoryRefuses-weaker, Stands-asked, gives-all, part-all, part-out}
 use Rattle.dir_walk.proofs.Refusals.{refused-any}
+use Rattle.dir_walk.proofs.Shallow.{shallow-memory}
 use Rattle.dir_walk.proofs.enter.walk_entered.Goals as goal
 
 pub returns-in_err-handed-clause-part : goal.returns-in_err-handed-clause-part
@@ -84,12 +85,12 @@ returns-clause-ends g c =
 pub returns-in_err-place-clause-opens : goal.returns-in_err-place-clause-opens
 returns-in_err-place-clause-opens g c =
     let p = err_from_is_err_and c.from_residual.result c.from_residual.ensures.1 in
-    rw (p.1, p.2) (opens-not c.args.strategy _ _ _ _ _ _ _ _ _ _ (λ n none s tells default quiet. omega (arith, none)) refl refl (omega arith))
+    rw (p.1, p.2) (opens-not c.args.strategy _ _ _ _ _ _ _ _ _ _ _ (λ n none s tells default quiet. omega (arith, none)) refl refl (omega arith))
 
 pub returns-in_err-blocked-clause-opens : goal.returns-in_err-blocked-clause-opens
 returns-in_err-blocked-clause-opens g c =
     let p = err_from_is_err_and c.from_residual-in_err-blocked.result c.from_residual-in_err-blocked.ensures.1 in
-    rw (p.1, p.2) (opens-not c.args.strategy _ _ _ _ _ _ _ _ _ _ (λ n none s tells default quiet. omega (arith, none)) c.in_err-blocked.ensures.keeps.lists c.in_err-blocked.ensures.reads (omega arith))
+    rw (p.1, p.2) (opens-not c.args.strategy _ _ _ _ _ _ _ _ _ _ _ (λ n none s tells default quiet. omega (arith, none)) c.in_err-blocked.ensures.keeps.lists c.in_err-blocked.ensures.reads (omega arith))
 
 pub returns-clause-puts : goal.returns-clause-puts
 returns-clause-puts g c = Puts-out (option_to_list c.in_ok-handed.handed.entry) (rw c.in_ok-place.ensures at c.in_ok-handed.ensures.hands.puts) c.put_handed.ensures.puts
@@ -112,14 +113,14 @@ returns-in_err-handed-clause-opens g c =
     let w = g.W.Worktree in
     let given = setting_of g.M.Matcher a.shared.now in
     rw (p.1, p.2)
-    (opens-around c.args.strategy _ _ _ _ _ _ _ _ _ _ _ _ _ _ _ _
+    (opens-around c.args.strategy _ _ _ _ _ _ _ _ _ _ _ _ _ _ _ _ _ _
     (λ n few s tells default quiet.
     let made = made_with a.excludes.now in
     let before : NotIncreased (w.faults a.worktree.now) (w.faults c.blocked_directory.new.worktree) = omega (arith, quiet, c.walk_deep.ensures.ends.worktree.faults) in
     let here : NotIncreased (w.faults c.blocked_directory.new.worktree) (w.faults c.walk_deep.new.worktree) = omega (arith, quiet, asked.keeps.faults) in
     let stands = Stands-asked given tells asked.keeps (asked.blocked made s tells.tells.tree_is before) in
-    let most = few made s stands here default in omega (arith, most, refused-same Handed (Unit {0}) c.in_err-handed.field-0.0))
-    asked.keeps.lists asked.reads refl (refused-same Handed (Unit {0}) c.in_err-handed.field-0.0) (rw c.in_ok-place.ensures at c.in_err-handed.ensures.opens))
+    let most = few made s stands here default in omega (arith, most, unlisted-same Handed (Unit {0}) c.in_err-handed.field-0.0))
+    asked.keeps.lists asked.reads refl (refused-same Handed (Unit {0}) c.in_err-handed.field-0.0) (deep-same Handed (Unit {0}) c.in_err-handed.field-0.0) (rw c.in_ok-place.ensures at c.in_err-handed.ensures.opens))
 
 pub returns-clause-opens : goal.returns-clause-opens
 returns-clause-opens g c =
@@ -127,14 +128,14 @@ returns-clause-opens g c =
     let a = c.args in
     let w = g.W.Worktree in
     let given = setting_of g.M.Matcher a.shared.now in
-    opens-around c.args.strategy _ _ _ _ _ _ _ _ _ _ _ _ _ _ _ _
+    opens-around c.args.strategy _ _ _ _ _ _ _ _ _ _ _ _ _ _ _ _ _ _
     (λ n few s tells default quiet.
     let made = made_with a.excludes.now in
     let before : NotIncreased (w.faults a.worktree.now) (w.faults c.blocked_directory.new.worktree) = omega (arith, quiet, c.walk_deep.ensures.ends.worktree.faults) in
     let here : NotIncreased (w.faults c.blocked_directory.new.worktree) (w.faults c.walk_deep.new.worktree) = omega (arith, quiet, asked.keeps.faults) in
     let stands = Stands-asked given tells asked.keeps (asked.blocked made s tells.tells.tree_is before) in
     let most = few made s stands here default in omega (arith, most))
-    asked.keeps.lists asked.reads c.put_handed.ensures.entered (omega arith) (rw c.in_ok-place.ensures at c.in_ok-handed.ensures.opens)
+    asked.keeps.lists asked.reads c.put_handed.ensures.entered (omega arith) (omega (arith, shallow-memory c.put_handed.result c.put_handed.ensures.memory)) (rw c.in_ok-place.ensures at c.in_ok-handed.ensures.opens)
 
 pub returns-in_err-handed-clause-filtered : goal.returns-in_err-handed-clause-filtered
 returns-in_err-handed-clause-filtered g c = c.walk_deep.ensures.filtered

@@ -5,12 +5,9 @@ pub returns-then-is_raised-clause-interrupt : goal.returns-then-is_raised-clause
 returns-then-is_raised-clause-interrupt g c = record { questions = omega (arith, c.is_raised.ensures.questions, c.if-is_raised.ensures.cause); raised = c.is_raised.ensures.later }
 
 pub returns-then-is_raised-clause-tried : goal.returns-then-is_raised-clause-tried
-returns-then-is_raised-clause-tried g c = (
-  0,
-  omega arith,
-  record {
-    listed = λ small. omega (arith, small);
-    counted = λ small. omega (arith, small);
-    asked = omega (arith, c.is_raised.ensures.questions, c.if-is_raised.ensures.cause);
-  },
-)
+returns-then-is_raised-clause-tried g c =
+    record {
+      listed = λ small. omega (arith, small);
+      counted = λ small. omega (arith, small);
+      asked = omega (arith, c.is_raised.ensures.questions, c.if-is_raised.ensures.cause);
+    }

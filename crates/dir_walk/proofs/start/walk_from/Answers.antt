@@ -6,11 +6,11 @@ use Rattle.dir_classify.specs.Excludes.{made_with}
 use Rattle.dir_classify.specs.Layers.{setting_of, evidence}
 use Rattle.dir_classify.specs.Rooted.{reached_by, way_to}
 use Rattle.dir_walk.specs.Given.{IsAnswered, OnRefused}
-use Rattle.dir_walk.specs.Opens.{refused_walk}
 use Rattle.dir_walk.specs.Refused.{DirectoryRefuses, IsAbout}
 use Rattle.dir_walk.specs.Root.{is_root_entered}
 use Rattle.dir_walk.specs.Starts.{OnlyRoot}
 use Rattle.dir_walk.specs.WalkRefused.{IsNoTop, OnNoRoot, OnNoStart, StartRefuses, recursion_of}
+use Rattle.dir_walk.specs.Unopened.{unlisted_walk}
 use Rattle.dir_walk.specs.Walked.{Walked}
 use Rattle.dir_walk.specs.Walks.{most_from}
 use Rattle.gitbase_core.specs.Path.{is_empty}
@@ -24,6 +24,7 @@ use Rattle.dir_walk.proofs.Started.{gives-entered, gives-put, no-node, no-root, 
 use Rattle.dir_walk.proofs.Starting.{bare}
 use Rattle.dir_walk.proofs.Unstarted.{no-start-about, no-start-weaker, on-no-start}
 use Rattle.dir_walk.proofs.WayRefused.{only-no_root, only-refuses, way-about, way-found, way-refuses}
+use Rattle.dir_walk.proofs.Shallow.{shallow-put, shallow-way}
 use Rattle.dir_walk.proofs.start.walk_from.Goals as goal
 
 pub returns-in_err-reached-clause-refused : goal.returns-in_err-reached-clause-refused
@@ -196,13 +197,15 @@ returns-clause-no_root g c = λ s told quiet.
 pub returns-in_err-reached-clause-opens : goal.returns-in_err-reached-clause-opens
 returns-in_err-reached-clause-opens g c =
     let p = err_from_is_err_and c.from_residual.result c.from_residual.ensures.1 in
-    rw (p.1, p.2) (opens-short c.root_at.new.worktree c.args.strategy c.in_err-reached.ensures.reads (λ s tells default quiet. omega arith) _ c.in_err-reached.ensures.keeps.lists refl refl (omega arith))
+    rw (p.1, p.2) (opens-short c.root_at.new.worktree c.args.strategy c.in_err-reached.ensures.reads (λ s tells default quiet. omega arith) _ (shallow-way (made_with c.args.excludes.now) c.args.root.now c.in_err-reached.field-0.0 c.in_err-reached.ensures.about) c.in_err-reached.ensures.keeps.lists refl refl (omega arith))
 
 pub returns-in_err-is_root_entered-clause-opens : goal.returns-in_err-is_root_entered-clause-opens
 returns-in_err-is_root_entered-clause-opens g c =
     let way = c.in_ok-reached.ensures in
     let asked = c.in_err-is_root_entered.ensures in
-    opens-short c.root_at.new.worktree c.args.strategy (asks-from way.prefix way.reads) (λ s tells default quiet. omega arith) _ (asked.keeps.lists ∙ way.keeps.lists) asked.reads refl (omega arith)
+    let p = err_from_is_err_and c.from_residual-in_err-is_root_entered.result c.from_residual-in_err-is_root_entered.ensures.1 in
+    rw (p.1, p.2)
+    (opens-short c.root_at.new.worktree c.args.strategy (asks-from way.prefix way.reads) (λ s tells default quiet. omega arith) _ refl (asked.keeps.lists ∙ way.keeps.lists) asked.reads refl (omega arith))
 
 pub returns-then-branch-clause-opens : goal.returns-then-branch-clause-opens
 returns-then-branch-clause-opens g c =
@@ -223,7 +226,7 @@ returns-then-branch-clause-opens g c =
     let into : is_root_entered given.options (evidence given made s) (reached_by r false) ≡ true = sym (asked.entered made s (way.keeps.tree ∙ tells.tells.tree_is) second default) ∙ c.if-branch.true in
     let here = Tells-later (Before-then (Before-classed way.keeps way.store way.rules) (Before-asked asked.keeps)) tells in
     let most = rw way.rules.made at (few s here (asked.delegate.default ∙ default) third) in
-    let all = ap {B = ℕ} (λ (v : Option Walked). most_from a.depth_limit v (refused_walk c.walk_entered.result)) (walked-entered given made s a.root.now c.requires.root r is into) in
+    let all = ap {B = ℕ} (λ (v : Option Walked). most_from a.depth_limit v (unlisted_walk c.walk_entered.result)) (walked-entered given made s a.root.now c.requires.root r is into) in
     omega (arith, most, all))
     way.rules.made (asked.keeps.lists ∙ way.keeps.lists) asked.reads refl c.walk_entered.ensures.opens
 
@@ -231,7 +234,7 @@ pub returns-clause-opens : goal.returns-clause-opens
 returns-clause-opens g c =
     let way = c.in_ok-reached.ensures in
     let asked = c.in_ok-is_root_entered.ensures in
-    opens-short c.root_at.new.worktree c.args.strategy (asks-from way.prefix way.reads) (λ s tells default quiet. omega arith) c.put_root.result (asked.keeps.lists ∙ way.keeps.lists) asked.reads c.put_root.ensures.entered (omega arith)
+    opens-short c.root_at.new.worktree c.args.strategy (asks-from way.prefix way.reads) (λ s tells default quiet. omega arith) c.put_root.result (shallow-put c.args.shared.now.worktree_root.now c.args.root.now c.in_ok-reached.reached c.put_root.result c.put_root.ensures.puts.refused) (asked.keeps.lists ∙ way.keeps.lists) asked.reads c.put_root.ensures.entered (omega arith)
 
 pub returns-in_err-reached-clause-unstarted : goal.returns-in_err-reached-clause-unstarted
 returns-in_err-reached-clause-unstarted g c =

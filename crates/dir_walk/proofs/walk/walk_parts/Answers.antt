@@ -10,6 +10,7 @@ use Rattle.dir_walk.specs.declared.outcome.Outcome.{Outcome}
 use Rattle.dir_walk.specs.Opens.{refused_walk}
 use Rattle.dir_walk.specs.Root.{rooted, traversal_root}
 use Rattle.dir_walk.specs.Rooting.{IsNormalized}
+use Rattle.dir_walk.specs.Unopened.{deep_one, deep_walk, unlisted_one, unlisted_walk}
 use Rattle.dir_walk.specs.WalkRefused.{recursion_of}
 use Rattle.dir_walk.specs.Walks.{IsRootOf}
 use Rattle.dir_walk.proofs.FeedsSo.{feeds-broken, feeds-done, feeds-nothing, feeds-refused}
@@ -65,12 +66,13 @@ returns-in-Ok g c =
     let full_is : c.in_ok-full.full ≡ full_path given.root root = c.in_ok-full.ensures ∙ ap (full_path given.root) (c.as_bytes.ensures ∙ sym c.as_bytes-2.ensures) in
     let is_root : IsRootOf given a.explicit.now (λ (r : Outcome × List ℕ). r.1) (Ok (c.walk_from.new.outcome, c.in_ok-full.full)) root = record { normalized = normal; named = full_is } in
     let none : refused_walk c.walk_from.result ≤ 0 = rw c.in-Ok.is (omega arith) in
+    let listed : unlisted_walk c.walk_from.result ≤ 0 = rw c.in-Ok.is (omega arith) in
     record {
       walks_worktree =
           walks-done w f i d a.strategy given a.explicit.now a.depth_limit recursion (λ r. r.0) (λ r. r.1) root found.keeps normal rooted_is (c.walk_from.new.outcome, c.in_ok-full.full) full_is (rw c.as_bytes-2.ensures found.way) (Ok tt) from.ends from.ends.caused.listed from.ends.caused.calm c.walk_from.ensures.unmapped
           (opens-whole a.strategy found.keeps.lists found.reads
-          (enters-walk {T = Outcome × List ℕ} w f d recursion given a.explicit.now a.depth_limit root (Ok (c.walk_from.new.outcome, c.in_ok-full.full)) (refused_walk c.walk_from.result) found.keeps from.ends.worktree.faults refl rooted_is none)
-          c.walk_from.result (Ok (c.walk_from.new.outcome, c.in_ok-full.full)) zeros.0 is_root refl none c.walk_from.ensures.opens);
+          (enters-walk {T = Outcome × List ℕ} w f d recursion given a.explicit.now a.depth_limit root (Ok (c.walk_from.new.outcome, c.in_ok-full.full)) (unlisted_walk c.walk_from.result) found.keeps from.ends.worktree.faults refl rooted_is listed)
+          c.walk_from.result (Ok (c.walk_from.new.outcome, c.in_ok-full.full)) zeros.0 is_root refl none (omega arith) c.walk_from.ensures.opens);
       feeds =
           feeds-done w f d a.worktree.now c.traversal_root.new.worktree c.walk_from.new.worktree a.objects.now a.excludes.now a.delegate.now c.walk_from.new.delegate given a.explicit.now a.depth_limit root c.default-outcome.result c.walk_from.new.outcome
           found.keeps from.ends.worktree.faults normal rooted_is from.ends.delegate c.walk_from.ensures.puts c.walk_from.ensures.filtered zeros.0 zeros.1.0 zeros.1.1 c.in_ok-full.full full_is from.ends.heeds.kept_on
@@ -96,12 +98,13 @@ returns-in-Err-Broken g c =
     let full_is : c.in_ok-full.full ≡ full_path given.root root = c.in_ok-full.ensures ∙ ap (full_path given.root) (c.as_bytes.ensures ∙ sym c.as_bytes-2.ensures) in
     let is_root : IsRootOf given a.explicit.now (λ (r : Outcome × List ℕ). r.1) (Ok (c.walk_from.new.outcome, c.in_ok-full.full)) root = record { normalized = normal; named = full_is } in
     let none : refused_walk c.walk_from.result ≤ 0 = rw (c.in-Err-Broken.is, c.in-Err-Broken.field-0-is) (omega arith) in
+    let listed : unlisted_walk c.walk_from.result ≤ 0 = rw (c.in-Err-Broken.is, c.in-Err-Broken.field-0-is) (omega arith) in
     record {
       walks_worktree =
           walks-done w f i d a.strategy given a.explicit.now a.depth_limit recursion (λ r. r.0) (λ r. r.1) root found.keeps normal rooted_is (c.walk_from.new.outcome, c.in_ok-full.full) full_is (rw c.as_bytes-2.ensures found.way) (Err Broken) from.ends from.ends.caused.listed from.ends.caused.calm c.walk_from.ensures.unmapped
           (opens-whole a.strategy found.keeps.lists found.reads
-          (enters-walk {T = Outcome × List ℕ} w f d recursion given a.explicit.now a.depth_limit root (Ok (c.walk_from.new.outcome, c.in_ok-full.full)) (refused_walk c.walk_from.result) found.keeps from.ends.worktree.faults refl rooted_is none)
-          c.walk_from.result (Ok (c.walk_from.new.outcome, c.in_ok-full.full)) zeros.0 is_root refl none c.walk_from.ensures.opens);
+          (enters-walk {T = Outcome × List ℕ} w f d recursion given a.explicit.now a.depth_limit root (Ok (c.walk_from.new.outcome, c.in_ok-full.full)) (unlisted_walk c.walk_from.result) found.keeps from.ends.worktree.faults refl rooted_is listed)
+          c.walk_from.result (Ok (c.walk_from.new.outcome, c.in_ok-full.full)) zeros.0 is_root refl none (omega arith) c.walk_from.ensures.opens);
       feeds =
           feeds-broken w f d a.worktree.now c.traversal_root.new.worktree c.walk_from.new.worktree a.objects.now a.excludes.now a.delegate.now c.walk_from.new.delegate given a.explicit.now a.depth_limit root c.default-outcome.result c.walk_from.new.outcome
           found.keeps from.ends.worktree.faults normal rooted_is from.ends.delegate c.walk_from.ensures.puts c.walk_from.ensures.filtered zeros.0 zeros.1.0 zeros.1.1 c.in_ok-full.full full_is from.ends.heeds
@@ -124,13 +127,15 @@ returns g c =
     λ t told quiet. found.root t told quiet ∙ ap rooted (sym c.as_bytes-2.ensures) in
     let from = rw c.in-Err-Refused.field-0-is at c.in-Err-Refused.ensures in
     let e = c.in-Err-Refused.error in
+    let unlisted : unlisted_walk c.walk_from.result ≤ unlisted_one e = rw (c.in-Err-Refused.is, c.in-Err-Refused.field-0-is) (omega arith) in
+    let low : deep_one e ≤ deep_walk c.walk_from.result = rw (c.in-Err-Refused.is, c.in-Err-Refused.field-0-is) (omega arith) in
     record {
       walks_worktree =
           walks-refused w f i d a.strategy given a.explicit.now a.depth_limit recursion (λ r. r.0) (λ r. r.1) root found.keeps normal rooted_is e from.ends from.about from.found
           (λ s tells by quiet. from.refused s tells quiet by) from.no_root (no-start-weaker (λ same. (same.0, same.1)) e from.unstarted) c.walk_from.ensures.unmapped
           (opens-whole a.strategy found.keeps.lists found.reads
-          (enters-walk {T = Outcome × List ℕ} w f d recursion given a.explicit.now a.depth_limit root (Err e) (refused_walk c.walk_from.result) found.keeps from.ends.worktree.faults refl rooted_is (refused-most c.walk_from.result))
-          c.walk_from.result (Err e) c.default-outcome.ensures.0 (record { normalized = normal; named = tt }) tt (refused-most c.walk_from.result) c.walk_from.ensures.opens);
+          (enters-walk {T = Outcome × List ℕ} w f d recursion given a.explicit.now a.depth_limit root (Err e) (unlisted_walk c.walk_from.result) found.keeps from.ends.worktree.faults refl rooted_is unlisted)
+          c.walk_from.result (Err e) c.default-outcome.ensures.0 (record { normalized = normal; named = tt }) tt (refused-most c.walk_from.result) low c.walk_from.ensures.opens);
       feeds =
           feeds-refused w f d a.worktree.now c.traversal_root.new.worktree c.walk_from.new.worktree a.objects.now a.excludes.now a.delegate.now c.walk_from.new.delegate given a.explicit.now a.depth_limit root c.default-outcome.result c.walk_from.new.outcome
           found.keeps from.ends.worktree.faults normal rooted_is from.ends.delegate c.walk_from.ensures.puts c.walk_from.ensures.filtered e from.ends.heeds
