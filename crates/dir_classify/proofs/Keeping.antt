@@ -1,5 +1,5 @@
 -- What stays, and what was asked, when steps follow one another.
-use Rattle.std.proofs.Common.{◌≡◌, ◌≤◌, ◌+◌, ◌∙◌, ap, ℕ, List, [], ◌∷◌, true, false, Bool, Option, Some, Ok, Err, refl, inl, inr, subst, arith}
+use Rattle.std.proofs.Common.{◌≡◌, ◌≤◌, ◌+◌, ◌∙◌, ap, ℕ, List, [], ◌∷◌, false, Option, Some, Ok, Err, refl, inl, inr, arith}
 use Rattle.std.specs.Prelude.{not, Result}
 use Rattle.gitbase_core.specs.Objects.{Objects}
 use Rattle.worktree_fs.specs.Causes.{Increased, NotIncreased}
@@ -91,5 +91,5 @@ pub read-not : {r0 r1 : ℕ} (most : ℕ) → r1 ≡ r0 → r1 ≤ r0 + most
 read-not most same = omega (arith, same)
 
 -- or not before it was read to find repositories
-pub read-then : {r0 r1 r2 most : ℕ} → r2 ≤ r1 + most → r1 ≡ r0 → r2 ≤ r0 + most
-read-then more same = omega (arith, more, same)
+pub read-then : {r0 r1 r2 : ℕ} (most : ℕ) → r2 ≤ r1 + most → r1 ≡ r0 → r2 ≤ r0 + most
+read-then most more same = omega (arith, more, same)

@@ -1,5 +1,5 @@
 -- What the class of a path leaves of a worktree and of the ignore rules.
-use Rattle.std.specs.Prelude.{◌≡◌, ◌≤◌, ◌⊎◌, ℕ, ◌+◌, ◌++◌, Bool, true, false, List, length, map, Option, Result, OnOk, IsSomeAnd, is_some}
+use Rattle.std.specs.Prelude.{◌≡◌, ◌≤◌, ◌⊎◌, ℕ, ◌+◌, ◌++◌, true, false, List, length, map, Option, Result, OnOk, IsSomeAnd, is_some}
 use Rattle.gitbase_core.specs.Causes.{next as one_more}
 use Rattle.gitbase_core.specs.Path.{components}
 use Rattle.gitbase_core.specs.declared.find.Find.{Ghosts as FindOf}

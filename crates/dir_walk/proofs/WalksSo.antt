@@ -28,11 +28,11 @@ use Rattle.dir_walk.specs.Root.{Walk, rooted, traversal_root, walk_in}
 use Rattle.dir_walk.specs.Rooting.{EndsIn, IsNormalized, RootAbout}
 use Rattle.dir_walk.specs.WalkRefused.{IsNoTop, OnNoRoot, OnNoStart, Recursion, StartAbout, StartFound, StartRefuses}
 use Rattle.dir_walk.specs.Walks.{Ends, EntersInWalk, OpensDirectories, most_opened, ReadsAtMost, Tells, WalksWorktree}
+use Rattle.dir_walk.proofs.Refusals.{rose-or}
 use Rattle.dir_walk.proofs.CallByCall.{Before-asked, Ends-after, unlisted}
 use Rattle.dir_walk.proofs.Walkable.{valid-memory}
 use Rattle.dir_walk.proofs.Keeping.{AsksStore-same, KeepsRules-same}
 use Rattle.dir_walk.proofs.Overall.{opens-nothing}
-use Rattle.dir_walk.proofs.Refusals.{rose-or}
 use Rattle.dir_walk.proofs.Shallow.{shallow-outside}
 use Rattle.dir_walk.proofs.Unstarted.{no-start-weaker, on-no-start}
 

@@ -1,4 +1,4 @@
-use Rattle.std.proofs.Common.{◌≡◌, ◌∙◌, sym, subst, refl, inr, Some}
+use Rattle.std.proofs.Common.{◌≡◌, ◌∙◌, sym, subst, refl, inr, Some, arith}
 use Rattle.std.proofs.lemmas.Result.{err_from_is_err_and}
 use Rattle.gitbase_core.specs.Path.{components}
 use Rattle.worktree_stack.specs.Setup.{excluded_kind}
@@ -44,7 +44,7 @@ returns-in_err-look_up-clause-reads g c =
       looked_up = tt;
       on_way = looks.on_way c.requires.normal;
       leaves = leaves-refused _ _ _ _ c.args.rela_path.now c.args.stack.now c.look_up.new.stack c.in_err-look_up.field-0.0 (looks.stopped c.requires.normal);
-      reads = λ on alone. looks.reads alone;
+      reads = λ alone. omega (arith, looks.reads alone);
     }))
 
 pub returns-clause-unmapped : goal.returns-clause-unmapped

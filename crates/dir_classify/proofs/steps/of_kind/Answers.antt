@@ -89,7 +89,7 @@ returns g c = λ ask_disk.
           (λ d. read-case given made s path kind none not_found (first.read s tells step))
           (λ d no.
           let kept = first.untouched (none-asked given made s path kind none not_found no) in
-          record { same = kept.rules; store = kept.store; reads = read-then then.reads_most (ap g.W.Worktree.reads kept.worktree) });
+          record { same = kept.rules; store = kept.store; reads = read-then (most_sought o) then.reads_most (ap g.W.Worktree.reads kept.worktree) });
       unruled = λ s told quiet no.
           let off = none-asked given made s path kind none not_found no in
           then.class s (first.keeps.tree ∙ told) (quiet-second _ _ _ first.keeps.faults then.keeps.faults quiet) made
@@ -113,11 +113,11 @@ returns g c = λ ask_disk.
       early = tt;
       spared = λ s never.
           let kept = first.untouched (none-asked given made s path kind none not_found (never None)) in
-          record { same = kept.rules; store = kept.store; reads = read-then then.reads_most (ap g.W.Worktree.reads kept.worktree) };
+          record { same = kept.rules; store = kept.store; reads = read-then (most_sought o) then.reads_most (ap g.W.Worktree.reads kept.worktree) };
       memory = λ s never. tt;
       unasked = λ s told quiet no.
           let kept = first.untouched (none-asked given made s path kind none not_found no) in
-          record { same = kept.rules; store = kept.store; reads = read-then then.reads_most (ap g.W.Worktree.reads kept.worktree) };
+          record { same = kept.rules; store = kept.store; reads = read-then (most_sought o) then.reads_most (ap g.W.Worktree.reads kept.worktree) };
       unread = λ s told quiet no none_sought.
           let off = none-asked given made s path kind none not_found no in
           let idle = idle-unindexed-sought o (evidence given made s) path kind c.in_ok-ruling.ruling none
@@ -224,11 +224,11 @@ returns-in_err-class-2 g c = λ ask_disk.
       early = search rules;
       spared = λ s never.
           let kept = first.untouched (none-asked given made s path kind none not_found (never None)) in
-          record { same = kept.rules; store = kept.store; reads = read-then then.reads_most (ap g.W.Worktree.reads kept.worktree) };
+          record { same = kept.rules; store = kept.store; reads = read-then (most_sought o) then.reads_most (ap g.W.Worktree.reads kept.worktree) };
       memory = search rules;
       unasked = λ s told quiet no.
           let kept = first.untouched (none-asked given made s path kind none not_found no) in
-          record { same = kept.rules; store = kept.store; reads = read-then then.reads_most (ap g.W.Worktree.reads kept.worktree) };
+          record { same = kept.rules; store = kept.store; reads = read-then (most_sought o) then.reads_most (ap g.W.Worktree.reads kept.worktree) };
       unread = λ s told quiet no none_sought.
           let off = none-asked given made s path kind none not_found no in
           let idle = idle-unindexed-sought o (evidence given made s) path kind c.in_ok-ruling.ruling none
