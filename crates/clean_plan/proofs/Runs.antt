@@ -1,5 +1,5 @@
 -- The parts of the top call, put together.
-use Rattle.std.proofs.Common.{◌≡◌, ◌≤◌, ℕ, List, Bool, true, Option, Some, None, Result, Ok, Err, IfOk, IfErr, OnOk, IsErrOf, refl, ◌∙◌, subst}
+use Rattle.std.proofs.Common.{◌≡◌, ◌≤◌, ℕ, List, Bool, true, Option, Some, None, Result, Ok, Err, IfOk, IfErr, OnOk, IsErrOf, refl, ◌∙◌, subst, arith}
 use Rattle.worktree_fs.specs.declared.interrupt.Interrupt.{Ghosts as InterruptOf}
 use Rattle.worktree_fs.specs.declared.worktree.Worktree.{Ghosts as WorktreeOf}
 use Rattle.worktree_fs.specs.Causes.{Increased, Incremented, NotIncreased}
@@ -14,7 +14,7 @@ use Rattle.worktree_report.specs.Run.{SetupRefuses}
 use Rattle.worktree_report.specs.SetupAt.{setup_at}
 use Rattle.clean_plan.specs.declared.what.What.{What}
 use Rattle.clean_plan.specs.Words.{Request}
-use Rattle.worktree_report.proofs.Runs.{HasCauses-refused, HasCauses-unread, Keeps-made, Keeps-unread, Quiet-later}
+use Rattle.worktree_report.proofs.Runs.{HasCauses-refused, HasCauses-unread, Keeps-made, Keeps-unread, Quiet-later, lists-walked, opens-walked}
 use Rattle.clean_plan.specs.Prepared.{prepared}
 use Rattle.clean_plan.specs.Safe.{IsSpared}
 use Rattle.clean_plan.specs.Run as top
@@ -69,6 +69,8 @@ module _ {W I : Type 0} {w : WorktreeOf W} {i : InterruptOf I} {w0 w1 : W} {i0 :
         by_report = tt;
         outside_git = tt;
         works = λ t told quiet. tt;
+        opens = λ t told quiet. tt;
+        lists = λ t told setup read at_once. omega (arith, lists);
         causes = HasCauses-unread w i w0 w1 i0 i0 (top.made_by request.finding) request.places refusal of outside fault once lists refl;
         keeps = Keeps-unread refusal tree faults listed lists composes;
       }
@@ -90,6 +92,8 @@ module _ {W I : Type 0} {w : WorktreeOf W} {i : InterruptOf I} {w0 w1 w2 : W} {i
         by_report = by-report-made _ _ request setup answer read (subst (λ (told : Option Names). IfOk answer (top.IsTextByReport (w.precomposes w0) told request.places.root (top.made_by request.finding setup) request.what)) tree texts.by_report);
         outside_git = outside-git _ _ _ (top.made_by request.finding setup) _ answer texts.by_report;
         works = λ t told quiet. works-made _ t request setup answer _ _ _ _ _ (read t told) once (texts.works t (tree ∙ told) (Quiet-later _ _ _ faults quiet));
+        opens = λ t told quiet. opens-walked (top.made_by request.finding) _ t request.places setup answer _ _ _ (read t told) lists (texts.opens t (tree ∙ told) (Quiet-later _ _ _ faults quiet));
+        lists = λ t told. lists-walked t request.places setup _ _ _ (read t told) lists texts.lists;
         causes = HasCauses-refused w i w0 w1 w2 i0 i1 (top.made_by request.finding) request.places setup answer read tree faults once lists texts.refused;
         keeps = Keeps-made answer tree faults listed lists composes texts.worktree texts.interrupt texts.listed texts.calm;
       }

@@ -1,17 +1,20 @@
 -- The text of a plan, or the refusal of the program that stands for that of a plan.
-use Rattle.std.proofs.Common.{◌≡◌, ℕ, ◌≤◌, List, inl, inr, Result, Ok, Err, IsErrOf, Option, Some, ap, refl, sym, ◌∙◌, subst, arith}
+use Rattle.std.proofs.Common.{◌≡◌, ℕ, ◌≤◌, ◌+◌, List, inl, inr, Result, Ok, Err, IsErrOf, Option, Some, ap, refl, sym, ◌∙◌, subst, arith}
 use Rattle.gitbase_core.specs.declared.find.Find.{Ghosts as FindOf}
 use Rattle.worktree_fs.specs.declared.interrupt.Interrupt.{Ghosts as InterruptOf}
 use Rattle.worktree_fs.specs.declared.worktree.Worktree.{Ghosts as WorktreeOf}
 use Rattle.worktree_fs.specs.Causes.{NotIncreased}
 use Rattle.worktree_fs.specs.Tree.{Names}
+use Rattle.dir_walk.specs.declared.strategy.Strategy.{Strategy}
+use Rattle.dir_walk.specs.declared.strategy.Strategy.TheVariants.{AtOnce}
+use Rattle.dir_walk.specs.Opens.{IsListed}
 use Rattle.worktree_report.specs.declared.refusal.Refusal.{Refusal}
 use Rattle.worktree_report.specs.declared.refusal.Refusal.TheVariants as refusals
 use Rattle.worktree_report.specs.declared.setup.Setup.{Setup}
 use Rattle.worktree_report.specs.declared.error.ReportError.{ReportError}
 use Rattle.worktree_report.specs.declared.error.ReportError.TheVariants as reports
 use Rattle.worktree_report.specs.declared.report.Report.{Report}
-use Rattle.worktree_report.specs.Asked.{read_in, WorksAt}
+use Rattle.worktree_report.specs.Asked.{read_in, ListsAt, WorksAt}
 use Rattle.worktree_report.specs.Converted as converted
 use Rattle.worktree_report.specs.Lines.{text_with}
 use Rattle.worktree_report.specs.Reported.{MakesReport, RefusesText, Texts}
@@ -57,6 +60,28 @@ module _ {W F I : Type 0} {w : WorktreeOf W} {f : FindOf F} {i : InterruptOf I} 
       (texts.works t told (quiet_before _ _ _ ends.asks.faults quiet))
   works-by what (Err e) between w1 plan reported ends held t told quiet = absurd (let is = ends.0 in cc)
 
+  -- and lists what it lists
+  opens-by : (what : What) (made : Result Report ReportError) (between w1 : W) (plan : Plan) → MakesReport w f i w0 between o0 o1 i0 i1 root setup made
+      → EndsAs w between w1 root setup what made (Ok plan) → f.holds o0 ≡ Some setup.blobs → (t : Names) → w.told w0 ≡ Some t → NotIncreased (w.faults w0) (w.faults w1)
+      → ListsAt (w.precomposes w0) t root setup (w.lists w0) (w.lists w1)
+  opens-by what (Ok r) between w1 plan reported ends held t told quiet =
+      let texts : Texts w i (w.precomposes w0) w0 between i0 i1 root setup (Ok (text_with setup.options r)) = Texts-ok r (text_with setup.options r) reported held refl in
+      subst (λ (n : ℕ). ListsAt (w.precomposes w0) t root setup (w.lists w0) n) (sym ends.asks.lists) (texts.opens t told (quiet_before _ _ _ ends.asks.faults quiet))
+  opens-by what (Err e) between w1 plan reported ends held t told quiet = absurd (let is = ends.0 in cc)
+
+  -- one directory at most is counted as listed where subtrees are walked at once
+  lists-by : (what : What) (made : Result Report ReportError) (between w1 : W) (result : Result Plan CleanError) → MakesReport w f i w0 between o0 o1 i0 i1 root setup made
+      → EndsAs w between w1 root setup what made result → setup.options.strategy ≡ AtOnce → w.lists w1 ≤ w.lists w0 + 1
+  lists-by what (Ok r) between w1 result reported ends at_once =
+      let once : w.lists between ≤ w.lists w0 + 1 =
+      subst (λ (strategy : Strategy). IsListed strategy (w.lists w0) (w.lists between) reported.opens.opened) at_once reported.opens.listed in
+      let same = ends.asks.lists in
+      omega (arith, once, same)
+  lists-by what (Err e) between w1 result reported ends at_once =
+      let once : w.lists between ≤ w.lists w0 + 1 =
+      subst (λ (strategy : Strategy). IsListed strategy (w.lists w0) (w.lists between) reported.opens.opened) at_once reported.opens.listed in
+      subst (λ (x : W). w.lists x ≤ w.lists w0 + 1) (sym ends.1) once
+
 -- a refused report is refused alike, with a plan or without
 same_refusal : (e : ReportError) → top.of_clean (of_report e) ≡ converted.of_report e
 same_refusal (reports.Config at line) = refl
@@ -90,6 +115,8 @@ module _ {W F I : Type 0} {w : WorktreeOf W} {f : FindOf F} {i : InterruptOf I} 
         gives = λ t told quiet. record { plan = plan; plan_is = made.gives (read_in t setup) (told-blobs setup held told) quiet; text_is = lines };
         by_report = by-report what made.made made.between w1 plan text made.reported made.ends made.spares lines;
         works = λ t told quiet. works-by what made.made made.between w1 plan made.reported made.ends held t told quiet;
+        opens = λ t told quiet. opens-by what made.made made.between w1 plan made.reported made.ends held t told quiet;
+        lists = lists-by what made.made made.between w1 (Ok plan) made.reported made.ends;
         refused = tt;
         worktree = made.worktree;
         interrupt = made.interrupt;
@@ -99,11 +126,13 @@ module _ {W F I : Type 0} {w : WorktreeOf W} {f : FindOf F} {i : InterruptOf I} 
 
   -- no memory for the text, or for what the refusal says
   pub PlanTexts-memory : {result : Result Plan CleanError} → MakesPlan w f i w0 w1 o0 o1 i0 i1 root setup what result → top.PlanTexts w i (w.precomposes w0) w0 w1 i0 i1 root setup what (Err refusals.OutOfMemory)
-  PlanTexts-memory made =
+  PlanTexts-memory {result} made =
       record {
         gives = λ t told quiet. tt;
         by_report = tt;
         works = λ t told quiet. tt;
+        opens = λ t told quiet. tt;
+        lists = lists-by what made.made made.between w1 result made.reported made.ends;
         refused = inl refl;
         worktree = made.worktree;
         interrupt = made.interrupt;
@@ -119,6 +148,8 @@ module _ {W F I : Type 0} {w : WorktreeOf W} {f : FindOf F} {i : InterruptOf I} 
         gives = λ t told quiet. tt;
         by_report = tt;
         works = λ t told quiet. tt;
+        opens = λ t told quiet. tt;
+        lists = lists-by what made.made made.between w1 (Err e) made.reported made.ends;
         refused = refused-text what made.made made.between e refusal made.reported made.ends held kept same;
         worktree = made.worktree;
         interrupt = made.interrupt;

@@ -1,22 +1,23 @@
 -- What the top call gives, and why it gives nothing.
-use Rattle.std.specs.Prelude.{◌≡◌, ◌++◌, ◌∷◌, [], ℕ, List, Bool, true, false, codes, Option, Some, None, Ok, Result, IfOk, IfErr, OnOk}
+use Rattle.std.specs.Prelude.{◌≡◌, ◌≤◌, ◌+◌, ◌++◌, ◌∷◌, [], ℕ, List, Bool, true, false, codes, Option, Some, None, Ok, Result, IfOk, IfErr, OnOk}
 use Rattle.std.specs.List.{flat_map}
 use Rattle.gitbase_core.specs.Path.{is_top}
 use Rattle.worktree_fs.specs.declared.interrupt.Interrupt.{Ghosts as InterruptOf}
 use Rattle.worktree_fs.specs.declared.worktree.Worktree.{Ghosts as WorktreeOf}
 use Rattle.worktree_fs.specs.Causes.{NotIncreased, next}
 use Rattle.worktree_fs.specs.Tree.{Names, look}
+use Rattle.dir_walk.specs.declared.strategy.Strategy.TheVariants.{AtOnce}
 use Rattle.dir_walk.specs.Kept.{AsksInterrupt, KeepsTree}
 use Rattle.worktree_report.specs.declared.refusal.Refusal.{Refusal}
 use Rattle.worktree_report.specs.declared.refusal.Refusal.TheVariants as refusals
 use Rattle.worktree_report.specs.declared.report.Report.{Report}
 use Rattle.worktree_report.specs.declared.setup.Setup.{Setup}
-use Rattle.worktree_report.specs.Asked.{read_in, WorksAt}
+use Rattle.worktree_report.specs.Asked.{read_in, ListsAt, WorksAt}
 use Rattle.worktree_report.specs.Converted as converted
 use Rattle.worktree_report.specs.Escapes.{escaped}
 use Rattle.worktree_report.specs.Orderly.{IsOrderly}
 use Rattle.worktree_report.specs.Reported.{RefusesText}
-use Rattle.worktree_report.specs.Run.{AnswersIf, HasCauses, IsReadyAt, Keeps}
+use Rattle.worktree_report.specs.Run.{AnswersIf, HasCauses, IsReadyAt, Keeps, ListsOnce, ListsReport}
 use Rattle.worktree_report.specs.SetupAt.{setup_at}
 use Rattle.clean_plan.specs.declared.error.CleanError.{CleanError}
 use Rattle.clean_plan.specs.declared.error.CleanError.TheVariants as errors
@@ -123,6 +124,9 @@ pub record PlanTexts {W I : Type 0} (w : WorktreeOf W) (i : InterruptOf I) (comp
   -- the interrupt and the worktree's files are asked for the report alone
   pub works : (t : Names) → w.told w0 ≡ Some t → NotIncreased (w.faults w0) (w.faults w1)
       → OnOk answer (WorksAt composes t root setup (i.questions i0) (i.questions i1) (w.reads w0) (w.reads w1))
+  -- and so are its directories
+  pub opens : (t : Names) → w.told w0 ≡ Some t → NotIncreased (w.faults w0) (w.faults w1) → OnOk answer (ListsAt composes t root setup (w.lists w0) (w.lists w1))
+  pub lists : setup.options.strategy ≡ AtOnce → w.lists w1 ≤ w.lists w0 + 1
   pub refused : IfErr answer (RefusesText w i composes w0 w1 i0 i1 root setup)
   pub worktree : KeepsTree w w0 w1
   pub interrupt : AsksInterrupt i i0 i1
@@ -141,6 +145,10 @@ pub record AnswersClean {W I : Type 0} (w : WorktreeOf W) (i : InterruptOf I) (w
   pub outside_git : IfOk answer IsTextOutsideGit
   pub works : (t : Names) → w.told w0 ≡ Some t → NotIncreased (w.faults w0) (w.faults w1)
       → OnOk answer (PlanWorks (w.precomposes w0) t (i.questions i0) (i.questions i1) (w.reads w0) (w.reads w1) request)
+  -- Directories are listed for the report alone; where subtrees are walked at once, one is counted at most, whatever is answered.
+  pub opens : (t : Names) → w.told w0 ≡ Some t → NotIncreased (w.faults w0) (w.faults w1)
+      → OnOk answer (ListsReport (made_by request.finding) (w.precomposes w0) t request.places (w.lists w0) (w.lists w1))
+  pub lists : (t : Names) → w.told w0 ≡ Some t → ListsOnce t request.places (w.lists w0) (w.lists w1)
   pub causes : HasCauses w i w0 w1 i0 i1 (made_by request.finding) request.places answer
   pub keeps : Keeps w i w0 w1 i0 i1 answer
 

@@ -6,14 +6,15 @@ use Rattle.std.specs.List.{Contains}
 use Rattle.std.proofs.lemmas.List.{append-nil}
 use Rattle.std.proofs.lemmas.List.Elements.{Contains-append_right}
 use Rattle.gitbase_core.specs.declared.entry.IndexEntry.{IndexEntry}
+use Rattle.worktree_fs.specs.Causes.{with_more}
 use Rattle.worktree_fs.specs.Kept.{Asks}
 use Rattle.worktree_fs.specs.Tree.{Names}
 use Rattle.worktree_fs.specs.declared.worktree.Worktree.{Ghosts as WorktreeOf}
 use Rattle.index_status.specs.declared.error.StatesError.{StatesError}
 use Rattle.index_status.specs.declared.error.StatesError.TheVariants as errors
 use Rattle.index_status.specs.declared.path_state.PathState.{PathState}
-use Rattle.index_status.specs.Rows.{ArePaired, ArePossible, IsMore, IsWithEntry, Refuses, Row, firsts, firsts_after, is_last, is_path, last_path, path_of, row}
-use Rattle.index_status.specs.States.{files_in, files_of, IsAskedBy, IsPossible, IsState}
+use Rattle.index_status.specs.Rows.{ArePaired, ArePossible, IsMore, IsWithEntry, ReadsFor, Refuses, Row, files_behind, firsts, firsts_after, is_last, is_path, last_path, path_of, row}
+use Rattle.index_status.specs.States.{files_for, files_in, files_of, IsAskedBy, IsPossible, IsState}
 use Rattle.index_status.specs.Ways.{StopsLook}
 
 paired-snoc : (Has : IndexEntry → PathState → Type 0) (entries : List IndexEntry) (made : List Row) (e : IndexEntry) (s : PathState) → ArePaired Has entries made → Has e s
@@ -41,6 +42,18 @@ pub record IsAlong {W : Type 0} (w : WorktreeOf W) (w0 w1 : W) (root : List ℕ)
   pub whole : entries ≡ before ++ left
   pub paired : ArePaired (IsState (w.told w0) root) done made
   pub reads : w.reads w1 + files_in left ≤ w.reads w0 + files_in entries
+  pub read : with_more (w.reads w0) (files_behind made) ≤ w.reads w1
+
+-- a row more
+behind-snoc : (made : List Row) (path : List ℕ) (s : PathState) → files_behind (made ++ (path, s) ∷ []) ≡ files_behind made + files_for s
+behind-snoc [] path s = omega arith
+behind-snoc (r ∷ made) path s = let more = behind-snoc made path s in omega (arith, more)
+
+-- a row is read for as its state is
+pub reads-row : (before now : ℕ) (made more : List Row) (path : List ℕ) (s : PathState) → with_more before (files_for s) ≤ now → IsMore made path s more → ReadsFor before now made more
+reads-row before now made more path s read grown = λ start enough.
+    let count = ap files_behind grown ∙ behind-snoc made path s in
+    omega (arith, count, read, enough)
 
 firsts-again : (before : Option (List ℕ)) (e : IndexEntry) (left : List IndexEntry) → is_path before e.path ≡ true → firsts_after before (e ∷ left) ≡ firsts_after before left
 firsts-again before e left again = ap (λ (b : Bool). if b then firsts_after before left else e ∷ firsts_after (Some e.path) left) again
@@ -75,11 +88,12 @@ module _ {W : Type 0} (w : WorktreeOf W) (w0 w1 w2 : W) (root : List ℕ) (entri
         whole = further;
         paired = at.paired;
         reads = fewer;
+        read = let before = at.read in let later = keeps.reads in omega (arith, before, later);
       }
 
   along-new : (s : PathState) (more : List Row) → is_last made e.path ≡ false → Asks w w1 w2 → IsState (w.told w1) root e s → IsMore made e.path s more
-      → IsAlong w w0 w2 root entries rest more
-  along-new s more new keeps is grown =
+      → ReadsFor (w.reads w1) (w.reads w2) made more → IsAlong w w0 w2 root entries rest more
+  along-new s more new keeps is grown read =
       let first = at.keeps in
       subst (λ (l : List Row). IsAlong w w0 w2 root entries rest l) (sym grown)
       (record {
@@ -97,15 +111,17 @@ module _ {W : Type 0} (w : WorktreeOf W) (w0 w1 w2 : W) (root : List ℕ) (entri
             paired-snoc (IsState (w.told w0) root) at.done made e s at.paired
             (subst (λ (told : Option Names). IsState told root e s) at.keeps.tree is);
         reads = fewer;
+        read = subst (λ (l : List Row). with_more (w.reads w0) (files_behind l) ≤ w.reads w2) grown (read (w.reads w0) at.read);
       })
 
-  pub along-entry : (more : List Row) → Asks w w1 w2 → IsWithEntry (w.told w1) root e made more → IsAlong w w0 w2 root entries rest more
-  along-entry more keeps with = by (is_last made e.path) refl with
+  pub along-entry : (more : List Row) → Asks w w1 w2 → IsWithEntry (w.told w1) root e made more → ReadsFor (w.reads w1) (w.reads w2) made more
+      → IsAlong w w0 w2 root entries rest more
+  along-entry more keeps with read = by (is_last made e.path) refl with
     where
       by : (b : Bool) → is_last made e.path ≡ b → MatchBool b (more ≡ made) ((s : PathState) × IsState (w.told w1) root e s × IsMore made e.path s more)
           → IsAlong w w0 w2 root entries rest more
       by true again same = subst (λ (l : List Row). IsAlong w w0 w2 root entries rest l) (sym same) (along-again again keeps)
-      by false new grown = along-new grown.0 more new keeps grown.1 grown.2
+      by false new grown = along-new grown.0 more new keeps grown.1 grown.2 read
 
   contained : (before : List IndexEntry) → Contains (before ++ e ∷ rest) e
   contained before = Contains-append_right before (e ∷ rest) e (0, omega arith, refl)
@@ -164,6 +180,7 @@ along-start w w0 root entries left made whole none =
       whole = sym whole;
       paired = refl;
       reads = omega (arith, ap files_in whole);
+      read = omega arith;
     })
 
 -- the first of what is left of a list

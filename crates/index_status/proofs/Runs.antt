@@ -1,8 +1,8 @@
 -- The parts of the top call, put together.
-use Rattle.std.proofs.Common.{◌≡◌, ◌≤◌, ℕ, List, Bool, true, Option, Some, None, Result, Ok, Err, IfOk, IfErr, OnOk, IsErrOf, refl, ◌∙◌, subst, option_and_then}
+use Rattle.std.proofs.Common.{◌≡◌, ◌≤◌, ℕ, List, Bool, true, Option, Some, None, Result, Ok, Err, IfOk, IfErr, OnOk, IsErrOf, refl, ◌∙◌, subst, option_and_then, arith}
 use Rattle.worktree_fs.specs.declared.interrupt.Interrupt.{Ghosts as InterruptOf}
 use Rattle.worktree_fs.specs.declared.worktree.Worktree.{Ghosts as WorktreeOf}
-use Rattle.worktree_fs.specs.Causes.{Increased, Incremented, NotIncreased}
+use Rattle.worktree_fs.specs.Causes.{Increased, Incremented, NotIncreased, next, with_more}
 use Rattle.worktree_fs.specs.Tree.{Names, look}
 use Rattle.worktree_report.specs.declared.refusal.Refusal.{Refusal}
 use Rattle.worktree_report.specs.declared.refusal.Refusal.TheVariants as refusals
@@ -12,7 +12,7 @@ use Rattle.worktree_report.specs.Converted.{IsOfReading}
 use Rattle.worktree_report.specs.Run.{as_read, IsSafeReport, SetupRefuses}
 use Rattle.worktree_report.specs.SetupAt.{setup_at}
 use Rattle.worktree_report.specs.Words.{Places}
-use Rattle.worktree_report.proofs.Runs.{HasCauses-refused, HasCauses-unread, Keeps-made, Keeps-unread, Quiet-later}
+use Rattle.worktree_report.proofs.Runs.{HasCauses-refused, HasCauses-unread, Keeps-made, Keeps-unread, Quiet-later, lists-walked, opens-walked}
 use Rattle.index_status.specs.Run as top
 
 -- ---- the text at some places
@@ -40,12 +40,19 @@ works-made composes t places setup (Ok text) questions0 questions1 reads0 reads 
     record { setup = setup; read = read; works = subst (λ (n : ℕ). top.StatusWorks composes t places.root setup questions0 questions1 n reads1) once works }
 works-made composes t places setup (Err refusal) questions0 questions1 reads0 reads reads1 read once works = tt
 
-orderly-made : (composes : Bool) (told told_now : Option Names) (places : Places) (setup : Setup) (answer : Result (List ℕ) Refusal)
-    → ((t : Names) → told ≡ Some t → setup_at (look t places.setup true) ≡ Ok setup) → told_now ≡ told
-    → IfOk answer (top.IsOrderlyStatus composes told_now places.root setup) → IfOk answer (top.IsOrderlyAnswer composes told places)
-orderly-made composes told told_now places setup (Ok text) read same is =
-    record { setup = setup; read = read; orderly = subst (λ (x : Option Names). top.IsOrderlyStatus composes x places.root setup text) same is }
-orderly-made composes told told_now places setup (Err refusal) read same is = tt
+orderly-made : (composes : Bool) (told told_now : Option Names) (places : Places) (setup : Setup) (answer : Result (List ℕ) Refusal) (reads0 reads reads1 : ℕ)
+    → ((t : Names) → told ≡ Some t → setup_at (look t places.setup true) ≡ Ok setup) → told_now ≡ told → Incremented reads0 reads
+    → IfOk answer (top.IsOrderlyStatus composes told_now places.root setup (λ files. with_more reads files ≤ reads1))
+    → IfOk answer (top.IsOrderlyAnswer composes told places (λ files. with_more (next reads0) files ≤ reads1))
+orderly-made composes told told_now places setup (Ok text) reads0 reads reads1 read same once is =
+    record {
+      setup = setup;
+      read = read;
+      orderly =
+          subst (λ (n : ℕ). top.IsOrderlyStatus composes told places.root setup (λ files. with_more n files ≤ reads1) text) once
+          (subst (λ (x : Option Names). top.IsOrderlyStatus composes x places.root setup (λ files. with_more reads files ≤ reads1) text) same is);
+    }
+orderly-made composes told told_now places setup (Err refusal) reads0 reads reads1 read same once is = tt
 
 module _ {W I : Type 0} {w : WorktreeOf W} {i : InterruptOf I} {w0 w1 : W} {i0 : I} {places : Places} where
   -- the setup is not read
@@ -60,6 +67,8 @@ module _ {W I : Type 0} {w : WorktreeOf W} {i : InterruptOf I} {w0 w1 : W} {i0 :
         orderly = tt;
         safe = λ t told quiet. tt;
         works = λ t told quiet. tt;
+        opens = λ t told quiet. tt;
+        lists = λ t told setup read at_once. omega (arith, lists);
         causes = HasCauses-unread w i w0 w1 i0 i0 as_read places refusal of outside fault once lists refl;
         keeps = Keeps-unread refusal tree faults listed lists composes;
       }
@@ -74,9 +83,11 @@ module _ {W I : Type 0} {w : WorktreeOf W} {i : InterruptOf I} {w0 w1 w2 : W} {i
       let texts : top.StatusTexts w i (w.precomposes w0) w1 w2 i0 i1 places.root setup answer = subst (λ b. top.StatusTexts w i b w1 w2 i0 i1 places.root setup answer) composes told_of in
       record {
         gives = λ t told quiet. output-made _ t places setup answer (read t told) (texts.gives t (tree ∙ told) (Quiet-later _ _ _ faults quiet));
-        orderly = orderly-made _ (w.told w0) (w.told w1) places setup answer read tree texts.orderly;
+        orderly = orderly-made _ (w.told w0) (w.told w1) places setup answer (w.reads w0) (w.reads w1) (w.reads w2) read tree once texts.orderly;
         safe = λ t told quiet. safe-made _ t places setup answer (read t told) (texts.safe t (tree ∙ told) (Quiet-later _ _ _ faults quiet));
         works = λ t told quiet. works-made _ t places setup answer _ _ _ _ _ (read t told) once (texts.works t (tree ∙ told) (Quiet-later _ _ _ faults quiet));
+        opens = λ t told quiet. opens-walked as_read _ t places setup answer _ _ _ (read t told) lists (texts.opens t (tree ∙ told) (Quiet-later _ _ _ faults quiet));
+        lists = λ t told. lists-walked t places setup _ _ _ (read t told) lists texts.lists;
         causes = HasCauses-refused w i w0 w1 w2 i0 i1 as_read places setup answer read tree faults once lists texts.refused;
         keeps = Keeps-made answer tree faults listed lists composes texts.worktree texts.interrupt texts.listed texts.calm;
       }

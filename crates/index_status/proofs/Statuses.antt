@@ -8,13 +8,15 @@ use Rattle.worktree_fs.specs.Causes.{NotIncreased, Increased}
 use Rattle.worktree_fs.specs.Kept.{Asks}
 use Rattle.worktree_fs.specs.Tree.{Names}
 use Rattle.worktree_stack.specs.Reading.{Sources}
+use Rattle.dir_walk.specs.declared.strategy.Strategy.{Strategy}
+use Rattle.dir_walk.specs.Opens.{IsListed}
 use Rattle.worktree_report.specs.declared.error.ReportError.{ReportError}
 use Rattle.worktree_report.specs.declared.error.ReportError.TheVariants as reports
 use Rattle.worktree_report.specs.declared.refusal.Refusal.{Refusal}
 use Rattle.worktree_report.specs.declared.refusal.Refusal.TheVariants as refusals
 use Rattle.worktree_report.specs.declared.report.Report.{Report}
 use Rattle.worktree_report.specs.declared.setup.Setup.{Setup}
-use Rattle.worktree_report.specs.Asked.{read_in, text_of, IsReportOf}
+use Rattle.worktree_report.specs.Asked.{read_in, text_of, IsReportOf, ListsAt}
 use Rattle.worktree_report.specs.Lines.{text_with}
 use Rattle.worktree_report.specs.Reported.{MakesReport, RefusesText, Texts}
 use Rattle.worktree_report.proofs.Answered.{told-blobs, Texts-ok, Texts-refused}
@@ -58,6 +60,7 @@ Compares-refused {w = w} {w0} {w1} {root} {entries} e of asks few =
       ascends = tt;
       beside = tt;
       reads = few;
+      read = tt;
       refused = refused-states (w.told w0) root entries (Increased (w.faults w0) (w.faults w1)) e of;
       keeps = asks;
     }
@@ -95,6 +98,7 @@ module _ {W F I : Type 0} {w : WorktreeOf W} {f : FindOf F} {i : InterruptOf I} 
         at = λ path is. absurd (no_fault e path (which is));
         complete = λ s told quiet stored calm valid. ap of_report (made.complete s told quiet stored calm valid);
         worktree = made.worktree;
+        lists = λ at_once. subst (λ (strategy : Strategy). IsListed strategy (w.lists w0) (w.lists w1) made.opens.opened) at_once made.opens.listed;
         store = made.store;
         interrupt = made.interrupt;
         listed = tt;
@@ -116,6 +120,7 @@ beside-is w f i w0 w1 w2 o0 o1 i0 i1 root setup r (Ok status) made compares =
       made = subst (λ (x : Report). MakesReport w f i w0 w1 o0 o1 i0 i1 root setup (Ok x)) (sym compares.beside) made;
       asks = compares.keeps;
       reads = compares.reads;
+      read = compares.read;
       paths = λ t told. compares.gives t (made.worktree.tree ∙ told);
     }
 beside-is w f i w0 w1 w2 o0 o1 i0 i1 root setup r (Err e) made compares = tt
@@ -153,6 +158,11 @@ module _ {W F I : Type 0} {w : WorktreeOf W} {f : FindOf F} {i : InterruptOf I} 
               lists = omega (arith, made.worktree.lists, compares.keeps.lists);
               precomposes = compares.keeps.precomposes ∙ made.worktree.precomposes;
             };
+        lists = λ at_once.
+            let once : w.lists w1 ≤ w.lists w0 + 1 =
+            subst (λ (strategy : Strategy). IsListed strategy (w.lists w0) (w.lists w1) made.opens.opened) at_once made.opens.listed in
+            let same = compares.keeps.lists in
+            omega (arith, once, same);
         store = made.store;
         interrupt = made.interrupt;
         listed = always result (compares.keeps.list_faults ∙ made.listed);
@@ -185,6 +195,7 @@ module _ {W F I : Type 0} {w : WorktreeOf W} {f : FindOf F} {i : InterruptOf I} 
               exact = beside.paths;
               possible = made.possible;
               ascends = made.ascends;
+              read = let read = beside.read in let first = beside.made.worktree.reads in omega (arith, read, first);
               orderly = record { made = status.report; orderly = beside.made.orderly; text_is = refl };
             };
         safe = λ t told quiet. let is = made.gives (read_in t setup) (told-blobs setup held told) quiet in record { made = status.report; is = is.report };
@@ -192,6 +203,11 @@ module _ {W F I : Type 0} {w : WorktreeOf W} {f : FindOf F} {i : InterruptOf I} 
             let beside = made.beside in
             let texts : Texts w i (w.precomposes w0) w0 beside.between i0 i1 root setup (Ok (text_with setup.options status.report)) = Texts-ok status.report (text_with setup.options status.report) beside.made held refl in
             record { between = w.reads beside.between; report = texts.works t told (quiet_before _ _ _ beside.asks.faults quiet); states = beside.reads };
+        opens = λ t told quiet.
+            let beside = made.beside in
+            let texts : Texts w i (w.precomposes w0) w0 beside.between i0 i1 root setup (Ok (text_with setup.options status.report)) = Texts-ok status.report (text_with setup.options status.report) beside.made held refl in
+            subst (λ (n : ℕ). ListsAt (w.precomposes w0) t root setup (w.lists w0) n) (sym beside.asks.lists) (texts.opens t told (quiet_before _ _ _ beside.asks.faults quiet));
+        lists = made.lists;
         refused = tt;
         worktree = made.worktree;
         interrupt = made.interrupt;
@@ -207,6 +223,8 @@ module _ {W F I : Type 0} {w : WorktreeOf W} {f : FindOf F} {i : InterruptOf I} 
         orderly = tt;
         safe = λ t told quiet. tt;
         works = λ t told quiet. tt;
+        opens = λ t told quiet. tt;
+        lists = made.lists;
         refused = inl refl;
         worktree = made.worktree;
         interrupt = made.interrupt;
@@ -231,6 +249,8 @@ module _ {W F I : Type 0} {w : WorktreeOf W} {f : FindOf F} {i : InterruptOf I} 
         orderly = tt;
         safe = λ t told quiet. tt;
         works = λ t told quiet. tt;
+        opens = λ t told quiet. tt;
+        lists = made.lists;
         refused = refused-text e refusal made held kept same;
         worktree = made.worktree;
         interrupt = made.interrupt;

@@ -1,16 +1,17 @@
 -- The states of all paths of an index.
-use Rattle.std.specs.Prelude.{◌≡◌, ℕ, List, [], ◌∷◌, ◌++◌, Bool, false, bytes_eq, map, Option, Some, None, if◌then◌else◌}
+use Rattle.std.specs.Prelude.{◌≡◌, ◌≤◌, ◌+◌, ℕ, List, [], ◌∷◌, ◌++◌, Bool, false, bytes_eq, map, Option, Some, None, if◌then◌else◌}
 use Rattle.std.specs.Bool.{MatchBool}
 use Rattle.std.specs.Cmp.Lexicographic.{slice_cmp}
 use Rattle.std.specs.List.{Contains}
 use Rattle.std.specs.List.Sorted.{IsStrictlySortedBy}
 use Rattle.std.specs.Ordering.{nat_cmp}
 use Rattle.gitbase_core.specs.declared.entry.IndexEntry.{IndexEntry}
+use Rattle.worktree_fs.specs.Causes.{with_more}
 use Rattle.worktree_fs.specs.Tree.{Names}
 use Rattle.index_status.specs.declared.error.StatesError.{StatesError}
 use Rattle.index_status.specs.declared.error.StatesError.TheVariants as errors
 use Rattle.index_status.specs.declared.path_state.PathState.{PathState}
-use Rattle.index_status.specs.States.{IsAskedBy, IsPossible, IsState, state}
+use Rattle.index_status.specs.States.{IsAskedBy, IsPossible, IsState, files_for, state}
 
 -- a path and its state
 abbrev pub Row : Type 0
@@ -65,6 +66,15 @@ ArePaired Has (e ∷ entries) (row ∷ made) = (row.0 ≡ e.path) × Has e row.1
 -- each path of the index once, in its order, with a state that it may have
 abbrev pub ArePossible : List IndexEntry → List Row → Type 0
 ArePossible entries made = ArePaired IsPossible (firsts entries) made
+
+-- how many files were read for some rows, at least: one for each file that is the same or modified
+abbrev pub files_behind : List Row → ℕ
+files_behind [] = 0
+files_behind (row ∷ made) = files_for row.1 + files_behind made
+
+-- where a worktree was read for each file of some rows, counted from some number on, it was for each file of more rows
+abbrev pub ReadsFor : ℕ → ℕ → List Row → List Row → Type 0
+ReadsFor before now made more = (start : ℕ) → with_more start (files_behind made) ≤ before → with_more start (files_behind more) ≤ now
 
 -- the paths ascend strictly, byte by byte
 abbrev pub Ascends : List Row → Type 0

@@ -3,24 +3,25 @@ use Rattle.std.specs.Prelude.{◌≡◌, ◌≤◌, ◌+◌, ◌++◌, ℕ, List
 use Rattle.std.specs.Result.{result_ok}
 use Rattle.worktree_fs.specs.declared.interrupt.Interrupt.{Ghosts as InterruptOf}
 use Rattle.worktree_fs.specs.declared.worktree.Worktree.{Ghosts as WorktreeOf}
-use Rattle.worktree_fs.specs.Causes.{NotIncreased, next}
+use Rattle.worktree_fs.specs.Causes.{NotIncreased, next, with_more}
 use Rattle.worktree_fs.specs.Tree.{Names, look}
+use Rattle.dir_walk.specs.declared.strategy.Strategy.TheVariants.{AtOnce}
 use Rattle.dir_walk.specs.Kept.{AsksInterrupt, KeepsTree}
 use Rattle.worktree_report.specs.declared.refusal.Refusal.{Refusal}
 use Rattle.worktree_report.specs.declared.refusal.Refusal.TheVariants as refusals
 use Rattle.worktree_report.specs.declared.setup.Setup.{Setup}
-use Rattle.worktree_report.specs.Asked.{IsSafeAt, text_of, WorksAt}
+use Rattle.worktree_report.specs.Asked.{IsSafeAt, text_of, ListsAt, WorksAt}
 use Rattle.worktree_report.specs.Converted as converted
 use Rattle.worktree_report.specs.Orderly.{IsOrderlyText}
 use Rattle.worktree_report.specs.Reported.{RefusesText}
-use Rattle.worktree_report.specs.Run.{as_read, AnswersIf, HasCauses, IsReadyAt, IsSafeReport, Keeps}
+use Rattle.worktree_report.specs.Run.{as_read, AnswersIf, HasCauses, IsReadyAt, IsSafeReport, Keeps, ListsOnce, ListsReport}
 use Rattle.worktree_report.specs.SetupAt.{setup_at}
 use Rattle.worktree_report.specs.Steps.{◌>>=◌}
 use Rattle.worktree_report.specs.Words.{Places, places_behind}
 use Rattle.index_status.specs.declared.error.StatusError.{StatusError}
 use Rattle.index_status.specs.declared.error.StatusError.TheVariants as errors
 use Rattle.index_status.specs.Lines.{states_text}
-use Rattle.index_status.specs.Rows.{ArePossible, Ascends, Row, rows}
+use Rattle.index_status.specs.Rows.{ArePossible, Ascends, Row, files_behind, rows}
 use Rattle.index_status.specs.States.{files_in}
 
 -- the line for words that ask for nothing
@@ -51,21 +52,23 @@ abbrev pub output_of : Bool → Names → List (List ℕ) → Option (List ℕ)
 output_of composes t words = option_and_then (output_at composes t) (asked composes words)
 
 -- It is in order, whatever the worktree tells: each path of the index stands once, in ascending order, with a state that it may have,
--- and behind them the text of a report that is in order. Over a told tree the states are exact, whatever failed.
-pub record IsOrderlyStatus (composes : Bool) (told : Option Names) (root : List ℕ) (setup : Setup) (text : List ℕ) : Type 0 where
+-- and behind them the text of a report that is in order. Over a told tree the states are exact, whatever failed. `Reads` says of a number of
+-- files that so many were read at least: each that is the same or modified was.
+pub record IsOrderlyStatus (composes : Bool) (told : Option Names) (root : List ℕ) (setup : Setup) (Reads : ℕ → Type 0) (text : List ℕ) : Type 0 where
   pub states : List Row
   pub report : List ℕ
   pub text_is : text ≡ states_text states ++ report
   pub exact : (t : Names) → told ≡ Some t → states ≡ rows t root setup.index
   pub possible : ArePossible setup.index states
   pub ascends : Ascends states
+  pub read : Reads (files_behind states)
   pub orderly : IsOrderlyText composes told root setup report
 
 -- The same at some places. Where the tree is told the setup is the one that was read in it.
-pub record IsOrderlyAnswer (composes : Bool) (told : Option Names) (places : Places) (text : List ℕ) : Type 0 where
+pub record IsOrderlyAnswer (composes : Bool) (told : Option Names) (places : Places) (Reads : ℕ → Type 0) (text : List ℕ) : Type 0 where
   pub setup : Setup
   pub read : (t : Names) → told ≡ Some t → setup_at (look t places.setup true) ≡ Ok setup
-  pub orderly : IsOrderlyStatus composes told places.root setup text
+  pub orderly : IsOrderlyStatus composes told places.root setup Reads text
 
 -- what making it takes: the report is made, and then each file that is compared is read once at most
 pub record StatusWorks (composes : Bool) (t : Names) (root : List ℕ) (setup : Setup) (questions0 questions1 reads0 reads1 : ℕ) : Type 0 where
@@ -91,10 +94,13 @@ of_status errors.OutOfMemory = refusals.OutOfMemory
 -- is `i1`. `composes` says whether the worktree composes names.
 pub record StatusTexts {W I : Type 0} (w : WorktreeOf W) (i : InterruptOf I) (composes : Bool) (w0 w1 : W) (i0 i1 : I) (root : List ℕ) (setup : Setup) (answer : Result (List ℕ) Refusal) : Type 0 where
   pub gives : (t : Names) → w.told w0 ≡ Some t → NotIncreased (w.faults w0) (w.faults w1) → IfOk answer (λ text. text_in composes t root setup ≡ Some text)
-  pub orderly : IfOk answer (IsOrderlyStatus composes (w.told w0) root setup)
+  pub orderly : IfOk answer (IsOrderlyStatus composes (w.told w0) root setup (λ files. with_more (w.reads w0) files ≤ w.reads w1))
   pub safe : (t : Names) → w.told w0 ≡ Some t → NotIncreased (w.faults w0) (w.faults w1) → OnOk answer (IsSafeAt composes t root setup)
   pub works : (t : Names) → w.told w0 ≡ Some t → NotIncreased (w.faults w0) (w.faults w1)
       → OnOk answer (StatusWorks composes t root setup (i.questions i0) (i.questions i1) (w.reads w0) (w.reads w1))
+  -- directories are listed for the report alone
+  pub opens : (t : Names) → w.told w0 ≡ Some t → NotIncreased (w.faults w0) (w.faults w1) → OnOk answer (ListsAt composes t root setup (w.lists w0) (w.lists w1))
+  pub lists : setup.options.strategy ≡ AtOnce → w.lists w1 ≤ w.lists w0 + 1
   pub refused : IfErr answer (RefusesText w i composes w0 w1 i0 i1 root setup)
   pub worktree : KeepsTree w w0 w1
   pub interrupt : AsksInterrupt i i0 i1
@@ -107,11 +113,16 @@ pub record StatusTexts {W I : Type 0} (w : WorktreeOf W) (i : InterruptOf I) (co
 pub record AnswersStatus {W I : Type 0} (w : WorktreeOf W) (i : InterruptOf I) (w0 w1 : W) (i0 i1 : I) (places : Places) (answer : Result (List ℕ) Refusal) : Type 0 where
   -- Over a told tree and with no fault counted it is exactly the one that the setup asks for, and the report is safe to act on.
   pub gives : (t : Names) → w.told w0 ≡ Some t → NotIncreased (w.faults w0) (w.faults w1) → IfOk answer (λ text. output_at (w.precomposes w0) t places ≡ Some text)
-  -- Over any worktree it is in order, and over a told tree the lines of the states are exact, whatever failed.
-  pub orderly : IfOk answer (IsOrderlyAnswer (w.precomposes w0) (w.told w0) places)
+  -- Over any worktree it is in order, and over a told tree the lines of the states are exact, whatever failed. The setup was read, and
+  -- each file that is the same or modified.
+  pub orderly : IfOk answer (IsOrderlyAnswer (w.precomposes w0) (w.told w0) places (λ files. with_more (next (w.reads w0)) files ≤ w.reads w1))
   pub safe : (t : Names) → w.told w0 ≡ Some t → NotIncreased (w.faults w0) (w.faults w1) → OnOk answer (IsSafeReport (w.precomposes w0) t places)
   pub works : (t : Names) → w.told w0 ≡ Some t → NotIncreased (w.faults w0) (w.faults w1)
       → OnOk answer (StatusWorksAt (w.precomposes w0) t (i.questions i0) (i.questions i1) (w.reads w0) (w.reads w1) places)
+  -- Directories are listed for the report alone; where subtrees are walked at once, one is counted at most, whatever is answered.
+  pub opens : (t : Names) → w.told w0 ≡ Some t → NotIncreased (w.faults w0) (w.faults w1)
+      → OnOk answer (ListsReport as_read (w.precomposes w0) t places (w.lists w0) (w.lists w1))
+  pub lists : (t : Names) → w.told w0 ≡ Some t → ListsOnce t places (w.lists w0) (w.lists w1)
   pub causes : HasCauses w i w0 w1 i0 i1 as_read places answer
   pub keeps : Keeps w i w0 w1 i0 i1 answer
 

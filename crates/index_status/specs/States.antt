@@ -94,6 +94,16 @@ abbrev pub files_in : List IndexEntry → ℕ
 files_in [] = 0
 files_in (e ∷ entries) = files_of e + files_in entries
 
+-- for a state that is known, at least: that a file is the same or not is by its bytes
+abbrev pub files_for : PathState → ℕ
+files_for states.Same = 1
+files_for states.Modified = 1
+files_for states.Deleted = 0
+files_for states.TypeChanged = 0
+files_for states.Conflicted = 0
+files_for states.Skipped = 0
+files_for states.Unchecked = 0
+
 -- ---- over any worktree
 
 -- the state of what is not read

@@ -4,11 +4,12 @@ use Rattle.gitbase_core.specs.declared.entry.IndexEntry.{IndexEntry}
 use Rattle.gitbase_core.specs.declared.find.Find.{Ghosts as FindOf}
 use Rattle.worktree_fs.specs.declared.interrupt.Interrupt.{Ghosts as InterruptOf}
 use Rattle.worktree_fs.specs.declared.worktree.Worktree.{Ghosts as WorktreeOf}
-use Rattle.worktree_fs.specs.Causes.{NotIncreased, Increased}
+use Rattle.worktree_fs.specs.Causes.{NotIncreased, Increased, with_more}
 use Rattle.worktree_fs.specs.Kept.{Asks, AsksStore}
 use Rattle.worktree_fs.specs.Tree.{Names}
 use Rattle.worktree_stack.specs.Reading.{Sources}
 use Rattle.dir_classify.specs.Excludes.{TellsIf}
+use Rattle.dir_walk.specs.declared.strategy.Strategy.TheVariants.{AtOnce}
 use Rattle.dir_walk.specs.Kept.{AsksInterrupt, KeepsTree}
 use Rattle.worktree_report.specs.declared.error.ReportError.{ReportError}
 use Rattle.worktree_report.specs.declared.error.ReportError.TheVariants as reports
@@ -23,7 +24,7 @@ use Rattle.index_status.specs.declared.error.StatesError.TheVariants as states
 use Rattle.index_status.specs.declared.error.StatusError.{StatusError}
 use Rattle.index_status.specs.declared.error.StatusError.TheVariants as errors
 use Rattle.index_status.specs.declared.report_beside.IndexStatus.{IndexStatus}
-use Rattle.index_status.specs.Rows.{ArePossible, Ascends, IsAskedFor, rows}
+use Rattle.index_status.specs.Rows.{ArePossible, Ascends, IsAskedFor, files_behind, rows}
 use Rattle.index_status.specs.States.{files_in}
 
 -- why there is no report; want of memory is the same for both
@@ -54,6 +55,8 @@ pub record Compares {W : Type 0} (w : WorktreeOf W) (w0 w1 : W) (root : List ℕ
   pub beside : IfOk result (λ status. status.report ≡ report)
   -- each file that is compared is read once at most, whatever is answered
   pub reads : w.reads w1 ≤ w.reads w0 + files_in entries
+  -- and each that is the same or modified was read
+  pub read : IfOk result (λ status. with_more (w.reads w0) (files_behind status.paths.items) ≤ w.reads w1)
   pub refused : IfErr result (RefusesStates (w.told w0) root entries (Increased (w.faults w0) (w.faults w1)))
   pub keeps : Asks w w0 w1
 
@@ -63,13 +66,14 @@ pub record IsStatusOf (composes : Bool) (s : Sources) (root : List ℕ) (setup :
   pub report : IsReportOf composes s root setup status.report
 
 -- The report was made first, and then the index paths were looked at, where a worktree was `w0` and is `w1`; each file that is
--- compared was read once at most. Over a told tree their states are exact, whatever failed.
+-- compared was read once at most, and each that is the same or modified was read. Over a told tree their states are exact, whatever failed.
 pub record IsBeside {W F I : Type 0} (w : WorktreeOf W) (f : FindOf F) (i : InterruptOf I) (w0 w1 : W) (o0 o1 : F) (i0 i1 : I)
     (root : List ℕ) (setup : Setup) (status : IndexStatus) : Type 0 where
   pub between : W
   pub made : MakesReport w f i w0 between o0 o1 i0 i1 root setup (Ok status.report)
   pub asks : Asks w between w1
   pub reads : w.reads w1 ≤ w.reads between + files_in setup.index
+  pub read : with_more (w.reads between) (files_behind status.paths.items) ≤ w.reads w1
   pub paths : (t : Names) → w.told w0 ≡ Some t → status.paths.items ≡ rows t root setup.index
 
 -- the report was made, and then the worktree failed while the index paths were looked at
@@ -106,6 +110,8 @@ pub record MakesStatus {W F I : Type 0} (w : WorktreeOf W) (f : FindOf F) (i : I
       → IsValidAt (w.precomposes w0) s root setup → IfErr result (λ e. e ≡ errors.OutOfMemory)
   -- What stays.
   pub worktree : KeepsTree w w0 w1
+  -- where subtrees are walked at once, over forks, the worktree counts one directory as listed at most
+  pub lists : setup.options.strategy ≡ AtOnce → w.lists w1 ≤ w.lists w0 + 1
   pub store : AsksStore f o0 o1
   pub interrupt : AsksInterrupt i i0 i1
   pub listed : OnOk result (w.list_faults w1 ≡ w.list_faults w0)

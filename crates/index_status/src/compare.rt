@@ -1,7 +1,7 @@
 //! The state of each index path.
 ghost use Rattle.std.specs.Prelude.{◌≡◌, ◌≤◌, ◌+◌, false, Some, IfOk, IfErr};
 ghost use Rattle.gitbase_core.specs.Path.{components};
-ghost use Rattle.worktree_fs.specs.Causes.{Increased};
+ghost use Rattle.worktree_fs.specs.Causes.{Increased, with_more};
 ghost use Rattle.worktree_fs.specs.Kept.{Asks};
 ghost use Rattle.worktree_fs.specs.Tree.{Names};
 ghost use Rattle.index_status.specs.States as states;
@@ -47,6 +47,8 @@ pub fn states<W: Worktree>(
         (Increased (W.faults worktree.old) (W.faults worktree.new))) }
     ensures keeps { Asks W.Worktree worktree.old worktree.new }
     ensures reads { W.reads worktree.new ≤ W.reads worktree.old + states.files_in index.now }
+    ensures read { IfOk result (λ made. with_more (W.reads worktree.old)
+        (rows.files_behind made.items) ≤ W.reads worktree.new) }
 {
     let mut made = Vec::new(alloc);
     let mut known = Known {
@@ -81,6 +83,8 @@ fn with_entry<'a, W: Worktree>(
         (Increased (W.faults worktree.old) (W.faults worktree.new))) }
     ensures keeps { Asks W.Worktree worktree.old worktree.new }
     ensures reads { W.reads worktree.new ≤ W.reads worktree.old + states.files_of entry.now }
+    ensures read { IfOk result (λ more. rows.ReadsFor (W.reads worktree.old)
+        (W.reads worktree.new) made.items more.0.items) }
 {
     if is_last(&made, &entry.path) {
         return Ok((made, known));
@@ -132,6 +136,8 @@ fn state_of<'a, W: Worktree>(
         (Increased (W.faults worktree.old) (W.faults worktree.new))) }
     ensures keeps { Asks W.Worktree worktree.old worktree.new }
     ensures reads { W.reads worktree.new ≤ W.reads worktree.old + states.files_of entry.now }
+    ensures read { IfOk result (λ found. with_more (W.reads worktree.old)
+        (states.files_for found.0) ≤ W.reads worktree.new) }
 {
     if entry.stage != 0 {
         return Ok((PathState::Conflicted, known));

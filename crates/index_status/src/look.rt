@@ -1,6 +1,6 @@
 //! What stands at an index path, against what the index has.
 ghost use Rattle.std.specs.Prelude.{◌≡◌, ◌≤◌, ◌+◌, false, Some, IfOk, IfErr};
-ghost use Rattle.worktree_fs.specs.Causes.{Increased};
+ghost use Rattle.worktree_fs.specs.Causes.{Increased, with_more};
 ghost use Rattle.worktree_fs.specs.Kept.{Asks};
 ghost use Rattle.worktree_fs.specs.Tree.{Names, look};
 ghost use Rattle.index_status.specs.Blobs.{blob_id};
@@ -35,6 +35,8 @@ pub(crate) fn state_at<W: Worktree>(
         (Increased (W.faults worktree.old) (W.faults worktree.new))) }
     ensures keeps { Asks W.Worktree worktree.old worktree.new }
     ensures reads { W.reads worktree.new ≤ W.reads worktree.old + states.files_at_end entry.now }
+    ensures read { IfOk result (λ state. with_more (W.reads worktree.old) (states.files_for state)
+        ≤ W.reads worktree.new) }
 {
     if entry.mode.is_submodule() {
         return submodule_state(alloc, worktree, full);
@@ -65,6 +67,8 @@ fn submodule_state<W: Worktree>(
         (Increased (W.faults worktree.old) (W.faults worktree.new))) }
     ensures keeps { Asks W.Worktree worktree.old worktree.new }
     ensures reads { W.reads worktree.new ≡ W.reads worktree.old }
+    ensures read { IfOk result (λ state. with_more (W.reads worktree.old) (states.files_for state)
+        ≤ W.reads worktree.new) }
 {
     match worktree.kind(alloc, full.as_bytes()) {
         Ok(None) => Ok(PathState::Deleted),
@@ -90,6 +94,8 @@ fn link_state<W: Worktree>(
         (Increased (W.faults worktree.old) (W.faults worktree.new))) }
     ensures keeps { Asks W.Worktree worktree.old worktree.new }
     ensures reads { W.reads worktree.new ≡ W.reads worktree.old }
+    ensures read { IfOk result (λ state. with_more (W.reads worktree.old) (states.files_for state)
+        ≤ W.reads worktree.new) }
 {
     match worktree.kind(alloc, full.as_bytes()) {
         Ok(None) => Ok(PathState::Deleted),
@@ -118,6 +124,8 @@ fn file_state<W: Worktree>(
         (Increased (W.faults worktree.old) (W.faults worktree.new))) }
     ensures keeps { Asks W.Worktree worktree.old worktree.new }
     ensures reads { W.reads worktree.new ≤ W.reads worktree.old + 1 }
+    ensures read { IfOk result (λ state. with_more (W.reads worktree.old) (states.files_for state)
+        ≤ W.reads worktree.new) }
 {
     let mut bytes = Bytes::new(alloc);
     match worktree.read(alloc, full.as_bytes(), false, &mut bytes) {
@@ -134,7 +142,8 @@ fn file_state<W: Worktree>(
 
 /// The state of a file by its bytes.
 fn compared(alloc: Global, bytes: &[u8], id: &ObjectId) -> Result<PathState, OutOfMemory>
-    ensures { IfOk result (λ state. state ≡ states.by_bytes id.now bytes.now) }
+    ensures state { IfOk result (λ state. state ≡ states.by_bytes id.now bytes.now) }
+    ensures read { IfOk result (λ state. states.files_for state ≡ 1) }
 {
     let own = blob_id(alloc, bytes)?;
     if own.as_bytes().as_slice() == id.as_bytes().as_slice() {

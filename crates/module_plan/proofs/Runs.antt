@@ -12,7 +12,7 @@ use Rattle.worktree_report.specs.declared.refusal.Refusal.{Refusal}
 use Rattle.worktree_report.specs.declared.refusal.Refusal.TheVariants as refusals
 use Rattle.worktree_report.specs.declared.setup.Setup.{Setup}
 use Rattle.worktree_report.specs.Converted.{IsOfReading}
-use Rattle.worktree_report.specs.Loading.{files_of, known_in, modules_in, with_specs, IsKnown}
+use Rattle.worktree_report.specs.Loading.{files_of, known_in, modules_in, with_specs, AreModules, IsKnown}
 use Rattle.worktree_report.specs.Loads.{LoadsFiles}
 use Rattle.worktree_report.specs.Outside.{files_to, IsOutside, StopsAt}
 use Rattle.worktree_report.specs.Run.{SetupRefuses}
@@ -72,6 +72,11 @@ safe-loaded : (t : Names) (root : List ℕ) (setup : Setup) (modules : Modules) 
 safe-loaded t root setup modules (Ok text) read safe = record { modules = modules; read = read; safe = safe }
 safe-loaded t root setup modules (Err refusal) read safe = tt
 
+orderly-loaded : (told : Option Names) (root : List ℕ) (setup : Setup) (modules : Modules) (answer : Result (List ℕ) Refusal) → AreModules root modules
+    → IfOk answer (λ text. AreModules root modules → top.IsPlanText told root setup.options.ignore_case text) → IfOk answer (top.IsPlanText told root setup.options.ignore_case)
+orderly-loaded told root setup modules (Ok text) tells orderly = orderly tells
+orderly-loaded told root setup modules (Err refusal) tells orderly = tt
+
 refused-later : (answer : Result (List ℕ) Refusal) (Failed Broken : Type 0) → (Failed → Broken) → IfErr answer (top.IsOfPlanning Failed) → IfErr answer (top.IsOfPlanning Broken)
 refused-later (Ok text) Failed Broken weaker of = tt
 refused-later (Err refusal) Failed Broken weaker of = planning-weaker Failed Broken weaker refusal of
@@ -81,16 +86,18 @@ module _ {W : Type 0} {w : WorktreeOf W} {w0 w1 w2 : W} {root : List ℕ} {setup
   pub PlansText-loaded : (modules : Modules) (answer : Result (List ℕ) Refusal) → ((t : Names) → w.told w0 ≡ Some t → modules_in t root setup ≡ Ok modules) → LoadsFiles w w0 w1 (files_of setup)
       → ((t : Names) → w.told w1 ≡ Some t → IfOk answer (λ text. top.text_of_modules t root setup.options.ignore_case modules ≡ Some text))
       → ((t : Names) → w.told w1 ≡ Some t → OnOk answer (top.IsSafePlanOf t root setup.options.ignore_case modules))
-      → IfOk answer (top.IsPlanText (w.told w1) root)
+      → AreModules root modules → IfOk answer (λ text. AreModules root modules → top.IsPlanText (w.told w1) root setup.options.ignore_case text)
       → ((m : Misread) → IsErrOf answer (refusals.Misread m) → with_specs setup.options.ignore_case modules ≡ Err m)
       → IfErr answer (top.IsOfPlanning (Increased (w.faults w1) (w.faults w2)))
       → (IsErrOf answer refusals.Fault → IsKnown (with_specs setup.options.ignore_case modules)) → Asks w w1 w2 → w.reads w2 ≡ w.reads w1
       → top.PlansText w w0 w2 root setup answer
-  PlansText-loaded modules answer read loads gives safe orderly outside of late asks unread =
+  PlansText-loaded modules answer read loads gives safe tells orderly outside of late asks unread =
       record {
         gives = λ t told. text-loaded t root setup modules answer (read t told) (gives t (loads.tree ∙ told));
         safe = λ t told. safe-loaded t root setup modules answer (read t told) (safe t (loads.tree ∙ told));
-        orderly = subst (λ (told : Option Names). IfOk answer (top.IsPlanText told root)) loads.tree orderly;
+        orderly =
+            subst (λ (told : Option Names). IfOk answer (top.IsPlanText told root setup.options.ignore_case)) loads.tree
+            (orderly-loaded (w.told w1) root setup modules answer tells orderly);
         misread = λ t told m is. known-refused t root setup modules m (read t told) (outside m is);
         about = λ m is. record { asked = refl; outside = outside-specs root setup modules m (outside m is) };
         misread_reads = λ m is. reads-specs setup modules m (w.reads w0) (w.reads w2) (outside m is) (omega (arith, loads.reads, unread));
@@ -149,6 +156,13 @@ safe-planned : (t : Names) (places : Places) (setup : Setup) (answer : Result (L
     → OnOk answer (top.IsSafeIn t places.root setup) → OnOk answer (top.IsSafePlan t places)
 safe-planned t places setup (Ok text) read safe = record { setup = setup; read = read; safe = safe }
 safe-planned t places setup (Err refusal) read safe = tt
+
+orderly-planned : (told told_now : Option Names) (places : Places) (setup : Setup) (answer : Result (List ℕ) Refusal)
+    → ((t : Names) → told ≡ Some t → setup_at (look t places.setup true) ≡ Ok setup) → told_now ≡ told
+    → IfOk answer (top.IsPlanText told_now places.root setup.options.ignore_case) → IfOk answer (top.IsPlanTextAt told places)
+orderly-planned told told_now places setup (Ok text) read same is =
+    record { setup = setup; read = read; is = subst (λ (x : Option Names). top.IsPlanText x places.root setup.options.ignore_case text) same is }
+orderly-planned told told_now places setup (Err refusal) read same is = tt
 
 module _ {W : Type 0} (w : WorktreeOf W) (w0 w1 : W) (places : Places) where
   no_setup : (refusal : Refusal) → IsOfReading refusal
@@ -221,7 +235,7 @@ module _ {W : Type 0} {w : WorktreeOf W} {w0 w1 w2 : W} {places : Places} (setup
       record {
         gives = λ t told. output-planned t places setup answer (read t told) (plans.gives t (tree ∙ told));
         safe = λ t told. safe-planned t places setup answer (read t told) (plans.safe t (tree ∙ told));
-        orderly = subst (λ (told : Option Names). IfOk answer (top.IsPlanText told places.root)) tree plans.orderly;
+        orderly = orderly-planned (w.told w0) (w.told w1) places setup answer read tree plans.orderly;
         refused = call-planned _ _ (Rose-before _ _ _ faults) answer plans.refused;
         fault_late = λ is t told. on-time t places setup _ _ _ (read t told) once (plans.fault_late is t (tree ∙ told));
         reads = λ t told. inr (setup, read t told, subst (λ (n : ℕ). w.reads w2 ≤ n + files_of setup) once plans.reads);

@@ -22,7 +22,7 @@ use Rattle.worktree_report.specs.declared.refusal.Misread.TheVariants as misread
 use Rattle.worktree_report.specs.declared.refusal.Refusal.{Refusal}
 use Rattle.worktree_report.specs.declared.refusal.Refusal.TheVariants as refusals
 use Rattle.worktree_report.specs.declared.setup.Setup.{Setup}
-use Rattle.worktree_report.specs.Loading.{files_of, known_in, modules_in, IsKnown}
+use Rattle.worktree_report.specs.Loading.{files_of, known_in, modules_in, AreModules, IsKnown}
 use Rattle.worktree_report.specs.Outside.{files_to, IsAboutMisreadAt, StopsAt}
 use Rattle.worktree_report.specs.Run.{AnswersIf, IsAboutMisread, IsKnownReport, MisreadsReport, ReadsToMisread, SetupRefuses, StopsReport}
 use Rattle.worktree_report.specs.SetupAt.{setup_at}
@@ -85,16 +85,23 @@ pub record IsSafePlanOf (t : Names) (root : List ℕ) (fold : Bool) (modules : M
   pub safe : AreSafe (asked_of fold modules.file modules.config) plan
   pub open_way : AreOpen t root plan
 
--- Whatever a worktree tells: a text that is the lines of a plan of some submodules and some configuration. Each of their names has its verdict
--- there, open but for what bars the way; the steps ascend strictly by path, and each is safe to take.
-pub record IsPlanText (told : Option Names) (root text : List ℕ) : Type 0 where
-  pub fold : Bool
+-- Whatever a worktree tells: a text that is the lines of a plan of what some text in the place of `.gitmodules` tells, with the overrides of
+-- some configuration. Each of the names has its verdict there, open but for what bars the way; the steps ascend strictly by path, and each
+-- is safe to take. `fold` says whether letters fold in path specs.
+pub record IsPlanText (told : Option Names) (root : List ℕ) (fold : Bool) (text : List ℕ) : Type 0 where
   pub modules : Modules
+  pub told_by : AreModules root modules
   pub plan : ModulePlan
   pub possible : IsPlanned told root (asked_of fold modules.file modules.config) plan
   pub ascends : Ascends plan.steps.items
   pub safe : AreSafe (asked_of fold modules.file modules.config) plan
   pub text_is : text ≡ plan_text plan.steps.items plan.skipped.items
+
+-- The same by a setup; where a tree is told, by the one that is read there.
+pub record IsPlanTextAt (told : Option Names) (places : Places) (text : List ℕ) : Type 0 where
+  pub setup : Setup
+  pub read : (t : Names) → told ≡ Some t → setup_at (look t places.setup true) ≡ Ok setup
+  pub is : IsPlanText told places.root setup.options.ignore_case text
 
 pub record IsSafeIn (t : Names) (root : List ℕ) (setup : Setup) : Type 0 where
   pub modules : Modules
@@ -140,7 +147,7 @@ IsOfCall Failed refusals.OutOfMemory = Unit {0}
 pub record PlansText {W : Type 0} (w : WorktreeOf W) (w0 w1 : W) (root : List ℕ) (setup : Setup) (answer : Result (List ℕ) Refusal) : Type 0 where
   pub gives : (t : Names) → w.told w0 ≡ Some t → IfOk answer (λ text. text_in t root setup ≡ Some text)
   pub safe : (t : Names) → w.told w0 ≡ Some t → OnOk answer (IsSafeIn t root setup)
-  pub orderly : IfOk answer (IsPlanText (w.told w0) root)
+  pub orderly : IfOk answer (IsPlanText (w.told w0) root setup.options.ignore_case)
   pub misread : (t : Names) → w.told w0 ≡ Some t → (which : Misread) → IsErrOf answer (refusals.Misread which) → known_in t root (asking setup) ≡ Err which
   pub about : (which : Misread) → IsErrOf answer (refusals.Misread which) → IsAboutMisreadAt root (asking setup) which
   pub misread_reads : (which : Misread) → IsErrOf answer (refusals.Misread which) → w.reads w1 ≤ w.reads w0 + files_to setup which
@@ -177,8 +184,8 @@ pub record AnswersPlan {W : Type 0} (w : WorktreeOf W) (w0 w1 : W) (places : Pla
   -- Over a told tree it is exactly the one that the files ask for, and safe to carry out.
   pub gives : (t : Names) → w.told w0 ≡ Some t → IfOk answer (λ text. output_at t places ≡ Some text)
   pub safe : (t : Names) → w.told w0 ≡ Some t → OnOk answer (IsSafePlan t places)
-  -- Whatever the worktree tells, it is that of a plan whose steps are safe and in order.
-  pub orderly : IfOk answer (IsPlanText (w.told w0) places.root)
+  -- Whatever the worktree tells, it is that of a plan whose steps are safe and in order, by what a text in the place of `.gitmodules` tells.
+  pub orderly : IfOk answer (IsPlanTextAt (w.told w0) places)
   -- Each refusal has its cause.
   pub refused : IfErr answer (IsOfCall (Increased (w.faults w0) (w.faults w1)))
   -- Over a told tree a fault comes where the setup was not read, or a file that tells of submodules was not, or all that tells of them is

@@ -5,7 +5,7 @@ ghost use Rattle.worktree_fs.specs.Kept.{Asks};
 ghost use Rattle.worktree_fs.specs.Tree.{Names};
 ghost use Rattle.module_plan.specs.Run as top;
 ghost use Rattle.worktree_report.specs.Ends.{Runs};
-ghost use Rattle.worktree_report.specs.Loading.{files_of, modules_in, with_specs, IsKnown};
+ghost use Rattle.worktree_report.specs.Loading.{files_of, modules_in, with_specs, AreModules, IsKnown};
 ghost use Rattle.worktree_report.specs.Loads.{LoadsFiles};
 ghost use Rattle.worktree_report.specs.Named.{named_by};
 ghost use Rattle.worktree_report.specs.Outside.{files_to, IsOutside, StopsAt};
@@ -53,6 +53,7 @@ fn modules_of<W: Worktree>(
 ) -> Result<Modules, Refusal>
     ensures gives { (t : Names) → W.told worktree.old ≡ Some t
         → IfOk result (λ modules. modules_in t root.now setup.now ≡ Ok modules) }
+    ensures text { IfOk result (AreModules root.now) }
     ensures misread { (t : Names) → W.told worktree.old ≡ Some t → (which : Place)
         → IsErrOf result (Refusal.Misread which) → modules_in t root.now setup.now ≡ Err which }
     ensures outside { (which : Place) → IsErrOf result (Refusal.Misread which)
@@ -83,7 +84,8 @@ fn text_of_modules<W: Worktree>(
         (λ text. top.text_of_modules t root.now ignore_case modules.now ≡ Some text) }
     ensures safe { (t : Names) → W.told worktree.old ≡ Some t
         → OnOk result (top.IsSafePlanOf t root.now ignore_case modules.now) }
-    ensures orderly { IfOk result (top.IsPlanText (W.told worktree.old) root.now) }
+    ensures orderly { IfOk result (λ text. AreModules root.now modules.now
+        → top.IsPlanText (W.told worktree.old) root.now ignore_case text) }
     ensures misread { (which : Place) → IsErrOf result (Refusal.Misread which)
         → with_specs ignore_case modules.now ≡ Err which }
     ensures refused { IfErr result (top.IsOfPlanning (Increased (W.faults worktree.old)

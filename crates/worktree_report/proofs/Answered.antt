@@ -1,5 +1,6 @@
 -- The text of a report, or the refusal of the program that stands for that of a report.
-use Rattle.std.proofs.Common.{◌≡◌, ◌⊎◌, ◌≤◌, ◌+◌, inl, inr, ℕ, List, Option, Bool, Some, Result, Ok, Err, IsErrOf, refl, sym, ap, ◌∙◌, subst, option_map, arith}
+use Rattle.std.proofs.Common.{◌≡◌, ◌⊎◌, ◌≤◌, ◌+◌, ◌-◌, ◌^◌, min, inl, inr, ℕ, List, Option, Bool, Some, Result, Ok, Err, IsErrOf, refl, sym, ap, ◌∙◌, subst, option_map, arith}
+use Rattle.std.proofs.lemmas.Option.{same_Some}
 use Rattle.gitbase_core.specs.Objects.{Objects}
 use Rattle.gitbase_core.specs.declared.find.Find.{Ghosts as FindOf}
 use Rattle.worktree_fs.specs.declared.interrupt.Interrupt.{Ghosts as InterruptOf}
@@ -21,6 +22,8 @@ use Rattle.dir_classify.specs.Refused.{OnFault}
 use Rattle.dir_walk.specs.declared.strategy.Strategy.{Strategy}
 use Rattle.dir_walk.specs.Opens.{IsListed}
 use Rattle.dir_walk.specs.Kept.{OnInterrupt}
+use Rattle.dir_walk.specs.Root.{walk_in}
+use Rattle.dir_walk.specs.Walks.{most_opened}
 use Rattle.dir_walk.proofs.Weaker.{WalkRefuses-weaker}
 use Rattle.worktree_report.specs.declared.error.ReportError.{ReportError}
 use Rattle.worktree_report.specs.declared.error.ReportError.TheVariants as errors
@@ -31,7 +34,7 @@ use Rattle.worktree_report.specs.declared.report.Report.{Report}
 use Rattle.worktree_report.specs.declared.setup.Setup.{Setup}
 use Rattle.worktree_report.specs.declared.refusal.Refusal.{Refusal}
 use Rattle.worktree_report.specs.declared.refusal.Refusal.TheVariants as refusals
-use Rattle.worktree_report.specs.Asked.{asked_of, read_in, About, Found, IsAboutWalkAt, ReadsWithin, Refuses, RefusesWalkAt}
+use Rattle.worktree_report.specs.Asked.{asked_of, read_in, report_of, About, Found, IsAboutWalkAt, ListsAt, ReadsWithin, Refuses, RefusesWalkAt}
 use Rattle.worktree_report.specs.Excluding.{excludes_of}
 use Rattle.worktree_report.specs.Converted.{of_lookup, of_report, of_walk, IsOfWalking}
 use Rattle.worktree_report.specs.Loading.{known_in, IsKnown}
@@ -294,6 +297,18 @@ reads-more composes root setup result before now opened most fits reads =
       walked = elim reads.walked [ inl same ↦ inl same | inr found ↦ inr (found.0, found.1, found.2, let few = found.3 in omega (arith, few, fits)) ];
     }
 
+-- what is listed for the one report that there is
+lists-at : (composes : Bool) (t : Names) (root : List ℕ) (setup : Setup) (r : Report) (lists0 lists1 : ℕ) → report_of composes (read_in t setup) root setup ≡ Some r
+    → (opened : ℕ) → opened ≤ most_opened setup.depth (walk_in (asked_of composes root setup) (excludes_of root setup) (read_in t setup) setup.root) 0
+    → IsListed setup.options.strategy lists0 lists1 opened → r.outcome.read_dir_calls ≡ min opened (2 ^ 32 - 1) → ListsAt composes t root setup lists0 lists1
+lists-at composes t root setup r lists0 lists1 is opened within listed counted =
+    record {
+      opened = opened;
+      within = within;
+      listed = listed;
+      counted = λ other is_other. subst (λ (x : Report). x.outcome.read_dir_calls ≡ min opened (2 ^ 32 - 1)) (same_Some _ _ (sym is ∙ is_other)) counted;
+    }
+
 module _ {W F I : Type 0} {w : WorktreeOf W} {f : FindOf F} {i : InterruptOf I} {w0 w1 : W} {o0 o1 : F} {i0 i1 : I} {root : List ℕ} {setup : Setup} where
   -- the text of a report
   pub Texts-ok : (r : Report) (text : List ℕ) → MakesReport w f i w0 w1 o0 o1 i0 i1 root setup (Ok r) → f.holds o0 ≡ Some setup.blobs → text ≡ text_with setup.options r
@@ -312,6 +327,9 @@ module _ {W F I : Type 0} {w : WorktreeOf W} {f : FindOf F} {i : InterruptOf I} 
                   reads-more (w.precomposes w0) root setup (Ok r) (w.reads w0) (w.reads w1) _ _ (reports.opens.within (read_in t setup) (told-blobs setup held told) quiet)
                   (reports.opens.reads over_itself rules_alone);
             };
+        opens = λ t told quiet.
+            lists-at (w.precomposes w0) t root setup r (w.lists w0) (w.lists w1) (report_is (reports.gives (read_in t setup) (told-blobs setup held told) quiet))
+            reports.opens.opened (reports.opens.within (read_in t setup) (told-blobs setup held told) quiet) reports.opens.listed reports.opens.counted;
         refused = λ t told quiet word path is. absurd cc;
         misread = λ t told which is. absurd cc;
         outside = λ which is. absurd cc;
@@ -337,6 +355,7 @@ module _ {W F I : Type 0} {w : WorktreeOf W} {f : FindOf F} {i : InterruptOf I} 
         orderly = tt;
         safe = λ t told quiet. tt;
         works = λ t told quiet. tt;
+        opens = λ t told quiet. tt;
         refused = λ t told quiet word path is. absurd cc;
         misread = λ t told which is. absurd cc;
         outside = λ which is. absurd cc;
@@ -364,6 +383,7 @@ module _ {W F I : Type 0} {w : WorktreeOf W} {f : FindOf F} {i : InterruptOf I} 
         orderly = tt;
         safe = λ t told quiet. tt;
         works = λ t told quiet. tt;
+        opens = λ t told quiet. tt;
         refused = λ t told quiet word path is.
             refused-of_report _ (λ stored. omega (arith, stored, kept)) (w.precomposes w0) t root setup word path e reports.about
             (reports.refused (read_in t setup) (told-blobs setup held told) quiet) (reports.misread t told) (answered is);

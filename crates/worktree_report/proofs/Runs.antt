@@ -13,7 +13,7 @@ use Rattle.worktree_report.specs.declared.refusal.Refusal.{Refusal}
 use Rattle.worktree_report.specs.declared.refusal.Refusal.TheVariants as refusals
 use Rattle.worktree_report.specs.Words.{Command, Places, report, generate}
 use Rattle.worktree_report.specs.SetupAt.{setup_at}
-use Rattle.worktree_report.specs.Asked.{read_in, text_of, IsAboutWalkAt, IsSafeAt, IsValidAt, WorksAt}
+use Rattle.worktree_report.specs.Asked.{read_in, text_of, IsAboutWalkAt, IsSafeAt, IsValidAt, ListsAt, WorksAt}
 use Rattle.worktree_report.specs.Converted.{IsOfReading, IsOfWalking}
 use Rattle.worktree_report.specs.Orderly.{IsOrderlyText}
 use Rattle.worktree_report.specs.Outside.{files_to, StopsAt}
@@ -272,8 +272,16 @@ works-walked composes t places setup (Ok text) questions0 questions1 reads0 read
     record { setup = setup; read = read; works = subst (λ (n : ℕ). WorksAt composes t places.root setup questions0 questions1 n reads1) once works }
 works-walked composes t places setup (Err refusal) questions0 questions1 reads0 reads reads1 read once works = tt
 
+-- the directories that are listed for it
+pub opens-walked : (made : Setup → Setup) (composes : Bool) (t : Names) (places : Places) (setup : Setup) (answer : Result (List ℕ) Refusal) (lists0 lists lists1 : ℕ)
+    → setup_at (look t places.setup true) ≡ Ok setup → lists ≡ lists0
+    → OnOk answer (ListsAt composes t places.root (made setup) lists lists1) → OnOk answer (top.ListsReport made composes t places lists0 lists1)
+opens-walked made composes t places setup (Ok text) lists0 lists lists1 read same at =
+    record { setup = setup; read = read; lists = subst (λ (n : ℕ). ListsAt composes t places.root (made setup) n lists1) same at }
+opens-walked made composes t places setup (Err refusal) lists0 lists lists1 read same at = tt
+
 -- the one directory that is listed at most
-lists-walked : (t : Names) (places : Places) (setup : Setup) (lists0 lists lists1 : ℕ)
+pub lists-walked : (t : Names) (places : Places) (setup : Setup) (lists0 lists lists1 : ℕ)
     → setup_at (look t places.setup true) ≡ Ok setup → lists ≡ lists0 → (setup.options.strategy ≡ AtOnce → lists1 ≤ lists + 1) → top.ListsOnce t places lists0 lists1
 lists-walked t places setup lists0 lists lists1 read same once =
     λ other read_so at_once. let most = once (ap (λ (s : Setup). s.options.strategy) (same_setup _ read read_so) ∙ at_once) in omega (arith, same, most)
@@ -291,6 +299,7 @@ module _ {W I : Type 0} {w : WorktreeOf W} {i : InterruptOf I} {w0 w1 : W} {i0 :
         orderly = tt;
         safe = λ t told quiet. tt;
         works = λ t told quiet. tt;
+        opens = λ t told quiet. tt;
         lists = λ t told setup read at_once. omega (arith, none_listed);
         causes = HasCauses-unread w i w0 w1 i0 i0 top.as_read places refusal of outside fault once none_listed refl;
         keeps = Keeps-unread refusal tree faults listed none_listed composes;
@@ -309,6 +318,7 @@ module _ {W I : Type 0} {w : WorktreeOf W} {i : InterruptOf I} {w0 w1 w2 : W} {i
         orderly = orderly-walked _ (w.told w0) (w.told w1) places setup answer read tree texts.orderly;
         safe = λ t told quiet. safe-walked _ t places setup answer (read t told) (texts.safe t (tree ∙ told) (Quiet-later _ _ _ faults quiet));
         works = λ t told quiet. works-walked _ t places setup answer _ _ _ _ _ (read t told) once (texts.works t (tree ∙ told) (Quiet-later _ _ _ faults quiet));
+        opens = λ t told quiet. opens-walked top.as_read _ t places setup answer _ _ _ (read t told) none_listed (texts.opens t (tree ∙ told) (Quiet-later _ _ _ faults quiet));
         lists = λ t told. lists-walked t places setup _ _ _ (read t told) none_listed texts.lists;
         causes = HasCauses-walked w i w0 w1 w2 i0 i1 top.as_read places setup answer read tree faults once none_listed texts;
         keeps = Keeps-made answer tree faults listed none_listed composes texts.worktree texts.interrupt texts.listed texts.calm;

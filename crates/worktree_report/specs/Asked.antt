@@ -1,5 +1,5 @@
 -- The report of a work tree that a setup asks for.
-use Rattle.std.specs.Prelude.{◌≡◌, ◌⊎◌, ◌≤◌, ℕ, List, [], Bool, codes, length, Option, Some, None, option_map, true, false, ◌+◌, Result, Ok, Err, IfOk}
+use Rattle.std.specs.Prelude.{◌≡◌, ◌⊎◌, ◌≤◌, ◌-◌, ◌^◌, min, ℕ, List, [], Bool, codes, length, Option, Some, None, option_map, true, false, ◌+◌, Result, Ok, Err, IfOk}
 use Rattle.gitbase_core.specs.declared.entry.IndexEntry.{IndexEntry}
 use Rattle.gitbase_core.specs.Objects.{Objects}
 use Rattle.gitbase_core.specs.Path.{components, joined}
@@ -14,7 +14,7 @@ use Rattle.dir_classify.specs.Chosen.{Chosen}
 use Rattle.dir_classify.specs.Layers.{Setting}
 use Rattle.dir_walk.specs.declared.strategy.Strategy.TheVariants.{Held}
 use Rattle.dir_walk.specs.declared.report.Report.{Report as WalkReport}
-use Rattle.dir_walk.specs.Opens.{reads_rules_alone}
+use Rattle.dir_walk.specs.Opens.{IsListed, reads_rules_alone}
 use Rattle.dir_walk.specs.Report.{report}
 use Rattle.dir_walk.specs.Reports.{IsReport}
 use Rattle.dir_walk.specs.WalkRefused.{by_default, IsNoTop, OnNoRoot, WalkAbout, WalkFound, WalkRefuses}
@@ -157,6 +157,14 @@ pub record WorksAt (composes : Bool) (t : Names) (root : List ℕ) (setup : Setu
   pub reads : setup.options.strategy ≡ Held → reads_rules_alone (chosen_of composes setup) ≡ true
       → ReadsWithin {E = ReportError} composes root setup (Ok made) reads0 reads1
       (most_opened setup.depth (walk_in (asked_of composes root setup) (excludes_of root setup) (read_in t setup) setup.root) 0) 0
+
+-- Of the report over a tree: so many directories were listed over the worktree, each once, no more than the walk enters within its depth,
+-- and as many as the report counts. Where subtrees are walked at once, over forks, the worktree counts one of them at most.
+pub record ListsAt (composes : Bool) (t : Names) (root : List ℕ) (setup : Setup) (lists0 lists1 : ℕ) : Type 0 where
+  pub opened : ℕ
+  pub within : opened ≤ most_opened setup.depth (walk_in (asked_of composes root setup) (excludes_of root setup) (read_in t setup) setup.root) 0
+  pub listed : IsListed setup.options.strategy lists0 lists1 opened
+  pub counted : (r : Report) → report_of composes (read_in t setup) root setup ≡ Some r → r.outcome.read_dir_calls ≡ min opened (2 ^ 32 - 1)
 
 -- ---- refusals
 

@@ -83,6 +83,11 @@ modules_beside t root config = beside config (modules_of (Some (modules_path roo
 unfoldable pub modules_in : Names → List ℕ → Setup → Result Modules Misread
 modules_in t root setup = and_then (modules_beside t root) (with_configs t setup.options.permissions 1 setup.configs no_config)
 
+-- Whatever a worktree tells: `.gitmodules` is what some text in its place says, with the overrides of the configuration beside it.
+pub record AreModules (root : List ℕ) (modules : Modules) : Type 0 where
+  pub text : List ℕ
+  pub file_is : modules_of (Some (modules_path root)) text modules.config ≡ Ok modules.file
+
 -- ---- and which of them are active
 
 -- a value of `submodule.active` that is refused, by its number

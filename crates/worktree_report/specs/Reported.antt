@@ -32,7 +32,7 @@ use Rattle.worktree_report.specs.declared.setup.Setup.{Setup}
 use Rattle.worktree_report.specs.declared.refusal.Refusal.{Refusal}
 use Rattle.worktree_report.specs.declared.refusal.Refusal.TheVariants as refusals
 use Rattle.worktree_report.specs.declared.refusal.WalkWord.{WalkWord}
-use Rattle.worktree_report.specs.Asked.{asked_of, chosen_of, read_in, text_of, About, Found, NoRoot, Refuses, IsReportOf, IsWalkOf, ReadsWithin, IsSafeAt, IsValidAt, WorksAt, RefusesWalkAt, IsAboutWalkAt}
+use Rattle.worktree_report.specs.Asked.{asked_of, chosen_of, read_in, text_of, About, Found, NoRoot, Refuses, IsReportOf, IsWalkOf, ReadsWithin, IsSafeAt, IsValidAt, ListsAt, WorksAt, RefusesWalkAt, IsAboutWalkAt}
 use Rattle.worktree_report.specs.Converted.{IsOfWalking}
 use Rattle.worktree_report.specs.Excluding.{excludes_of}
 use Rattle.worktree_report.specs.Loading.{known_in, IsKnown}
@@ -181,6 +181,7 @@ pub record Texts {W I : Type 0} (w : WorktreeOf W) (i : InterruptOf I) (composes
   pub safe : (t : Names) → w.told w0 ≡ Some t → NotIncreased (w.faults w0) (w.faults w1) → OnOk result (IsSafeAt composes t root setup)
   pub works : (t : Names) → w.told w0 ≡ Some t → NotIncreased (w.faults w0) (w.faults w1)
       → OnOk result (WorksAt composes t root setup (i.questions i0) (i.questions i1) (w.reads w0) (w.reads w1))
+  pub opens : (t : Names) → w.told w0 ≡ Some t → NotIncreased (w.faults w0) (w.faults w1) → OnOk result (ListsAt composes t root setup (w.lists w0) (w.lists w1))
   pub refused : (t : Names) → w.told w0 ≡ Some t → NotIncreased (w.faults w0) (w.faults w1)
       → (word : WalkWord) (path : List ℕ) → IsErrOf result (refusals.Walk word path) → RefusesWalkAt composes t root setup word path
   pub misread : (t : Names) → w.told w0 ≡ Some t → (which : Misread) → IsErrOf result (refusals.Misread which) → known_in t root setup ≡ Err which

@@ -17,7 +17,7 @@ use Rattle.worktree_report.specs.SetupAt.{setup_at}
 use Rattle.worktree_report.specs.Loading.{known_in, IsKnown}
 use Rattle.worktree_report.specs.Orderly.{IsOrderlyText}
 use Rattle.worktree_report.specs.Outside.{files_to, IsAboutMisreadAt, StopsAt}
-use Rattle.worktree_report.specs.Asked.{read_in, text_of, IsSafeAt, IsValidAt, WorksAt, RefusesWalkAt, IsAboutWalkAt}
+use Rattle.worktree_report.specs.Asked.{read_in, text_of, IsSafeAt, IsValidAt, ListsAt, WorksAt, RefusesWalkAt, IsAboutWalkAt}
 use Rattle.worktree_report.specs.Generate.{generated_text, Generated, IsOfGenerating}
 
 -- the line for words that ask for nothing
@@ -87,6 +87,12 @@ pub record IsReadyAt (made : Setup → Setup) (composes : Bool) (t : Names) (pla
   pub setup : Setup
   pub read : setup_at (look t places.setup true) ≡ Ok setup
   pub valid : IsValidAt composes (read_in t (made setup)) places.root (made setup)
+
+-- which directories are listed for the report that a command makes at some places
+pub record ListsReport (made : Setup → Setup) (composes : Bool) (t : Names) (places : Places) (lists0 lists1 : ℕ) : Type 0 where
+  pub setup : Setup
+  pub read : setup_at (look t places.setup true) ≡ Ok setup
+  pub lists : ListsAt composes t places.root (made setup) lists0 lists1
 
 -- What an answer says of the report that a command makes at some places: each refusal has its cause, and for valid input, where nothing
 -- failed or was raised, only memory may be wanted. A worktree was `w0` and is `w1`, and an interrupt was `i0` and is `i1`.
@@ -181,6 +187,8 @@ pub record AnswersReport {W I : Type 0} (w : WorktreeOf W) (i : InterruptOf I) (
   pub safe : (t : Names) → w.told w0 ≡ Some t → NotIncreased (w.faults w0) (w.faults w1) → OnOk answer (IsSafeReport (w.precomposes w0) t places)
   pub works : (t : Names) → w.told w0 ≡ Some t → NotIncreased (w.faults w0) (w.faults w1)
       → OnOk answer (ReportWorks (w.precomposes w0) t (i.questions i0) (i.questions i1) (w.reads w0) (w.reads w1) places)
+  pub opens : (t : Names) → w.told w0 ≡ Some t → NotIncreased (w.faults w0) (w.faults w1)
+      → OnOk answer (ListsReport as_read (w.precomposes w0) t places (w.lists w0) (w.lists w1))
   pub lists : (t : Names) → w.told w0 ≡ Some t → ListsOnce t places (w.lists w0) (w.lists w1)
   pub causes : HasCauses w i w0 w1 i0 i1 as_read places answer
   pub keeps : Keeps w i w0 w1 i0 i1 answer

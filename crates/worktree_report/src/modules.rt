@@ -148,6 +148,7 @@ fn modules_beside<W: Worktree>(
 ) -> Result<Modules, ReportError>
     ensures gives { (t : Names) → W.told worktree.old ≡ Some t
         → Gives result (loading.modules_beside t root.now config) }
+    ensures text { IfOk result (loading.AreModules root.now) }
     ensures answers { IfErr result (OfModules (Increased (W.faults worktree.old)
         (W.faults worktree.new))) }
     ensures outside { IfErr result (OnMisread (IsModulesOf root.now)) }
@@ -186,6 +187,7 @@ pub fn load_modules<W: Worktree>(
 ) -> Result<Modules, ReportError>
     ensures gives { (t : Names) → W.told worktree.old ≡ Some t
         → Gives result (loading.modules_in t worktree_root.now setup.now) }
+    ensures text { IfOk result (loading.AreModules worktree_root.now) }
     ensures answers { IfErr result (OfModules (Increased (W.faults worktree.old)
         (W.faults worktree.new))) }
     ensures outside { IfErr result (OnMisread (IsOutside worktree_root.now setup.now)) }

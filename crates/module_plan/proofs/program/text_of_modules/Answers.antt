@@ -11,9 +11,9 @@ returns-in_ok-plan_bytes-in-Ok-clause-safe g c = λ t told.
     record { plan = c.in-Ok.plan; is_plan = c.in-Ok.ensures.planned t told; safe = c.in-Ok.ensures.safe; open_way = c.in-Ok.ensures.open_way t told }
 
 pub returns-in_ok-plan_bytes-in-Ok-clause-orderly : goal.returns-in_ok-plan_bytes-in-Ok-clause-orderly
-returns-in_ok-plan_bytes-in-Ok-clause-orderly g c = record {
-  fold = c.args.ignore_case;
+returns-in_ok-plan_bytes-in-Ok-clause-orderly g c = λ tells. record {
   modules = c.args.modules.now;
+  told_by = tells;
   plan = c.in-Ok.plan;
   possible = c.in-Ok.ensures.possible;
   ascends = c.in-Ok.ensures.ascends;
