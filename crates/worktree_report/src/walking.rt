@@ -89,8 +89,8 @@ fn current_dir_of<'a>(root: &'a [u8], setup: &'a Setup) -> &'a [u8]
     }
 }
 
-/// Walks the work tree at `root` as the setup asks for it, with ignore rules, a look-up of the
-/// index and a git directory that are made for it.
+/// Walks the work tree at `root` as the setup asks for it, with these ignore rules, this look-up of the
+/// index and this git directory.
 fn walk_with<'a, W: Worktree, F: Find, I: Interrupt>(
     alloc: Global,
     worktree: &'a mut W,
@@ -139,6 +139,37 @@ fn walk_with<'a, W: Worktree, F: Find, I: Interrupt>(
     walk_by_path(alloc, root, ctx, options, setup.options.strategy)
 }
 
+/// Walks the work tree at `root` as the setup asks for it, with ignore rules that are made for it.
+fn walk_excluding<W: Worktree, F: Find, I: Interrupt>(
+    alloc: Global,
+    worktree: &mut W,
+    objects: &mut F,
+    interrupt: &mut I,
+    root: &[u8],
+    setup: &Setup,
+    lookup: &Option<AccelerateLookup>,
+    git_dir: &[u8],
+) -> Result<walk::Report, Error>
+    requires lookup { IsLookupIf setup.now.index lookup.now }
+    requires given { is_some lookup.now ≡ setup.now.options.ignore_case }
+    requires git_dir { git_dir.now ≡ git_dir_or root.now setup.now.git_dir }
+    ensures { Reports W.Worktree F.Find I.Interrupt worktree.old worktree.new objects.old
+        objects.new interrupt.old interrupt.new root.now setup.now result }
+{
+    let mut excludes = excludes_of(alloc, root, setup)?;
+    walk_with(
+        alloc,
+        worktree,
+        objects,
+        interrupt,
+        root,
+        setup,
+        &mut excludes,
+        lookup,
+        git_dir,
+    )
+}
+
 /// Walks the work tree at `root` as the setup asks for it. Blobs that ignore rules are mapped to
 /// are looked up in `objects`.
 ///
@@ -156,17 +187,15 @@ pub fn walk_by_setup<W: Worktree, F: Find, I: Interrupt>(
     ensures { Reports W.Worktree F.Find I.Interrupt worktree.old worktree.new objects.old
         objects.new interrupt.old interrupt.new root.now setup.now result }
 {
-    let mut excludes = excludes_of(alloc, root, setup)?;
     let lookup = lookup_of(alloc, setup)?;
     let git_dir = git_dir_of(alloc, root, setup)?;
-    walk_with(
+    walk_excluding(
         alloc,
         worktree,
         objects,
         interrupt,
         root,
         setup,
-        &mut excludes,
         &lookup,
         git_dir.as_bytes(),
     )
