@@ -17,7 +17,7 @@ use worktree_stack::{AtPathError, Attributes, DirectoryWhy, Stack, State, attrib
 /// an entry), what is answered, how often a directory was asked for and pushed in all, and a path with the node that is there then; where
 /// it stands, the state of the attribute `x` of the path that was looked up.
 ///
-/// See docs/DECISIONS.md#checkout-removes-rules.
+/// See docs/DECISIONS.md#checkout-removes-rules and docs/DECISIONS.md#checkout-rules-made.
 const LOOKUPS: &[u8] = b"\
 l`-`-`a/f`-`collision`1`1`/w/a`l\n\
 l`u`-`a/f`-`ok`2`2`/w/a`d\n\
