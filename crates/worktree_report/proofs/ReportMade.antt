@@ -28,8 +28,10 @@ use Rattle.dir_walk.specs.Distinct.{Ascends}
 use Rattle.dir_walk.specs.Emissions.{Emission}
 use Rattle.dir_walk.specs.Kept.{KeepsTree, OnListingFault}
 use Rattle.dir_walk.specs.Opens.{IsListed, reads_rules_alone}
+use Rattle.dir_walk.specs.Puts.{hidden_in}
 use Rattle.dir_walk.specs.Reports.{IsFromRoot}
 use Rattle.dir_walk.specs.Root.{Walk, walk_in}
+use Rattle.dir_walk.specs.Unopened.{deep_answer, unlisted_answer}
 use Rattle.dir_walk.specs.Walkable.{IsValid}
 use Rattle.dir_walk.specs.Walks.{GivesFrom, most_opened, OpensDirectories, ReadsAtMost}
 use Rattle.worktree_report.specs.declared.error.ReportError.{ReportError}
@@ -48,6 +50,7 @@ use Rattle.worktree_report.specs.Orderly.{IsOrderly}
 use Rattle.worktree_report.specs.Outside.{IsOutside, LoadsAlone, OnMisread, OnReading, Stops}
 use Rattle.worktree_report.specs.Reported.{Describes, EntersAsAsked, IsNamedRoot, LoadsAndOpens, MakesReport, Misreads, OnReportFault, OnWalk, Reports}
 use Rattle.worktree_report.specs.Submodules.{described, emission_in, entry_in, facts_in}
+use Rattle.worktree_report.specs.Unopened.{deep_report, unlisted_report}
 use Rattle.worktree_report.proofs.Walks.{unlisted_so}
 
 -- a walk with the submodules is the report
@@ -103,6 +106,14 @@ only_memory Failed errors.ReadFault given known is of_it none known_is = absurd 
 only_memory Failed (errors.Walk error) given known is of_it none known_is = absurd of_it
 only_memory Failed errors.OutOfMemory given known is of_it none known_is = refl
 
+not_deep : (Failed : Type 0) (e : ReportError) → OfKnown Failed e → deep_report {T = Report} (Err e) ≡ 0
+not_deep Failed (errors.Config at line) h = refl
+not_deep Failed (errors.Modules line) h = refl
+not_deep Failed (errors.ActiveSpec at) h = refl
+not_deep Failed errors.ReadFault h = refl
+not_deep Failed (errors.Walk error) h = absurd h
+not_deep Failed errors.OutOfMemory h = refl
+
 -- a count that did not rise did not rise
 not_both : (before now : ℕ) → NotIncreased before now → Increased before now → ⊥
 not_both before now quiet rose = omega arith
@@ -138,7 +149,7 @@ module _ {W F I : Type 0} {w : WorktreeOf W} {f : FindOf F} {i : InterruptOf I} 
               opened = 0;
               within = λ s told quiet. omega arith;
               listed = unlisted_so setup.options.strategy (w.lists w0) (w.lists w1) loads.lists;
-              asked = omega arith;
+              asked = omega (arith, not_deep _ e of_it);
               counted = tt;
               reads = λ over_itself rules_alone. record { between = w.reads w1; loaded = loads.reads; walked = inl refl };
             };
@@ -157,6 +168,30 @@ on_walk Holds (walk.ReadDir path c) h = h
 on_walk Holds (walk.DirEntry path) h = h
 on_walk Holds (walk.TooDeep path) h = h
 on_walk Holds walk.OutOfMemory h = tt
+
+unlisted_so_too : (e : Error) → unlisted_answer {T = WalkReport} (Err e) ≤ unlisted_report {T = Report} (Err (of_walk e))
+unlisted_so_too walk.Interrupted = omega arith
+unlisted_so_too (walk.WorktreeRootIsFile root) = omega arith
+unlisted_so_too (walk.NormalizeRoot root) = omega arith
+unlisted_so_too (walk.SymlinkInRoot root worktree_root index) = omega arith
+unlisted_so_too (walk.SymlinkMetadata path c) = omega arith
+unlisted_so_too (walk.ExcludesAccess e) = omega arith
+unlisted_so_too (walk.ReadDir path c) = omega arith
+unlisted_so_too (walk.DirEntry path) = omega arith
+unlisted_so_too (walk.TooDeep path) = omega arith
+unlisted_so_too walk.OutOfMemory = omega arith
+
+deep_so_too : (e : Error) → deep_report {T = Report} (Err (of_walk e)) ≤ deep_answer {T = WalkReport} (Err e)
+deep_so_too walk.Interrupted = omega arith
+deep_so_too (walk.WorktreeRootIsFile root) = omega arith
+deep_so_too (walk.NormalizeRoot root) = omega arith
+deep_so_too (walk.SymlinkInRoot root worktree_root index) = omega arith
+deep_so_too (walk.SymlinkMetadata path c) = omega arith
+deep_so_too (walk.ExcludesAccess e) = omega arith
+deep_so_too (walk.ReadDir path c) = omega arith
+deep_so_too (walk.DirEntry path) = omega arith
+deep_so_too (walk.TooDeep path) = omega arith
+deep_so_too walk.OutOfMemory = omega arith
 
 failed_lookup : (Failed Failed' Stored : Type 0) (e : AtPathError) → (Failed → Failed') → lookups.OnFault Failed Stored e → lookups.OnFault Failed' Stored e
 failed_lookup Failed Failed' Stored inner.NotNormal wide h = tt
@@ -247,11 +282,12 @@ facts-described known (x ∷ xs) = (refl, facts-described known xs)
 
 described-orderly : (composes : Bool) (told : Option Names) (root : List ℕ) (setup : Setup) (known : Option Known) (walked : WalkReport)
     → ((t : Names) → told ≡ Some t → known_in t root setup ≡ Ok known) → (setup.options.submodules ≡ true → is_some known ≡ true) → (setup.options.submodules ≡ false → known ≡ None)
-    → Ascends walked.entries → walked.outcome.returned_entries ≡ min (length walked.entries) (2 ^ 64 - 1) → min walked.outcome.returned_entries (2 ^ 32 - 1) ≤ walked.outcome.seen_entries
+    → Ascends walked.entries → hidden_in (chosen_of composes setup) walked.entries ≡ 0 → walked.outcome.returned_entries ≡ min (length walked.entries) (2 ^ 64 - 1) → min walked.outcome.returned_entries (2 ^ 32 - 1) ≤ walked.outcome.seen_entries
     → IsFromRoot (asked_of composes root setup) setup.root walked → IsOrderly composes told root setup (described known walked)
-described-orderly composes told root setup known walked known_is asked_for unasked ordered counted seen once =
+described-orderly composes told root setup known walked known_is asked_for unasked ordered filtered counted seen once =
     record {
       ascends = subst Ascends (sym (emissions-described known walked.entries)) ordered;
+      filtered = ap {B = ℕ} (hidden_in (chosen_of composes setup)) (emissions-described known walked.entries) ∙ filtered;
       counted = counted ∙ ap (λ (n : ℕ). min n (2 ^ 64 - 1)) (sym (length-map walked.entries (entry_in known)));
       seen = seen;
       start = once.root;
@@ -317,21 +353,21 @@ most_more limit (Some walk) less more fits = omega (arith, fits)
 opened_later : {W F I : Type 0} (w : WorktreeOf W) (f : FindOf F) (i : InterruptOf I) (w0 wl w1 : W) (o0 : F) (i0 i1 : I) (root : List ℕ) (setup : Setup) (walked : Result WalkReport Error) (result : Result Report ReportError)
     → LoadsFiles w w0 wl (files_if setup) → w.faults wl ≤ w.faults w1
     → (opens : OpensDirectories w i wl w1 i0 i1 setup.options.strategy (asked_of (w.precomposes wl) root setup) (excludes_of root setup) setup.root (λ (r : WalkReport). r.outcome) (λ (r : WalkReport). r.root) walked
-    (EntersAsAsked w f wl w1 o0 root setup (refused_one walked)))
+    (EntersAsAsked w f wl w1 o0 root setup (unlisted_answer walked)))
     → IfOk result (λ r. r.outcome.read_dir_calls ≡ min opens.opened (2 ^ 32 - 1)) → Names_too root walked result → refused_one walked ≤ refused_one result
-    → LoadsAndOpens w f i w0 w1 o0 i0 i1 root setup result
-opened_later w f i w0 wl w1 o0 i0 i1 root setup walked result loads more opens counted names spare =
+    → unlisted_answer walked ≤ unlisted_report result → deep_report result ≤ deep_answer walked → LoadsAndOpens w f i w0 w1 o0 i0 i1 root setup result
+opened_later w f i w0 wl w1 o0 i0 i1 root setup walked result loads more opens counted names spare unlisted deep =
     record {
       opened = opens.opened;
       within = λ s told quiet.
           let first = loads.faults in
           let second : NotIncreased (w.faults wl) (w.faults w1) = omega (arith, quiet, first, more) in
           let most = opens.within s (record { tree_is = loads.tree ∙ told.tree_is; objects_are = told.objects_are }) second in
-          let same = ap {B = ℕ} (λ (b : Bool). most_opened setup.depth (walk_in (asked_of b root setup) (excludes_of root setup) s setup.root) (refused_one walked)) loads.precomposes in
-          let fits = most_more setup.depth (walk_in (asked_of (w.precomposes w0) root setup) (excludes_of root setup) s setup.root) (refused_one walked) (refused_one result) spare in
+          let same = ap {B = ℕ} (λ (b : Bool). most_opened setup.depth (walk_in (asked_of b root setup) (excludes_of root setup) s setup.root) (unlisted_answer walked)) loads.precomposes in
+          let fits = most_more setup.depth (walk_in (asked_of (w.precomposes w0) root setup) (excludes_of root setup) s setup.root) (unlisted_answer walked) (unlisted_report result) unlisted in
           omega (arith, most, same, fits);
       listed = subst (λ (n : ℕ). IsListed setup.options.strategy n (w.lists w1) opens.opened) loads.lists opens.listed;
-      asked = opens.asked;
+      asked = let asks = opens.asked in omega (arith, asks, deep);
       counted = counted;
       reads = λ over_itself rules_alone.
           record {
@@ -363,7 +399,8 @@ module _ {W F I : Type 0} {w : WorktreeOf W} {f : FindOf F} {i : InterruptOf I} 
                 same = same;
               };
           orderly = subst (IsOrderly (w.precomposes w0) (w.told w0) root setup) (sym same)
-              (described-orderly (w.precomposes w0) (w.told w0) root setup known walked known_is asked_for unasked reports.ordered reports.counted reports.seen
+              (described-orderly (w.precomposes w0) (w.told w0) root setup known walked known_is asked_for unasked reports.ordered
+              (subst (λ (b : Bool). hidden_in (chosen_of b setup) walked.entries ≡ 0) loads.precomposes reports.filtered) reports.counted reports.seen
               (subst (λ (b : Bool). IsFromRoot (asked_of b root setup) setup.root walked) loads.precomposes reports.once));
           named = λ t told quiet.
               subst (λ (x : Report). IsNamedRoot (w.precomposes w0) t root setup x.root) (sym same)
@@ -385,7 +422,7 @@ module _ {W F I : Type 0} {w : WorktreeOf W} {f : FindOf F} {i : InterruptOf I} 
           interrupt = reports.interrupt;
           listed = reports.listed ∙ loads.list_faults;
           calm = reports.calm;
-          opens = opened_later w f i w0 wl w1 o0 i0 i1 root setup (Ok walked) (Ok r) loads reports.worktree.faults reports.opens (ap (λ (x : Report). x.outcome.read_dir_calls) same ∙ reports.opens.counted) (λ start named. ap (λ (x : Report). x.root) same ∙ named) (omega arith);
+          opens = opened_later w f i w0 wl w1 o0 i0 i1 root setup (Ok walked) (Ok r) loads reports.worktree.faults reports.opens (ap (λ (x : Report). x.outcome.read_dir_calls) same ∙ reports.opens.counted) (λ start named. ap (λ (x : Report). x.root) same ∙ named) (omega arith) (omega arith) (omega arith);
         }
 
     -- there is no memory to describe it
@@ -413,7 +450,7 @@ module _ {W F I : Type 0} {w : WorktreeOf W} {f : FindOf F} {i : InterruptOf I} 
           interrupt = reports.interrupt;
           listed = tt;
           calm = tt;
-          opens = opened_later w f i w0 wl w1 o0 i0 i1 root setup (Ok walked) (Err errors.OutOfMemory) loads reports.worktree.faults reports.opens tt (λ start named. tt) (omega arith);
+          opens = opened_later w f i w0 wl w1 o0 i0 i1 root setup (Ok walked) (Err errors.OutOfMemory) loads reports.worktree.faults reports.opens tt (λ start named. tt) (omega arith) (omega arith) (omega arith);
         }
 
     -- the walk was refused
@@ -447,7 +484,7 @@ module _ {W F I : Type 0} {w : WorktreeOf W} {f : FindOf F} {i : InterruptOf I} 
           interrupt = reports.interrupt;
           listed = tt;
           calm = tt;
-          opens = opened_later w f i w0 wl w1 o0 i0 i1 root setup (Err e) (Err (of_walk e)) loads reports.worktree.faults reports.opens tt (λ start named. tt) (omega arith);
+          opens = opened_later w f i w0 wl w1 o0 i0 i1 root setup (Err e) (Err (of_walk e)) loads reports.worktree.faults reports.opens tt (λ start named. tt) (omega arith) (unlisted_so_too e) (deep_so_too e);
         }
 
     pub MakesReport-described : (walked : Result WalkReport Error) (result : Result Report ReportError) → Reports w f i wl w1 o0 o1 i0 i1 root setup walked → Describes result known walked

@@ -4,7 +4,6 @@ use Rattle.gitbase_core.specs.declared.find.Find.{Ghosts as FindOf}
 use Rattle.worktree_fs.specs.declared.interrupt.Interrupt.{Ghosts as InterruptOf}
 use Rattle.worktree_fs.specs.declared.worktree.Worktree.{Ghosts as WorktreeOf}
 use Rattle.worktree_fs.specs.Causes.{Increased, NotIncreased}
-use Rattle.worktree_stack.specs.Lookups.{refused_one}
 use Rattle.worktree_stack.specs.Reading.{Sources}
 use Rattle.worktree_stack.specs.Setup.{Made}
 use Rattle.worktree_stack.specs.Stacked.{Stacked}
@@ -19,8 +18,10 @@ use Rattle.dir_walk.specs.declared.strategy.Strategy.{Strategy}
 use Rattle.dir_walk.specs.declared.strategy.Strategy.TheVariants.{AtOnce, Held}
 use Rattle.dir_walk.specs.Distinct.{Ascends}
 use Rattle.dir_walk.specs.Opens.{IsListed}
+use Rattle.dir_walk.specs.Puts.{hidden_in}
 use Rattle.dir_walk.specs.Reports.{IsFromRoot, IsReport}
 use Rattle.dir_walk.specs.Root.{rooted, traversal_root, walk_in}
+use Rattle.dir_walk.specs.Unopened.{unlisted_answer}
 use Rattle.dir_walk.specs.WalkRefused.{by_default, IsNoTop, OnNoRoot, Recursion, WalkAbout, WalkFound, WalkRefuses}
 use Rattle.dir_walk.specs.Walkable.{IsValid}
 use Rattle.dir_walk.specs.Walks.{most_opened, Tells, WalksWorktree}
@@ -56,14 +57,15 @@ pub Reports-walked : {W F I : Type 0} {w : WorktreeOf W} {f : FindOf F} {i : Int
     → ((s : Sources) → Tells w f w0 o0 old s → NotIncreased (w.faults w0) (w.faults w1) → IfOk result (IsReport (asked_of (w.precomposes w0) root setup) (made_with old) s setup.root setup.depth))
     → IfOk result (λ r. Ascends r.entries) → IfOk result (λ r. r.outcome.returned_entries ≡ min (length r.entries) (2 ^ 64 - 1))
     → IfOk result (λ r. min r.outcome.returned_entries (2 ^ 32 - 1) ≤ r.outcome.seen_entries)
-    → IfOk result (IsFromRoot (asked_of (w.precomposes w0) root setup) setup.root)
+    → IfOk result (λ r. hidden_in (chosen_of (w.precomposes w0) setup) r.entries ≡ 0) → IfOk result (IsFromRoot (asked_of (w.precomposes w0) root setup) setup.root)
     → WalksWorktree w f i w0 w1 o0 o1 i0 i1 old new setup.options.strategy (asked_of (w.precomposes w0) root setup) setup.root setup.depth by_default (λ (r : Report). r.outcome) (λ (r : Report). r.root) result
     → Reports w f i w0 w1 o0 o1 i0 i1 root setup result
-Reports-walked {w = w} {f = f} {w0 = w0} {o0 = o0} {o1 = o1} {root = root} {setup = setup} {result = result} made step gives ordered counted seen once walks =
+Reports-walked {w = w} {f = f} {w0 = w0} {o0 = o0} {o1 = o1} {root = root} {setup = setup} {result = result} made step gives ordered counted seen filtered once walks =
     record {
       gives = λ s told quiet. subst (λ m. IfOk result (IsReport (asked_of (w.precomposes w0) root setup) m s setup.root setup.depth)) made (gives s (tells_of {w = w} {f = f} made step s told) quiet);
       ordered = ordered;
       counted = counted;
+      filtered = filtered;
       seen = seen;
       once = once;
       named = walks.named;
@@ -90,7 +92,7 @@ Reports-walked {w = w} {f = f} {w0 = w0} {o0 = o0} {o1 = o1} {root = root} {setu
           record {
             opened = walks.opens.opened;
             within = λ s told quiet.
-                subst (λ m. walks.opens.opened ≤ most_opened setup.depth (walk_in (asked_of (w.precomposes w0) root setup) m s setup.root) (refused_one result)) made
+                subst (λ m. walks.opens.opened ≤ most_opened setup.depth (walk_in (asked_of (w.precomposes w0) root setup) m s setup.root) (unlisted_answer result)) made
                 (walks.opens.within s (tells_of {w = w} {f = f} made step s told) refl quiet);
             listed = walks.opens.listed;
             asked = walks.opens.asked;
@@ -112,6 +114,7 @@ Reports-memory w f i w0 o0 i0 root setup =
       gives = λ s told quiet. tt;
       ordered = tt;
       counted = tt;
+      filtered = tt;
       seen = tt;
       once = tt;
       named = λ t told quiet. tt;

@@ -1,3 +1,4 @@
+pub mod Unopened
 pub mod Words
 pub mod Permissions
 pub mod ConfigFiles

@@ -4,24 +4,26 @@ use Rattle.std.specs.List.{AllByRecursion}
 use Rattle.worktree_fs.specs.Paths.{full_path}
 use Rattle.worktree_fs.specs.Tree.{Names}
 use Rattle.dir_walk.specs.Distinct.{Ascends}
+use Rattle.dir_walk.specs.Puts.{hidden_in}
 use Rattle.dir_walk.specs.Rooting.{IsNormalized}
 use Rattle.dir_walk.specs.Walks.{GivesFrom}
 use Rattle.worktree_report.specs.declared.known.Known.{Known}
 use Rattle.worktree_report.specs.declared.report.Report.{Report}
 use Rattle.worktree_report.specs.declared.report.ReportEntry.{ReportEntry}
 use Rattle.worktree_report.specs.declared.setup.Setup.{Setup}
-use Rattle.worktree_report.specs.Asked.{asked_of}
+use Rattle.worktree_report.specs.Asked.{asked_of, chosen_of}
 use Rattle.worktree_report.specs.Lines.{text_with}
 use Rattle.worktree_report.specs.Loading.{known_in}
 use Rattle.worktree_report.specs.Submodules.{emission_in, facts_in}
 
--- The entries ascend strictly by path, so that none stands twice, and `returned_entries` is their number, of no more than were
--- seen. Their paths are at or
+-- The entries ascend strictly by path, so that none stands twice, and are none that the options hide; `returned_entries` is their
+-- number, of no more than were seen. Their paths are at or
 -- beneath a traversal root that was asked for and that the report names, or there is one at most, on the way to it. With each
 -- stands the submodule at its path by what is known of submodules: over a told tree what the tree tells, and nothing where
 -- the setup does not ask for submodules.
 pub record IsOrderly (composes : Bool) (told : Option Names) (root : List ℕ) (setup : Setup) (r : Report) : Type 0 where
   pub ascends : Ascends (map emission_in r.entries)
+  pub filtered : hidden_in (chosen_of composes setup) (map emission_in r.entries) ≡ 0
   pub counted : r.outcome.returned_entries ≡ min (length r.entries) (2 ^ 64 - 1)
   pub seen : min r.outcome.returned_entries (2 ^ 32 - 1) ≤ r.outcome.seen_entries
   pub start : List ℕ

@@ -19,7 +19,9 @@ use Rattle.dir_walk.specs.Distinct.{Ascends}
 use Rattle.dir_walk.specs.Kept.{AsksInterrupt, KeepsTree, OnInterrupt, OnListingFault}
 use Rattle.dir_walk.specs.Opens.{IsListed, reads_rules_alone}
 use Rattle.dir_walk.specs.Root.{rooted, traversal_root, walk_in}
+use Rattle.dir_walk.specs.Puts.{hidden_in}
 use Rattle.dir_walk.specs.Reports.{IsFromRoot}
+use Rattle.dir_walk.specs.Unopened.{unlisted_answer}
 use Rattle.dir_walk.specs.Walkable.{IsValid}
 use Rattle.dir_walk.specs.Walks.{OpensDirectories, most_opened}
 use Rattle.worktree_report.specs.declared.error.ReportError.{ReportError}
@@ -40,6 +42,7 @@ use Rattle.worktree_report.specs.Loads.{of_walk}
 use Rattle.worktree_report.specs.Orderly.{IsOrderly, IsOrderlyText}
 use Rattle.worktree_report.specs.Outside.{FailsLoading, IsOutside, LoadsAlone, MisreadsAt, OnMisread, OnReading, Stops}
 use Rattle.worktree_report.specs.Submodules.{described}
+use Rattle.worktree_report.specs.Unopened.{deep_report, unlisted_report}
 
 -- The whole path of the traversal root that a setup asks for in a tree.
 abbrev pub IsNamedRoot : Bool → Names → List ℕ → Setup → List ℕ → Type 0
@@ -60,9 +63,11 @@ pub record Reports {W F I : Type 0} (w : WorktreeOf W) (f : FindOf F) (i : Inter
   -- Over a told tree and a store that tells what it holds, and without a fault, it is exactly the one that the setup asks for.
   pub gives : (s : Sources) → TellsIf (w.told w0) (f.holds o0) (excludes_of root setup) s → NotIncreased (w.faults w0) (w.faults w1)
       → IfOk result (IsWalkOf (w.precomposes w0) s root setup)
-  -- Over any worktree the entries ascend strictly by path, are counted, and are from a traversal root that was asked for.
+  -- Over any worktree the entries ascend strictly by path, are counted, are none that the options hide, and are from a traversal root
+  -- that was asked for.
   pub ordered : IfOk result (λ r. Ascends r.entries)
   pub counted : IfOk result (λ r. r.outcome.returned_entries ≡ min (length r.entries) (2 ^ 64 - 1))
+  pub filtered : IfOk result (λ r. hidden_in (chosen_of (w.precomposes w0) setup) r.entries ≡ 0)
   pub seen : IfOk result (λ r. min r.outcome.returned_entries (2 ^ 32 - 1) ≤ r.outcome.seen_entries)
   pub once : IfOk result (IsFromRoot (asked_of (w.precomposes w0) root setup) setup.root)
   pub named : (t : Names) → w.told w0 ≡ Some t → NotIncreased (w.faults w0) (w.faults w1)
@@ -88,7 +93,7 @@ pub record Reports {W F I : Type 0} (w : WorktreeOf W) (f : FindOf F) (i : Inter
   pub calm : OnOk result (i.raised i1 ≡ i.raised i0)
   -- What is opened and read.
   pub opens : OpensDirectories w i w0 w1 i0 i1 setup.options.strategy (asked_of (w.precomposes w0) root setup) (excludes_of root setup) setup.root (λ (r : WalkReport). r.outcome) (λ (r : WalkReport). r.root) result
-      (EntersAsAsked w f w0 w1 o0 root setup (refused_one result))
+      (EntersAsAsked w f w0 w1 o0 root setup (unlisted_answer result))
 
 -- what holds of a refused walk
 abbrev pub OnWalk : (Error → Type 0) → ReportError → Type 0
@@ -126,13 +131,13 @@ Describes (Err error) known (Ok walked) = error ≡ errors.OutOfMemory
 Describes (Err error) known (Err e) = error ≡ of_walk e
 
 -- What is opened and read: what tells of submodules first, and then as the walk does. Over what is told, and without a fault, no more
--- directories are opened than the walk enters within its depth; a refusal may come with one more. The interrupt is asked before each, and
--- once more where it was raised.
+-- directories are opened than the walk enters within its depth, and where a listing is refused one more. The interrupt is asked before
+-- each, and before one is found too deep, and once more where it was raised.
 pub record LoadsAndOpens {W F I : Type 0} (w : WorktreeOf W) (f : FindOf F) (i : InterruptOf I) (w0 w1 : W) (o0 : F) (i0 i1 : I) (root : List ℕ) (setup : Setup) (result : Result Report ReportError) : Type 0 where
   pub opened : ℕ
-  pub within : EntersAsAsked w f w0 w1 o0 root setup (refused_one result) opened
+  pub within : EntersAsAsked w f w0 w1 o0 root setup (unlisted_report result) opened
   pub listed : IsListed setup.options.strategy (w.lists w0) (w.lists w1) opened
-  pub asked : with_more (i.questions i0) (opened + (i.raised i1 - i.raised i0)) ≤ i.questions i1
+  pub asked : with_more (i.questions i0) (opened + deep_report result + (i.raised i1 - i.raised i0)) ≤ i.questions i1
   pub counted : IfOk result (λ r. r.outcome.read_dir_calls ≡ min opened (2 ^ 32 - 1))
   pub reads : setup.options.strategy ≡ Held → reads_rules_alone (chosen_of (w.precomposes w0) setup) ≡ true
       → ReadsWithin (w.precomposes w0) root setup result (w.reads w0) (w.reads w1) opened (refused_one result)

@@ -6,6 +6,7 @@ ghost use Rattle.dir_classify.specs.Chosen.{chosen};
 ghost use Rattle.dir_classify.specs.Excludes.{made_with, tells_excludes};
 ghost use Rattle.dir_classify.specs.Layers.{IsLookupIf};
 ghost use Rattle.dir_walk.specs.Distinct.{Ascends};
+ghost use Rattle.dir_walk.specs.Puts.{hidden_in};
 ghost use Rattle.dir_walk.specs.Reports.{IsFromRoot, IsReport};
 ghost use Rattle.dir_walk.specs.WalkRefused.{by_default};
 ghost use Rattle.dir_walk.specs.Walks.{Tells, WalksWorktree};
@@ -115,6 +116,8 @@ fn walk_with<'a, W: Worktree, F: Find, I: Interrupt>(
         (λ r. r.outcome.returned_entries ≡ min (length r.entries) (2 ^ 64 - 1)) }
     ensures seen { IfOk result
         (λ r. min r.outcome.returned_entries (2 ^ 32 - 1) ≤ r.outcome.seen_entries) }
+    ensures filtered { IfOk result (λ r. hidden_in
+        (chosen_of (W.precomposes worktree.old) setup.now) r.entries ≡ 0) }
     ensures once { IfOk result (IsFromRoot
         (asked_of (W.precomposes worktree.old) root.now setup.now) setup.now.root) }
     ensures walks_worktree { WalksWorktree W.Worktree F.Find I.Interrupt worktree.old worktree.new
