@@ -49,7 +49,7 @@ impl AccelerateLookup {
 impl State {
     /// The first entry, in the order of the index, whose path is `path` without regard to the case of ASCII letters.
     ///
-    /// The lookup is one made from this index. Two binary searches find the entry; no clause speaks of the cost.
+    /// The lookup is one made from this index. A binary search finds the entry; no clause speaks of the cost.
     ///
     /// See docs/DECISIONS.md#first-without-case.
     pub fn entry_by_path_icase(&self, path: &[u8], lookup: &AccelerateLookup) -> Option<&IndexEntry>

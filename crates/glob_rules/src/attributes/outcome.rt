@@ -161,7 +161,8 @@ impl Outcome {
         Ok(())
     }
 
-    /// What was found of a name. None where nothing was, and where the name is not asked for.
+    /// What was found of a name. None where nothing was, and where the name is not asked for. All names that were asked for are gone
+    /// over for it: [`Outcome::iter_selected`] gives them in one pass.
     pub fn value_of(&self, name: &[u8]) -> Option<&Assignment>
         ensures { option_copied result ≡ found_of name.now self.now.rows }
     {
