@@ -1,5 +1,5 @@
 //! Entering a directory.
-ghost use Rattle.std.specs.Prelude.{◌≡◌, ◌≤◌, ◌-◌, ◌+◌, ◌^◌, min, ℕ, List, Option, Some, true, false, IfOk, IfErr, OnOk, OnErr};
+ghost use Rattle.std.specs.Prelude.{◌≡◌, ◌≤◌, ◌-◌, ◌+◌, ◌^◌, min, ℕ, List, Option, Some, true, false, IfOk, IfErr, OnOk};
 ghost use Rattle.gitbase_core.specs.Path.{is_empty};
 ghost use Rattle.worktree_fs.specs.Answers.{ListsNames};
 ghost use Rattle.worktree_fs.specs.Causes.{Increased, with_more};
