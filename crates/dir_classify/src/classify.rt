@@ -95,8 +95,8 @@ pub struct RootOutcome {
 /// ignore rules one file is read for each directory at most, and for a repository three files, or six where bare ones are looked for.
 ///
 /// The ignore rules are asked for a path below the worktree root that a path spec can match, that is not of the worktree set, and
-/// that the index does not have, or has in another shape (a directory in a file's place, or the other way round), and in
-/// deletion for one named `.git`: they are read as they are needed, and kept for the next path. They are to tell which paths are
+/// that the index does not have, or has in another shape (a directory in a file's place, or the other way round, but for what a
+/// sparse checkout leaves out), and in deletion for one named `.git`: they are read as they are needed, and kept for the next path. They are to tell which paths are
 /// excluded. The store is asked for the blobs that rules files are mapped to, and for nothing where none is.
 ///
 /// See docs/DECISIONS.md#when-rules-are-asked.

@@ -17,7 +17,7 @@ use worktree_fs::NodeKind;
 pub enum Property {
     /// The path is named `.git`, and never tracked as content.
     DotGit,
-    /// The path is a directory that holds no name.
+    /// The path is a directory that holds no name, or is folded over such ones alone.
     EmptyDirectory,
     /// The same, where it must not go, as it is the current directory.
     EmptyDirectoryAndCWD,
@@ -266,7 +266,8 @@ pub struct Entry {
     /// set.
     pub index_kind: Option<Kind>,
     /// How the path specs match, or `Prefix` for an ignored directory that may lie above what is looked for; none where they
-    /// tell no match, and for a path that none of them can match.
+    /// tell no match, and for a path that none of them can match. Of a folded directory it is the greatest match of what that
+    /// holds, and of one without names the kind of the spec that decides, also where that takes it out.
     pub pathspec_match: Option<PathspecMatch>,
     /// The ignore rule that decided about the path, which may be a negative one; none where none was asked or none did, and for a
     /// path named `.git` that is not ignored.
@@ -291,7 +292,8 @@ pub struct EntryRef<'a> {
     /// set.
     pub index_kind: Option<Kind>,
     /// How the path specs match, or `Prefix` for an ignored directory that may lie above what is looked for; none where they
-    /// tell no match, and for a path that none of them can match.
+    /// tell no match, and for a path that none of them can match. Of a folded directory it is the greatest match of what that
+    /// holds, and of one without names the kind of the spec that decides, also where that takes it out.
     pub pathspec_match: Option<PathspecMatch>,
     /// The ignore rule that decided about the path, which may be a negative one; none where none was asked or none did, and for a
     /// path named `.git` that is not ignored.

@@ -30,14 +30,14 @@ use worktree_stack::Stack;
 /// A directory is folded over what lies in it as the options ask for it; in deletion neither a directory that holds
 /// precious paths among others is folded nor the current one.
 ///
-/// Each directory that is entered is listed once; where files are read for their rules alone, and these are ignore rules
+/// Each directory that is entered is listed once where no fault was counted and the delegate recurses by default; where files are read for their rules alone, and these are ignore rules
 /// alone, the worktree is read at most once for each of them and for each component of the traversal root, and once more
 /// where the walk is refused. Each level below the traversal root takes room on the stack, up to `depth_limit` of the
 /// context.
 ///
-/// Three faults of the worktree are no refusal, but are counted: of the question for the kind of a name, of a look for a
-/// repository, and of the real path of the worktree root. The name has no kind then, is seen as no repository or as
-/// another one, or no directory is the current one. So is the fault of the question whether the common directory is one,
+/// Four faults of the worktree are no refusal, but are counted: of the question for the kind of a name, of what a link leads to,
+/// of a look for a repository, and of the real path of the worktree root. The name has no kind then, stays a link to nothing, is
+/// seen as no repository or as another one, or no directory is the current one. So is the fault of the question whether the common directory is one,
 /// which is then not begun at; and that of the question where a link at the worktree root leads, which then counts as no
 /// directory, so that a walk from there is refused with `WorktreeRootIsFile`. After a refusal the delegate has what it was
 /// given before, and where there is no traversal root, or the worktree root is refused, that is nothing. Where it answers
@@ -57,8 +57,8 @@ use worktree_stack::Stack;
 /// - `WorktreeRootIsFile`: the traversal root is the worktree root, which is not entered, by its status or as the delegate
 ///   refuses, and is no directory, a link not followed.
 /// - `Interrupted`: the interrupt was raised, which is asked before each directory is read.
-/// - `TooDeep`: a directory is to be entered and has more components below the worktree root than the limit; where recursion
-///   is by default, none that has is listed.
+/// - `TooDeep`: a directory is to be entered and has more components below the worktree root than the limit; the interrupt was
+///   asked before, and the directory is not listed.
 /// - `ReadDir`: what is to be entered could not be listed, for a fault, or is no directory on disk: as the index calls it
 ///   an up-to-date directory; at the traversal root also as it is an up-to-date repository, of the worktree set or
 ///   excluded; and anything that a delegate of its own recursion looks into.

@@ -77,7 +77,7 @@ impl State {
 
     /// Whether the index has an entry whose path is `path` without regard to the case of ASCII letters.
     ///
-    /// The lookup is one made from this index. A binary search tells.
+    /// The lookup is one made from this index. A binary search tells; no clause speaks of the cost.
     pub fn has_entry_icase(&self, path: &[u8], lookup: &AccelerateLookup) -> bool
         requires { IsLookupOf self.now lookup.now }
         ensures { result ≡ is_some (entry_at_icase path.now self.now) }
@@ -87,7 +87,8 @@ impl State {
 
     /// Whether the index has an entry whose path begins with `dir` and a slash without regard to the case of ASCII letters.
     ///
-    /// The lookup is one made from this index. Two binary searches tell, and no pass over these entries is made.
+    /// The lookup is one made from this index. Two binary searches tell, and no pass over these entries is made; no clause
+    /// speaks of the cost.
     pub fn has_entry_beneath_icase(&self, dir: &[u8], lookup: &AccelerateLookup) -> bool
         requires { IsLookupOf self.now lookup.now }
         ensures { result ≡ is_some (entry_beneath_icase dir.now self.now) }

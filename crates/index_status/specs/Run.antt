@@ -113,8 +113,8 @@ pub record StatusTexts {W I : Type 0} (w : WorktreeOf W) (i : InterruptOf I) (co
 pub record AnswersStatus {W I : Type 0} (w : WorktreeOf W) (i : InterruptOf I) (w0 w1 : W) (i0 i1 : I) (places : Places) (answer : Result (List ℕ) Refusal) : Type 0 where
   -- Over a told tree and with no fault counted it is exactly the one that the setup asks for, and the report is safe to act on.
   pub gives : (t : Names) → w.told w0 ≡ Some t → NotIncreased (w.faults w0) (w.faults w1) → IfOk answer (λ text. output_at (w.precomposes w0) t places ≡ Some text)
-  -- Over any worktree it is in order, and over a told tree the lines of the states are exact, whatever failed. The setup was read, and
-  -- each file that is the same or modified.
+  -- Over any worktree it is in order, and over a told tree the lines of the states are exact, whatever failed. The setup was read,
+  -- and behind it at least as many files as are the same or modified, those for the report among them.
   pub orderly : IfOk answer (IsOrderlyAnswer (w.precomposes w0) (w.told w0) places (λ files. with_more (next (w.reads w0)) files ≤ w.reads w1))
   pub safe : (t : Names) → w.told w0 ≡ Some t → NotIncreased (w.faults w0) (w.faults w1) → OnOk answer (IsSafeReport (w.precomposes w0) t places)
   pub works : (t : Names) → w.told w0 ≡ Some t → NotIncreased (w.faults w0) (w.faults w1)

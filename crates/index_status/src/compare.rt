@@ -33,6 +33,9 @@ use worktree_fs::Worktree;
 /// - `Fault`: the worktree failed at this path, which it counted. It is on the way to that of an entry whose state is neither
 ///   `Conflicted` nor `Skipped`, or there, and over a told tree everything before it on that way is a directory.
 /// - `OutOfMemory`: memory was refused.
+///
+/// See docs/DECISIONS.md#states-by-themselves.
+/// See docs/DECISIONS.md#index-path-outside.
 pub fn states<W: Worktree>(
     alloc: Global,
     worktree: &mut W,

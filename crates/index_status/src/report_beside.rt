@@ -38,7 +38,7 @@ fn beside<W: Worktree>(
 ///
 /// # Errors
 ///
-/// - `Report` has the error of [`worktree_report`](worktree_report::worktree_report), for the same causes; nothing is asked after it.
+/// - `Report` has the error of [`worktree_report`](worktree_report::worktree_report), for the same causes; nothing is listed after it.
 /// - `Fault`: the worktree failed at this path, which it counted, after the report was made.
 /// - `OutOfMemory`: memory was refused.
 pub fn status<W: Worktree, F: Find, I: Interrupt>(

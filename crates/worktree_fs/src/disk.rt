@@ -1,4 +1,4 @@
-//! The files of the system as a worktree: the edge of which nothing is proved but its counts.
+//! The files of the system as a worktree: the edge of which the counts, the names and the sizes are proved, and not what it holds.
 ghost use Rattle.std.specs.Prelude.{◌≡◌, ◌≤◌, ◌^◌, ◌&&◌, length, None, Ok, IfOk, IsErrOf, MatchResult, false, All, IsTrue};
 ghost use Rattle.worktree_fs.specs.Causes.{Increased, next};
 ghost use Rattle.worktree_fs.specs.Disk.{is_fault, is_listing_fault, has_nul, is_unaskable, more_if, counted_call, counted_read, counted_listing, IsGiven};

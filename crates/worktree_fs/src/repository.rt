@@ -52,6 +52,7 @@ pub fn real_path_is<W: Worktree>(
 /// - `OutOfMemory` for want of memory.
 ///
 /// See docs/DECISIONS.md#failed-repository-test.
+/// See docs/DECISIONS.md#real-disk-paths.
 /// See docs/DIFFERENCES.md#git-file-size.
 pub fn is_git<W: Worktree>(
     alloc: Global,

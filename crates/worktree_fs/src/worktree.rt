@@ -27,10 +27,10 @@ pub trait Worktree {
     /// What is in `/`, where the worktree tells it.
     ghost told: { Self → Option Names };
 
-    /// How many calls failed at least, since one that fails may raise it by more than one; it never falls.
+    /// At most so many calls failed, since one that fails raises it by one or more, and it stands at its type's end; it never falls.
     ghost faults: { Self → ℕ };
 
-    /// How many listings failed, at opening or while names were read, at least so too; it never falls.
+    /// The same of listings that failed, at opening or while names were read; it never falls.
     ghost list_faults: { Self → ℕ };
 
     /// How many reads were asked for.

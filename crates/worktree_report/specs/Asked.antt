@@ -158,7 +158,7 @@ pub record WorksAt (composes : Bool) (t : Names) (root : List ℕ) (setup : Setu
       → ReadsWithin {E = ReportError} composes root setup (Ok made) reads0 reads1
       (most_opened setup.depth (walk_in (asked_of composes root setup) (excludes_of root setup) (read_in t setup) setup.root) 0) 0
 
--- Of the report over a tree: so many directories were listed over the worktree, each once, no more than the walk enters within its depth,
+-- Of the report over a tree: so many directories were listed over the worktree, no more than the walk enters within its depth,
 -- and as many as the report counts. Where subtrees are walked at once, over forks, the worktree counts one of them at most.
 pub record ListsAt (composes : Bool) (t : Names) (root : List ℕ) (setup : Setup) (lists0 lists1 : ℕ) : Type 0 where
   pub opened : ℕ

@@ -17,7 +17,8 @@ use worktree_fs::{MakeAnswer, NodeKind, ReadError, Worktree};
 ///
 /// # Errors
 ///
-/// - `Collision`: a node that is no directory is there, and may not be removed; or one came there meanwhile.
+/// - `Collision`: a node that is no directory is there, and may not be removed; or one came there meanwhile; or the worktree
+///   composes names, and the composed one is taken.
 /// - `Directory` with `NoParent`: there is no directory above the path.
 /// - `Directory` with `Fault`: the worktree failed, which it counted.
 /// - `OutOfMemory`: memory is refused.

@@ -25,7 +25,8 @@ use std::marker::Model;
 /// What a stack says of the path that was looked up last; gitoxide's `gix_worktree::stack::Platform`.
 ///
 /// Contracts see the stack. Where it is in step with a tree and stands at the path, what it says is what the rules of that tree
-/// say, with every directory above the path looked at afresh. No call here takes memory.
+/// say, with every directory above the path looked at afresh. No call here takes memory but
+/// [`Platform::matching_attributes`].
 #[derive(Drop)]
 pub struct Platform<'a> {
     parent: &'a Stack,

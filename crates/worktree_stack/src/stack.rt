@@ -326,7 +326,7 @@ impl Stack {
     /// reading the rules of each. [`Stack::platform`] then says what holds for it.
     ///
     /// Empty components mean nothing. `mode` is that of the path in an index, where it is known, and says whether the path is a
-    /// directory. Whether anything is at the path makes no difference.
+    /// directory. Whether anything is at the path makes no difference, but in checkout where the mode is that of a directory.
     ///
     /// Attributes are read before ignore rules, and the information file with the root, behind its own `.gitattributes`. `objects` are
     /// asked for the blobs that rules files are mapped to. The worktree is read at most as often as the readings of the directories ask it that
@@ -345,7 +345,8 @@ impl Stack {
     ///   read, which the store counted (`Fault`).
     /// - `Component`: the next component to be pushed may not be checked out; those before it may. This and the next two come in
     ///   checkout alone.
-    /// - `Collision`: a node that is no directory is where a directory is to be, and is not to be removed.
+    /// - `Collision`: a node that is no directory is where a directory is to be, and is not to be removed; where names are composed
+    ///   also where the composed name is taken. See docs/DECISIONS.md#checkout-composes.
     /// - `Directory`: there is no directory for another to be in (`NoParent`), or the worktree failed, which it counted (`Fault`).
     /// - `OutOfMemory`: memory is refused.
     ///

@@ -336,6 +336,7 @@ fn list_of(
 }
 
 /// Pushes the list of a text that was read, which speaks of attributes. Where memory is refused nothing is pushed.
+/// See docs/DECISIONS.md#attribute-bases.
 fn push_text(
     state: &mut State,
     alloc: Global,
