@@ -43,6 +43,7 @@ pub record IsAlong {W : Type 0} (w : WorktreeOf W) (w0 w1 : W) (root : List ℕ)
   pub paired : ArePaired (IsState (w.told w0) root) done made
   pub reads : w.reads w1 + files_in left ≤ w.reads w0 + files_in entries
   pub read : with_more (w.reads w0) (files_behind made) ≤ w.reads w1
+  pub unfaulted : w.faults w1 ≡ w.faults w0
 
 -- a row more
 behind-snoc : (made : List Row) (path : List ℕ) (s : PathState) → files_behind (made ++ (path, s) ∷ []) ≡ files_behind made + files_for s
@@ -74,8 +75,8 @@ module _ {W : Type 0} (w : WorktreeOf W) (w0 w1 w2 : W) (root : List ℕ) (entri
   pub along-reads : w.reads w2 ≤ w.reads w0 + files_in entries
   along-reads = omega (arith, fewer)
 
-  along-again : is_last made e.path ≡ true → Asks w w1 w2 → IsAlong w w0 w2 root entries rest made
-  along-again again keeps =
+  along-again : is_last made e.path ≡ true → Asks w w1 w2 → w.faults w2 ≡ w.faults w1 → IsAlong w w0 w2 root entries rest made
+  along-again again keeps unfaulted =
       let first = at.keeps in
       record {
         keeps = search rules;
@@ -89,11 +90,12 @@ module _ {W : Type 0} (w : WorktreeOf W) (w0 w1 w2 : W) (root : List ℕ) (entri
         paired = at.paired;
         reads = fewer;
         read = let before = at.read in let later = keeps.reads in omega (arith, before, later);
+        unfaulted = unfaulted ∙ at.unfaulted;
       }
 
   along-new : (s : PathState) (more : List Row) → is_last made e.path ≡ false → Asks w w1 w2 → IsState (w.told w1) root e s → IsMore made e.path s more
-      → ReadsFor (w.reads w1) (w.reads w2) made more → IsAlong w w0 w2 root entries rest more
-  along-new s more new keeps is grown read =
+      → ReadsFor (w.reads w1) (w.reads w2) made more → w.faults w2 ≡ w.faults w1 → IsAlong w w0 w2 root entries rest more
+  along-new s more new keeps is grown read unfaulted =
       let first = at.keeps in
       subst (λ (l : List Row). IsAlong w w0 w2 root entries rest l) (sym grown)
       (record {
@@ -112,16 +114,17 @@ module _ {W : Type 0} (w : WorktreeOf W) (w0 w1 w2 : W) (root : List ℕ) (entri
             (subst (λ (told : Option Names). IsState told root e s) at.keeps.tree is);
         reads = fewer;
         read = subst (λ (l : List Row). with_more (w.reads w0) (files_behind l) ≤ w.reads w2) grown (read (w.reads w0) at.read);
+        unfaulted = unfaulted ∙ at.unfaulted;
       })
 
   pub along-entry : (more : List Row) → Asks w w1 w2 → IsWithEntry (w.told w1) root e made more → ReadsFor (w.reads w1) (w.reads w2) made more
-      → IsAlong w w0 w2 root entries rest more
-  along-entry more keeps with read = by (is_last made e.path) refl with
+      → w.faults w2 ≡ w.faults w1 → IsAlong w w0 w2 root entries rest more
+  along-entry more keeps with read unfaulted = by (is_last made e.path) refl with
     where
       by : (b : Bool) → is_last made e.path ≡ b → MatchBool b (more ≡ made) ((s : PathState) × IsState (w.told w1) root e s × IsMore made e.path s more)
           → IsAlong w w0 w2 root entries rest more
-      by true again same = subst (λ (l : List Row). IsAlong w w0 w2 root entries rest l) (sym same) (along-again again keeps)
-      by false new grown = along-new grown.0 more new keeps grown.1 grown.2 read
+      by true again same = subst (λ (l : List Row). IsAlong w w0 w2 root entries rest l) (sym same) (along-again again keeps unfaulted)
+      by false new grown = along-new grown.0 more new keeps grown.1 grown.2 read unfaulted
 
   contained : (before : List IndexEntry) → Contains (before ++ e ∷ rest) e
   contained before = Contains-append_right before (e ∷ rest) e (0, omega arith, refl)
@@ -181,6 +184,7 @@ along-start w w0 root entries left made whole none =
       paired = refl;
       reads = omega (arith, ap files_in whole);
       read = omega arith;
+      unfaulted = refl;
     })
 
 -- the first of what is left of a list

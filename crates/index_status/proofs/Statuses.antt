@@ -61,6 +61,7 @@ Compares-refused {w = w} {w0} {w1} {root} {entries} e of asks few =
       beside = tt;
       reads = few;
       read = tt;
+      unfaulted = tt;
       refused = refused-states (w.told w0) root entries (Increased (w.faults w0) (w.faults w1)) e of;
       keeps = asks;
     }
@@ -121,6 +122,7 @@ beside-is w f i w0 w1 w2 o0 o1 i0 i1 root setup r (Ok status) made compares =
       asks = compares.keeps;
       reads = compares.reads;
       read = compares.read;
+      unfaulted = compares.unfaulted;
       paths = λ t told. compares.gives t (made.worktree.tree ∙ told);
     }
 beside-is w f i w0 w1 w2 o0 o1 i0 i1 root setup r (Err e) made compares = tt

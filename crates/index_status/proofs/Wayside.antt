@@ -12,6 +12,7 @@ use Rattle.index_status.specs.Ways.{IsBehind, IsLed, has_names, is_bar, way}
 pub record IsOn {W : Type 0} (w : WorktreeOf W) (w0 w1 : W) (root path : List ℕ) (barred : Option (List ℕ)) (here name : List ℕ) (left known : List (List ℕ)) : Type 0 where
   pub keeps : Asks w w0 w1
   pub unread : w.reads w1 ≡ w.reads w0
+  pub unfaulted : w.faults w1 ≡ w.faults w0
   pub leads : (t : Names) → w.told w0 ≡ Some t → way t here (name ∷ left) ≡ way t root (components path)
   pub on_way : (at : List ℕ) → IsLookedAt (w.told w0) here (name ∷ left) at → IsLookedAt (w.told w0) root (components path) at
   pub led : (bar : Option (List ℕ)) → IsLed (w.told w0) bar here (name ∷ left) → IsLed (w.told w0) bar root (components path)

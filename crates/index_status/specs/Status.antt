@@ -57,6 +57,8 @@ pub record Compares {W : Type 0} (w : WorktreeOf W) (w0 w1 : W) (root : List ℕ
   pub reads : w.reads w1 ≤ w.reads w0 + files_in entries
   -- and each that is the same or modified was read
   pub read : IfOk result (λ status. with_more (w.reads w0) (files_behind status.paths.items) ≤ w.reads w1)
+  -- and no look that failed is hidden
+  pub unfaulted : OnOk result (w.faults w1 ≡ w.faults w0)
   pub refused : IfErr result (RefusesStates (w.told w0) root entries (Increased (w.faults w0) (w.faults w1)))
   pub keeps : Asks w w0 w1
 
@@ -74,6 +76,7 @@ pub record IsBeside {W F I : Type 0} (w : WorktreeOf W) (f : FindOf F) (i : Inte
   pub asks : Asks w between w1
   pub reads : w.reads w1 ≤ w.reads between + files_in setup.index
   pub read : with_more (w.reads between) (files_behind status.paths.items) ≤ w.reads w1
+  pub unfaulted : w.faults w1 ≡ w.faults between
   pub paths : (t : Names) → w.told w0 ≡ Some t → status.paths.items ≡ rows t root setup.index
 
 -- the report was made, and then the worktree failed while the index paths were looked at

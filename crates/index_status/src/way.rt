@@ -1,5 +1,5 @@
 //! The way from the root to an index path.
-ghost use Rattle.std.specs.Prelude.{◌≡◌, false, true, Some, IfOk, IfErr, IfSome};
+ghost use Rattle.std.specs.Prelude.{◌≡◌, false, true, Some, IfOk, IfErr, IfSome, OnOk};
 ghost use Rattle.gitbase_core.specs.Path.{components};
 ghost use Rattle.worktree_fs.specs.Answers.{kind_of};
 ghost use Rattle.worktree_fs.specs.Causes.{Increased};
@@ -52,6 +52,7 @@ pub(crate) fn way_to<W: Worktree>(
         (IsLookedAt (W.told worktree.old) root.now (components path.now))
         (Increased (W.faults worktree.old) (W.faults worktree.new))) }
     ensures keeps { Asks W.Worktree worktree.old worktree.new }
+    ensures unfaulted { OnOk result (W.faults worktree.new ≡ W.faults worktree.old) }
     ensures reads { W.reads worktree.new ≡ W.reads worktree.old }
 {
     let mut full = PathText::from_bytes(alloc, root)?;
@@ -119,6 +120,7 @@ fn is_led<W: Worktree>(
     ensures refused { IfErr result (ways.StopsAt full.now
         (Increased (W.faults worktree.old) (W.faults worktree.new))) }
     ensures keeps { Asks W.Worktree worktree.old worktree.new }
+    ensures unfaulted { OnOk result (W.faults worktree.new ≡ W.faults worktree.old) }
     ensures reads { W.reads worktree.new ≡ W.reads worktree.old }
 {
     if is_bar(barred, full) {
@@ -141,6 +143,7 @@ fn is_directory<W: Worktree>(
     ensures refused { IfErr result (ways.StopsAt full.now
         (Increased (W.faults worktree.old) (W.faults worktree.new))) }
     ensures keeps { Asks W.Worktree worktree.old worktree.new }
+    ensures unfaulted { OnOk result (W.faults worktree.new ≡ W.faults worktree.old) }
     ensures reads { W.reads worktree.new ≡ W.reads worktree.old }
 {
     match worktree.kind(alloc, full.as_bytes()) {

@@ -30,7 +30,7 @@ loop-entry-preserved g c = (
       (drop c.loop-entry.entry-index c.entries-entry-items.result.now) c.loop-entry.made.items c.loop-entry.invariant.0 c.entry-item.result
       (drop (c.loop-entry.entry-index + 1) c.entries-entry-items.result.now)
       (next-left c.entries-entry-items.result.now c.loop-entry.entry-index c.entry-item.result c.loop-entry-test.true c.entry-item.is)
-      c.in_ok-more.ensures.reads c.in_ok-more.more.items c.in_ok-more.ensures.keeps c.in_ok-more.ensures.more c.in_ok-more.ensures.read,
+      c.in_ok-more.ensures.reads c.in_ok-more.more.items c.in_ok-more.ensures.keeps c.in_ok-more.ensures.more c.in_ok-more.ensures.read c.in_ok-more.ensures.unfaulted,
   subst (λ (told : Option Names). IsKnown told c.args.worktree_root.now c.in_ok-more.led.barred (components c.in_ok-more.led.path.now)) c.loop-entry.invariant.0.keeps.tree
       c.in_ok-more.ensures.known,
 )
@@ -59,6 +59,9 @@ returns-clause-ascends g c =
 
 pub returns-clause-read : goal.returns-clause-read
 returns-clause-read g c = c.loop-entry.invariant.0.read
+
+pub returns-clause-unfaulted : goal.returns-clause-unfaulted
+returns-clause-unfaulted g c = c.loop-entry.invariant.0.unfaulted
 
 pub returns-clause-reads : goal.returns-clause-reads
 returns-clause-reads g c = let few = c.loop-entry.invariant.0.reads in omega (arith, few)
