@@ -146,7 +146,7 @@ module _ {W F I : Type 0} (w : WorktreeOf W) (f : FindOf F) (i : InterruptOf I) 
           made = Ok r;
           between = wm;
           reported = made;
-          ends = record { asks = asks; reads = reads; by_report = tt; refused = stops };
+          ends = record { asks = asks; reads = reads; by_report = tt; refused = stops; unfaulted = tt };
           complete = λ s tells quiet store_quiet calm valid. memory-alone _ e (λ rose. absurd (omega (arith, rose, quiet, made.worktree.faults))) stops;
           worktree = keeps-then made.worktree asks;
           store = made.store;
@@ -157,9 +157,9 @@ module _ {W F I : Type 0} (w : WorktreeOf W) (f : FindOf F) (i : InterruptOf I) 
 
     -- there is a plan
     pub plan-made : (finding : Finding) → is_prepared finding setup.options ≡ true → (current : Option (List ℕ))
-        → ((t : Names) → w.told wm ≡ Some t → current ≡ current_below t root (current_dir_or root setup.current_dir)) → (plan : Plan)
+        → ((t : Names) → w.told wm ≡ Some t → current ≡ current_below t root (current_dir_or root setup.current_dir)) → w.faults w1 ≡ w.faults wm → (plan : Plan)
         → IsPlan (asked_in what setup (start_of root r.root) current) (entries_of r.entries) plan.paths.items → MakesPlan w f i w0 w1 o0 o1 i0 i1 root setup what (Ok plan)
-    plan-made finding prepared current is_current plan is =
+    plan-made finding prepared current is_current unfaulted plan is =
         let in_tree : (t : Names) → w.told wm ≡ Some t → IsPlan (asked_of what t root setup r) (entries_of r.entries) plan.paths.items =
         λ t told. subst (λ (c : Option (List ℕ)). IsPlan (asked_in what setup (start_of root r.root) c) (entries_of r.entries) plan.paths.items) (is_current t told) is in
         record {
@@ -178,7 +178,7 @@ module _ {W F I : Type 0} (w : WorktreeOf W) (f : FindOf F) (i : InterruptOf I) 
           made = Ok r;
           between = wm;
           reported = made;
-          ends = record { asks = asks; reads = reads; by_report = record { current = current; current_is = is_current; plan_is = is }; refused = tt };
+          ends = record { asks = asks; reads = reads; by_report = record { current = current; current_is = is_current; plan_is = is }; refused = tt; unfaulted = unfaulted };
           complete = λ s tells quiet store_quiet calm valid. tt;
           worktree = keeps-then made.worktree asks;
           store = made.store;

@@ -49,13 +49,14 @@ pub record IsPlanBy (told : Option Names) (root : List ℕ) (setup : Setup) (wha
 
 -- After the report was made, or refused, which left the worktree as `between`: a refusal of the report is that of the plan, and
 -- nothing was asked after it; else a fault comes only where the worktree counted one there, and a plan is the one by the entries of that
--- report, whatever failed.
+-- report, whatever failed, and hides no fault of what is asked after its report.
 pub record AsksAfter {W : Type 0} (w : WorktreeOf W) (between w1 : W)
     (root : List ℕ) (setup : Setup) (what : What) (report : Report) (result : Result Plan CleanError) : Type 0 where
   pub asks : Asks w between w1
   pub reads : w.reads w1 ≡ w.reads between
   pub by_report : IfOk result (IsPlanBy (w.told between) root setup what report)
   pub refused : IfErr result (StopsAsking (Increased (w.faults between) (w.faults w1)))
+  pub unfaulted : OnOk result (w.faults w1 ≡ w.faults between)
 
 abbrev pub EndsAs : {W : Type 0} → WorktreeOf W → W → W → List ℕ → Setup → What → Result Report ReportError → Result Plan CleanError → Type 0
 EndsAs w between w1 root setup what (Ok r) result = AsksAfter w between w1 root setup what r result

@@ -1,5 +1,5 @@
 //! Where the current directory is in a work tree.
-ghost use Rattle.std.specs.Prelude.{◌≡◌, Some, IfOk, IfErr, drop, length, option_and_then, option_copied};
+ghost use Rattle.std.specs.Prelude.{◌≡◌, Some, IfOk, IfErr, OnOk, drop, length, option_and_then, option_copied};
 ghost use Rattle.gitbase_core.specs.Path.{normalized, past_slashes};
 ghost use Rattle.worktree_fs.specs.Causes.{Increased};
 ghost use Rattle.worktree_fs.specs.Kept.{Asks};
@@ -47,6 +47,7 @@ pub(crate) fn current_below<W: Worktree>(
         → IfOk result (λ below. below ≡ current_below t root.now current_dir.now) }
     ensures refused { IfErr result (StopsAsking (Increased (W.faults worktree.old)
         (W.faults worktree.new))) }
+    ensures unfaulted { OnOk result (W.faults worktree.new ≡ W.faults worktree.old) }
     ensures keeps { Asks W.Worktree worktree.old worktree.new }
     ensures reads { W.reads worktree.new ≡ W.reads worktree.old }
 {

@@ -22,7 +22,7 @@ returns g c =
     c.in_ok-report.ensures c.current_below.ensures.keeps c.current_below.ensures.reads a.finding c.requires.prepared
     c.in_ok-current.current
     (λ t told. c.in_ok-current.ensures.below t told ∙ ap (λ (cwd : List ℕ). current_below t a.worktree_root.now cwd) c.current_dir_of-current_dir.ensures)
-    c.in_ok-plan_by.field-0 c.in_ok-plan_by.ensures
+    c.in_ok-current.ensures.unfaulted c.in_ok-plan_by.field-0 c.in_ok-plan_by.ensures
 
 pub returns-in_err-current : goal.returns-in_err-current
 returns-in_err-current g c =
