@@ -9,6 +9,8 @@ mod cases;
 #[cfg(test)]
 mod classes;
 #[cfg(test)]
+mod depths;
+#[cfg(test)]
 mod entries;
 #[cfg(test)]
 mod faults;
