@@ -1,5 +1,5 @@
 //! The names of a directory of the system.
-ghost use Rattle.std.specs.Prelude.{◌≡◌, ◌≤◌, ◌<◌, ◌++◌, ◌∷◌, [], length, Some, None, if◌then◌else◌, IfOk, OnOk, IfNone, IfSome, All, IsTrue, IsErrOf};
+ghost use Rattle.std.specs.Prelude.{◌≡◌, ◌≤◌, ◌<◌, ◌++◌, ◌∷◌, [], length, Some, None, if◌then◌else◌, IfOk, OnOk, IfNone, IfSome, All, IsTrue, IsErrOf, IsPermutation};
 ghost use Rattle.std.specs.List.Sorted.{IsStrictlySortedBy};
 ghost use Rattle.worktree_fs.specs.Composed.{as_kept};
 ghost use Rattle.worktree_fs.specs.Disk.{has_nul, is_unaskable, IsGiven, AreListed, kept_names, names_between, given_names};
@@ -183,6 +183,7 @@ fn listed_name(alloc: Global, composes: bool, name: &[u8]) -> Result<Option<Byte
 /// The names in ascending order; none where two of them are equal.
 fn in_order(_composes: bool, names: Vec<Bytes>) -> Option<NameList>
     requires { AreListed _composes names.items }
+    ensures all { IfSome result (IsPermutation names.items) }
     ensures names { IfSome result AreNames }
     ensures kept { IfSome result (All (IsGiven _composes)) }
     ensures few { IfSome result (λ names. length names ≤ 1000000) }
