@@ -1,5 +1,5 @@
 //! The names of a directory of the system.
-ghost use Rattle.std.specs.Prelude.{◌≡◌, ◌≤◌, ◌<◌, ◌++◌, ◌∷◌, [], length, Some, None, if◌then◌else◌, IfOk, OnOk, IfNone, IfSome, All, IsTrue, IsErrOf, IsPermutation};
+ghost use Rattle.std.specs.Prelude.{◌≡◌, ◌⊎◌, ◌≤◌, ◌<◌, ◌++◌, ◌∷◌, [], length, Some, None, if◌then◌else◌, IfOk, IfErr, OnOk, IfNone, IfSome, All, IsTrue, IsErrOf, IsPermutation};
 ghost use Rattle.std.specs.List.Sorted.{IsStrictlySortedBy};
 ghost use Rattle.worktree_fs.specs.Composed.{as_kept};
 ghost use Rattle.worktree_fs.specs.Disk.{has_nul, is_unaskable, IsGiven, AreListed, kept_names, names_between, given_names};
@@ -92,6 +92,8 @@ fn names_from<D: Read>(
     ensures kept { IfOk result (All (IsGiven composes)) }
     ensures few { IfOk result (λ names. length names ≤ 1000000) }
     ensures sorted { IfOk result (IsStrictlySortedBy path_cmp) }
+    ensures refused { IfErr result (λ error. (error ≡ ListError.EntryFault)
+        ⊎ (error ≡ ListError.OutOfMemory)) }
 {
     let mut names = Vec::new(alloc);
     for _ in 0..u64::MAX {
@@ -117,6 +119,8 @@ fn take_names(
     ensures listed { AreListed composes names.new.items }
     ensures all { OnOk result (names.new.items
         ≡ names.old.items ++ given_names composes piece.now) }
+    ensures refused { IfErr result (λ error. (error ≡ ListError.EntryFault)
+        ⊎ (error ≡ ListError.OutOfMemory)) }
 {
     let mut rest = piece;
     while let Some((name, behind)) = cut_once(rest, 0) {
@@ -139,6 +143,8 @@ fn take_name(
     ensures listed { AreListed composes names.new.items }
     ensures all { OnOk result (names.new.items
         ≡ names.old.items ++ kept_names composes (name.now ∷ [])) }
+    ensures refused { IfErr result (λ error. (error ≡ ListError.EntryFault)
+        ⊎ (error ≡ ListError.OutOfMemory)) }
 {
     if name.is_empty() || is_dot(name) || is_dot_dot(name) {
         return Ok(());
@@ -157,6 +163,8 @@ fn add_name(
     ensures listed { AreListed composes names.new.items }
     ensures added { OnOk result (names.new.items
         ≡ names.old.items ++ as_kept composes name.now ∷ []) }
+    ensures refused { IfErr result (λ error. (error ≡ ListError.EntryFault)
+        ⊎ (error ≡ ListError.OutOfMemory)) }
 {
     let Some(name) = listed_name(alloc, composes, name)? else {
         return Err(ListError::EntryFault);
