@@ -59,6 +59,7 @@ or-end false false = refl
 pub record IsJudging {W : Type 0} (w : WorktreeOf W) (w0 w1 : W) (root : List ℕ) (asked : Asked) (left taken : List (List ℕ)) (plan : ModulePlan) : Type 0 where
   pub keeps : Asks w w0 w1
   pub unread : w.reads w1 ≡ w.reads w0
+  pub unfaulted : w.faults w1 ≡ w.faults w0
   pub done : List (List ℕ)
   pub all : module_names asked.modules ≡ done ++ left
   pub judged : List Verdict
@@ -74,15 +75,16 @@ module _ {W : Type 0} (w : WorktreeOf W) (w0 w1 w2 : W) (root : List ℕ) (asked
   told-same : w.told w1 ≡ w.told w0
   told-same = at.keeps.tree
 
-  pub judging-grown : (v : Verdict) (more : List (List ℕ)) (grown : ModulePlan) → Asks w w1 w2 → w.reads w2 ≡ w.reads w1
+  pub judging-grown : (v : Verdict) (more : List (List ℕ)) (grown : ModulePlan) → Asks w w1 w2 → w.reads w2 ≡ w.reads w1 → w.faults w2 ≡ w.faults w1
       → IsJudged (w.told w1) root name (wanted seen name) (λ path. is_among path taken) v
       → ((path : List ℕ) → is_among path more ≡ (wants path (wanted seen name) || is_among path taken))
       → Adds plan v grown → IsJudging w w0 w2 root asked rest more grown
-  judging-grown v more grown keeps unread is taken_more adds =
+  judging-grown v more grown keeps unread unfaulted is taken_more adds =
       let first = at.keeps in
       record {
         keeps = search rules;
         unread = unread ∙ at.unread;
+        unfaulted = unfaulted ∙ at.unfaulted;
         done = at.done ++ name ∷ [];
         all = whole;
         judged = at.judged ++ v ∷ [];

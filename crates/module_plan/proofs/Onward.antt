@@ -11,5 +11,6 @@ use Rattle.module_plan.specs.Ways.{obstacle}
 pub record IsOn {W : Type 0} (w : WorktreeOf W) (w0 w1 : W) (root path here : List ℕ) (left : List (List ℕ)) : Type 0 where
   pub keeps : Asks w w0 w1
   pub unread : w.reads w1 ≡ w.reads w0
+  pub unfaulted : w.faults w1 ≡ w.faults w0
   pub leads : (t : Names) → w.told w0 ≡ Some t → obstacle t here left ≡ obstacle t root (components path)
   pub on_way : (at : List ℕ) → IsLookedAt (w.told w0) here left at → IsLookedAt (w.told w0) root (components path) at

@@ -61,6 +61,7 @@ pub fn plan<W: Worktree>(
         (plans.refused_value (platform defaults.ignore_case config.now.sections))
         (Increased (W.faults worktree.old) (W.faults worktree.new))) }
     ensures keeps { Asks W.Worktree worktree.old worktree.new }
+    ensures unfaulted { OnOk result (W.faults worktree.new ≡ W.faults worktree.old) }
     ensures reads { W.reads worktree.new ≡ W.reads worktree.old }
 {
     let mut platform = platform_of(alloc, modules, config, defaults)?;

@@ -38,6 +38,7 @@ pub(crate) fn obstacle<W: Worktree>(
         (IsLookedAt (W.told worktree.old) root.now (components path.now))
         (Increased (W.faults worktree.old) (W.faults worktree.new))) }
     ensures keeps { Asks W.Worktree worktree.old worktree.new }
+    ensures unfaulted { OnOk result (W.faults worktree.new ≡ W.faults worktree.old) }
     ensures reads { W.reads worktree.new ≡ W.reads worktree.old }
 {
     let mut full = PathText::from_bytes(alloc, root)?;
@@ -65,6 +66,7 @@ fn seen_kind<W: Worktree>(
     ensures refused { IfErr result (ways.StopsAt full.now
         (Increased (W.faults worktree.old) (W.faults worktree.new))) }
     ensures keeps { Asks W.Worktree worktree.old worktree.new }
+    ensures unfaulted { OnOk result (W.faults worktree.new ≡ W.faults worktree.old) }
     ensures reads { W.reads worktree.new ≡ W.reads worktree.old }
 {
     if let Some(kind) = seen.kind_at(full) {
@@ -86,6 +88,7 @@ fn kind_at<W: Worktree>(
     ensures refused { IfErr result (ways.StopsAt full.now
         (Increased (W.faults worktree.old) (W.faults worktree.new))) }
     ensures keeps { Asks W.Worktree worktree.old worktree.new }
+    ensures unfaulted { OnOk result (W.faults worktree.new ≡ W.faults worktree.old) }
     ensures reads { W.reads worktree.new ≡ W.reads worktree.old }
 {
     match worktree.kind(alloc, full.as_bytes()) {

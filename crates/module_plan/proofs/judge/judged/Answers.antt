@@ -23,7 +23,7 @@ loop-name-preserved g c = (
   judging-grown g.W.Worktree c.args.worktree.now c.loop-name.worktree c.verdict.new.worktree c.args.asking.now.root.now
       (asked_by c.args.asking.now c.args.platform.now) c.loop-name.name-iterator c.loop-name.taken c.loop-name.plan c.loop-name.invariant.0
       c.in-Some.name.now c.next.new.self c.in-Some.ensures.steps (asked_by c.args.asking.now c.loop-name.platform) (ap (asked_by c.args.asking.now) c.loop-name.invariant.1)
-      c.in_ok-verdict.verdict c.verdict.new.taken c.in_ok-plan.plan c.in_ok-verdict.ensures.keeps c.in_ok-verdict.ensures.reads
+      c.in_ok-verdict.verdict c.verdict.new.taken c.in_ok-plan.plan c.in_ok-verdict.ensures.keeps c.in_ok-verdict.ensures.reads c.in_ok-verdict.ensures.unfaulted
       c.in_ok-verdict.ensures.verdict c.in_ok-verdict.ensures.taken c.in_ok-plan.ensures,
   search rules,
   search rules,
