@@ -1,7 +1,7 @@
 use Rattle.std.proofs.Common.{rules}
 use Rattle.clean_plan.specs.Asked.{asked_by}
 use Rattle.clean_plan.specs.Whole.{is_whole_among}
-use Rattle.clean_plan.proofs.Planning.{next-target, planned-first}
+use Rattle.clean_plan.proofs.Planning.{next-target}
 use Rattle.clean_plan.proofs.Jointly.{known-first, known-next}
 use Rattle.clean_plan.proofs.planned.targets.Goals as goal
 
