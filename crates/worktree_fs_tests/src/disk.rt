@@ -24,6 +24,8 @@ names`d`B a b `|names`a`not`|names`p`not`|names of`a`B a b `|names of`f`not`|nam
 composed`c`\xc3\xa4 `|names`c`a\xcc\x88 `|names`e`a\xcc\x88 \xc3\xa4 `|composed`e`entry`1|\
 real`a/../l`f`|real`z`none`|real`p`fault`1|\
 make`f`exists`|make`z/y`orphan`|make`f/y`orphan`|make`n`made`|kind`n`directory`|remove`n`directory`|\
+make composed`n/a\xcc\x88`made`|names`n`\xc3\xa4 `|make composed`n/a\xcc\x88`exists`|\
+make`n/a\xcc\x88`made`|names`n`a\xcc\x88 \xc3\xa4 `|\
 make`p/x`fault`1|remove`p`removed`|kind`p`none`|remove`p`absent`|remove`z/y`absent`";
 
 /// The path of a name in a folder.
@@ -144,7 +146,7 @@ fn answers(
         b"names of" => lists(alloc, disk, path, true, want),
         b"composed" => lists(alloc, disk, path, false, want),
         b"real" => has_real_path(alloc, disk, path, want),
-        b"make" => makes(alloc, disk, path, want),
+        b"make" | b"make composed" => makes(alloc, disk, path, want),
         _ => removes(alloc, disk, path, want),
     }
 }
@@ -161,7 +163,8 @@ fn holds(rt: &HostRuntime, folder: &[u8], row: &[u8]) -> bool {
     let (question, rest) = parted(row);
     let (name, rest) = parted(rest);
     let (want, faults) = parted(rest);
-    let mut disk = DiskWorktree::new(rt, question == b"composed".as_slice());
+    let composes = matches!(question, b"composed" | b"make composed");
+    let mut disk = DiskWorktree::new(rt, composes);
     match inside(rt.alloc(), folder, name) {
         Some(path) => {
             answers(rt.alloc(), &mut disk, question, &path, want)
