@@ -1,10 +1,10 @@
 -- What a stack holds of attributes on the way of a checkout.
 use Rattle.std.specs.Prelude.{◌≡◌, ℕ, zero, suc, ◌-◌, List, [], ◌∷◌, ◌++◌, length, replicate, drop, true, false, Option, Some, None, is_some, Result, Ok, Err, OnOk}
-use Rattle.std.proofs.Common.{refl, sym, ap, ◌∙◌, append_assoc, arith}
+use Rattle.std.proofs.Common.{refl, sym, ap, subst, ◌∙◌, append_assoc, arith}
 use Rattle.std.proofs.lemmas.List.{append-nil, take-append-drop}
 use Rattle.gitbase_core.specs.Objects.{Objects}
 use Rattle.glob_rules.specs.Attributes.{AttributeList}
-use Rattle.worktree_fs.specs.PathStack.{Call, push_directory, push, pop_directory, deepest_names, root_calls, surplus, kept}
+use Rattle.worktree_fs.specs.PathStack.{Call, push_directory, push, pop_directory, calls_for, deepest_names, root_calls, surplus, kept}
 use Rattle.worktree_fs.specs.Paths.{spelled}
 use Rattle.worktree_fs.specs.declared.answers.MakeAnswer.{MakeAnswer}
 use Rattle.worktree_fs.specs.declared.answers.MakeAnswer.TheVariants as makes
@@ -12,12 +12,12 @@ use Rattle.worktree_fs.specs.declared.worktree.Worktree.{Ghosts as WorktreeOf}
 use Rattle.worktree_stack.specs.declared.statistics.Statistics.{Statistics}
 use Rattle.worktree_stack.specs.Checkout.{Prepared, IsOutcome}
 use Rattle.worktree_stack.specs.GoesOn.{with_mkdirs}
-use Rattle.worktree_stack.specs.HeldOut.{AddsOut, AreLowest, HoldsOut, lists_out, root_lists}
+use Rattle.worktree_stack.specs.HeldOut.{AddsOut, AreLowest, AreReadOut, HoldsOut, lists_out}
 use Rattle.worktree_stack.specs.Lookups.{stepped}
-use Rattle.worktree_stack.specs.Making.{Way, WorksOn, checked_out, pushed_out, unchanged, where_made}
+use Rattle.worktree_stack.specs.Making.{Way, WorksOn, checked_out, mkdirs, pushed_out, unchanged, where_made}
 use Rattle.worktree_stack.specs.Reading.{Sources, Tells, lists_at, lists_if}
 use Rattle.worktree_stack.specs.Setup.{HeldAttributes, Made, lists_of, pop_lists, without_highest, without_info}
-use Rattle.worktree_stack.specs.Stacked.{Stacked, made_of}
+use Rattle.worktree_stack.specs.Stacked.{Stacked, PushesLists, made_of}
 
 -- ---- what is dropped
 
@@ -44,14 +44,6 @@ lowest-popped d (Some held) =
 
 -- ---- what is pushed
 
-pub rooted-none : (made : Made) (s : Sources) (at : Option (List (List ℕ))) → is_some at ≡ true → root_lists made s at ≡ []
-rooted-none made s None some = absurd (cc some)
-rooted-none made s (Some names) some = refl
-
-pub rooted-lists : (made : Made) (s : Sources) (at : Option (List (List ℕ))) → is_some at ≡ false → root_lists made s at ≡ lists_at made s (deepest_names at)
-rooted-lists made s None none = refl
-rooted-lists made s (Some names) none = absurd (cc none)
-
 module _ (made : Made) (way : Way) (objects : Objects) where
   lists-append : (p : Prepared) (a b : List Call) → (checked_out way p a).answer ≡ makes.Made
       → lists_out made way objects p (a ++ b) ≡ lists_out made way objects p a ++ lists_out made way objects (checked_out way p a) b
@@ -75,6 +67,26 @@ module _ (made : Made) (way : Way) (objects : Objects) where
   lists-pops p zero calls = refl
   lists-pops p (suc n) calls = lists-pops p n calls
 
+  read-append : (p : Prepared) (a b : List Call) → (checked_out way p a).answer ≡ makes.Made
+      → AreReadOut made way objects p a → AreReadOut made way objects (checked_out way p a) b → AreReadOut made way objects p (a ++ b)
+  read-append p [] b is first second = second
+  read-append p (push path is_last ∷ a) b is first second =
+      go (pushed_out way p path is_last) (pushed_out way p path is_last).answer refl (read-append (pushed_out way p path is_last) a b) is first second
+    where
+      go : (here : Prepared) (answer : MakeAnswer) → here.answer ≡ answer
+          → ((checked_out way here a).answer ≡ makes.Made → AreReadOut made way objects here a → AreReadOut made way objects (checked_out way here a) b → AreReadOut made way objects here (a ++ b))
+          → (where_made here (checked_out way here a) answer).answer ≡ makes.Made
+          → AreReadOut made way objects here a → AreReadOut made way objects (where_made here (checked_out way here a) answer) b → AreReadOut made way objects here (a ++ b)
+      go here makes.Made e more is first second = more is first second
+      go here makes.Exists e more is first second = absurd (cc (sym e ∙ is))
+      go here makes.NoParent e more is first second = absurd (cc (sym e ∙ is))
+  read-append p (push_directory path ∷ a) b is first second = (first.0, read-append p a b is first.1 second)
+  read-append p (pop_directory ∷ a) b is first second = read-append p a b is first second
+
+  read-pops : (p : Prepared) (n : ℕ) (calls : List Call) → AreReadOut made way objects p calls → AreReadOut made way objects p (replicate n pop_directory ++ calls)
+  read-pops p zero calls read = read
+  read-pops p (suc n) calls read = read-pops p n calls read
+
 same-outcome : (p : Prepared) (calls : ℕ) → makes.Made ≡ p.answer → calls ≡ p.calls → p ≡ unchanged p.tree calls
 same-outcome p calls answer counted = ap (λ (a : MakeAnswer). record { answer = a; tree = p.tree; calls = p.calls }) (sym answer) ∙ ap (unchanged p.tree) (sym counted)
 
@@ -87,23 +99,60 @@ adds-then w {wa} {wb} holds way made a b n0 n1 s0 s1 h0 h1 h2 works s tells firs
     let x : IsOutcome p (w.told wb) n1 makes.Made = works.tree s.tree tells.tree_is in
     let la : List AttributeList = lists_out made way s.objects (unchanged s.tree n0) a in
     let lb : List AttributeList = lists_out made way s.objects (unchanged p.tree n1) b in
-    second (record { tree = p.tree; objects = s.objects }) (record { tree_is = x.tree_is; objects_are = tells.objects_are })
-    ∙ ap (λ (l : List AttributeList). l ++ lb) first ∙ append_assoc (lists_of h0) la lb
-    ∙ ap (λ (l : List AttributeList). lists_of h0 ++ l)
-    (sym (lists-append made way s.objects (unchanged s.tree n0) a b (sym x.answer_is)
-    ∙ ap (λ (q : Prepared). la ++ lists_out made way s.objects q b) (same-outcome p n1 x.answer_is x.calls_are)))
+    let same : p ≡ unchanged p.tree n1 = same-outcome p n1 x.answer_is x.calls_are in
+    let added : AddsOut made way n1 (record { tree = p.tree; objects = s.objects }) b h1 h2 =
+    second (record { tree = p.tree; objects = s.objects }) (record { tree_is = x.tree_is; objects_are = tells.objects_are }) in
+    record {
+      read =
+          read-append made way s.objects (unchanged s.tree n0) a b (sym x.answer_is) first.read
+          (subst (λ (q : Prepared). AreReadOut made way s.objects q b) (sym same) added.read);
+      lists =
+          added.lists ∙ ap (λ (l : List AttributeList). l ++ lb) first.lists ∙ append_assoc (lists_of h0) la lb
+          ∙ ap (λ (l : List AttributeList). lists_of h0 ++ l)
+          (sym (lists-append made way s.objects (unchanged s.tree n0) a b (sym x.answer_is) ∙ ap (λ (q : Prepared). la ++ lists_out made way s.objects q b) same));
+    }
 
 -- a directory that is pushed where it was made
-pub adds-step : (s : Sources) (old mid : Stacked) (new : Option HeldAttributes) (name : List ℕ) (count : ℕ) → mid ≡ with_mkdirs (stepped old name) count
-    → lists_of new ≡ lists_of mid.attributes ++ lists_at (made_of mid) s mid.current
-    → lists_of new ≡ lists_of old.attributes ++ (lists_if (made_of old) (made_of old).attributes s (spelled (deepest_names old.at ++ name ∷ [])) ++ [])
-adds-step s old mid new name count passed pushed =
-    pushed ∙ ap (λ (m : Stacked). lists_of m.attributes ++ lists_at (made_of m) s m.current) passed
-    ∙ ap (λ (l : List AttributeList). lists_of old.attributes ++ l) (sym (append-nil (lists_at (made_of old) s (deepest_names old.at ++ name ∷ []))))
+pub adds-step : (way : Way) (s : Sources) (old mid : Stacked) (new : Option HeldAttributes) (name : List ℕ) (count : ℕ) → mid ≡ with_mkdirs (stepped old name) count
+    → PushesLists (made_of mid) (record { tree = (pushed_out way (unchanged s.tree (mkdirs old)) (spelled (deepest_names old.at ++ name ∷ [])) false).tree; objects = s.objects }) mid.current mid.attributes new
+    → AddsOut (made_of old) way (mkdirs old) s (calls_for (deepest_names old.at) name false) old.attributes new
+adds-step way s old mid new name count passed pushed =
+    let names : List (List ℕ) = deepest_names old.at ++ name ∷ [] in
+    let after : Sources = record { tree = (pushed_out way (unchanged s.tree (mkdirs old)) (spelled names) false).tree; objects = s.objects } in
+    let known : PushesLists (made_of old) after names old.attributes new = subst (λ (m : Stacked). PushesLists (made_of m) after m.current m.attributes new) passed pushed in
+    record {
+      read = (known.is_read, tt);
+      lists = known.lists ∙ ap (λ (l : List AttributeList). lists_of old.attributes ++ l) (sym (append-nil (lists_at (made_of old) after names)));
+    }
 
--- nothing more is pushed
-pub adds-same : (h0 h1 : Option HeldAttributes) → h1 ≡ h0 → lists_of h1 ≡ lists_of h0 ++ []
-adds-same h0 h1 same = ap lists_of same ∙ sym (append-nil (lists_of h0))
+-- no directory more is pushed
+pub adds-same : (made : Made) (way : Way) (count : ℕ) (s : Sources) (calls : List Call) (h0 h1 : Option HeldAttributes) → AreReadOut made way s.objects (unchanged s.tree count) calls
+    → lists_out made way s.objects (unchanged s.tree count) calls ≡ [] → h1 ≡ h0 → AddsOut made way count s calls h0 h1
+adds-same made way count s calls h0 h1 read none same =
+    record { read = read; lists = ap lists_of same ∙ sym (append-nil (lists_of h0)) ∙ ap (λ (l : List AttributeList). lists_of h0 ++ l) (sym none) }
+
+-- the root is pushed already
+pub adds-rooted : (way : Way) (s : Sources) (old : Stacked) → is_some old.at ≡ true → AddsOut (made_of old) way (mkdirs old) s (root_calls old.at) old.attributes old.attributes
+adds-rooted way s old some = go old.at some
+  where
+    go : (at : Option (List (List ℕ))) → is_some at ≡ true → AddsOut (made_of old) way (mkdirs old) s (root_calls at) old.attributes old.attributes
+    go None some = absurd (cc some)
+    go (Some names) some = adds-same (made_of old) way (mkdirs old) s [] old.attributes old.attributes tt refl refl
+
+-- and where it is not
+pub adds-root : (way : Way) (s : Sources) (old mid : Stacked) (new : Option HeldAttributes) → is_some old.at ≡ false → mid ≡ record old { current = deepest_names old.at }
+    → PushesLists (made_of mid) s mid.current mid.attributes new → AddsOut (made_of old) way (mkdirs old) s (root_calls old.at) old.attributes new
+adds-root way s old mid new none left pushed =
+    go old.at none (subst (λ (m : Stacked). PushesLists (made_of m) s m.current m.attributes new) left pushed)
+  where
+    go : (at : Option (List (List ℕ))) → is_some at ≡ false → PushesLists (made_of old) s (deepest_names at) old.attributes new
+        → AddsOut (made_of old) way (mkdirs old) s (root_calls at) old.attributes new
+    go None none known =
+        record {
+          read = (known.is_read, tt);
+          lists = known.lists ∙ ap (λ (l : List AttributeList). lists_of old.attributes ++ l) (sym (append-nil (lists_at (made_of old) s [])));
+        }
+    go (Some names) none known = absurd (cc none)
 
 pub always : {T E P : Type 0} (r : Result T E) → P → OnOk r P
 always (Ok x) p = p
@@ -113,7 +162,7 @@ always (Err e) p = tt
 
 -- the root is pushed, then what is too deep is popped, and the rest is pushed
 pub holds-whole : (made : Made) (way : Way) (count : ℕ) (s : Sources) (at : Option (List (List ℕ))) (n : ℕ) (below : List Call) (h0 h1 h2 h3 : Option HeldAttributes)
-    → lists_of h1 ≡ lists_of h0 ++ root_lists made s at → AreLowest (lists_of h2) (lists_of h1) → (at ≡ None → lists_of h2 ≡ lists_of h1) → AddsOut made way count s below h2 h3
+    → AddsOut made way count s (root_calls at) h0 h1 → AreLowest (lists_of h2) (lists_of h1) → (at ≡ None → lists_of h2 ≡ lists_of h1) → AddsOut made way count s below h2 h3
     → HoldsOut made way count s (root_calls at ++ replicate n pop_directory ++ below) h0 h3
 holds-whole made way count s None n below h0 h1 h2 h3 rooted dropped same added =
     let own : List AttributeList = lists_at made s [] in
@@ -121,15 +170,18 @@ holds-whole made way count s None n below h0 h1 h2 h3 rooted dropped same added 
     record {
       kept = lists_of h0;
       lowest = lowest-all (lists_of h0);
+      read = (rooted.read.0, read-pops made way s.objects (unchanged s.tree count) n below added.read);
       lists =
-          added ∙ ap (λ (l : List AttributeList). l ++ more) (same refl ∙ rooted) ∙ append_assoc (lists_of h0) own more
+          added.lists ∙ ap (λ (l : List AttributeList). l ++ more) (same refl ∙ rooted.lists ∙ ap (λ (l : List AttributeList). lists_of h0 ++ l) (append-nil own))
+          ∙ append_assoc (lists_of h0) own more
           ∙ ap (λ (l : List AttributeList). lists_of h0 ++ (own ++ l)) (sym (lists-pops made way s.objects (unchanged s.tree count) n below));
     }
 holds-whole made way count s (Some names) n below h0 h1 h2 h3 rooted dropped same added =
     record {
       kept = lists_of h2;
-      lowest = record { above = dropped.above; all_is = sym (append-nil (lists_of h0)) ∙ sym rooted ∙ dropped.all_is };
-      lists = added ∙ ap (λ (l : List AttributeList). lists_of h2 ++ l) (sym (lists-pops made way s.objects (unchanged s.tree count) n below));
+      lowest = record { above = dropped.above; all_is = sym (append-nil (lists_of h0)) ∙ sym rooted.lists ∙ dropped.all_is };
+      read = read-pops made way s.objects (unchanged s.tree count) n below added.read;
+      lists = added.lists ∙ ap (λ (l : List AttributeList). lists_of h2 ++ l) (sym (lists-pops made way s.objects (unchanged s.tree count) n below));
     }
 
 -- nothing is popped where the root was not pushed

@@ -10,9 +10,9 @@ ghost use Rattle.worktree_stack.specs.Asked.{asked_on};
 ghost use Rattle.worktree_stack.specs.Counted.{count_platform, count_call, files_in};
 ghost use Rattle.worktree_stack.specs.Excludes.{ancestors};
 ghost use Rattle.worktree_fs.specs.Kept.{Asks, AsksStore};
-ghost use Rattle.worktree_stack.specs.HeldOut.{AreLowest, root_lists};
+ghost use Rattle.worktree_stack.specs.HeldOut.{AddsOut, AreLowest};
 ghost use Rattle.worktree_stack.specs.Lookups.{IsIn, asks_worktree, is_dir_of, IsLookedUp, staying, stepped, refused_one};
-ghost use Rattle.worktree_stack.specs.Making.{mkdirs};
+ghost use Rattle.worktree_stack.specs.Making.{Way, mkdirs};
 ghost use Rattle.worktree_stack.specs.Reading.{Sources, Tells, places_in, readings_of};
 ghost use Rattle.worktree_stack.specs.Stacked.{IsInStep, IsLevel, PushesLists, made_of, pushed};
 ghost use Rattle.worktree_stack.specs.Setup.{has_attributes, lists_of};
@@ -212,9 +212,10 @@ impl Stack {
             (root_calls self.old.at) }
         ensures unfaulted { OnOk result (W.faults worktree.new ≡ W.faults worktree.old) }
         ensures unfaulted_store { OnOk result (F.faults objects.new ≡ F.faults objects.old) }
-        ensures lists { (s : Sources) → Tells (W.told worktree.old) (F.holds objects.old) s
-            → OnOk result (lists_of self.new.attributes ≡ lists_of self.old.attributes
-            ++ root_lists (made_of self.old) s self.old.at) }
+        ensures lists { (way : Way) (s : Sources)
+            → Tells (W.told worktree.old) (F.holds objects.old) s
+            → OnOk result (AddsOut (made_of self.old) way (mkdirs self.old) s
+            (root_calls self.old.at) self.old.attributes self.new.attributes) }
     {
         if self.is_root_pushed() {
             return Ok(());

@@ -159,7 +159,7 @@ returns-clause-held g c s tells =
     subst (λ (calls : List Call). HoldsOut (made_of a.self.now) way (mkdirs a.self.now) s calls a.self.now.attributes c.rest_out.new.self.attributes)
     (sym (calls_are a.self.now.at c.push_root.new.self.at mid.at parts left staying_is))
     (holds-whole (made_of a.self.now) way (mkdirs a.self.now) s a.self.now.at n below a.self.now.attributes c.push_root.new.self.attributes mid.attributes c.rest_out.new.self.attributes
-    (c.in_ok-push_root.ensures.lists s tells) c.pop_surplus.ensures.dropped
+    (c.in_ok-push_root.ensures.lists way s tells) c.pop_surplus.ensures.dropped
     (λ none. c.pop_surplus.ensures.undropped (none-surplus a.self.now.at c.push_root.new.self.at parts c.in_ok-push_root.ensures.at none))
     (subst (λ (m : Made). AddsOut m way (mkdirs a.self.now) s below mid.attributes c.rest_out.new.self.attributes) made
     (subst (λ (x : Way). AddsOut (made_of mid) x (mkdirs a.self.now) s below mid.attributes c.rest_out.new.self.attributes) ways

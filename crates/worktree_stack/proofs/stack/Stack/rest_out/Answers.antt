@@ -40,7 +40,7 @@ loop-next-init g c =
       goes = goes-nothing g.W.Worktree g.F.Find _ _ _ c.args.worktree.now c.args.objects.now c.args.self.now;
       unfaulted = refl;
       unfaulted_store = refl;
-      held = λ s tells. adds-same c.args.self.now.attributes c.args.self.now.attributes refl;
+      held = λ s tells. adds-same _ _ _ s [] c.args.self.now.attributes c.args.self.now.attributes tt refl refl;
       stays = omega arith;
       keeps = λ s0 t t1 told holds told1 may kept keeping. subst (λ x. Keeping (made_of c.args.self.now) s0 x c.args.self.now.at c.args.self.now.attributes c.args.self.now.ignore) (some-same (sym told ∙ told1)) keeping;
     }
@@ -309,7 +309,7 @@ returns-then-next-clause-held g c s tells =
     (sym (last-calls _ before.done names (components c.loop-next.rest.now) more name before.front c.in-Some.ensures.0 none))
     (adds-then W (F.holds a.objects.now) way (made_of a.self.now) before.done (calls_for names name true) (mkdirs a.self.now) (mkdirs c.loop-next.self) a.self.now.statistics c.loop-next.self.statistics
     a.self.now.attributes c.loop-next.self.attributes c.push_out.new.self.attributes before.goes.works s tells (before.held s tells)
-    (λ after now. adds-same c.loop-next.self.attributes c.push_out.new.self.attributes same)))
+    (λ after now. adds-same (made_of a.self.now) way (mkdirs c.loop-next.self) after (calls_for names name true) c.loop-next.self.attributes c.push_out.new.self.attributes tt refl same)))
 
 pub returns-clause-held : goal.returns-clause-held
 returns-clause-held g c s tells =

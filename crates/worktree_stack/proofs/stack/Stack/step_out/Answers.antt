@@ -99,5 +99,5 @@ returns-clause-held g c s tells =
     let p : Prepared = pushed_out way (unchanged s.tree (mkdirs a.self.now)) (spelled (deepest_names a.self.now.at ++ a.name.now ∷ [])) false in
     let is : IsOutcome p (W.told c.push_out.new.worktree) (mkdirs mid) makes.Made = pushes.made s.tree tells.tree_is in
     let after : Sources = record { tree = p.tree; objects = s.objects } in
-    on_ok c.push_directory.result (λ pushed. adds-step after a.self.now mid c.push_directory.new.self.attributes a.name.now (mkdirs mid) pushes.passed pushed.lists)
+    on_ok c.push_directory.result (λ pushed. adds-step way s a.self.now mid c.push_directory.new.self.attributes a.name.now (mkdirs mid) pushes.passed pushed)
     (c.push_directory.ensures.lists after (record { tree_is = is.tree_is; objects_are = tells.objects_are }))
