@@ -1,5 +1,5 @@
 -- Refusals on the way up: from a name to its directory, and from a directory to its name.
-use Rattle.std.proofs.Common.{◌≡◌, ◌⊎◌, inl, inr, ℕ, ◌<◌, List, Bool, true, false, ◌||◌, Option, Some, None, Err, refl, sym, ap, subst, ◌∙◌}
+use Rattle.std.proofs.Common.{◌≡◌, ◌⊎◌, inl, inr, ℕ, ◌<◌, ◌≤◌, ◌+◌, List, Bool, true, false, ◌||◌, Option, Some, None, Err, refl, sym, ap, subst, ◌∙◌}
 use borrow.Author.Tests.{ltb-true}
 use Rattle.std.specs.Prelude.{IsSomeAnd, Result, IfErr, nat_lt}
 use Rattle.std.proofs.lemmas.Bool.{ltb-false}
@@ -30,7 +30,7 @@ use Rattle.dir_walk.specs.declared.handed.Stop.{Stop}
 use Rattle.dir_walk.specs.declared.handed.Stop.TheVariants.{Refused, Broken}
 use Rattle.dir_walk.specs.Given.{OnRefused}
 use Rattle.dir_walk.specs.Kept.{WantsMemory}
-use Rattle.dir_walk.specs.Refused.{is_among, is_to_enter, IsBroken, IsSomeAccess, IsNoAccess, IsRefusedLookup, IsAbout, IsInTree, IsDeep, OpenRefuses, Refuses, DirectoryRefuses}
+use Rattle.dir_walk.specs.Refused.{is_among, is_to_enter, IsBroken, IsSomeAccess, IsNoAccess, IsRefusedLookup, IsAbout, IsAboutFrom, IsInTree, IsDeep, OpenRefuses, Refuses, DirectoryRefuses}
 use Rattle.dir_walk.specs.Report.{depth_of}
 use Rattle.dir_walk.specs.Told.{directory_told, look_directory, look_name}
 use Rattle.dir_walk.specs.Walked.{Walked, entered_at, asking}
@@ -110,21 +110,21 @@ HasPaths-asking false path w = record { entered = λ p h. h; broken = λ p h. h;
 
 -- ---- the refusal of a class
 
-pub IsAbout-class : (made : Option Made) (root : List ℕ) (limit : ℕ) (path : List ℕ) (e : Error) → is_normal path ≡ true → classes.IsAbout made path e → IsAbout made root limit e
-IsAbout-class made root limit path errors.Interrupted normal about = tt
-IsAbout-class made root limit path (errors.WorktreeRootIsFile p) normal about = absurd about
-IsAbout-class made root limit path (errors.NormalizeRoot p) normal about = absurd about
-IsAbout-class made root limit path (errors.SymlinkInRoot p r i) normal about = absurd about
-IsAbout-class made root limit path (errors.SymlinkMetadata p why) normal about = absurd about
-IsAbout-class made root limit path (errors.ExcludesAccess e) normal about = go made about
+pub IsAbout-class : (made : Option Made) (root : List ℕ) (limit : ℕ) (path : List ℕ) (e : Error) → is_normal path ≡ true → depth_of path ≤ limit + 1 → classes.IsAbout made path e → IsAbout made root limit e
+IsAbout-class made root limit path errors.Interrupted normal near about = tt
+IsAbout-class made root limit path (errors.WorktreeRootIsFile p) normal near about = absurd about
+IsAbout-class made root limit path (errors.NormalizeRoot p) normal near about = absurd about
+IsAbout-class made root limit path (errors.SymlinkInRoot p r i) normal near about = absurd about
+IsAbout-class made root limit path (errors.SymlinkMetadata p why) normal near about = absurd about
+IsAbout-class made root limit path (errors.ExcludesAccess e) normal near about = go made about
   where
-    go : (k : Option Made) → classes.IsAbout k path (errors.ExcludesAccess e) → IsSomeAnd k (λ rules. IsSomeAccess rules e)
+    go : (k : Option Made) → classes.IsAbout k path (errors.ExcludesAccess e) → IsSomeAnd k (λ rules. IsSomeAccess limit rules e)
     go None a = absurd a
-    go (Some rules) a = record { path = path; normal = normal; access = a }
-IsAbout-class made root limit path (errors.TooDeep p) normal about = absurd about
-IsAbout-class made root limit path (errors.ReadDir p why) normal about = absurd about
-IsAbout-class made root limit path (errors.DirEntry p) normal about = absurd about
-IsAbout-class made root limit path errors.OutOfMemory normal about = tt
+    go (Some rules) a = record { path = path; normal = normal; near = near; access = a }
+IsAbout-class made root limit path (errors.TooDeep p) normal near about = absurd about
+IsAbout-class made root limit path (errors.ReadDir p why) normal near about = absurd about
+IsAbout-class made root limit path (errors.DirEntry p) normal near about = absurd about
+IsAbout-class made root limit path errors.OutOfMemory normal near about = tt
 
 pub IsInTree-class : (root : List ℕ) (holds : Option Objects) (s : Sources) (made : Option Made) (path : List ℕ) (e : Error) → is_normal path ≡ true → classes.IsAbout made path e → (holds ≡ Some s.objects → classes.Refuses s made path e) → IsInTree root holds s made e
 IsInTree-class root holds s made path errors.Interrupted normal about refused = tt
@@ -166,7 +166,7 @@ Refuses-class given made s limit Failed Asks w path errors.OutOfMemory normal ab
 
 -- ---- the refusal of what lies too deep
 
-pub IsAbout-deep : (made : Option Made) (root path : List ℕ) (limit : ℕ) (Raised : Type 0) (e : Error) → is_normal path ≡ true → path ≡ spelled (components path) → limit < depth_of path → IsDeep (full_path root path) Raised e
+pub IsAbout-deep : (made : Option Made) (root path : List ℕ) (limit : ℕ) (Raised : Type 0) (e : Error) → is_normal path ≡ true → path ≡ spelled (components path) → depth_of path ≡ limit + 1 → IsDeep (full_path root path) Raised e
     → IsAbout made root limit e
 IsAbout-deep made root path limit Raised errors.Interrupted normal spelled_is deep h = tt
 IsAbout-deep made root path limit Raised (errors.WorktreeRootIsFile p) normal spelled_is deep h = absurd h
@@ -174,10 +174,23 @@ IsAbout-deep made root path limit Raised (errors.NormalizeRoot p) normal spelled
 IsAbout-deep made root path limit Raised (errors.SymlinkInRoot p r i) normal spelled_is deep h = absurd h
 IsAbout-deep made root path limit Raised (errors.SymlinkMetadata p why) normal spelled_is deep h = absurd h
 IsAbout-deep made root path limit Raised (errors.ExcludesAccess e) normal spelled_is deep h = absurd h
-IsAbout-deep made root path limit Raised (errors.TooDeep p) normal spelled_is deep h = record { below = path; path_is = h; normal = normal; spelled_is = spelled_is; deep = deep }
+IsAbout-deep made root path limit Raised (errors.TooDeep p) normal spelled_is deep h = record { below = path; path_is = h; normal = normal; spelled_is = spelled_is; first = deep }
 IsAbout-deep made root path limit Raised (errors.ReadDir p why) normal spelled_is deep h = absurd h
 IsAbout-deep made root path limit Raised (errors.DirEntry p) normal spelled_is deep h = absurd h
 IsAbout-deep made root path limit Raised errors.OutOfMemory normal spelled_is deep h = tt
+
+pub IsAbout-root : (made : Option Made) (top root : List ℕ) (limit : ℕ) (Raised : Type 0) (e : Error) → is_normal root ≡ true → root ≡ spelled (components root) → limit < depth_of root → IsDeep (full_path top root) Raised e
+    → IsAboutFrom made top root limit e
+IsAbout-root made top root limit Raised errors.Interrupted normal spelled_is deep h = inl tt
+IsAbout-root made top root limit Raised (errors.WorktreeRootIsFile p) normal spelled_is deep h = absurd h
+IsAbout-root made top root limit Raised (errors.NormalizeRoot p) normal spelled_is deep h = absurd h
+IsAbout-root made top root limit Raised (errors.SymlinkInRoot p r i) normal spelled_is deep h = absurd h
+IsAbout-root made top root limit Raised (errors.SymlinkMetadata p why) normal spelled_is deep h = absurd h
+IsAbout-root made top root limit Raised (errors.ExcludesAccess e) normal spelled_is deep h = absurd h
+IsAbout-root made top root limit Raised (errors.TooDeep p) normal spelled_is deep h = inr (p, refl, record { path_is = h; normal = normal; spelled_is = spelled_is; deep = deep })
+IsAbout-root made top root limit Raised (errors.ReadDir p why) normal spelled_is deep h = absurd h
+IsAbout-root made top root limit Raised (errors.DirEntry p) normal spelled_is deep h = absurd h
+IsAbout-root made top root limit Raised errors.OutOfMemory normal spelled_is deep h = inl tt
 
 pub Refuses-deep : (given : Setting) (made : Option Made) (s : Sources) (limit : ℕ) (Failed Raised : Type 0) (w : Walked) (path : List ℕ) (e : Error) → limit < depth_of path → (is_to_enter path w ≡ true) ⊎ Failed → IsDeep (full_path given.root path) Raised e
     → Refuses given made s limit Failed w e
@@ -268,6 +281,10 @@ refused-any P Q f Broken h = tt
 pub either : {A B C : Type 0} → (A → C) → (B → C) → A ⊎ B → C
 either f g (inl a) = f a
 either f g (inr b) = g b
+
+-- what is refused within a traversal root that lies no deeper than the limit
+pub about-from : {T : Type 0} (made : Option Made) (top root : List ℕ) (limit : ℕ) (r : Result T Stop) → IfErr r (OnRefused (IsAbout made top limit)) → IfErr r (OnRefused (IsAboutFrom made top root limit))
+about-from made top root limit r = IfErr-weaker r (OnRefused (IsAbout made top limit)) (OnRefused (IsAboutFrom made top root limit)) (refused-any (IsAbout made top limit) (IsAboutFrom made top root limit) (λ e about. inl about))
 
 -- a count rose, or it did not
 pub rose-or : (before now : ℕ) → NotIncreased before now ⊎ Increased before now

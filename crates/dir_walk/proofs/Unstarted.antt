@@ -1,9 +1,9 @@
 -- What holds where there is nothing to start from.
-use Rattle.std.proofs.Common.{ℕ, List, Option}
+use Rattle.std.proofs.Common.{inl, inr, ℕ, List, Option, sym, subst}
 use Rattle.worktree_stack.specs.Setup.{Made}
 use Rattle.dir_classify.specs.declared.error.Error.{Error}
 use Rattle.dir_classify.specs.declared.error.Error.TheVariants as errors
-use Rattle.dir_walk.specs.Refused.{IsAbout}
+use Rattle.dir_walk.specs.Refused.{IsAbout, IsAboutFrom}
 use Rattle.dir_walk.specs.WalkRefused.{OnNoStart}
 
 pub on-no-start : {P : Type 0} → P → (e : Error) → OnNoStart P e
@@ -42,3 +42,7 @@ no-start-about P made top limit (errors.TooDeep at) about = tt
 no-start-about P made top limit (errors.ReadDir at why) about = tt
 no-start-about P made top limit (errors.DirEntry at) about = tt
 no-start-about P made top limit errors.OutOfMemory about = tt
+
+pub no-start-from : (P : Type 0) (made : Option Made) (top root : List ℕ) (limit : ℕ) (e : Error) → IsAboutFrom made top root limit e → OnNoStart P e
+no-start-from P made top root limit e (inl about) = no-start-about P made top limit e about
+no-start-from P made top root limit e (inr (path, is, deep)) = subst (OnNoStart P) (sym is) tt

@@ -1,4 +1,4 @@
--- The way to a traversal root was refused, or what is entered there.
+-- The way to a traversal root was refused, or nothing is entered there.
 use Rattle.std.proofs.Common.{◌≡◌, ◌⊎◌, inl, ℕ, List, [], ◌∷◌, true, false, Option, Some, None, refl}
 use Rattle.std.specs.Prelude.{IsSomeAnd, is_some}
 use Rattle.gitbase_core.specs.Objects.{Objects}
@@ -16,7 +16,7 @@ use Rattle.dir_classify.specs.Refused.{IsAccess, OnAccess}
 use Rattle.dir_classify.specs.Refused as classes
 use Rattle.dir_classify.specs.Rooted.{LeadsTo, OnWayTo, way_to}
 use Rattle.dir_classify.proofs.NormalPaths.{normal-front}
-use Rattle.dir_walk.specs.Refused.{IsAbout, IsInTree, IsNoAccess}
+use Rattle.dir_walk.specs.Refused.{IsNoAccess}
 use Rattle.dir_walk.specs.Rooting.{IsRoot}
 use Rattle.dir_walk.specs.Root.{walked_at}
 use Rattle.dir_walk.specs.Starts.{OnlyRoot}
@@ -35,7 +35,7 @@ way-about made top root limit (errors.NormalizeRoot p) shape (path, leads, h) = 
 way-about made top root limit (errors.SymlinkInRoot p worktree_root index) shape (path, leads, h) = h
 way-about made top root limit (errors.SymlinkMetadata p why) shape (path, leads, h) = h
 way-about None top root limit (errors.ExcludesAccess x) shape (path, leads, h) = h
-way-about (Some rules) top root limit (errors.ExcludesAccess x) shape (path, leads, h) = record { path = path; normal = on-way-normal root path shape leads; access = h }
+way-about (Some rules) top root limit (errors.ExcludesAccess x) shape (path, leads, h) = inl (record { path = path; normal = on-way-normal root path shape leads; leads = leads; access = h })
 way-about made top root limit (errors.TooDeep p) shape (path, leads, h) = absurd h
 way-about made top root limit (errors.ReadDir p why) shape (path, leads, h) = absurd h
 way-about made top root limit (errors.DirEntry p) shape (path, leads, h) = absurd h
@@ -86,44 +86,6 @@ way-no_root Holds made root (errors.TooDeep p) h = tt
 way-no_root Holds made root (errors.ReadDir p why) h = tt
 way-no_root Holds made root (errors.DirEntry p) h = tt
 way-no_root Holds made root errors.OutOfMemory h = tt
-
--- ---- what is entered
-
-pub entered-about : (made : Option Made) (top root : List ℕ) (limit : ℕ) (e : Error) → IsAbout made top limit e → StartAbout made top root limit e
-entered-about made top root limit errors.Interrupted h = tt
-entered-about made top root limit (errors.WorktreeRootIsFile p) h = absurd h
-entered-about made top root limit (errors.NormalizeRoot p) h = h
-entered-about made top root limit (errors.SymlinkInRoot p worktree_root index) h = h
-entered-about made top root limit (errors.SymlinkMetadata p why) h = h
-entered-about made top root limit (errors.ExcludesAccess x) h = h
-entered-about made top root limit (errors.TooDeep p) h = h
-entered-about made top root limit (errors.ReadDir p why) h = h
-entered-about made top root limit (errors.DirEntry p) h = h
-entered-about made top root limit errors.OutOfMemory h = tt
-
-pub entered-found : (holds : Option Objects) (s : Sources) (made : Option Made) (top : List ℕ) (limit : ℕ) (e : Error) → IsAbout made top limit e → IsInTree top holds s made e → StartFound top holds s made e
-entered-found holds s made top limit errors.Interrupted about h = tt
-entered-found holds s made top limit (errors.WorktreeRootIsFile p) about h = tt
-entered-found holds s made top limit (errors.NormalizeRoot p) about h = about
-entered-found holds s made top limit (errors.SymlinkInRoot p worktree_root index) about h = about
-entered-found holds s made top limit (errors.SymlinkMetadata p why) about h = about
-entered-found holds s made top limit (errors.ExcludesAccess x) about h = h
-entered-found holds s made top limit (errors.TooDeep p) about h = tt
-entered-found holds s made top limit (errors.ReadDir p why) about h = h
-entered-found holds s made top limit (errors.DirEntry p) about h = tt
-entered-found holds s made top limit errors.OutOfMemory about h = tt
-
-pub entered-no_root : (Holds : Type 0) (made : Option Made) (top : List ℕ) (limit : ℕ) (e : Error) → IsAbout made top limit e → OnNoRoot Holds e
-entered-no_root Holds made top limit errors.Interrupted h = tt
-entered-no_root Holds made top limit (errors.WorktreeRootIsFile p) h = absurd h
-entered-no_root Holds made top limit (errors.NormalizeRoot p) h = tt
-entered-no_root Holds made top limit (errors.SymlinkInRoot p worktree_root index) h = tt
-entered-no_root Holds made top limit (errors.SymlinkMetadata p why) h = tt
-entered-no_root Holds made top limit (errors.ExcludesAccess x) h = tt
-entered-no_root Holds made top limit (errors.TooDeep p) h = tt
-entered-no_root Holds made top limit (errors.ReadDir p why) h = tt
-entered-no_root Holds made top limit (errors.DirEntry p) h = tt
-entered-no_root Holds made top limit errors.OutOfMemory h = tt
 
 -- ---- what is not
 

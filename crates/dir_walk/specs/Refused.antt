@@ -1,5 +1,5 @@
 -- Why a walk is refused in what it enters.
-use Rattle.std.specs.Prelude.{◌≡◌, ◌⊎◌, ◌<◌, ℕ, Bool, true, false, ◌||◌, List, Option, Some, Err, IsSomeAnd}
+use Rattle.std.specs.Prelude.{◌≡◌, ◌⊎◌, ◌<◌, ◌≤◌, ◌+◌, ℕ, Bool, true, false, ◌||◌, List, Option, Some, Err, IsSomeAnd}
 use Rattle.std.specs.List.{list_any}
 use Rattle.std.specs.Str.{bytes_eq}
 use Rattle.gitbase_core.specs.Path.{components, is_empty}
@@ -35,40 +35,53 @@ is_to_enter path w = is_among path w.entered || is_among path w.broken
 
 -- ---- what holds of any worktree
 
--- the whole path of the worktree root or of what lies below it: what stands below the root is normal, and one slash parts each two
--- of its components
-pub record IsBelow (root path : List ℕ) : Type 0 where
+-- the whole path of the worktree root or of what lies below it, no deeper than the limit: what stands below the root is normal, and
+-- one slash parts each two of its components
+pub record IsWithinLimit (root : List ℕ) (limit : ℕ) (path : List ℕ) : Type 0 where
   pub below : List ℕ
   pub path_is : path ≡ full_path root below
   pub normal : is_normal below ≡ true
   pub spelled_is : below ≡ spelled (components below)
+  pub within : depth_of below ≤ limit
 
--- such a path that has more components below the worktree root than the limit
+-- the same of what lies right below the limit: it has one component more below the worktree root
 pub record IsBelowLimit (root : List ℕ) (limit : ℕ) (path : List ℕ) : Type 0 where
   pub below : List ℕ
   pub path_is : path ≡ full_path root below
   pub normal : is_normal below ≡ true
   pub spelled_is : below ≡ spelled (components below)
-  pub deep : limit < depth_of below
+  pub first : depth_of below ≡ limit + 1
 
--- a lookup of some normal path in the rules was refused
-pub record IsSomeAccess (made : Made) (e : AtPathError) : Type 0 where
+-- the same of a traversal root that lies deeper than the limit itself
+pub record IsDeepRoot (top root : List ℕ) (limit : ℕ) (path : List ℕ) : Type 0 where
+  pub path_is : path ≡ full_path top root
+  pub normal : is_normal root ≡ true
+  pub spelled_is : root ≡ spelled (components root)
+  pub deep : limit < depth_of root
+
+-- a lookup in the rules was refused of some normal path, which lies no deeper than right below the limit
+pub record IsSomeAccess (limit : ℕ) (made : Made) (e : AtPathError) : Type 0 where
   pub path : List ℕ
   pub normal : is_normal path ≡ true
+  pub near : depth_of path ≤ limit + 1
   pub access : IsAccess made path e
 
--- what a refusal says of the rules, the paths and the limit that were handed in
+-- what a refusal within what is entered says of the rules, the paths and the limit that were handed in
 abbrev pub IsAbout : Option Made → List ℕ → ℕ → Error → Type 0
 IsAbout made root limit errors.Interrupted = Unit {0}
 IsAbout made root limit (errors.WorktreeRootIsFile path) = ⊥
 IsAbout made root limit (errors.NormalizeRoot path) = ⊥
 IsAbout made root limit (errors.SymlinkInRoot path worktree_root index) = ⊥
 IsAbout made root limit (errors.SymlinkMetadata path why) = ⊥
-IsAbout made root limit (errors.ExcludesAccess e) = IsSomeAnd made (λ rules. IsSomeAccess rules e)
+IsAbout made root limit (errors.ExcludesAccess e) = IsSomeAnd made (λ rules. IsSomeAccess limit rules e)
 IsAbout made root limit (errors.TooDeep path) = IsBelowLimit root limit path
-IsAbout made root limit (errors.ReadDir path why) = IsBelow root path
-IsAbout made root limit (errors.DirEntry path) = IsBelow root path
+IsAbout made root limit (errors.ReadDir path why) = IsWithinLimit root limit path
+IsAbout made root limit (errors.DirEntry path) = IsWithinLimit root limit path
 IsAbout made root limit errors.OutOfMemory = Unit {0}
+
+-- the same of a traversal root that is to be entered: it may lie too deep itself
+abbrev pub IsAboutFrom : Option Made → List ℕ → List ℕ → ℕ → Error → Type 0
+IsAboutFrom made top root limit e = IsAbout made top limit e ⊎ ((path : List ℕ) × (e ≡ errors.TooDeep path) × IsDeepRoot top root limit path)
 
 -- ---- what holds over a told tree
 

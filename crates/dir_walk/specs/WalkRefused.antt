@@ -6,7 +6,7 @@ use Rattle.worktree_fs.specs.declared.answers.ListError.{ListError}
 use Rattle.worktree_fs.specs.declared.answers.ListError.TheVariants as lists
 use Rattle.worktree_fs.specs.declared.answers.NodeKind.TheVariants as nodes
 use Rattle.worktree_fs.specs.Answers.{kind_of, list_of}
-use Rattle.worktree_fs.specs.Paths.{full_path}
+use Rattle.worktree_fs.specs.Paths.{full_path, is_normal}
 use Rattle.worktree_fs.specs.Tree.{look}
 use Rattle.worktree_stack.specs.declared.error.AtPathError.{AtPathError}
 use Rattle.worktree_stack.specs.Reading.{Sources}
@@ -28,12 +28,19 @@ use Rattle.dir_classify.specs.Refused.{IsAccess}
 use Rattle.dir_classify.specs.Rooted.{LeadsTo, way_to}
 use Rattle.dir_walk.specs.declared.delegate.Delegate.{Ghosts as DelegateOf}
 use Rattle.dir_walk.specs.Given.{IsAnswered}
-use Rattle.dir_walk.specs.Refused.{IsBelow, IsBelowLimit, IsInTree, IsNoAccess, IsSomeAccess, IsTooDeep, IsUnlisted}
+use Rattle.dir_walk.specs.Refused.{IsBelowLimit, IsDeepRoot, IsInTree, IsNoAccess, IsSomeAccess, IsTooDeep, IsUnlisted, IsWithinLimit}
 use Rattle.dir_walk.specs.Root.{is_root_entered, look_root, rooted, traversal_root, walked_at}
 use Rattle.dir_walk.specs.Rooting.{EndsIn, IsNormalized, RootAbout}
 use Rattle.dir_walk.specs.Walked.{Walked, nothing}
 
 -- ---- from a traversal root on: what holds of any worktree
+
+-- the lookup of a normal path on the way to the traversal root was refused
+pub record IsWayAccess (root : List ℕ) (made : Made) (e : AtPathError) : Type 0 where
+  pub path : List ℕ
+  pub normal : is_normal path ≡ true
+  pub leads : LeadsTo root path
+  pub access : IsAccess made path e
 
 -- what a refusal says of the worktree root, the traversal root, the rules and the limit
 abbrev pub StartAbout : Option Made → List ℕ → List ℕ → ℕ → Error → Type 0
@@ -42,10 +49,10 @@ StartAbout made top root limit (errors.WorktreeRootIsFile path) = (path ≡ top)
 StartAbout made top root limit (errors.NormalizeRoot path) = ⊥
 StartAbout made top root limit (errors.SymlinkInRoot path worktree_root index) = ⊥
 StartAbout made top root limit (errors.SymlinkMetadata path why) = ⊥
-StartAbout made top root limit (errors.ExcludesAccess e) = IsSomeAnd made (λ rules. IsSomeAccess rules e)
-StartAbout made top root limit (errors.TooDeep path) = IsBelowLimit top limit path
-StartAbout made top root limit (errors.ReadDir path why) = IsBelow top path
-StartAbout made top root limit (errors.DirEntry path) = IsBelow top path
+StartAbout made top root limit (errors.ExcludesAccess e) = IsSomeAnd made (λ rules. IsWayAccess root rules e ⊎ IsSomeAccess limit rules e)
+StartAbout made top root limit (errors.TooDeep path) = IsBelowLimit top limit path ⊎ IsDeepRoot top root limit path
+StartAbout made top root limit (errors.ReadDir path why) = IsWithinLimit top limit path
+StartAbout made top root limit (errors.DirEntry path) = IsWithinLimit top limit path
 StartAbout made top root limit errors.OutOfMemory = Unit {0}
 
 -- ---- what holds over a told tree

@@ -16,7 +16,7 @@ ghost use Rattle.dir_walk.specs.Given.{OnRefused};
 ghost use Rattle.dir_walk.specs.Kept.{KeepsTree, AsksInterrupt, KeepsDelegate, Heeds, Caused, WantsMemory};
 ghost use Rattle.dir_walk.specs.Opens.{EntersAtMost, OpensRoot, refused_walk};
 ghost use Rattle.dir_walk.specs.Puts.{AddsShown, Hands, Puts, held_at, once_within};
-ghost use Rattle.dir_walk.specs.Refused.{IsAbout, IsInTree, DirectoryRefuses};
+ghost use Rattle.dir_walk.specs.Refused.{IsAboutFrom, IsInTree, DirectoryRefuses};
 ghost use Rattle.dir_walk.specs.Report.{depth_of};
 ghost use Rattle.dir_walk.specs.Told.{Stands, directory_told};
 ghost use Rattle.dir_walk.specs.Unopened.{deep_walk, unlisted_walk};
@@ -163,8 +163,8 @@ fn walk_deep<W: Worktree, F: Find, I: Interrupt, M: Matcher, D: Delegate>(
         → IfErr result (OnRefused (DirectoryRefuses (setting_of M.Matcher shared.now) made s
         depth_limit (Increased (W.faults worktree.old) (W.faults worktree.new)) place.old.path
         class.now)) }
-    ensures about { IfErr result (OnRefused (IsAbout (made_with excludes.old)
-        shared.now.worktree_root.now depth_limit)) }
+    ensures about { IfErr result (OnRefused (IsAboutFrom (made_with excludes.old)
+        shared.now.worktree_root.now place.old.path depth_limit)) }
     ensures found { (s : Sources) → W.told worktree.old ≡ Some s.tree
         → IfErr result (OnRefused (IsInTree shared.now.worktree_root.now
         (F.holds objects.old) s (made_with excludes.old))) }
@@ -244,8 +244,8 @@ pub(crate) fn walk_entered<W: Worktree, F: Find, I: Interrupt, M: Matcher, D: De
         → D.is_default delegate.old ≡ true
         → IfErr result (OnRefused (DirectoryRefuses (setting_of M.Matcher shared.now)
         (made_with excludes.old) s depth_limit ⊥ path.now class.now)) }
-    ensures about { IfErr result (OnRefused (IsAbout (made_with excludes.old)
-        shared.now.worktree_root.now depth_limit)) }
+    ensures about { IfErr result (OnRefused (IsAboutFrom (made_with excludes.old)
+        shared.now.worktree_root.now path.now depth_limit)) }
     ensures found { (s : Sources) → W.told worktree.old ≡ Some s.tree
         → IfErr result (OnRefused (IsInTree shared.now.worktree_root.now
         (F.holds objects.old) s (made_with excludes.old))) }

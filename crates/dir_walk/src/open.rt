@@ -17,6 +17,7 @@ ghost use Rattle.dir_walk.specs.Given.{IsAnswered};
 ghost use Rattle.dir_walk.specs.Kept.{AsksInterrupt, OnInterrupt, OnListingFault};
 ghost use Rattle.dir_walk.specs.Opens.{Opens};
 ghost use Rattle.dir_walk.specs.Refused.{IsAbout, OpenRefuses, IsDeep, read_error};
+ghost use Rattle.dir_walk.specs.Report.{depth_of};
 ghost use Rattle.dir_walk.specs.Unopened.{deep_one, unlisted_one};
 
 use crate::delegate::Delegate;
@@ -47,7 +48,7 @@ pub(crate) fn open<W: Worktree, I: Interrupt>(
     ensures refused { (t : Names) → W.told worktree.old ≡ Some t
         → IfErr result (OpenRefuses (full_path place.now.root place.now.path)
         (look t (full_path place.now.root place.now.path) (is_empty place.now.path))) }
-    ensures about { (made : Option Made) (limit : ℕ)
+    ensures about { (made : Option Made) (limit : ℕ) → depth_of place.now.path ≤ limit
         → IfErr result (IsAbout made place.now.root limit) }
     ensures counted { (given : Option (List Emission))
         → OnOk result (Emits given given outcome.old outcome.new (λ p. 0) 0 1) }

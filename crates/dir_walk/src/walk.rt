@@ -57,8 +57,8 @@ use worktree_stack::Stack;
 /// - `WorktreeRootIsFile`: the traversal root is the worktree root, which is not entered, by its status or as the delegate
 ///   refuses, and is no directory, a link not followed.
 /// - `Interrupted`: the interrupt was raised, which is asked before each directory is read.
-/// - `TooDeep`: a directory is to be entered and has more components below the worktree root than the limit; the interrupt was
-///   asked before, and the directory is not listed.
+/// - `TooDeep`: a directory is to be entered and has more components below the worktree root than the limit, one more where it is
+///   not the traversal root; the interrupt was asked before, and the directory is not listed.
 /// - `ReadDir`: what is to be entered could not be listed, for a fault, or is no directory on disk: as the index calls it
 ///   an up-to-date directory; at the traversal root also as it is an up-to-date repository, of the worktree set or
 ///   excluded; and anything that a delegate of its own recursion looks into.

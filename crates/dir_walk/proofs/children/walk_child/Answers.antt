@@ -1,4 +1,4 @@
-use Rattle.std.proofs.Common.{◌≡◌, ◌⊎◌, inl, inr, Bool, ◌<◌, ◌+◌, ◌-◌, ◌&&◌, ℕ, List, None, ap, sym, refl, ◌∙◌, arith, true, false, subst}
+use Rattle.std.proofs.Common.{◌≡◌, ◌⊎◌, inl, inr, Bool, ◌<◌, ◌≤◌, ◌+◌, ◌-◌, ◌&&◌, ℕ, List, None, ap, sym, refl, ◌∙◌, arith, true, false, subst}
 use Rattle.std.proofs.lemmas.Result.{IfOk-weaker, IfErr-weaker, on_ok_weaker, on_err_weaker, err_from_is_err_and}
 use Rattle.gitbase_core.specs.Path.{is_empty, joined}
 use Rattle.worktree_fs.specs.Causes.{Increased, NotIncreased}
@@ -94,7 +94,9 @@ returns-clause-part g c = λ made s stands quiet default.
 pub returns-in_err-class-clause-about : goal.returns-in_err-class-clause-about
 returns-in_err-class-clause-about g c = λ limit level.
     let a = c.args in let r = err_from_is_err_and c.from_residual-in_err-class.result c.from_residual-in_err-class.ensures.1 in
-    rw (r.1, r.2) (IsAbout-class (made_with a.excludes.now) a.shared.now.worktree_root.now limit c.push.new.self.path _ c.path-path.ensures.normal (rw c.path-path.ensures.path at c.in_err-class.ensures.about))
+    let at = ap (λ (x : Standing). x.path) c.in_ok-cut.ensures.pushed in
+    let near : depth_of c.push.new.self.path ≤ limit + 1 = omega (arith, level, ap depth_of at, depth_of-joined a.place.now.path a.name.now c.requires.name) in
+    rw (r.1, r.2) (IsAbout-class (made_with a.excludes.now) a.shared.now.worktree_root.now limit c.push.new.self.path _ c.path-path.ensures.normal near (rw c.path-path.ensures.path at c.in_err-class.ensures.about))
 
 pub returns-in_err-class-clause-found : goal.returns-in_err-class-clause-found
 returns-in_err-class-clause-found g c = λ s told.
@@ -123,7 +125,7 @@ returns-then-levels-eq0-clause-about g c = λ limit level.
     let a = c.args in let root = a.shared.now.worktree_root.now in let p = c.push.new.self.path in
     let at = ap (λ (x : Standing). x.path) c.in_ok-cut.ensures.pushed in
     let base : c.push.new.self.root ≡ root = ap (λ (x : Standing). x.root) c.in_ok-cut.ensures.pushed ∙ c.requires.root in
-    let deep : limit < depth_of p = omega (arith, level, c.if-levels-eq0.true, ap depth_of at, depth_of-joined a.place.now.path a.name.now c.requires.name) in
+    let deep : depth_of p ≡ limit + 1 = omega (arith, level, c.if-levels-eq0.true, ap depth_of at, depth_of-joined a.place.now.path a.name.now c.requires.name) in
     IsAbout-deep (made_with a.excludes.now) root p limit _ _ c.path-path.ensures.normal c.path-path.ensures.spelled deep (rw base at c.too_deep.ensures.deep)
 
 pub returns-then-levels-eq0-clause-refused : goal.returns-then-levels-eq0-clause-refused

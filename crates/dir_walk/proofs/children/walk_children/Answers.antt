@@ -165,7 +165,7 @@ returns-clause-delegate g c = KeepsDelegate-then c.loop-name.invariant.delegate 
 pub returns-in_err-names-clause-about : goal.returns-in_err-names-clause-about
 returns-in_err-names-clause-about g c = λ limit level.
     let p = err_from_is_err_and c.from_residual.result c.from_residual.ensures.1 in
-    rw (p.1, p.2) (rw c.requires.root at (c.in_err-names.ensures.about (made_with c.args.excludes.now) limit))
+    rw (p.1, p.2) (rw c.requires.root at (c.in_err-names.ensures.about (made_with c.args.excludes.now) limit (omega (arith, level))))
 
 pub returns-in_err-names-clause-found : goal.returns-in_err-names-clause-found
 returns-in_err-names-clause-found g c = λ s told.

@@ -1,4 +1,4 @@
-use Rattle.std.proofs.Common.{◌≡◌, ◌⊎◌, inl, inr, Bool, ◌<◌, ◌+◌, ◌-◌, ◌&&◌, ℕ, List, None, ap, sym, refl, ◌∙◌, length, arith, eqb-true, true, false, subst}
+use Rattle.std.proofs.Common.{◌≡◌, ◌⊎◌, inl, inr, Bool, ◌<◌, ◌≤◌, ◌+◌, ◌-◌, ◌&&◌, ℕ, List, None, ap, sym, refl, ◌∙◌, length, arith, eqb-true, true, false, subst}
 use Rattle.std.proofs.lemmas.Result.{IfOk-weaker, IfErr-weaker, on_ok_weaker, on_err_weaker, err_from_is_err_and}
 use Rattle.gitbase_core.specs.Path.{is_empty, joined}
 use Rattle.worktree_fs.specs.Answers.{ListsNames}
@@ -240,7 +240,7 @@ walk_name-returns-clause-part g t c = λ made s stands quiet default.
 pub walk_directory-returns-in_err-names-clause-about : goal.walk_directory-returns-in_err-names-clause-about
 walk_directory-returns-in_err-names-clause-about g t c = λ limit level.
     let p = err_from_is_err_and c.from_residual.result c.from_residual.ensures.1 in
-    rw (p.1, p.2) (rw c.requires.root at (c.in_err-names.ensures.about (made_with c.args.excludes.now) limit))
+    rw (p.1, p.2) (rw c.requires.root at (c.in_err-names.ensures.about (made_with c.args.excludes.now) limit (omega (arith, level))))
 
 pub walk_directory-returns-in_err-names-clause-found : goal.walk_directory-returns-in_err-names-clause-found
 walk_directory-returns-in_err-names-clause-found g t c = λ s told.
@@ -296,7 +296,9 @@ walk_directory-returns-in_err-handed-clause-refused g t c = λ made s stands def
 pub walk_name-returns-in_err-class-clause-about : goal.walk_name-returns-in_err-class-clause-about
 walk_name-returns-in_err-class-clause-about g t c = λ limit level.
     let a = c.args in let r = err_from_is_err_and c.from_residual-in_err-class.result c.from_residual-in_err-class.ensures.1 in
-    rw (r.1, r.2) (IsAbout-class (made_with a.excludes.now) a.shared.now.worktree_root.now limit c.push.new.self.path _ c.path-path.ensures.normal (rw c.path-path.ensures.path at c.in_err-class.ensures.about))
+    let at = ap (λ (x : Standing). x.path) c.in_ok-cut.ensures.pushed in
+    let near : depth_of c.push.new.self.path ≤ limit + 1 = omega (arith, level, ap depth_of at, depth_of-joined a.place.now.path a.name.now c.requires.name) in
+    rw (r.1, r.2) (IsAbout-class (made_with a.excludes.now) a.shared.now.worktree_root.now limit c.push.new.self.path _ c.path-path.ensures.normal near (rw c.path-path.ensures.path at c.in_err-class.ensures.about))
 
 pub walk_name-returns-in_err-class-clause-found : goal.walk_name-returns-in_err-class-clause-found
 walk_name-returns-in_err-class-clause-found g t c = λ s told.
@@ -325,7 +327,7 @@ walk_name-returns-then-levels-eq0-clause-about g t c = λ limit level.
     let a = c.args in let root = a.shared.now.worktree_root.now in let p = c.push.new.self.path in
     let at = ap (λ (x : Standing). x.path) c.in_ok-cut.ensures.pushed in
     let base : c.push.new.self.root ≡ root = ap (λ (x : Standing). x.root) c.in_ok-cut.ensures.pushed ∙ c.requires.root in
-    let deep : limit < depth_of p = omega (arith, level, c.if-levels-eq0.true, ap depth_of at, depth_of-joined a.place.now.path a.name.now c.requires.name) in
+    let deep : depth_of p ≡ limit + 1 = omega (arith, level, c.if-levels-eq0.true, ap depth_of at, depth_of-joined a.place.now.path a.name.now c.requires.name) in
     IsAbout-deep (made_with a.excludes.now) root p limit _ _ c.path-path.ensures.normal c.path-path.ensures.spelled deep (rw base at c.too_deep.ensures.deep)
 
 pub walk_name-returns-then-levels-eq0-clause-refused : goal.walk_name-returns-then-levels-eq0-clause-refused

@@ -6,7 +6,7 @@ use Rattle.dir_classify.specs.Excludes.{made_with}
 use Rattle.dir_classify.specs.Layers.{setting_of, evidence}
 use Rattle.dir_classify.specs.Rooted.{reached_by, way_to}
 use Rattle.dir_walk.specs.Given.{IsAnswered, OnRefused}
-use Rattle.dir_walk.specs.Refused.{DirectoryRefuses, IsAbout}
+use Rattle.dir_walk.specs.Refused.{DirectoryRefuses, IsAboutFrom}
 use Rattle.dir_walk.specs.Root.{is_root_entered}
 use Rattle.dir_walk.specs.Starts.{OnlyRoot}
 use Rattle.dir_walk.specs.WalkRefused.{IsNoTop, OnNoRoot, OnNoStart, StartRefuses, recursion_of}
@@ -22,7 +22,7 @@ use Rattle.dir_walk.proofs.Keeping.{unmapped-then}
 use Rattle.dir_walk.proofs.Refusals.{refused-any}
 use Rattle.dir_walk.proofs.Started.{gives-entered, gives-put, no-node, no-root, part-entered, part-only, refuses-entered, walked-entered}
 use Rattle.dir_walk.proofs.Starting.{bare}
-use Rattle.dir_walk.proofs.Unstarted.{no-start-about, no-start-weaker, on-no-start}
+use Rattle.dir_walk.proofs.Unstarted.{no-start-from, no-start-weaker, on-no-start}
 use Rattle.dir_walk.proofs.WayRefused.{only-no_root, only-refuses, way-about, way-found, way-refuses}
 use Rattle.dir_walk.proofs.Shallow.{shallow-put, shallow-way}
 use Rattle.dir_walk.proofs.start.walk_from.Goals as goal
@@ -249,7 +249,8 @@ returns-then-branch-clause-unstarted g c =
     let told = g.D.Delegate.given in
     let lists = g.W.Worktree.lists in
     let Same : Type 0 = (lists c.walk_entered.new.worktree ≡ lists a.worktree.now) × (c.walk_entered.new.interrupt ≡ a.interrupt.now) × (told c.walk_entered.new.delegate ≡ told a.delegate.now) in
-    IfErr-weaker c.walk_entered.result (OnRefused (IsAbout made top a.depth_limit)) (OnRefused (OnNoStart Same)) (refused-any (IsAbout made top a.depth_limit) (OnNoStart Same) (no-start-about Same made top a.depth_limit))
+    let From = IsAboutFrom made top a.root.now a.depth_limit in
+    IfErr-weaker c.walk_entered.result (OnRefused From) (OnRefused (OnNoStart Same)) (refused-any From (OnNoStart Same) (no-start-from Same made top a.root.now a.depth_limit))
     (rw way.rules.made at c.walk_entered.ensures.about)
 
 pub returns-clause-unstarted : goal.returns-clause-unstarted
