@@ -14,6 +14,7 @@ use Rattle.worktree_report.specs.Run.{SetupRefuses}
 use Rattle.worktree_report.specs.SetupAt.{setup_at}
 use Rattle.clean_plan.specs.declared.what.What.{What}
 use Rattle.clean_plan.specs.Words.{Request}
+use Rattle.worktree_report.proofs.Refusing.{RefusesInOrder-made, RefusesInOrder-unread}
 use Rattle.worktree_report.proofs.Runs.{HasCauses-refused, HasCauses-unread, Keeps-made, Keeps-unread, Quiet-later, lists-walked, opens-walked}
 use Rattle.clean_plan.specs.Prepared.{prepared}
 use Rattle.clean_plan.specs.Safe.{IsSpared}
@@ -72,6 +73,7 @@ module _ {W I : Type 0} {w : WorktreeOf W} {i : InterruptOf I} {w0 w1 : W} {i0 :
         opens = λ t told quiet. tt;
         lists = λ t told setup read at_once. omega (arith, lists);
         causes = HasCauses-unread w i w0 w1 i0 i0 (top.made_by request.finding) request.places refusal of outside fault once lists refl;
+        in_order = RefusesInOrder-unread refusal of tree faults listed once lists composes;
         keeps = Keeps-unread refusal tree faults listed lists composes;
       }
 
@@ -94,7 +96,8 @@ module _ {W I : Type 0} {w : WorktreeOf W} {i : InterruptOf I} {w0 w1 w2 : W} {i
         works = λ t told quiet. works-made _ t request setup answer _ _ _ _ _ (read t told) once (texts.works t (tree ∙ told) (Quiet-later _ _ _ faults quiet));
         opens = λ t told quiet. opens-walked (top.made_by request.finding) _ t request.places setup answer _ _ _ (read t told) lists (texts.opens t (tree ∙ told) (Quiet-later _ _ _ faults quiet));
         lists = λ t told. lists-walked t request.places setup _ _ _ (read t told) lists texts.lists;
-        causes = HasCauses-refused w i w0 w1 w2 i0 i1 (top.made_by request.finding) request.places setup answer read tree faults once lists texts.refused;
+        causes = HasCauses-refused w i w0 w1 w2 i0 i1 (top.made_by request.finding) request.places setup 0 answer read tree faults once lists texts.refused;
+        in_order = RefusesInOrder-made w i w0 w1 w2 i0 i1 (top.made_by request.finding) (λ (s : Setup). 0) request.places setup answer read tree faults listed once lists composes texts.refused;
         keeps = Keeps-made answer tree faults listed lists composes texts.worktree texts.interrupt texts.listed texts.calm;
       }
 

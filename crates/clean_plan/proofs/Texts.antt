@@ -15,11 +15,12 @@ use Rattle.worktree_report.specs.declared.error.ReportError.{ReportError}
 use Rattle.worktree_report.specs.declared.error.ReportError.TheVariants as reports
 use Rattle.worktree_report.specs.declared.report.Report.{Report}
 use Rattle.worktree_report.specs.Asked.{read_in, ListsAt, WorksAt}
+use Rattle.worktree_report.specs.Behind.{RefusesMaking, RefusesText}
 use Rattle.worktree_report.specs.Converted as converted
 use Rattle.worktree_report.specs.Lines.{text_with}
-use Rattle.worktree_report.specs.Reported.{MakesReport, RefusesText, Texts}
-use Rattle.worktree_report.proofs.Runs.{Rose-before}
-use Rattle.worktree_report.proofs.Answered.{told-blobs, Texts-ok, Texts-refused}
+use Rattle.worktree_report.specs.Reported.{MakesReport, Texts}
+use Rattle.worktree_report.proofs.Answered.{told-blobs, Texts-ok}
+use Rattle.worktree_report.proofs.Refusing.{FailsBehind-is, RefusesMaking-is}
 use Rattle.clean_plan.specs.declared.error.CleanError.{CleanError}
 use Rattle.clean_plan.specs.declared.error.CleanError.TheVariants as errors
 use Rattle.clean_plan.specs.declared.outcome.Plan.{Plan}
@@ -98,13 +99,13 @@ module _ {W F I : Type 0} {w : WorktreeOf W} {f : FindOf F} {i : InterruptOf I} 
   -- why there is no text, by the report that was made or refused
   refused-text : (what : What) (made : Result Report ReportError) (between : W) (e : CleanError) (refusal : Refusal) → MakesReport w f i w0 between o0 o1 i0 i1 root setup made
       → EndsAs w between w1 root setup what made (Err e) → f.holds o0 ≡ Some setup.blobs → NotIncreased (f.faults o0) (f.faults o1) → refusal ≡ top.of_clean e
-      → RefusesText w i (w.precomposes w0) w0 w1 i0 i1 root setup refusal
+      → RefusesText w i (w.precomposes w0) w0 w1 i0 i1 root setup 0 refusal
   refused-text what (Ok r) between (errors.Report e) refusal reported ends held kept same = absurd ends.refused
-  refused-text what (Ok r) between errors.Fault refusal reported ends held kept same = inr (inl (same, Rose-before _ _ _ reported.worktree.faults ends.refused, λ t told. (reported.orderly.known, reported.orderly.known_is t told)))
+  refused-text what (Ok r) between errors.Fault refusal reported ends held kept same = inr (inl (same, FailsBehind-is 0 r reported held ends.asks (omega (arith, ends.reads)) ends.refused))
   refused-text what (Ok r) between errors.OutOfMemory refusal reported ends held kept same = inl same
   refused-text what (Err e2) between e refusal reported ends held kept same =
-      inr (inr (subst (λ (x : W). Texts w i (w.precomposes w0) w0 x i0 i1 root setup (Err refusal)) (sym ends.1)
-      (Texts-refused e2 refusal reported held kept (same ∙ ap top.of_clean (which (ends.0)) ∙ same_refusal e2))))
+      inr (inr (subst (λ (x : W). RefusesMaking w i (w.precomposes w0) w0 x i0 i1 root setup refusal) (sym ends.1)
+      (RefusesMaking-is e2 refusal reported held kept (same ∙ ap top.of_clean (which (ends.0)) ∙ same_refusal e2))))
 
 module _ {W F I : Type 0} {w : WorktreeOf W} {f : FindOf F} {i : InterruptOf I} {w0 w1 : W} {o0 o1 : F} {i0 i1 : I} {root : List ℕ} {setup : Setup} {what : What} where
   -- the text of a plan

@@ -13,10 +13,10 @@ use Rattle.worktree_report.specs.declared.refusal.Refusal.TheVariants as refusal
 use Rattle.worktree_report.specs.declared.report.Report.{Report}
 use Rattle.worktree_report.specs.declared.setup.Setup.{Setup}
 use Rattle.worktree_report.specs.Asked.{read_in, ListsAt, WorksAt}
+use Rattle.worktree_report.specs.Behind.{RefusesInOrder, RefusesText}
 use Rattle.worktree_report.specs.Converted as converted
 use Rattle.worktree_report.specs.Escapes.{escaped}
 use Rattle.worktree_report.specs.Orderly.{IsOrderly}
-use Rattle.worktree_report.specs.Reported.{RefusesText}
 use Rattle.worktree_report.specs.Run.{AnswersIf, HasCauses, IsReadyAt, Keeps, ListsOnce, ListsReport}
 use Rattle.worktree_report.specs.SetupAt.{setup_at}
 use Rattle.clean_plan.specs.declared.error.CleanError.{CleanError}
@@ -127,7 +127,7 @@ pub record PlanTexts {W I : Type 0} (w : WorktreeOf W) (i : InterruptOf I) (comp
   -- and so are its directories
   pub opens : (t : Names) → w.told w0 ≡ Some t → NotIncreased (w.faults w0) (w.faults w1) → OnOk answer (ListsAt composes t root setup (w.lists w0) (w.lists w1))
   pub lists : setup.options.strategy ≡ AtOnce → w.lists w1 ≤ w.lists w0 + 1
-  pub refused : IfErr answer (RefusesText w i composes w0 w1 i0 i1 root setup)
+  pub refused : IfErr answer (RefusesText w i composes w0 w1 i0 i1 root setup 0)
   pub worktree : KeepsTree w w0 w1
   pub interrupt : AsksInterrupt i i0 i1
   pub listed : OnOk answer (w.list_faults w1 ≡ w.list_faults w0)
@@ -150,6 +150,8 @@ pub record AnswersClean {W I : Type 0} (w : WorktreeOf W) (i : InterruptOf I) (w
       → OnOk answer (ListsReport (made_by request.finding) (w.precomposes w0) t request.places (w.lists w0) (w.lists w1))
   pub lists : (t : Names) → w.told w0 ≡ Some t → ListsOnce t request.places (w.lists w0) (w.lists w1)
   pub causes : HasCauses w i w0 w1 i0 i1 (made_by request.finding) request.places answer
+  -- A refusal, but for want of memory, comes as the setup is read, as the report is made by it, or behind that, where no file is read.
+  pub in_order : IfErr answer (RefusesInOrder w i w0 w1 i0 i1 (made_by request.finding) (λ (setup : Setup). 0) request.places)
   pub keeps : Keeps w i w0 w1 i0 i1 answer
 
 -- the text that is asked for, or why there is none

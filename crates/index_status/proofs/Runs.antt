@@ -12,8 +12,10 @@ use Rattle.worktree_report.specs.Converted.{IsOfReading}
 use Rattle.worktree_report.specs.Run.{as_read, IsSafeReport, SetupRefuses}
 use Rattle.worktree_report.specs.SetupAt.{setup_at}
 use Rattle.worktree_report.specs.Words.{Places}
+use Rattle.worktree_report.proofs.Refusing.{RefusesInOrder-made, RefusesInOrder-unread}
 use Rattle.worktree_report.proofs.Runs.{HasCauses-refused, HasCauses-unread, Keeps-made, Keeps-unread, Quiet-later, lists-walked, opens-walked}
 use Rattle.index_status.specs.Run as top
+use Rattle.index_status.specs.States.{files_in}
 
 -- ---- the text at some places
 
@@ -70,6 +72,7 @@ module _ {W I : Type 0} {w : WorktreeOf W} {i : InterruptOf I} {w0 w1 : W} {i0 :
         opens = λ t told quiet. tt;
         lists = λ t told setup read at_once. omega (arith, lists);
         causes = HasCauses-unread w i w0 w1 i0 i0 as_read places refusal of outside fault once lists refl;
+        in_order = RefusesInOrder-unread refusal of tree faults listed once lists composes;
         keeps = Keeps-unread refusal tree faults listed lists composes;
       }
 
@@ -88,7 +91,8 @@ module _ {W I : Type 0} {w : WorktreeOf W} {i : InterruptOf I} {w0 w1 w2 : W} {i
         works = λ t told quiet. works-made _ t places setup answer _ _ _ _ _ (read t told) once (texts.works t (tree ∙ told) (Quiet-later _ _ _ faults quiet));
         opens = λ t told quiet. opens-walked as_read _ t places setup answer _ _ _ (read t told) lists (texts.opens t (tree ∙ told) (Quiet-later _ _ _ faults quiet));
         lists = λ t told. lists-walked t places setup _ _ _ (read t told) lists texts.lists;
-        causes = HasCauses-refused w i w0 w1 w2 i0 i1 as_read places setup answer read tree faults once lists texts.refused;
+        causes = HasCauses-refused w i w0 w1 w2 i0 i1 as_read places setup (files_in setup.index) answer read tree faults once lists texts.refused;
+        in_order = RefusesInOrder-made w i w0 w1 w2 i0 i1 as_read (λ (s : Setup). files_in s.index) places setup answer read tree faults listed once lists composes texts.refused;
         keeps = Keeps-made answer tree faults listed lists composes texts.worktree texts.interrupt texts.listed texts.calm;
       }
 

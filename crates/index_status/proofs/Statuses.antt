@@ -17,11 +17,12 @@ use Rattle.worktree_report.specs.declared.refusal.Refusal.TheVariants as refusal
 use Rattle.worktree_report.specs.declared.report.Report.{Report}
 use Rattle.worktree_report.specs.declared.setup.Setup.{Setup}
 use Rattle.worktree_report.specs.Asked.{read_in, text_of, IsReportOf, ListsAt}
+use Rattle.worktree_report.specs.Behind.{RefusesText}
 use Rattle.worktree_report.specs.Lines.{text_with}
-use Rattle.worktree_report.specs.Reported.{MakesReport, RefusesText, Texts}
-use Rattle.worktree_report.proofs.Answered.{told-blobs, Texts-ok, Texts-refused}
+use Rattle.worktree_report.specs.Reported.{MakesReport, Texts}
+use Rattle.worktree_report.proofs.Answered.{told-blobs, Texts-ok}
+use Rattle.worktree_report.proofs.Refusing.{FailsBehind-is, RefusesMaking-is}
 use Rattle.worktree_report.proofs.ReportMade.{report_is}
-use Rattle.worktree_report.proofs.Runs.{Rose-before}
 use Rattle.index_status.specs.declared.error.StatesError.{StatesError}
 use Rattle.index_status.specs.declared.error.StatesError.TheVariants as states
 use Rattle.index_status.specs.declared.error.StatusError.{StatusError}
@@ -235,11 +236,11 @@ module _ {W F I : Type 0} {w : WorktreeOf W} {f : FindOf F} {i : InterruptOf I} 
       }
 
   refused-text : (e : StatusError) (refusal : Refusal) → MakesStatus w f i w0 w1 o0 o1 i0 i1 root setup (Err e) → f.holds o0 ≡ Some setup.blobs → NotIncreased (f.faults o0) (f.faults o1)
-      → refusal ≡ top.of_status e → RefusesText w i (w.precomposes w0) w0 w1 i0 i1 root setup refusal
-  refused-text (errors.Report e) refusal made held kept same = inr (inr (Texts-refused e refusal (made.no_report e refl) held kept same))
+      → refusal ≡ top.of_status e → RefusesText w i (w.precomposes w0) w0 w1 i0 i1 root setup (files_in setup.index) refusal
+  refused-text (errors.Report e) refusal made held kept same = inr (inr (RefusesMaking-is e refusal (made.no_report e refl) held kept same))
   refused-text (errors.Fault path) refusal made held kept same =
       let fails = made.cause path refl in
-      inr (inl (same, Rose-before _ _ _ fails.made.worktree.faults fails.rose, made.later path refl))
+      inr (inl (same, FailsBehind-is (files_in setup.index) fails.report fails.made held fails.asks fails.reads fails.rose))
   refused-text errors.OutOfMemory refusal made held kept same = inl same
 
   -- the refusal that stands for that of a status

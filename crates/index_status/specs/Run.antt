@@ -11,9 +11,9 @@ use Rattle.worktree_report.specs.declared.refusal.Refusal.{Refusal}
 use Rattle.worktree_report.specs.declared.refusal.Refusal.TheVariants as refusals
 use Rattle.worktree_report.specs.declared.setup.Setup.{Setup}
 use Rattle.worktree_report.specs.Asked.{IsSafeAt, text_of, ListsAt, WorksAt}
+use Rattle.worktree_report.specs.Behind.{RefusesInOrder, RefusesText}
 use Rattle.worktree_report.specs.Converted as converted
 use Rattle.worktree_report.specs.Orderly.{IsOrderlyText}
-use Rattle.worktree_report.specs.Reported.{RefusesText}
 use Rattle.worktree_report.specs.Run.{as_read, AnswersIf, HasCauses, IsReadyAt, IsSafeReport, Keeps, ListsOnce, ListsReport}
 use Rattle.worktree_report.specs.SetupAt.{setup_at}
 use Rattle.worktree_report.specs.Steps.{◌>>=◌}
@@ -101,7 +101,7 @@ pub record StatusTexts {W I : Type 0} (w : WorktreeOf W) (i : InterruptOf I) (co
   -- directories are listed for the report alone
   pub opens : (t : Names) → w.told w0 ≡ Some t → NotIncreased (w.faults w0) (w.faults w1) → OnOk answer (ListsAt composes t root setup (w.lists w0) (w.lists w1))
   pub lists : setup.options.strategy ≡ AtOnce → w.lists w1 ≤ w.lists w0 + 1
-  pub refused : IfErr answer (RefusesText w i composes w0 w1 i0 i1 root setup)
+  pub refused : IfErr answer (RefusesText w i composes w0 w1 i0 i1 root setup (files_in setup.index))
   pub worktree : KeepsTree w w0 w1
   pub interrupt : AsksInterrupt i i0 i1
   pub listed : OnOk answer (w.list_faults w1 ≡ w.list_faults w0)
@@ -124,6 +124,9 @@ pub record AnswersStatus {W I : Type 0} (w : WorktreeOf W) (i : InterruptOf I) (
       → OnOk answer (ListsReport as_read (w.precomposes w0) t places (w.lists w0) (w.lists w1))
   pub lists : (t : Names) → w.told w0 ≡ Some t → ListsOnce t places (w.lists w0) (w.lists w1)
   pub causes : HasCauses w i w0 w1 i0 i1 as_read places answer
+  -- A refusal, but for want of memory, comes as the setup is read, as the report is made by it, or as the index paths are looked at
+  -- behind that, each file being read once at most.
+  pub in_order : IfErr answer (RefusesInOrder w i w0 w1 i0 i1 as_read (λ (setup : Setup). files_in setup.index) places)
   pub keeps : Keeps w i w0 w1 i0 i1 answer
 
 -- the text that is asked for, or why there is none

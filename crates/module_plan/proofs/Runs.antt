@@ -54,6 +54,7 @@ module _ {W : Type 0} {w : WorktreeOf W} {w0 w1 : W} {root : List ℕ} {setup : 
         misread_reads = λ m is. files m (ap Err (which is));
         refused = of;
         fault_late = λ is t told. inl (stops t told (ap Err (which is)));
+        unfaulted = tt;
         reads = loads.reads;
         tree = loads.tree;
         faults = loads.faults;
@@ -81,6 +82,11 @@ refused-later : (answer : Result (List ℕ) Refusal) (Failed Broken : Type 0) �
 refused-later (Ok text) Failed Broken weaker of = tt
 refused-later (Err refusal) Failed Broken weaker of = planning-weaker Failed Broken weaker refusal of
 
+-- nothing failed before, nor after
+unfaulted-later : (answer : Result (List ℕ) Refusal) (before middle now : ℕ) → middle ≡ before → OnOk answer (now ≡ middle) → OnOk answer (now ≡ before)
+unfaulted-later (Ok text) before middle now first later = later ∙ first
+unfaulted-later (Err refusal) before middle now first later = tt
+
 module _ {W : Type 0} {w : WorktreeOf W} {w0 w1 w2 : W} {root : List ℕ} {setup : Setup} where
   -- the plan is made of what was read
   pub PlansText-loaded : (modules : Modules) (answer : Result (List ℕ) Refusal) → ((t : Names) → w.told w0 ≡ Some t → modules_in t root setup ≡ Ok modules) → LoadsFiles w w0 w1 (files_of setup)
@@ -90,8 +96,8 @@ module _ {W : Type 0} {w : WorktreeOf W} {w0 w1 w2 : W} {root : List ℕ} {setup
       → ((m : Misread) → IsErrOf answer (refusals.Misread m) → with_specs setup.options.ignore_case modules ≡ Err m)
       → IfErr answer (top.IsOfPlanning (Increased (w.faults w1) (w.faults w2)))
       → (IsErrOf answer refusals.Fault → IsKnown (with_specs setup.options.ignore_case modules)) → Asks w w1 w2 → w.reads w2 ≡ w.reads w1
-      → top.PlansText w w0 w2 root setup answer
-  PlansText-loaded modules answer read loads gives safe tells orderly outside of late asks unread =
+      → w.faults w1 ≡ w.faults w0 → OnOk answer (w.faults w2 ≡ w.faults w1) → top.PlansText w w0 w2 root setup answer
+  PlansText-loaded modules answer read loads gives safe tells orderly outside of late asks unread unfaulted later =
       record {
         gives = λ t told. text-loaded t root setup modules answer (read t told) (gives t (loads.tree ∙ told));
         safe = λ t told. safe-loaded t root setup modules answer (read t told) (safe t (loads.tree ∙ told));
@@ -103,6 +109,7 @@ module _ {W : Type 0} {w : WorktreeOf W} {w0 w1 w2 : W} {root : List ℕ} {setup
         misread_reads = λ m is. reads-specs setup modules m (w.reads w0) (w.reads w2) (outside m is) (omega (arith, loads.reads, unread));
         refused = refused-later answer _ _ (Rose-before _ _ _ loads.faults) of;
         fault_late = λ is t told. inr (known-loaded t root setup modules (read t told) (late is));
+        unfaulted = unfaulted-later answer _ _ _ unfaulted later;
         reads = omega (arith, loads.reads, unread);
         tree = asks.tree ∙ loads.tree;
         faults = omega (arith, loads.faults, asks.faults);
@@ -193,6 +200,7 @@ module _ {W : Type 0} {w : WorktreeOf W} {w0 w1 : W} {places : Places} where
         orderly = tt;
         refused = call-read _ refusal of fault;
         fault_late = λ is t told. inl (omega (arith, once));
+        unfaulted = tt;
         reads = λ t told. inl (omega (arith, once));
         setup = λ t told line is. outside t told line (which is);
         misread = λ t told m is. absurd (subst IsOfReading (which is) of);
@@ -229,15 +237,16 @@ module _ {W : Type 0} {w : WorktreeOf W} {w0 w1 w2 : W} {places : Places} (setup
   no_plan (Err refusals.OutOfMemory) plans t told quiet ready = refl
 
   -- the plan is made by the setup that was read
-  pub AnswersPlan-planned : (answer : Result (List ℕ) Refusal) → w.list_faults w1 ≡ w.list_faults w0 → w.lists w1 ≡ w.lists w0 → w.precomposes w1 ≡ w.precomposes w0
+  pub AnswersPlan-planned : (answer : Result (List ℕ) Refusal) → w.faults w1 ≡ w.faults w0 → w.list_faults w1 ≡ w.list_faults w0 → w.lists w1 ≡ w.lists w0 → w.precomposes w1 ≡ w.precomposes w0
       → top.PlansText w w1 w2 places.root setup answer → top.AnswersPlan w w0 w2 places answer
-  AnswersPlan-planned answer list_faults lists composes plans =
+  AnswersPlan-planned answer unfaulted list_faults lists composes plans =
       record {
         gives = λ t told. output-planned t places setup answer (read t told) (plans.gives t (tree ∙ told));
         safe = λ t told. safe-planned t places setup answer (read t told) (plans.safe t (tree ∙ told));
         orderly = orderly-planned (w.told w0) (w.told w1) places setup answer read tree plans.orderly;
         refused = call-planned _ _ (Rose-before _ _ _ faults) answer plans.refused;
         fault_late = λ is t told. on-time t places setup _ _ _ (read t told) once (plans.fault_late is t (tree ∙ told));
+        unfaulted = unfaulted-later answer _ _ _ unfaulted plans.unfaulted;
         reads = λ t told. inr (setup, read t told, subst (λ (n : ℕ). w.reads w2 ≤ n + files_of setup) once plans.reads);
         setup = λ t told line is. absurd (subst (λ r. IfErr r (top.IsOfPlanning (Increased (w.faults w1) (w.faults w2)))) is plans.refused);
         misread = λ t told m is. record { setup = setup; read = read t told; misread = plans.misread t (tree ∙ told) m is };

@@ -154,6 +154,7 @@ pub record PlansText {W : Type 0} (w : WorktreeOf W) (w0 w1 : W) (root : List �
   pub refused : IfErr answer (IsOfPlanning (Increased (w.faults w0) (w.faults w1)))
   pub fault_late : IsErrOf answer refusals.Fault → (t : Names) → w.told w0 ≡ Some t
       → StopsAt t setup (w.reads w0) (w.reads w1) ⊎ IsKnown (known_in t root (asking setup))
+  pub unfaulted : OnOk answer (w.faults w1 ≡ w.faults w0)
   pub reads : w.reads w1 ≤ w.reads w0 + files_of setup
   pub tree : w.told w1 ≡ w.told w0
   pub faults : w.faults w0 ≤ w.faults w1
@@ -200,6 +201,8 @@ pub record AnswersPlan {W : Type 0} (w : WorktreeOf W) (w0 w1 : W) (places : Pla
   -- For valid input, and where nothing failed, only memory may be wanted.
   pub complete : (t : Names) → w.told w0 ≡ Some t → NotIncreased (w.faults w0) (w.faults w1) → IsReady t places
       → IfErr answer (λ refusal. refusal ≡ refusals.OutOfMemory)
+  -- Where there is a text nothing failed, so that no call that failed is made again and answered as if it had not.
+  pub unfaulted : OnOk answer (w.faults w1 ≡ w.faults w0)
   -- Each file is read once at most, and none behind the setup where that is refused.
   pub reads : (t : Names) → w.told w0 ≡ Some t → ReadsOnce t places (w.reads w0) (w.reads w1)
   -- What stays.

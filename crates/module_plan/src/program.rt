@@ -64,6 +64,7 @@ fn modules_of<W: Worktree>(
         (W.faults worktree.new))) }
     ensures stops { (t : Names) → W.told worktree.old ≡ Some t → IsErrOf result Refusal.Fault
         → StopsAt t setup.now (W.reads worktree.old) (W.reads worktree.new) }
+    ensures unfaulted { OnOk result (W.faults worktree.new ≡ W.faults worktree.old) }
     ensures loads { LoadsFiles W.Worktree worktree.old worktree.new (files_of setup.now) }
 {
     match load_modules(alloc, worktree, root, setup) {
@@ -93,6 +94,7 @@ fn text_of_modules<W: Worktree>(
     ensures late { IsErrOf result Refusal.Fault → IsKnown (with_specs ignore_case modules.now) }
     ensures keeps { Asks W.Worktree worktree.old worktree.new }
     ensures reads { W.reads worktree.new ≡ W.reads worktree.old }
+    ensures unfaulted { OnOk result (W.faults worktree.new ≡ W.faults worktree.old) }
 {
     let defaults = Defaults { ignore_case };
     match plan(

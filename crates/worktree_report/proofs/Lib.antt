@@ -10,4 +10,5 @@ pub mod Walks
 pub mod Stopping
 pub mod ReportMade
 pub mod Answered
+pub mod Refusing
 pub mod Meanings

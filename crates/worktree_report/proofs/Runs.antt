@@ -14,10 +14,11 @@ use Rattle.worktree_report.specs.declared.refusal.Refusal.TheVariants as refusal
 use Rattle.worktree_report.specs.Words.{Command, Places, report, generate}
 use Rattle.worktree_report.specs.SetupAt.{setup_at}
 use Rattle.worktree_report.specs.Asked.{read_in, text_of, IsAboutWalkAt, IsSafeAt, IsValidAt, ListsAt, WorksAt}
+use Rattle.worktree_report.specs.Behind.{RefusesText}
 use Rattle.worktree_report.specs.Converted.{IsOfReading, IsOfWalking}
 use Rattle.worktree_report.specs.Orderly.{IsOrderlyText}
 use Rattle.worktree_report.specs.Outside.{files_to, StopsAt}
-use Rattle.worktree_report.specs.Reported.{RefusesText, Texts}
+use Rattle.worktree_report.specs.Reported.{Texts}
 use Rattle.worktree_report.specs.Refusals.{status_of}
 use Rattle.worktree_report.specs.Written.{Appends}
 use Rattle.worktree_report.specs.Generate.{Generated, IsOfGenerating, generated_lines, generated_text}
@@ -193,19 +194,21 @@ module _ {W I : Type 0} (w : WorktreeOf W) (i : InterruptOf I) (w0 w1 w2 : W) (i
       }
 
   -- a command that makes a report is refused by the setup that was read
-  pub HasCauses-refused : (setup : Setup) (answer : Result (List ℕ) Refusal)
+  pub HasCauses-refused : (setup : Setup) (most : ℕ) (answer : Result (List ℕ) Refusal)
       → ((t : Names) → w.told w0 ≡ Some t → setup_at (look t places.setup true) ≡ Ok setup)
       → w.told w1 ≡ w.told w0 → w.faults w0 ≤ w.faults w1 → Incremented (w.reads w0) (w.reads w1) → w.lists w1 ≡ w.lists w0
-      → IfErr answer (RefusesText w i (w.precomposes w0) w1 w2 i0 i1 places.root (made setup)) → top.HasCauses w i w0 w2 i0 i1 made places answer
-  HasCauses-refused setup (Ok text) read tree faults once listed refused = HasCauses-given w i w0 w2 i0 i1 made places text
-  HasCauses-refused setup (Err refusal) read tree faults once listed refused =
+      → IfErr answer (RefusesText w i (w.precomposes w0) w1 w2 i0 i1 places.root (made setup) most) → top.HasCauses w i w0 w2 i0 i1 made places answer
+  HasCauses-refused setup most (Ok text) read tree faults once listed refused = HasCauses-given w i w0 w2 i0 i1 made places text
+  HasCauses-refused setup most (Err refusal) read tree faults once listed refused =
       elim refused [
         | inl memory ↦ subst (λ (r : Refusal). top.HasCauses w i w0 w2 i0 i1 made places (Err r)) (sym memory) (HasCauses-memory w i w0 w2 i0 i1 made places)
         | inr other ↦ elim other [
           | inl failed ↦ subst (λ (r : Refusal). top.HasCauses w i w0 w2 i0 i1 made places (Err r)) (sym failed.0)
-              (HasCauses-fault w i w0 w2 i0 i1 made places (Rose-before _ _ _ faults failed.1)
-              (inr (λ t told. record { setup = setup; read = read t told; known = failed.2 t (tree ∙ told) })))
-          | inr texts ↦ HasCauses-walked setup (Err refusal) read tree faults once listed texts
+              (let behind = failed.1 in
+              let known = behind.made.orderly.orderly in
+              HasCauses-fault w i w0 w2 i0 i1 made places (Rose-before _ _ _ faults (Rose-before _ _ _ behind.made.worktree.faults behind.rose))
+              (inr (λ t told. record { setup = setup; read = read t told; known = (known.known, known.known_is t (tree ∙ told)) })))
+          | inr none ↦ HasCauses-walked setup (Err refusal) read tree faults once listed none.texts
         ]
       ]
 

@@ -32,6 +32,7 @@ pub mod SetupIndex
 pub mod Asked
 pub mod Orderly
 pub mod Reported
+pub mod Behind
 pub mod Generate
 pub mod Ends
 pub mod Run

@@ -205,11 +205,3 @@ pub record Texts {W I : Type 0} (w : WorktreeOf W) (i : InterruptOf I) (composes
   -- where subtrees are walked at once, over forks, the worktree counts one directory as listed at most
   pub lists : setup.options.strategy ≡ AtOnce → w.lists w1 ≤ w.lists w0 + 1
   pub calm : OnOk result (i.raised i1 ≡ i.raised i0)
-
--- Why there is no text that a report is made for: for want of memory, as the worktree failed once there was a report, or as there is
--- no text of the report.
-abbrev pub RefusesText : {W I : Type 0} → WorktreeOf W → InterruptOf I → Bool → W → W → I → I → List ℕ → Setup → Refusal → Type 0
-RefusesText w i composes w0 w1 i0 i1 root setup refusal =
-    (refusal ≡ refusals.OutOfMemory)
-    ⊎ (((refusal ≡ refusals.Fault) × Increased (w.faults w0) (w.faults w1) × ((t : Names) → w.told w0 ≡ Some t → IsKnown (known_in t root setup)))
-    ⊎ Texts w i composes w0 w1 i0 i1 root setup (Err refusal))

@@ -1,5 +1,5 @@
 //! The files that tell of submodules.
-ghost use Rattle.std.specs.Prelude.{◌≡◌, ℕ, Some, IfOk, IfErr, IsErrOf, if◌then◌else◌};
+ghost use Rattle.std.specs.Prelude.{◌≡◌, ℕ, Some, IfOk, IfErr, IsErrOf, OnOk, if◌then◌else◌};
 ghost use Rattle.git_config_lite.specs.Grammar.{said};
 ghost use Rattle.worktree_fs.specs.Causes.{Increased};
 ghost use Rattle.worktree_fs.specs.Tree.{Names, look};
@@ -40,6 +40,7 @@ fn bytes_at<W: Worktree>(
         → IfOk result (λ bytes. bytes ≡ loading.bytes_at (look t path.now follow)) }
     ensures cause { IsErrOf result ReadError.Fault
         → Increased (W.faults worktree.old) (W.faults worktree.new) }
+    ensures unfaulted { OnOk result (W.faults worktree.new ≡ W.faults worktree.old) }
     ensures loads { LoadsFiles W.Worktree worktree.old worktree.new 1 }
 {
     let mut bytes = Bytes::new(alloc);
@@ -85,6 +86,7 @@ fn with_config<W: Worktree>(
     ensures answers { IfErr result (OfConfig (Increased (W.faults worktree.old)
         (W.faults worktree.new))) }
     ensures outside { IfErr result (OnMisread (IsConfigAt permissions.now at named.now)) }
+    ensures unfaulted { OnOk result (W.faults worktree.new ≡ W.faults worktree.old) }
     ensures loads { LoadsFiles W.Worktree worktree.old worktree.new
         (if admits permissions.now named.now.0 then 1 else 0) }
 {
@@ -109,6 +111,7 @@ fn with_configs<W: Worktree>(
         (W.faults worktree.new))) }
     ensures outside { IfErr result (OnMisread (IsConfigOf setup.now)) }
     ensures stops { IfErr result (Stops W.Worktree worktree.old worktree.new setup.now) }
+    ensures unfaulted { OnOk result (W.faults worktree.new ≡ W.faults worktree.old) }
     ensures loads { LoadsFiles W.Worktree worktree.old worktree.new
         (loading.admitted setup.now.options.permissions setup.now.configs) }
 {
@@ -152,6 +155,7 @@ fn modules_beside<W: Worktree>(
     ensures answers { IfErr result (OfModules (Increased (W.faults worktree.old)
         (W.faults worktree.new))) }
     ensures outside { IfErr result (OnMisread (IsModulesOf root.now)) }
+    ensures unfaulted { OnOk result (W.faults worktree.new ≡ W.faults worktree.old) }
     ensures loads { LoadsFiles W.Worktree worktree.old worktree.new 1 }
 {
     let path = modules_path(alloc, root)?;
@@ -192,6 +196,7 @@ pub fn load_modules<W: Worktree>(
         (W.faults worktree.new))) }
     ensures outside { IfErr result (OnMisread (IsOutside worktree_root.now setup.now)) }
     ensures stops { IfErr result (Stops W.Worktree worktree.old worktree.new setup.now) }
+    ensures unfaulted { OnOk result (W.faults worktree.new ≡ W.faults worktree.old) }
     ensures loads { LoadsFiles W.Worktree worktree.old worktree.new (loading.files_of setup.now) }
 {
     let config = with_configs(alloc, worktree, setup)?;

@@ -1,5 +1,5 @@
 //! Reading the setup from the worktree.
-ghost use Rattle.std.specs.Prelude.{◌≡◌, ◌≤◌, ℕ, true, Some, Ok, Err, IfOk, IfErr, IsErrOf};
+ghost use Rattle.std.specs.Prelude.{◌≡◌, ◌≤◌, ℕ, true, Some, Ok, Err, IfOk, IfErr, IsErrOf, OnOk};
 ghost use Rattle.worktree_fs.specs.Tree.{Names, look};
 ghost use Rattle.worktree_fs.specs.Causes.{Increased, Incremented};
 ghost use Rattle.worktree_report.specs.SetupAt.{setup_at};
@@ -57,6 +57,7 @@ pub fn read_setup<W: Worktree>(
         → IsErrOf result (Refusal.Setup line) → setup_at (look t path.now true) ≡ Err line }
     ensures cause { IsErrOf result Refusal.Fault
         → Increased (W.faults worktree.old) (W.faults worktree.new) }
+    ensures unfaulted { OnOk result (W.faults worktree.new ≡ W.faults worktree.old) }
     ensures answers { IfErr result IsOfReading }
     ensures tree { W.told worktree.new ≡ W.told worktree.old }
     ensures faults { W.faults worktree.old ≤ W.faults worktree.new }

@@ -12,4 +12,4 @@ pub returns : goal.returns
 returns g c =
     let read = c.in_ok-modules.ensures in
     let text = c.text_of_modules.ensures in
-    PlansText-loaded c.in_ok-modules.modules c.text_of_modules.result read.gives read.loads text.gives text.safe read.text text.orderly text.misread text.refused text.late text.keeps text.reads
+    PlansText-loaded c.in_ok-modules.modules c.text_of_modules.result read.gives read.loads text.gives text.safe read.text text.orderly text.misread text.refused text.late text.keeps text.reads read.unfaulted text.unfaulted

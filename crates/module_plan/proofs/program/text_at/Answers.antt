@@ -14,4 +14,4 @@ returns-in_err-setup g c =
 pub returns : goal.returns
 returns g c =
     let read = c.in_ok-setup.ensures in
-    AnswersPlan-planned c.in_ok-setup.setup read.gives read.tree read.faults read.reads c.planned_text.result read.list_faults read.lists read.precomposes c.planned_text.ensures
+    AnswersPlan-planned c.in_ok-setup.setup read.gives read.tree read.faults read.reads c.planned_text.result read.unfaulted read.list_faults read.lists read.precomposes c.planned_text.ensures

@@ -23,6 +23,7 @@ loop-i-preserved g c =
       read = λ t told.
           read_more t permissions configs c.loop-i.i c.named-item.result c.loop-i.config c.in_ok-config.config inside (before.read t told)
           (subst (λ (x : ConfigFile). with_config t permissions (c.loop-i.i + 1) x c.loop-i.config ≡ Ok c.in_ok-config.config) is (now.gives t (before.loads.tree ∙ told)));
+      unfaulted = now.unfaulted ∙ before.unfaulted;
       loads =
           LoadsFiles-more g.W.Worktree _ c.loop-i.worktree c.with_config.new.worktree permissions configs c.loop-i.i c.named-item.result inside before.loads
           (subst (λ (x : ConfigFile). LoadsFiles g.W.Worktree c.loop-i.worktree c.with_config.new.worktree (if admits permissions x.0 then 1 else 0)) is now.loads);

@@ -12,5 +12,6 @@ invariant-loop-i g l =
       same : (t : Names) → g.W.Worktree.told l.fn.worktree ≡ Some t
           → with_configs t permissions (l.i + 1) (drop l.i configs) l.config ≡ with_configs t permissions 1 configs no_config;
       read : (t : Names) → g.W.Worktree.told l.fn.worktree ≡ Some t → with_configs t permissions 1 (take l.i configs) no_config ≡ Ok l.config;
+      unfaulted : g.W.Worktree.faults l.worktree ≡ g.W.Worktree.faults l.fn.worktree;
       loads : LoadsFiles g.W.Worktree l.fn.worktree l.worktree (admitted permissions (take l.i configs));
     }
