@@ -171,7 +171,8 @@ pub record IsReady (t : Names) (places : Places) : Type 0 where
   pub known : Option Known
   pub known_is : known_in t places.root (asking setup) ≡ Ok known
 
--- a fault comes in its time: no file behind the setup was read, or one that tells of submodules was not, or all of it is in its grammar
+-- a fault comes in its time: no file was read behind the setup, or one that tells of submodules could not be, or all that tells of them is
+-- in its grammar
 abbrev pub FailsOnTime : Names → Places → ℕ → ℕ → Type 0
 FailsOnTime t places reads0 reads1 = (reads1 ≤ next reads0) ⊎ (StopsReport asking t places reads0 reads1 ⊎ IsKnownReport asking t places)
 
@@ -189,8 +190,8 @@ pub record AnswersPlan {W : Type 0} (w : WorktreeOf W) (w0 w1 : W) (places : Pla
   pub orderly : IfOk answer (IsPlanTextAt (w.told w0) places)
   -- Each refusal has its cause.
   pub refused : IfErr answer (IsOfCall (Increased (w.faults w0) (w.faults w1)))
-  -- Over a told tree a fault comes where the setup was not read, or a file that tells of submodules was not, or all that tells of them is
-  -- in its grammar: the ways are looked at behind that.
+  -- Over a told tree a fault comes where no file was read behind the setup, or one that tells of submodules could not be, or all that
+  -- tells of them is in its grammar.
   pub fault_late : IsErrOf answer refusals.Fault → (t : Names) → w.told w0 ≡ Some t → FailsOnTime t places (w.reads w0) (w.reads w1)
   pub setup : (t : Names) → w.told w0 ≡ Some t → (line : ℕ) → IsErrOf answer (refusals.Setup line) → SetupRefuses t places line
   pub misread : (t : Names) → w.told w0 ≡ Some t → (which : Misread) → IsErrOf answer (refusals.Misread which) → MisreadsReport asking t places which

@@ -44,6 +44,8 @@ impl From<OutOfMemory> for Stop {
 ///
 /// See docs/DIFFERENCES.md#modules-not-initialised.
 /// See docs/DIFFERENCES.md#modules-without-index.
+/// See docs/DIFFERENCES.md#modules-up-to-date.
+/// See docs/DIFFERENCES.md#modules-just-cloned.
 pub(crate) fn asked_for(
     alloc: Global,
     asking: &Asking<'_>,
