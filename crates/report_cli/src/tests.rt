@@ -1,5 +1,6 @@
 //! Reports over a worktree in memory, whole: words in, a status and two texts out.
 mod calls;
+mod composed;
 mod depths;
 mod endings;
 mod faults;
@@ -284,28 +285,9 @@ fn says_how_much_there_is_of_files_in_memory(rt: HostRuntime) {
     }
 }
 
-/// A name with a combining mark, and the same name composed.
-const DECOMPOSED: &[u8] = b"/w/a\xcc\x88";
-
-const COMPOSED: &[u8] = b"/w/\xc3\xa4";
-
-/// Whether the report over names that were composed is asked for by the word `composed`, and not without it.
-fn is_composed(alloc: Global) -> Result<bool, AddError> {
-    let mut tree = MemoryWorktree::new(alloc, true);
-    tree.add(alloc, DECOMPOSED, A_FILE)?;
-    tree.add(alloc, b"/s", A_FILE)?;
-    let composed: &[&[u8]] = &[b"composed", b"report", b"/w", b"/s"];
-    let text = b"untracked file - always - -\t\xc3\xa4\n";
-    Ok(
-        answers(alloc, composed, &mut tree, (0, text, b""))
-            && answers(alloc, REPORT, &mut tree, (2, b"", USAGE))
-            && matches!(tree.add(alloc, COMPOSED, A_FILE), Err(AddError::Exists)),
-    )
-}
-
 #[test]
 fn composes_names_where_the_worktree_does(rt: HostRuntime) {
-    assert_eq!(rt; is_composed(rt.alloc()), Ok(true));
+    assert_eq!(rt; composed::is_composed(rt.alloc()), Ok(true));
 }
 
 #[test]
