@@ -39,10 +39,11 @@ help() {
     sed -n '2,/^[^#]/{/^#/!d;s/^# \{0,1\}//;p}' "$0"
 }
 
-# Prints the help and ends where it is asked for.
+# Prints the help and ends where it is asked for, before a word `--`.
 help_if_asked() {
     for word in "$@"; do
         case $word in
+        --) return ;;
         -h | --help)
             help
             exit 0
