@@ -1,5 +1,6 @@
 //! The names of a directory of the system.
-ghost use Rattle.std.specs.Prelude.{◌≡◌, ◌⊎◌, ◌≤◌, ◌<◌, ◌++◌, ◌∷◌, [], length, Some, None, if◌then◌else◌, IfOk, IfErr, OnOk, IfNone, IfSome, All, IsTrue, IsErrOf, IsPermutation};
+ghost use Rattle.std.specs.Prelude.{◌≡◌, ◌⊎◌, ◌↔◌, ◌≤◌, ◌<◌, ◌++◌, ◌∷◌, [], length, Some, None, if◌then◌else◌, IfOk, IfErr, OnOk, IfNone, IfSome, MatchOption, All, IsTrue, IsErrOf, IsPermutation, bytes_eq};
+ghost use Rattle.std.specs.List.{IsDistinct};
 ghost use Rattle.std.specs.List.Sorted.{IsStrictlySortedBy};
 ghost use Rattle.worktree_fs.specs.Composed.{as_kept};
 ghost use Rattle.worktree_fs.specs.Disk.{has_nul, is_unaskable, IsGiven, AreListed, kept_names, names_between, given_names};
@@ -188,9 +189,11 @@ fn listed_name(alloc: Global, composes: bool, name: &[u8]) -> Result<Option<Byte
     Ok(None)
 }
 
-/// The names in ascending order; none where two of them are equal.
+/// The names in ascending order; none exactly where two of them are equal.
 fn in_order(_composes: bool, names: Vec<Bytes>) -> Option<NameList>
     requires { AreListed _composes names.items }
+    ensures distinct { MatchOption result (IsDistinct bytes_eq names.items → ⊥)
+        (λ _. IsDistinct bytes_eq names.items) }
     ensures all { IfSome result (IsPermutation names.items) }
     ensures names { IfSome result AreNames }
     ensures kept { IfSome result (All (IsGiven _composes)) }
@@ -214,7 +217,7 @@ fn compare(a: &Bytes, b: &Bytes) -> Ordering
 
 /// Whether each name is below the next.
 fn rises(names: &[Bytes]) -> bool
-    ensures { IsTrue result → IsStrictlySortedBy path_cmp names.now }
+    ensures { IsTrue result ↔ IsStrictlySortedBy path_cmp names.now }
 {
     for i in 1..names.len() {
         if compare(&names[i - 1], &names[i]) != Ordering::Less {
