@@ -1,7 +1,7 @@
 //! The files of the system as a worktree: the edge of which the counts, the names and the sizes are proved, and not what it holds.
 ghost use Rattle.std.specs.Prelude.{◌≡◌, ◌≤◌, ◌^◌, ◌&&◌, length, None, Ok, IfOk, IsErrOf, MatchResult, false, All, IsTrue};
 ghost use Rattle.worktree_fs.specs.Causes.{Increased, next};
-ghost use Rattle.worktree_fs.specs.Disk.{is_fault, is_listing_fault, has_nul, is_unaskable, more_if, counted_call, counted_read, counted_listing, IsGiven};
+ghost use Rattle.worktree_fs.specs.Disk.{is_fault, is_listing_fault, has_nul, is_unaskable, more_if, counted_call, counted_read, counted_listing, uncounted, IsGiven};
 ghost use Rattle.std.specs.List.Sorted.{IsStrictlySortedBy};
 ghost use Rattle.worktree_fs.specs.Changes.{from_directory};
 ghost use Rattle.worktree_fs.specs.Naming.{AreNames};
@@ -127,9 +127,10 @@ impl<'a> Worktree for DiskWorktree<'a> {
         self.composes
     }
 
-    /// One call of the system.
+    /// One call of the system. Never answers `OutOfMemory`.
     fn kind(&mut self, _alloc: Global, path: &[u8]) -> Result<Option<NodeKind>, ReadError>
         ensures state { self.new ≡ counted_call (is_fault result) self.old }
+        ensures wants_none { IsErrOf result ReadError.OutOfMemory → ⊥ }
         ensures later { self.old.faults ≤ self.new.faults }
         ensures cause { IsErrOf result ReadError.Fault
             → Increased self.old.faults self.new.faults }
@@ -142,9 +143,10 @@ impl<'a> Worktree for DiskWorktree<'a> {
         found
     }
 
-    /// One call of the system.
+    /// One call of the system. Never answers `OutOfMemory`.
     fn kind_following(&mut self, _alloc: Global, path: &[u8]) -> Result<Option<NodeKind>, ReadError>
         ensures state { self.new ≡ counted_call (is_fault result) self.old }
+        ensures wants_none { IsErrOf result ReadError.OutOfMemory → ⊥ }
         ensures later { self.old.faults ≤ self.new.faults }
         ensures cause { IsErrOf result ReadError.Fault
             → Increased self.old.faults self.new.faults }
@@ -255,9 +257,10 @@ impl<'a> Worktree for DiskWorktree<'a> {
         answer
     }
 
-    /// The node is looked at before it is removed.
+    /// The node is looked at before it is removed. Never answers `OutOfMemory`.
     fn remove_node(&mut self, _alloc: Global, path: &[u8]) -> Result<RemoveAnswer, ReadError>
         ensures state { self.new ≡ counted_call (is_fault result) self.old }
+        ensures wants_none { IsErrOf result ReadError.OutOfMemory → ⊥ }
         ensures later { self.old.faults ≤ self.new.faults }
         ensures cause { IsErrOf result ReadError.Fault
             → Increased self.old.faults self.new.faults }
@@ -270,7 +273,10 @@ impl<'a> Worktree for DiskWorktree<'a> {
         answer
     }
 
-    fn fork(&self, _alloc: Global) -> Result<DiskWorktree<'a>, OutOfMemory> {
+    /// Never answers `OutOfMemory`.
+    fn fork(&self, _alloc: Global) -> Result<DiskWorktree<'a>, OutOfMemory>
+        ensures { result ≡ Ok (uncounted self.now) }
+    {
         Ok(DiskWorktree {
             rt: self.rt,
             composes: self.composes,

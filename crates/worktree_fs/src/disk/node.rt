@@ -32,6 +32,7 @@ fn is_unaskable(path: &[u8]) -> bool
 #[tactic(auto, using(crate::proofs::Texts::is_utf8_not))]
 pub fn text_of(path: &[u8]) -> Result<Option<&str>, ReadError>
     ensures refused { IsTrue (is_unaskable path.now) → IsErrOf result ReadError.Fault }
+    ensures wants_none { IsErrOf result ReadError.OutOfMemory → ⊥ }
     ensures asked { IfOk result (λ _. is_unaskable path.now ≡ false) }
     ensures askable { is_unaskable path.now ≡ false → IfErr result (λ _. ⊥) }
     ensures nowhere { IsTrue (has_nul path.now) → result ≡ Ok None }
@@ -70,6 +71,7 @@ pub fn is_absent(error: &io::Error) -> bool {
 /// The kind of the node at a path, where there is one.
 /// See docs/DIFFERENCES.md#gix-link-limit.
 pub fn look(rt: &HostRuntime, path: &[u8], follow: bool) -> Result<Option<NodeKind>, ReadError>
+    ensures wants_none { IsErrOf result ReadError.OutOfMemory → ⊥ }
     ensures unaskable { IsTrue (is_unaskable path.now) → IsErrOf result ReadError.Fault }
     ensures nowhere { IsTrue (has_nul path.now) → result ≡ Ok None }
 {
@@ -204,6 +206,7 @@ pub fn make_dir(
 
 /// Removes a node that is no directory.
 pub fn remove_node(rt: &HostRuntime, path: &[u8]) -> Result<RemoveAnswer, ReadError>
+    ensures wants_none { IsErrOf result ReadError.OutOfMemory → ⊥ }
     ensures unaskable { IsTrue (is_unaskable path.now) → IsErrOf result ReadError.Fault }
     ensures nowhere { IsTrue (has_nul path.now) → result ≡ Ok RemoveAnswer.Absent }
 {

@@ -1,7 +1,7 @@
 -- The disk tells nothing of what it holds, and its counts are those of its own clauses.
-use Rattle.std.proofs.Common.{◌≡◌, Option, Some, None, Ok, Err, refl, ap, OnErr, Result}
+use Rattle.std.proofs.Common.{◌≡◌, Option, Some, None, Ok, Err, refl, sym, subst, ap, IfOk, OnErr, Result}
 use Rattle.worktree_fs.specs.Tree.{Names}
-use Rattle.worktree_fs.specs.Disk.{Disk}
+use Rattle.worktree_fs.specs.Disk.{Disk, uncounted}
 use Rattle.worktree_fs.specs.declared.answers.ReadError.{ReadError}
 use Rattle.worktree_fs.proofs.KeptNames.{kept-listing}
 use Rattle.worktree_fs.proofs.disk.DiskWorktreeWorktree.TheImpl.Goals as goal
@@ -118,3 +118,19 @@ remove_node-tells g c = record {
   lists = ap (λ (d : Disk). d.lists) c.ensures.state;
   precomposes = ap (λ (d : Disk). d.composes) c.ensures.state;
 }
+
+-- what is true of what was answered
+given : {T E : Type 0} (P : T → Type 0) (r : Result T E) (answer : T) → r ≡ Ok answer → P answer → IfOk r P
+given P r answer is p = subst (λ r. IfOk r P) (sym is) p
+
+pub fork-tells : goal.fork-tells
+fork-tells g c =
+    let d : Disk = c.args.self.now in
+    record {
+      tree = given (λ (fork : Disk). ◌≡◌ {A = Option Names} None None) c.result (uncounted d) c.ensures refl;
+      faults = given (λ (fork : Disk). fork.faults ≡ 0) c.result (uncounted d) c.ensures refl;
+      list_faults = given (λ (fork : Disk). fork.list_faults ≡ 0) c.result (uncounted d) c.ensures refl;
+      reads = given (λ (fork : Disk). fork.reads ≡ 0) c.result (uncounted d) c.ensures refl;
+      lists = given (λ (fork : Disk). fork.lists ≡ 0) c.result (uncounted d) c.ensures refl;
+      precomposes = given (λ (fork : Disk). fork.composes ≡ d.composes) c.result (uncounted d) c.ensures refl;
+    }
