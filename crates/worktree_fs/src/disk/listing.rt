@@ -1,9 +1,9 @@
 //! The names of a directory of the system.
-ghost use Rattle.std.specs.Prelude.{◌≡◌, ◌⊎◌, ◌↔◌, ◌≤◌, ◌<◌, ◌++◌, ◌∷◌, [], length, Some, None, if◌then◌else◌, IfOk, IfErr, OnOk, IfNone, IfSome, MatchOption, All, IsTrue, IsErrOf, IsPermutation, bytes_eq};
+ghost use Rattle.std.specs.Prelude.{◌≡◌, ◌⊎◌, ◌↔◌, ◌≤◌, ◌<◌, ◌++◌, ◌∷◌, [], length, Some, None, if◌then◌else◌, IfOk, IfErr, OnOk, IfNone, IfSome, MatchOption, All, IsTrue, IsErrOf, IsPermutation, bytes_eq, string_bytes};
 ghost use Rattle.std.specs.List.{IsDistinct};
 ghost use Rattle.std.specs.List.Sorted.{IsStrictlySortedBy};
 ghost use Rattle.worktree_fs.specs.Composed.{as_kept};
-ghost use Rattle.worktree_fs.specs.Disk.{has_nul, is_unaskable, IsGiven, AreListed, kept_names, names_between, given_names};
+ghost use Rattle.worktree_fs.specs.Disk.{has_nul, is_unaskable, IsGiven, AreListed, kept_names, names_between, given_names, opened_path, IsAbsence};
 ghost use Rattle.worktree_fs.specs.Naming.{AreNames, is_name};
 ghost use Rattle.worktree_fs.specs.Order.{path_cmp};
 
@@ -60,7 +60,9 @@ pub fn listed(
 }
 
 /// The path of a directory, with the slash that makes the system follow a last link where that is asked for.
-fn with_slash(alloc: Global, path: &str, follow: bool) -> Result<String, OutOfMemory> {
+fn with_slash(alloc: Global, path: &str, follow: bool) -> Result<String, OutOfMemory>
+    ensures { IfOk result (λ text. string_bytes text ≡ opened_path follow path.now) }
+{
     let mut text = String::from_str(alloc, path)?;
     if follow {
         text.push('/')?;
@@ -69,7 +71,9 @@ fn with_slash(alloc: Global, path: &str, follow: bool) -> Result<String, OutOfMe
 }
 
 /// Why a directory was not opened.
-fn open_error(rt: &HostRuntime, path: &[u8], follow: bool, error: &io::Error) -> ListError {
+fn open_error(rt: &HostRuntime, path: &[u8], follow: bool, error: &io::Error) -> ListError
+    ensures { (IsAbsence error.now → ⊥) → result ≡ ListError.OpenFault }
+{
     if !is_absent(error) {
         return ListError::OpenFault;
     }

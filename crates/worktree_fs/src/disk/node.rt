@@ -1,13 +1,14 @@
 //! The calls of the system on one node, with its answers as those of a worktree.
-ghost use Rattle.std.specs.Prelude.{◌≡◌, ◌≤◌, ◌^◌, length, None, Ok, IfOk, IfErr, IsErrOf, MatchResult, IsTrue, false};
+ghost use Rattle.std.specs.Prelude.{◌≡◌, ◌↔◌, ◌≤◌, ◌^◌, length, None, Ok, IfOk, IfErr, IsErrOf, MatchResult, IsTrue, false};
 ghost use Rattle.worktree_fs.specs.Answers.{UnlessRead};
 ghost use Rattle.worktree_fs.specs.Changes.{from_directory};
-ghost use Rattle.worktree_fs.specs.Disk.{has_nul, is_unaskable};
+ghost use Rattle.worktree_fs.specs.Disk.{has_nul, is_unaskable, kept_path, IsAbsence, IsOwnWant};
+ghost use Rattle.std.specs.Fs.{file_type, IsFile, IsDir, IsSymlink};
 
 use crate::composed::as_kept;
 use crate::names::{from_directory, is_utf8};
 use crate::{MakeAnswer, NodeKind, ReadAnswer, ReadError, RemoveAnswer};
-use gitbase_core::{Bytes, OutOfMemory, PathText};
+use gitbase_core::{Bytes, OutOfMemory, PathText, basename};
 use std::alloc::Global;
 use std::fs::{File, Metadata};
 use std::io::{ErrorKind, Read};
@@ -51,7 +52,12 @@ pub fn text_of(path: &[u8]) -> Result<Option<&str>, ReadError>
     Ok(Some(if text.is_empty() { "/" } else { text }))
 }
 
-fn node_kind(metadata: &Metadata) -> NodeKind {
+/// The kind that the system's word on a node tells.
+fn node_kind(metadata: &Metadata) -> NodeKind
+    ensures file { (result ≡ NodeKind.File) ↔ IsFile (file_type metadata.now) }
+    ensures directory { (result ≡ NodeKind.Directory) ↔ IsDir (file_type metadata.now) }
+    ensures link { (result ≡ NodeKind.Symlink) ↔ IsSymlink (file_type metadata.now) }
+{
     if metadata.is_file() {
         NodeKind::File
     } else if metadata.is_dir() {
@@ -64,7 +70,9 @@ fn node_kind(metadata: &Metadata) -> NodeKind {
 }
 
 /// Whether the system says that the path leads nowhere.
-pub fn is_absent(error: &io::Error) -> bool {
+pub fn is_absent(error: &io::Error) -> bool
+    ensures { IsTrue result ↔ IsAbsence error.now }
+{
     error.kind() == ErrorKind::NotFound || error.kind() == ErrorKind::NotADirectory
 }
 
@@ -138,7 +146,9 @@ fn bytes_of(rt: &HostRuntime, alloc: Global, path: &[u8]) -> Result<Vec<u8>, Rea
 }
 
 /// Whether the program's own allocator refused, and not the system.
-fn is_own_want(error: &io::Error) -> bool {
+fn is_own_want(error: &io::Error) -> bool
+    ensures { IsTrue result ↔ IsOwnWant error.now }
+{
     error.kind() == ErrorKind::OutOfMemory && error.raw_os_error().is_none()
 }
 
@@ -169,14 +179,14 @@ pub fn real_path(
 /// The path whose last name is as it is kept.
 /// See docs/DECISIONS.md#empty-components.
 /// See docs/DIFFERENCES.md#gix-trailing-slash.
-fn kept_path(alloc: Global, composes: bool, text: &str) -> Result<Bytes, OutOfMemory> {
-    let Some((parent, name)) = text.rsplit_once('/') else {
-        return as_kept(alloc, composes, text.as_bytes());
-    };
-    let mut path = Bytes::from_slice(alloc, parent.as_bytes())?;
-    path.extend(alloc, b"/")?;
-    path.extend(alloc, as_kept(alloc, composes, name.as_bytes())?.as_bytes())?;
-    Ok(path)
+fn kept_path(alloc: Global, composes: bool, path: &[u8]) -> Result<Bytes, OutOfMemory>
+    ensures { IfOk result (λ kept. kept ≡ kept_path composes path.now) }
+{
+    let name = basename(path);
+    let (front, _) = path.split_at(path.len() - name.len());
+    let mut kept = Bytes::from_slice(alloc, front)?;
+    kept.extend(alloc, as_kept(alloc, composes, name)?.as_bytes())?;
+    Ok(kept)
 }
 
 /// Makes a directory, whose name is composed where names are.
@@ -192,7 +202,7 @@ pub fn make_dir(
     let Some(given) = text_of(path)? else {
         return Ok(MakeAnswer::NoParent);
     };
-    let kept = kept_path(alloc, composes, given)?;
+    let kept = kept_path(alloc, composes, given.as_bytes())?;
     let Some(text) = text_of(kept.as_bytes())? else {
         return Ok(MakeAnswer::NoParent);
     };
