@@ -1,5 +1,6 @@
 //! The names of a directory of the system.
 ghost use Rattle.std.specs.Prelude.{◌≡◌, ◌⊎◌, ◌↔◌, ◌≤◌, ◌<◌, ◌++◌, ◌∷◌, [], length, Some, None, if◌then◌else◌, IfOk, IfErr, OnOk, IfNone, IfSome, MatchOption, All, IsTrue, IsErrOf, IsPermutation, bytes_eq, string_bytes};
+ghost use Rattle.std.specs.Io.KnownBytes.{IsAtEnd};
 ghost use Rattle.std.specs.List.{IsDistinct};
 ghost use Rattle.std.specs.List.Sorted.{IsStrictlySortedBy};
 ghost use Rattle.worktree_fs.specs.Composed.{as_kept};
@@ -61,7 +62,7 @@ pub fn listed(
 
 /// The path of a directory, with the slash that makes the system follow a last link where that is asked for.
 fn with_slash(alloc: Global, path: &str, follow: bool) -> Result<String, OutOfMemory>
-    ensures { IfOk result (λ text. string_bytes text ≡ opened_path follow path.now) }
+    ensures { IfOk result (λ text. string_bytes text ≡ opened_path path.now follow) }
 {
     let mut text = String::from_str(alloc, path)?;
     if follow {
@@ -86,13 +87,15 @@ fn open_error(rt: &HostRuntime, path: &[u8], follow: bool, error: &io::Error) ->
     }
 }
 
-/// The names that an open directory gives.
+/// The names that an open directory gives, to its end.
 fn names_from<D: Read>(
     alloc: Global,
     composes: bool,
     dir: &mut D,
     buffer: &mut [u8],
 ) -> Result<NameList, ListError>
+    requires { 0 < length buffer.old }
+    ensures whole { IfOk result (λ _. IsAtEnd (D.remaining dir.new)) }
     ensures names { IfOk result AreNames }
     ensures kept { IfOk result (All (IsGiven composes)) }
     ensures few { IfOk result (λ names. length names ≤ 1000000) }
@@ -106,11 +109,11 @@ fn names_from<D: Read>(
             return Err(ListError::EntryFault);
         };
         if len == 0 {
-            break;
+            return in_order(composes, names).ok_or(ListError::EntryFault);
         }
         take_names(alloc, composes, &buffer[..len], &mut names)?;
     }
-    in_order(composes, names).ok_or(ListError::EntryFault)
+    Err(ListError::EntryFault)
 }
 
 /// Adds the names of a piece that the system gave, each ended by a NUL, as they are kept.
