@@ -29,6 +29,8 @@ mod Cuts
 pub mod Follow
 mod EntryFalls
 mod Repositories
+mod SlashEnds
+mod Taken
 mod Trails
 mod Removals
 mod Ways

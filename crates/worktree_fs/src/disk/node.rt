@@ -1,8 +1,8 @@
 //! The calls of the system on one node, with its answers as those of a worktree.
-ghost use Rattle.std.specs.Prelude.{◌≡◌, ◌↔◌, ◌≤◌, ◌^◌, length, None, Ok, IfOk, IfErr, IsErrOf, MatchResult, IsTrue, false};
+ghost use Rattle.std.specs.Prelude.{◌≡◌, ◌↔◌, ◌≤◌, ◌^◌, length, None, Ok, IfOk, IfErr, IfSome, IsErrOf, MatchResult, IsTrue, false};
 ghost use Rattle.worktree_fs.specs.Answers.{UnlessRead};
 ghost use Rattle.worktree_fs.specs.Changes.{from_directory};
-ghost use Rattle.worktree_fs.specs.Disk.{has_nul, is_unaskable, kept_path, IsAbsence, IsOwnWant};
+ghost use Rattle.worktree_fs.specs.Disk.{has_nul, is_unaskable, asked_path, made_path, IsAbsence, IsOwnWant};
 ghost use Rattle.std.specs.Fs.{file_type, IsFile, IsDir, IsSymlink};
 
 use crate::composed::as_kept;
@@ -38,6 +38,8 @@ pub fn text_of(path: &[u8]) -> Result<Option<&str>, ReadError>
     ensures askable { is_unaskable path.now ≡ false → IfErr result (λ _. ⊥) }
     ensures nowhere { IsTrue (has_nul path.now) → result ≡ Ok None }
     ensures somewhere { result ≡ Ok None → IsTrue (has_nul path.now) }
+    ensures text { IfOk result (λ text. IfSome text
+        (λ t. t.now ≡ asked_path path.now)) }
 {
     if is_unaskable(path) {
         return Err(ReadError::Fault);
@@ -136,8 +138,17 @@ fn bytes_of(rt: &HostRuntime, alloc: Global, path: &[u8]) -> Result<Vec<u8>, Rea
     let Ok(file) = File::open(rt, text) else {
         return Err(ReadError::Fault);
     };
+    all_bytes(alloc, file)
+}
+
+/// All bytes that a reader gives, where they are no more than a file may have.
+fn all_bytes<R: Read + Drop>(alloc: Global, reader: R) -> Result<Vec<u8>, ReadError>
+    ensures whole { IfOk result (λ bytes. IfSome (R.remaining reader)
+        (λ given. bytes.items ≡ given)) }
+    ensures short { IfOk result (λ bytes. length bytes.items ≤ 2 ^ 30) }
+{
     let mut bytes = Vec::new(alloc);
-    match file.take(BYTE_LIMIT + 1).read_to_end(&mut bytes) {
+    match reader.take(BYTE_LIMIT + 1).read_to_end(&mut bytes) {
         Ok(_) if bytes.len() as u64 > BYTE_LIMIT => Err(ReadError::Fault),
         Ok(_) => Ok(bytes),
         Err(error) if is_own_want(&error) => Err(ReadError::OutOfMemory),
@@ -179,14 +190,14 @@ pub fn real_path(
 /// The path whose last name is as it is kept.
 /// See docs/DECISIONS.md#empty-components.
 /// See docs/DIFFERENCES.md#gix-trailing-slash.
-fn kept_path(alloc: Global, composes: bool, path: &[u8]) -> Result<Bytes, OutOfMemory>
-    ensures { IfOk result (λ kept. kept ≡ kept_path composes path.now) }
+fn made_path(alloc: Global, composes: bool, path: &[u8]) -> Result<Bytes, OutOfMemory>
+    ensures { IfOk result (λ made. made ≡ made_path composes path.now) }
 {
     let name = basename(path);
-    let (front, _) = path.split_at(path.len() - name.len());
-    let mut kept = Bytes::from_slice(alloc, front)?;
-    kept.extend(alloc, as_kept(alloc, composes, name)?.as_bytes())?;
-    Ok(kept)
+    let (parent, _) = path.split_at(path.len() - name.len());
+    let mut made = Bytes::from_slice(alloc, parent)?;
+    made.extend(alloc, as_kept(alloc, composes, name)?.as_bytes())?;
+    Ok(made)
 }
 
 /// Makes a directory, whose name is composed where names are.
@@ -202,8 +213,8 @@ pub fn make_dir(
     let Some(given) = text_of(path)? else {
         return Ok(MakeAnswer::NoParent);
     };
-    let kept = kept_path(alloc, composes, given.as_bytes())?;
-    let Some(text) = text_of(kept.as_bytes())? else {
+    let made = made_path(alloc, composes, given.as_bytes())?;
+    let Some(text) = text_of(made.as_bytes())? else {
         return Ok(MakeAnswer::NoParent);
     };
     match rt.create_dir(text) {

@@ -1,0 +1,14 @@
+-- What a reader gave below the bound at which it was cut off is all that it had.
+use Rattle.std.proofs.Common.{◌≡◌, ◌<◌, ◌≤◌, ℕ, List, Option, Some, None, [], ◌++◌, length, take, min, ap, ◌∙◌, arith}
+use Rattle.std.specs.Prelude.{IfSome}
+use Rattle.std.specs.Option.{option_map}
+use Rattle.std.proofs.lemmas.List.{take_all, length-take}
+
+pub all_given : (known : Option (List ℕ)) (bound : ℕ) (start taken : List ℕ) → start ≡ []
+    → IfSome (option_map (take bound) known) (λ given. taken ≡ start ++ given) → length taken < bound → IfSome known (λ given. taken ≡ given)
+all_given None bound start taken nothing e few = tt
+all_given (Some given) bound start taken nothing e few =
+    let is : taken ≡ take bound given = e ∙ ap (λ (l : List ℕ). l ++ take bound given) nothing in
+    let cut : length taken ≡ min bound (length given) = ap (λ (l : List ℕ). length l) is ∙ length-take bound given in
+    let fits : length given ≤ bound = omega (arith, cut, few) in
+    is ∙ take_all bound given fits
