@@ -30,6 +30,7 @@ pub mod Follow
 mod EntryFalls
 mod Repositories
 mod SlashEnds
+mod Answered
 mod Taken
 mod Trails
 mod Removals

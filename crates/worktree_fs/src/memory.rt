@@ -8,9 +8,10 @@ ghost use Rattle.worktree_fs.specs.Answers.{kind_of, read_of, UnlessRead, ListRe
 ghost use Rattle.worktree_fs.specs.Causes.{Increased};
 ghost use Rattle.worktree_fs.specs.Ends.{next, with_more};
 ghost use Rattle.worktree_fs.specs.Changes.{real_path, make_answer, after_make, remove_answer, after_remove};
+ghost use Rattle.worktree_fs.specs.MadeAndRemoved.{AnswersInside, Removes};
 ghost use Rattle.worktree_fs.specs.Composed.{as_kept, IsKept};
 ghost use Rattle.worktree_fs.specs.Grow.{grown, is_full_path, add_refusal, IsRefusedBy, node_of_new};
-ghost use Rattle.worktree_fs.specs.Memory.{no_calls, fails, with_call, listed, told_by, ListsInOrder};
+ghost use Rattle.worktree_fs.specs.Memory.{no_calls, fails, with_call, listed, told_by, ListsInOrder, AreSortedBy};
 
 mod found;
 mod grow;
@@ -311,6 +312,7 @@ impl Worktree for MemoryWorktree {
         ensures state { self.new ≡ listed self.old }
         ensures names { IfOk result AreNames }
         ensures kept { IfOk result (All (IsKept self.old.composes)) }
+        ensures sorted { IfOk result (AreSortedBy self.old.is_reversed) }
         ensures cause { OnListFault result (Increased self.old.faults self.new.faults) }
         ensures unfaulted { UnlessListFault result (self.new.faults ≡ self.old.faults) }
         ensures faults { self.old.faults ≤ self.new.faults }
@@ -346,6 +348,7 @@ impl Worktree for MemoryWorktree {
         ensures bytes { result ≡ Ok ReadAnswer.Read → look self.old.tree path.now follow
             ≡ found (file into.new) }
         ensures into { UnlessRead result (into.new ≡ into.old) }
+        ensures link { result ≡ Ok ReadAnswer.IsLink → follow ≡ false }
         ensures state { self.new
             ≡ with_call (record self.old { reads = next self.old.reads }) CallKind.Read }
         ensures later { self.old.faults ≤ self.new.faults }
@@ -380,6 +383,7 @@ impl Worktree for MemoryWorktree {
         ensures fault { IsErrOf result ReadError.Fault ↔ IsTrue (fails self.old CallKind.MakeDir) }
         ensures answer { IfOk result (λ answer. answer
             ≡ make_answer self.old.composes self.old.tree (spot self.old.tree path.now false)) }
+        ensures inside { IfOk result (AnswersInside self.old.composes self.old.tree path.now) }
         ensures made { OnOk result (self.new.tree
             ≡ after_make self.old.composes self.old.tree (spot self.old.tree path.now false)) }
         ensures refused { OnErr result (self.new.tree ≡ self.old.tree) }
@@ -403,6 +407,8 @@ impl Worktree for MemoryWorktree {
         ensures tree { self.new.tree
             ≡ (if fails self.old CallKind.RemoveNode then self.old.tree
             else after_remove self.old.tree (spot self.old.tree path.now false)) }
+        ensures gone { result ≡ Ok RemoveAnswer.Removed
+            → Removes path.now self.old.tree self.new.tree }
         ensures rest { self.new
             ≡ record (with_call self.old CallKind.RemoveNode) { tree = self.new.tree } }
         ensures told_before { told_by self.old.tree ≡ Some self.old.tree }

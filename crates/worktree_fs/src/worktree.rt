@@ -4,7 +4,7 @@ ghost use Rattle.worktree_fs.specs.Tree.{Names, look, spot, found, file, directo
 ghost use Rattle.worktree_fs.specs.Naming.{AreNames, IsTree};
 ghost use Rattle.worktree_fs.specs.Answers.{kind_of, read_of, UnlessRead, UnlessFault, ListsNames, ListRefuses, OnListFault, UnlessListFault};
 ghost use Rattle.worktree_fs.specs.Changes.{real_path, make_answer, after_make, remove_answer, after_remove};
-ghost use Rattle.worktree_fs.specs.MadeAndRemoved.{AnswersInside};
+ghost use Rattle.worktree_fs.specs.MadeAndRemoved.{AnswersInside, Removes};
 ghost use Rattle.worktree_fs.specs.Composed.{IsKept};
 ghost use Rattle.worktree_fs.specs.Causes.{Incremented, Increased, with_more};
 
@@ -209,7 +209,8 @@ pub trait Worktree {
         ensures lists { lists self.new ≡ lists self.old }
         ensures precomposes { precomposes self.new ≡ precomposes self.old };
 
-    /// Removes a node that is no directory. A last link is not followed: it is removed itself.
+    /// Removes a node that is no directory. A last link is not followed: it is removed itself. Where a node was removed nothing
+    /// is at its path, and all else leads where it led.
     ///
     /// # Errors
     ///
@@ -224,6 +225,8 @@ pub trait Worktree {
             → IfOk result (λ answer. answer ≡ remove_answer (spot t path.now false)) }
         ensures removed { (t : Names) → told self.old ≡ Some t
             → OnOk result (told self.new ≡ Some (after_remove t (spot t path.now false))) }
+        ensures gone { (t now : Names) → told self.old ≡ Some t → told self.new ≡ Some now
+            → result ≡ Ok RemoveAnswer.Removed → Removes path.now t now }
         ensures kept { OnErr result (told self.new ≡ told self.old) }
         ensures untold { told self.old ≡ None → told self.new ≡ None }
         ensures cause { IsErrOf result ReadError.Fault

@@ -1,11 +1,13 @@
 //! The listing of a directory of a tree in memory.
 ghost use Rattle.std.specs.Prelude.{◌≡◌, IfOk, MatchResult, reverse, if◌then◌else◌};
+ghost use Rattle.std.specs.List.Sorted.{IsStrictlySortedBy};
 ghost use Rattle.worktree_fs.specs.Tree.{names_of};
 ghost use Rattle.worktree_fs.specs.Naming.{AreNames};
 ghost use Rattle.worktree_fs.specs.Answers.{ListRefuses, OnListFault};
 ghost use Rattle.worktree_fs.specs.Stored.{names_in, AreSorted};
 ghost use Rattle.worktree_fs.specs.Found.{look_of, ListsSorted};
-ghost use Rattle.worktree_fs.specs.Memory.{ListsInOrder};
+ghost use Rattle.worktree_fs.specs.Memory.{ListsInOrder, AreSortedBy};
+ghost use Rattle.worktree_fs.specs.Order.{path_cmp};
 
 use super::found::Found;
 use super::stored::Entry;
@@ -19,6 +21,7 @@ pub fn list_of(alloc: Global, found: &Found, is_reversed: bool) -> Result<NameLi
     ensures answer { MatchResult result (ListsInOrder is_reversed (look_of found.now))
         (ListRefuses (look_of found.now)) }
     ensures names { IfOk result AreNames }
+    ensures sorted { IfOk result (AreSortedBy is_reversed) }
     ensures no_fault { OnListFault result ⊥ }
 {
     match found {
@@ -33,9 +36,11 @@ pub fn list_of(alloc: Global, found: &Found, is_reversed: bool) -> Result<NameLi
 
 /// The names from first to last, or from last to first.
 fn in_order(names: NameList, is_reversed: bool) -> NameList
-    requires { AreNames names }
+    requires names { AreNames names }
+    requires sorted { IsStrictlySortedBy path_cmp names }
     ensures order { result ≡ (if is_reversed then reverse names else names) }
     ensures names { AreNames result }
+    ensures sorted { AreSortedBy is_reversed result }
 {
     let mut names = names;
     if is_reversed {
@@ -50,6 +55,7 @@ fn names_of(alloc: Global, entries: &[Entry]) -> Result<NameList, OutOfMemory>
     requires { AreSorted entries.now }
     ensures value { IfOk result (λ names. names ≡ names_of (names_in entries.now)) }
     ensures names { IfOk result AreNames }
+    ensures sorted { IfOk result (IsStrictlySortedBy path_cmp) }
 {
     let mut names = NameList::new(alloc);
     for entry in entries {

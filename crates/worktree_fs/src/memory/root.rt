@@ -5,7 +5,7 @@ ghost use Rattle.gitbase_core.specs.Path.{pieces};
 ghost use Rattle.worktree_fs.specs.Tree.{Spot, directory, none, spot, look, found, file};
 ghost use Rattle.worktree_fs.specs.Naming.{IsName, IsTree, AreNames};
 ghost use Rattle.worktree_fs.specs.Answers.{kind_of, read_of, UnlessRead, ListRefuses, OnListFault};
-ghost use Rattle.worktree_fs.specs.Memory.{ListsInOrder};
+ghost use Rattle.worktree_fs.specs.Memory.{ListsInOrder, AreSortedBy};
 ghost use Rattle.worktree_fs.specs.Stored.{names_in, AreSorted};
 ghost use Rattle.worktree_fs.specs.Grow.{grown, obstacle, add_refusal, IsRefusedBy};
 ghost use Rattle.worktree_fs.specs.Changes.{real_path_at, make_answer, after_make, made_unless, with_directory, remove_answer, after_remove};
@@ -99,6 +99,7 @@ impl Root {
         ensures answer { MatchResult result (ListsInOrder is_reversed
             (look self.old path.now follow)) (ListRefuses (look self.old path.now follow)) }
         ensures names { IfOk result AreNames }
+        ensures sorted { IfOk result (AreSortedBy is_reversed) }
         ensures no_fault { OnListFault result ⊥ }
         ensures unchanged { self.new ≡ self.old }
     {
@@ -119,6 +120,7 @@ impl Root {
         ensures bytes { result ≡ Ok ReadAnswer.Read → look self.old path.now follow
             ≡ found (file into.new) }
         ensures into { UnlessRead result (into.new ≡ into.old) }
+        ensures link { result ≡ Ok ReadAnswer.IsLink → follow ≡ false }
         ensures no_fault { IsErrOf result ReadError.Fault → ⊥ }
         ensures unchanged { self.new ≡ self.old }
     {

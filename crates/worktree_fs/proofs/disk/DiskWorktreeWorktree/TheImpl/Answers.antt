@@ -108,6 +108,7 @@ pub remove_node-tells : goal.remove_node-tells
 remove_node-tells g c = record {
   answer = λ t told. absurd (clash t told);
   removed = λ t told. absurd (clash t told);
+  gone = λ t now told told_now removed. absurd (clash t told);
   kept = stays c.result;
   untold = λ none. refl;
   cause = c.ensures.cause;

@@ -1,9 +1,7 @@
 use Rattle.std.proofs.Common.{◌≡◌, ◌∙◌, rules, Bool, true, Result, Ok, Err, List, ℕ, Some, None, false, refl, sym, ap, subst, if◌then◌else◌, OnOk, OnErr, IfOk}
 use Rattle.std.specs.Prelude.{MatchResult}
-use Rattle.worktree_fs.specs.Tree.{Names, directory, look, spot}
-use Rattle.worktree_fs.specs.Naming.{IsTree}
-use Rattle.worktree_fs.specs.MadeAndRemoved.{AnswersInside}
-use Rattle.worktree_fs.specs.Told.{told_tree}
+use Rattle.worktree_fs.specs.Tree.{Names, look, spot}
+use Rattle.worktree_fs.specs.MadeAndRemoved.{AnswersInside, Removes}
 use Rattle.worktree_fs.specs.Answers.{ListsNames, ListRefuses}
 use Rattle.worktree_fs.specs.Memory.{Memory, ListsInOrder, told_by, fails}
 use Rattle.worktree_fs.specs.declared.memory.plan.CallKind.TheVariants as calls
@@ -12,10 +10,7 @@ use Rattle.worktree_fs.specs.declared.answers.ListError.{ListError}
 use Rattle.worktree_fs.specs.declared.answers.ReadError.{ReadError}
 use Rattle.worktree_fs.specs.declared.answers.ReadError.TheVariants as errors
 use Rattle.worktree_fs.specs.declared.answers.RemoveAnswer.{RemoveAnswer}
-use Rattle.worktree_fs.specs.declared.answers.MakeAnswer.{MakeAnswer}
-use Rattle.worktree_fs.proofs.Changed.{made-in}
 use Rattle.worktree_fs.proofs.Distinct.{lists_names}
-use Rattle.worktree_fs.proofs.Followed.{read-unfollowed}
 use Rattle.worktree_fs.proofs.Tested.{told_is}
 use Rattle.worktree_fs.proofs.memory.MemoryWorktreeWorktree.TheImpl.Goals as goal
 
@@ -48,7 +43,7 @@ read-tells c = record {
   answer = search rules;
   bytes = search rules;
   into = c.ensures.into;
-  link = read-unfollowed c.args.self.now.tree c.args.path.now c.args.follow c.result c.ensures.answer;
+  link = c.ensures.link;
   tree = ap (λ (m : Memory). told_by m.tree) c.ensures.state;
   cause = search rules;
   unfaulted = search rules;
@@ -71,16 +66,10 @@ kept_of (Err error) f p = f p
 told_clash : (t : Names) → told_by t ≡ Some t → told_by t ≡ None → ⊥
 told_clash t e f = cc
 
-inside_of : (composes : Bool) (t : Names) (path : List ℕ) → IsTree (directory t) → (r : Result MakeAnswer ReadError) → IfOk r (λ answer. answer ≡ make_answer composes t (spot t path false)) → IfOk r (AnswersInside composes t path)
-inside_of composes t path tree (Ok answer) is = subst (AnswersInside composes t path) (sym is) (made-in composes t path tree)
-inside_of composes t path tree (Err error) is = tt
-
 pub make_dir-tells : goal.make_dir-tells
 make_dir-tells c = record {
   answer = λ t told. subst (λ (n : Names). IfOk c.result (λ answer. answer ≡ make_answer c.args.self.now.composes n (spot n c.args.path.now false))) (told_is c.args.self.now.tree t told) c.ensures.answer;
-  inside = λ t told.
-      inside_of c.args.self.now.composes t c.args.path.now (told_tree c.args.self.now.tree t told) c.result
-      (subst (λ (n : Names). IfOk c.result (λ answer. answer ≡ make_answer c.args.self.now.composes n (spot n c.args.path.now false))) (told_is c.args.self.now.tree t told) c.ensures.answer);
+  inside = λ t told. subst (λ (n : Names). IfOk c.result (AnswersInside c.args.self.now.composes n c.args.path.now)) (told_is c.args.self.now.tree t told) c.ensures.inside;
   made = λ t told. made_of c.result (λ (is : c.new.self.now.tree ≡ after_make c.args.self.now.composes c.args.self.now.tree (spot c.args.self.now.tree c.args.path.now false)).
       c.ensures.told ∙ ap Some (is ∙ ap (λ (n : Names). after_make c.args.self.now.composes n (spot n c.args.path.now false)) (told_is c.args.self.now.tree t told))) c.ensures.made;
   kept = kept_of c.result (λ (is : c.new.self.now.tree ≡ c.args.self.now.tree). ap told_by is) c.ensures.refused;
@@ -123,6 +112,9 @@ remove_node-tells c =
           (answered (remove_answer at) old after planned c.result c.ensures.answer);
       removed = λ t told. made_of c.result (λ (is : new ≡ after). c.ensures.told ∙ ap Some (is ∙ ap (λ (n : Names). after_remove n (spot n c.args.path.now false)) (told_is old t told)))
           (changed (remove_answer at) old after planned c.result new c.ensures.answer c.ensures.tree);
+      gone = λ t now told told_now removed.
+          subst (λ (n : Names). Removes c.args.path.now n now) (told_is old t told)
+          (subst (λ (n : Names). Removes c.args.path.now old n) (told_is new now told_now) (c.ensures.gone removed));
       kept = kept_of c.result (λ (is : new ≡ old). ap told_by is) (unchanged (remove_answer at) old after planned c.result new c.ensures.answer c.ensures.tree);
       untold = λ none. absurd (told_clash old c.ensures.told_before none);
       cause = search rules;

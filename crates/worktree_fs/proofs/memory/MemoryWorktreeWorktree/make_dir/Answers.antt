@@ -1,0 +1,11 @@
+use Rattle.std.proofs.Common.{◌≡◌, Some, rules}
+use Rattle.worktree_fs.specs.Memory.{told_by}
+use Rattle.worktree_fs.specs.Told.{told_tree}
+use Rattle.worktree_fs.proofs.Answered.{inside_of}
+use Rattle.worktree_fs.proofs.memory.MemoryWorktreeWorktree.make_dir.Goals as goal
+
+pub returns-clause-inside : goal.returns-clause-inside
+returns-clause-inside c =
+    let tree = c.args.self.now.tree in
+    let told : told_by tree ≡ Some tree = search rules in
+    inside_of c.args.self.now.composes tree c.args.path.now (told_tree tree tree told) c.made-answer.result (search rules)

@@ -1,0 +1,12 @@
+use Rattle.std.proofs.Common.{◌≡◌, Some, rules}
+use Rattle.worktree_fs.specs.Memory.{told_by, fails}
+use Rattle.worktree_fs.specs.Told.{told_tree}
+use Rattle.worktree_fs.specs.declared.memory.plan.CallKind.TheVariants as calls
+use Rattle.worktree_fs.proofs.Answered.{gone_of}
+use Rattle.worktree_fs.proofs.memory.MemoryWorktreeWorktree.remove_node.Goals as goal
+
+pub returns-clause-gone : goal.returns-clause-gone
+returns-clause-gone c =
+    let tree = c.args.self.now.tree in
+    let told : told_by tree ≡ Some tree = search rules in
+    gone_of tree c.args.path.now (told_tree tree tree told) (fails c.args.self.now calls.RemoveNode) c.removed-answer.result c.removed-answer.new.self.tree (search rules) (search rules)
