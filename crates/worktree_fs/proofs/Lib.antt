@@ -31,6 +31,7 @@ mod EntryFalls
 mod Repositories
 mod SlashEnds
 mod Answered
+mod Readings
 mod Taken
 mod Trails
 mod Removals

@@ -4,7 +4,7 @@ ghost use Rattle.std.specs.Io.KnownBytes.{IsAtEnd};
 ghost use Rattle.std.specs.List.{IsDistinct};
 ghost use Rattle.std.specs.List.Sorted.{IsStrictlySortedBy};
 ghost use Rattle.worktree_fs.specs.Composed.{as_kept};
-ghost use Rattle.worktree_fs.specs.Disk.{has_nul, is_unaskable, IsGiven, AreListed, kept_names, names_between, given_names, opened_path, IsAbsence};
+ghost use Rattle.worktree_fs.specs.Disk.{has_nul, is_unaskable, IsGiven, AreListed, kept_names, names_between, given_names, opened_path, GivesNames, IsAbsence};
 ghost use Rattle.worktree_fs.specs.Naming.{AreNames, is_name};
 ghost use Rattle.worktree_fs.specs.Order.{path_cmp};
 
@@ -95,7 +95,9 @@ fn names_from<D: Read>(
     buffer: &mut [u8],
 ) -> Result<NameList, ListError>
     requires { 0 < length buffer.old }
-    ensures whole { IfOk result (λ _. IsAtEnd (D.remaining dir.new)) }
+    ensures end { IfOk result (λ _. IsAtEnd (D.remaining dir.new)) }
+    ensures whole { IfOk result (λ names. IfSome (D.remaining dir.old)
+        (λ given. GivesNames composes given names)) }
     ensures names { IfOk result AreNames }
     ensures kept { IfOk result (All (IsGiven composes)) }
     ensures few { IfOk result (λ names. length names ≤ 1000000) }
