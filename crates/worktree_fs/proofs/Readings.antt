@@ -1,13 +1,11 @@
 -- The pieces of a directory that were read, and the names that were taken of them.
-use Rattle.std.proofs.Common.{◌≡◌, ◌∙◌, subst, Bool, ℕ, List, [], ◌∷◌, ◌++◌, Option, Some, None, refl, sym, ap}
-use Rattle.std.specs.Prelude.{IfSome}
+use Rattle.std.proofs.Common.{◌≡◌, ◌∙◌, Bool, ℕ, List, [], ◌∷◌, ◌++◌, Option, Some, None, sym, ap}
 use Rattle.std.specs.List.{concat, flat_map}
-use Rattle.std.specs.List.Sorted.{IsPermutation}
-use Rattle.std.specs.Io.KnownBytes.{Consumes, IsAtEnd}
+use Rattle.std.specs.Io.KnownBytes.{Consumes}
 use Rattle.std.proofs.lemmas.List.{append-nil, append_assoc}
 use Rattle.std.proofs.lemmas.List.Folds.{concat-append}
 use Rattle.std.proofs.lemmas.Grind.{flat_map-append}
-use Rattle.worktree_fs.specs.Disk.{given_names, GivesNames}
+use Rattle.worktree_fs.specs.Disk.{given_names}
 
 pub record AreTaken (composes : Bool) (given left : List ℕ) (names : List (List ℕ)) : Type 0 where
   pub pieces : List (List ℕ)
@@ -19,10 +17,6 @@ abbrev pub HaveTaken : Bool → Option (List ℕ) → Option (List ℕ) → List
 HaveTaken composes None left names = Unit {0}
 HaveTaken composes (Some given) None names = ⊥
 HaveTaken composes (Some given) (Some left) names = AreTaken composes given left names
-
-pub nothing_taken : (composes : Bool) (known : Option (List ℕ)) (names : List (List ℕ)) → names ≡ [] → HaveTaken composes known known names
-nothing_taken composes None names is = tt
-nothing_taken composes (Some given) names is = record { pieces = []; front = refl; all = is }
 
 pub taken_more : (composes : Bool) (known before after : Option (List ℕ)) (piece : List ℕ) (names more : List (List ℕ))
     → HaveTaken composes known before names → Consumes before after piece → more ≡ names ++ given_names composes piece → HaveTaken composes known after more
@@ -40,14 +34,4 @@ taken_more composes (Some given) (Some left) (Some rest) piece names more taken 
       is
       ∙ ap (λ (l : List (List ℕ)). l ++ given_names composes piece) taken.all
       ∙ sym (flat_map-append (given_names composes) taken.pieces (piece ∷ []) ∙ ap (λ (l : List (List ℕ)). flat_map (given_names composes) taken.pieces ++ l) (append-nil (given_names composes piece)));
-}
-
-pub all_taken : (composes : Bool) (known left : Option (List ℕ)) (names listed : List (List ℕ))
-    → HaveTaken composes known left names → IsAtEnd left → IsPermutation names listed → IfSome known (λ given. GivesNames composes given listed)
-all_taken composes None left names listed taken end sorted = tt
-all_taken composes (Some given) None names listed taken end sorted = absurd taken
-all_taken composes (Some given) (Some left) names listed taken end sorted = record {
-  pieces = taken.pieces;
-  whole = taken.front ∙ ap (λ (l : List ℕ). concat taken.pieces ++ l) end ∙ append-nil (concat taken.pieces);
-  all = subst (λ (l : List (List ℕ)). IsPermutation l listed) taken.all sorted;
 }
