@@ -14,7 +14,7 @@ use Rattle.worktree_report.specs.Run.{SetupRefuses}
 use Rattle.worktree_report.specs.SetupAt.{setup_at}
 use Rattle.clean_plan.specs.declared.what.What.{What}
 use Rattle.clean_plan.specs.Words.{Request}
-use Rattle.worktree_report.proofs.Refusing.{RefusesInOrder-made, RefusesInOrder-unread}
+use Rattle.worktree_report.proofs.Refusing.{InOrder-made, InOrder-unread}
 use Rattle.worktree_report.proofs.Runs.{HasCauses-refused, HasCauses-unread, Keeps-made, Keeps-unread, Quiet-later, lists-walked, opens-walked}
 use Rattle.clean_plan.specs.Prepared.{prepared}
 use Rattle.clean_plan.specs.Safe.{IsSpared}
@@ -73,7 +73,7 @@ module _ {W I : Type 0} {w : WorktreeOf W} {i : InterruptOf I} {w0 w1 : W} {i0 :
         opens = λ t told quiet. tt;
         lists = λ t told setup read at_once. omega (arith, lists);
         causes = HasCauses-unread w i w0 w1 i0 i0 (top.made_by request.finding) request.places refusal of outside fault once lists refl;
-        in_order = RefusesInOrder-unread refusal of tree faults listed once lists composes;
+        in_order = InOrder-unread refusal _ of tree faults listed once lists composes;
         keeps = Keeps-unread refusal tree faults listed lists composes;
       }
 
@@ -81,10 +81,10 @@ module _ {W I : Type 0} {w : WorktreeOf W} {i : InterruptOf I} {w0 w1 w2 : W} {i
   -- the plan is made by the setup that was read, prepared
   pub AnswersClean-made : (setup : Setup) (options : SetupOptions) (answer : Result (List ℕ) Refusal) → options ≡ prepared request.finding setup.options
       → ((t : Names) → w.told w0 ≡ Some t → setup_at (look t request.places.setup true) ≡ Ok setup)
-      → w.told w1 ≡ w.told w0 → w.faults w0 ≤ w.faults w1 → w.list_faults w1 ≡ w.list_faults w0 → Incremented (w.reads w0) (w.reads w1) → w.lists w1 ≡ w.lists w0
+      → w.told w1 ≡ w.told w0 → w.faults w0 ≤ w.faults w1 → w.faults w1 ≡ w.faults w0 → w.list_faults w1 ≡ w.list_faults w0 → Incremented (w.reads w0) (w.reads w1) → w.lists w1 ≡ w.lists w0
       → w.precomposes w1 ≡ w.precomposes w0 → top.PlanTexts w i (w.precomposes w1) w1 w2 i0 i1 request.places.root (record setup { options = options }) request.what answer
       → top.AnswersClean w i w0 w2 i0 i1 request answer
-  AnswersClean-made setup options answer set read tree faults listed once lists composes told_of =
+  AnswersClean-made setup options answer set read tree faults unfaulted listed once lists composes told_of =
       let same : top.PlanTexts w i (w.precomposes w1) w1 w2 i0 i1 request.places.root (top.made_by request.finding setup) request.what answer =
       subst (λ (o : SetupOptions). top.PlanTexts w i (w.precomposes w1) w1 w2 i0 i1 request.places.root (record setup { options = o }) request.what answer) set told_of in
       let texts : top.PlanTexts w i (w.precomposes w0) w1 w2 i0 i1 request.places.root (top.made_by request.finding setup) request.what answer =
@@ -97,7 +97,7 @@ module _ {W I : Type 0} {w : WorktreeOf W} {i : InterruptOf I} {w0 w1 w2 : W} {i
         opens = λ t told quiet. opens-walked (top.made_by request.finding) _ t request.places setup answer _ _ _ (read t told) lists (texts.opens t (tree ∙ told) (Quiet-later _ _ _ faults quiet));
         lists = λ t told. lists-walked t request.places setup _ _ _ (read t told) lists texts.lists;
         causes = HasCauses-refused w i w0 w1 w2 i0 i1 (top.made_by request.finding) request.places setup 0 answer read tree faults once lists texts.refused;
-        in_order = RefusesInOrder-made w i w0 w1 w2 i0 i1 (top.made_by request.finding) (λ (s : Setup). 0) request.places setup answer read tree faults listed once lists composes texts.refused;
+        in_order = InOrder-made w w0 w1 w2 i0 i1 request.places setup answer _ read tree faults unfaulted listed once lists composes texts;
         keeps = Keeps-made answer tree faults listed lists composes texts.worktree texts.interrupt texts.listed texts.calm;
       }
 

@@ -15,12 +15,12 @@ use Rattle.worktree_report.specs.declared.error.ReportError.{ReportError}
 use Rattle.worktree_report.specs.declared.error.ReportError.TheVariants as reports
 use Rattle.worktree_report.specs.declared.report.Report.{Report}
 use Rattle.worktree_report.specs.Asked.{read_in, ListsAt, WorksAt}
-use Rattle.worktree_report.specs.Behind.{RefusesMaking, RefusesText}
+use Rattle.worktree_report.specs.Behind.{RefusesText}
 use Rattle.worktree_report.specs.Converted as converted
 use Rattle.worktree_report.specs.Lines.{text_with}
 use Rattle.worktree_report.specs.Reported.{MakesReport, Texts}
-use Rattle.worktree_report.proofs.Answered.{told-blobs, Texts-ok}
-use Rattle.worktree_report.proofs.Refusing.{FailsBehind-is, RefusesMaking-is}
+use Rattle.worktree_report.proofs.Answered.{told-blobs, Texts-ok, Texts-refused}
+use Rattle.worktree_report.proofs.Refusing.{FailsBehind-is}
 use Rattle.clean_plan.specs.declared.error.CleanError.{CleanError}
 use Rattle.clean_plan.specs.declared.error.CleanError.TheVariants as errors
 use Rattle.clean_plan.specs.declared.outcome.Plan.{Plan}
@@ -104,8 +104,8 @@ module _ {W F I : Type 0} {w : WorktreeOf W} {f : FindOf F} {i : InterruptOf I} 
   refused-text what (Ok r) between errors.Fault refusal reported ends held kept same = inr (inl (same, FailsBehind-is 0 r reported held ends.asks (omega (arith, ends.reads)) ends.refused))
   refused-text what (Ok r) between errors.OutOfMemory refusal reported ends held kept same = inl same
   refused-text what (Err e2) between e refusal reported ends held kept same =
-      inr (inr (subst (λ (x : W). RefusesMaking w i (w.precomposes w0) w0 x i0 i1 root setup refusal) (sym ends.1)
-      (RefusesMaking-is e2 refusal reported held kept (same ∙ ap top.of_clean (which (ends.0)) ∙ same_refusal e2))))
+      inr (inr (subst (λ (x : W). Texts w i (w.precomposes w0) w0 x i0 i1 root setup (Err refusal)) (sym ends.1)
+      (Texts-refused e2 refusal reported held kept (same ∙ ap top.of_clean (which (ends.0)) ∙ same_refusal e2))))
 
 module _ {W F I : Type 0} {w : WorktreeOf W} {f : FindOf F} {i : InterruptOf I} {w0 w1 : W} {o0 o1 : F} {i0 i1 : I} {root : List ℕ} {setup : Setup} {what : What} where
   -- the text of a plan

@@ -13,7 +13,7 @@ use Rattle.worktree_report.specs.declared.refusal.Refusal.TheVariants as refusal
 use Rattle.worktree_report.specs.declared.report.Report.{Report}
 use Rattle.worktree_report.specs.declared.setup.Setup.{Setup}
 use Rattle.worktree_report.specs.Asked.{read_in, ListsAt, WorksAt}
-use Rattle.worktree_report.specs.Behind.{RefusesInOrder, RefusesText}
+use Rattle.worktree_report.specs.Behind.{InOrder, RefusesText}
 use Rattle.worktree_report.specs.Converted as converted
 use Rattle.worktree_report.specs.Escapes.{escaped}
 use Rattle.worktree_report.specs.Orderly.{IsOrderly}
@@ -150,8 +150,10 @@ pub record AnswersClean {W I : Type 0} (w : WorktreeOf W) (i : InterruptOf I) (w
       → OnOk answer (ListsReport (made_by request.finding) (w.precomposes w0) t request.places (w.lists w0) (w.lists w1))
   pub lists : (t : Names) → w.told w0 ≡ Some t → ListsOnce t request.places (w.lists w0) (w.lists w1)
   pub causes : HasCauses w i w0 w1 i0 i1 (made_by request.finding) request.places answer
-  -- A refusal, but for want of memory, comes as the setup is read, as the report is made by it, or behind that, where no file is read.
-  pub in_order : IfErr answer (RefusesInOrder w i w0 w1 i0 i1 (made_by request.finding) (λ (setup : Setup). 0) request.places)
+  -- It comes by the setup, which was read once and without a fault, then prepared; or as that was not read. By the setup a refusal, but for
+  -- want of memory, comes as the report is made, or behind that, where no file is read.
+  pub in_order : InOrder w w0 w1 i0 i1 request.places
+      (λ setup loaded. PlanTexts w i (w.precomposes w0) loaded w1 i0 i1 request.places.root (made_by request.finding setup) request.what answer) answer
   pub keeps : Keeps w i w0 w1 i0 i1 answer
 
 -- the text that is asked for, or why there is none

@@ -12,7 +12,7 @@ use Rattle.worktree_report.specs.Converted.{IsOfReading}
 use Rattle.worktree_report.specs.Run.{as_read, IsSafeReport, SetupRefuses}
 use Rattle.worktree_report.specs.SetupAt.{setup_at}
 use Rattle.worktree_report.specs.Words.{Places}
-use Rattle.worktree_report.proofs.Refusing.{RefusesInOrder-made, RefusesInOrder-unread}
+use Rattle.worktree_report.proofs.Refusing.{InOrder-made, InOrder-unread}
 use Rattle.worktree_report.proofs.Runs.{HasCauses-refused, HasCauses-unread, Keeps-made, Keeps-unread, Quiet-later, lists-walked, opens-walked}
 use Rattle.index_status.specs.Run as top
 use Rattle.index_status.specs.States.{files_in}
@@ -72,7 +72,7 @@ module _ {W I : Type 0} {w : WorktreeOf W} {i : InterruptOf I} {w0 w1 : W} {i0 :
         opens = λ t told quiet. tt;
         lists = λ t told setup read at_once. omega (arith, lists);
         causes = HasCauses-unread w i w0 w1 i0 i0 as_read places refusal of outside fault once lists refl;
-        in_order = RefusesInOrder-unread refusal of tree faults listed once lists composes;
+        in_order = InOrder-unread refusal _ of tree faults listed once lists composes;
         keeps = Keeps-unread refusal tree faults listed lists composes;
       }
 
@@ -80,9 +80,9 @@ module _ {W I : Type 0} {w : WorktreeOf W} {i : InterruptOf I} {w0 w1 w2 : W} {i
   -- the status is made by the setup that was read
   pub AnswersStatus-made : (setup : Setup) (answer : Result (List ℕ) Refusal)
       → ((t : Names) → w.told w0 ≡ Some t → setup_at (look t places.setup true) ≡ Ok setup)
-      → w.told w1 ≡ w.told w0 → w.faults w0 ≤ w.faults w1 → w.list_faults w1 ≡ w.list_faults w0 → Incremented (w.reads w0) (w.reads w1) → w.lists w1 ≡ w.lists w0
+      → w.told w1 ≡ w.told w0 → w.faults w0 ≤ w.faults w1 → w.faults w1 ≡ w.faults w0 → w.list_faults w1 ≡ w.list_faults w0 → Incremented (w.reads w0) (w.reads w1) → w.lists w1 ≡ w.lists w0
       → w.precomposes w1 ≡ w.precomposes w0 → top.StatusTexts w i (w.precomposes w1) w1 w2 i0 i1 places.root setup answer → top.AnswersStatus w i w0 w2 i0 i1 places answer
-  AnswersStatus-made setup answer read tree faults listed once lists composes told_of =
+  AnswersStatus-made setup answer read tree faults unfaulted listed once lists composes told_of =
       let texts : top.StatusTexts w i (w.precomposes w0) w1 w2 i0 i1 places.root setup answer = subst (λ b. top.StatusTexts w i b w1 w2 i0 i1 places.root setup answer) composes told_of in
       record {
         gives = λ t told quiet. output-made _ t places setup answer (read t told) (texts.gives t (tree ∙ told) (Quiet-later _ _ _ faults quiet));
@@ -92,7 +92,7 @@ module _ {W I : Type 0} {w : WorktreeOf W} {i : InterruptOf I} {w0 w1 w2 : W} {i
         opens = λ t told quiet. opens-walked as_read _ t places setup answer _ _ _ (read t told) lists (texts.opens t (tree ∙ told) (Quiet-later _ _ _ faults quiet));
         lists = λ t told. lists-walked t places setup _ _ _ (read t told) lists texts.lists;
         causes = HasCauses-refused w i w0 w1 w2 i0 i1 as_read places setup (files_in setup.index) answer read tree faults once lists texts.refused;
-        in_order = RefusesInOrder-made w i w0 w1 w2 i0 i1 as_read (λ (s : Setup). files_in s.index) places setup answer read tree faults listed once lists composes texts.refused;
+        in_order = InOrder-made w w0 w1 w2 i0 i1 places setup answer _ read tree faults unfaulted listed once lists composes texts;
         keeps = Keeps-made answer tree faults listed lists composes texts.worktree texts.interrupt texts.listed texts.calm;
       }
 

@@ -20,8 +20,8 @@ use Rattle.worktree_report.specs.Asked.{read_in, text_of, IsReportOf, ListsAt}
 use Rattle.worktree_report.specs.Behind.{RefusesText}
 use Rattle.worktree_report.specs.Lines.{text_with}
 use Rattle.worktree_report.specs.Reported.{MakesReport, Texts}
-use Rattle.worktree_report.proofs.Answered.{told-blobs, Texts-ok}
-use Rattle.worktree_report.proofs.Refusing.{FailsBehind-is, RefusesMaking-is}
+use Rattle.worktree_report.proofs.Answered.{told-blobs, Texts-ok, Texts-refused}
+use Rattle.worktree_report.proofs.Refusing.{FailsBehind-is}
 use Rattle.worktree_report.proofs.ReportMade.{report_is}
 use Rattle.index_status.specs.declared.error.StatesError.{StatesError}
 use Rattle.index_status.specs.declared.error.StatesError.TheVariants as states
@@ -77,6 +77,14 @@ which-report reports.ReadFault refused is = cc
 which-report (reports.Walk walk) refused is = cc
 which-report reports.OutOfMemory refused is = absurd cc
 
+no_memory : (e : ReportError) → of_report e ≡ errors.Report reports.OutOfMemory → ⊥
+no_memory (reports.Config at line) is = absurd cc
+no_memory (reports.Modules line) is = absurd cc
+no_memory (reports.ActiveSpec at) is = absurd cc
+no_memory reports.ReadFault is = absurd cc
+no_memory (reports.Walk walk) is = absurd cc
+no_memory reports.OutOfMemory is = absurd cc
+
 no_fault : (e : ReportError) (path : List ℕ) → of_report e ≡ errors.Fault path → ⊥
 no_fault (reports.Config at line) path is = absurd cc
 no_fault (reports.Modules line) path is = absurd cc
@@ -95,6 +103,7 @@ module _ {W F I : Type 0} {w : WorktreeOf W} {f : FindOf F} {i : InterruptOf I} 
         ascends = tt;
         beside = tt;
         no_report = λ refused is. subst (λ (x : ReportError). MakesReport w f i w0 w1 o0 o1 i0 i1 root setup (Err x)) (which-report e refused (which is)) made;
+        no_memory = λ is. no_memory e (which is);
         cause = λ path is. absurd (no_fault e path (which is));
         later = λ path is t told. absurd (no_fault e path (which is));
         at = λ path is. absurd (no_fault e path (which is));
@@ -148,6 +157,7 @@ module _ {W F I : Type 0} {w : WorktreeOf W} {f : FindOf F} {i : InterruptOf I} 
         ascends = compares.ascends;
         beside = beside-is w f i w0 w1 w2 o0 o1 i0 i1 root setup r result made compares;
         no_report = λ e is. absurd (unless (errors.Report e) is);
+        no_memory = λ is. unless (errors.Report reports.OutOfMemory) is;
         cause = λ path is. record { between = w1; report = r; made = made; asks = compares.keeps; reads = compares.reads; rose = (unless (errors.Fault path) is).0 };
         later = λ path is t told. (made.orderly.known, made.orderly.known_is t told);
         at = λ path is. subst (λ (told : Option Names). IsAskedFor told root setup.index path) made.worktree.tree (unless (errors.Fault path) is).1;
@@ -237,7 +247,7 @@ module _ {W F I : Type 0} {w : WorktreeOf W} {f : FindOf F} {i : InterruptOf I} 
 
   refused-text : (e : StatusError) (refusal : Refusal) → MakesStatus w f i w0 w1 o0 o1 i0 i1 root setup (Err e) → f.holds o0 ≡ Some setup.blobs → NotIncreased (f.faults o0) (f.faults o1)
       → refusal ≡ top.of_status e → RefusesText w i (w.precomposes w0) w0 w1 i0 i1 root setup (files_in setup.index) refusal
-  refused-text (errors.Report e) refusal made held kept same = inr (inr (RefusesMaking-is e refusal (made.no_report e refl) held kept same))
+  refused-text (errors.Report e) refusal made held kept same = inr (inr (Texts-refused e refusal (made.no_report e refl) held kept same))
   refused-text (errors.Fault path) refusal made held kept same =
       let fails = made.cause path refl in
       inr (inl (same, FailsBehind-is (files_in setup.index) fails.report fails.made held fails.asks fails.reads fails.rose))

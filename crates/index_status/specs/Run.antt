@@ -11,7 +11,7 @@ use Rattle.worktree_report.specs.declared.refusal.Refusal.{Refusal}
 use Rattle.worktree_report.specs.declared.refusal.Refusal.TheVariants as refusals
 use Rattle.worktree_report.specs.declared.setup.Setup.{Setup}
 use Rattle.worktree_report.specs.Asked.{IsSafeAt, text_of, ListsAt, WorksAt}
-use Rattle.worktree_report.specs.Behind.{RefusesInOrder, RefusesText}
+use Rattle.worktree_report.specs.Behind.{InOrder, RefusesText}
 use Rattle.worktree_report.specs.Converted as converted
 use Rattle.worktree_report.specs.Orderly.{IsOrderlyText}
 use Rattle.worktree_report.specs.Run.{as_read, AnswersIf, HasCauses, IsReadyAt, IsSafeReport, Keeps, ListsOnce, ListsReport}
@@ -124,9 +124,9 @@ pub record AnswersStatus {W I : Type 0} (w : WorktreeOf W) (i : InterruptOf I) (
       → OnOk answer (ListsReport as_read (w.precomposes w0) t places (w.lists w0) (w.lists w1))
   pub lists : (t : Names) → w.told w0 ≡ Some t → ListsOnce t places (w.lists w0) (w.lists w1)
   pub causes : HasCauses w i w0 w1 i0 i1 as_read places answer
-  -- A refusal, but for want of memory, comes as the setup is read, as the report is made by it, or as the index paths are looked at
-  -- behind that, each file being read once at most.
-  pub in_order : IfErr answer (RefusesInOrder w i w0 w1 i0 i1 as_read (λ (setup : Setup). files_in setup.index) places)
+  -- It comes by the setup, which was read once and without a fault; or as that was not read. By the setup a refusal, but for want of
+  -- memory, comes as the report is made, or as the index paths are looked at behind that, each file being read once at most.
+  pub in_order : InOrder w w0 w1 i0 i1 places (λ setup loaded. StatusTexts w i (w.precomposes w0) loaded w1 i0 i1 places.root setup answer) answer
   pub keeps : Keeps w i w0 w1 i0 i1 answer
 
 -- the text that is asked for, or why there is none

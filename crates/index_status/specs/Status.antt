@@ -104,6 +104,8 @@ pub record MakesStatus {W F I : Type 0} (w : WorktreeOf W) (f : FindOf F) (i : I
   -- Each refusal has its cause: there is no such report, or there is one and then the worktree failed at a path that is looked at for
   -- a state.
   pub no_report : (e : ReportError) → IsErrOf result (errors.Report e) → MakesReport w f i w0 w1 o0 o1 i0 i1 root setup (Err e)
+  -- where memory was wanted for the report, that is wanted for the status, and no such refusal
+  pub no_memory : ¬ IsErrOf result (errors.Report reports.OutOfMemory)
   pub cause : (path : List ℕ) → IsErrOf result (errors.Fault path) → FailsBeside w f i w0 w1 o0 o1 i0 i1 root setup
   pub later : (path : List ℕ) → IsErrOf result (errors.Fault path) → (t : Names) → w.told w0 ≡ Some t → IsKnown (known_in t root setup)
   pub at : (path : List ℕ) → IsErrOf result (errors.Fault path) → IsAskedFor (w.told w0) root setup.index path

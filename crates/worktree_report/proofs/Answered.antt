@@ -339,6 +339,7 @@ module _ {W F I : Type 0} {w : WorktreeOf W} {f : FindOf F} {i : InterruptOf I} 
         interrupted = λ is. absurd cc;
         interrupted_late = λ t told is. absurd cc;
         answers = tt;
+        making = tt;
         complete = λ t told quiet calm valid. tt;
         worktree = reports.worktree;
         interrupt = reports.interrupt;
@@ -365,6 +366,7 @@ module _ {W F I : Type 0} {w : WorktreeOf W} {f : FindOf F} {i : InterruptOf I} 
         interrupted = λ is. absurd cc;
         interrupted_late = λ t told is. absurd cc;
         answers = tt;
+        making = inl refl;
         complete = λ t told quiet calm valid. refl;
         worktree = reports.worktree;
         interrupt = reports.interrupt;
@@ -397,6 +399,20 @@ module _ {W F I : Type 0} {w : WorktreeOf W} {f : FindOf F} {i : InterruptOf I} 
         interrupted = λ is. interrupt-of_report _ e reports.interrupted (answered is);
         interrupted_late = λ t told is. known-of_report _ e (reports.misread t told) (answered is);
         answers = of_reporting e;
+        making =
+            inr (record {
+              error = e;
+              is = refl;
+              opens =
+                  record {
+                    opened = reports.opens.opened;
+                    within = λ t told quiet. reports.opens.within (read_in t setup) (told-blobs setup held told) quiet;
+                    listed = reports.opens.listed;
+                    asked = reports.opens.asked;
+                    counted = tt;
+                    reads = reports.opens.reads;
+                  };
+            });
         complete = λ t told quiet calm valid. ap of_report (reports.complete (read_in t setup) (told-blobs setup held told) quiet kept calm valid);
         worktree = reports.worktree;
         interrupt = reports.interrupt;

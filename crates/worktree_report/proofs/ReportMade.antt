@@ -355,7 +355,7 @@ opened_later : {W F I : Type 0} (w : WorktreeOf W) (f : FindOf F) (i : Interrupt
     → (opens : OpensDirectories w i wl w1 i0 i1 setup.options.strategy (asked_of (w.precomposes wl) root setup) (excludes_of root setup) setup.root (λ (r : WalkReport). r.outcome) (λ (r : WalkReport). r.root) walked
     (EntersAsAsked w f wl w1 o0 root setup (unlisted_answer walked)))
     → IfOk result (λ r. r.outcome.read_dir_calls ≡ min opens.opened (2 ^ 32 - 1)) → Names_too root walked result → refused_one walked ≤ refused_one result
-    → unlisted_answer walked ≤ unlisted_report result → deep_report result ≤ deep_answer walked → LoadsAndOpens w f i w0 w1 o0 i0 i1 root setup result
+    → unlisted_answer walked ≤ unlisted_report result → deep_report result ≤ deep_answer walked → LoadsAndOpens w i (w.precomposes w0) w0 w1 i0 i1 root setup result (EntersAsAsked w f w0 w1 o0 root setup (unlisted_report result))
 opened_later w f i w0 wl w1 o0 i0 i1 root setup walked result loads more opens counted names spare unlisted deep =
     record {
       opened = opens.opened;

@@ -24,6 +24,7 @@ use Rattle.worktree_report.specs.Written.{Appends}
 use Rattle.worktree_report.specs.Generate.{Generated, IsOfGenerating, generated_lines, generated_text}
 use Rattle.worktree_report.specs.Ends.{Ends}
 use Rattle.worktree_report.specs.Run as top
+use Rattle.worktree_report.proofs.Refusing.{InOrder-made, InOrder-unread}
 
 -- a count that rose from later on rose from before
 pub Rose-before : (before later now : ℕ) → before ≤ later → Increased later now → Increased before now
@@ -208,7 +209,7 @@ module _ {W I : Type 0} (w : WorktreeOf W) (i : InterruptOf I) (w0 w1 w2 : W) (i
               let known = behind.made.orderly.orderly in
               HasCauses-fault w i w0 w2 i0 i1 made places (Rose-before _ _ _ faults (Rose-before _ _ _ behind.made.worktree.faults behind.rose))
               (inr (λ t told. record { setup = setup; read = read t told; known = (known.known, known.known_is t (tree ∙ told)) })))
-          | inr none ↦ HasCauses-walked setup (Err refusal) read tree faults once listed none.texts
+          | inr none ↦ HasCauses-walked setup (Err refusal) read tree faults once listed none
         ]
       ]
 
@@ -305,6 +306,7 @@ module _ {W I : Type 0} {w : WorktreeOf W} {i : InterruptOf I} {w0 w1 : W} {i0 :
         opens = λ t told quiet. tt;
         lists = λ t told setup read at_once. omega (arith, none_listed);
         causes = HasCauses-unread w i w0 w1 i0 i0 top.as_read places refusal of outside fault once none_listed refl;
+        in_order = InOrder-unread refusal _ of tree faults listed once none_listed composes;
         keeps = Keeps-unread refusal tree faults listed none_listed composes;
       }
 
@@ -312,9 +314,9 @@ module _ {W I : Type 0} {w : WorktreeOf W} {i : InterruptOf I} {w0 w1 w2 : W} {i
   -- the work tree is walked by the setup that was read
   pub AnswersReport-walked : (setup : Setup) (answer : Result (List ℕ) Refusal)
       → ((t : Names) → w.told w0 ≡ Some t → setup_at (look t places.setup true) ≡ Ok setup) → Incremented (w.reads w0) (w.reads w1) → w.lists w1 ≡ w.lists w0
-      → w.told w1 ≡ w.told w0 → w.faults w0 ≤ w.faults w1 → w.list_faults w1 ≡ w.list_faults w0 → w.precomposes w1 ≡ w.precomposes w0
+      → w.told w1 ≡ w.told w0 → w.faults w0 ≤ w.faults w1 → w.faults w1 ≡ w.faults w0 → w.list_faults w1 ≡ w.list_faults w0 → w.precomposes w1 ≡ w.precomposes w0
       → Texts w i (w.precomposes w1) w1 w2 i0 i1 places.root setup answer → top.AnswersReport w i w0 w2 i0 i1 places answer
-  AnswersReport-walked setup answer read once none_listed tree faults listed composes told_of =
+  AnswersReport-walked setup answer read once none_listed tree faults unfaulted listed composes told_of =
       let texts : Texts w i (w.precomposes w0) w1 w2 i0 i1 places.root setup answer = subst (λ b. Texts w i b w1 w2 i0 i1 places.root setup answer) composes told_of in
       record {
         gives = λ t told quiet. output_at-walked _ t places setup answer (read t told) (texts.gives t (tree ∙ told) (Quiet-later _ _ _ faults quiet));
@@ -324,6 +326,7 @@ module _ {W I : Type 0} {w : WorktreeOf W} {i : InterruptOf I} {w0 w1 w2 : W} {i
         opens = λ t told quiet. opens-walked top.as_read _ t places setup answer _ _ _ (read t told) none_listed (texts.opens t (tree ∙ told) (Quiet-later _ _ _ faults quiet));
         lists = λ t told. lists-walked t places setup _ _ _ (read t told) none_listed texts.lists;
         causes = HasCauses-walked w i w0 w1 w2 i0 i1 top.as_read places setup answer read tree faults once none_listed texts;
+        in_order = InOrder-made w w0 w1 w2 i0 i1 places setup answer _ read tree faults unfaulted listed once none_listed composes texts;
         keeps = Keeps-made answer tree faults listed none_listed composes texts.worktree texts.interrupt texts.listed texts.calm;
       }
 

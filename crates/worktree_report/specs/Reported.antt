@@ -35,7 +35,7 @@ use Rattle.worktree_report.specs.declared.refusal.Refusal.{Refusal}
 use Rattle.worktree_report.specs.declared.refusal.Refusal.TheVariants as refusals
 use Rattle.worktree_report.specs.declared.refusal.WalkWord.{WalkWord}
 use Rattle.worktree_report.specs.Asked.{asked_of, chosen_of, read_in, text_of, About, Found, NoRoot, Refuses, IsReportOf, IsWalkOf, ReadsWithin, IsSafeAt, IsValidAt, ListsAt, WorksAt, RefusesWalkAt, IsAboutWalkAt}
-use Rattle.worktree_report.specs.Converted.{IsOfWalking}
+use Rattle.worktree_report.specs.Converted.{of_report, IsOfWalking}
 use Rattle.worktree_report.specs.Excluding.{excludes_of}
 use Rattle.worktree_report.specs.Loading.{known_in, IsKnown}
 use Rattle.worktree_report.specs.Loads.{of_walk}
@@ -55,6 +55,12 @@ abbrev pub EntersAsAsked : {W F : Type 0} → WorktreeOf W → FindOf F → W �
 EntersAsAsked w f w0 w1 o0 root setup spare opened =
     (s : Sources) → TellsIf (w.told w0) (f.holds o0) (excludes_of root setup) s → NotIncreased (w.faults w0) (w.faults w1)
     → opened ≤ most_opened setup.depth (walk_in (asked_of (w.precomposes w0) root setup) (excludes_of root setup) s setup.root) spare
+
+-- The same over a told tree alone, where blobs are those of the setup; `composes` says whether the worktree composes names.
+abbrev pub EntersOverTree : {W : Type 0} → WorktreeOf W → Bool → W → W → List ℕ → Setup → ℕ → ℕ → Type 0
+EntersOverTree w composes w0 w1 root setup spare opened =
+    (t : Names) → w.told w0 ≡ Some t → NotIncreased (w.faults w0) (w.faults w1)
+    → opened ≤ most_opened setup.depth (walk_in (asked_of composes root setup) (excludes_of root setup) (read_in t setup) setup.root) spare
 
 -- What the walk of the work tree at `root` gives, where a worktree was `w0` and is `w1`, a store was `o0` and is `o1`, and an interrupt
 -- was `i0` and is `i1`.
@@ -130,17 +136,18 @@ Describes (Ok r) known (Err e) = ⊥
 Describes (Err error) known (Ok walked) = error ≡ errors.OutOfMemory
 Describes (Err error) known (Err e) = error ≡ of_walk e
 
--- What is opened and read: what tells of submodules first, and then as the walk does. Over what is told, and without a fault, no more
--- directories are opened than the walk enters within its depth, and where a listing is refused one more. The interrupt is asked before
--- each, and before one is found too deep, and once more where it was raised.
-pub record LoadsAndOpens {W F I : Type 0} (w : WorktreeOf W) (f : FindOf F) (i : InterruptOf I) (w0 w1 : W) (o0 : F) (i0 i1 : I) (root : List ℕ) (setup : Setup) (result : Result Report ReportError) : Type 0 where
+-- What is opened and read: what tells of submodules first, and then as the walk does. So many directories were opened, of which `Within`
+-- says how many. The interrupt was asked before each, and before one was found too deep, and once more where it was raised. `composes`
+-- says whether the worktree composes names.
+pub record LoadsAndOpens {W I : Type 0} (w : WorktreeOf W) (i : InterruptOf I) (composes : Bool) (w0 w1 : W) (i0 i1 : I) (root : List ℕ) (setup : Setup) (result : Result Report ReportError)
+    (Within : ℕ → Type 0) : Type 0 where
   pub opened : ℕ
-  pub within : EntersAsAsked w f w0 w1 o0 root setup (unlisted_report result) opened
+  pub within : Within opened
   pub listed : IsListed setup.options.strategy (w.lists w0) (w.lists w1) opened
   pub asked : with_more (i.questions i0) (opened + deep_report result + (i.raised i1 - i.raised i0)) ≤ i.questions i1
   pub counted : IfOk result (λ r. r.outcome.read_dir_calls ≡ min opened (2 ^ 32 - 1))
-  pub reads : setup.options.strategy ≡ Held → reads_rules_alone (chosen_of (w.precomposes w0) setup) ≡ true
-      → ReadsWithin (w.precomposes w0) root setup result (w.reads w0) (w.reads w1) opened (refused_one result)
+  pub reads : setup.options.strategy ≡ Held → reads_rules_alone (chosen_of composes setup) ≡ true
+      → ReadsWithin composes root setup result (w.reads w0) (w.reads w1) opened (refused_one result)
 
 -- The report of the work tree at `root`, where a worktree was `w0` and is `w1`, a store was `o0` and is `o1`, and an interrupt
 -- was `i0` and is `i1`.
@@ -176,8 +183,17 @@ pub record MakesReport {W F I : Type 0} (w : WorktreeOf W) (f : FindOf F) (i : I
   pub interrupt : AsksInterrupt i i0 i1
   pub listed : OnOk result (w.list_faults w1 ≡ w.list_faults w0)
   pub calm : OnOk result (i.raised i1 ≡ i.raised i0)
-  -- What is opened and read.
-  pub opens : LoadsAndOpens w f i w0 w1 o0 i0 i1 root setup result
+  -- What is opened and read. Over what is told, and without a fault, no more directories are opened than the walk enters within its
+  -- depth, and where a listing is refused one more.
+  pub opens : LoadsAndOpens w i (w.precomposes w0) w0 w1 i0 i1 root setup result (EntersAsAsked w f w0 w1 o0 root setup (unlisted_report result))
+
+-- There is no report, for an error that the refusal stands for; and no more was opened, asked and read than making it takes. Over a
+-- told tree, and without a fault, no more directories were opened than the walk enters within its depth, and where a listing is
+-- refused one more.
+pub record RefusesMaking {W I : Type 0} (w : WorktreeOf W) (i : InterruptOf I) (composes : Bool) (w0 w1 : W) (i0 i1 : I) (root : List ℕ) (setup : Setup) (refusal : Refusal) : Type 0 where
+  pub error : ReportError
+  pub is : refusal ≡ of_report error
+  pub opens : LoadsAndOpens w i composes w0 w1 i0 i1 root setup (Err error) (EntersOverTree w composes w0 w1 root setup (unlisted_report {T = Report} (Err error)))
 
 -- The same of its text over a tree alone, with the refusals of the program. `composes` says whether the worktree composes names.
 pub record Texts {W I : Type 0} (w : WorktreeOf W) (i : InterruptOf I) (composes : Bool) (w0 w1 : W) (i0 i1 : I) (root : List ℕ) (setup : Setup) (result : Result (List ℕ) Refusal) : Type 0 where
@@ -197,6 +213,8 @@ pub record Texts {W I : Type 0} (w : WorktreeOf W) (i : InterruptOf I) (composes
   pub interrupted : IsErrOf result refusals.Interrupted → Increased (i.raised i0) (i.raised i1)
   pub interrupted_late : (t : Names) → w.told w0 ≡ Some t → IsErrOf result refusals.Interrupted → IsKnown (known_in t root setup)
   pub answers : IfErr result IsOfWalking
+  -- what is opened and read where there is no report; want of memory may come behind one
+  pub making : IfErr result (λ refusal. (refusal ≡ refusals.OutOfMemory) ⊎ RefusesMaking w i composes w0 w1 i0 i1 root setup refusal)
   pub complete : (t : Names) → w.told w0 ≡ Some t → NotIncreased (w.faults w0) (w.faults w1) → NotIncreased (i.raised i0) (i.raised i1)
       → IsValidAt composes (read_in t setup) root setup → IfErr result (λ refusal. refusal ≡ refusals.OutOfMemory)
   pub worktree : KeepsTree w w0 w1

@@ -18,6 +18,8 @@ use Rattle.worktree_report.specs.Loading.{known_in, IsKnown}
 use Rattle.worktree_report.specs.Orderly.{IsOrderlyText}
 use Rattle.worktree_report.specs.Outside.{files_to, IsAboutMisreadAt, StopsAt}
 use Rattle.worktree_report.specs.Asked.{read_in, text_of, IsSafeAt, IsValidAt, ListsAt, WorksAt, RefusesWalkAt, IsAboutWalkAt}
+use Rattle.worktree_report.specs.Behind.{InOrder}
+use Rattle.worktree_report.specs.Reported.{Texts}
 use Rattle.worktree_report.specs.Generate.{generated_text, Generated, IsOfGenerating}
 
 -- the line for words that ask for nothing
@@ -191,6 +193,8 @@ pub record AnswersReport {W I : Type 0} (w : WorktreeOf W) (i : InterruptOf I) (
       → OnOk answer (ListsReport as_read (w.precomposes w0) t places (w.lists w0) (w.lists w1))
   pub lists : (t : Names) → w.told w0 ≡ Some t → ListsOnce t places (w.lists w0) (w.lists w1)
   pub causes : HasCauses w i w0 w1 i0 i1 as_read places answer
+  -- It comes by the setup, which was read once and without a fault, and behind that as the report is made; or as that was not read.
+  pub in_order : InOrder w w0 w1 i0 i1 places (λ setup loaded. Texts w i (w.precomposes w0) loaded w1 i0 i1 places.root setup answer) answer
   pub keeps : Keeps w i w0 w1 i0 i1 answer
 
 -- ---- a tree of files in memory

@@ -14,4 +14,4 @@ returns-in_err-setup g c =
 pub returns : goal.returns
 returns g c =
     let read = c.in_ok-setup.ensures in
-    AnswersStatus-made c.in_ok-setup.setup c.text_of_status.result read.gives read.tree read.faults read.list_faults read.reads read.lists read.precomposes c.text_of_status.ensures
+    AnswersStatus-made c.in_ok-setup.setup c.text_of_status.result read.gives read.tree read.faults read.unfaulted read.list_faults read.reads read.lists read.precomposes c.text_of_status.ensures
