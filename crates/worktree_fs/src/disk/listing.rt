@@ -2,6 +2,7 @@
 ghost use Rattle.std.specs.Prelude.{◌≡◌, ◌⊎◌, ◌↔◌, ◌≤◌, ◌<◌, ◌++◌, ◌∷◌, [], length, Some, None, if◌then◌else◌, IfOk, IfErr, OnOk, IfNone, IfSome, MatchOption, All, IsTrue, IsErrOf, IsPermutation, bytes_eq, string_bytes};
 ghost use Rattle.std.specs.Io.KnownBytes.{IsAtEnd};
 ghost use Rattle.std.specs.List.{IsDistinct};
+ghost use Rattle.std.specs.declared.cmp.Ordering.TheVariants.{Less};
 ghost use Rattle.std.specs.List.Sorted.{IsStrictlySortedBy};
 ghost use Rattle.worktree_fs.specs.Composed.{as_kept};
 ghost use Rattle.worktree_fs.specs.Disk.{has_nul, is_unaskable, IsGiven, AreListed, kept_names, names_between, given_names, opened_path, GivesNames, IsAbsence};
@@ -229,9 +230,15 @@ fn rises(names: &[Bytes]) -> bool
     ensures { IsTrue result ↔ IsStrictlySortedBy path_cmp names.now }
 {
     for i in 1..names.len() {
-        if compare(&names[i - 1], &names[i]) != Ordering::Less {
+        if !is_below(&names[i - 1], &names[i]) {
             return false;
         }
     }
     true
+}
+
+fn is_below(a: &Bytes, b: &Bytes) -> bool
+    ensures { IsTrue result ↔ path_cmp a.now b.now ≡ Less }
+{
+    compare(a, b).is_lt()
 }
