@@ -42,25 +42,27 @@ letters``|directory`/w|file`/w/.gitignore`NAME\n|fold|hit`name`NAME`1`0`/w/.giti
 a fresh stack``g\n|directory`/w|file`/w/.gitignore`f\n|hit`a/f`f`1`0`/w/.gitignore|fresh|push_directory`0|platforms`0|\
 hit`a/g`g`1`g`/globals|hit`a/f`f`1`0`/w/.gitignore|push_directory`2|pattern_files`1";
 
-/// A stack below `/w` with this state.
-pub fn stack_with(alloc: Global, ignore: Ignore) -> Result<Stack, OutOfMemory> {
-    stack_below(alloc, b"/w", ignore)
-}
-
-/// A stack below a root with this state.
-fn stack_below(alloc: Global, root: &[u8], ignore: Ignore) -> Result<Stack, OutOfMemory> {
-    Ok(Stack::new(
+/// A stack below this root with these rules. No exit stands where the rules are owned.
+pub fn stack_at(alloc: Global, root: PathText, ignore: Ignore) -> Stack {
+    Stack::new(
         alloc,
-        PathText::from_bytes(alloc, root)?,
+        root,
         State::IgnoreStack(ignore),
         Case::Sensitive,
         Bytes::new(alloc),
         Vec::new(alloc),
-    ))
+    )
 }
 
-fn stack_of(alloc: Global, overrides: &[u8], globals: &[u8]) -> Result<Stack, OutOfMemory> {
-    stack_with(alloc, ignore_of(alloc, overrides, globals)?)
+fn stack_of(
+    alloc: Global,
+    root: &[u8],
+    overrides: &[u8],
+    globals: &[u8],
+) -> Result<Stack, OutOfMemory> {
+    let root = PathText::from_bytes(alloc, root)?;
+    let ignore = ignore_of(alloc, overrides, globals)?;
+    Ok(stack_at(alloc, root, ignore))
 }
 
 /// The first step that does not hold with this stack and nothing else.
@@ -79,7 +81,7 @@ fn case_lie(alloc: Global, case: &[u8]) -> Option<&[u8]> {
     let (head, steps) = case.split_once_str(b"|").unwrap_or((case, b""));
     let (_, rules) = parted(head);
     let (overrides, globals) = parted(rules);
-    match stack_of(alloc, overrides, globals) {
+    match stack_of(alloc, b"/w", overrides, globals) {
         Ok(mut stack) => stack_lie(alloc, &mut stack, steps),
         Err(_) => Some(case),
     }
@@ -95,29 +97,35 @@ fn cases(rt: HostRuntime) {
 const NAMED: &[u8] =
     b"directory`/w|file`/w/.gitignore`*.o\n|file`/w/.rules`*.c\n|hit`x.c`*.c`1`0`/w/.rules|miss`x.o``0``";
 
+/// A stack below `/w` with no rules but those of files of this name, which are read so.
+fn read_stack(
+    alloc: Global,
+    name: Option<Bytes>,
+    source: Source,
+    parse: ParseIgnore,
+) -> Result<Stack, OutOfMemory> {
+    let root = PathText::from_bytes(alloc, b"/w")?;
+    let (overrides, globals) = (Search::new(alloc), Search::new(alloc));
+    let ignore = Ignore::new(alloc, overrides, globals, name, source, parse)?;
+    Ok(stack_at(alloc, root, ignore))
+}
+
 /// A stack whose rules files have another name.
 fn named_stack(alloc: Global) -> Result<Stack, OutOfMemory> {
     let name = Bytes::from_slice(alloc, b".rules")?;
-    let (overrides, globals) = (Search::new(alloc), Search::new(alloc));
-    let ignore = Ignore::new(
-        alloc,
-        overrides,
-        globals,
-        Some(name),
-        Source::default(),
-        parse(),
-    )?;
-    stack_with(alloc, ignore)
+    read_stack(alloc, Some(name), Source::default(), parse())
 }
 
 const BARE: &[u8] = b"directory`/w|file`/w/.gitignore`d\n|miss`d``0``|tried_pattern_files`0";
 
 /// A stack of a repository that is bare.
 fn bare_stack(alloc: Global) -> Result<Stack, OutOfMemory> {
-    let source = Source::default().adjust_for_bare(true);
-    let (overrides, globals) = (Search::new(alloc), Search::new(alloc));
-    let ignore = Ignore::new(alloc, overrides, globals, None, source, parse())?;
-    stack_with(alloc, ignore)
+    read_stack(
+        alloc,
+        None,
+        Source::default().adjust_for_bare(true),
+        parse(),
+    )
 }
 
 const ROOTED: &[u8] =
@@ -125,7 +133,7 @@ const ROOTED: &[u8] =
 
 /// A stack below the root of all paths.
 fn rooted_stack(alloc: Global) -> Result<Stack, OutOfMemory> {
-    stack_below(alloc, b"/", ignore_of(alloc, b"", b"")?)
+    stack_of(alloc, b"/", b"", b"")
 }
 
 const PRECIOUS: &[u8] =
@@ -136,23 +144,22 @@ fn precious_stack(alloc: Global) -> Result<Stack, OutOfMemory> {
     let parse = ParseIgnore {
         support_precious: true,
     };
-    let (overrides, globals) = (Search::new(alloc), Search::new(alloc));
-    let ignore = Ignore::new(alloc, overrides, globals, None, Source::default(), parse)?;
-    stack_with(alloc, ignore)
+    read_stack(alloc, None, Source::default(), parse)
+}
+
+/// The first step that does not hold with a stack; all of them where that could not be made.
+fn lie_of(alloc: Global, stack: Result<Stack, OutOfMemory>, steps: &[u8]) -> Option<&[u8]> {
+    match stack {
+        Ok(mut stack) => stack_lie(alloc, &mut stack, steps),
+        Err(_) => Some(steps),
+    }
 }
 
 #[test]
 fn other_sources(rt: HostRuntime) {
     let alloc = rt.alloc();
-    for (stack, steps) in [
-        (named_stack(alloc), NAMED),
-        (bare_stack(alloc), BARE),
-        (rooted_stack(alloc), ROOTED),
-        (precious_stack(alloc), PRECIOUS),
-    ] {
-        match stack {
-            Ok(mut stack) => assert_eq!(rt; stack_lie(alloc, &mut stack, steps), None),
-            Err(_) => assert!(rt; false),
-        }
-    }
+    assert_eq!(rt; lie_of(alloc, named_stack(alloc), NAMED), None);
+    assert_eq!(rt; lie_of(alloc, bare_stack(alloc), BARE), None);
+    assert_eq!(rt; lie_of(alloc, rooted_stack(alloc), ROOTED), None);
+    assert_eq!(rt; lie_of(alloc, precious_stack(alloc), PRECIOUS), None);
 }

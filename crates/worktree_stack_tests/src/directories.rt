@@ -40,8 +40,8 @@ c`u`-`a\xcc\x88/f`-`ok`1`2`/w/\xc3\xa4`d;b/f`-`ok`2`3`/w/b`d;a\xcc\x88/g`-`colli
 t`u`-`d/f`-`ok`1`2`/w/d`d`set;a/f`-`ok`3`3`/w/a`d`-;d/f`-`ok`4`4`/w/d`d`set\n\
 c`-`-`a\xcc\x88/b/f`-`no parent`2`2`/w/a\xcc\x88/b`-\n";
 
-/// A stack for a checkout below `/w`.
-fn stack_of(alloc: Global, unlinks: bool) -> Result<Stack, OutOfMemory> {
+/// A stack for a checkout below this root. No exit stands where the attributes are owned.
+fn stack_at(alloc: Global, root: PathText, unlinks: bool) -> Stack {
     let attributes = Attributes::new(
         alloc,
         Search::new(alloc),
@@ -52,14 +52,20 @@ fn stack_of(alloc: Global, unlinks: bool) -> Result<Stack, OutOfMemory> {
     let options = Options {
         protect_windows: false,
     };
-    Ok(Stack::new(
+    Stack::new(
         alloc,
-        PathText::from_bytes(alloc, b"/w")?,
+        root,
         State::for_checkout(unlinks, options, attributes),
         Case::Sensitive,
         Bytes::new(alloc),
         Vec::new(alloc),
-    ))
+    )
+}
+
+/// A stack for a checkout below `/w`.
+fn stack_of(alloc: Global, unlinks: bool) -> Result<Stack, OutOfMemory> {
+    let root = PathText::from_bytes(alloc, b"/w")?;
+    Ok(stack_at(alloc, root, unlinks))
 }
 
 fn mode_of(letter: &[u8]) -> Option<Mode> {
@@ -157,20 +163,24 @@ fn all_go(alloc: Global, stack: &mut Stack, tree: &mut MemoryWorktree, steps: &[
     true
 }
 
+/// Whether each lookup goes so in the tree of a row, where a call may fail.
+fn all_go_in(alloc: Global, stack: &mut Stack, node: &[u8], call: &[u8], steps: &[u8]) -> bool {
+    match tree_of(alloc, node) {
+        Ok(mut tree) => {
+            plan(alloc, &mut tree, call).is_ok() && all_go(alloc, stack, &mut tree, steps)
+        }
+        Err(_) => false,
+    }
+}
+
 fn is_looked_up(alloc: Global, row: &[u8]) -> bool {
     let (node, rest) = parted(row);
     let (unlinks, rest) = parted(rest);
     let (call, steps) = parted(rest);
-    let Ok(mut tree) = tree_of(alloc, node) else {
-        return false;
-    };
-    let Ok(mut stack) = stack_of(alloc, unlinks == b"u".as_slice()) else {
-        return false;
-    };
-    if plan(alloc, &mut tree, call).is_err() {
-        return false;
+    match stack_of(alloc, unlinks == b"u".as_slice()) {
+        Ok(mut stack) => all_go_in(alloc, &mut stack, node, call, steps),
+        Err(_) => false,
     }
-    all_go(alloc, &mut stack, &mut tree, steps)
 }
 
 #[test]

@@ -4,7 +4,7 @@ ghost use Rattle.worktree_stack.specs.Setup.{has_excludes};
 ghost use Rattle.worktree_stack.specs.Stacked.{made_of};
 
 use crate::answers::NESTED;
-use crate::cases::stack_with;
+use crate::cases::stack_at;
 use crate::lookups::look_up_path;
 use crate::steps::{is_digit, parse};
 use bstr::ByteSlice;
@@ -16,9 +16,10 @@ use worktree_stack::ignore_source::Source;
 use worktree_stack::{Ignore, Platform, Stack};
 
 fn stack_of(alloc: Global) -> Result<Stack, OutOfMemory> {
+    let root = PathText::from_bytes(alloc, b"/w")?;
     let (overrides, globals) = (Search::new(alloc), Search::new(alloc));
     let ignore = Ignore::new(alloc, overrides, globals, None, Source::default(), parse())?;
-    stack_with(alloc, ignore.with_strict_parents(true))
+    Ok(stack_at(alloc, root, ignore.with_strict_parents(true)))
 }
 
 fn parted(row: &[u8]) -> (&[u8], &[u8]) {

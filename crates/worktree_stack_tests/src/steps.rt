@@ -190,21 +190,26 @@ fn is_not_normal(alloc: Global, scene: &mut Scene<'_>, path: &[u8]) -> bool {
     )
 }
 
+/// Whether a count has this name and is this digit's.
 fn has_count(counts: &Statistics, name: &[u8], want: &[u8]) -> bool {
-    let count = match name {
-        b"platforms" => counts.platforms,
-        b"push_element" => counts.delegate.push_element,
-        b"push_directory" => counts.delegate.push_directory,
-        b"pop_directory" => counts.delegate.pop_directory,
-        b"tried_pattern_files" => counts.ignore.tried_pattern_files,
-        b"pattern_files" => counts.ignore.pattern_files,
-        b"patterns_buffers" => counts.ignore.patterns_buffers,
-        b"tried attributes" => counts.attributes.tried_pattern_files,
-        b"files of attributes" => counts.attributes.pattern_files,
-        b"blobs of attributes" => counts.attributes.patterns_buffers,
-        _ => return false,
-    };
-    is_digit(count, want)
+    let named: [(&[u8], usize); 10] = [
+        (b"platforms", counts.platforms),
+        (b"push_element", counts.delegate.push_element),
+        (b"push_directory", counts.delegate.push_directory),
+        (b"pop_directory", counts.delegate.pop_directory),
+        (b"tried_pattern_files", counts.ignore.tried_pattern_files),
+        (b"pattern_files", counts.ignore.pattern_files),
+        (b"patterns_buffers", counts.ignore.patterns_buffers),
+        (b"tried attributes", counts.attributes.tried_pattern_files),
+        (b"files of attributes", counts.attributes.pattern_files),
+        (b"blobs of attributes", counts.attributes.patterns_buffers),
+    ];
+    for (each, count) in named {
+        if each == name {
+            return is_digit(count, want);
+        }
+    }
+    false
 }
 
 /// Puts rules of these globals alone into the state of a stack, with strict parents or without.
