@@ -95,13 +95,12 @@ fn jobs_list_apart(rt: HostRuntime) {
 
 /// The rules below `/w` that an index has as blobs.
 fn mapped_rules(alloc: Global, index: &State) -> Result<Stack, OutOfMemory> {
+    let root = PathText::from_bytes(alloc, b"/w")?;
     let parse = ParseIgnore {
         support_precious: false,
     };
-    let nothing = ignore::Search::new(alloc);
-    let globals = ignore::Search::new(alloc);
+    let (nothing, globals) = (ignore::Search::new(alloc), ignore::Search::new(alloc));
     let ignore = Ignore::new(alloc, nothing, globals, None, Source::IdMapping, parse)?;
-    let root = PathText::from_bytes(alloc, b"/w")?;
     let state = worktree_stack::State::IgnoreStack(ignore);
     Stack::from_state_and_ignore_case(alloc, root, false, state, index)
 }
@@ -132,29 +131,63 @@ fn rules(alloc: Global) -> Result<MemoryStore, OutOfMemory> {
     Ok(objects)
 }
 
-/// Whether the store handed in is asked for the rules of the root alone, and each of the forks that it absorbs, one a job, for them
-/// anew, the first for those of its directory too: each job has rules of its own.
-fn is_asked_by_forks(alloc: Global) -> Result<bool, OutOfMemory> {
-    let index = index(alloc)?;
-    let mut excludes = Some(mapped_rules(alloc, &index)?);
-    let mut store = NotedStore::new(alloc, rules(alloc)?);
-    if !tells_excludes(&excludes) {
-        return Ok(false);
+/// Whether a walk by some rules is answered.
+fn is_walked(
+    alloc: Global,
+    index: &State,
+    store: &mut NotedStore,
+    excludes: &mut Option<Stack>,
+) -> bool {
+    if !tells_excludes(excludes) {
+        return false;
     }
-    let walked = walked(
+    walked(
         alloc,
         options_of(b"", &BTreeSet::new(alloc)),
         &mut Noted::new(alloc, root(alloc)),
-        &mut store,
+        store,
         &mut PlannedInterrupt::never(),
         &Search::from_specs(Vec::new(alloc)),
-        &mut excludes,
-        &index,
-    );
-    Ok(walked.is_ok() && store.asked == 1 && store.absorbed.as_slice() == [2u8, 1].as_slice())
+        excludes,
+        index,
+    )
+    .is_ok()
+}
+
+/// Whether a walk by the rules that an index has as blobs is answered.
+fn is_walked_by(alloc: Global, index: &State, store: &mut NotedStore) -> bool {
+    match mapped_rules(alloc, index) {
+        Ok(rules) => is_walked(alloc, index, store, &mut Some(rules)),
+        Err(_) => false,
+    }
+}
+
+/// Whether such a walk asks this store once, and the two forks that it absorbs twice and once.
+fn asks_forks(alloc: Global, index: &State, objects: MemoryStore) -> bool {
+    let mut store = NotedStore::new(alloc, objects);
+    is_walked_by(alloc, index, &mut store)
+        && store.asked == 1
+        && store.absorbed.as_slice() == [2u8, 1].as_slice()
+}
+
+/// Whether forks are asked by a walk of this index.
+fn is_asked_by_index(alloc: Global, index: &State) -> bool {
+    match rules(alloc) {
+        Ok(objects) => asks_forks(alloc, index, objects),
+        Err(_) => false,
+    }
+}
+
+/// Whether the store handed in is asked for the rules of the root alone, and each of the forks that it absorbs, one a job, for them
+/// anew, the first for those of its directory too: each job has rules of its own.
+fn is_asked_by_forks(alloc: Global) -> bool {
+    match index(alloc) {
+        Ok(index) => is_asked_by_index(alloc, &index),
+        Err(_) => false,
+    }
 }
 
 #[test]
 fn jobs_ask_stores_of_their_own(rt: HostRuntime) {
-    assert!(rt; matches!(is_asked_by_forks(rt.alloc()), Ok(true)));
+    assert!(rt; is_asked_by_forks(rt.alloc()));
 }
