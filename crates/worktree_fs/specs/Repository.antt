@@ -85,8 +85,8 @@ is_git_directory t git common =
     && is_directory_at (look t (from_directory (codes "objects") common) true)
     && is_directory_at (look t (from_directory (codes "refs") common) true)
 
--- the common directory of a git directory, by the bytes of its file `commondir`: the path that they are without line ends, taken
--- from the git directory; the git directory itself where there is no such file
+-- the common directory of a git directory, by the bytes of its file `commondir`: the path that they are without the line ends behind it,
+-- taken from the git directory; the git directory itself where there is no such file
 abbrev pub common_by : List ℕ → Option (List ℕ) → List ℕ
 common_by git None = git
 common_by git (Some bytes) = from_directory (trimmed bytes) git
@@ -99,7 +99,8 @@ common_of t git = common_by git (file_at (look t (from_directory (codes "commond
 abbrev pub is_git_below : Names → List ℕ → Bool
 is_git_below t git = is_git_directory t git (common_of t git)
 
--- whether a file leads to a repository, by the path that it names, which is taken from the directory that the file stands in
+-- whether a file leads to a repository, by the path that it names, which is taken from what stands before the last slash of its own
+-- path, as that is spelled
 abbrev pub is_git_file : Names → List ℕ → Option (List ℕ) → Bool
 is_git_file t q None = false
 is_git_file t q (Some path) = is_git_below t (from_directory path (unwrap_or (parent q) []))

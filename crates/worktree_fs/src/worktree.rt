@@ -210,7 +210,7 @@ pub trait Worktree {
         ensures precomposes { precomposes self.new ≡ precomposes self.old };
 
     /// Removes a node that is no directory. A last link is not followed: it is removed itself. Where a node was removed nothing
-    /// is at its path, and all else leads where it led.
+    /// is at its path, and every other path leads where it led, unless it came to that node.
     ///
     /// # Errors
     ///

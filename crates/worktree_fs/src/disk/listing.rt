@@ -1,5 +1,5 @@
 //! The names of a directory of the system.
-ghost use Rattle.std.specs.Prelude.{◌≡◌, ◌⊎◌, ◌↔◌, ◌≤◌, ◌<◌, ◌++◌, ◌∷◌, [], length, Some, None, if◌then◌else◌, IfOk, IfErr, OnOk, IfNone, IfSome, MatchOption, All, IsTrue, IsErrOf, IsPermutation, bytes_eq, string_bytes};
+ghost use Rattle.std.specs.Prelude.{◌≡◌, ◌⊎◌, ◌↔◌, ◌≤◌, ◌<◌, ◌++◌, ◌∷◌, [], length, Some, None, if◌then◌else◌, IfOk, IfErr, OnOk, IfNone, IfSome, MatchOption, All, IsTrue, false, IsErrOf, IsPermutation, bytes_eq, string_bytes};
 ghost use Rattle.std.specs.Io.KnownBytes.{IsAtEnd};
 ghost use Rattle.std.specs.List.{IsDistinct};
 ghost use Rattle.std.specs.declared.cmp.Ordering.TheVariants.{Less};
@@ -174,6 +174,8 @@ fn add_name(
     ensures listed { AreListed composes names.new.items }
     ensures added { OnOk result (names.new.items
         ≡ names.old.items ++ as_kept composes name.now ∷ []) }
+    ensures cause { IsErrOf result ListError.EntryFault
+        → (is_name (as_kept composes name.now) ≡ false) ⊎ (1000000 ≤ length names.old.items) }
     ensures refused { IfErr result (λ error. (error ≡ ListError.EntryFault)
         ⊎ (error ≡ ListError.OutOfMemory)) }
 {

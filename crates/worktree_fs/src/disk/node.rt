@@ -1,5 +1,5 @@
 //! The calls of the system on one node, with its answers as those of a worktree.
-ghost use Rattle.std.specs.Prelude.{◌≡◌, ◌↔◌, ◌≤◌, ◌^◌, length, None, Ok, IfOk, IfErr, IfSome, IsErrOf, MatchResult, IsTrue, false};
+ghost use Rattle.std.specs.Prelude.{◌≡◌, ◌↔◌, ◌≤◌, ◌<◌, ◌^◌, length, None, Ok, IfOk, IfErr, IfSome, IsErrOf, MatchResult, IsTrue, false};
 ghost use Rattle.worktree_fs.specs.Answers.{UnlessRead};
 ghost use Rattle.worktree_fs.specs.Changes.{from_directory};
 ghost use Rattle.worktree_fs.specs.Disk.{has_nul, is_unaskable, asked_path, made_path, IsAbsence, IsOwnWant};
@@ -149,11 +149,22 @@ fn all_bytes<R: Read + Drop>(alloc: Global, reader: R) -> Result<Vec<u8>, ReadEr
 {
     let mut bytes = Vec::new(alloc);
     match reader.take(BYTE_LIMIT + 1).read_to_end(&mut bytes) {
-        Ok(_) if bytes.len() as u64 > BYTE_LIMIT => Err(ReadError::Fault),
-        Ok(_) => Ok(bytes),
+        Ok(_) => within_limit(bytes),
         Err(error) if is_own_want(&error) => Err(ReadError::OutOfMemory),
         Err(_) => Err(ReadError::Fault),
     }
+}
+
+/// The bytes of a file, where they are no more than a file may have; more are a fault.
+fn within_limit(bytes: Vec<u8>) -> Result<Vec<u8>, ReadError>
+    ensures { MatchResult result
+        (λ kept. (kept ≡ bytes) × (length bytes.items ≤ 2 ^ 30))
+        (λ error. (error ≡ ReadError.Fault) × (2 ^ 30 < length bytes.items)) }
+{
+    if bytes.len() as u64 > BYTE_LIMIT {
+        return Err(ReadError::Fault);
+    }
+    Ok(bytes)
 }
 
 /// Whether the program's own allocator refused, and not the system.
