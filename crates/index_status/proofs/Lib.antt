@@ -1,5 +1,6 @@
 mod Alongside
 mod Ordered
+mod Conflicts
 mod Settled
 mod Wayside
 mod Statuses

@@ -23,7 +23,7 @@ use Rattle.index_status.specs.Rows.{ArePaired, Ascends, Row, firsts, firsts_afte
 abbrev entry_path : IndexEntry → List ℕ
 entry_path e = e.path
 
-both-none : (a b : Option IndexError) → option_or a b ≡ None → (a ≡ None) × (b ≡ None)
+pub both-none : (a b : Option IndexError) → option_or a b ≡ None → (a ≡ None) × (b ≡ None)
 both-none None b e = (refl, e)
 both-none (Some x) b e = absurd (cc e)
 

@@ -59,6 +59,7 @@ Compares-refused {w = w} {w0} {w1} {root} {entries} e of asks few =
       gives = λ t told. tt;
       possible = tt;
       ascends = tt;
+      conflicted = tt;
       beside = tt;
       reads = few;
       read = tt;
@@ -101,6 +102,7 @@ module _ {W F I : Type 0} {w : WorktreeOf W} {f : FindOf F} {i : InterruptOf I} 
         gives = λ s told quiet. tt;
         possible = tt;
         ascends = tt;
+        conflicted = tt;
         beside = tt;
         no_report = λ refused is. subst (λ (x : ReportError). MakesReport w f i w0 w1 o0 o1 i0 i1 root setup (Err x)) (which-report e refused (which is)) made;
         no_memory = λ is. no_memory e (which is);
@@ -155,6 +157,7 @@ module _ {W F I : Type 0} {w : WorktreeOf W} {f : FindOf F} {i : InterruptOf I} 
         gives = λ s told quiet. status-is w w0 w1 w2 root setup s r result compares (made.worktree.tree ∙ told.tree_is) (made.gives s told (quiet_before _ _ _ compares.keeps.faults quiet));
         possible = compares.possible;
         ascends = compares.ascends;
+        conflicted = compares.conflicted;
         beside = beside-is w f i w0 w1 w2 o0 o1 i0 i1 root setup r result made compares;
         no_report = λ e is. absurd (unless (errors.Report e) is);
         no_memory = λ is. unless (errors.Report reports.OutOfMemory) is;

@@ -1,8 +1,8 @@
 -- The states of all paths of an index.
-use Rattle.std.specs.Prelude.{◌≡◌, ◌≤◌, ◌+◌, ℕ, List, [], ◌∷◌, ◌++◌, Bool, false, bytes_eq, map, Option, Some, None, if◌then◌else◌}
+use Rattle.std.specs.Prelude.{◌≡◌, ◌↔◌, ◌≤◌, ◌+◌, ℕ, List, [], ◌∷◌, ◌++◌, Bool, true, false, ◌&&◌, bytes_eq, map, Option, Some, None, if◌then◌else◌}
 use Rattle.std.specs.Bool.{MatchBool}
 use Rattle.std.specs.Cmp.Lexicographic.{slice_cmp}
-use Rattle.std.specs.List.{Contains}
+use Rattle.std.specs.List.{AllByRecursion, Contains, list_any}
 use Rattle.std.specs.List.Sorted.{IsStrictlySortedBy}
 use Rattle.std.specs.Ordering.{nat_cmp}
 use Rattle.gitbase_core.specs.declared.entry.IndexEntry.{IndexEntry}
@@ -11,7 +11,8 @@ use Rattle.worktree_fs.specs.Tree.{Names}
 use Rattle.index_status.specs.declared.error.StatesError.{StatesError}
 use Rattle.index_status.specs.declared.error.StatesError.TheVariants as errors
 use Rattle.index_status.specs.declared.path_state.PathState.{PathState}
-use Rattle.index_status.specs.States.{IsAskedBy, IsPossible, IsState, files_for, state}
+use Rattle.index_status.specs.declared.path_state.PathState.TheVariants as states
+use Rattle.index_status.specs.States.{IsAskedBy, IsPossible, IsState, files_for, is_unmerged, state}
 
 -- a path and its state
 abbrev pub Row : Type 0
@@ -66,6 +67,14 @@ ArePaired Has (e ∷ entries) (row ∷ made) = (row.0 ≡ e.path) × Has e row.1
 -- each path of the index once, in its order, with a state that it may have
 abbrev pub ArePossible : List IndexEntry → List Row → Type 0
 ArePossible entries made = ArePaired IsPossible (firsts entries) made
+
+-- the index has an entry of a path at another stage than 0
+abbrev pub is_conflicted : List IndexEntry → List ℕ → Bool
+is_conflicted entries path = list_any (λ (e : IndexEntry). bytes_eq e.path path && is_unmerged e) entries
+
+-- A path is conflicted exactly where the index has an entry of it at another stage than 0.
+abbrev pub AreConflicted : List IndexEntry → List Row → Type 0
+AreConflicted entries made = AllByRecursion (λ (row : Row). (row.1 ≡ states.Conflicted) ↔ (is_conflicted entries row.0 ≡ true)) made
 
 -- how many files were read for some rows, at least: one for each file that is the same or modified
 abbrev pub files_behind : List Row → ℕ

@@ -24,7 +24,7 @@ use Rattle.index_status.specs.declared.error.StatesError.TheVariants as states
 use Rattle.index_status.specs.declared.error.StatusError.{StatusError}
 use Rattle.index_status.specs.declared.error.StatusError.TheVariants as errors
 use Rattle.index_status.specs.declared.report_beside.IndexStatus.{IndexStatus}
-use Rattle.index_status.specs.Rows.{ArePossible, Ascends, IsAskedFor, files_behind, rows}
+use Rattle.index_status.specs.Rows.{AreConflicted, ArePossible, Ascends, IsAskedFor, files_behind, rows}
 use Rattle.index_status.specs.States.{files_in}
 
 -- why there is no report; want of memory is the same for both
@@ -52,6 +52,7 @@ pub record Compares {W : Type 0} (w : WorktreeOf W) (w0 w1 : W) (root : List ℕ
   pub gives : (t : Names) → w.told w0 ≡ Some t → IfOk result (λ status. status.paths.items ≡ rows t root entries)
   pub possible : IfOk result (λ status. ArePossible entries status.paths.items)
   pub ascends : IfOk result (λ status. Ascends status.paths.items)
+  pub conflicted : IfOk result (λ status. AreConflicted entries status.paths.items)
   pub beside : IfOk result (λ status. status.report ≡ report)
   -- each file that is compared is read once at most, whatever is answered
   pub reads : w.reads w1 ≤ w.reads w0 + files_in entries
@@ -96,10 +97,12 @@ pub record MakesStatus {W F I : Type 0} (w : WorktreeOf W) (f : FindOf F) (i : I
   -- Over a told tree and a store that tells what it holds, and without a fault, it is exactly the one that the setup asks for.
   pub gives : (s : Sources) → TellsIf (w.told w0) (f.holds o0) (excludes_of root setup) s → NotIncreased (w.faults w0) (w.faults w1)
       → IfOk result (IsStatusOf (w.precomposes w0) s root setup)
-  -- Over any worktree each path of the index stands once, in ascending order, with a state that it may have, and all is said of the
-  -- report that is said where it is made alone.
+  -- Over any worktree each path of the index stands once, in ascending order, with a state that it may have, which is that it is
+  -- conflicted exactly where the index has an entry of it at another stage than 0; and all is said of the report that is said where it
+  -- is made alone.
   pub possible : IfOk result (λ status. ArePossible setup.index status.paths.items)
   pub ascends : IfOk result (λ status. Ascends status.paths.items)
+  pub conflicted : IfOk result (λ status. AreConflicted setup.index status.paths.items)
   pub beside : IfOk result (IsBeside w f i w0 w1 o0 o1 i0 i1 root setup)
   -- Each refusal has its cause: there is no such report, or there is one and then the worktree failed at a path that is looked at for
   -- a state.

@@ -59,9 +59,9 @@ abbrev pub IsBehind : List (List ℕ) → List ℕ → List (List ℕ) → Type 
 IsBehind names name left = (left ≡ []) ⊎ (names ≡ name ∷ left)
 
 -- why what stands at a path was not learnt: the worktree failed there
-abbrev pub StopsAt : List ℕ → Type 0 → StatesError → Type 0
-StopsAt full Rose (errors.Fault path) = Rose × (path ≡ full)
-StopsAt full Rose errors.OutOfMemory = Unit {0}
+abbrev pub StopsLookAt : List ℕ → Type 0 → StatesError → Type 0
+StopsLookAt full Rose (errors.Fault path) = Rose × (path ≡ full)
+StopsLookAt full Rose errors.OutOfMemory = Unit {0}
 
 -- the worktree failed at one of some paths
 abbrev pub StopsLook : (List ℕ → Type 0) → Type 0 → StatesError → Type 0

@@ -19,7 +19,7 @@ use worktree_fs::Worktree;
 /// Each path of an index, once and in ascending order, with its state against the worktree, as `git diff-files` compares:
 /// the first of these that fits.
 ///
-/// - `Conflicted`: the path has entries of other stages than 0.
+/// - `Conflicted`: the index has an entry of the path at another stage than 0.
 /// - `Skipped`: its entry is to be skipped or taken as unchanged, or is the directory of a sparse index.
 /// - `Deleted`: nothing is there, or what leads there from the root is not all directories; a link is none.
 /// - `Unchecked` and `TypeChanged`: for a submodule, whether there is a directory; for a link, whether there is one.
@@ -46,6 +46,7 @@ pub fn states<W: Worktree>(
         → IfOk result (λ made. made.items ≡ rows.rows t worktree_root.now index.now) }
     ensures possible { IfOk result (λ made. rows.ArePossible index.now made.items) }
     ensures ascends { IfOk result (λ made. rows.Ascends made.items) }
+    ensures conflicted { IfOk result (λ made. rows.AreConflicted index.now made.items) }
     ensures refused { IfErr result (rows.Refuses (W.told worktree.old) worktree_root.now index.now
         (Increased (W.faults worktree.old) (W.faults worktree.new))) }
     ensures keeps { Asks W.Worktree worktree.old worktree.new }

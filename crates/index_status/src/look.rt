@@ -31,7 +31,7 @@ pub(crate) fn state_at<W: Worktree>(
     ensures state { (t : Names) → W.told worktree.old ≡ Some t
         → IfOk result (λ state. state ≡ states.by_mode entry.now (look t full false)) }
     ensures possible { IfOk result (states.IsSeen entry.now) }
-    ensures refused { IfErr result (ways.StopsAt full
+    ensures refused { IfErr result (ways.StopsLookAt full
         (Increased (W.faults worktree.old) (W.faults worktree.new))) }
     ensures keeps { Asks W.Worktree worktree.old worktree.new }
     ensures unfaulted { OnOk result (W.faults worktree.new ≡ W.faults worktree.old) }
@@ -64,7 +64,7 @@ fn submodule_state<W: Worktree>(
     ensures state { (t : Names) → W.told worktree.old ≡ Some t
         → IfOk result (λ state. state ≡ states.by_submodule (look t full false)) }
     ensures possible { IfOk result states.IsUnread }
-    ensures refused { IfErr result (ways.StopsAt full
+    ensures refused { IfErr result (ways.StopsLookAt full
         (Increased (W.faults worktree.old) (W.faults worktree.new))) }
     ensures keeps { Asks W.Worktree worktree.old worktree.new }
     ensures unfaulted { OnOk result (W.faults worktree.new ≡ W.faults worktree.old) }
@@ -92,7 +92,7 @@ fn link_state<W: Worktree>(
     ensures state { (t : Names) → W.told worktree.old ≡ Some t
         → IfOk result (λ state. state ≡ states.by_link (look t full false)) }
     ensures possible { IfOk result states.IsUnread }
-    ensures refused { IfErr result (ways.StopsAt full
+    ensures refused { IfErr result (ways.StopsLookAt full
         (Increased (W.faults worktree.old) (W.faults worktree.new))) }
     ensures keeps { Asks W.Worktree worktree.old worktree.new }
     ensures unfaulted { OnOk result (W.faults worktree.new ≡ W.faults worktree.old) }
@@ -123,7 +123,7 @@ fn file_state<W: Worktree>(
     ensures state { (t : Names) → W.told worktree.old ≡ Some t
         → IfOk result (λ state. state ≡ states.by_file id.now (look t full false)) }
     ensures possible { IfOk result states.IsRead }
-    ensures refused { IfErr result (ways.StopsAt full
+    ensures refused { IfErr result (ways.StopsLookAt full
         (Increased (W.faults worktree.old) (W.faults worktree.new))) }
     ensures keeps { Asks W.Worktree worktree.old worktree.new }
     ensures unfaulted { OnOk result (W.faults worktree.new ≡ W.faults worktree.old) }

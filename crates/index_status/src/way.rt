@@ -117,7 +117,7 @@ fn is_led<W: Worktree>(
     ensures passes { IfOk result (λ is. is ≡ true → ways.is_bar barred.now full.now ≡ false) }
     ensures is { (t : Names) → W.told worktree.old ≡ Some t
         → IfOk result (λ is. is ≡ is_directory (kind_of (look t full.now false))) }
-    ensures refused { IfErr result (ways.StopsAt full.now
+    ensures refused { IfErr result (ways.StopsLookAt full.now
         (Increased (W.faults worktree.old) (W.faults worktree.new))) }
     ensures keeps { Asks W.Worktree worktree.old worktree.new }
     ensures unfaulted { OnOk result (W.faults worktree.new ≡ W.faults worktree.old) }
@@ -140,7 +140,7 @@ fn is_directory<W: Worktree>(
 ) -> Result<bool, StatesError>
     ensures is { (t : Names) → W.told worktree.old ≡ Some t
         → IfOk result (λ is. is ≡ is_directory (kind_of (look t full.now false))) }
-    ensures refused { IfErr result (ways.StopsAt full.now
+    ensures refused { IfErr result (ways.StopsLookAt full.now
         (Increased (W.faults worktree.old) (W.faults worktree.new))) }
     ensures keeps { Asks W.Worktree worktree.old worktree.new }
     ensures unfaulted { OnOk result (W.faults worktree.new ≡ W.faults worktree.old) }

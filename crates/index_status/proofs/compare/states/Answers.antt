@@ -1,6 +1,7 @@
 use Rattle.std.proofs.Common.{arith, drop, ◌+◌, Option, subst, sym}
 use Rattle.std.proofs.lemmas.List.{drop_all}
 use Rattle.index_status.proofs.Alongside.{along-done, along-entry, along-start, next-left, paired-told, possible-rows}
+use Rattle.index_status.proofs.Conflicts.{conflicted-rows}
 use Rattle.index_status.proofs.Ordered.{ascending-rows}
 use Rattle.gitbase_core.specs.Path.{components}
 use Rattle.worktree_fs.specs.Tree.{Names}
@@ -56,6 +57,14 @@ returns-clause-ascends g c =
     (along-done g.W.Worktree c.args.worktree.now c.loop-entry.worktree c.args.worktree_root.now c.args.index.now
     (drop c.loop-entry.entry-index c.entries-entry-items.result.now) c.loop-entry.made.items c.loop-entry.invariant.0
     (drop_all c.loop-entry.entry-index c.entries-entry-items.result.now c.loop-entry-test.false))
+
+pub returns-clause-conflicted : goal.returns-clause-conflicted
+returns-clause-conflicted g c =
+    conflicted-rows c.args.index.now c.loop-entry.made.items c.entries-entry-items.ensures.index
+    (possible-rows (g.W.Worktree.told c.args.worktree.now) c.args.worktree_root.now c.args.index.now c.loop-entry.made.items
+    (along-done g.W.Worktree c.args.worktree.now c.loop-entry.worktree c.args.worktree_root.now c.args.index.now
+    (drop c.loop-entry.entry-index c.entries-entry-items.result.now) c.loop-entry.made.items c.loop-entry.invariant.0
+    (drop_all c.loop-entry.entry-index c.entries-entry-items.result.now c.loop-entry-test.false)))
 
 pub returns-clause-read : goal.returns-clause-read
 returns-clause-read g c = c.loop-entry.invariant.0.read

@@ -11,4 +11,4 @@ returns-in_err-paths g c =
 pub returns : goal.returns
 returns g c =
     let made = c.in_ok-paths.ensures in
-    record { gives = made.states; possible = made.possible; ascends = made.ascends; beside = refl; reads = made.reads; read = made.read; unfaulted = made.unfaulted; refused = tt; keeps = made.keeps }
+    record { gives = made.states; possible = made.possible; ascends = made.ascends; conflicted = made.conflicted; beside = refl; reads = made.reads; read = made.read; unfaulted = made.unfaulted; refused = tt; keeps = made.keeps }
