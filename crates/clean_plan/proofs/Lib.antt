@@ -8,5 +8,6 @@ mod Planning
 mod Flat
 mod Safely
 mod Made
+mod Preparing
 pub mod Texts
 pub mod Runs

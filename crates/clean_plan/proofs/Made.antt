@@ -1,5 +1,5 @@
 -- What making a plan says at each of its ends.
-use Rattle.std.proofs.Common.{◌≡◌, ℕ, List, [], ◌∷◌, Bool, true, false, ◌||◌, Option, Some, None, Ok, Err, map, refl, sym, ap, subst, ◌∙◌, inl, inr, arith}
+use Rattle.std.proofs.Common.{◌≡◌, ℕ, List, [], ◌∷◌, Bool, true, false, ◌||◌, Option, Some, None, Result, Ok, Err, map, refl, sym, ap, subst, ◌∙◌, inl, inr, arith}
 use Rattle.std.specs.Prelude.{is_none}
 use Rattle.gitbase_core.specs.Path.{lies_beneath}
 use Rattle.gitbase_core.specs.declared.find.Find.{Ghosts as FindOf}
@@ -13,7 +13,6 @@ use Rattle.dir_classify.specs.declared.entry.Entry.{Entry}
 use Rattle.dir_classify.specs.declared.options.EmissionMode.{EmissionMode}
 use Rattle.dir_classify.specs.declared.options.EmissionMode.TheVariants.{Matching, CollapseDirectory}
 use Rattle.dir_classify.specs.Chosen.{collapses, collapses_if}
-use Rattle.dir_classify.specs.Layers.{current_below}
 use Rattle.dir_walk.specs.Covered.{IsIn as IsEmitted}
 use Rattle.dir_walk.specs.Distinct.{AreFlat as IsFlat}
 use Rattle.dir_walk.specs.Emissions.{Emission, path_of}
@@ -23,7 +22,7 @@ use Rattle.worktree_report.specs.declared.known.Known.{Known}
 use Rattle.worktree_report.specs.declared.report.Report.{Report}
 use Rattle.worktree_report.specs.declared.setup.Setup.{Setup}
 use Rattle.worktree_report.specs.declared.setup.SetupOptions.{SetupOptions}
-use Rattle.worktree_report.specs.Asked.{IsReportOf, current_dir_or, described_by, report_of, walked_of}
+use Rattle.worktree_report.specs.Asked.{IsReportOf, described_by, report_of, walked_of}
 use Rattle.worktree_report.specs.Reported.{MakesReport}
 use Rattle.worktree_report.specs.Submodules.{entry_in}
 use Rattle.clean_plan.specs.declared.error.CleanError.{CleanError}
@@ -32,7 +31,7 @@ use Rattle.clean_plan.specs.declared.outcome.Plan.{Plan}
 use Rattle.clean_plan.specs.declared.what.Finding.{Finding}
 use Rattle.clean_plan.specs.declared.what.What.{What}
 use Rattle.clean_plan.specs.Plans.{IsPlan, entries_of}
-use Rattle.clean_plan.specs.Planned.{MakesPlan, asked_of}
+use Rattle.clean_plan.specs.Planned.{AsksAfter, IsPlanBy, MakesPlan, asked_of}
 use Rattle.clean_plan.specs.Prepared.{is_matching, is_matching_if, is_prepared, is_unfolded}
 use Rattle.clean_plan.specs.Refusals.{StopsAsking, of_report}
 use Rattle.clean_plan.specs.Setups.{asked_in, start_of}
@@ -136,19 +135,19 @@ module _ {W F I : Type 0} (w : WorktreeOf W) (f : FindOf F) (i : InterruptOf I) 
         precomposes = asks.precomposes ∙ keeps.precomposes;
       }
 
-  module _ (r : Report) (made : MakesReport w f i w0 wm o0 o1 i0 i1 root setup (Ok r)) (asks : Asks w wm w1) (reads : w.reads w1 ≡ w.reads wm) where
+  module _ (r : Report) (made : MakesReport w f i w0 wm o0 o1 i0 i1 root setup (Ok r)) where
     -- the real path is not known, or memory was refused
-    pub plan-stopped : (e : CleanError) → StopsAsking (Increased (w.faults wm) (w.faults w1)) e → MakesPlan w f i w0 w1 o0 o1 i0 i1 root setup what (Err e)
-    plan-stopped e stops =
+    plan-stopped : (e : CleanError) → AsksAfter w wm w1 root setup what r (Err e) → MakesPlan w f i w0 w1 o0 o1 i0 i1 root setup what (Err e)
+    plan-stopped e after =
         record {
           gives = λ s tells quiet. tt;
           spares = tt;
           made = Ok r;
           between = wm;
           reported = made;
-          ends = record { asks = asks; reads = reads; by_report = tt; refused = stops; unfaulted = tt };
-          complete = λ s tells quiet store_quiet calm valid. memory-alone _ e (λ rose. absurd (omega (arith, rose, quiet, made.worktree.faults))) stops;
-          worktree = keeps-then made.worktree asks;
+          ends = after;
+          complete = λ s tells quiet store_quiet calm valid. memory-alone _ e (λ rose. absurd (omega (arith, rose, quiet, made.worktree.faults))) after.refused;
+          worktree = keeps-then made.worktree after.asks;
           store = made.store;
           interrupt = made.interrupt;
           listed = tt;
@@ -156,12 +155,12 @@ module _ {W F I : Type 0} (w : WorktreeOf W) (f : FindOf F) (i : InterruptOf I) 
         }
 
     -- there is a plan
-    pub plan-made : (finding : Finding) → is_prepared finding setup.options ≡ true → (current : Option (List ℕ))
-        → ((t : Names) → w.told wm ≡ Some t → current ≡ current_below t root (current_dir_or root setup.current_dir)) → w.faults w1 ≡ w.faults wm → (plan : Plan)
-        → IsPlan (asked_in what setup (start_of root r.root) current) (entries_of r.entries) plan.paths.items → MakesPlan w f i w0 w1 o0 o1 i0 i1 root setup what (Ok plan)
-    plan-made finding prepared current is_current unfaulted plan is =
+    plan-made : (finding : Finding) → is_prepared finding setup.options ≡ true → (plan : Plan) → AsksAfter w wm w1 root setup what r (Ok plan) → MakesPlan w f i w0 w1 o0 o1 i0 i1 root setup what (Ok plan)
+    plan-made finding prepared plan after =
+        let by : IsPlanBy (w.told wm) root setup what r plan = after.by_report in
+        let asks : Asks w wm w1 = after.asks in
         let in_tree : (t : Names) → w.told wm ≡ Some t → IsPlan (asked_of what t root setup r) (entries_of r.entries) plan.paths.items =
-        λ t told. subst (λ (c : Option (List ℕ)). IsPlan (asked_in what setup (start_of root r.root) c) (entries_of r.entries) plan.paths.items) (is_current t told) is in
+        λ t told. subst (λ (c : Option (List ℕ)). IsPlan (asked_in what setup (start_of root r.root) c) (entries_of r.entries) plan.paths.items) (by.current_is t told) by.plan_is in
         record {
           gives = λ s tells quiet.
               let of : IsReportOf (w.precomposes w0) s root setup r = made.gives s tells (omega (arith, quiet, asks.faults)) in
@@ -174,11 +173,11 @@ module _ {W F I : Type 0} (w : WorktreeOf W) (f : FindOf F) (i : InterruptOf I) 
                 apart = plan-apart (asked_of what s.tree root setup r) (entries_of r.entries) flat plan.paths.items plan_is;
                 safe = plan-safe (asked_of what s.tree root setup r) (entries_of r.entries) flat plan.paths.items plan_is;
               };
-          spares = plan-spared (asked_in what setup (start_of root r.root) current) (entries_of r.entries) plan.paths.items is;
+          spares = plan-spared (asked_in what setup (start_of root r.root) by.current) (entries_of r.entries) plan.paths.items by.plan_is;
           made = Ok r;
           between = wm;
           reported = made;
-          ends = record { asks = asks; reads = reads; by_report = record { current = current; current_is = is_current; plan_is = is }; refused = tt; unfaulted = unfaulted };
+          ends = after;
           complete = λ s tells quiet store_quiet calm valid. tt;
           worktree = keeps-then made.worktree asks;
           store = made.store;
@@ -186,3 +185,8 @@ module _ {W F I : Type 0} (w : WorktreeOf W) (f : FindOf F) (i : InterruptOf I) 
           listed = asks.list_faults ∙ made.listed;
           calm = made.calm;
         }
+
+    -- there is a report, and it is planned by it
+    pub plan-by : (finding : Finding) → is_prepared finding setup.options ≡ true → (result : Result Plan CleanError) → AsksAfter w wm w1 root setup what r result → MakesPlan w f i w0 w1 o0 o1 i0 i1 root setup what result
+    plan-by finding prepared (Ok plan) after = plan-made finding prepared plan after
+    plan-by finding prepared (Err e) after = plan-stopped e after

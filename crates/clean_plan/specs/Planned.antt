@@ -22,7 +22,7 @@ use Rattle.clean_plan.specs.declared.outcome.Plan.{Plan}
 use Rattle.clean_plan.specs.declared.what.What.{What}
 use Rattle.clean_plan.specs.Asked.{Asked}
 use Rattle.clean_plan.specs.Plans.{IsPlan, entries_of, removable_paths}
-use Rattle.clean_plan.specs.Refusals.{StopsAsking, of_report}
+use Rattle.clean_plan.specs.Refusals.{StopsAsking, UnlessFault, of_report}
 use Rattle.clean_plan.specs.Safe.{AreApart, AreSafe, AreSpared}
 use Rattle.clean_plan.specs.Setups.{asked_in, start_of}
 
@@ -47,17 +47,20 @@ pub record IsPlanBy (told : Option Names) (root : List ℕ) (setup : Setup) (wha
   pub current_is : (t : Names) → told ≡ Some t → current ≡ current_below t root (current_dir_or root setup.current_dir)
   pub plan_is : IsPlan (asked_in what setup (start_of root report.root) current) (entries_of report.entries) plan.paths.items
 
--- After the report was made, or refused, which left the worktree as `between`: a refusal of the report is that of the plan, and
--- nothing was asked after it; else a fault comes only where the worktree counted one there, and a plan is the one by the entries of that
--- report, whatever failed, and hides no fault of what is asked after its report.
-pub record AsksAfter {W : Type 0} (w : WorktreeOf W) (between w1 : W)
+-- The plan by a report that is made, where a worktree was `w0` and is `w1`.
+pub record AsksAfter {W : Type 0} (w : WorktreeOf W) (w0 w1 : W)
     (root : List ℕ) (setup : Setup) (what : What) (report : Report) (result : Result Plan CleanError) : Type 0 where
-  pub asks : Asks w between w1
-  pub reads : w.reads w1 ≡ w.reads between
-  pub by_report : IfOk result (IsPlanBy (w.told between) root setup what report)
-  pub refused : IfErr result (StopsAsking (Increased (w.faults between) (w.faults w1)))
-  pub unfaulted : OnOk result (w.faults w1 ≡ w.faults between)
+  -- Nothing is listed, and no file is read.
+  pub asks : Asks w w0 w1
+  pub reads : w.reads w1 ≡ w.reads w0
+  -- A plan is the one by the entries of that report, whatever failed.
+  pub by_report : IfOk result (IsPlanBy (w.told w0) root setup what report)
+  -- A fault comes only where the worktree counted one, and no other answer hides one.
+  pub refused : IfErr result (StopsAsking (Increased (w.faults w0) (w.faults w1)))
+  pub unfaulted : UnlessFault result (w.faults w1 ≡ w.faults w0)
 
+-- After a report was made, or refused, which left the worktree as `between`: a refusal of the report is that of the plan, and nothing was
+-- asked after it; else it is planned by that report.
 abbrev pub EndsAs : {W : Type 0} → WorktreeOf W → W → W → List ℕ → Setup → What → Result Report ReportError → Result Plan CleanError → Type 0
 EndsAs w between w1 root setup what (Ok r) result = AsksAfter w between w1 root setup what r result
 EndsAs w between w1 root setup what (Err e) result = (result ≡ Err (of_report e)) × (w1 ≡ between)

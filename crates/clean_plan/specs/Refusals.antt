@@ -1,4 +1,5 @@
 -- Why there is no plan.
+use Rattle.std.specs.Prelude.{Result, Ok, Err}
 use Rattle.worktree_report.specs.declared.error.ReportError.{ReportError}
 use Rattle.worktree_report.specs.declared.error.ReportError.TheVariants as report
 use Rattle.clean_plan.specs.declared.error.CleanError.{CleanError}
@@ -18,3 +19,10 @@ abbrev pub StopsAsking : Type 0 → CleanError → Type 0
 StopsAsking Failed (errors.Report e) = ⊥
 StopsAsking Failed errors.Fault = Failed
 StopsAsking Failed errors.OutOfMemory = Unit {0}
+
+-- it holds, unless the worktree is said to have failed
+abbrev pub UnlessFault : {T : Type 0} → Result T CleanError → Type 0 → Type 0
+UnlessFault (Ok answer) Holds = Holds
+UnlessFault (Err (errors.Report e)) Holds = Holds
+UnlessFault (Err errors.Fault) Holds = Unit {0}
+UnlessFault (Err errors.OutOfMemory) Holds = Holds

@@ -1,7 +1,7 @@
 //! The plan of a cleaning, by a setup.
 ghost use Rattle.std.specs.Prelude.{◌≡◌, true, IfOk};
 ghost use Rattle.clean_plan.specs.Plans.{IsPlan, entries_of};
-ghost use Rattle.clean_plan.specs.Planned.{MakesPlan};
+ghost use Rattle.clean_plan.specs.Planned.{AsksAfter, MakesPlan};
 ghost use Rattle.clean_plan.specs.Prepared.{is_prepared};
 ghost use Rattle.clean_plan.specs.Setups.{asked_in, start_of};
 
@@ -16,7 +16,7 @@ use std::alloc::Global;
 use worktree_fs::{Interrupt, Worktree};
 use worktree_report::{Report, Setup, lookup_of, worktree_report};
 
-/// The plan by a report.
+/// The plan by a report and by where the current directory is in the work tree, if it is there.
 fn plan_by(
     alloc: Global,
     root: &[u8],
@@ -42,6 +42,32 @@ fn plan_by(
     Ok(Plan { paths })
 }
 
+/// What may be removed from the work tree at `worktree_root`, by a report that was made of it: what [`plan`] does behind the one that it
+/// makes. The worktree is asked for one real path, that of its root; nothing is listed, and no file is read. Whether a plan is safe to act
+/// on depends on the report: it is by one that the same setup asks for, its options [prepared](crate::prepare).
+///
+/// # Errors
+///
+/// The count of the worktree's faults rises for `Fault` alone.
+///
+/// - `Fault`: the worktree failed when it was asked for the real path of its root, which it counted. It is not asked again.
+/// - `OutOfMemory`: memory was refused.
+pub fn plan_by_report<W: Worktree>(
+    alloc: Global,
+    worktree: &mut W,
+    worktree_root: &[u8],
+    setup: &Setup,
+    what: What,
+    report: &Report,
+) -> Result<Plan, CleanError>
+    ensures { AsksAfter W.Worktree worktree.old worktree.new worktree_root.now setup.now what
+        report.now result }
+{
+    let current_dir = current_dir_of(worktree_root, setup);
+    let current = current_below(alloc, worktree, worktree_root, current_dir)?;
+    Ok(plan_by(alloc, worktree_root, setup, what, report, &current)?)
+}
+
 /// What may be removed from the work tree at `worktree_root`, as `git clean` removes it: whole directories where all in them
 /// may go, and single entries of the report where not. Nothing is removed here.
 ///
@@ -52,9 +78,9 @@ fn plan_by(
 /// path specs take out neither it nor a directory between it and such an entry. Planned is what may go and lies beneath no
 /// directory that does.
 ///
-/// One report is made. Blobs that ignore rules are mapped to are looked up in `objects`. The report's entries are gone over once.
-/// The path specs are asked about each directory above one that may go, but not
-/// again about those that are above the entry before it too. The index is searched for each entry that may go but for its path,
+/// One report is made, and the plan is that of [`plan_by_report`]. Blobs that ignore rules are mapped to are looked up in `objects`.
+/// The report's entries are gone over once. The path specs are asked about each directory above one that may go, but not again about
+/// those that are above the entry before it too. The index is searched for each entry that may go but for its path,
 /// and for each directory above one that may go which no entry is in the way of, until one goes as a whole.
 ///
 /// # Errors
@@ -84,7 +110,5 @@ pub fn plan<W: Worktree, F: Find, I: Interrupt>(
         objects.new interrupt.old interrupt.new worktree_root.now setup.now what result }
 {
     let report = worktree_report(alloc, worktree, objects, interrupt, worktree_root, setup)?;
-    let current_dir = current_dir_of(worktree_root, setup);
-    let current = current_below(alloc, worktree, worktree_root, current_dir)?;
-    Ok(plan_by(alloc, worktree_root, setup, what, &report, &current)?)
+    plan_by_report(alloc, worktree, worktree_root, setup, what, &report)
 }

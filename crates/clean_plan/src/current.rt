@@ -1,12 +1,12 @@
 //! Where the current directory is in a work tree.
-ghost use Rattle.std.specs.Prelude.{◌≡◌, Some, IfOk, IfErr, OnOk, drop, length, option_and_then, option_copied};
+ghost use Rattle.std.specs.Prelude.{◌≡◌, Some, IfOk, IfErr, drop, length, option_and_then, option_copied};
 ghost use Rattle.gitbase_core.specs.Path.{normalized, past_slashes};
 ghost use Rattle.worktree_fs.specs.Causes.{Increased};
 ghost use Rattle.worktree_fs.specs.Kept.{Asks};
 ghost use Rattle.worktree_fs.specs.Tree.{Names};
 ghost use Rattle.dir_classify.specs.Layers.{current_below, rest_behind};
 ghost use Rattle.worktree_report.specs.Asked.{current_dir_or};
-ghost use Rattle.clean_plan.specs.Refusals.{StopsAsking};
+ghost use Rattle.clean_plan.specs.Refusals.{StopsAsking, UnlessFault};
 ghost use Rattle.clean_plan.specs.Setups.{start_of};
 
 use crate::error::CleanError;
@@ -47,7 +47,7 @@ pub(crate) fn current_below<W: Worktree>(
         → IfOk result (λ below. below ≡ current_below t root.now current_dir.now) }
     ensures refused { IfErr result (StopsAsking (Increased (W.faults worktree.old)
         (W.faults worktree.new))) }
-    ensures unfaulted { OnOk result (W.faults worktree.new ≡ W.faults worktree.old) }
+    ensures unfaulted { UnlessFault result (W.faults worktree.new ≡ W.faults worktree.old) }
     ensures keeps { Asks W.Worktree worktree.old worktree.new }
     ensures reads { W.reads worktree.new ≡ W.reads worktree.old }
 {

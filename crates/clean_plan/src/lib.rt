@@ -19,7 +19,7 @@ mod what;
 mod whole;
 mod words;
 
-pub use by_setup::plan;
+pub use by_setup::{plan, plan_by_report};
 pub use error::CleanError;
 pub use outcome::Plan;
 pub use prepared::{is_prepared, prepare};

@@ -1,5 +1,5 @@
 //! The options by which a plan is made.
-ghost use Rattle.std.specs.Prelude.{◌≡◌, true};
+ghost use Rattle.std.specs.Prelude.{◌≡◌, ◌↔◌, true};
 ghost use Rattle.clean_plan.specs.Prepared as prepared;
 
 use crate::what::Finding;
@@ -87,9 +87,11 @@ fn is_for_deletion(options: &SetupOptions, finding: Finding) -> bool
         && !options.recurse_repositories
 }
 
-/// Whether options are prepared for a plan, as [`prepare`] leaves them.
+/// Whether options are prepared for a plan: exactly those are that [`prepare`] leaves as they are.
+#[tactic(auto, using(crate::proofs::Preparing::is_same))]
 pub fn is_prepared(options: &SetupOptions, finding: Finding) -> bool
-    ensures { result ≡ prepared.is_prepared finding options.now }
+    ensures is { result ≡ prepared.is_prepared finding options.now }
+    ensures same { (result ≡ true) ↔ (prepared.prepared finding options.now ≡ options.now) }
 {
     is_unfolded(options)
         && is_open(options)

@@ -1,0 +1,33 @@
+use Rattle.std.proofs.Common.{◌∙◌, ap, refl, ℕ, List}
+use Rattle.std.proofs.lemmas.Result.{err_from_is_err_and}
+use Rattle.dir_classify.specs.Layers.{current_below}
+use Rattle.clean_plan.proofs.by_setup.plan_by_report.Goals as goal
+
+pub returns : goal.returns
+returns g c =
+    let below = c.in_ok-current.ensures in
+    record {
+      asks = below.keeps;
+      reads = below.reads;
+      by_report = record {
+        current = c.in_ok-current.current;
+        current_is = λ t told. below.below t told ∙ ap (λ (cwd : List ℕ). current_below t c.args.worktree_root.now cwd) c.current_dir_of-current_dir.ensures;
+        plan_is = c.in_ok-plan_by.ensures;
+      };
+      refused = tt;
+      unfaulted = below.unfaulted;
+    }
+
+pub returns-in_err-current : goal.returns-in_err-current
+returns-in_err-current g c =
+    let p = err_from_is_err_and c.from_residual.result c.from_residual.ensures.1 in
+    let below = c.in_err-current.ensures in
+    rw (p.1, p.2)
+    (record { asks = below.keeps; reads = below.reads; by_report = tt; refused = below.refused; unfaulted = below.unfaulted })
+
+pub returns-in_err-plan_by : goal.returns-in_err-plan_by
+returns-in_err-plan_by g c =
+    let p = err_from_is_err_and c.from_residual-in_err-plan_by.result c.from_residual-in_err-plan_by.ensures.1 in
+    let below = c.in_ok-current.ensures in
+    rw (p.1, p.2)
+    (record { asks = below.keeps; reads = below.reads; by_report = tt; refused = tt; unfaulted = below.unfaulted })
