@@ -37,6 +37,8 @@ file`/w/a/b/x;file`/w/a/y^spec :(exclude)a/b\n^all nonbare^a/y|\
 file`/w/a/b/x;file`/w/a/y^root a/b\n^all nonbare^a/b|\
 file`/w/r/.git/HEAD`ref: refs/heads/main\n;directory`/w/r/.git/objects;directory`/w/r/.git/refs;file`/w/s^^all nonbare^s|\
 file`/w/d/r/.git/HEAD`ref: refs/heads/main\n;directory`/w/d/r/.git/objects;directory`/w/d/r/.git/refs;file`/w/d/s^^all nonbare^d/s|\
+file`/w/d/r/HEAD`ref: refs/heads/main\n;directory`/w/d/r/objects;directory`/w/d/r/refs;file`/w/d/s^^all nonbare^d|\
+file`/w/d/r/HEAD`ref: refs/heads/main\n;directory`/w/d/r/objects;directory`/w/d/r/refs;file`/w/d/s^^all all^d/s|\
 file`/w/a;last real path fails^^all nonbare^fault|\
 file`/w^^all nonbare^report";
 
