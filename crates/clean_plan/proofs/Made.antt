@@ -5,7 +5,6 @@ use Rattle.gitbase_core.specs.Path.{lies_beneath}
 use Rattle.gitbase_core.specs.declared.find.Find.{Ghosts as FindOf}
 use Rattle.worktree_fs.specs.declared.interrupt.Interrupt.{Ghosts as InterruptOf}
 use Rattle.worktree_fs.specs.declared.worktree.Worktree.{Ghosts as WorktreeOf}
-use Rattle.worktree_fs.specs.Causes.{Increased}
 use Rattle.worktree_fs.specs.Kept.{Asks}
 use Rattle.worktree_fs.specs.Tree.{Names}
 use Rattle.worktree_stack.specs.Reading.{Sources}

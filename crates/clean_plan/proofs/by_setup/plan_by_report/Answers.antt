@@ -1,4 +1,4 @@
-use Rattle.std.proofs.Common.{◌∙◌, ap, refl, ℕ, List}
+use Rattle.std.proofs.Common.{◌∙◌, ap, ℕ, List}
 use Rattle.std.proofs.lemmas.Result.{err_from_is_err_and}
 use Rattle.dir_classify.specs.Layers.{current_below}
 use Rattle.clean_plan.proofs.by_setup.plan_by_report.Goals as goal
