@@ -38,9 +38,6 @@ or_second false b e = e
 same-from_eq : (a b : List ℕ) → bytes_eq a b ≡ true → a ≡ b
 same-from_eq a b e = same_text a b (sym e)
 
-pub planned-first : (test : List ℕ → Bool) → ArePlanned test [] []
-planned-first test = record { from = λ target there. absurd (cc there); each = λ path there. absurd (cc there) }
-
 pub planned-more : (test : List ℕ → Bool) (done targets now : List (List ℕ)) (path target : List ℕ) → ArePlanned test done targets → IsTarget test path target
     → ((other : List ℕ) → is_among other now ≡ (bytes_eq other target || is_among other targets)) → ArePlanned test (done ++ path ∷ []) now
 planned-more test done targets now path target so is grown =

@@ -43,10 +43,10 @@ AreSeen told seen =
     (t : Names) → told ≡ Some t → AllByRecursion (λ (one : List ℕ × Option NodeKind). one.1 ≡ kind_of (look t one.0 false)) seen
 
 -- why what stands at a path was not learnt: the worktree failed there
-abbrev pub StopsAt : List ℕ → Type 0 → ModuleError → Type 0
-StopsAt full Rose (errors.ActiveSpec value) = ⊥
-StopsAt full Rose (errors.Fault path) = Rose × (path ≡ full)
-StopsAt full Rose errors.OutOfMemory = Unit {0}
+abbrev pub StopsLookAt : List ℕ → Type 0 → ModuleError → Type 0
+StopsLookAt full Rose (errors.ActiveSpec value) = ⊥
+StopsLookAt full Rose (errors.Fault path) = Rose × (path ≡ full)
+StopsLookAt full Rose errors.OutOfMemory = Unit {0}
 
 -- the worktree failed at one of some paths
 abbrev pub StopsLook : (List ℕ → Type 0) → Type 0 → ModuleError → Type 0

@@ -63,7 +63,7 @@ fn seen_kind<W: Worktree>(
     ensures kind { (t : Names) → W.told worktree.old ≡ Some t
         → IfOk result (λ kind. kind ≡ kind_of (look t full.now false)) }
     ensures seen { OnOk result (ways.AreSeen (W.told worktree.old) seen.new) }
-    ensures refused { IfErr result (ways.StopsAt full.now
+    ensures refused { IfErr result (ways.StopsLookAt full.now
         (Increased (W.faults worktree.old) (W.faults worktree.new))) }
     ensures keeps { Asks W.Worktree worktree.old worktree.new }
     ensures unfaulted { OnOk result (W.faults worktree.new ≡ W.faults worktree.old) }
@@ -85,7 +85,7 @@ fn kind_at<W: Worktree>(
 ) -> Result<Option<NodeKind>, ModuleError>
     ensures kind { (t : Names) → W.told worktree.old ≡ Some t
         → IfOk result (λ kind. kind ≡ kind_of (look t full.now false)) }
-    ensures refused { IfErr result (ways.StopsAt full.now
+    ensures refused { IfErr result (ways.StopsLookAt full.now
         (Increased (W.faults worktree.old) (W.faults worktree.new))) }
     ensures keeps { Asks W.Worktree worktree.old worktree.new }
     ensures unfaulted { OnOk result (W.faults worktree.new ≡ W.faults worktree.old) }

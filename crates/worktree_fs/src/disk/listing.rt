@@ -1,11 +1,11 @@
 //! The names of a directory of the system.
-ghost use Rattle.std.specs.Prelude.{◌≡◌, ◌⊎◌, ◌↔◌, ◌≤◌, ◌<◌, ◌++◌, ◌∷◌, [], length, Some, None, if◌then◌else◌, IfOk, IfErr, OnOk, IfNone, IfSome, MatchOption, All, IsTrue, false, IsErrOf, IsPermutation, bytes_eq, string_bytes};
+ghost use Rattle.std.specs.Prelude.{◌≡◌, ◌⊎◌, ◌↔◌, ◌≤◌, ◌<◌, ◌++◌, ◌∷◌, [], length, Some, None, if◌then◌else◌, IfOk, IfErr, OnOk, IfSome, MatchOption, All, IsTrue, false, IsErrOf, IsPermutation, bytes_eq, string_bytes};
 ghost use Rattle.std.specs.Io.KnownBytes.{IsAtEnd};
 ghost use Rattle.std.specs.List.{IsDistinct};
 ghost use Rattle.std.specs.declared.cmp.Ordering.TheVariants.{Less};
 ghost use Rattle.std.specs.List.Sorted.{IsStrictlySortedBy};
 ghost use Rattle.worktree_fs.specs.Composed.{as_kept};
-ghost use Rattle.worktree_fs.specs.Disk.{has_nul, is_unaskable, IsGiven, AreListed, kept_names, names_between, given_names, opened_path, GivesNames, IsAbsence};
+ghost use Rattle.worktree_fs.specs.Disk.{has_nul, is_unaskable, IsGiven, AreListed, kept_names, given_names, opened_path, GivesNames, IsAbsence};
 ghost use Rattle.worktree_fs.specs.Naming.{AreNames, is_name};
 ghost use Rattle.worktree_fs.specs.Order.{path_cmp};
 
