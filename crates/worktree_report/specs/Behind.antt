@@ -36,7 +36,7 @@ RefusesText w i composes w0 w1 i0 i1 root setup most refusal =
 
 -- ---- at some places
 
--- one file was read, and nothing else was asked of the worktree
+-- one file was read, and nothing was listed, made or removed; looks are not counted
 pub record ReadsOne {W : Type 0} (w : WorktreeOf W) (before now : W) : Type 0 where
   pub tree : w.told now ≡ w.told before
   pub faults : w.faults before ≤ w.faults now
@@ -45,8 +45,8 @@ pub record ReadsOne {W : Type 0} (w : WorktreeOf W) (before now : W) : Type 0 wh
   pub lists : w.lists now ≡ w.lists before
   pub precomposes : w.precomposes now ≡ w.precomposes before
 
--- The setup was read once, and nothing else was asked for before; no fault of that is hidden; and then `Then` holds of it and of the
--- worktree as it was by then. Where the tree is told the setup is the one that was read in it.
+-- The setup was read once, before any other file and before anything was listed; no fault of that is hidden; and then `Then` holds of it
+-- and of the worktree as it was by then. Where the tree is told the setup is the one that was read in it.
 pub record BySetup {W : Type 0} (w : WorktreeOf W) (w0 : W) (places : Places) (Then : Setup → W → Type 0) : Type 0 where
   pub setup : Setup
   pub read : (t : Names) → w.told w0 ≡ Some t → setup_at (look t places.setup true) ≡ Ok setup
@@ -55,7 +55,8 @@ pub record BySetup {W : Type 0} (w : WorktreeOf W) (w0 : W) (places : Places) (T
   pub unfaulted : w.faults loaded ≡ w.faults w0
   pub made : Then setup loaded
 
--- A text, or why there is none, comes by the setup that was read; or a refusal as that was read, and nothing else was asked for.
+-- A text, or why there is none, comes by the setup that was read; or a refusal as that was read, where no other file was read, nothing was
+-- listed, and the interrupt was not asked.
 abbrev pub InOrder : {W I : Type 0} → WorktreeOf W → W → W → I → I → Places → (Setup → W → Type 0) → Result (List ℕ) Refusal → Type 0
 InOrder w w0 w1 i0 i1 places Then (Ok text) = BySetup w w0 places Then
 InOrder w w0 w1 i0 i1 places Then (Err refusal) = (IsOfReading refusal × ReadsOne w w0 w1 × (i1 ≡ i0)) ⊎ BySetup w w0 places Then
