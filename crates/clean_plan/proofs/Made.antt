@@ -37,7 +37,7 @@ use Rattle.clean_plan.specs.Setups.{asked_in, start_of}
 use Rattle.clean_plan.proofs.Directories.{and_both}
 use Rattle.clean_plan.proofs.Flat.{flat-in, once-in}
 use Rattle.clean_plan.proofs.Planning.{IsIn}
-use Rattle.clean_plan.proofs.Safely.{AreFlat, plan-apart, plan-safe, plan-spared}
+use Rattle.clean_plan.proofs.Safely.{AreFlat, plan-apart, plan-safe}
 
 -- ---- the report
 
@@ -110,7 +110,6 @@ module _ {W F I : Type 0} (w : WorktreeOf W) (f : FindOf F) (i : InterruptOf I) 
   plan-refused e made =
       record {
         gives = λ s tells quiet. tt;
-        spares = tt;
         made = Err e;
         between = w1;
         reported = made;
@@ -140,7 +139,6 @@ module _ {W F I : Type 0} (w : WorktreeOf W) (f : FindOf F) (i : InterruptOf I) 
     plan-stopped e after =
         record {
           gives = λ s tells quiet. tt;
-          spares = tt;
           made = Ok r;
           between = wm;
           reported = made;
@@ -172,7 +170,6 @@ module _ {W F I : Type 0} (w : WorktreeOf W) (f : FindOf F) (i : InterruptOf I) 
                 apart = plan-apart (asked_of what s.tree root setup r) (entries_of r.entries) flat plan.paths.items plan_is;
                 safe = plan-safe (asked_of what s.tree root setup r) (entries_of r.entries) flat plan.paths.items plan_is;
               };
-          spares = plan-spared (asked_in what setup (start_of root r.root) by.current) (entries_of r.entries) plan.paths.items by.plan_is;
           made = Ok r;
           between = wm;
           reported = made;

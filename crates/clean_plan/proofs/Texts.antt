@@ -27,24 +27,23 @@ use Rattle.clean_plan.specs.declared.outcome.Plan.{Plan}
 use Rattle.clean_plan.specs.declared.what.What.{What}
 use Rattle.clean_plan.specs.Planned.{EndsAs, IsPlanBy, MakesPlan}
 use Rattle.clean_plan.specs.Refusals.{of_report}
-use Rattle.clean_plan.specs.Safe.{AreSpared}
 use Rattle.clean_plan.specs.Run as top
 
 module _ {W F I : Type 0} {w : WorktreeOf W} {f : FindOf F} {i : InterruptOf I} {w0 : W} {o0 o1 : F} {i0 i1 : I} {root : List ℕ} {setup : Setup} where
   -- the text is that of a plan by the report that was made
   by-report : (what : What) (made : Result Report ReportError) (between w1 : W) (plan : Plan) (text : List ℕ) → MakesReport w f i w0 between o0 o1 i0 i1 root setup made
-      → EndsAs w between w1 root setup what made (Ok plan) → AreSpared setup.options.ignore_case setup.index plan.paths.items → text ≡ top.plan_text plan.paths.items
+      → EndsAs w between w1 root setup what made (Ok plan) → text ≡ top.plan_text plan.paths.items
       → top.IsTextByReport (w.precomposes w0) (w.told w0) root setup what text
-  by-report what (Ok r) between w1 plan text reported ends spared lines =
+  by-report what (Ok r) between w1 plan text reported ends lines =
       record {
         report = r;
         orderly = reported.orderly;
         plan = plan;
         plan_is = subst (λ (told : Option Names). IsPlanBy told root setup what r plan) reported.worktree.tree ends.by_report;
-        spared = spared;
+        spared = ends.spares;
         text_is = lines;
       }
-  by-report what (Err e) between w1 plan text reported ends spared lines = absurd (let is = ends.0 in cc)
+  by-report what (Err e) between w1 plan text reported ends lines = absurd (let is = ends.0 in cc)
 
 -- what did not rise later on did not rise before
 quiet_before : (before middle now : ℕ) → middle ≤ now → NotIncreased before now → NotIncreased before middle
@@ -114,7 +113,7 @@ module _ {W F I : Type 0} {w : WorktreeOf W} {f : FindOf F} {i : InterruptOf I} 
   PlanTexts-ok plan text made held lines =
       record {
         gives = λ t told quiet. record { plan = plan; plan_is = made.gives (read_in t setup) (told-blobs setup held told) quiet; text_is = lines };
-        by_report = by-report what made.made made.between w1 plan text made.reported made.ends made.spares lines;
+        by_report = by-report what made.made made.between w1 plan text made.reported made.ends lines;
         works = λ t told quiet. works-by what made.made made.between w1 plan made.reported made.ends held t told quiet;
         opens = λ t told quiet. opens-by what made.made made.between w1 plan made.reported made.ends held t told quiet;
         lists = lists-by what made.made made.between w1 (Ok plan) made.reported made.ends;

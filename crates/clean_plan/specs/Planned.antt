@@ -55,6 +55,8 @@ pub record AsksAfter {W : Type 0} (w : WorktreeOf W) (w0 w1 : W)
   pub reads : w.reads w1 ≡ w.reads w0
   -- A plan is the one by the entries of that report, whatever failed.
   pub by_report : IfOk result (IsPlanBy (w.told w0) root setup what report)
+  -- Over any worktree and by any report the paths ascend strictly, and none has an index entry at it or beneath it.
+  pub spares : IfOk result (λ plan. AreSpared setup.options.ignore_case setup.index plan.paths.items)
   -- A fault comes only where the worktree counted one, and no other answer hides one.
   pub refused : IfErr result (StopsAsking (Increased (w.faults w0) (w.faults w1)))
   pub unfaulted : UnlessFault result (w.faults w1 ≡ w.faults w0)
@@ -72,8 +74,6 @@ pub record MakesPlan {W F I : Type 0} (w : WorktreeOf W) (f : FindOf F) (i : Int
   -- Over a told tree and a store that tells what it holds, and without a fault, it is exactly the one that the setup asks for.
   pub gives : (s : Sources) → TellsIf (w.told w0) (f.holds o0) (excludes_of root setup) s → NotIncreased (w.faults w0) (w.faults w1)
       → IfOk result (IsPlanAt (w.precomposes w0) s root setup what)
-  -- Over any worktree the paths ascend strictly, and none has an index entry at it or beneath it.
-  pub spares : IfOk result (λ plan. AreSpared setup.options.ignore_case setup.index plan.paths.items)
   -- One report is made, and all that its making says holds of it; the plan comes of it.
   pub made : Result Report ReportError
   pub between : W

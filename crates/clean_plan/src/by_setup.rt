@@ -43,8 +43,9 @@ fn plan_by(
 }
 
 /// What may be removed from the work tree at `worktree_root`, by a report that was made of it: what [`plan`] does behind the one that it
-/// makes. The worktree is asked for one real path, that of its root; nothing is listed, and no file is read. Whether a plan is safe to act
-/// on depends on the report: it is by one that the same setup asks for, its options [prepared](crate::prepare).
+/// makes. The worktree is asked for one real path, that of its root; nothing is listed, and no file is read. By whatever report, no
+/// planned path is that of the root, has a component `.git`, or has an index entry at it or beneath it. Whether a plan is safe to act on
+/// depends on the report: it is by one that the same setup asks for, its options [prepared](crate::prepare).
 ///
 /// # Errors
 ///
@@ -52,6 +53,8 @@ fn plan_by(
 ///
 /// - `Fault`: the worktree failed when it was asked for the real path of its root, which it counted. It is not asked again.
 /// - `OutOfMemory`: memory was refused.
+///
+/// See docs/DECISIONS.md#plan-by-report.
 pub fn plan_by_report<W: Worktree>(
     alloc: Global,
     worktree: &mut W,

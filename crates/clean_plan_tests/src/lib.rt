@@ -3,6 +3,8 @@
 #![tactic(auto)]
 
 #[cfg(test)]
+mod by_report;
+#[cfg(test)]
 mod plans;
 #[cfg(test)]
 mod prepared;

@@ -71,7 +71,7 @@ fn plan_is(plan: &Plan, want: &[u8]) -> bool {
     plan.paths.len() <= at
 }
 
-fn answer_is(answer: &Result<Plan, CleanError>, want: &[u8]) -> bool {
+pub fn answer_is(answer: &Result<Plan, CleanError>, want: &[u8]) -> bool {
     match answer {
         Ok(plan) => plan_is(plan, want),
         Err(CleanError::Report(_)) => want == b"report".as_slice(),
@@ -80,7 +80,7 @@ fn answer_is(answer: &Result<Plan, CleanError>, want: &[u8]) -> bool {
     }
 }
 
-fn setup_of(alloc: Global, lines: &[u8], finding: Finding) -> Option<Setup> {
+pub fn setup_of(alloc: Global, lines: &[u8], finding: Finding) -> Option<Setup> {
     let mut setup = Setup::parse(alloc, lines).ok()?;
     prepare(&mut setup.options, finding);
     Some(setup)

@@ -1,5 +1,5 @@
 -- Rows entry by entry.
-use Rattle.std.proofs.Common.{rules, arith, suc, ◌+◌, ◌-◌, ◌<◌, ◌≤◌, length, drop, drop-cons, get_or, ◌≡◌, ℕ, List, [], ◌∷◌, ◌++◌, Bool, true, false, map, Option, Some, refl, sym, ap, ◌∙◌, subst, append_assoc}
+use Rattle.std.proofs.Common.{rules, arith, suc, ◌+◌, ◌-◌, ◌<◌, ◌≤◌, length, drop, drop-cons, get_or, ◌≡◌, ℕ, List, [], ◌∷◌, ◌++◌, Bool, true, false, map, Option, Some, refl, sym, ap, ◌∙◌, subst, append_assoc, Err}
 use Rattle.std.specs.Prelude.{if◌then◌else◌, option_map, slice_get}
 use Rattle.std.specs.Bool.{MatchBool}
 use Rattle.std.specs.List.{Contains}
@@ -15,7 +15,7 @@ use Rattle.index_status.specs.declared.error.StatesError.TheVariants as errors
 use Rattle.index_status.specs.declared.path_state.PathState.{PathState}
 use Rattle.index_status.specs.Rows.{ArePaired, ArePossible, IsMore, IsWithEntry, ReadsFor, Refuses, Row, files_behind, firsts, firsts_after, is_last, is_path, last_path, path_of, row}
 use Rattle.index_status.specs.States.{files_for, files_in, files_of, IsAskedBy, IsPossible, IsState}
-use Rattle.index_status.specs.Ways.{StopsLook}
+use Rattle.index_status.specs.Ways.{StopsLook, UnlessFault}
 
 paired-snoc : (Has : IndexEntry → PathState → Type 0) (entries : List IndexEntry) (made : List Row) (e : IndexEntry) (s : PathState) → ArePaired Has entries made → Has e s
     → ArePaired Has (entries ++ e ∷ []) (made ++ (e.path, s) ∷ [])
@@ -139,6 +139,11 @@ module _ {W : Type 0} (w : WorktreeOf W) (w0 w1 w2 : W) (root : List ℕ) (entri
     },
   )
   along-stops Rose Rose' errors.OutOfMemory more h = tt
+
+-- what want of memory says, it says later too
+pub unless-later : (Then Later : Type 0) (error : StatesError) → (Then → Later) → UnlessFault {T = ℕ} (Err error) Then → UnlessFault {T = ℕ} (Err error) Later
+unless-later Then Later (errors.Fault path) more h = tt
+unless-later Then Later errors.OutOfMemory more h = more h
 
 module _ (told : Option Names) (root : List ℕ) (entries : List IndexEntry) (made : List Row) (paired : ArePaired (IsState told root) (firsts entries) made) where
   pub possible-rows : ArePossible entries made

@@ -1,5 +1,5 @@
 -- The way from a root to a path below it.
-use Rattle.std.specs.Prelude.{◌≡◌, ◌⊎◌, ℕ, List, [], ◌∷◌, Bool, true, false, bytes_eq, Option, Some, None, if◌then◌else◌}
+use Rattle.std.specs.Prelude.{◌≡◌, ◌⊎◌, ℕ, List, [], ◌∷◌, Bool, true, false, bytes_eq, Option, Some, None, Result, Ok, Err, if◌then◌else◌}
 use Rattle.gitbase_core.specs.Path.{joined}
 use Rattle.worktree_fs.specs.Answers.{kind_of}
 use Rattle.worktree_fs.specs.Tree.{Names, look}
@@ -67,3 +67,9 @@ StopsLookAt full Rose errors.OutOfMemory = Unit {0}
 abbrev pub StopsLook : (List ℕ → Type 0) → Type 0 → StatesError → Type 0
 StopsLook IsOne Rose (errors.Fault path) = Rose × IsOne path
 StopsLook IsOne Rose errors.OutOfMemory = Unit {0}
+
+-- it holds, unless the worktree is said to have failed
+abbrev pub UnlessFault : {T : Type 0} → Result T StatesError → Type 0 → Type 0
+UnlessFault (Ok answer) Holds = Holds
+UnlessFault (Err (errors.Fault path)) Holds = Unit {0}
+UnlessFault (Err errors.OutOfMemory) Holds = Holds

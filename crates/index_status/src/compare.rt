@@ -1,5 +1,5 @@
 //! The state of each index path.
-ghost use Rattle.std.specs.Prelude.{◌≡◌, ◌≤◌, ◌+◌, false, Some, IfOk, IfErr, OnOk};
+ghost use Rattle.std.specs.Prelude.{◌≡◌, ◌≤◌, ◌+◌, false, Some, IfOk, IfErr};
 ghost use Rattle.gitbase_core.specs.Path.{components};
 ghost use Rattle.worktree_fs.specs.Causes.{Increased, with_more};
 ghost use Rattle.worktree_fs.specs.Kept.{Asks};
@@ -30,6 +30,8 @@ use worktree_fs::Worktree;
 ///
 /// # Errors
 ///
+/// The count of the worktree's faults rises for `Fault` alone.
+///
 /// - `Fault`: the worktree failed at this path, which it counted. It is on the way to that of an entry whose state is neither
 ///   `Conflicted` nor `Skipped`, or there, and over a told tree everything before it on that way is a directory.
 /// - `OutOfMemory`: memory was refused.
@@ -50,7 +52,7 @@ pub fn states<W: Worktree>(
     ensures refused { IfErr result (rows.Refuses (W.told worktree.old) worktree_root.now index.now
         (Increased (W.faults worktree.old) (W.faults worktree.new))) }
     ensures keeps { Asks W.Worktree worktree.old worktree.new }
-    ensures unfaulted { OnOk result (W.faults worktree.new ≡ W.faults worktree.old) }
+    ensures unfaulted { ways.UnlessFault result (W.faults worktree.new ≡ W.faults worktree.old) }
     ensures reads { W.reads worktree.new ≤ W.reads worktree.old + states.files_in index.now }
     ensures read { IfOk result (λ made. with_more (W.reads worktree.old)
         (rows.files_behind made.items) ≤ W.reads worktree.new) }
@@ -87,7 +89,7 @@ fn with_entry<'a, W: Worktree>(
         (states.IsAskedBy (W.told worktree.old) root.now entry.now)
         (Increased (W.faults worktree.old) (W.faults worktree.new))) }
     ensures keeps { Asks W.Worktree worktree.old worktree.new }
-    ensures unfaulted { OnOk result (W.faults worktree.new ≡ W.faults worktree.old) }
+    ensures unfaulted { ways.UnlessFault result (W.faults worktree.new ≡ W.faults worktree.old) }
     ensures reads { W.reads worktree.new ≤ W.reads worktree.old + states.files_of entry.now }
     ensures read { IfOk result (λ more. rows.ReadsFor (W.reads worktree.old)
         (W.reads worktree.new) made.items more.0.items) }
@@ -141,7 +143,7 @@ fn state_of<'a, W: Worktree>(
         (states.IsAskedBy (W.told worktree.old) root.now entry.now)
         (Increased (W.faults worktree.old) (W.faults worktree.new))) }
     ensures keeps { Asks W.Worktree worktree.old worktree.new }
-    ensures unfaulted { OnOk result (W.faults worktree.new ≡ W.faults worktree.old) }
+    ensures unfaulted { ways.UnlessFault result (W.faults worktree.new ≡ W.faults worktree.old) }
     ensures reads { W.reads worktree.new ≤ W.reads worktree.old + states.files_of entry.now }
     ensures read { IfOk result (λ found. with_more (W.reads worktree.old)
         (states.files_for found.0) ≤ W.reads worktree.new) }

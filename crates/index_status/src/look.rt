@@ -1,5 +1,5 @@
 //! What stands at an index path, against what the index has.
-ghost use Rattle.std.specs.Prelude.{◌≡◌, ◌≤◌, ◌+◌, false, Some, IfOk, IfErr, OnOk};
+ghost use Rattle.std.specs.Prelude.{◌≡◌, ◌≤◌, ◌+◌, false, Some, IfOk, IfErr};
 ghost use Rattle.worktree_fs.specs.Causes.{Increased, with_more};
 ghost use Rattle.worktree_fs.specs.Kept.{Asks};
 ghost use Rattle.worktree_fs.specs.Tree.{Names, look};
@@ -34,7 +34,7 @@ pub(crate) fn state_at<W: Worktree>(
     ensures refused { IfErr result (ways.StopsLookAt full
         (Increased (W.faults worktree.old) (W.faults worktree.new))) }
     ensures keeps { Asks W.Worktree worktree.old worktree.new }
-    ensures unfaulted { OnOk result (W.faults worktree.new ≡ W.faults worktree.old) }
+    ensures unfaulted { ways.UnlessFault result (W.faults worktree.new ≡ W.faults worktree.old) }
     ensures reads { W.reads worktree.new ≤ W.reads worktree.old + states.files_at_end entry.now }
     ensures read { IfOk result (λ state. with_more (W.reads worktree.old) (states.files_for state)
         ≤ W.reads worktree.new) }
@@ -67,7 +67,7 @@ fn submodule_state<W: Worktree>(
     ensures refused { IfErr result (ways.StopsLookAt full
         (Increased (W.faults worktree.old) (W.faults worktree.new))) }
     ensures keeps { Asks W.Worktree worktree.old worktree.new }
-    ensures unfaulted { OnOk result (W.faults worktree.new ≡ W.faults worktree.old) }
+    ensures unfaulted { ways.UnlessFault result (W.faults worktree.new ≡ W.faults worktree.old) }
     ensures reads { W.reads worktree.new ≡ W.reads worktree.old }
     ensures read { IfOk result (λ state. with_more (W.reads worktree.old) (states.files_for state)
         ≤ W.reads worktree.new) }
@@ -95,7 +95,7 @@ fn link_state<W: Worktree>(
     ensures refused { IfErr result (ways.StopsLookAt full
         (Increased (W.faults worktree.old) (W.faults worktree.new))) }
     ensures keeps { Asks W.Worktree worktree.old worktree.new }
-    ensures unfaulted { OnOk result (W.faults worktree.new ≡ W.faults worktree.old) }
+    ensures unfaulted { ways.UnlessFault result (W.faults worktree.new ≡ W.faults worktree.old) }
     ensures reads { W.reads worktree.new ≡ W.reads worktree.old }
     ensures read { IfOk result (λ state. with_more (W.reads worktree.old) (states.files_for state)
         ≤ W.reads worktree.new) }
@@ -126,7 +126,7 @@ fn file_state<W: Worktree>(
     ensures refused { IfErr result (ways.StopsLookAt full
         (Increased (W.faults worktree.old) (W.faults worktree.new))) }
     ensures keeps { Asks W.Worktree worktree.old worktree.new }
-    ensures unfaulted { OnOk result (W.faults worktree.new ≡ W.faults worktree.old) }
+    ensures unfaulted { ways.UnlessFault result (W.faults worktree.new ≡ W.faults worktree.old) }
     ensures reads { W.reads worktree.new ≤ W.reads worktree.old + 1 }
     ensures read { IfOk result (λ state. with_more (W.reads worktree.old) (states.files_for state)
         ≤ W.reads worktree.new) }

@@ -1,7 +1,7 @@
 //! The way from the root to an index path.
-ghost use Rattle.std.specs.Prelude.{◌≡◌, false, true, Some, IfOk, IfErr, IfSome, OnOk};
+ghost use Rattle.std.specs.Prelude.{◌≡◌, false, true, Some, IfOk, IfErr, IfSome, IsErrOf};
 ghost use Rattle.gitbase_core.specs.Path.{components};
-ghost use Rattle.worktree_fs.specs.Answers.{kind_of};
+ghost use Rattle.worktree_fs.specs.Answers.{kind_of, UnlessFault};
 ghost use Rattle.worktree_fs.specs.Causes.{Increased};
 ghost use Rattle.worktree_fs.specs.Kept.{Asks};
 ghost use Rattle.worktree_fs.specs.Tree.{Names, look};
@@ -52,7 +52,7 @@ pub(crate) fn way_to<W: Worktree>(
         (IsLookedAt (W.told worktree.old) root.now (components path.now))
         (Increased (W.faults worktree.old) (W.faults worktree.new))) }
     ensures keeps { Asks W.Worktree worktree.old worktree.new }
-    ensures unfaulted { OnOk result (W.faults worktree.new ≡ W.faults worktree.old) }
+    ensures unfaulted { ways.UnlessFault result (W.faults worktree.new ≡ W.faults worktree.old) }
     ensures reads { W.reads worktree.new ≡ W.reads worktree.old }
 {
     let mut full = PathText::from_bytes(alloc, root)?;
@@ -65,10 +65,12 @@ pub(crate) fn way_to<W: Worktree>(
     for next in names {
         full.push_component(alloc, name)?;
         left = behind(left, name);
-        if !is_led(alloc, worktree, &known.barred, &full, left)? {
-            return Ok(Way::Barred(full));
+        match is_led(alloc, worktree, &known.barred, &full, left) {
+            Ok(true) => name = next,
+            Ok(false) => return Ok(Way::Barred(full)),
+            Err(ReadError::Fault) => return Err(StatesError::Fault { path: full }),
+            Err(ReadError::OutOfMemory) => return Err(StatesError::OutOfMemory),
         }
-        name = next;
     }
     full.push_component(alloc, name)?;
     Ok(Way::Open(full))
@@ -109,7 +111,7 @@ fn is_led<W: Worktree>(
     barred: &Option<PathText>,
     full: &PathText,
     left: &[u8],
-) -> Result<bool, StatesError>
+) -> Result<bool, ReadError>
     requires bar { ways.IsBar (W.told worktree.old) barred.now }
     requires known { ways.is_bar barred.now full.now ≡ false
         → ways.has_names (components left.now) ≡ true
@@ -117,10 +119,10 @@ fn is_led<W: Worktree>(
     ensures passes { IfOk result (λ is. is ≡ true → ways.is_bar barred.now full.now ≡ false) }
     ensures is { (t : Names) → W.told worktree.old ≡ Some t
         → IfOk result (λ is. is ≡ is_directory (kind_of (look t full.now false))) }
-    ensures refused { IfErr result (ways.StopsLookAt full.now
-        (Increased (W.faults worktree.old) (W.faults worktree.new))) }
+    ensures cause { IsErrOf result ReadError.Fault
+        → Increased (W.faults worktree.old) (W.faults worktree.new) }
     ensures keeps { Asks W.Worktree worktree.old worktree.new }
-    ensures unfaulted { OnOk result (W.faults worktree.new ≡ W.faults worktree.old) }
+    ensures unfaulted { UnlessFault result (W.faults worktree.new ≡ W.faults worktree.old) }
     ensures reads { W.reads worktree.new ≡ W.reads worktree.old }
 {
     if is_bar(barred, full) {
@@ -137,20 +139,16 @@ fn is_directory<W: Worktree>(
     alloc: Global,
     worktree: &mut W,
     full: &PathText,
-) -> Result<bool, StatesError>
+) -> Result<bool, ReadError>
     ensures is { (t : Names) → W.told worktree.old ≡ Some t
         → IfOk result (λ is. is ≡ is_directory (kind_of (look t full.now false))) }
-    ensures refused { IfErr result (ways.StopsLookAt full.now
-        (Increased (W.faults worktree.old) (W.faults worktree.new))) }
+    ensures cause { IsErrOf result ReadError.Fault
+        → Increased (W.faults worktree.old) (W.faults worktree.new) }
     ensures keeps { Asks W.Worktree worktree.old worktree.new }
-    ensures unfaulted { OnOk result (W.faults worktree.new ≡ W.faults worktree.old) }
+    ensures unfaulted { UnlessFault result (W.faults worktree.new ≡ W.faults worktree.old) }
     ensures reads { W.reads worktree.new ≡ W.reads worktree.old }
 {
-    match worktree.kind(alloc, full.as_bytes()) {
-        Ok(kind) => Ok(is_directory_kind(kind)),
-        Err(ReadError::Fault) => Err(fault_at(alloc, full)?),
-        Err(ReadError::OutOfMemory) => Err(StatesError::OutOfMemory),
-    }
+    Ok(is_directory_kind(worktree.kind(alloc, full.as_bytes())?))
 }
 
 fn is_directory_kind(kind: Option<NodeKind>) -> bool
@@ -163,14 +161,4 @@ fn is_directory_kind(kind: Option<NodeKind>) -> bool
         Some(NodeKind::Untrackable) => false,
         None => false,
     }
-}
-
-/// The refusal that names a path.
-fn fault_at(alloc: Global, full: &PathText) -> Result<StatesError, StatesError>
-    ensures fault { IfOk result (λ error. error ≡ StatesError.Fault full.now) }
-    ensures refused { IfErr result (λ error. error ≡ StatesError.OutOfMemory) }
-{
-    Ok(StatesError::Fault {
-        path: PathText::from_bytes(alloc, full.as_bytes())?,
-    })
 }

@@ -18,7 +18,7 @@ use Rattle.module_plan.specs.declared.wanted.Wanted.{Wanted}
 use Rattle.module_plan.specs.Judged.{Adds, AreJudged, Holds, StopsModule, StopsPlan}
 use Rattle.module_plan.specs.Verdicts.{AreVerdicts, IsJudged, IsPlaced, is_taken, skipped_of, steps_of, wants}
 use Rattle.module_plan.specs.Wanted.{Asked, wanted}
-use Rattle.module_plan.specs.Ways.{IsLookedFor}
+use Rattle.module_plan.specs.Ways.{IsLookedFor, UnlessFault}
 
 verdicts-snoc : (told : Option Names) (root : List ℕ) (asked : Asked) (earlier names : List (List ℕ)) (name : List ℕ) (vs : List Verdict) (v : Verdict)
     → AreVerdicts told root asked earlier names vs
@@ -54,6 +54,12 @@ or-end true true = refl
 or-end true false = refl
 or-end false true = refl
 or-end false false = refl
+
+-- what an error but a fault says, it says later too
+pub unless-later : (Then Later : Type 0) (e : ModuleError) → (Then → Later) → UnlessFault {T = ℕ} (Err e) Then → UnlessFault {T = ℕ} (Err e) Later
+unless-later Then Later (errors.ActiveSpec value) more h = more h
+unless-later Then Later (errors.Fault path) more h = tt
+unless-later Then Later errors.OutOfMemory more h = more h
 
 -- each name so far has its verdict, and the paths that are asked for are known
 pub record IsJudging {W : Type 0} (w : WorktreeOf W) (w0 w1 : W) (root : List ℕ) (asked : Asked) (left taken : List (List ℕ)) (plan : ModulePlan) : Type 0 where

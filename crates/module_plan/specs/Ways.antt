@@ -1,5 +1,5 @@
 -- What stands on the way from a root to a path below it.
-use Rattle.std.specs.Prelude.{◌≡◌, ◌⊎◌, ℕ, List, [], ◌∷◌, Bool, false, Option, Some, None, if◌then◌else◌}
+use Rattle.std.specs.Prelude.{◌≡◌, ◌⊎◌, ℕ, List, [], ◌∷◌, Bool, false, Option, Some, None, Result, Ok, Err, if◌then◌else◌}
 use Rattle.std.specs.List.{AllByRecursion}
 use Rattle.gitbase_core.specs.Path.{components, joined}
 use Rattle.worktree_fs.specs.Answers.{kind_of}
@@ -42,17 +42,18 @@ abbrev pub AreSeen : Option Names → List (List ℕ × Option NodeKind) → Typ
 AreSeen told seen =
     (t : Names) → told ≡ Some t → AllByRecursion (λ (one : List ℕ × Option NodeKind). one.1 ≡ kind_of (look t one.0 false)) seen
 
--- why what stands at a path was not learnt: the worktree failed there
-abbrev pub StopsLookAt : List ℕ → Type 0 → ModuleError → Type 0
-StopsLookAt full Rose (errors.ActiveSpec value) = ⊥
-StopsLookAt full Rose (errors.Fault path) = Rose × (path ≡ full)
-StopsLookAt full Rose errors.OutOfMemory = Unit {0}
-
 -- the worktree failed at one of some paths
 abbrev pub StopsLook : (List ℕ → Type 0) → Type 0 → ModuleError → Type 0
 StopsLook IsOne Rose (errors.ActiveSpec value) = ⊥
 StopsLook IsOne Rose (errors.Fault path) = Rose × IsOne path
 StopsLook IsOne Rose errors.OutOfMemory = Unit {0}
+
+-- it holds, unless the worktree is said to have failed
+abbrev pub UnlessFault : {T : Type 0} → Result T ModuleError → Type 0 → Type 0
+UnlessFault (Ok answer) Holds = Holds
+UnlessFault (Err (errors.ActiveSpec value)) Holds = Holds
+UnlessFault (Err (errors.Fault path)) Holds = Unit {0}
+UnlessFault (Err errors.OutOfMemory) Holds = Holds
 
 -- a path that is looked at for a step that a submodule asks for, where no earlier one asks for one at its path
 abbrev pub IsLookedFor : Option Names → List ℕ → Wanted → Bool → List ℕ → Type 0

@@ -33,7 +33,7 @@ pub(crate) fn judged<W: Worktree>(
         (asked_by asking.now platform.old)
         (Increased (W.faults worktree.old) (W.faults worktree.new))) }
     ensures keeps { Asks W.Worktree worktree.old worktree.new }
-    ensures unfaulted { OnOk result (W.faults worktree.new ≡ W.faults worktree.old) }
+    ensures unfaulted { ways.UnlessFault result (W.faults worktree.new ≡ W.faults worktree.old) }
     ensures reads { W.reads worktree.new ≡ W.reads worktree.old }
 {
     let mut plan = ModulePlan {
@@ -94,7 +94,7 @@ fn verdict<W: Worktree>(
         (Increased (W.faults worktree.old) (W.faults worktree.new))) }
     ensures same { platform.new ≡ platform.old }
     ensures keeps { Asks W.Worktree worktree.old worktree.new }
-    ensures unfaulted { OnOk result (W.faults worktree.new ≡ W.faults worktree.old) }
+    ensures unfaulted { ways.UnlessFault result (W.faults worktree.new ≡ W.faults worktree.old) }
     ensures reads { W.reads worktree.new ≡ W.reads worktree.old }
 {
     match asked_for(alloc, asking, platform, name) {
@@ -124,7 +124,7 @@ fn placed<W: Worktree>(
         wanted (is_among wanted.path taken.old))
         (Increased (W.faults worktree.old) (W.faults worktree.new))) }
     ensures keeps { Asks W.Worktree worktree.old worktree.new }
-    ensures unfaulted { OnOk result (W.faults worktree.new ≡ W.faults worktree.old) }
+    ensures unfaulted { ways.UnlessFault result (W.faults worktree.new ≡ W.faults worktree.old) }
     ensures reads { W.reads worktree.new ≡ W.reads worktree.old }
 {
     if !taken.take(alloc, &wanted.path)? {

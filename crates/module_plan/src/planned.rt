@@ -8,6 +8,7 @@ ghost use Rattle.submodule.specs.Active.{platform};
 ghost use Rattle.module_plan.specs.Judged as judged;
 ghost use Rattle.module_plan.specs.Plans as plans;
 ghost use Rattle.module_plan.specs.Wanted.{asked_of};
+ghost use Rattle.module_plan.specs.Ways as ways;
 
 use crate::asking::Asking;
 use crate::error::ModuleError;
@@ -28,6 +29,8 @@ use worktree_fs::Worktree;
 /// not followed; for one that is on several ways once. A real disk fails at a path that is not UTF-8.
 ///
 /// # Errors
+///
+/// The count of the worktree's faults rises for `Fault` alone.
 ///
 /// - `ActiveSpec`: `modules.is_active_platform` refuses this value.
 /// - `Fault`: the worktree failed at this path, which it counted; no value is refused. It is on the way to that of a submodule
@@ -61,7 +64,7 @@ pub fn plan<W: Worktree>(
         (plans.refused_value (platform defaults.ignore_case config.now.sections))
         (Increased (W.faults worktree.old) (W.faults worktree.new))) }
     ensures keeps { Asks W.Worktree worktree.old worktree.new }
-    ensures unfaulted { OnOk result (W.faults worktree.new ≡ W.faults worktree.old) }
+    ensures unfaulted { ways.UnlessFault result (W.faults worktree.new ≡ W.faults worktree.old) }
     ensures reads { W.reads worktree.new ≡ W.reads worktree.old }
 {
     let mut platform = platform_of(alloc, modules, config, defaults)?;

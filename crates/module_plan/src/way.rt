@@ -1,9 +1,9 @@
 //! What stands on the way to a path.
-ghost use Rattle.std.specs.Prelude.{◌≡◌, false, Some, IfOk, IfErr, OnOk};
+ghost use Rattle.std.specs.Prelude.{◌≡◌, false, Some, IfOk, IfErr, OnOk, IsErrOf};
 ghost use Rattle.gitbase_core.specs.Path.{components};
 ghost use Rattle.worktree_fs.specs.Causes.{Increased};
 ghost use Rattle.worktree_fs.specs.Kept.{Asks};
-ghost use Rattle.worktree_fs.specs.Answers.{kind_of};
+ghost use Rattle.worktree_fs.specs.Answers.{kind_of, UnlessFault};
 ghost use Rattle.worktree_fs.specs.Tree.{Names, look};
 ghost use Rattle.worktree_report.specs.Looks.{IsLookedAt, is_directory};
 ghost use Rattle.module_plan.specs.Ways as ways;
@@ -38,15 +38,20 @@ pub(crate) fn obstacle<W: Worktree>(
         (IsLookedAt (W.told worktree.old) root.now (components path.now))
         (Increased (W.faults worktree.old) (W.faults worktree.new))) }
     ensures keeps { Asks W.Worktree worktree.old worktree.new }
-    ensures unfaulted { OnOk result (W.faults worktree.new ≡ W.faults worktree.old) }
+    ensures unfaulted { ways.UnlessFault result (W.faults worktree.new ≡ W.faults worktree.old) }
     ensures reads { W.reads worktree.new ≡ W.reads worktree.old }
 {
     let mut full = PathText::from_bytes(alloc, root)?;
     for name in path.components() {
         full.push_component(alloc, name)?;
-        let kind = seen_kind(alloc, worktree, seen, &full)?;
-        if !is_directory(kind) {
-            return Ok(obstacle_of(kind));
+        match seen_kind(alloc, worktree, seen, &full) {
+            Ok(kind) => {
+                if !is_directory(kind) {
+                    return Ok(obstacle_of(kind));
+                }
+            }
+            Err(ReadError::Fault) => return Err(ModuleError::Fault { path: full }),
+            Err(ReadError::OutOfMemory) => return Err(ModuleError::OutOfMemory),
         }
     }
     Ok(None)
@@ -58,15 +63,15 @@ fn seen_kind<W: Worktree>(
     worktree: &mut W,
     seen: &mut Seen,
     full: &PathText,
-) -> Result<Option<NodeKind>, ModuleError>
+) -> Result<Option<NodeKind>, ReadError>
     requires seen { ways.AreSeen (W.told worktree.old) seen.old }
     ensures kind { (t : Names) → W.told worktree.old ≡ Some t
         → IfOk result (λ kind. kind ≡ kind_of (look t full.now false)) }
     ensures seen { OnOk result (ways.AreSeen (W.told worktree.old) seen.new) }
-    ensures refused { IfErr result (ways.StopsLookAt full.now
-        (Increased (W.faults worktree.old) (W.faults worktree.new))) }
+    ensures cause { IsErrOf result ReadError.Fault
+        → Increased (W.faults worktree.old) (W.faults worktree.new) }
     ensures keeps { Asks W.Worktree worktree.old worktree.new }
-    ensures unfaulted { OnOk result (W.faults worktree.new ≡ W.faults worktree.old) }
+    ensures unfaulted { UnlessFault result (W.faults worktree.new ≡ W.faults worktree.old) }
     ensures reads { W.reads worktree.new ≡ W.reads worktree.old }
 {
     if let Some(kind) = seen.kind_at(full) {
@@ -82,30 +87,16 @@ fn kind_at<W: Worktree>(
     alloc: Global,
     worktree: &mut W,
     full: &PathText,
-) -> Result<Option<NodeKind>, ModuleError>
+) -> Result<Option<NodeKind>, ReadError>
     ensures kind { (t : Names) → W.told worktree.old ≡ Some t
         → IfOk result (λ kind. kind ≡ kind_of (look t full.now false)) }
-    ensures refused { IfErr result (ways.StopsLookAt full.now
-        (Increased (W.faults worktree.old) (W.faults worktree.new))) }
+    ensures cause { IsErrOf result ReadError.Fault
+        → Increased (W.faults worktree.old) (W.faults worktree.new) }
     ensures keeps { Asks W.Worktree worktree.old worktree.new }
-    ensures unfaulted { OnOk result (W.faults worktree.new ≡ W.faults worktree.old) }
+    ensures unfaulted { UnlessFault result (W.faults worktree.new ≡ W.faults worktree.old) }
     ensures reads { W.reads worktree.new ≡ W.reads worktree.old }
 {
-    match worktree.kind(alloc, full.as_bytes()) {
-        Ok(kind) => Ok(kind),
-        Err(ReadError::Fault) => Err(fault_at(alloc, full)?),
-        Err(ReadError::OutOfMemory) => Err(ModuleError::OutOfMemory),
-    }
-}
-
-/// The refusal that names a path.
-fn fault_at(alloc: Global, full: &PathText) -> Result<ModuleError, ModuleError>
-    ensures fault { IfOk result (λ error. error ≡ ModuleError.Fault full.now) }
-    ensures refused { IfErr result (λ error. error ≡ ModuleError.OutOfMemory) }
-{
-    Ok(ModuleError::Fault {
-        path: PathText::from_bytes(alloc, full.as_bytes())?,
-    })
+    worktree.kind(alloc, full.as_bytes())
 }
 
 /// Whether a node of this kind is a directory; a link is none.

@@ -1,6 +1,7 @@
-use Rattle.std.proofs.Common.{arith, drop, ◌+◌, Option, subst, sym}
+use Rattle.std.proofs.Common.{arith, drop, ◌+◌, ◌∙◌, Option, subst, sym}
 use Rattle.std.proofs.lemmas.List.{drop_all}
-use Rattle.index_status.proofs.Alongside.{along-done, along-entry, along-start, next-left, paired-told, possible-rows}
+use Rattle.std.proofs.lemmas.Result.{err_from_is_err_and}
+use Rattle.index_status.proofs.Alongside.{along-done, along-entry, along-start, next-left, paired-told, possible-rows, unless-later}
 use Rattle.index_status.proofs.Conflicts.{conflicted-rows}
 use Rattle.index_status.proofs.Ordered.{ascending-rows}
 use Rattle.gitbase_core.specs.Path.{components}
@@ -35,6 +36,11 @@ loop-entry-preserved g c = (
   subst (λ (told : Option Names). IsKnown told c.args.worktree_root.now c.in_ok-more.led.barred (components c.in_ok-more.led.path.now)) c.loop-entry.invariant.0.keeps.tree
       c.in_ok-more.ensures.known,
 )
+
+pub returns-in_err-more-clause-unfaulted : goal.returns-in_err-more-clause-unfaulted
+returns-in_err-more-clause-unfaulted g c =
+    let p = err_from_is_err_and c.from_residual.result c.from_residual.ensures.1 in
+    rw (p.1, p.2) (unless-later _ _ c.in_err-more.field-0.0 (λ same. same ∙ c.loop-entry.invariant.0.unfaulted) c.in_err-more.ensures.unfaulted)
 
 pub returns-clause-states : goal.returns-clause-states
 returns-clause-states g c = λ t told.

@@ -1,8 +1,8 @@
-use Rattle.std.proofs.Common.{rules, arith, ap}
+use Rattle.std.proofs.Common.{rules, arith, ap, ◌∙◌}
 use Rattle.std.proofs.lemmas.Result.{err_from_is_err_and}
 use Rattle.worktree_fs.specs.Causes.{Increased}
 use Rattle.module_plan.specs.Wanted.{asked_by}
-use Rattle.module_plan.proofs.Judging.{judging-grown, judging-stops}
+use Rattle.module_plan.proofs.Judging.{judging-grown, judging-stops, unless-later}
 use Rattle.module_plan.proofs.judge.judged.Goals as goal
 
 pub returns-in_err-verdict-clause-refused : goal.returns-in_err-verdict-clause-refused
@@ -17,6 +17,11 @@ returns-in_err-verdict-clause-refused g c =
     c.in_err-verdict.field-0.0
     (λ more. let k = c.loop-name.invariant.0.keeps.faults in omega (arith, k, more))
     c.in_err-verdict.ensures.refused)
+
+pub returns-in_err-verdict-clause-unfaulted : goal.returns-in_err-verdict-clause-unfaulted
+returns-in_err-verdict-clause-unfaulted g c =
+    let p = err_from_is_err_and c.from_residual.result c.from_residual.ensures.1 in
+    rw (p.1, p.2) (unless-later _ _ c.in_err-verdict.field-0.0 (λ same. same ∙ c.loop-name.invariant.0.unfaulted) c.in_err-verdict.ensures.unfaulted)
 
 pub loop-name-preserved : goal.loop-name-preserved
 loop-name-preserved g c = (
