@@ -82,9 +82,10 @@ pub fn plan_by_report<W: Worktree>(
 /// directory that does.
 ///
 /// One report is made, and the plan is that of [`plan_by_report`]. Blobs that ignore rules are mapped to are looked up in `objects`.
-/// The report's entries are gone over once. The path specs are asked about each directory above one that may go, but not again about
-/// those that are above the entry before it too. The index is searched for each entry that may go but for its path,
-/// and for each directory above one that may go which no entry is in the way of, until one goes as a whole.
+/// The report's entries are gone over once. The path specs are asked about each entry that is a directory, and about each directory
+/// above one that may go, but not again about those that are above the entry before it too. The index is searched for each entry
+/// that may go but for its path, and for each directory above one that may go which no entry is in the way of, until one goes as a
+/// whole.
 ///
 /// # Errors
 ///
@@ -97,6 +98,7 @@ pub fn plan_by_report<W: Worktree>(
 /// See docs/DECISIONS.md#plan-traversal-root.
 /// See docs/DIFFERENCES.md#clean-replaced-directory.
 /// See docs/DIFFERENCES.md#clean-broken-git.
+/// See docs/DIFFERENCES.md#clean-git-in-capitals.
 /// See docs/DIFFERENCES.md#clean-replaced-file.
 pub fn plan<W: Worktree, F: Find, I: Interrupt>(
     alloc: Global,

@@ -6,7 +6,7 @@ use worktree_report::ReportError;
 /// Why there is no plan.
 #[derive(Debug, Drop, Error)]
 pub enum CleanError {
-    /// There is no report to plan by, not for want of memory.
+    /// There is no report to plan by; never [`ReportError::OutOfMemory`].
     #[error("Could not learn what stands in the worktree")]
     Report(ReportError),
     /// The worktree failed when it was asked for the real path of its root, which it counted.

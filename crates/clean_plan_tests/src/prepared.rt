@@ -18,7 +18,7 @@ fn is_done(alloc: Global, lines: &[u8], finding: Finding, other: Finding) -> boo
     !before && is_prepared(&options, finding) && !is_prepared(&options, other)
 }
 
-/// Whether one line more leaves prepared options so.
+/// Whether what one line more sets stays as options are prepared.
 fn is_kept(alloc: Global, line: &[u8]) -> bool {
     let Some(plain) = options_of(alloc, b"") else {
         return false;

@@ -28,7 +28,7 @@ impl From<OutOfMemory> for StatesError {
 /// Why there is no status of a work tree.
 #[derive(Debug, Drop, Error)]
 pub enum StatusError {
-    /// The report was refused, not for want of memory.
+    /// The report was refused; never [`ReportError::OutOfMemory`].
     #[error("Failed to make the report")]
     Report(ReportError),
     /// The worktree failed at this path, which begins with the root, while index paths were looked at.
