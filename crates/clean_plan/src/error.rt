@@ -7,13 +7,13 @@ use worktree_report::ReportError;
 #[derive(Debug, Drop, Error)]
 pub enum CleanError {
     /// There is no report to plan by; never [`ReportError::OutOfMemory`].
-    #[error("Could not learn what stands in the worktree")]
+    #[error("Report")]
     Report(ReportError),
     /// The worktree failed when it was asked for the real path of its root, which it counted.
-    #[error("Could not learn where the root of the worktree stands")]
+    #[error("Fault")]
     Fault,
     /// Want of memory.
-    #[error("Out of memory: the allocator refused to make room")]
+    #[error("OutOfMemory")]
     OutOfMemory,
 }
 

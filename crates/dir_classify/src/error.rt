@@ -28,7 +28,7 @@ pub enum MetadataWhy {
 #[derive(Debug, Drop, Error)]
 pub enum Error {
     /// The interrupt was raised.
-    #[error("The walk was interrupted")]
+    #[error("Interrupted")]
     Interrupted,
     /// The worktree root is absent or no directory, or its kind could not be learnt.
     #[error("Worktree root at '{root}' is not a directory")]
@@ -73,12 +73,12 @@ pub enum Error {
     },
     /// The directory at `path` was to be entered, and has more components below the worktree root than the
     /// depth limit.
-    #[error("The directory at '{path}' lies deeper than the limit")]
+    #[error("TooDeep")]
     TooDeep {
         path: PathText,
     },
     /// Want of memory.
-    #[error("Out of memory: the allocator refused to make room")]
+    #[error("OutOfMemory")]
     OutOfMemory,
 }
 

@@ -1,18 +1,17 @@
 //! Why a text or a value says nothing.
-use bstr::BStr;
 use gitbase_core::OutOfMemory;
 
 /// Why a text is no configuration.
 #[derive(Clone, Copy, Debug, PartialEq, Eq, thiserror::Error)]
 pub enum ParseError {
     /// A line is outside the grammar of git-config(1); this is the first such line.
-    #[error("Got an unexpected token on line {line} of the configuration")]
+    #[error("Syntax")]
     Syntax {
         /// The number of the line, from 1.
         line: usize,
     },
     /// Want of memory.
-    #[error("Out of memory: the allocator refused to make room")]
+    #[error("OutOfMemory")]
     OutOfMemory,
 }
 
@@ -29,13 +28,8 @@ impl From<OutOfMemory> for ParseError {
 
 /// A value is no boolean of git-config(1).
 #[derive(Clone, Copy, Debug, PartialEq, Eq, thiserror::Error)]
-#[error("Could not decode '{}': Booleans need to be 'no', 'off', 'false', '' or 'yes', 'on', 'true' or any number", shown(.input))]
+#[error("ValueError")]
 pub struct ValueError<'a> {
     /// The value.
     pub input: &'a [u8],
-}
-
-/// Bytes as text, with U+FFFD for what is not UTF-8.
-fn shown<'a>(bytes: &&'a [u8]) -> BStr<'a> {
-    BStr::new(bytes)
 }

@@ -7,7 +7,7 @@ use std::alloc::{AllocError, AllocFailed};
 ///
 /// See docs/DIFFERENCES.md#gix-out-of-memory.
 #[derive(Clone, Copy, Debug, PartialEq, Eq, thiserror::Error)]
-#[error("Out of memory: the allocator refused to make room")]
+#[error("OutOfMemory")]
 pub struct OutOfMemory;
 
 impl From<AllocError> for OutOfMemory {

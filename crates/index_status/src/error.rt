@@ -7,10 +7,10 @@ use worktree_report::ReportError;
 #[derive(Debug, Drop, PartialEq, Eq, Error)]
 pub enum StatesError {
     /// The worktree failed at this path, which begins with the root.
-    #[error("Could not learn what stands at '{path}'")]
+    #[error("Fault")]
     Fault { path: PathText },
     /// Want of memory.
-    #[error("Out of memory: the allocator refused to make room")]
+    #[error("OutOfMemory")]
     OutOfMemory,
 }
 
@@ -29,13 +29,13 @@ impl From<OutOfMemory> for StatesError {
 #[derive(Debug, Drop, Error)]
 pub enum StatusError {
     /// The report was refused; never [`ReportError::OutOfMemory`].
-    #[error("Failed to make the report")]
+    #[error("Report")]
     Report(ReportError),
     /// The worktree failed at this path, which begins with the root, while index paths were looked at.
-    #[error("Could not learn what stands at '{path}'")]
+    #[error("Fault")]
     Fault { path: PathText },
     /// Want of memory.
-    #[error("Out of memory: the allocator refused to make room")]
+    #[error("OutOfMemory")]
     OutOfMemory,
 }
 

@@ -6,13 +6,13 @@ use thiserror::Error;
 #[derive(Debug, Drop, PartialEq, Eq, Error)]
 pub enum ModuleError {
     /// This value of `submodule.active`, counted from 1, is no path spec, or its path is absolute or leads out of the top.
-    #[error("The pathspec in value {value} of 'submodule.active' is refused")]
+    #[error("ActiveSpec")]
     ActiveSpec { value: usize },
     /// The worktree failed when it was asked for the node at this path, which begins with the root.
-    #[error("Could not learn what stands at '{path}'")]
+    #[error("Fault")]
     Fault { path: PathText },
     /// Want of memory.
-    #[error("Out of memory: the allocator refused to make room")]
+    #[error("OutOfMemory")]
     OutOfMemory,
 }
 

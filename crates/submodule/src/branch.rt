@@ -27,10 +27,10 @@ pub enum Branch {
 #[derive(Clone, Copy, Debug, PartialEq, Eq, thiserror::Error)]
 pub enum RefspecError {
     /// It is no name.
-    #[error("The source of the refspec is not a valid reference name")]
+    #[error("Invalid")]
     Invalid,
     /// Want of memory.
-    #[error("Out of memory: the allocator refused to make room")]
+    #[error("OutOfMemory")]
     OutOfMemory,
 }
 
@@ -59,7 +59,7 @@ pub enum Error {
         source: RefspecError,
     },
     /// Want of memory.
-    #[error("Out of memory: the allocator refused to make room")]
+    #[error("OutOfMemory")]
     OutOfMemory,
 }
 

@@ -45,7 +45,7 @@ pub enum FieldError {
         actual: Bytes,
     },
     /// Want of memory.
-    #[error("Out of memory: the allocator refused to make room")]
+    #[error("OutOfMemory")]
     OutOfMemory,
 }
 

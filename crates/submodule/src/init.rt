@@ -6,13 +6,13 @@ use gitbase_core::OutOfMemory;
 #[derive(Clone, Copy, Debug, PartialEq, Eq, thiserror::Error)]
 pub enum Error {
     /// A line is outside the grammar of configurations.
-    #[error("Got an unexpected token on line {line} of the '.gitmodules' file")]
+    #[error("Parse")]
     Parse {
         /// The first such line, counted from 1.
         line: usize,
     },
     /// Want of memory.
-    #[error("Out of memory: the allocator refused to make room")]
+    #[error("OutOfMemory")]
     OutOfMemory,
 }
 

@@ -16,7 +16,7 @@ use std::marker::Model;
 #[derive(Clone, Copy, Debug, PartialEq, Eq, thiserror::Error)]
 pub enum Error {
     /// A value is no path spec.
-    #[error("Value {value} of 'submodule.active' could not be parsed as a pathspec at byte {at}")]
+    #[error("ParsePattern")]
     ParsePattern {
         /// Which value, counted from 1.
         value: usize,
@@ -24,13 +24,13 @@ pub enum Error {
         at: usize,
     },
     /// The path of a value's spec begins with a slash, or leads out of the top.
-    #[error("The pathspec in value {value} of 'submodule.active' is absolute or leaves the repository")]
+    #[error("NormalizePattern")]
     NormalizePattern {
         /// Which value, counted from 1.
         value: usize,
     },
     /// Want of memory.
-    #[error("Out of memory: the allocator refused to make room")]
+    #[error("OutOfMemory")]
     OutOfMemory,
 }
 

@@ -35,7 +35,7 @@ pub enum Error {
         actual: Bytes,
     },
     /// Want of memory.
-    #[error("Out of memory: the allocator refused to make room")]
+    #[error("OutOfMemory")]
     OutOfMemory,
 }
 

@@ -33,10 +33,10 @@ pub enum Update {
 #[derive(Clone, Copy, Debug, PartialEq, Eq, thiserror::Error)]
 pub enum UpdateParseError {
     /// It is none of the words.
-    #[error("The update is none of 'checkout', 'rebase', 'merge' and 'none', and no command behind a '!'")]
+    #[error("Invalid")]
     Invalid,
     /// Want of memory.
-    #[error("Out of memory: the allocator refused to make room")]
+    #[error("OutOfMemory")]
     OutOfMemory,
 }
 
@@ -71,7 +71,7 @@ pub enum Error {
         actual: Bytes,
     },
     /// Want of memory.
-    #[error("Out of memory: the allocator refused to make room")]
+    #[error("OutOfMemory")]
     OutOfMemory,
 }
 

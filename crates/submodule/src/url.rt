@@ -35,13 +35,13 @@ pub struct Url {
 #[derive(Clone, Copy, Debug, PartialEq, Eq, thiserror::Error)]
 pub enum UrlError {
     /// It has no host, and its scheme needs one.
-    #[error("The host of the URL is empty, and its scheme needs one")]
+    #[error("EmptyHost")]
     EmptyHost,
     /// The port is no number from 0 to 65535.
-    #[error("The port of the URL is no number from 0 to 65535")]
+    #[error("Port")]
     Port,
     /// Want of memory.
-    #[error("Out of memory: the allocator refused to make room")]
+    #[error("OutOfMemory")]
     OutOfMemory,
 }
 
@@ -74,7 +74,7 @@ pub enum Error {
         source: UrlError,
     },
     /// Want of memory.
-    #[error("Out of memory: the allocator refused to make room")]
+    #[error("OutOfMemory")]
     OutOfMemory,
 }
 

@@ -23,26 +23,26 @@ pub enum NodeKind {
 
 /// A call failed for a reason outside the program, and its failure was counted.
 #[derive(Clone, Copy, Debug, PartialEq, Eq, Error)]
-#[error("Could not write to the output")]
+#[error("Fault")]
 pub struct Fault;
 
 /// Why a directory was not listed.
 #[derive(Clone, Copy, Debug, PartialEq, Eq, Error)]
 pub enum ListError {
     /// The path leads nowhere.
-    #[error("Could not list a directory that does not exist")]
+    #[error("Absent")]
     Absent,
     /// The path leads to a node that is no directory.
-    #[error("Could not list what is not a directory")]
+    #[error("NotADirectory")]
     NotADirectory,
     /// The directory could not be opened; the failure was counted.
-    #[error("Failed to open a directory for listing")]
+    #[error("OpenFault")]
     OpenFault,
     /// Its names could not be read to their end; the failure was counted.
-    #[error("Could not obtain an entry of a directory")]
+    #[error("EntryFault")]
     EntryFault,
     /// The allocator refused memory.
-    #[error("Out of memory: the allocator refused to make room")]
+    #[error("OutOfMemory")]
     OutOfMemory,
 }
 
@@ -113,10 +113,10 @@ pub enum RemoveAnswer {
 #[derive(Clone, Copy, Debug, PartialEq, Eq, Error)]
 pub enum ReadError {
     /// The call failed, and its failure was counted.
-    #[error("Could not access a path of the worktree")]
+    #[error("Fault")]
     Fault,
     /// The allocator refused memory.
-    #[error("Out of memory: the allocator refused to make room")]
+    #[error("OutOfMemory")]
     OutOfMemory,
 }
 

@@ -8,7 +8,7 @@ use worktree_fs::ReadError;
 #[derive(Debug, Drop, Error)]
 pub enum ReportError {
     /// A configuration has a line outside the grammar of git-config(1).
-    #[error("Got an unexpected token on line {line} of configuration {at}")]
+    #[error("Config")]
     Config {
         /// Its place among the configurations of the setup, counted from 1.
         at: usize,
@@ -16,25 +16,25 @@ pub enum ReportError {
         line: usize,
     },
     /// `.gitmodules` has one.
-    #[error("Got an unexpected token on line {line} of the '.gitmodules' file")]
+    #[error("Modules")]
     Modules {
         /// The first such line, counted from 1.
         line: usize,
     },
     /// A value of `submodule.active` is no path spec, or one that leads out of the work tree.
-    #[error("Value {at} of 'submodule.active' is no pathspec of the repository")]
+    #[error("ActiveSpec")]
     ActiveSpec {
         /// The first such value, counted from 1.
         at: usize,
     },
     /// A configuration or `.gitmodules` could not be read, as the worktree failed and counted it.
-    #[error("Could not read a configuration or the '.gitmodules' file")]
+    #[error("ReadFault")]
     ReadFault,
     /// The walk was refused, not for want of memory.
-    #[error("Failed to walk the worktree")]
+    #[error("Walk")]
     Walk(walk::Error),
     /// Want of memory.
-    #[error("Out of memory: the allocator refused to make room")]
+    #[error("OutOfMemory")]
     OutOfMemory,
 }
 

@@ -24,6 +24,7 @@ mod words;
 mod writing;
 
 pub use converted::{of_report, status_of};
+pub use dir_walk::Strategy;
 pub use ending::finish;
 pub use error::ReportError;
 pub use escape::{add_escaped, add_escaped_in_word};

@@ -27,7 +27,7 @@ use worktree_fs::{MakeAnswer, NodeKind, ReadError, Worktree};
 /// hides no fault: where a directory is there, none was counted.
 ///
 /// See docs/DECISIONS.md#checkout-delegate.
-pub fn create_leading_directory<W: Worktree>(
+pub(crate) fn create_leading_directory<W: Worktree>(
     alloc: Global,
     path: &[u8],
     unlink_on_collision: bool,

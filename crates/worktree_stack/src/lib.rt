@@ -4,7 +4,7 @@
 
 pub mod attributes;
 pub mod attributes_source;
-pub mod delegate;
+mod delegate;
 pub mod error;
 pub mod ignore;
 pub mod ignore_source;

@@ -35,16 +35,16 @@ pub enum NewNode<'a> {
 #[derive(Clone, Copy, Debug, PartialEq, Eq, Error)]
 pub enum AddError {
     /// The path does not begin with `/`, or one of its components is empty, `.` or `..`, holds a NUL, or is not UTF-8.
-    #[error("The path of a node to add has to be absolute, and its components have to be names")]
+    #[error("NotNormal")]
     NotNormal,
     /// Before its end the path leads to a node that is no directory; links are not followed.
-    #[error("The path of a node to add leads through a node that is not a directory")]
+    #[error("NoParent")]
     NoParent,
     /// The path leads to a node.
-    #[error("There already is a node at the path of a node to add")]
+    #[error("Exists")]
     Exists,
     /// The allocator refused memory.
-    #[error("Out of memory: the allocator refused to make room")]
+    #[error("OutOfMemory")]
     OutOfMemory,
 }
 
