@@ -10,20 +10,20 @@ use worktree_report::ReportError;
 
 /// Rows, parted by bars: an error and its text, parted by a backquote.
 const ROWS: &[u8] = b"\
-report config`Got an unexpected token on line 3 of configuration 2|\
-report modules`Got an unexpected token on line 3 of the '.gitmodules' file|\
-report active`Value 2 of 'submodule.active' is no pathspec of the repository|\
-report read`Could not read a configuration or the '.gitmodules' file|\
-report walk`Failed to walk the worktree|\
-report no room`Out of memory: the allocator refused to make room|\
-plan active`The pathspec in value 2 of 'submodule.active' is refused|\
-plan fault`Could not learn what stands at '/w/a'|\
-plan no room`Out of memory: the allocator refused to make room|\
-states fault`Could not learn what stands at '/w/a'|\
-states no room`Out of memory: the allocator refused to make room|\
-status report`Failed to make the report|\
-status fault`Could not learn what stands at '/w/a'|\
-status no room`Out of memory: the allocator refused to make room";
+report config`Config|\
+report modules`Modules|\
+report active`ActiveSpec|\
+report read`ReadFault|\
+report walk`Walk|\
+report no room`OutOfMemory|\
+plan active`ActiveSpec|\
+plan fault`Fault|\
+plan no room`OutOfMemory|\
+states fault`Fault|\
+states no room`OutOfMemory|\
+status report`Report|\
+status fault`Fault|\
+status no room`OutOfMemory";
 
 /// Whether an error is shown by a text.
 fn is_shown<E: Display + Drop>(alloc: Global, error: E, want: &[u8]) -> bool {
@@ -61,7 +61,7 @@ fn holds(alloc: Global, row: &[u8]) -> Result<bool, OutOfMemory> {
 }
 
 #[test]
-fn errors_are_shown_by_sentences(rt: HostRuntime) {
+fn errors_are_shown_by_their_names(rt: HostRuntime) {
     for row in ROWS.split(|byte| *byte == b'|') {
         assert!(rt; matches!(holds(rt.alloc(), row), Ok(true)), "{row:?}");
     }
