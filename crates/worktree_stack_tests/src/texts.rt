@@ -40,7 +40,11 @@ fn shows_lookups(alloc: Global) -> bool {
     let why = BlobWhy::Fault;
     let id = id_of(b"1");
     shows(alloc, &AtPathError::NotNormal, "NotNormal")
-        && shows(alloc, &AtPathError::Component(ComponentError::Empty), "Component")
+        && shows(
+            alloc,
+            &AtPathError::Component(ComponentError::Empty),
+            "Component",
+        )
         && shows(alloc, &AtPathError::Blob { id, why }, "Blob")
         && shows(alloc, &AtPathError::OutOfMemory, "OutOfMemory")
 }
