@@ -6,10 +6,12 @@ use index_status::{StatesError, StatusError};
 use module_plan::ModuleError;
 use std::alloc::Global;
 use std::fmt::Display;
-use worktree_report::ReportError;
+use worktree_report::{ReportError, SetupError};
 
 /// Rows, parted by bars: an error and its text, parted by a backquote.
 const ROWS: &[u8] = b"\
+setup line`Line|\
+setup no room`OutOfMemory|\
 report config`Config|\
 report modules`Modules|\
 report active`ActiveSpec|\
@@ -36,6 +38,8 @@ fn is_shown<E: Display + Drop>(alloc: Global, error: E, want: &[u8]) -> bool {
 /// Whether an error about a path, if any, is shown by a text.
 fn shows(alloc: Global, error: &[u8], path: PathText, want: &[u8]) -> bool {
     match error {
+        b"setup line" => is_shown(alloc, SetupError::Line { line: 3 }, want),
+        b"setup no room" => is_shown(alloc, SetupError::OutOfMemory, want),
         b"report config" => is_shown(alloc, ReportError::Config { at: 2, line: 3 }, want),
         b"report modules" => is_shown(alloc, ReportError::Modules { line: 3 }, want),
         b"report active" => is_shown(alloc, ReportError::ActiveSpec { at: 2 }, want),
