@@ -18,6 +18,7 @@ pub mod handed;
 mod jobs;
 mod open;
 pub mod outcome;
+pub mod parts;
 mod place;
 pub mod report;
 mod root;
