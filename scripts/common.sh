@@ -34,6 +34,10 @@ unset GIT_DIR GIT_WORK_TREE GIT_INDEX_FILE GIT_COMMON_DIR GIT_OBJECT_DIRECTORY G
 # shellcheck disable=SC2046
 unset $(git rev-parse --local-env-vars 2>/dev/null || true)
 
+# No hook of the repository that is asked runs, and nothing is written to its index. By variables, so that each git that is called here,
+# and each that it calls, goes by them.
+export GIT_CONFIG_COUNT=1 GIT_CONFIG_KEY_0=core.fsmonitor GIT_CONFIG_VALUE_0=false GIT_OPTIONAL_LOCKS=0
+
 # Prints the comment at the head of the script, which says how it is used.
 help() {
     sed -n '2,/^[^#]/{/^#/!d;s/^# \{0,1\}//;p}' "$0"
@@ -87,7 +91,7 @@ work_tree() {
 # A folder of the script's own, at $work, which goes when the script ends.
 own_folder() {
     need mktemp
-    work=$(mktemp -d)
+    work=$(mktemp -d 2>/dev/null) || fail "no folder can be made in ${TMPDIR:-/tmp}; set TMPDIR to one in which it can"
     # shellcheck disable=SC2064
     trap "$(printf 'rm -rf -- %q' "$work")" EXIT
     work=$(directory "$work")
@@ -124,7 +128,30 @@ answer() {
     "$program" "$@" 2> "$work/said" || status=$?
     cat -- "$work/said" >&2
     line=$(sed -n 's/^setup: line \([0-9]*\)$/\1/p' "$work/said")
-    [ "$status" -ne 3 ] || echo "$script: that line is: $(sed -n "${line}p" "$work/setup")" >&2
+    case $status in
+    3) tell_line "$(sed -n "${line}p" "$work/setup")" ;;
+    6) tell_faults ;;
+    esac
+}
+
+# Says which word gave a line of the setup that is refused, and why.
+tell_line() {
+    case $1 in
+    'spec '*) echo "$script: spec=${1#spec } is no path spec that is read here: docs/FORMATS.md says what a path spec is" >&2 ;;
+    'worktree '*) echo "$script: worktree=${1#worktree } is no path below ROOT, or is given twice" >&2 ;;
+    'root '*) echo "$script: root=${1#root } is no path below ROOT" >&2 ;;
+    *) echo "$script: that line is: $1" >&2 ;;
+    esac
+}
+
+# Names what in the work tree can make the file system fail, as far as it can be found from here.
+tell_faults() {
+    echo "$script: the file system failed somewhere. Look at these, if any are named, and leave them out with worktree=PATH:" >&2
+    {
+        find "$root" -name .git -prune -o -type d \( ! -readable -o ! -executable \) -printf 'a directory that may not be read: %P\n' -prune
+        find "$root" \( -name .gitignore -o -name .git -type f \) ! -readable -printf 'a file that may not be read: %P\n'
+        find "$root" -name .git -prune -o -print | LC_ALL=C.UTF-8 grep -avx '.*' | sed 's/^/a name that is not UTF-8: /'
+    } 2>/dev/null | head -n 5 | cat -v >&2 || true
 }
 
 # Whether one of the words behind $1 gives the option $1 a value.

@@ -68,12 +68,12 @@ impl File {
         ensures { ParseGives result meta bytes.now }
     {
         let draft = read(alloc, &meta, bytes)?;
-        Ok(File::with_index(alloc, meta, draft.sections))
+        Ok(File::from_sections(alloc, meta, draft.sections))
     }
 
-    /// A configuration of these sections, with an index where there is memory for one.
+    /// A configuration of these sections, in their order. It takes memory for an index, and goes without where that is refused.
     /// See docs/DECISIONS.md#slower-without-memory.
-    fn with_index(alloc: Global, meta: Metadata, sections: Vec<Section>) -> File
+    pub fn from_sections(alloc: Global, meta: Metadata, sections: Vec<Section>) -> File
         ensures sections { result.sections ≡ sections.items }
         ensures meta { result.meta ≡ meta }
     {
@@ -91,6 +91,13 @@ impl File {
             (option_copied subsection.entry) key.now self.now.sections }
     {
         last_in_runs(&self.runs, &self.sections, section, subsection, key)
+    }
+
+    /// The sections, in their order; takes no memory.
+    pub fn into_sections(self) -> Vec<Section>
+        ensures { result.items ≡ self.sections }
+    {
+        self.sections
     }
 
     /// Where the configuration was read.

@@ -23,8 +23,10 @@ mod subsection;
 mod text;
 mod value;
 
+pub use entry::Entry;
 pub use error::{ParseError, ValueError};
 pub use file::File;
 pub use iterators::{Sections, Values};
 pub use metadata::{Metadata, Source};
 pub use section::Section;
+pub use text::{is_key_name, is_section_name};

@@ -34,8 +34,8 @@ impl Model for Section {
 }
 
 impl Section {
-    /// A section without keys.
-    pub(crate) fn new(
+    /// A section without keys. The name is taken as it is: [`is_section_name`](crate::is_section_name) tells what a header can have.
+    pub fn new(
         alloc: Global,
         name: &[u8],
         subsection: Option<Bytes>,
@@ -49,6 +49,20 @@ impl Section {
             meta: meta.copy(alloc)?,
             entries: Vec::new(alloc),
         })
+    }
+
+    /// The name, as it is spelled in the header.
+    pub fn name(&self) -> &[u8]
+        ensures { result.now ≡ self.now.name }
+    {
+        self.name.as_bytes()
+    }
+
+    /// The keys, each with its value, in the order of the text.
+    pub fn entries(&self) -> &[Entry]
+        ensures { result.now ≡ self.now.entries }
+    {
+        &self.entries
     }
 
     /// The subsection, if there is one. A header `[name ""]` has an empty one, and `[name]` has none.
@@ -120,7 +134,7 @@ impl Section {
     }
 
     /// Adds a key at the end. The section stays as it was where memory is refused.
-    fn push(&mut self, entry: Entry) -> Result<(), OutOfMemory>
+    pub fn push(&mut self, entry: Entry) -> Result<(), OutOfMemory>
         ensures added { OnOk result (self.new ≡ words.with_entry entry self.old) }
         ensures refused { OnErr result (self.new ≡ self.old) }
     {

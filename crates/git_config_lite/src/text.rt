@@ -1,6 +1,8 @@
 //! The kinds of bytes of a configuration file, and what stands at the start of a line.
 ghost use Rattle.std.specs.Prelude.{◌≡◌, ◌<◌, ◌≤◌, not, drop, length, position, IfSome};
+ghost use Rattle.std.specs.List.{list_all};
 ghost use Rattle.git_config_lite.specs.Texts as texts;
+ghost use Rattle.git_config_lite.specs.Writers as writers;
 
 /// A space or a tab.
 /// See docs/DIFFERENCES.md#config-lone-return.
@@ -43,6 +45,32 @@ pub fn is_name_byte(byte: u8) -> bool
     ensures { result ≡ texts.is_name_byte byte }
 {
     is_key_byte(byte) || byte == b'.'
+}
+
+/// Whether a text is the name of a section: letters, digits, hyphens and dots, and at least one of them.
+pub fn is_section_name(name: &[u8]) -> bool
+    ensures { result ≡ writers.is_name name.now }
+{
+    begins_with_name(name) && are_name_bytes(name)
+}
+
+fn are_name_bytes(name: &[u8]) -> bool
+    ensures { result ≡ list_all texts.is_name_byte name.now }
+{
+    name.iter().all(|byte| is_name_byte(*byte))
+}
+
+/// Whether a text is a key: a letter, and then letters, digits and hyphens.
+pub fn is_key_name(key: &[u8]) -> bool
+    ensures { result ≡ writers.is_key_name key.now }
+{
+    begins_with_letter(key) && are_key_bytes(key)
+}
+
+fn are_key_bytes(key: &[u8]) -> bool
+    ensures { result ≡ list_all texts.is_key_byte key.now }
+{
+    key.iter().all(|byte| is_key_byte(*byte))
 }
 
 /// Whether the first byte is this one.

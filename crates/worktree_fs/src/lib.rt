@@ -19,13 +19,18 @@ mod worktree;
 
 pub use answers::{Fault, ListError, MakeAnswer, NodeKind, ReadAnswer, ReadError, RemoveAnswer};
 pub use disk::DiskWorktree;
+pub use git_texts::{gitdir_path, trimmed};
 pub use interrupt::{FlagInterrupt, Interrupt, PlannedInterrupt};
 pub use memory::{AddError, CallKind, MemoryWorktree, NewNode};
 pub use name_list::NameList;
+pub use names::from_directory;
 pub use path_stack::PathStack;
 pub use path_stack::delegate::{PathDelegate, PathStackError};
 pub use path_stack::steps::{NextComponent, is_normal, next_component};
-pub use repository::{is_git, real_path_is};
+pub use repository::{
+    beside, common_of, is_git, is_git_below, is_git_directory, is_repository, read_file,
+    real_path_is,
+};
 pub use sink::{MemorySink, Sink};
 pub use streams::StdSink;
 pub use worktree::Worktree;

@@ -77,8 +77,13 @@ pub fn is_git<W: Worktree>(
     }
 }
 
-/// Whether a path leads to a repository.
-fn is_repository<W: Worktree>(
+/// Whether a path leads to a repository, as [`is_git`] says, for callers that may not read a fault as no.
+///
+/// # Errors
+///
+/// - `Fault`: the worktree failed, which it counted.
+/// - `OutOfMemory` for want of memory.
+pub fn is_repository<W: Worktree>(
     alloc: Global,
     worktree: &mut W,
     path: &[u8],
@@ -126,8 +131,17 @@ fn is_git_file<W: Worktree>(alloc: Global, worktree: &mut W, path: &[u8]) -> Res
     }
 }
 
-/// Whether a git directory that a file names is one.
-fn is_git_below<W: Worktree>(alloc: Global, worktree: &mut W, git: &[u8]) -> Result<bool, ReadError>
+/// Whether the directory that a file `.git` names is a git directory, by its own common directory.
+///
+/// # Errors
+///
+/// - `Fault`: the worktree failed, which it counted.
+/// - `OutOfMemory` for want of memory.
+pub fn is_git_below<W: Worktree>(
+    alloc: Global,
+    worktree: &mut W,
+    git: &[u8],
+) -> Result<bool, ReadError>
     ensures answer { (t : Names) → W.told worktree.old ≡ Some t
         → IfOk result (λ is. is ≡ is_git_below t git.now) }
     ensures kept { Asks W.Worktree worktree.old worktree.new }
@@ -140,8 +154,17 @@ fn is_git_below<W: Worktree>(alloc: Global, worktree: &mut W, git: &[u8]) -> Res
     is_git_directory(alloc, worktree, git, common.as_bytes())
 }
 
-/// The common directory of a git directory.
-fn common_of<W: Worktree>(alloc: Global, worktree: &mut W, git: &[u8]) -> Result<Bytes, ReadError>
+/// The common directory of a git directory: what its file `commondir` names, from the git directory on; itself where there is none.
+///
+/// # Errors
+///
+/// - `Fault`: the worktree failed, which it counted.
+/// - `OutOfMemory` for want of memory.
+pub fn common_of<W: Worktree>(
+    alloc: Global,
+    worktree: &mut W,
+    git: &[u8],
+) -> Result<Bytes, ReadError>
     ensures answer { (t : Names) → W.told worktree.old ≡ Some t
         → IfOk result (λ common. common ≡ common_of t git.now) }
     ensures kept { Asks W.Worktree worktree.old worktree.new }
@@ -158,9 +181,14 @@ fn common_of<W: Worktree>(alloc: Global, worktree: &mut W, git: &[u8]) -> Result
     Ok(Bytes::from_slice(alloc, git)?)
 }
 
-/// Whether a directory has a `HEAD`, and another has `objects` and `refs`.
+/// Whether a directory has a `HEAD`, and another, its common directory, has `objects` and `refs`.
 /// See docs/DECISIONS.md#whole-git-directory.
-fn is_git_directory<W: Worktree>(
+///
+/// # Errors
+///
+/// - `Fault`: the worktree failed, which it counted.
+/// - `OutOfMemory` for want of memory.
+pub fn is_git_directory<W: Worktree>(
     alloc: Global,
     worktree: &mut W,
     git: &[u8],
@@ -221,8 +249,14 @@ fn is_directory<W: Worktree>(
     Ok(kind == Some(NodeKind::Directory))
 }
 
-/// Reads the bytes of a file, where a path leads to one.
-fn read_file<W: Worktree>(
+/// Reads the bytes of a file into `into`, where a path leads to one, links followed; false where it leads to another node or to
+/// nothing.
+///
+/// # Errors
+///
+/// - `Fault`: the worktree failed, which it counted.
+/// - `OutOfMemory` for want of memory.
+pub fn read_file<W: Worktree>(
     alloc: Global,
     worktree: &mut W,
     path: &[u8],
@@ -243,9 +277,13 @@ fn read_file<W: Worktree>(
     }
 }
 
-/// A path, taken from the directory of a file where it is relative.
+/// A path, taken from the directory of a file where it is relative, as that in a file `.git` is.
 /// See docs/DECISIONS.md#gitdir-file.
-fn beside(alloc: Global, path: &[u8], file: &[u8]) -> Result<Bytes, OutOfMemory>
+///
+/// # Errors
+///
+/// - `OutOfMemory` for want of memory.
+pub fn beside(alloc: Global, path: &[u8], file: &[u8]) -> Result<Bytes, OutOfMemory>
     ensures { IfOk result (λ full. full
         ≡ from_directory path.now (unwrap_or (parent file.now) [])) }
 {
