@@ -62,29 +62,77 @@ fn walk_child<W: Worktree, F: Find, I: Interrupt, M: Matcher, D: Delegate>(
     requires excludes { tells_excludes (made_with excludes.old) ≡ true }
     // Over any worktree, each refusal has its cause; what stays, and what the delegate is given.
     ensures walks { WalksAny W.Worktree F.Find I.Interrupt D.Delegate
-        (record { worktree = worktree.old; objects = objects.old; interrupt = interrupt.old;
-        delegate = delegate.old; rules = excludes.old; outcome = outcome.old })
-        (record { worktree = worktree.new; objects = objects.new; interrupt = interrupt.new;
-        delegate = delegate.new; rules = excludes.new; outcome = outcome.new })
+        (record {
+          worktree = worktree.old;
+          objects = objects.old;
+          interrupt = interrupt.old;
+          delegate = delegate.old;
+          rules = excludes.old;
+          outcome = outcome.old;
+        })
+        (record {
+          worktree = worktree.new;
+          objects = objects.new;
+          interrupt = interrupt.new;
+          delegate = delegate.new;
+          rules = excludes.new;
+          outcome = outcome.new;
+        })
         (setting_of M.Matcher shared.now) levels (at_name place.old.path name.now) result }
     // Over what is told, the name gives all that is there, or a part of it, and is refused for what is there.
     ensures told { WalksTold W.Worktree F.Find D.Delegate
-        (record { worktree = worktree.old; objects = objects.old; interrupt = interrupt.old;
-        delegate = delegate.old; rules = excludes.old; outcome = outcome.old })
-        (record { worktree = worktree.new; objects = objects.new; interrupt = interrupt.new;
-        delegate = delegate.new; rules = excludes.new; outcome = outcome.new })
+        (record {
+          worktree = worktree.old;
+          objects = objects.old;
+          interrupt = interrupt.old;
+          delegate = delegate.old;
+          rules = excludes.old;
+          outcome = outcome.old;
+        })
+        (record {
+          worktree = worktree.new;
+          objects = objects.new;
+          interrupt = interrupt.new;
+          delegate = delegate.new;
+          rules = excludes.new;
+          outcome = outcome.new;
+        })
         (setting_of M.Matcher shared.now) blocked.now levels (at_name place.old.path name.now) result }
     // How the directories that are opened are counted, and how many they are at most.
     ensures opens { over_forks W.Worktree I.Interrupt 0
-        (record { worktree = worktree.old; objects = objects.old; interrupt = interrupt.old;
-        delegate = delegate.old; rules = excludes.old; outcome = outcome.old })
-        (record { worktree = worktree.new; objects = objects.new; interrupt = interrupt.new;
-        delegate = delegate.new; rules = excludes.new; outcome = outcome.new })
+        (record {
+          worktree = worktree.old;
+          objects = objects.old;
+          interrupt = interrupt.old;
+          delegate = delegate.old;
+          rules = excludes.old;
+          outcome = outcome.old;
+        })
+        (record {
+          worktree = worktree.new;
+          objects = objects.new;
+          interrupt = interrupt.new;
+          delegate = delegate.new;
+          rules = excludes.new;
+          outcome = outcome.new;
+        })
         result (EntersStep W.Worktree F.Find D.Delegate
-        (record { worktree = worktree.old; objects = objects.old; interrupt = interrupt.old;
-        delegate = delegate.old; rules = excludes.old; outcome = outcome.old })
-        (record { worktree = worktree.new; objects = objects.new; interrupt = interrupt.new;
-        delegate = delegate.new; rules = excludes.new; outcome = outcome.new })
+        (record {
+          worktree = worktree.old;
+          objects = objects.old;
+          interrupt = interrupt.old;
+          delegate = delegate.old;
+          rules = excludes.old;
+          outcome = outcome.old;
+        })
+        (record {
+          worktree = worktree.new;
+          objects = objects.new;
+          interrupt = interrupt.new;
+          delegate = delegate.new;
+          rules = excludes.new;
+          outcome = outcome.new;
+        })
         (setting_of M.Matcher shared.now) blocked.now levels (at_name place.old.path name.now) result) }
     // The rules that were handed in stay in step.
     ensures rules { KeepsRules W.Worktree F.Find worktree.old worktree.new objects.old excludes.old
@@ -146,29 +194,77 @@ pub(crate) fn walk_children<W: Worktree, F: Find, I: Interrupt, M: Matcher, D: D
     requires excludes { tells_excludes (made_with excludes.old) ≡ true }
     // Over any worktree, each refusal has its cause; what stays, and what the delegate is given.
     ensures walks { WalksAny W.Worktree F.Find I.Interrupt D.Delegate
-        (record { worktree = worktree.old; objects = objects.old; interrupt = interrupt.old;
-        delegate = delegate.old; rules = excludes.old; outcome = outcome.old })
-        (record { worktree = worktree.new; objects = objects.new; interrupt = interrupt.new;
-        delegate = delegate.new; rules = excludes.new; outcome = outcome.new })
+        (record {
+          worktree = worktree.old;
+          objects = objects.old;
+          interrupt = interrupt.old;
+          delegate = delegate.old;
+          rules = excludes.old;
+          outcome = outcome.old;
+        })
+        (record {
+          worktree = worktree.new;
+          objects = objects.new;
+          interrupt = interrupt.new;
+          delegate = delegate.new;
+          rules = excludes.new;
+          outcome = outcome.new;
+        })
         (setting_of M.Matcher shared.now) levels (at_directory place.old.path class.now) result }
     // Over what is told, the directory gives all that is there, or a part of it, and is refused for what is there.
     ensures told { WalksTold W.Worktree F.Find D.Delegate
-        (record { worktree = worktree.old; objects = objects.old; interrupt = interrupt.old;
-        delegate = delegate.old; rules = excludes.old; outcome = outcome.old })
-        (record { worktree = worktree.new; objects = objects.new; interrupt = interrupt.new;
-        delegate = delegate.new; rules = excludes.new; outcome = outcome.new })
+        (record {
+          worktree = worktree.old;
+          objects = objects.old;
+          interrupt = interrupt.old;
+          delegate = delegate.old;
+          rules = excludes.old;
+          outcome = outcome.old;
+        })
+        (record {
+          worktree = worktree.new;
+          objects = objects.new;
+          interrupt = interrupt.new;
+          delegate = delegate.new;
+          rules = excludes.new;
+          outcome = outcome.new;
+        })
         (setting_of M.Matcher shared.now) blocked.now levels (at_directory place.old.path class.now) result }
     // How the directories that are opened are counted, and how many they are at most.
     ensures opens { over_forks W.Worktree I.Interrupt 1
-        (record { worktree = worktree.old; objects = objects.old; interrupt = interrupt.old;
-        delegate = delegate.old; rules = excludes.old; outcome = outcome.old })
-        (record { worktree = worktree.new; objects = objects.new; interrupt = interrupt.new;
-        delegate = delegate.new; rules = excludes.new; outcome = outcome.new })
+        (record {
+          worktree = worktree.old;
+          objects = objects.old;
+          interrupt = interrupt.old;
+          delegate = delegate.old;
+          rules = excludes.old;
+          outcome = outcome.old;
+        })
+        (record {
+          worktree = worktree.new;
+          objects = objects.new;
+          interrupt = interrupt.new;
+          delegate = delegate.new;
+          rules = excludes.new;
+          outcome = outcome.new;
+        })
         result (EntersStep W.Worktree F.Find D.Delegate
-        (record { worktree = worktree.old; objects = objects.old; interrupt = interrupt.old;
-        delegate = delegate.old; rules = excludes.old; outcome = outcome.old })
-        (record { worktree = worktree.new; objects = objects.new; interrupt = interrupt.new;
-        delegate = delegate.new; rules = excludes.new; outcome = outcome.new })
+        (record {
+          worktree = worktree.old;
+          objects = objects.old;
+          interrupt = interrupt.old;
+          delegate = delegate.old;
+          rules = excludes.old;
+          outcome = outcome.old;
+        })
+        (record {
+          worktree = worktree.new;
+          objects = objects.new;
+          interrupt = interrupt.new;
+          delegate = delegate.new;
+          rules = excludes.new;
+          outcome = outcome.new;
+        })
         (setting_of M.Matcher shared.now) blocked.now levels (at_directory place.old.path class.now) result) }
     // The rules that were handed in stay in step.
     ensures rules { KeepsRules W.Worktree F.Find worktree.old worktree.new objects.old excludes.old

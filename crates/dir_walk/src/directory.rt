@@ -114,26 +114,33 @@ fn walk_name<W: Worktree, F: Find, I: Interrupt, M: Matcher, D: Delegate>(
     let path = place.path();
     let full = place.whole();
     let class = class_of(
-        alloc, full, path, name, beneath, shared, parts.excludes, parts.worktree, parts.objects,
+        alloc,
+        full,
+        path,
+        name,
+        beneath,
+        shared,
+        parts.excludes,
+        parts.worktree,
+        parts.objects,
     )?;
     if is_entered(&shared.options, path, &class, false, parts.delegate) {
         if levels == 0 {
             return Err(Stop::Refused(too_deep(alloc, place, parts.interrupt)));
         }
-        let handed = walk_directory(
-            alloc,
-            shared,
-            blocked,
-            place,
-            &class,
-            levels - 1,
-            parts,
-        );
+        let handed = walk_directory(alloc, shared, blocked, place, &class, levels - 1, parts);
         place.leave(cut, &handed);
         return handed;
     }
     let class = leaf_class(alloc, shared, place, &class, parts.worktree)?;
-    let handed = put_leaf(alloc, &shared.options, path, &class, parts.delegate, parts.outcome);
+    let handed = put_leaf(
+        alloc,
+        &shared.options,
+        path,
+        &class,
+        parts.delegate,
+        parts.outcome,
+    );
     place.leave(cut, &handed);
     handed
 }
@@ -195,7 +202,15 @@ fn walk_directory<W: Worktree, F: Find, I: Interrupt, M: Matcher, D: Delegate>(
     let path = place.path();
     let names = open(alloc, place, parts.worktree, parts.interrupt, parts.outcome)?;
     if names.as_slice().is_empty() {
-        return close_empty(alloc, shared, blocked, path, class, parts.delegate, parts.outcome);
+        return close_empty(
+            alloc,
+            shared,
+            blocked,
+            path,
+            class,
+            parts.delegate,
+            parts.outcome,
+        );
     }
     let mut held = Held::new(alloc);
     let beneath = shared.index.beneath(path);
@@ -244,29 +259,77 @@ pub(crate) fn walk_tree<W: Worktree, F: Find, I: Interrupt, M: Matcher, D: Deleg
     requires excludes { tells_excludes (made_with excludes.old) ≡ true }
     // Over any worktree, each refusal has its cause; what stays, and what the delegate is given.
     ensures walks { WalksAny W.Worktree F.Find I.Interrupt D.Delegate
-        (record { worktree = worktree.old; objects = objects.old; interrupt = interrupt.old;
-        delegate = delegate.old; rules = excludes.old; outcome = outcome.old })
-        (record { worktree = worktree.new; objects = objects.new; interrupt = interrupt.new;
-        delegate = delegate.new; rules = excludes.new; outcome = outcome.new })
+        (record {
+          worktree = worktree.old;
+          objects = objects.old;
+          interrupt = interrupt.old;
+          delegate = delegate.old;
+          rules = excludes.old;
+          outcome = outcome.old;
+        })
+        (record {
+          worktree = worktree.new;
+          objects = objects.new;
+          interrupt = interrupt.new;
+          delegate = delegate.new;
+          rules = excludes.new;
+          outcome = outcome.new;
+        })
         (setting_of M.Matcher shared.now) levels (at_directory place.old.path class.now) result }
     // Over what is told, the directory gives all that is there, or a part of it, and is refused for what is there.
     ensures told { WalksTold W.Worktree F.Find D.Delegate
-        (record { worktree = worktree.old; objects = objects.old; interrupt = interrupt.old;
-        delegate = delegate.old; rules = excludes.old; outcome = outcome.old })
-        (record { worktree = worktree.new; objects = objects.new; interrupt = interrupt.new;
-        delegate = delegate.new; rules = excludes.new; outcome = outcome.new })
+        (record {
+          worktree = worktree.old;
+          objects = objects.old;
+          interrupt = interrupt.old;
+          delegate = delegate.old;
+          rules = excludes.old;
+          outcome = outcome.old;
+        })
+        (record {
+          worktree = worktree.new;
+          objects = objects.new;
+          interrupt = interrupt.new;
+          delegate = delegate.new;
+          rules = excludes.new;
+          outcome = outcome.new;
+        })
         (setting_of M.Matcher shared.now) blocked.now levels (at_directory place.old.path class.now) result }
     // How the directories that are opened are counted, and how many they are at most.
     ensures opens { over_worktree W.Worktree I.Interrupt (chosen shared.now.options) (components place.old.path) 1
-        (record { worktree = worktree.old; objects = objects.old; interrupt = interrupt.old;
-        delegate = delegate.old; rules = excludes.old; outcome = outcome.old })
-        (record { worktree = worktree.new; objects = objects.new; interrupt = interrupt.new;
-        delegate = delegate.new; rules = excludes.new; outcome = outcome.new })
+        (record {
+          worktree = worktree.old;
+          objects = objects.old;
+          interrupt = interrupt.old;
+          delegate = delegate.old;
+          rules = excludes.old;
+          outcome = outcome.old;
+        })
+        (record {
+          worktree = worktree.new;
+          objects = objects.new;
+          interrupt = interrupt.new;
+          delegate = delegate.new;
+          rules = excludes.new;
+          outcome = outcome.new;
+        })
         result (EntersStep W.Worktree F.Find D.Delegate
-        (record { worktree = worktree.old; objects = objects.old; interrupt = interrupt.old;
-        delegate = delegate.old; rules = excludes.old; outcome = outcome.old })
-        (record { worktree = worktree.new; objects = objects.new; interrupt = interrupt.new;
-        delegate = delegate.new; rules = excludes.new; outcome = outcome.new })
+        (record {
+          worktree = worktree.old;
+          objects = objects.old;
+          interrupt = interrupt.old;
+          delegate = delegate.old;
+          rules = excludes.old;
+          outcome = outcome.old;
+        })
+        (record {
+          worktree = worktree.new;
+          objects = objects.new;
+          interrupt = interrupt.new;
+          delegate = delegate.new;
+          rules = excludes.new;
+          outcome = outcome.new;
+        })
         (setting_of M.Matcher shared.now) blocked.now levels (at_directory place.old.path class.now) result) }
     // A store that no rules file is mapped to is not asked.
     ensures unmapped { maps_blobs (made_with excludes.old) ≡ false → objects.new ≡ objects.old }
@@ -276,6 +339,13 @@ pub(crate) fn walk_tree<W: Worktree, F: Find, I: Interrupt, M: Matcher, D: Deleg
     // The place is the same when all is done.
     ensures stays { OnOk result (place.new ≡ place.old) }
 {
-    let mut parts = Parts { excludes, worktree, objects, interrupt, delegate, outcome };
+    let mut parts = Parts {
+        excludes,
+        worktree,
+        objects,
+        interrupt,
+        delegate,
+        outcome,
+    };
     walk_directory(alloc, shared, blocked, place, class, levels, &mut parts)
 }

@@ -38,10 +38,22 @@ pub(crate) fn walk_job<W: Worktree, F: Find, I: Interrupt, M: Matcher, D: Delega
     requires lookup { IsLookupIf shared.now.index.now shared.now.ignore_case_index_lookup.now }
     requires excludes { tells_excludes (made_with excludes.now) ≡ true }
     ensures job { WalksJob W.Worktree F.Find I.Interrupt D.Delegate
-        (record { worktree = worktree.old; objects = objects.old; interrupt = interrupt.old;
-        delegate = delegate.old; rules = excludes.now; outcome = outcome.old })
-        (record { worktree = worktree.new; objects = objects.new; interrupt = interrupt.new;
-        delegate = delegate.new; rules = excludes.now; outcome = outcome.new })
+        (record {
+          worktree = worktree.old;
+          objects = objects.old;
+          interrupt = interrupt.old;
+          delegate = delegate.old;
+          rules = excludes.now;
+          outcome = outcome.old;
+        })
+        (record {
+          worktree = worktree.new;
+          objects = objects.new;
+          interrupt = interrupt.new;
+          delegate = delegate.new;
+          rules = excludes.now;
+          outcome = outcome.new;
+        })
         (setting_of M.Matcher shared.now) blocked.now levels place.old.path class.now result }
     ensures stays { OnOk result (place.new ≡ place.old) }
     ensures lists { W.lists worktree.new ≡ W.lists worktree.old }
@@ -83,10 +95,22 @@ fn on_worktree<W: Worktree, F: Find, I: Interrupt, M: Matcher, D: Delegate>(
     requires lookup { IsLookupIf shared.now.index.now shared.now.ignore_case_index_lookup.now }
     requires excludes { tells_excludes (made_with rules.old) ≡ true }
     ensures job { WalksJob W.Worktree F.Find I.Interrupt D.Delegate
-        (record { worktree = worktree.old; objects = objects.old; interrupt = interrupt.old;
-        delegate = delegate.old; rules = rules.old; outcome = outcome.old })
-        (record { worktree = worktree.new; objects = objects.new; interrupt = interrupt.new;
-        delegate = delegate.new; rules = rules.new; outcome = outcome.new })
+        (record {
+          worktree = worktree.old;
+          objects = objects.old;
+          interrupt = interrupt.old;
+          delegate = delegate.old;
+          rules = rules.old;
+          outcome = outcome.old;
+        })
+        (record {
+          worktree = worktree.new;
+          objects = objects.new;
+          interrupt = interrupt.new;
+          delegate = delegate.new;
+          rules = rules.new;
+          outcome = outcome.new;
+        })
         (setting_of M.Matcher shared.now) blocked.now levels place.old.path class.now result }
     ensures stays { OnOk result (place.new ≡ place.old) }
     ensures lists { W.lists worktree.new ≡ W.lists worktree.old }
@@ -119,10 +143,22 @@ fn on_store<W: Worktree, F: Find, I: Interrupt, M: Matcher, D: Delegate>(
     requires lookup { IsLookupIf shared.now.index.now shared.now.ignore_case_index_lookup.now }
     requires excludes { tells_excludes (made_with rules.old) ≡ true }
     ensures job { WalksJob W.Worktree F.Find I.Interrupt D.Delegate
-        (record { worktree = worktree.old; objects = objects.old; interrupt = interrupt.old;
-        delegate = delegate.old; rules = rules.old; outcome = outcome.old })
-        (record { worktree = worktree.new; objects = objects.new; interrupt = interrupt.new;
-        delegate = delegate.new; rules = rules.new; outcome = outcome.new })
+        (record {
+          worktree = worktree.old;
+          objects = objects.old;
+          interrupt = interrupt.old;
+          delegate = delegate.old;
+          rules = rules.old;
+          outcome = outcome.old;
+        })
+        (record {
+          worktree = worktree.new;
+          objects = objects.new;
+          interrupt = interrupt.new;
+          delegate = delegate.new;
+          rules = rules.new;
+          outcome = outcome.new;
+        })
         (setting_of M.Matcher shared.now) blocked.now levels place.old.path class.now result }
     ensures stays { OnOk result (place.new ≡ place.old) }
 {
@@ -154,10 +190,22 @@ fn on_interrupt<W: Worktree, F: Find, I: Interrupt, M: Matcher, D: Delegate>(
     requires lookup { IsLookupIf shared.now.index.now shared.now.ignore_case_index_lookup.now }
     requires excludes { tells_excludes (made_with rules.old) ≡ true }
     ensures job { WalksJob W.Worktree F.Find I.Interrupt D.Delegate
-        (record { worktree = worktree.old; objects = objects.old; interrupt = interrupt.old;
-        delegate = delegate.old; rules = rules.old; outcome = outcome.old })
-        (record { worktree = worktree.new; objects = objects.new; interrupt = interrupt.new;
-        delegate = delegate.new; rules = rules.new; outcome = outcome.new })
+        (record {
+          worktree = worktree.old;
+          objects = objects.old;
+          interrupt = interrupt.old;
+          delegate = delegate.old;
+          rules = rules.old;
+          outcome = outcome.old;
+        })
+        (record {
+          worktree = worktree.new;
+          objects = objects.new;
+          interrupt = interrupt.new;
+          delegate = delegate.new;
+          rules = rules.new;
+          outcome = outcome.new;
+        })
         (setting_of M.Matcher shared.now) blocked.now levels place.old.path class.now result }
     ensures stays { OnOk result (place.new ≡ place.old) }
 {
