@@ -9,7 +9,7 @@ use crate::odd::{Looks, Odd};
 use crate::refusals::is_error;
 use bstr::ByteSlice;
 use dir_classify::{Context, Entry, Error, Options, Status, tells_excludes};
-use dir_walk::walk::walk;
+use dir_walk::walk;
 use dir_walk::{Outcome, Report, Strategy, walk_at_once, walk_by_path};
 use gitbase_core::{Bytes, MemoryStore, PathText, State};
 use glob_rules::ignore::{Origin, RuleGroup};
