@@ -137,7 +137,14 @@ impl Stack {
             Case::Sensitive
         };
         let id_mappings = state.id_mappings_from_index(alloc, index, case)?;
-        Ok(Stack::new(alloc, root, state, case, Bytes::new(alloc), id_mappings))
+        Ok(Stack::new(
+            alloc,
+            root,
+            state,
+            case,
+            Bytes::new(alloc),
+            id_mappings.into_vec(),
+        ))
     }
 
     /// A stack that is made as this one was, with nothing pushed and nothing counted. It is in step with whatever is told. Fails

@@ -138,8 +138,9 @@ fn has_mappings(alloc: Global, source: &[u8], want: &[u8]) -> bool {
     match state_of(alloc, source) {
         Ok(state) => match state.id_mappings_from_index(alloc, &index, Case::Sensitive) {
             Ok(mappings) => {
-                is_digit(mappings.len(), want)
+                is_digit(mappings.as_slice().len(), want)
                     && mappings
+                        .as_slice()
                         .first()
                         .is_some_and(|mapping| mapping.1 == id_of(b"1"))
             }
