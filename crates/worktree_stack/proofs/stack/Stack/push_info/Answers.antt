@@ -1,4 +1,4 @@
-use Rattle.std.proofs.Common.{◌≡◌, ◌∙◌, ◌∷◌, [], ℕ, List, Option, Some, None, Result, Ok, true, refl, ap, subst, rules}
+use Rattle.std.proofs.Common.{◌≡◌, ◌∙◌, ◌∷◌, [], ℕ, List, Option, Some, Result, true, refl, ap, subst, rules}
 use Rattle.std.specs.Prelude.{IsErrAnd}
 use Rattle.worktree_fs.specs.Paths.{spelled}
 use Rattle.worktree_stack.specs.declared.error.AtPathError.{AtPathError}
@@ -6,14 +6,14 @@ use Rattle.worktree_stack.specs.declared.error.AtPathError.TheVariants as errors
 use Rattle.worktree_stack.specs.declared.statistics.Statistics.{Statistics}
 use Rattle.worktree_stack.specs.Placed.{Reads}
 use Rattle.worktree_stack.specs.Reading.{Text, attributes_from, OneReading, of_attributes, text_of, info_readings_if, info_places}
-use Rattle.worktree_stack.specs.SeenNames.{info_names_if, names_from}
+use Rattle.worktree_stack.specs.SeenNames.{names_from}
 use Rattle.worktree_stack.specs.Setup.{AttributesSetup, HeldAttributes, Made, attributes_setup_of, lists_of, names_of, push_list}
 use Rattle.worktree_stack.specs.Stacked.{made_of, attributes_of}
 use Rattle.glob_rules.specs.AttributeNames.{SeesPart}
 use Rattle.glob_rules.specs.Attributes.{AttributeList}
 use Rattle.worktree_stack.proofs.Readings.{reads-lost, only-attributes}
 use Rattle.worktree_stack.proofs.Pushing.{info-some, empty-nil, reads-as, reads-placed}
-use Rattle.worktree_stack.proofs.Seeing.{info-below, info-named, info-unmade, sees-nothing, sees-refused, sees-some, sees-text}
+use Rattle.worktree_stack.proofs.Seeing.{info-named, sees-refused, sees-some, sees-text}
 use Rattle.worktree_stack.proofs.stack.Stack.push_info.Goals as goal
 
 pub returns-in_err-source-clause-reads : goal.returns-in_err-source-clause-reads
