@@ -238,7 +238,7 @@ fn mapped_count(alloc: Global, rows: &[u8]) -> Option<usize> {
             &index,
             Case::Sensitive,
         ) {
-            Ok(mappings) => Some(mappings.len()),
+            Ok(mappings) => Some(mappings.as_slice().len()),
             Err(_) => None,
         },
         Err(_) => None,
