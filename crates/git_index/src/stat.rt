@@ -26,7 +26,8 @@ pub struct Stat {
     pub uid: u32,
     /// The group that owns the file.
     pub gid: u32,
-    /// The size in bytes.
+    /// The size in bytes; 0 also where git has to look at the file again, since it may have changed at the moment at which
+    /// the index was written.
     pub size: u32,
 }
 

@@ -1,0 +1,113 @@
+//! Prints what the index file on standard input says, for `scripts/compare-index`.
+//!
+//! First the number of entries, and ` sparse` where the index is; then for each entry what `git ls-files -s -v -z` prints,
+//! and its stat fields on a line, with `N` behind them where it is to be added. Or why the bytes are no index, with
+//! status 1. With a word behind its name it prints the number alone.
+#![tactic(auto)]
+
+use git_index::{Detail, IndexFileError, read_index};
+use gitbase_core::{Flags, IndexEntry, IndexError, State};
+use std::alloc::Global;
+use std::env::Env;
+use std::io;
+use std::io::{Read, Write};
+use std::process::ExitCode;
+
+/// The letter that `git ls-files -v` puts before an entry.
+fn letter(entry: &IndexEntry) -> char {
+    let is_assumed = entry.flags.contains(Flags::ASSUME_VALID);
+    if entry.flags.contains(Flags::SKIP_WORKTREE) {
+        return if is_assumed { 's' } else { 'S' };
+    }
+    if entry.stage > 0 {
+        return if is_assumed { 'm' } else { 'M' };
+    }
+    if is_assumed { 'h' } else { 'H' }
+}
+
+/// Adds the record of an entry.
+fn add_entry(text: &mut Vec<u8>, alloc: Global, entry: &IndexEntry) -> io::Result<()> {
+    let letter = letter(entry);
+    let mode = entry.mode.bits();
+    let stage = entry.stage;
+    let head = format!(in alloc; "{letter} {mode:06o} ")?;
+    text.extend_from_slice(head.as_bytes())?;
+    text.extend_from_slice(&entry.id.to_hex())?;
+    let tail = format!(in alloc; " {stage}\t")?;
+    text.extend_from_slice(tail.as_bytes())?;
+    text.extend_from_slice(entry.path.as_bytes())?;
+    text.push(0)?;
+    Ok(())
+}
+
+/// Adds what the file says of an entry besides.
+fn add_detail(text: &mut Vec<u8>, alloc: Global, detail: &Detail) -> io::Result<()> {
+    let stat = detail.stat;
+    let (c, m) = (stat.ctime, stat.mtime);
+    let times = format!(in alloc;
+        "{}:{} {}:{}",
+        c.seconds, c.nanoseconds, m.seconds, m.nanoseconds
+    )?;
+    text.extend_from_slice(times.as_bytes())?;
+    let place = format!(in alloc; " {} {} {} {}", stat.dev, stat.ino, stat.uid, stat.gid)?;
+    text.extend_from_slice(place.as_bytes())?;
+    let intent = if detail.intent_to_add { " N" } else { "" };
+    let rest = format!(in alloc; " {}{intent}\n", stat.size)?;
+    text.extend_from_slice(rest.as_bytes())?;
+    Ok(())
+}
+
+/// All records.
+fn records(alloc: Global, state: &State, details: &[Detail]) -> io::Result<Vec<u8>> {
+    let mut text = Vec::new(alloc);
+    for (entry, detail) in state.entries().iter().zip(details) {
+        add_entry(&mut text, alloc, entry)?;
+        add_detail(&mut text, alloc, detail)?;
+    }
+    Ok(text)
+}
+
+/// Says why some bytes are no index file.
+fn refuse_file(rt: &HostRuntime, error: IndexFileError) -> io::Result<ExitCode> {
+    println!(rt; "refused: {error:?}")?;
+    Ok(ExitCode::from(1))
+}
+
+/// Says why the entries of a file are no index.
+fn refuse_entries(rt: &HostRuntime, error: IndexError) -> io::Result<ExitCode> {
+    println!(rt; "no index: {error:?}")?;
+    Ok(ExitCode::from(1))
+}
+
+/// Prints what an index says.
+fn dump(
+    rt: &HostRuntime,
+    state: &State,
+    details: &[Detail],
+    is_sparse: bool,
+) -> io::Result<ExitCode> {
+    let sparse = if is_sparse { " sparse" } else { "" };
+    println!(rt; "{} entries{sparse}", state.entries().len())?;
+    let mut buffer = [0u8; 8];
+    if rt.arg(1, &mut buffer).is_err() {
+        let text = records(rt.alloc(), state, details)?;
+        io::writer(rt).write_all(&text)?;
+    }
+    Ok(ExitCode::from(0))
+}
+
+fn main(rt: HostRuntime) -> io::Result<ExitCode> {
+    let alloc = rt.alloc();
+    let mut bytes = Vec::new(alloc);
+    rt.reader().read_to_end(&mut bytes)?;
+    let file = match read_index(alloc, &bytes) {
+        Ok(file) => file,
+        Err(error) => return refuse_file(&rt, error),
+    };
+    let is_sparse = file.is_sparse();
+    let (entries, details) = file.into_parts();
+    match State::from_entries(entries) {
+        Ok(state) => dump(&rt, &state, &details, is_sparse),
+        Err(error) => refuse_entries(&rt, error),
+    }
+}
