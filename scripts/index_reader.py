@@ -62,8 +62,9 @@ def entry(data, start, version, before):
             at += 1
     need(min(len(path), 0xFFF) == flags & 0xFFF)
     stage, assumed = flags >> 12 & 3, bool(flags & 0x8000)
-    letter = "S" if skipped else "M" if stage else "H"
-    record = (letter.lower() if assumed else letter, "%06o" % mode, name, stage, path, tuple(stat), (uid, gid, size), intent)
+    letter = "M" if stage else "S" if skipped else "H"
+    record = (letter.lower() if assumed else letter, "%06o" % mode, name, stage, path, tuple(stat), (uid, gid, size),
+              intent, skipped)
     return record, path, at
 
 

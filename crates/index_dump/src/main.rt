@@ -1,7 +1,7 @@
 //! Prints what the index file on standard input says, for `scripts/compare-index`.
 //!
 //! First the number of entries, and ` sparse` where the index is; then for each entry what `git ls-files -s -v -z` prints,
-//! and its stat fields on a line, with `N` behind them where it is to be added. Or why the bytes are no index, with
+//! and its stat fields on a line, with `N` behind them where it is to be added and `S` where it is skipped. Or why the bytes are no index, with
 //! status 1. With a word behind its name it prints the number alone.
 #![tactic(auto)]
 
@@ -13,14 +13,19 @@ use std::io;
 use std::io::{Read, Write};
 use std::process::ExitCode;
 
+/// Whether the entry is left out of a sparse worktree.
+fn is_skipped(entry: &IndexEntry) -> bool {
+    entry.flags.contains(Flags::SKIP_WORKTREE)
+}
+
 /// The letter that `git ls-files -v` puts before an entry.
 fn letter(entry: &IndexEntry) -> char {
     let is_assumed = entry.flags.contains(Flags::ASSUME_VALID);
-    if entry.flags.contains(Flags::SKIP_WORKTREE) {
-        return if is_assumed { 's' } else { 'S' };
-    }
     if entry.stage > 0 {
         return if is_assumed { 'm' } else { 'M' };
+    }
+    if is_skipped(entry) {
+        return if is_assumed { 's' } else { 'S' };
     }
     if is_assumed { 'h' } else { 'H' }
 }
@@ -41,7 +46,12 @@ fn add_entry(text: &mut Vec<u8>, alloc: Global, entry: &IndexEntry) -> io::Resul
 }
 
 /// Adds what the file says of an entry besides.
-fn add_detail(text: &mut Vec<u8>, alloc: Global, detail: &Detail) -> io::Result<()> {
+fn add_detail(
+    text: &mut Vec<u8>,
+    alloc: Global,
+    detail: &Detail,
+    is_skipped: bool,
+) -> io::Result<()> {
     let stat = detail.stat;
     let (c, m) = (stat.ctime, stat.mtime);
     let times = format!(in alloc;
@@ -52,7 +62,8 @@ fn add_detail(text: &mut Vec<u8>, alloc: Global, detail: &Detail) -> io::Result<
     let place = format!(in alloc; " {} {} {} {}", stat.dev, stat.ino, stat.uid, stat.gid)?;
     text.extend_from_slice(place.as_bytes())?;
     let intent = if detail.intent_to_add { " N" } else { "" };
-    let rest = format!(in alloc; " {}{intent}\n", stat.size)?;
+    let skipped = if is_skipped { " S" } else { "" };
+    let rest = format!(in alloc; " {}{intent}{skipped}\n", stat.size)?;
     text.extend_from_slice(rest.as_bytes())?;
     Ok(())
 }
@@ -62,7 +73,7 @@ fn records(alloc: Global, state: &State, details: &[Detail]) -> io::Result<Vec<u
     let mut text = Vec::new(alloc);
     for (entry, detail) in state.entries().iter().zip(details) {
         add_entry(&mut text, alloc, entry)?;
-        add_detail(&mut text, alloc, detail)?;
+        add_detail(&mut text, alloc, detail, is_skipped(entry))?;
     }
     Ok(text)
 }
