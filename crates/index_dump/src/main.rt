@@ -1,11 +1,11 @@
 //! Prints what the index file on standard input says, for `scripts/compare-index`.
 //!
 //! First the number of entries, and ` sparse` where the index is; then for each entry what `git ls-files -s -v -z` prints,
-//! and its stat fields on a line, with `N` behind them where it is to be added and `S` where it is skipped. Or why the bytes are no index, with
-//! status 1. With a word behind its name it prints the number alone.
+//! and its stat fields on a line, with `N` behind them where it is to be added and `S` where it is skipped. Or why the bytes
+//! are no index, with status 1. With a word behind its name it reads the file alone, and prints the number.
 #![tactic(auto)]
 
-use git_index::{Detail, IndexFileError, read_index};
+use git_index::{Detail, IndexFile, IndexFileError, read_index};
 use gitbase_core::{Flags, IndexEntry, IndexError, State};
 use std::alloc::Global;
 use std::env::Env;
@@ -90,35 +90,40 @@ fn refuse_entries(rt: &HostRuntime, error: IndexError) -> io::Result<ExitCode> {
     Ok(ExitCode::from(1))
 }
 
-/// Prints what an index says.
-fn dump(
-    rt: &HostRuntime,
-    state: &State,
-    details: &[Detail],
-    is_sparse: bool,
-) -> io::Result<ExitCode> {
+/// Prints how many entries there are.
+fn count(rt: &HostRuntime, length: usize, is_sparse: bool) -> io::Result<ExitCode> {
     let sparse = if is_sparse { " sparse" } else { "" };
-    println!(rt; "{} entries{sparse}", state.entries().len())?;
-    let mut buffer = [0u8; 8];
-    if rt.arg(1, &mut buffer).is_err() {
-        let text = records(rt.alloc(), state, details)?;
-        io::writer(rt).write_all(&text)?;
-    }
+    println!(rt; "{length} entries{sparse}")?;
     Ok(ExitCode::from(0))
 }
 
-fn main(rt: HostRuntime) -> io::Result<ExitCode> {
-    let alloc = rt.alloc();
-    let mut bytes = Vec::new(alloc);
-    rt.reader().read_to_end(&mut bytes)?;
-    let file = match read_index(alloc, &bytes) {
-        Ok(file) => file,
-        Err(error) => return refuse_file(&rt, error),
-    };
+/// Prints how many entries there are, and a record for each.
+fn dump(rt: &HostRuntime, file: IndexFile) -> io::Result<ExitCode> {
     let is_sparse = file.is_sparse();
     let (entries, details) = file.into_parts();
     match State::from_entries(entries) {
-        Ok(state) => dump(&rt, &state, &details, is_sparse),
-        Err(error) => refuse_entries(&rt, error),
+        Ok(state) => {
+            let text = records(rt.alloc(), &state, &details)?;
+            let status = count(rt, details.len(), is_sparse)?;
+            io::writer(rt).write_all(&text)?;
+            Ok(status)
+        }
+        Err(error) => refuse_entries(rt, error),
+    }
+}
+
+/// Whether there is a word behind the program's name.
+fn has_word(rt: &HostRuntime) -> bool {
+    let mut buffer = [0u8; 8];
+    rt.arg(1, &mut buffer).is_ok()
+}
+
+fn main(rt: HostRuntime) -> io::Result<ExitCode> {
+    let mut bytes = Vec::new(rt.alloc());
+    rt.reader().read_to_end(&mut bytes)?;
+    match read_index(rt.alloc(), &bytes) {
+        Ok(file) if has_word(&rt) => count(&rt, file.entries().len(), file.is_sparse()),
+        Ok(file) => dump(&rt, file),
+        Err(error) => refuse_file(&rt, error),
     }
 }
