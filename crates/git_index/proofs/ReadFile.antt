@@ -1,13 +1,12 @@
 -- An index file that is read is written.
 use Rattle.std.proofs.Common.{◌≡◌, ◌⊎◌, refl, sym, ap, ◌∙◌, subst, arith, inl, inr, ℕ, zero, suc, ◌+◌, ◌-◌, ◌≤◌, ◌<◌, ◌^◌, not, cond, Bool, true, false, ◌||◌, nat_lt, lt-ltb, ltb-false, List, [], ◌∷◌, ◌++◌, map, length, take, drop, replicate, codes, position, Option, Some, None, Result, Ok, Err, ok_or, IfOk, if◌then◌else◌, append_assoc, length-drop, length-take-le, take-append-drop, drop-drop}
-use Rattle.std.proofs.lemmas.List.{append-nil, length-map}
+use Rattle.std.proofs.lemmas.List.{length-map}
 use Rattle.std.specs.Str.{bytes_eq}
 use Rattle.std.specs.Cmp.Lexicographic.{bytes_decides}
 use Rattle.std.specs.List.{list_any, list_all, position_or_len}
 use Rattle.byteorder.specs.Endian.{big_bytes}
 use Rattle.sha1.specs.Sha1.{sha1}
 use Rattle.gitbase_core.specs.declared.entry.IndexEntry.{IndexEntry}
-use Rattle.git_index.specs.Steps.{and_then}
 use Rattle.git_index.specs.Parts.{is_nul, word}
 use Rattle.git_index.specs.Entries.{Entries, Listed, Read, entries_after, entry_at, last_path, none_listed, path_or, with_entry}
 use Rattle.git_index.specs.Extensions.{extensions_after}

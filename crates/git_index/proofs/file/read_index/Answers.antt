@@ -1,5 +1,4 @@
 use Rattle.std.proofs.Math.Facts.{Fits-lt-pow}
-use Rattle.git_index.proofs.Numbers.{AreBytes}
 use Rattle.git_index.proofs.ReadFile.{answers_written, beside}
 use Rattle.git_index.proofs.WrittenFile.{answers, reads_written}
 use Rattle.git_index.proofs.file.read_index.Goals as goal
