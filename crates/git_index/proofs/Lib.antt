@@ -1,0 +1,14 @@
+mod Passing
+mod Stepping
+mod Seams
+mod Steps
+mod Numbers
+mod Words
+mod Varints
+mod Bits
+mod WrittenEntry
+mod WrittenFile
+mod ReadParts
+mod ReadEntry
+mod ReadExtensions
+mod ReadFile

@@ -1,0 +1,270 @@
+-- An entry that is read is written.
+use Rattle.std.proofs.Common.{◌≡◌, refl, sym, ap, ◌∙◌, subst, arith, ℕ, ◌+◌, ◌-◌, ◌*◌, ◌/◌, ◌%◌, ◌^◌, ◌≤◌, ◌<◌, min, nat_le, leb-true, eqb-true, Bool, true, false, ◌==◌, List, [], ◌∷◌, ◌++◌, length, take, drop, replicate, Some, None, option_map, append_assoc, length-drop, length-take-le, take-append-drop, drop-drop, if◌then◌else◌}
+use Rattle.std.specs.List.{list_any, list_all}
+use Rattle.byteorder.specs.Endian.{big_number, big_bytes}
+use Rattle.gitbase_core.specs.declared.entry.Mode.{Mode}
+use Rattle.git_index.specs.Steps.{◌>>=◌}
+use Rattle.git_index.specs.Parts.{Parted, front, is_nul, text, word}
+use Rattle.git_index.specs.Varint.{Number, leading_bytes, number, number_text}
+use Rattle.git_index.specs.Head.{Fixed, fixed_of, is_assumed, is_extended, mode_of, mode_with, stage_of, stat_of}
+use Rattle.git_index.specs.More.{More, is_more, more_at, more_of, second_flags}
+use Rattle.git_index.specs.Name.{Named, cut_path, fits_length, if_fitting, kept_path, padded, padding, path_at, whole_path}
+use Rattle.git_index.specs.Entries.{Read, entry_at, entry_by, named_by, read_of}
+use Rattle.git_index.specs.Written.{AreWords, IsWritable, Written, bit, detail_of, entry_of, entry_text, head_text, more_text, name_text, words_of, words_text}
+use Rattle.git_index.proofs.Bits.{flags_back, more_back}
+use Rattle.git_index.proofs.Numbers.{AreBytes, bytes_behind, bytes_front, number_small, two_back}
+use Rattle.git_index.proofs.ReadParts.{IsFront, from_front, from_text, mode_back, no_nul_front, no_nul_joined, nuls_back}
+use Rattle.git_index.proofs.Seams.{drop_exact}
+use Rattle.git_index.proofs.Steps.{bound, chosen, mapped, some_is}
+use Rattle.git_index.proofs.Varints.{from_number}
+use Rattle.git_index.proofs.Words.{words_at, words_back, words_small}
+
+-- ---- the head
+
+-- a head of 62 bytes is its ten numbers, its id and its flags
+pub head_back : (head : List ℕ) → length head ≡ 62 → AreBytes head → head ≡ words_text (words_at 10 0 head) ++ (take 20 (drop 40 head) ++ big_bytes 2 (big_number 2 (drop 60 head)))
+head_back head h ok =
+    let flags : big_bytes 2 (big_number 2 (drop 60 head)) ≡ drop 60 head = two_back (drop 60 head) (omega (arith, h, length-drop 60 head)) (bytes_behind 60 head ok) in
+    let last : drop 40 head ≡ take 20 (drop 40 head) ++ drop 60 head = sym (take-append-drop 20 (drop 40 head)) ∙ ap (λ x. take 20 (drop 40 head) ++ x) (drop-drop 20 40 head) in
+    words_back 10 0 head (omega (arith, h)) ok
+    ∙ ap (λ x. words_text (words_at 10 0 head) ++ x) last
+    ∙ ap (λ x. words_text (words_at 10 0 head) ++ (take 20 (drop 40 head) ++ x)) (sym flags)
+
+-- ---- the second pair of flags
+
+pub record IsMoreOf (version : ℕ) (extended : Bool) (bytes : List ℕ) (more : More) : Type 0 where
+  pub whole : bytes ≡ (if extended then big_bytes 2 (bit more.is_skipped 16384 + bit more.intent_to_add 8192) else []) ++ more.rest
+  pub size : more.size ≡ (if extended then 2 else 0)
+  pub allowed : extended ≡ true → (version == 2) ≡ false
+  pub plain : extended ≡ false → (more.is_skipped ≡ false) × (more.intent_to_add ≡ false)
+  pub rest_bytes : AreBytes more.rest
+
+abbrev more_with : ℕ → List ℕ → More
+more_with bits rest = record { size = 2; is_skipped = bits / 16384 % 2 == 1; intent_to_add = bits / 8192 % 2 == 1; rest = rest }
+
+second_back : (version : ℕ) (bytes : List ℕ) (more : More) → AreBytes bytes → (version == 2) ≡ false → second_flags bytes ≡ Some more → IsMoreOf version true bytes more
+second_back version bytes more ok allowed h =
+    let two = bound (front 2 bytes) (λ (p : Parted). more_of (big_number 2 p.part) p.rest) more h in
+    let p = two.0 in
+    let part = from_front 2 bytes p two.1 in
+    let bits = big_number 2 p.part in
+    let bytes_of : AreBytes p.part = subst AreBytes (sym part.part) (bytes_front 2 bytes ok) in
+    let told = chosen (is_more bits) (Some (more_with bits p.rest)) more two.2 in
+    let same : more_with bits p.rest ≡ more = some_is told.1 in
+    let written : big_bytes 2 (bit (bits / 16384 % 2 == 1) 16384 + bit (bits / 8192 % 2 == 1) 8192) ≡ p.part =
+    ap (big_bytes 2) (more_back bits (number_small 2 p.part bytes_of) told.0) ∙ two_back p.part part.size bytes_of in
+    subst (IsMoreOf version true bytes) same (record {
+      whole = part.whole ∙ ap (λ x. x ++ p.rest) (sym written);
+      size = refl;
+      allowed = λ _. allowed;
+      plain = λ e. absurd (cc);
+      rest_bytes = subst AreBytes (sym part.rest) (bytes_behind 2 bytes ok);
+    })
+
+pub from_more : (version : ℕ) (extended : Bool) (bytes : List ℕ) (more : More) → AreBytes bytes → more_at version extended bytes ≡ Some more → IsMoreOf version extended bytes more
+from_more version false bytes more ok h =
+    subst (IsMoreOf version false bytes) (some_is h) (record { whole = refl; size = refl; allowed = λ e. absurd (cc); plain = λ _. (refl, refl); rest_bytes = ok })
+from_more version true bytes more ok h = go (version == 2) refl h where
+  go : (b : Bool) → (version == 2) ≡ b → (if b then None else second_flags bytes) ≡ Some more → IsMoreOf version true bytes more
+  go true e h = absurd (cc)
+  go false e h = second_back version bytes more ok e h
+
+-- ---- the path
+
+-- the path, with what it is written as
+pub record IsPathOf (version : ℕ) (previous : List ℕ) (before : ℕ) (bytes : List ℕ) (named : Named) : Type 0 where
+  pub cut : ℕ
+  pub plain : list_any is_nul named.path ≡ false
+  pub keeps : (version == 4) ≡ true → (cut < 2 ^ 32) × (cut ≤ length previous)
+      × (take (length previous - cut) previous ++ drop (length previous - cut) named.path ≡ named.path)
+  pub whole : bytes ≡ (if version == 4 then number_text cut ++ (drop (length previous - cut) named.path ++ 0 ∷ []) else named.path ++ 0 ∷ replicate (padding (before + length named.path)) 0) ++ named.rest
+
+record IsWhole (before : ℕ) (bytes : List ℕ) (named : Named) : Type 0 where
+  plain : list_any is_nul named.path ≡ false
+  whole : bytes ≡ (named.path ++ 0 ∷ replicate (padding (before + length named.path)) 0) ++ named.rest
+
+whole_back : (before : ℕ) (bytes : List ℕ) (named : Named) → whole_path before bytes ≡ Some named → IsWhole before bytes named
+whole_back before bytes named h =
+    let read = bound (text bytes) (λ (name : Parted). padded name.part (before + length name.part) name.rest) named h in
+    let name = read.0 in
+    let split = from_text bytes name read.1 in
+    let fill = bound (front (padding (before + length name.part)) name.rest) (λ (fill : Parted). if list_all is_nul fill.part then Some (record { path = name.part; rest = fill.rest }) else None) named read.2 in
+    let part = from_front (padding (before + length name.part)) name.rest fill.0 fill.1 in
+    let told = chosen (list_all is_nul fill.0.part) (Some (record { path = name.part; rest = fill.0.rest })) named fill.2 in
+    let same : (◌≡◌ {A = Named} (record { path = name.part; rest = fill.0.rest }) named) = some_is told.1 in
+    let nuls : fill.0.part ≡ replicate (padding (before + length name.part)) 0 = nuls_back fill.0.part told.0 ∙ ap (λ n. replicate n 0) part.size in
+    subst (IsWhole before bytes) same (record {
+      plain = split.plain;
+      whole = split.whole ∙ ap (λ x. name.part ++ 0 ∷ x) (part.whole ∙ ap (λ x. x ++ fill.0.rest) nuls)
+          ∙ sym (append_assoc name.part (0 ∷ replicate (padding (before + length name.part)) 0) fill.0.rest);
+    })
+
+record IsCut (previous bytes : List ℕ) (named : Named) : Type 0 where
+  cut : ℕ
+  plain : list_any is_nul named.path ≡ false
+  small : cut < 2 ^ 32
+  within : cut ≤ length previous
+  same : take (length previous - cut) previous ++ drop (length previous - cut) named.path ≡ named.path
+  whole : bytes ≡ (number_text cut ++ (drop (length previous - cut) named.path ++ 0 ∷ [])) ++ named.rest
+
+cut_back : (previous bytes : List ℕ) (named : Named) → AreBytes bytes → list_any is_nul previous ≡ false → cut_path previous bytes ≡ Some named → IsCut previous bytes named
+unfolding leading_bytes
+cut_back previous bytes named ok plain h =
+    let read = bound (number bytes) (λ (n : Number). kept_path previous n.value n.rest) named h in
+    let n = read.0 in
+    let text_of = from_number 0 bytes n ok read.1 in
+    let whole_text : bytes ≡ number_text n.value ++ n.rest = text_of.whole ∙ ap (λ x. x ++ n.rest) (text_of.is) in
+    let kept = length previous - n.value in
+    let told = chosen (nat_le n.value (length previous)) (option_map (λ (name : Parted). record { path = take kept previous ++ name.part; rest = name.rest }) (text n.rest)) named read.2 in
+    let within : n.value ≤ length previous = leb-true n.value (length previous) told.0 in
+    let tail = mapped (text n.rest) (λ (name : Parted). record { path = take kept previous ++ name.part; rest = name.rest }) named told.1 in
+    let split = from_text n.rest tail.0 tail.1 in
+    let behind : drop kept (take kept previous ++ tail.0.part) ≡ tail.0.part =
+    drop_exact kept (take kept previous) tail.0.part (length-take-le kept previous (omega arith)) in
+    subst (IsCut previous bytes) tail.2 (record {
+      cut = n.value;
+      plain = no_nul_joined (take kept previous) tail.0.part (no_nul_front kept previous plain) split.plain;
+      small = text_of.small;
+      within = within;
+      same = ap (λ x. take kept previous ++ x) behind;
+      whole = whole_text ∙ ap (λ x. number_text n.value ++ x) (split.whole ∙ sym (append_assoc tail.0.part (0 ∷ []) tail.0.rest)
+          ∙ ap (λ x. (x ++ 0 ∷ []) ++ tail.0.rest) (sym behind))
+          ∙ sym (append_assoc (number_text n.value) (drop kept (take kept previous ++ tail.0.part) ++ 0 ∷ []) tail.0.rest);
+    })
+
+pub from_path : (version : ℕ) (previous : List ℕ) (before : ℕ) (bytes : List ℕ) (named : Named) → AreBytes bytes → list_any is_nul previous ≡ false
+    → path_at version previous before bytes ≡ Some named → IsPathOf version previous before bytes named
+from_path version previous before bytes named ok plain h = go (version == 4) refl h where
+  go : (b : Bool) → (version == 4) ≡ b → (if b then cut_path previous bytes else whole_path before bytes) ≡ Some named → IsPathOf version previous before bytes named
+  go true e h =
+      let read = cut_back previous bytes named ok plain h in
+      record {
+        cut = read.cut;
+        plain = read.plain;
+        keeps = λ _. (read.small, read.within, read.same);
+        whole = read.whole ∙ ap (λ b. (if b then number_text read.cut ++ (drop (length previous - read.cut) named.path ++ 0 ∷ []) else named.path ++ 0 ∷ replicate (padding (before + length named.path)) 0) ++ named.rest) (sym e);
+      }
+  go false e h =
+      let read = whole_back before bytes named h in
+      record {
+        cut = 0;
+        plain = read.plain;
+        keeps = λ yes4. absurd (cc);
+        whole = read.whole ∙ ap (λ b. (if b then number_text 0 ++ (drop (length previous - 0) named.path ++ 0 ∷ []) else named.path ++ 0 ∷ replicate (padding (before + length named.path)) 0) ++ named.rest) (sym e);
+      }
+
+-- ---- an entry
+
+pub record IsEntryOf (version : ℕ) (previous bytes : List ℕ) (read : Read) : Type 0 where
+  pub w : Written
+  pub whole : bytes ≡ entry_text version previous w ++ read.rest
+  pub writable : IsWritable version previous w
+  pub entry : entry_of w ≡ read.entry
+  pub detail : detail_of w ≡ read.detail
+
+-- what is written where these parts are read
+written_by : List ℕ → More → Named → ℕ → Written
+written_by head more named cut = record {
+  stat = stat_of head;
+  mode = word 6 head;
+  id = take 20 (drop 40 head);
+  assumed = is_assumed (big_number 2 (drop 60 head));
+  stage = stage_of (big_number 2 (drop 60 head));
+  extended = is_extended (big_number 2 (drop 60 head));
+  skipped = more.is_skipped;
+  intent_to_add = more.intent_to_add;
+  path = named.path;
+  cut = cut;
+}
+
+-- the head says its numbers
+head_is : (head : List ℕ) (more : More) (named : Named) (cut : ℕ) → length head ≡ 62 → AreBytes head → fits_length (big_number 2 (drop 60 head)) named ≡ true
+    → head ≡ head_text (written_by head more named cut)
+unfolding written_by words_at
+head_is head more named cut size ok fits =
+    let f = big_number 2 (drop 60 head) in
+    let flags : bit (is_assumed f) 32768 + bit (is_extended f) 16384 + stage_of f * 4096 + min (length named.path) 4095 ≡ f =
+    flags_back f (min (length named.path) 4095) (number_small 2 (drop 60 head) (bytes_behind 60 head ok)) (eqb-true _ _ fits) in
+    head_back head size ok ∙ ap (λ k. words_text (words_at 10 0 head) ++ (take 20 (drop 40 head) ++ big_bytes 2 k)) (sym flags)
+
+words_are : (head : List ℕ) (more : More) (named : Named) (cut : ℕ) → AreBytes head → AreWords (words_of (written_by head more named cut))
+unfolding written_by words_at
+words_are head more named cut ok = words_small 10 0 head ok
+
+-- the parts that an entry is read from
+record AreParts (version : ℕ) (previous bytes : List ℕ) (read : Read) : Type 0 where
+  p : Parted
+  is_front : IsFront 62 bytes p
+  m : More
+  mode_is : mode_of (word 6 p.part) ≡ Some (mode_with (word 6 p.part))
+  more_is : more_at version (is_extended (big_number 2 (drop 60 p.part))) p.rest ≡ Some m
+  n : Named
+  path_is : path_at version previous (62 + m.size) m.rest ≡ Some n
+  fits : fits_length (big_number 2 (drop 60 p.part)) n ≡ true
+  is : read_of (record { stat = stat_of p.part; mode = mode_with (word 6 p.part); id = take 20 (drop 40 p.part); flags = big_number 2 (drop 60 p.part) }) m n ≡ read
+
+parts_of : (version : ℕ) (previous bytes : List ℕ) (read : Read) → entry_at version previous bytes ≡ Some read → AreParts version previous bytes read
+parts_of version previous bytes read h =
+    let front_of = bound (front 62 bytes) (λ (p : Parted). fixed_of p.part >>= (λ (x : Fixed). entry_by version previous x p.rest)) read h in
+    let p = front_of.0 in
+    let head = p.part in
+    let f = big_number 2 (drop 60 head) in
+    let fixed = bound (fixed_of head) (λ (x : Fixed). entry_by version previous x p.rest) read front_of.2 in
+    let mode = mapped (mode_of (word 6 head)) (λ (mode : Mode). record { stat = stat_of head; mode = mode; id = take 20 (drop 40 head); flags = f }) fixed.0 fixed.1 in
+    let mode_same : mode.0 ≡ mode_with (word 6 head) = mode_back (word 6 head) mode.0 mode.1 in
+    let fixed_with : Fixed = record { stat = stat_of head; mode = mode_with (word 6 head); id = take 20 (drop 40 head); flags = f } in
+    let fixed_same : fixed_with ≡ fixed.0 = ap (λ (x : Mode). record { stat = stat_of head; mode = x; id = take 20 (drop 40 head); flags = f }) (sym mode_same) ∙ mode.2 in
+    let by : entry_by version previous fixed_with p.rest ≡ Some read = ap (λ (x : Fixed). entry_by version previous x p.rest) fixed_same ∙ fixed.2 in
+    let more = bound (more_at version (is_extended f) p.rest) (λ (m : More). named_by version previous f m >>= (λ (n : Named). Some (read_of fixed_with m n))) read by in
+    let m = more.0 in
+    let named = bound (named_by version previous f m) (λ (n : Named). Some (read_of fixed_with m n)) read more.2 in
+    let path = bound (path_at version previous (62 + m.size) m.rest) (if_fitting f) named.0 named.1 in
+    let n = path.0 in
+    let fits = chosen (fits_length f n) (Some n) named.0 path.2 in
+    record {
+      p = p;
+      is_front = from_front 62 bytes p front_of.1;
+      m = m;
+      mode_is = mode.1 ∙ ap (λ (x : Mode). Some x) mode_same;
+      more_is = more.1;
+      n = n;
+      path_is = path.1;
+      fits = fits.0;
+      is = ap (read_of fixed_with m) (some_is fits.1) ∙ some_is named.2;
+    }
+
+pub from_entry : (version : ℕ) (previous bytes : List ℕ) (read : Read) → AreBytes bytes → list_any is_nul previous ≡ false
+    → entry_at version previous bytes ≡ Some read → IsEntryOf version previous bytes read
+unfolding written_by
+from_entry version previous bytes read ok plain h =
+    let parts = parts_of version previous bytes read h in
+    let head = parts.p.part in
+    let part = parts.is_front in
+    let m = parts.m in
+    let n = parts.n in
+    let head_ok : AreBytes head = subst AreBytes (sym part.part) (bytes_front 62 bytes ok) in
+    let rest_ok : AreBytes parts.p.rest = subst AreBytes (sym part.rest) (bytes_behind 62 bytes ok) in
+    let f = big_number 2 (drop 60 head) in
+    let more = from_more version (is_extended f) parts.p.rest m rest_ok parts.more_is in
+    let path = from_path version previous (62 + m.size) m.rest n more.rest_bytes plain parts.path_is in
+    let w = written_by head m n path.cut in
+    let name_is : m.rest ≡ name_text version previous w ++ n.rest =
+    path.whole ∙ ap (λ k. (if version == 4 then number_text path.cut ++ (drop (length previous - path.cut) n.path ++ 0 ∷ []) else n.path ++ 0 ∷ replicate (padding (62 + k + length n.path)) 0) ++ n.rest) more.size in
+    subst (IsEntryOf version previous bytes) parts.is (record {
+      w = w;
+      whole = part.whole ∙ ap (λ x. x ++ parts.p.rest) (head_is head m n path.cut part.size head_ok parts.fits)
+          ∙ ap (λ x. head_text w ++ x) (more.whole ∙ ap (λ x. more_text w ++ x) name_is ∙ sym (append_assoc (more_text w) (name_text version previous w) n.rest))
+          ∙ sym (append_assoc (head_text w) (more_text w ++ name_text version previous w) n.rest);
+      writable = record {
+        words = words_are head m n path.cut head_ok;
+        mode = parts.mode_is;
+        id = length-take-le 20 (drop 40 head) (omega (arith, part.size, length-drop 40 head));
+        stage = omega arith;
+        extended = more.allowed;
+        plain = more.plain;
+        path = path.plain;
+        cut = λ four. record { small = (path.keeps four).0; within = (path.keeps four).1; same = (path.keeps four).2 };
+      };
+      entry = refl;
+      detail = refl;
+    })

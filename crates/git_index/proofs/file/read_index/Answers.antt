@@ -1,0 +1,13 @@
+use Rattle.std.proofs.Math.Facts.{Fits-lt-pow}
+use Rattle.git_index.proofs.ReadFile.{answers_written, beside}
+use Rattle.git_index.proofs.WrittenFile.{answers, reads_written}
+use Rattle.git_index.proofs.file.read_index.Goals as goal
+
+pub returns-clause-sound : goal.returns-clause-sound
+returns-clause-sound c = answers_written _ _ (record { at = λ i. Fits-lt-pow (c.type_inv.bytes i) }) c.index_of_file.ensures
+
+pub returns-clause-written : goal.returns-clause-written
+returns-clause-written c version ws es text = answers _ _ _ c.index_of_file.ensures (reads_written c.args.bytes.now version ws es text)
+
+pub returns-clause-beside : goal.returns-clause-beside
+returns-clause-beside c = beside _ _ (record { at = λ i. Fits-lt-pow (c.type_inv.bytes i) }) c.index_of_file.ensures

@@ -1,0 +1,12 @@
+pub mod Steps
+pub mod Parts
+pub mod Varint
+pub mod Head
+pub mod More
+pub mod Name
+pub mod Entries
+pub mod Extensions
+pub mod IndexFile
+pub mod Written
+pub mod Seen
+pub mod Gives

@@ -1,0 +1,213 @@
+//! The file of an index.
+ghost use Rattle.std.specs.Prelude.{◌≡◌, ◌≤◌, ℕ, List, length, codes, position, take, IfOk, MatchResult};
+ghost use Rattle.std.specs.Str.{bytes_eq};
+ghost use Rattle.sha1.specs.Sha1.{sha1};
+ghost use Rattle.git_index.specs.IndexFile as files;
+ghost use Rattle.git_index.specs.Gives.{GivesIndex};
+ghost use Rattle.git_index.specs.Seen.{entries_seen, listed_seen};
+ghost use Rattle.git_index.specs.Written.{Held, IsFileOf, IsIndexText, Written, index_written};
+
+use crate::entries::{Entries, Listed, entries_in};
+use crate::error::IndexFileError;
+use crate::extensions::is_sparse_by;
+use crate::parts::{are_nuls, word};
+use crate::stat::Detail;
+use gitbase_core::IndexEntry;
+use sha1::Sha1;
+use std::alloc::Global;
+use std::marker::Model;
+
+/// How many bytes are before the entries.
+const HEAD_LENGTH: usize = 12;
+
+/// How many bytes the sum has.
+const SUM_LENGTH: usize = 20;
+
+/// What an index file says.
+///
+/// Contracts see a record: its entries as they stand, beside each what else the file says of it, and whether it is a
+/// sparse index.
+#[derive(Debug, Drop)]
+pub struct IndexFile {
+    listed: Listed,
+    is_sparse: bool,
+}
+
+impl Model for IndexFile {
+    ghost use Rattle.git_index.specs.IndexFile as files;
+
+    ghost Value = { files.Index };
+
+    ghost view = { λ file. record {
+      entries = file.listed.entries.items;
+      details = file.listed.details.items;
+      is_sparse = file.is_sparse;
+    } };
+}
+
+impl IndexFile {
+    /// The entries as they stand, in the order of the file.
+    pub fn entries(&self) -> &[IndexEntry]
+        ensures { result.now ≡ self.now.entries }
+    {
+        &self.listed.entries
+    }
+
+    /// What the file says of each entry besides, in the order of the entries.
+    pub fn details(&self) -> &[Detail]
+        ensures { result.now ≡ self.now.details }
+    {
+        &self.listed.details
+    }
+
+    /// Whether the index is a sparse one, in which an entry may stand for all that is beneath a directory.
+    pub fn is_sparse(&self) -> bool
+        ensures { result ≡ self.now.is_sparse }
+    {
+        self.is_sparse
+    }
+
+    /// The entries, and what the file says of each besides; takes no memory.
+    pub fn into_parts(self) -> (Vec<IndexEntry>, Vec<Detail>)
+        ensures entries { result.0.items ≡ self.entries }
+        ensures details { result.1.items ≡ self.details }
+    {
+        (self.listed.entries, self.listed.details)
+    }
+}
+
+/// The index of a file of git, in version 2, 3 or 4.
+///
+/// The entries are those that the file says, as they stand: whether they may be an index is asked by
+/// `State::from_entries`, whose refusals have an entry's number too.
+///
+/// # Errors
+///
+/// The first fault is told, in this order:
+///
+/// - `Short`: there are fewer than 32 bytes.
+/// - `Signature`, `Version`: the first twelve are no head of a version that is read here.
+/// - `Sum`: the last twenty are neither the SHA-1 of those before nor all NUL.
+/// - `Entry`: the first entry outside the grammar, from 0.
+/// - `Extensions`, `Split`, `Unknown`: behind the entries, the first extension that is cut, that says that the index is
+///   split, or that has to be understood and is not.
+/// - `Directory`: the first entry that stands for a directory, from 0, where no extension marks a sparse index.
+/// - `OutOfMemory` for want of memory. The count in the head is not believed, so it wants none.
+pub fn read_index(alloc: Global, bytes: &[u8]) -> Result<IndexFile, IndexFileError>
+    // It answers what the bytes say, or what is wrong with them first; want of memory alone is free.
+    ensures gives { GivesIndex result (files.index_of_bytes bytes.now) }
+
+    // Where it answers a file, the bytes are one that a writer makes of these entries.
+    ensures sound { IfOk result (IsFileOf bytes.now) }
+
+    // Whatever entries and extensions the bytes are the file of, in whatever version, these are what it
+    // answers. So no two lists of entries have the same file.
+    ensures written { (version : ℕ) (ws : List Written) (es : List Held)
+        → IsIndexText bytes.now version ws es → MatchResult result
+        (λ file. file ≡ index_written ws es) (λ error. error ≡ IndexFileError.OutOfMemory) }
+
+    // Beside each entry stands what else the file says of it.
+    ensures beside { IfOk result (λ file. length file.details ≡ length file.entries) }
+{
+    index_of_file(alloc, bytes)
+}
+
+/// The index of a file.
+#[tactic(auto, unfolding(crate::specs::IndexFile::index_of_bytes))]
+fn index_of_file(alloc: Global, bytes: &[u8]) -> Result<IndexFile, IndexFileError>
+    ensures { GivesIndex result (files.index_of_bytes bytes.now) }
+{
+    if bytes.len() < HEAD_LENGTH + SUM_LENGTH {
+        return Err(IndexFileError::Short);
+    }
+    let (body, sum) = bytes.split_at(bytes.len() - SUM_LENGTH);
+    index_beside(alloc, body, sum)
+}
+
+/// The index in a body, with what stands behind it as its sum.
+fn index_beside(alloc: Global, body: &[u8], sum: &[u8]) -> Result<IndexFile, IndexFileError>
+    requires { 12 ≤ length body.now }
+    ensures { GivesIndex result (files.index_beside body.now sum.now) }
+{
+    if !is_signed(body) {
+        return Err(IndexFileError::Signature);
+    }
+    let version = word(body, 1);
+    if !is_version(version) {
+        return Err(IndexFileError::Version { version });
+    }
+    if !is_sum(body, sum) {
+        return Err(IndexFileError::Sum);
+    }
+    let (_, rest) = body.split_at(HEAD_LENGTH);
+    index_of(alloc, version, word(body, 2), rest)
+}
+
+/// Whether a body begins as git's index files do.
+fn is_signed(body: &[u8]) -> bool
+    requires { 4 ≤ length body.now }
+    ensures { result ≡ bytes_eq (take 4 body.now) (codes "DIRC") }
+{
+    let (front, _) = body.split_at(4);
+    front == b"DIRC".as_slice()
+}
+
+/// Whether a version is read here.
+fn is_version(version: u32) -> bool
+    ensures { result ≡ files.is_version version }
+{
+    2 <= version && version <= 4
+}
+
+/// Whether a sum is that of a body, or nothing but NULs.
+fn is_sum(body: &[u8], sum: &[u8]) -> bool
+    ensures { result ≡ files.is_sum body.now sum.now }
+{
+    are_nuls(sum) || is_digest(body, sum)
+}
+
+/// Whether a sum is that of a body.
+fn is_digest(body: &[u8], sum: &[u8]) -> bool
+    ensures { result ≡ bytes_eq sum.now (sha1 body.now) }
+{
+    let digest = Sha1::digest(body);
+    sum == digest.as_slice()
+}
+
+/// The index of so many entries, and of the extensions behind them.
+fn index_of(
+    alloc: Global,
+    version: u32,
+    count: u32,
+    bytes: &[u8],
+) -> Result<IndexFile, IndexFileError>
+    ensures { GivesIndex result (files.index_of version count bytes.now) }
+{
+    let read = entries_in(alloc, version, count, bytes)?;
+    index_behind(read)
+}
+
+/// The index of these entries, and of the extensions behind them.
+fn index_behind(read: Entries<'_>) -> Result<IndexFile, IndexFileError>
+    ensures { GivesIndex result (files.index_behind (entries_seen read.entry)) }
+{
+    let is_sparse = is_sparse_by(read.rest)?;
+    marked_index(read.listed, is_sparse)
+}
+
+/// The index of these entries; refused where one stands for a directory, and the index is not sparse.
+fn marked_index(listed: Listed, is_sparse: bool) -> Result<IndexFile, IndexFileError>
+    ensures { result ≡ files.marked_index (listed_seen listed) is_sparse }
+{
+    match first_directory(&listed.entries) {
+        Some(at) if !is_sparse => Err(IndexFileError::Directory { at }),
+        _ => Ok(IndexFile { listed, is_sparse }),
+    }
+}
+
+/// The first entry that stands for a directory.
+fn first_directory(entries: &[IndexEntry]) -> Option<usize>
+    ensures { result ≡ position files.is_directory entries.now }
+{
+    entries.iter().position(|entry| entry.mode.is_sparse())
+}

@@ -1,0 +1,72 @@
+//! The parts of an index file: so many bytes, a text that a NUL ends, and numbers.
+ghost use Rattle.std.specs.Prelude.{◌≡◌, ◌≤◌, ◌<◌, ◌+◌, ◌*◌, length, position, drop, option_map, IfSome};
+ghost use Rattle.std.specs.List.{list_all};
+ghost use Rattle.byteorder.specs.Endian.{big_number};
+ghost use Rattle.git_index.specs.Parts.{front, is_nul, text, word};
+ghost use Rattle.git_index.specs.Seen.{parted_seen};
+
+use byteorder::{BigEndian, ByteOrder};
+
+/// Some bytes, and what is behind them.
+#[derive(Clone, Copy)]
+pub struct Parted<'a> {
+    pub part: &'a [u8],
+    pub rest: &'a [u8],
+}
+
+/// The first `size` bytes; none where there are fewer.
+pub fn front(bytes: &[u8], size: usize) -> Option<Parted<'_>>
+    ensures value { option_map parted_seen result ≡ front size bytes.now }
+    ensures whole { IfSome result (λ parted. length parted.part.now ≡ size) }
+{
+    if size > bytes.len() {
+        return None;
+    }
+    let (part, rest) = bytes.split_at(size);
+    Some(Parted { part, rest })
+}
+
+/// The place of the first NUL.
+fn first_nul(bytes: &[u8]) -> Option<usize>
+    ensures place { result ≡ position is_nul bytes.now }
+    ensures within { IfSome result (λ place. place < length bytes.now) }
+{
+    bytes.iter().position(|byte| *byte == 0)
+}
+
+/// The bytes before the first NUL, and what is behind that; none where there is no NUL.
+pub fn text(bytes: &[u8]) -> Option<Parted<'_>>
+    ensures { option_map parted_seen result ≡ text bytes.now }
+{
+    let Some(place) = first_nul(bytes) else {
+        return None;
+    };
+    let (part, _) = bytes.split_at(place);
+    let (_, rest) = bytes.split_at(place + 1);
+    Some(Parted { part, rest })
+}
+
+/// Whether all bytes are NUL.
+pub fn are_nuls(bytes: &[u8]) -> bool
+    ensures { result ≡ list_all is_nul bytes.now }
+{
+    bytes.iter().all(|byte| *byte == 0)
+}
+
+/// The number of four bytes at `place`, where such numbers follow one another and the first has place 0.
+pub fn word(bytes: &[u8], place: usize) -> u32
+    requires { 4 * place + 4 ≤ length bytes.now }
+    ensures { result ≡ word place bytes.now }
+{
+    let (_, rest) = bytes.split_at(4 * place);
+    BigEndian::read_u32(rest)
+}
+
+/// The number of two bytes behind `skip` bytes.
+pub fn short_behind(bytes: &[u8], skip: usize) -> u16
+    requires { skip + 2 ≤ length bytes.now }
+    ensures { result ≡ big_number 2 (drop skip bytes.now) }
+{
+    let (_, rest) = bytes.split_at(skip);
+    BigEndian::read_u16(rest)
+}

@@ -1,0 +1,129 @@
+//! Prints what the index file on standard input says, for `scripts/compare-index`.
+//!
+//! First the number of entries, and ` sparse` where the index is; then for each entry what `git ls-files -s -v -z` prints,
+//! and its stat fields on a line, with `N` behind them where it is to be added and `S` where it is skipped. Or why the bytes
+//! are no index, with status 1. With a word behind its name it reads the file alone, and prints the number.
+#![tactic(auto)]
+
+use git_index::{Detail, IndexFile, IndexFileError, read_index};
+use gitbase_core::{Flags, IndexEntry, IndexError, State};
+use std::alloc::Global;
+use std::env::Env;
+use std::io;
+use std::io::{Read, Write};
+use std::process::ExitCode;
+
+/// Whether the entry is left out of a sparse worktree.
+fn is_skipped(entry: &IndexEntry) -> bool {
+    entry.flags.contains(Flags::SKIP_WORKTREE)
+}
+
+/// The letter that `git ls-files -v` puts before an entry.
+fn letter(entry: &IndexEntry) -> char {
+    let is_assumed = entry.flags.contains(Flags::ASSUME_VALID);
+    if entry.stage > 0 {
+        return if is_assumed { 'm' } else { 'M' };
+    }
+    if is_skipped(entry) {
+        return if is_assumed { 's' } else { 'S' };
+    }
+    if is_assumed { 'h' } else { 'H' }
+}
+
+/// Adds the record of an entry.
+fn add_entry(text: &mut Vec<u8>, alloc: Global, entry: &IndexEntry) -> io::Result<()> {
+    let letter = letter(entry);
+    let mode = entry.mode.bits();
+    let stage = entry.stage;
+    let head = format!(in alloc; "{letter} {mode:06o} ")?;
+    text.extend_from_slice(head.as_bytes())?;
+    text.extend_from_slice(&entry.id.to_hex())?;
+    let tail = format!(in alloc; " {stage}\t")?;
+    text.extend_from_slice(tail.as_bytes())?;
+    text.extend_from_slice(entry.path.as_bytes())?;
+    text.push(0)?;
+    Ok(())
+}
+
+/// Adds what the file says of an entry besides.
+fn add_detail(
+    text: &mut Vec<u8>,
+    alloc: Global,
+    detail: &Detail,
+    is_skipped: bool,
+) -> io::Result<()> {
+    let stat = detail.stat;
+    let (c, m) = (stat.ctime, stat.mtime);
+    let times = format!(in alloc;
+        "{}:{} {}:{}",
+        c.seconds, c.nanoseconds, m.seconds, m.nanoseconds
+    )?;
+    text.extend_from_slice(times.as_bytes())?;
+    let place = format!(in alloc; " {} {} {} {}", stat.dev, stat.ino, stat.uid, stat.gid)?;
+    text.extend_from_slice(place.as_bytes())?;
+    let intent = if detail.intent_to_add { " N" } else { "" };
+    let skipped = if is_skipped { " S" } else { "" };
+    let rest = format!(in alloc; " {}{intent}{skipped}\n", stat.size)?;
+    text.extend_from_slice(rest.as_bytes())?;
+    Ok(())
+}
+
+/// All records.
+fn records(alloc: Global, state: &State, details: &[Detail]) -> io::Result<Vec<u8>> {
+    let mut text = Vec::new(alloc);
+    for (entry, detail) in state.entries().iter().zip(details) {
+        add_entry(&mut text, alloc, entry)?;
+        add_detail(&mut text, alloc, detail, is_skipped(entry))?;
+    }
+    Ok(text)
+}
+
+/// Says why some bytes are no index file.
+fn refuse_file(rt: &HostRuntime, error: IndexFileError) -> io::Result<ExitCode> {
+    println!(rt; "refused: {error:?}")?;
+    Ok(ExitCode::from(1))
+}
+
+/// Says why the entries of a file are no index.
+fn refuse_entries(rt: &HostRuntime, error: IndexError) -> io::Result<ExitCode> {
+    println!(rt; "no index: {error:?}")?;
+    Ok(ExitCode::from(1))
+}
+
+/// Prints how many entries there are.
+fn count(rt: &HostRuntime, length: usize, is_sparse: bool) -> io::Result<ExitCode> {
+    let sparse = if is_sparse { " sparse" } else { "" };
+    println!(rt; "{length} entries{sparse}")?;
+    Ok(ExitCode::from(0))
+}
+
+/// Prints how many entries there are, and a record for each.
+fn dump(rt: &HostRuntime, file: IndexFile) -> io::Result<ExitCode> {
+    let is_sparse = file.is_sparse();
+    let (entries, details) = file.into_parts();
+    match State::from_entries(entries) {
+        Ok(state) => {
+            let text = records(rt.alloc(), &state, &details)?;
+            let status = count(rt, details.len(), is_sparse)?;
+            io::writer(rt).write_all(&text)?;
+            Ok(status)
+        }
+        Err(error) => refuse_entries(rt, error),
+    }
+}
+
+/// Whether there is a word behind the program's name.
+fn has_word(rt: &HostRuntime) -> bool {
+    let mut buffer = [0u8; 8];
+    rt.arg(1, &mut buffer).is_ok()
+}
+
+fn main(rt: HostRuntime) -> io::Result<ExitCode> {
+    let mut bytes = Vec::new(rt.alloc());
+    rt.reader().read_to_end(&mut bytes)?;
+    match read_index(rt.alloc(), &bytes) {
+        Ok(file) if has_word(&rt) => count(&rt, file.entries().len(), file.is_sparse()),
+        Ok(file) => dump(&rt, file),
+        Err(error) => refuse_file(&rt, error),
+    }
+}
