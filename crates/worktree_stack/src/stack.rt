@@ -336,8 +336,9 @@ impl Stack {
     /// directory. Whether anything is at the path makes no difference, but in checkout where the mode is that of a directory.
     ///
     /// Attributes are read before ignore rules, and the information file with the root, behind its own `.gitattributes`. The names of
-    /// attributes are seen file by file and line by line, and stay seen, also after a refusal. `objects` are asked for the blobs that rules files are mapped to. The worktree is read at most as often as the readings of the directories ask it that
-    /// are pushed, or were to be: not at all where rules come from mappings alone, but for the information file, and where the stack tells no
+    /// attributes are seen file by file and line by line, and stay seen, also after a refusal. `objects` are asked for the blobs that
+    /// rules files are mapped to. The worktree is read at most as often as the readings of the directories ask it that are pushed, or
+    /// were to be: not at all where rules come from mappings alone, but for the information file, and where the stack tells no
     /// attributes at most once for each. In the directory that is pushed already a lookup begins at the last name; no clause
     /// speaks of that.
     ///
