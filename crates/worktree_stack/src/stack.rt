@@ -336,9 +336,9 @@ impl Stack {
     /// directory. Whether anything is at the path makes no difference, but in checkout where the mode is that of a directory.
     ///
     /// Attributes are read before ignore rules, and the information file with the root, behind its own `.gitattributes`. The names of
-    /// attributes are seen file by file and line by line, and stay seen, also after a refusal; see docs/DECISIONS.md#attribute-names. `objects` are
-    /// asked for the blobs that rules files are mapped to. The worktree is read at most as often as the readings of the directories ask it that
-    /// are pushed, or were to be: not at all where rules come from mappings alone, but for the information file, and where the stack tells no
+    /// attributes are seen file by file and line by line, and stay seen, also after a refusal. `objects` are asked for the blobs that
+    /// rules files are mapped to. The worktree is read at most as often as the readings of the directories ask it that are pushed, or
+    /// were to be: not at all where rules come from mappings alone, but for the information file, and where the stack tells no
     /// attributes at most once for each. In the directory that is pushed already a lookup begins at the last name; no clause
     /// speaks of that.
     ///
@@ -359,9 +359,9 @@ impl Stack {
     /// - `OutOfMemory`: memory is refused.
     ///
     /// In checkout each component that is pushed is tested by [`crate::validate::component`], and then a directory is made there, unless it
-    /// is the last one and the path is no directory by its mode; see [`crate::delegate::create_leading_directory`]. So the directories
-    /// that are pushed below the root are there, and no link is among them, as long as nothing else changes the tree: one that stays
-    /// pushed is not looked at again. In a worktree that composes names this holds of names that are composed already.
+    /// is the last one and the path is no directory by its mode: one that is there is kept, and another node, a link among them, is a
+    /// collision, or is removed where the stack unlinks on collision. So the directories that are pushed below the root are there,
+    /// and no link is among them, as long as nothing else changes the tree: one that stays pushed is not looked at again. In a worktree that composes names this holds of names that are composed already.
     /// The rules of a directory are read once it is made, in the tree as it is then.
     /// See docs/DECISIONS.md#checkout-rules-made.
     ///
@@ -373,7 +373,7 @@ impl Stack {
     ///
     /// An answered lookup hides no fault: the worktree and the store have counted none.
     ///
-    /// See docs/DIFFERENCES.md#gix-at-path.
+    /// See docs/DECISIONS.md#attribute-names and docs/DIFFERENCES.md#gix-at-path.
     pub fn at_path<W: Worktree, F: Find>(
         &mut self,
         alloc: Global,
