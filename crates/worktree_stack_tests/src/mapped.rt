@@ -164,17 +164,7 @@ fn has_mappings(alloc: Global, source: &[u8], rows: &[u8], want: &[u8]) -> bool 
     };
     match state_of(alloc, source) {
         Ok(state) => match state.id_mappings_from_index(alloc, &index, Case::Sensitive) {
-<<<<<<< HEAD
-            Ok(mappings) => are_mapped(&mappings, want),
-=======
-            Ok(mappings) => {
-                is_digit(mappings.as_slice().len(), want)
-                    && mappings
-                        .as_slice()
-                        .first()
-                        .is_some_and(|mapping| mapping.1 == id_of(b"1"))
-            }
->>>>>>> e189a9d113c5c7f14ecf2ce0368150eac954db38
+            Ok(mappings) => are_mapped(mappings.as_slice(), want),
             Err(_) => false,
         },
         Err(_) => false,
