@@ -1,4 +1,4 @@
-use Rattle.std.proofs.Common.{◌≡◌, ◌∙◌, sym, subst, refl, inr, Some, arith}
+use Rattle.std.proofs.Common.{rules, ◌≡◌, ◌∙◌, sym, subst, refl, inr, Some, arith}
 use Rattle.std.proofs.lemmas.Result.{err_from_is_err_and}
 use Rattle.gitbase_core.specs.Path.{components}
 use Rattle.worktree_stack.specs.Setup.{excluded_kind}
@@ -68,3 +68,18 @@ returns-in_err-look_up-clause-stopped g c =
     (StopsIf (g.W.Worktree.told c.args.worktree.now) (g.F.Find.holds c.args.objects.now) (Increased (g.W.Worktree.faults c.args.worktree.now) (g.W.Worktree.faults c.look_up.new.worktree))
     (Increased (g.F.Find.faults c.args.objects.now) (g.F.Find.faults c.look_up.new.objects)) c.args.rela_path.now (Some c.args.stack.now) (Some c.look_up.new.stack))
     c.in_err-look_up.field-0.0 (looks.stopped c.requires.normal))
+
+pub returns-in_err-look_up-clause-about : goal.returns-in_err-look_up-clause-about
+returns-in_err-look_up-clause-about g c =
+    let refused = c.in_err-look_up.ensures.looks_up.refused c.requires.normal in
+    search rules
+
+pub returns-in_err-look_up-clause-refused : goal.returns-in_err-look_up-clause-refused
+returns-in_err-look_up-clause-refused g c = λ s told.
+    let refused = c.in_err-look_up.ensures.looks_up.refused c.requires.normal in
+    search rules
+
+pub returns-clause-reads : goal.returns-clause-reads
+returns-clause-reads g c =
+    let looks = c.in_ok-look_up.ensures.looks_up in
+    search rules
