@@ -107,6 +107,8 @@ without_user() {
 # excluded directory stays excluded there, as git has it, unless an option says otherwise.
 make_setup() {
     root=$(work_tree "$1")
+    # The program's file system takes paths as text.
+    ! LC_ALL=C.UTF-8 grep -qavx '.*' <<< "$root" || fail "the path of ${1@Q} is not UTF-8"
     shift
     program=$("$here/scripts/program")
     own_folder
