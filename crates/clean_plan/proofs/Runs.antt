@@ -15,7 +15,7 @@ use Rattle.worktree_report.specs.SetupAt.{setup_at}
 use Rattle.clean_plan.specs.declared.what.What.{What}
 use Rattle.clean_plan.specs.Words.{Request}
 use Rattle.worktree_report.proofs.Refusing.{InOrder-made, InOrder-unread}
-use Rattle.worktree_report.proofs.Runs.{HasCauses-refused, HasCauses-unread, Keeps-made, Keeps-unread, Quiet-later, lists-walked, opens-walked}
+use Rattle.worktree_report.proofs.Runs.{HasCauses-refused, HasCauses-unread, Keeps-made, Keeps-unread, lists-walked, opens-walked}
 use Rattle.clean_plan.specs.Prepared.{prepared}
 use Rattle.clean_plan.specs.Safe.{IsSpared}
 use Rattle.clean_plan.specs.Run as top
@@ -66,11 +66,12 @@ module _ {W I : Type 0} {w : WorktreeOf W} {i : InterruptOf I} {w0 w1 : W} {i0 :
       → w.precomposes w1 ≡ w.precomposes w0 → top.AnswersClean w i w0 w1 i0 i0 request (Err refusal)
   AnswersClean-unread refusal of outside fault tree faults listed once lists composes =
       record {
-        gives = λ t told quiet. tt;
+        gives = λ t told. tt;
+        unfaulted = tt;
         by_report = tt;
         outside_git = tt;
-        works = λ t told quiet. tt;
-        opens = λ t told quiet. tt;
+        works = λ t told. tt;
+        opens = λ t told. tt;
         lists = λ t told setup read at_once. omega (arith, lists);
         causes = HasCauses-unread w i w0 w1 i0 i0 (top.made_by request.finding) request.places refusal of outside fault once lists refl;
         in_order = InOrder-unread refusal _ of tree faults listed once lists composes;
@@ -90,11 +91,12 @@ module _ {W I : Type 0} {w : WorktreeOf W} {i : InterruptOf I} {w0 w1 w2 : W} {i
       let texts : top.PlanTexts w i (w.precomposes w0) w1 w2 i0 i1 request.places.root (top.made_by request.finding setup) request.what answer =
       subst (λ b. top.PlanTexts w i b w1 w2 i0 i1 request.places.root (top.made_by request.finding setup) request.what answer) composes same in
       record {
-        gives = λ t told quiet. output-made _ t request setup answer (read t told) (texts.gives t (tree ∙ told) (Quiet-later _ _ _ faults quiet));
+        gives = λ t told. output-made _ t request setup answer (read t told) (texts.gives t (tree ∙ told));
+        unfaulted = subst (λ (n : ℕ). OnOk answer (NotIncreased n (w.faults w2))) unfaulted texts.unfaulted;
         by_report = by-report-made _ _ request setup answer read (subst (λ (told : Option Names). IfOk answer (top.IsTextByReport (w.precomposes w0) told request.places.root (top.made_by request.finding setup) request.what)) tree texts.by_report);
         outside_git = outside-git _ _ _ (top.made_by request.finding setup) _ answer texts.by_report;
-        works = λ t told quiet. works-made _ t request setup answer _ _ _ _ _ (read t told) once (texts.works t (tree ∙ told) (Quiet-later _ _ _ faults quiet));
-        opens = λ t told quiet. opens-walked (top.made_by request.finding) _ t request.places setup answer _ _ _ (read t told) lists (texts.opens t (tree ∙ told) (Quiet-later _ _ _ faults quiet));
+        works = λ t told. works-made _ t request setup answer _ _ _ _ _ (read t told) once (texts.works t (tree ∙ told));
+        opens = λ t told. opens-walked (top.made_by request.finding) _ t request.places setup answer _ _ _ (read t told) lists (texts.opens t (tree ∙ told));
         lists = λ t told. lists-walked t request.places setup _ _ _ (read t told) lists texts.lists;
         causes = HasCauses-refused w i w0 w1 w2 i0 i1 (top.made_by request.finding) request.places setup 0 answer read tree faults once lists texts.refused;
         in_order = InOrder-made w w0 w1 w2 i0 i1 request.places setup answer _ read tree faults unfaulted listed once lists composes texts;
@@ -106,9 +108,15 @@ module _ {W I : Type 0} {w : WorktreeOf W} {i : InterruptOf I} {w0 w1 w2 : W} {i
 module _ {W I : Type 0} (w : WorktreeOf W) (i : InterruptOf I) (w0 w1 : W) (i0 i1 : I) where
   -- a text is the one that is asked for
   pub text_asked-is : (asked : Option Request) (text : List ℕ) → top.Answers w i w0 w1 i0 i1 asked (Ok text)
-      → (t : Names) → w.told w0 ≡ Some t → NotIncreased (w.faults w0) (w.faults w1) → top.IsOutputAt (w.precomposes w0) t asked text
-  text_asked-is None text answers t told quiet = absurd (let is = answers.usage in cc)
-  text_asked-is (Some request) text answers t told quiet = answers.gives t told quiet
+      → (t : Names) → w.told w0 ≡ Some t → top.IsOutputAt (w.precomposes w0) t asked text
+  text_asked-is None text answers t told = absurd (let is = answers.usage in cc)
+  text_asked-is (Some request) text answers t told = answers.gives t told
+
+  -- and no fault was counted
+  pub text_asked-unfaulted : (asked : Option Request) (text : List ℕ) → top.Answers w i w0 w1 i0 i1 asked (Ok text)
+      → (w.faults w1 ≡ w.faults w0) × NotIncreased (w.faults w0) (w.faults w1)
+  text_asked-unfaulted None text answers = absurd (let is = answers.usage in cc)
+  text_asked-unfaulted (Some request) text answers = let quiet = answers.unfaulted in let faults = answers.keeps.faults in (omega (arith, quiet, faults), quiet)
 
   -- a request is not refused for its words
   pub no_usage : (request : Request) (answer : Result (List ℕ) Refusal) → top.AnswersClean w i w0 w1 i0 i1 request answer → ¬ IsErrOf answer refusals.Usage

@@ -3,7 +3,7 @@ use Rattle.std.proofs.Common.{◌≡◌, ℕ, ◌≤◌, ◌+◌, List, inl, inr
 use Rattle.gitbase_core.specs.declared.find.Find.{Ghosts as FindOf}
 use Rattle.worktree_fs.specs.declared.interrupt.Interrupt.{Ghosts as InterruptOf}
 use Rattle.worktree_fs.specs.declared.worktree.Worktree.{Ghosts as WorktreeOf}
-use Rattle.worktree_fs.specs.Causes.{NotIncreased}
+use Rattle.worktree_fs.specs.Causes.{Increased, NotIncreased}
 use Rattle.worktree_fs.specs.Tree.{Names}
 use Rattle.dir_walk.specs.declared.strategy.Strategy.{Strategy}
 use Rattle.dir_walk.specs.declared.strategy.Strategy.TheVariants.{AtOnce}
@@ -15,12 +15,12 @@ use Rattle.worktree_report.specs.declared.error.ReportError.{ReportError}
 use Rattle.worktree_report.specs.declared.error.ReportError.TheVariants as reports
 use Rattle.worktree_report.specs.declared.report.Report.{Report}
 use Rattle.worktree_report.specs.Asked.{read_in, ListsAt, WorksAt}
-use Rattle.worktree_report.specs.Behind.{RefusesText}
+use Rattle.worktree_report.specs.Behind.{MakesFirst, RefusesText}
 use Rattle.worktree_report.specs.Converted as converted
 use Rattle.worktree_report.specs.Lines.{text_with}
 use Rattle.worktree_report.specs.Reported.{MakesReport, Texts}
 use Rattle.worktree_report.proofs.Answered.{told-blobs, Texts-ok, Texts-refused}
-use Rattle.worktree_report.proofs.Refusing.{FailsBehind-is}
+use Rattle.worktree_report.proofs.Refusing.{FailsMeanwhile-behind, MakesFirst-is}
 use Rattle.clean_plan.specs.declared.error.CleanError.{CleanError}
 use Rattle.clean_plan.specs.declared.error.CleanError.TheVariants as errors
 use Rattle.clean_plan.specs.declared.outcome.Plan.{Plan}
@@ -69,6 +69,12 @@ module _ {W F I : Type 0} {w : WorktreeOf W} {f : FindOf F} {i : InterruptOf I} 
       subst (λ (n : ℕ). ListsAt (w.precomposes w0) t root setup (w.lists w0) n) (sym ends.asks.lists) (texts.opens t told (quiet_before _ _ _ ends.asks.faults quiet))
   opens-by what (Err e) between w1 plan reported ends held t told quiet = absurd (let is = ends.0 in cc)
 
+  -- the report comes first
+  first-by : (what : What) (made : Result Report ReportError) (between w1 : W) (plan : Plan) → MakesReport w f i w0 between o0 o1 i0 i1 root setup made
+      → EndsAs w between w1 root setup what made (Ok plan) → f.holds o0 ≡ Some setup.blobs → MakesFirst w i (w.precomposes w0) w0 w1 i0 i1 root setup 0
+  first-by what (Ok r) between w1 plan reported ends held = MakesFirst-is 0 r reported held ends.asks (omega (arith, ends.reads))
+  first-by what (Err e) between w1 plan reported ends held = absurd (let is = ends.0 in cc)
+
   -- one directory at most is counted as listed where subtrees are walked at once
   lists-by : (what : What) (made : Result Report ReportError) (between w1 : W) (result : Result Plan CleanError) → MakesReport w f i w0 between o0 o1 i0 i1 root setup made
       → EndsAs w between w1 root setup what made result → setup.options.strategy ≡ AtOnce → w.lists w1 ≤ w.lists w0 + 1
@@ -100,22 +106,24 @@ module _ {W F I : Type 0} {w : WorktreeOf W} {f : FindOf F} {i : InterruptOf I} 
       → EndsAs w between w1 root setup what made (Err e) → f.holds o0 ≡ Some setup.blobs → NotIncreased (f.faults o0) (f.faults o1) → refusal ≡ top.of_clean e
       → RefusesText w i (w.precomposes w0) w0 w1 i0 i1 root setup 0 refusal
   refused-text what (Ok r) between (errors.Report e) refusal reported ends held kept same = absurd ends.refused
-  refused-text what (Ok r) between errors.Fault refusal reported ends held kept same = inr (inl (same, FailsBehind-is 0 r reported held ends.asks (omega (arith, ends.reads)) ends.refused))
+  refused-text what (Ok r) between errors.Fault refusal reported ends held kept same = inr (inl (same, FailsMeanwhile-behind 0 r reported held ends.asks (omega (arith, ends.reads)) ends.refused))
   refused-text what (Ok r) between errors.OutOfMemory refusal reported ends held kept same = inl same
   refused-text what (Err e2) between e refusal reported ends held kept same =
       inr (inr (subst (λ (x : W). Texts w i (w.precomposes w0) w0 x i0 i1 root setup (Err refusal)) (sym ends.1)
       (Texts-refused e2 refusal reported held kept (same ∙ ap top.of_clean (which (ends.0)) ∙ same_refusal e2))))
 
 module _ {W F I : Type 0} {w : WorktreeOf W} {f : FindOf F} {i : InterruptOf I} {w0 w1 : W} {o0 o1 : F} {i0 i1 : I} {root : List ℕ} {setup : Setup} {what : What} where
-  -- the text of a plan
+  -- the text of a plan, where nothing failed
   pub PlanTexts-ok : (plan : Plan) (text : List ℕ) → MakesPlan w f i w0 w1 o0 o1 i0 i1 root setup what (Ok plan) → f.holds o0 ≡ Some setup.blobs → text ≡ top.plan_text plan.paths.items
-      → top.PlanTexts w i (w.precomposes w0) w0 w1 i0 i1 root setup what (Ok text)
-  PlanTexts-ok plan text made held lines =
+      → NotIncreased (w.faults w0) (w.faults w1) → top.PlanTexts w i (w.precomposes w0) w0 w1 i0 i1 root setup what (Ok text)
+  PlanTexts-ok plan text made held lines quiet =
       record {
-        gives = λ t told quiet. record { plan = plan; plan_is = made.gives (read_in t setup) (told-blobs setup held told) quiet; text_is = lines };
+        gives = λ t told. record { plan = plan; plan_is = made.gives (read_in t setup) (told-blobs setup held told) quiet; text_is = lines };
         by_report = by-report what made.made made.between w1 plan text made.reported made.ends lines;
-        works = λ t told quiet. works-by what made.made made.between w1 plan made.reported made.ends held t told quiet;
-        opens = λ t told quiet. opens-by what made.made made.between w1 plan made.reported made.ends held t told quiet;
+        unfaulted = quiet;
+        made = first-by what made.made made.between w1 plan made.reported made.ends held;
+        works = λ t told. works-by what made.made made.between w1 plan made.reported made.ends held t told quiet;
+        opens = λ t told. opens-by what made.made made.between w1 plan made.reported made.ends held t told quiet;
         lists = lists-by what made.made made.between w1 (Ok plan) made.reported made.ends;
         refused = tt;
         worktree = made.worktree;
@@ -124,14 +132,35 @@ module _ {W F I : Type 0} {w : WorktreeOf W} {f : FindOf F} {i : InterruptOf I} 
         calm = made.calm;
       }
 
+  -- there is a plan, and the worktree failed while it was made
+  pub PlanTexts-failed : (plan : Plan) → MakesPlan w f i w0 w1 o0 o1 i0 i1 root setup what (Ok plan) → f.holds o0 ≡ Some setup.blobs → Increased (w.faults w0) (w.faults w1)
+      → top.PlanTexts w i (w.precomposes w0) w0 w1 i0 i1 root setup what (Err refusals.Fault)
+  PlanTexts-failed plan made held rose =
+      record {
+        gives = λ t told. tt;
+        by_report = tt;
+        unfaulted = tt;
+        made = tt;
+        works = λ t told. tt;
+        opens = λ t told. tt;
+        lists = lists-by what made.made made.between w1 (Ok plan) made.reported made.ends;
+        refused = inr (inl (refl, record { first = first-by what made.made made.between w1 plan made.reported made.ends held; rose = rose }));
+        worktree = made.worktree;
+        interrupt = made.interrupt;
+        listed = tt;
+        calm = tt;
+      }
+
   -- no memory for the text, or for what the refusal says
   pub PlanTexts-memory : {result : Result Plan CleanError} → MakesPlan w f i w0 w1 o0 o1 i0 i1 root setup what result → top.PlanTexts w i (w.precomposes w0) w0 w1 i0 i1 root setup what (Err refusals.OutOfMemory)
   PlanTexts-memory {result} made =
       record {
-        gives = λ t told quiet. tt;
+        gives = λ t told. tt;
         by_report = tt;
-        works = λ t told quiet. tt;
-        opens = λ t told quiet. tt;
+        unfaulted = tt;
+        made = tt;
+        works = λ t told. tt;
+        opens = λ t told. tt;
         lists = lists-by what made.made made.between w1 result made.reported made.ends;
         refused = inl refl;
         worktree = made.worktree;
@@ -145,10 +174,12 @@ module _ {W F I : Type 0} {w : WorktreeOf W} {f : FindOf F} {i : InterruptOf I} 
       → refusal ≡ top.of_clean e → top.PlanTexts w i (w.precomposes w0) w0 w1 i0 i1 root setup what (Err refusal)
   PlanTexts-refused e refusal made held kept same =
       record {
-        gives = λ t told quiet. tt;
+        gives = λ t told. tt;
         by_report = tt;
-        works = λ t told quiet. tt;
-        opens = λ t told quiet. tt;
+        unfaulted = tt;
+        made = tt;
+        works = λ t told. tt;
+        opens = λ t told. tt;
         lists = lists-by what made.made made.between w1 (Err e) made.reported made.ends;
         refused = refused-text what made.made made.between e refusal made.reported made.ends held kept same;
         worktree = made.worktree;

@@ -13,7 +13,7 @@ use Rattle.worktree_report.specs.declared.refusal.Refusal.TheVariants as refusal
 use Rattle.worktree_report.specs.declared.report.Report.{Report}
 use Rattle.worktree_report.specs.declared.setup.Setup.{Setup}
 use Rattle.worktree_report.specs.Asked.{read_in, ListsAt, WorksAt}
-use Rattle.worktree_report.specs.Behind.{InOrder, RefusesText}
+use Rattle.worktree_report.specs.Behind.{InOrder, MakesFirst, RefusesText}
 use Rattle.worktree_report.specs.Converted as converted
 use Rattle.worktree_report.specs.Escapes.{escaped}
 use Rattle.worktree_report.specs.Orderly.{IsOrderly}
@@ -119,13 +119,17 @@ of_clean errors.OutOfMemory = refusals.OutOfMemory
 -- The text of the plan, or why there is none, where a worktree was `w0` and is `w1`, and an interrupt was `i0` and is `i1`. `composes`
 -- says whether the worktree composes names.
 pub record PlanTexts {W I : Type 0} (w : WorktreeOf W) (i : InterruptOf I) (composes : Bool) (w0 w1 : W) (i0 i1 : I) (root : List ℕ) (setup : Setup) (what : What) (answer : Result (List ℕ) Refusal) : Type 0 where
-  pub gives : (t : Names) → w.told w0 ≡ Some t → NotIncreased (w.faults w0) (w.faults w1) → IfOk answer (IsTextIn composes t root setup what)
+  pub gives : (t : Names) → w.told w0 ≡ Some t → IfOk answer (IsTextIn composes t root setup what)
   pub by_report : IfOk answer (IsTextByReport composes (w.told w0) root setup what)
+  -- no fault was counted, one that the walk swallows among them
+  pub unfaulted : OnOk answer (NotIncreased (w.faults w0) (w.faults w1))
+  -- one report was made, and behind it no file was read
+  pub made : OnOk answer (MakesFirst w i composes w0 w1 i0 i1 root setup 0)
   -- the interrupt and the worktree's files are asked for the report alone
-  pub works : (t : Names) → w.told w0 ≡ Some t → NotIncreased (w.faults w0) (w.faults w1)
+  pub works : (t : Names) → w.told w0 ≡ Some t
       → OnOk answer (WorksAt composes t root setup (i.questions i0) (i.questions i1) (w.reads w0) (w.reads w1))
   -- and so are its directories
-  pub opens : (t : Names) → w.told w0 ≡ Some t → NotIncreased (w.faults w0) (w.faults w1) → OnOk answer (ListsAt composes t root setup (w.lists w0) (w.lists w1))
+  pub opens : (t : Names) → w.told w0 ≡ Some t → OnOk answer (ListsAt composes t root setup (w.lists w0) (w.lists w1))
   pub lists : setup.options.strategy ≡ AtOnce → w.lists w1 ≤ w.lists w0 + 1
   pub refused : IfErr answer (RefusesText w i composes w0 w1 i0 i1 root setup 0)
   pub worktree : KeepsTree w w0 w1
@@ -137,16 +141,18 @@ pub record PlanTexts {W I : Type 0} (w : WorktreeOf W) (i : InterruptOf I) (comp
 
 -- The text that a request asks for, or why there is none.
 pub record AnswersClean {W I : Type 0} (w : WorktreeOf W) (i : InterruptOf I) (w0 w1 : W) (i0 i1 : I) (request : Request) (answer : Result (List ℕ) Refusal) : Type 0 where
-  -- Over a told tree and with no fault counted it is exactly the one that the prepared setup asks for, and safe to act on.
-  pub gives : (t : Names) → w.told w0 ≡ Some t → NotIncreased (w.faults w0) (w.faults w1) → IfOk answer (IsTextAt (w.precomposes w0) t request)
-  -- Over any worktree, whatever failed, it is the text of a plan by some report, and spares what the index has.
+  -- Over a told tree it is exactly the one that the prepared setup asks for, and safe to act on.
+  pub gives : (t : Names) → w.told w0 ≡ Some t → IfOk answer (IsTextAt (w.precomposes w0) t request)
+  -- Over any worktree no fault was counted where there is a text, and the count does not stand at its last value.
+  pub unfaulted : OnOk answer (NotIncreased (w.faults w0) (w.faults w1))
+  -- Over any worktree it is the text of a plan by some report, and spares what the index has.
   pub by_report : IfOk answer (IsTextByReportAt (w.precomposes w0) (w.told w0) request)
   -- Over any worktree it has neither the root nor what has a component `.git`.
   pub outside_git : IfOk answer IsTextOutsideGit
-  pub works : (t : Names) → w.told w0 ≡ Some t → NotIncreased (w.faults w0) (w.faults w1)
+  pub works : (t : Names) → w.told w0 ≡ Some t
       → OnOk answer (PlanWorks (w.precomposes w0) t (i.questions i0) (i.questions i1) (w.reads w0) (w.reads w1) request)
   -- Directories are listed for the report alone; where subtrees are walked at once, one is counted at most, whatever is answered.
-  pub opens : (t : Names) → w.told w0 ≡ Some t → NotIncreased (w.faults w0) (w.faults w1)
+  pub opens : (t : Names) → w.told w0 ≡ Some t
       → OnOk answer (ListsReport (made_by request.finding) (w.precomposes w0) t request.places (w.lists w0) (w.lists w1))
   pub lists : (t : Names) → w.told w0 ≡ Some t → ListsOnce t request.places (w.lists w0) (w.lists w1)
   pub causes : HasCauses w i w0 w1 i0 i1 (made_by request.finding) request.places answer

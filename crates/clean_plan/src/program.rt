@@ -16,8 +16,10 @@ use crate::what::{Finding, What};
 use crate::words::{Request, asked};
 use gitbase_core::{Bytes, Find, OutOfMemory, PathText};
 use std::alloc::Global;
-use worktree_fs::{Interrupt, Sink, Worktree};
-use worktree_report::{Refusal, Setup, add_escaped, finish, of_report, read_setup};
+use worktree_fs::{Interrupt, Sink};
+use worktree_report::{
+    CountsFaults, Refusal, Setup, add_escaped, finish, has_failed_since, of_report, read_setup,
+};
 
 /// The line for words that ask for nothing.
 const USAGE: &[u8] = b"usage: clean untracked|all|ignored nonbare|all ROOT SETUP\n";
@@ -53,9 +55,9 @@ fn of_clean(alloc: Global, error: CleanError) -> Result<Refusal, OutOfMemory>
     }
 }
 
-/// The text of the plan for the work tree at `root`, by a prepared setup. Blobs that ignore rules are mapped to are those of
-/// the setup.
-fn text_of_plan<W: Worktree, I: Interrupt>(
+/// The text of the plan for the work tree at `root`, by a prepared setup; none where the worktree failed while the plan was made.
+/// Blobs that ignore rules are mapped to are those of the setup.
+fn text_of_plan<W: CountsFaults, I: Interrupt>(
     alloc: Global,
     worktree: &mut W,
     interrupt: &mut I,
@@ -68,6 +70,7 @@ fn text_of_plan<W: Worktree, I: Interrupt>(
     ensures { top.PlanTexts W.Worktree I.Interrupt (W.precomposes worktree.old) worktree.old
         worktree.new interrupt.old interrupt.new root.now setup.now what result }
 {
+    let before = worktree.fault_count();
     let mut objects = setup.blobs.fork(alloc)?;
     match plan(
         alloc,
@@ -79,13 +82,18 @@ fn text_of_plan<W: Worktree, I: Interrupt>(
         what,
         finding,
     ) {
-        Ok(plan) => Ok(plan_bytes(alloc, &plan)?),
+        Ok(plan) => {
+            if has_failed_since(worktree, before) {
+                return Err(Refusal::Fault);
+            }
+            Ok(plan_bytes(alloc, &plan)?)
+        }
         Err(error) => Err(of_clean(alloc, error)?),
     }
 }
 
 /// The text that a request asks for, or why there is none.
-fn text_at<W: Worktree, I: Interrupt>(
+fn text_at<W: CountsFaults, I: Interrupt>(
     alloc: Global,
     request: Request<'_>,
     worktree: &mut W,
@@ -113,7 +121,7 @@ fn text_at<W: Worktree, I: Interrupt>(
 }
 
 /// The text that the words ask for, or why there is none.
-fn text_asked<W: Worktree, I: Interrupt>(
+fn text_asked<W: CountsFaults, I: Interrupt>(
     alloc: Global,
     words: &[Bytes],
     worktree: &mut W,
@@ -142,13 +150,13 @@ fn text_asked<W: Worktree, I: Interrupt>(
 /// | 2 | the words are none of these, with absolute paths without `.`, `..` and NUL |
 /// | 3 | the setup is not read as a file, or has a line outside its grammar |
 /// | 4 | the walk was refused |
-/// | 6 | the worktree failed, and counted it |
+/// | 6 | the worktree failed, and counted it, also where the walk goes on with such a fault; or its count stands at its last value |
 /// | 7 | `out` refused bytes, and counted it |
 /// | 8 | want of memory |
 ///
 /// With a status other than 0 and 7 nothing goes to `out`. With each status other than 0 one line goes to `err`, with 0
 /// none; a refusal of `err` changes nothing. The interrupt is asked before each directory is read.
-pub fn run_clean<W: Worktree, I: Interrupt, S: Sink, E: Sink>(
+pub fn run_clean<W: CountsFaults, I: Interrupt, S: Sink, E: Sink>(
     alloc: Global,
     words: &[Bytes],
     worktree: &mut W,
@@ -162,9 +170,12 @@ pub fn run_clean<W: Worktree, I: Interrupt, S: Sink, E: Sink>(
         (top.Answers W.Worktree I.Interrupt worktree.old worktree.new interrupt.old interrupt.new
         (top.asked (W.precomposes worktree.old) words.now)) result }
 
-    // Status 0, over a told tree and with no fault counted: what `out` has is what it had, and the lines of the plan.
-    ensures plan { (t : Names) → W.told worktree.old ≡ Some t
-        → NotIncreased (W.faults worktree.old) (W.faults worktree.new) → result ≡ 0
+    // Status 0: no fault was counted, and the count does not stand at its last value.
+    ensures unfaulted { result ≡ 0 → (W.faults worktree.new ≡ W.faults worktree.old)
+        × NotIncreased (W.faults worktree.old) (W.faults worktree.new) }
+
+    // Status 0, over a told tree: what `out` has is what it had, and the lines of the plan.
+    ensures plan { (t : Names) → W.told worktree.old ≡ Some t → result ≡ 0
         → (text : List ℕ) × top.IsOutput (W.precomposes worktree.old) t words.now text
         × Appends (S.written out.old) (S.written out.new) text }
 

@@ -13,7 +13,7 @@ use Rattle.worktree_report.specs.Run.{as_read, IsSafeReport, SetupRefuses}
 use Rattle.worktree_report.specs.SetupAt.{setup_at}
 use Rattle.worktree_report.specs.Words.{Places}
 use Rattle.worktree_report.proofs.Refusing.{InOrder-made, InOrder-unread}
-use Rattle.worktree_report.proofs.Runs.{HasCauses-refused, HasCauses-unread, Keeps-made, Keeps-unread, Quiet-later, lists-walked, opens-walked}
+use Rattle.worktree_report.proofs.Runs.{HasCauses-refused, HasCauses-unread, Keeps-made, Keeps-unread, lists-walked, opens-walked}
 use Rattle.index_status.specs.Run as top
 use Rattle.index_status.specs.States.{files_in}
 
@@ -65,11 +65,12 @@ module _ {W I : Type 0} {w : WorktreeOf W} {i : InterruptOf I} {w0 w1 : W} {i0 :
       → w.precomposes w1 ≡ w.precomposes w0 → top.AnswersStatus w i w0 w1 i0 i0 places (Err refusal)
   AnswersStatus-unread refusal of outside fault tree faults listed once lists composes =
       record {
-        gives = λ t told quiet. tt;
+        gives = λ t told. tt;
+        unfaulted = tt;
         orderly = tt;
-        safe = λ t told quiet. tt;
-        works = λ t told quiet. tt;
-        opens = λ t told quiet. tt;
+        safe = λ t told. tt;
+        works = λ t told. tt;
+        opens = λ t told. tt;
         lists = λ t told setup read at_once. omega (arith, lists);
         causes = HasCauses-unread w i w0 w1 i0 i0 as_read places refusal of outside fault once lists refl;
         in_order = InOrder-unread refusal _ of tree faults listed once lists composes;
@@ -85,11 +86,12 @@ module _ {W I : Type 0} {w : WorktreeOf W} {i : InterruptOf I} {w0 w1 w2 : W} {i
   AnswersStatus-made setup answer read tree faults unfaulted listed once lists composes told_of =
       let texts : top.StatusTexts w i (w.precomposes w0) w1 w2 i0 i1 places.root setup answer = subst (λ b. top.StatusTexts w i b w1 w2 i0 i1 places.root setup answer) composes told_of in
       record {
-        gives = λ t told quiet. output-made _ t places setup answer (read t told) (texts.gives t (tree ∙ told) (Quiet-later _ _ _ faults quiet));
+        gives = λ t told. output-made _ t places setup answer (read t told) (texts.gives t (tree ∙ told));
+        unfaulted = subst (λ (n : ℕ). OnOk answer (NotIncreased n (w.faults w2))) unfaulted texts.unfaulted;
         orderly = orderly-made _ (w.told w0) (w.told w1) places setup answer (w.reads w0) (w.reads w1) (w.reads w2) read tree once texts.orderly;
-        safe = λ t told quiet. safe-made _ t places setup answer (read t told) (texts.safe t (tree ∙ told) (Quiet-later _ _ _ faults quiet));
-        works = λ t told quiet. works-made _ t places setup answer _ _ _ _ _ (read t told) once (texts.works t (tree ∙ told) (Quiet-later _ _ _ faults quiet));
-        opens = λ t told quiet. opens-walked as_read _ t places setup answer _ _ _ (read t told) lists (texts.opens t (tree ∙ told) (Quiet-later _ _ _ faults quiet));
+        safe = λ t told. safe-made _ t places setup answer (read t told) (texts.safe t (tree ∙ told));
+        works = λ t told. works-made _ t places setup answer _ _ _ _ _ (read t told) once (texts.works t (tree ∙ told));
+        opens = λ t told. opens-walked as_read _ t places setup answer _ _ _ (read t told) lists (texts.opens t (tree ∙ told));
         lists = λ t told. lists-walked t places setup _ _ _ (read t told) lists texts.lists;
         causes = HasCauses-refused w i w0 w1 w2 i0 i1 as_read places setup (files_in setup.index) answer read tree faults once lists texts.refused;
         in_order = InOrder-made w w0 w1 w2 i0 i1 places setup answer _ read tree faults unfaulted listed once lists composes texts;
@@ -101,9 +103,15 @@ module _ {W I : Type 0} {w : WorktreeOf W} {i : InterruptOf I} {w0 w1 w2 : W} {i
 module _ {W I : Type 0} (w : WorktreeOf W) (i : InterruptOf I) (w0 w1 : W) (i0 i1 : I) where
   -- a text is the one that is asked for
   pub text_asked-is : (asked : Option Places) (text : List ℕ) → top.Answers w i w0 w1 i0 i1 asked (Ok text)
-      → (t : Names) → w.told w0 ≡ Some t → NotIncreased (w.faults w0) (w.faults w1) → option_and_then (top.output_at (w.precomposes w0) t) asked ≡ Some text
-  text_asked-is None text answers t told quiet = absurd (let is = answers.usage in cc)
-  text_asked-is (Some places) text answers t told quiet = answers.gives t told quiet
+      → (t : Names) → w.told w0 ≡ Some t → option_and_then (top.output_at (w.precomposes w0) t) asked ≡ Some text
+  text_asked-is None text answers t told = absurd (let is = answers.usage in cc)
+  text_asked-is (Some places) text answers t told = answers.gives t told
+
+  -- and no fault was counted
+  pub text_asked-unfaulted : (asked : Option Places) (text : List ℕ) → top.Answers w i w0 w1 i0 i1 asked (Ok text)
+      → (w.faults w1 ≡ w.faults w0) × NotIncreased (w.faults w0) (w.faults w1)
+  text_asked-unfaulted None text answers = absurd (let is = answers.usage in cc)
+  text_asked-unfaulted (Some places) text answers = let quiet = answers.unfaulted in let faults = answers.keeps.faults in (omega (arith, quiet, faults), quiet)
 
   -- a status is not refused for its words
   pub no_usage : (places : Places) (answer : Result (List ℕ) Refusal) → top.AnswersStatus w i w0 w1 i0 i1 places answer → ¬ IsErrOf answer refusals.Usage

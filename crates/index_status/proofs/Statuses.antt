@@ -17,11 +17,11 @@ use Rattle.worktree_report.specs.declared.refusal.Refusal.TheVariants as refusal
 use Rattle.worktree_report.specs.declared.report.Report.{Report}
 use Rattle.worktree_report.specs.declared.setup.Setup.{Setup}
 use Rattle.worktree_report.specs.Asked.{read_in, text_of, IsReportOf, ListsAt}
-use Rattle.worktree_report.specs.Behind.{RefusesText}
+use Rattle.worktree_report.specs.Behind.{MakesFirst, RefusesText}
 use Rattle.worktree_report.specs.Lines.{text_with}
 use Rattle.worktree_report.specs.Reported.{MakesReport, Texts}
 use Rattle.worktree_report.proofs.Answered.{told-blobs, Texts-ok, Texts-refused}
-use Rattle.worktree_report.proofs.Refusing.{FailsBehind-is}
+use Rattle.worktree_report.proofs.Refusing.{FailsMeanwhile-behind, MakesFirst-is}
 use Rattle.worktree_report.proofs.ReportMade.{report_is}
 use Rattle.index_status.specs.declared.error.StatesError.{StatesError}
 use Rattle.index_status.specs.declared.error.StatesError.TheVariants as states
@@ -194,12 +194,17 @@ text-of composes t root setup status text same paths is =
     ∙ ap (λ (l : List ℕ). Some l) (ap (λ (r : List Row). states_text r ++ text_with setup.options status.report) (sym paths)) ∙ ap (λ (l : List ℕ). Some l) (sym same)
 
 module _ {W F I : Type 0} {w : WorktreeOf W} {f : FindOf F} {i : InterruptOf I} {w0 w1 : W} {o0 o1 : F} {i0 i1 : I} {root : List ℕ} {setup : Setup} where
-  -- the text of a status
+  -- the report comes first
+  first-by : (status : IndexStatus) → IsBeside w f i w0 w1 o0 o1 i0 i1 root setup status → f.holds o0 ≡ Some setup.blobs
+      → MakesFirst w i (w.precomposes w0) w0 w1 i0 i1 root setup (files_in setup.index)
+  first-by status beside held = MakesFirst-is (files_in setup.index) status.report beside.made held beside.asks beside.reads
+
+  -- the text of a status, where nothing failed
   pub StatusTexts-ok : (status : IndexStatus) (text : List ℕ) → MakesStatus w f i w0 w1 o0 o1 i0 i1 root setup (Ok status) → f.holds o0 ≡ Some setup.blobs → text ≡ status_text setup.options status
-      → top.StatusTexts w i (w.precomposes w0) w0 w1 i0 i1 root setup (Ok text)
-  StatusTexts-ok status text made held lines =
+      → NotIncreased (w.faults w0) (w.faults w1) → top.StatusTexts w i (w.precomposes w0) w0 w1 i0 i1 root setup (Ok text)
+  StatusTexts-ok status text made held lines quiet =
       record {
-        gives = λ t told quiet.
+        gives = λ t told.
             let is = made.gives (read_in t setup) (told-blobs setup held told) quiet in
             text-of (w.precomposes w0) t root setup status text lines is.paths (ap (option_map (text_with setup.options)) (report_is is.report));
         orderly =
@@ -214,12 +219,14 @@ module _ {W F I : Type 0} {w : WorktreeOf W} {f : FindOf F} {i : InterruptOf I} 
               read = let read = beside.read in let first = beside.made.worktree.reads in omega (arith, read, first);
               orderly = record { made = status.report; orderly = beside.made.orderly; text_is = refl };
             };
-        safe = λ t told quiet. let is = made.gives (read_in t setup) (told-blobs setup held told) quiet in record { made = status.report; is = is.report };
-        works = λ t told quiet.
+        unfaulted = quiet;
+        made = first-by status made.beside held;
+        safe = λ t told. let is = made.gives (read_in t setup) (told-blobs setup held told) quiet in record { made = status.report; is = is.report };
+        works = λ t told.
             let beside = made.beside in
             let texts : Texts w i (w.precomposes w0) w0 beside.between i0 i1 root setup (Ok (text_with setup.options status.report)) = Texts-ok status.report (text_with setup.options status.report) beside.made held refl in
             record { between = w.reads beside.between; report = texts.works t told (quiet_before _ _ _ beside.asks.faults quiet); states = beside.reads };
-        opens = λ t told quiet.
+        opens = λ t told.
             let beside = made.beside in
             let texts : Texts w i (w.precomposes w0) w0 beside.between i0 i1 root setup (Ok (text_with setup.options status.report)) = Texts-ok status.report (text_with setup.options status.report) beside.made held refl in
             subst (λ (n : ℕ). ListsAt (w.precomposes w0) t root setup (w.lists w0) n) (sym beside.asks.lists) (texts.opens t told (quiet_before _ _ _ beside.asks.faults quiet));
@@ -231,15 +238,37 @@ module _ {W F I : Type 0} {w : WorktreeOf W} {f : FindOf F} {i : InterruptOf I} 
         calm = made.calm;
       }
 
+  -- there is a status, and the worktree failed while it was made
+  pub StatusTexts-failed : (status : IndexStatus) → MakesStatus w f i w0 w1 o0 o1 i0 i1 root setup (Ok status) → f.holds o0 ≡ Some setup.blobs → Increased (w.faults w0) (w.faults w1)
+      → top.StatusTexts w i (w.precomposes w0) w0 w1 i0 i1 root setup (Err refusals.Fault)
+  StatusTexts-failed status made held rose =
+      record {
+        gives = λ t told. tt;
+        orderly = tt;
+        unfaulted = tt;
+        made = tt;
+        safe = λ t told. tt;
+        works = λ t told. tt;
+        opens = λ t told. tt;
+        lists = made.lists;
+        refused = inr (inl (refl, record { first = first-by status made.beside held; rose = rose }));
+        worktree = made.worktree;
+        interrupt = made.interrupt;
+        listed = tt;
+        calm = tt;
+      }
+
   -- no memory for the text, or for what the refusal says
   pub StatusTexts-memory : {result : Result IndexStatus StatusError} → MakesStatus w f i w0 w1 o0 o1 i0 i1 root setup result → top.StatusTexts w i (w.precomposes w0) w0 w1 i0 i1 root setup (Err refusals.OutOfMemory)
   StatusTexts-memory made =
       record {
-        gives = λ t told quiet. tt;
+        gives = λ t told. tt;
         orderly = tt;
-        safe = λ t told quiet. tt;
-        works = λ t told quiet. tt;
-        opens = λ t told quiet. tt;
+        unfaulted = tt;
+        made = tt;
+        safe = λ t told. tt;
+        works = λ t told. tt;
+        opens = λ t told. tt;
         lists = made.lists;
         refused = inl refl;
         worktree = made.worktree;
@@ -253,7 +282,7 @@ module _ {W F I : Type 0} {w : WorktreeOf W} {f : FindOf F} {i : InterruptOf I} 
   refused-text (errors.Report e) refusal made held kept same = inr (inr (Texts-refused e refusal (made.no_report e refl) held kept same))
   refused-text (errors.Fault path) refusal made held kept same =
       let fails = made.cause path refl in
-      inr (inl (same, FailsBehind-is (files_in setup.index) fails.report fails.made held fails.asks fails.reads fails.rose))
+      inr (inl (same, FailsMeanwhile-behind (files_in setup.index) fails.report fails.made held fails.asks fails.reads fails.rose))
   refused-text errors.OutOfMemory refusal made held kept same = inl same
 
   -- the refusal that stands for that of a status
@@ -261,11 +290,13 @@ module _ {W F I : Type 0} {w : WorktreeOf W} {f : FindOf F} {i : InterruptOf I} 
       → refusal ≡ top.of_status e → top.StatusTexts w i (w.precomposes w0) w0 w1 i0 i1 root setup (Err refusal)
   StatusTexts-refused e refusal made held kept same =
       record {
-        gives = λ t told quiet. tt;
+        gives = λ t told. tt;
         orderly = tt;
-        safe = λ t told quiet. tt;
-        works = λ t told quiet. tt;
-        opens = λ t told quiet. tt;
+        unfaulted = tt;
+        made = tt;
+        safe = λ t told. tt;
+        works = λ t told. tt;
+        opens = λ t told. tt;
         lists = made.lists;
         refused = refused-text e refusal made held kept same;
         worktree = made.worktree;

@@ -11,7 +11,7 @@ use Rattle.worktree_report.specs.declared.refusal.Refusal.{Refusal}
 use Rattle.worktree_report.specs.declared.refusal.Refusal.TheVariants as refusals
 use Rattle.worktree_report.specs.declared.setup.Setup.{Setup}
 use Rattle.worktree_report.specs.Asked.{IsSafeAt, text_of, ListsAt, WorksAt}
-use Rattle.worktree_report.specs.Behind.{InOrder, RefusesText}
+use Rattle.worktree_report.specs.Behind.{InOrder, MakesFirst, RefusesText}
 use Rattle.worktree_report.specs.Converted as converted
 use Rattle.worktree_report.specs.Orderly.{IsOrderlyText}
 use Rattle.worktree_report.specs.Run.{as_read, AnswersIf, HasCauses, IsReadyAt, IsSafeReport, Keeps, ListsOnce, ListsReport}
@@ -93,13 +93,17 @@ of_status errors.OutOfMemory = refusals.OutOfMemory
 -- The text of the states and the report, or why there is none, where a worktree was `w0` and is `w1`, and an interrupt was `i0` and
 -- is `i1`. `composes` says whether the worktree composes names.
 pub record StatusTexts {W I : Type 0} (w : WorktreeOf W) (i : InterruptOf I) (composes : Bool) (w0 w1 : W) (i0 i1 : I) (root : List ℕ) (setup : Setup) (answer : Result (List ℕ) Refusal) : Type 0 where
-  pub gives : (t : Names) → w.told w0 ≡ Some t → NotIncreased (w.faults w0) (w.faults w1) → IfOk answer (λ text. text_in composes t root setup ≡ Some text)
+  pub gives : (t : Names) → w.told w0 ≡ Some t → IfOk answer (λ text. text_in composes t root setup ≡ Some text)
   pub orderly : IfOk answer (IsOrderlyStatus composes (w.told w0) root setup (λ files. with_more (w.reads w0) files ≤ w.reads w1))
-  pub safe : (t : Names) → w.told w0 ≡ Some t → NotIncreased (w.faults w0) (w.faults w1) → OnOk answer (IsSafeAt composes t root setup)
-  pub works : (t : Names) → w.told w0 ≡ Some t → NotIncreased (w.faults w0) (w.faults w1)
+  -- no fault was counted, one that the walk swallows among them
+  pub unfaulted : OnOk answer (NotIncreased (w.faults w0) (w.faults w1))
+  -- one report was made, and then the index paths were looked at
+  pub made : OnOk answer (MakesFirst w i composes w0 w1 i0 i1 root setup (files_in setup.index))
+  pub safe : (t : Names) → w.told w0 ≡ Some t → OnOk answer (IsSafeAt composes t root setup)
+  pub works : (t : Names) → w.told w0 ≡ Some t
       → OnOk answer (StatusWorks composes t root setup (i.questions i0) (i.questions i1) (w.reads w0) (w.reads w1))
   -- directories are listed for the report alone
-  pub opens : (t : Names) → w.told w0 ≡ Some t → NotIncreased (w.faults w0) (w.faults w1) → OnOk answer (ListsAt composes t root setup (w.lists w0) (w.lists w1))
+  pub opens : (t : Names) → w.told w0 ≡ Some t → OnOk answer (ListsAt composes t root setup (w.lists w0) (w.lists w1))
   pub lists : setup.options.strategy ≡ AtOnce → w.lists w1 ≤ w.lists w0 + 1
   pub refused : IfErr answer (RefusesText w i composes w0 w1 i0 i1 root setup (files_in setup.index))
   pub worktree : KeepsTree w w0 w1
@@ -111,16 +115,17 @@ pub record StatusTexts {W I : Type 0} (w : WorktreeOf W) (i : InterruptOf I) (co
 
 -- The text at some places, or why there is none.
 pub record AnswersStatus {W I : Type 0} (w : WorktreeOf W) (i : InterruptOf I) (w0 w1 : W) (i0 i1 : I) (places : Places) (answer : Result (List ℕ) Refusal) : Type 0 where
-  -- Over a told tree and with no fault counted it is exactly the one that the setup asks for, and the report is safe to act on.
-  pub gives : (t : Names) → w.told w0 ≡ Some t → NotIncreased (w.faults w0) (w.faults w1) → IfOk answer (λ text. output_at (w.precomposes w0) t places ≡ Some text)
-  -- Over any worktree it is in order, and over a told tree the lines of the states are exact, whatever failed. The setup was read,
-  -- and behind it at least as many files as are the same or modified, those for the report among them.
+  -- Over a told tree it is exactly the one that the setup asks for, and the report is safe to act on.
+  pub gives : (t : Names) → w.told w0 ≡ Some t → IfOk answer (λ text. output_at (w.precomposes w0) t places ≡ Some text)
+  -- Over any worktree no fault was counted where there is a text, and the count does not stand at its last value.
+  pub unfaulted : OnOk answer (NotIncreased (w.faults w0) (w.faults w1))
+  -- Over any worktree it is in order. The setup was read, and behind it at least as many files as are the same or modified, those for the report among them.
   pub orderly : IfOk answer (IsOrderlyAnswer (w.precomposes w0) (w.told w0) places (λ files. with_more (next (w.reads w0)) files ≤ w.reads w1))
-  pub safe : (t : Names) → w.told w0 ≡ Some t → NotIncreased (w.faults w0) (w.faults w1) → OnOk answer (IsSafeReport (w.precomposes w0) t places)
-  pub works : (t : Names) → w.told w0 ≡ Some t → NotIncreased (w.faults w0) (w.faults w1)
+  pub safe : (t : Names) → w.told w0 ≡ Some t → OnOk answer (IsSafeReport (w.precomposes w0) t places)
+  pub works : (t : Names) → w.told w0 ≡ Some t
       → OnOk answer (StatusWorksAt (w.precomposes w0) t (i.questions i0) (i.questions i1) (w.reads w0) (w.reads w1) places)
   -- Directories are listed for the report alone; where subtrees are walked at once, one is counted at most, whatever is answered.
-  pub opens : (t : Names) → w.told w0 ≡ Some t → NotIncreased (w.faults w0) (w.faults w1)
+  pub opens : (t : Names) → w.told w0 ≡ Some t
       → OnOk answer (ListsReport as_read (w.precomposes w0) t places (w.lists w0) (w.lists w1))
   pub lists : (t : Names) → w.told w0 ≡ Some t → ListsOnce t places (w.lists w0) (w.lists w1)
   pub causes : HasCauses w i w0 w1 i0 i1 as_read places answer

@@ -12,8 +12,11 @@ use crate::lines::status_bytes;
 use crate::report_beside::status;
 use gitbase_core::{Bytes, Find, OutOfMemory};
 use std::alloc::Global;
-use worktree_fs::{Interrupt, Sink, Worktree};
-use worktree_report::{Places, Refusal, Setup, finish, of_report, places_behind, read_setup};
+use worktree_fs::{Interrupt, Sink};
+use worktree_report::{
+    CountsFaults, Places, Refusal, Setup, finish, has_failed_since, of_report, places_behind,
+    read_setup,
+};
 
 /// The line for words that ask for nothing.
 const USAGE: &[u8] = b"usage: status ROOT SETUP\n";
@@ -29,9 +32,9 @@ fn of_status(alloc: Global, error: StatusError) -> Result<Refusal, OutOfMemory>
     }
 }
 
-/// The lines of the states and of the report of the work tree at `root`. Blobs that ignore rules are mapped to are those of the
-/// setup.
-fn text_of_status<W: Worktree, I: Interrupt>(
+/// The lines of the states and of the report of the work tree at `root`; none where the worktree failed while they were made. Blobs
+/// that ignore rules are mapped to are those of the setup.
+fn text_of_status<W: CountsFaults, I: Interrupt>(
     alloc: Global,
     worktree: &mut W,
     interrupt: &mut I,
@@ -41,15 +44,21 @@ fn text_of_status<W: Worktree, I: Interrupt>(
     ensures { top.StatusTexts W.Worktree I.Interrupt (W.precomposes worktree.old) worktree.old
         worktree.new interrupt.old interrupt.new root.now setup.now result }
 {
+    let before = worktree.fault_count();
     let mut objects = setup.blobs.fork(alloc)?;
     match status(alloc, worktree, &mut objects, interrupt, root, setup) {
-        Ok(status) => Ok(status_bytes(alloc, &status, &setup.options)?),
+        Ok(status) => {
+            if has_failed_since(worktree, before) {
+                return Err(Refusal::Fault);
+            }
+            Ok(status_bytes(alloc, &status, &setup.options)?)
+        }
         Err(error) => Err(of_status(alloc, error)?),
     }
 }
 
 /// The text at some places, or why there is none.
-fn text_at<W: Worktree, I: Interrupt>(
+fn text_at<W: CountsFaults, I: Interrupt>(
     alloc: Global,
     places: Places<'_>,
     worktree: &mut W,
@@ -63,7 +72,7 @@ fn text_at<W: Worktree, I: Interrupt>(
 }
 
 /// The text that the words ask for, or why there is none.
-fn text_asked<W: Worktree, I: Interrupt>(
+fn text_asked<W: CountsFaults, I: Interrupt>(
     alloc: Global,
     words: &[Bytes],
     worktree: &mut W,
@@ -92,13 +101,13 @@ fn text_asked<W: Worktree, I: Interrupt>(
 /// | 3 | the setup is not read as a file, or has a line outside its grammar |
 /// | 4 | the walk was refused |
 /// | 5 | a configuration, `.gitmodules` or a value of `submodule.active` is outside its grammar |
-/// | 6 | the worktree failed, and counted it |
+/// | 6 | the worktree failed, and counted it, also where the walk goes on with such a fault; or its count stands at its last value |
 /// | 7 | `out` refused bytes, and counted it |
 /// | 8 | want of memory |
 ///
 /// With a status other than 0 and 7 nothing goes to `out`. With each status other than 0 one line goes to `err`, with 0
 /// none; a refusal of `err` changes nothing. The interrupt is asked before each directory is read.
-pub fn run_status<W: Worktree, I: Interrupt, S: Sink, E: Sink>(
+pub fn run_status<W: CountsFaults, I: Interrupt, S: Sink, E: Sink>(
     alloc: Global,
     words: &[Bytes],
     worktree: &mut W,
@@ -112,9 +121,12 @@ pub fn run_status<W: Worktree, I: Interrupt, S: Sink, E: Sink>(
         (top.Answers W.Worktree I.Interrupt worktree.old worktree.new interrupt.old interrupt.new
         (top.asked (W.precomposes worktree.old) words.now)) result }
 
-    // Status 0, over a told tree and with no fault counted: what `out` has is what it had, and the lines of the states and the report.
-    ensures status { (t : Names) → W.told worktree.old ≡ Some t
-        → NotIncreased (W.faults worktree.old) (W.faults worktree.new) → result ≡ 0
+    // Status 0: no fault was counted, and the count does not stand at its last value.
+    ensures unfaulted { result ≡ 0 → (W.faults worktree.new ≡ W.faults worktree.old)
+        × NotIncreased (W.faults worktree.old) (W.faults worktree.new) }
+
+    // Status 0, over a told tree: what `out` has is what it had, and the lines of the states and the report.
+    ensures status { (t : Names) → W.told worktree.old ≡ Some t → result ≡ 0
         → (text : List ℕ) × (top.output_of (W.precomposes worktree.old) t words.now ≡ Some text)
         × Appends (S.written out.old) (S.written out.new) text }
 

@@ -276,6 +276,11 @@ module _ {W : Type 0} (w : WorktreeOf W) (w0 w1 : W) where
   text_asked-is None text answers t told = absurd (let is = answers.usage in cc)
   text_asked-is (Some places) text answers t told = answers.gives t told
 
+  -- and no fault was counted
+  pub text_asked-unfaulted : (asked : Option Places) (text : List ℕ) → top.AnswersAsked w w0 w1 asked (Ok text) → w.faults w1 ≡ w.faults w0
+  text_asked-unfaulted None text answers = absurd (let is = answers.usage in cc)
+  text_asked-unfaulted (Some places) text answers = answers.unfaulted
+
   -- a plan is not refused for its words
   pub no_usage : (places : Places) (answer : Result (List ℕ) Refusal) → top.AnswersPlan w w0 w1 places answer → ¬ IsErrOf answer refusals.Usage
   no_usage places answer answers is = subst (λ r. IfErr r (top.IsOfCall (Increased (w.faults w0) (w.faults w1)))) is answers.refused

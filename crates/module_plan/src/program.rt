@@ -183,9 +183,11 @@ pub fn run_modules<W: Worktree, I: Interrupt, S: Sink, E: Sink>(
         (top.Answers W.Worktree I.Interrupt worktree.old worktree.new interrupt.old interrupt.new
         (top.asked (W.precomposes worktree.old) words.now)) result }
 
-    // Status 0, over a told tree and with no fault counted: what `out` has is what it had, and the lines of the plan.
-    ensures plan { (t : Names) → W.told worktree.old ≡ Some t
-        → NotIncreased (W.faults worktree.old) (W.faults worktree.new) → result ≡ 0
+    // Status 0: no fault was counted.
+    ensures unfaulted { result ≡ 0 → W.faults worktree.new ≡ W.faults worktree.old }
+
+    // Status 0, over a told tree: what `out` has is what it had, and the lines of the plan.
+    ensures plan { (t : Names) → W.told worktree.old ≡ Some t → result ≡ 0
         → (text : List ℕ) × (top.output_of (W.precomposes worktree.old) t words.now ≡ Some text)
         × Appends (S.written out.old) (S.written out.new) text }
 

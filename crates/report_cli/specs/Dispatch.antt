@@ -4,6 +4,7 @@ use Rattle.std.specs.Str.{bytes_eq}
 use Rattle.worktree_fs.specs.declared.interrupt.Interrupt.{Ghosts as InterruptOf}
 use Rattle.worktree_fs.specs.declared.sink.Sink.{Ghosts as SinkOf}
 use Rattle.worktree_fs.specs.declared.worktree.Worktree.{Ghosts as WorktreeOf}
+use Rattle.worktree_fs.specs.Causes.{NotIncreased}
 use Rattle.worktree_fs.specs.Tree.{Names}
 use Rattle.clean_plan.specs.Run as clean
 use Rattle.index_status.specs.Run as status
@@ -53,6 +54,21 @@ IsOutputBy calls.Clean composes t words text = clean.IsOutput composes t words t
 IsOutputBy calls.Modules composes t words text = modules.output_of composes t words ≡ Some text
 IsOutputBy calls.Status composes t words text = status.output_of composes t words ≡ Some text
 IsOutputBy calls.Report composes t words text = report.output_of composes t words ≡ Some text
+
+-- What a call says of the count of faults where it ends with 0: that none was counted, and, where it makes a report, that the count
+-- does not stand at its last value. A report alone is given with faults that the walk goes on with.
+abbrev pub IsUnfaultedBy : Call → ℕ → ℕ → Type 0
+IsUnfaultedBy calls.Clean before now = (now ≡ before) × NotIncreased before now
+IsUnfaultedBy calls.Modules before now = now ≡ before
+IsUnfaultedBy calls.Status before now = (now ≡ before) × NotIncreased before now
+IsUnfaultedBy calls.Report before now = Unit {0}
+
+-- what has to be known of that count besides, so that its output is said
+abbrev pub IsQuietFor : Call → ℕ → ℕ → Type 0
+IsQuietFor calls.Clean before now = Unit {0}
+IsQuietFor calls.Modules before now = Unit {0}
+IsQuietFor calls.Status before now = Unit {0}
+IsQuietFor calls.Report before now = NotIncreased before now
 
 -- a call came to an answer to its words, and ended as that answer does
 abbrev pub RunsBy : {W I S E : Type 0} → WorktreeOf W → InterruptOf I → SinkOf S → SinkOf E → W → W → I → I → S → S → E → E → Bool → List (List ℕ) → ℕ → Call → Type 0

@@ -10,6 +10,8 @@ ghost use Rattle.report_cli.specs.Dispatch.{
   uncomposed,
   AsksNothingBy,
   IsOutputBy,
+  IsQuietFor,
+  IsUnfaultedBy,
   IsValidBy,
   RunsBy,
 };
@@ -19,8 +21,8 @@ use gitbase_core::Bytes;
 use index_status::run_status;
 use module_plan::run_modules;
 use std::alloc::Global;
-use worktree_fs::{Interrupt, Sink, Worktree};
-use worktree_report::run;
+use worktree_fs::{Interrupt, Sink};
+use worktree_report::{CountsFaults, run};
 
 /// The call that answers words.
 #[derive(Clone, Copy, Debug, PartialEq, Eq)]
@@ -82,7 +84,7 @@ fn call_of(words: &[Bytes]) -> Call
 
 /// Answers the words of a command line, by the first of them behind an optional `composed`: `clean` as [`run_clean`] does,
 /// `modules` as [`run_modules`], `status` as [`run_status`], and any other as [`run`]. The statuses are those of [`run`].
-pub fn dispatch<W: Worktree, I: Interrupt, S: Sink, E: Sink>(
+pub fn dispatch<W: CountsFaults, I: Interrupt, S: Sink, E: Sink>(
     alloc: Global,
     words: &[Bytes],
     worktree: &mut W,
@@ -99,9 +101,14 @@ pub fn dispatch<W: Worktree, I: Interrupt, S: Sink, E: Sink>(
     ensures usage { (result ≡ 2) ↔ AsksNothingBy (call_of words.now)
         (W.precomposes worktree.old) words.now }
 
-    // Status 0, over a told tree and with no fault counted: what `out` has is what it had, and what the words ask for.
+    // Status 0, but for a report: no fault was counted.
+    ensures unfaulted { result ≡ 0 → IsUnfaultedBy (call_of words.now) (W.faults worktree.old)
+        (W.faults worktree.new) }
+
+    // Status 0, over a told tree, and for a report with no fault counted: what `out` has is what it had, and what the words ask for.
     ensures output { (t : Names) → W.told worktree.old ≡ Some t
-        → NotIncreased (W.faults worktree.old) (W.faults worktree.new) → result ≡ 0
+        → IsQuietFor (call_of words.now) (W.faults worktree.old) (W.faults worktree.new)
+        → result ≡ 0
         → (text : List ℕ) × IsOutputBy (call_of words.now) (W.precomposes worktree.old) t words.now
         text × Appends (S.written out.old) (S.written out.new) text }
 

@@ -8,6 +8,7 @@ mod mapped;
 mod modules;
 mod plans;
 mod rows;
+mod swallowed;
 mod walks;
 
 use crate::dispatch::dispatch;

@@ -37,10 +37,10 @@ use Rattle.worktree_report.specs.declared.refusal.Refusal.TheVariants as refusal
 use Rattle.worktree_report.specs.Asked.{asked_of, read_in, report_of, About, Found, IsAboutWalkAt, ListsAt, ReadsWithin, Refuses, RefusesWalkAt}
 use Rattle.worktree_report.specs.Excluding.{excludes_of}
 use Rattle.worktree_report.specs.Converted.{of_lookup, of_report, of_walk, IsOfWalking}
-use Rattle.worktree_report.specs.Loading.{known_in, IsKnown}
+use Rattle.worktree_report.specs.Loading.{files_if, known_in, IsKnown}
 use Rattle.worktree_report.specs.Outside.{files_to, FailsLoading, IsOutside, LoadsAlone, MisreadsAt, OnMisread, OnReading, Stops}
 use Rattle.worktree_report.specs.Lines.{text_with}
-use Rattle.worktree_report.specs.Reported.{MakesReport, Misreads, OnReportFault, OnWalk, Texts}
+use Rattle.worktree_report.specs.Reported.{LoadsFirst, MakesReport, Misreads, OnReportFault, OnWalk, OnWalking, Texts}
 use Rattle.worktree_report.proofs.ReportMade.{report_is}
 
 -- ---- refusals
@@ -265,6 +265,25 @@ about-of_report composes told root setup word path errors.ReadFault about found 
 about-of_report composes told root setup word path (errors.Walk e) about found known is = record { error = e; is = is; about = about; known = known; found = found }
 about-of_report composes told root setup word path errors.OutOfMemory about found known is = absurd cc
 
+on-walking : (Holds : Type 0) (refusal : Refusal) → Holds → OnWalking Holds refusal
+on-walking Holds refusals.Interrupted h = h
+on-walking Holds refusals.Usage h = tt
+on-walking Holds (refusals.Setup line) h = tt
+on-walking Holds (refusals.Misread which) h = tt
+on-walking Holds (refusals.Walk word path) h = h
+on-walking Holds refusals.Fault h = tt
+on-walking Holds refusals.Output h = tt
+on-walking Holds refusals.OutOfMemory h = tt
+
+-- what holds of a refused walk holds where its refusal is told
+loaded-of_report : (Holds : Type 0) (e : ReportError) → OnWalk (λ x. Holds) e → OnWalking Holds (of_report e)
+loaded-of_report Holds (errors.Config at line) h = tt
+loaded-of_report Holds (errors.Modules line) h = tt
+loaded-of_report Holds (errors.ActiveSpec at) h = tt
+loaded-of_report Holds errors.ReadFault h = tt
+loaded-of_report Holds (errors.Walk e) h = on-walking Holds (of_walk e) h
+loaded-of_report Holds errors.OutOfMemory h = tt
+
 -- a fault comes before the walk, or where all that tells of submodules is in its grammar
 late-of_report : {W F I : Type 0} (w : WorktreeOf W) (w0 w1 : W) (o0 o1 : F) (i0 i1 : I) (root : List ℕ) (setup : Setup) (e : ReportError)
     → OnReading (LoadsAlone w w0 w1 o0 o1 i0 i1 setup) e → Stops w w0 w1 setup e → ((t : Names) → w.told w0 ≡ Some t → Misreads (known_in t root setup) e) → of_report e ≡ refusals.Fault
@@ -339,6 +358,23 @@ module _ {W F I : Type 0} {w : WorktreeOf W} {f : FindOf F} {i : InterruptOf I} 
         interrupted = λ is. absurd cc;
         interrupted_late = λ t told is. absurd cc;
         answers = tt;
+        made =
+            record {
+              report = r;
+              text_is = lines;
+              orderly = reports.orderly;
+              loaded = reports.loaded;
+              opens =
+                  record {
+                    opened = reports.opens.opened;
+                    within = λ t told quiet. reports.opens.within (read_in t setup) (told-blobs setup held told) quiet;
+                    listed = reports.opens.listed;
+                    asked = reports.opens.asked;
+                    counted = reports.opens.counted;
+                    reads = reports.opens.reads;
+                  };
+            };
+        loaded = tt;
         making = tt;
         complete = λ t told quiet calm valid. tt;
         worktree = reports.worktree;
@@ -366,6 +402,8 @@ module _ {W F I : Type 0} {w : WorktreeOf W} {f : FindOf F} {i : InterruptOf I} 
         interrupted = λ is. absurd cc;
         interrupted_late = λ t told is. absurd cc;
         answers = tt;
+        made = tt;
+        loaded = tt;
         making = inl refl;
         complete = λ t told quiet calm valid. refl;
         worktree = reports.worktree;
@@ -399,6 +437,8 @@ module _ {W F I : Type 0} {w : WorktreeOf W} {f : FindOf F} {i : InterruptOf I} 
         interrupted = λ is. interrupt-of_report _ e reports.interrupted (answered is);
         interrupted_late = λ t told is. known-of_report _ e (reports.misread t told) (answered is);
         answers = of_reporting e;
+        made = tt;
+        loaded = loaded-of_report (LoadsFirst w w0 w1 (files_if setup)) e reports.loaded_walk;
         making =
             inr (record {
               error = e;

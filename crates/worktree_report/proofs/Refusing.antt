@@ -1,5 +1,5 @@
 -- A text that a report is made for, or none, comes in its order.
-use Rattle.std.proofs.Common.{◌≡◌, ◌≤◌, ◌+◌, ℕ, List, true, inl, inr, Some, Result, Ok, Err, refl}
+use Rattle.std.proofs.Common.{◌≡◌, ◌≤◌, ◌+◌, ℕ, List, true, inl, inr, Some, Result, Ok, Err, refl, arith}
 use Rattle.gitbase_core.specs.declared.find.Find.{Ghosts as FindOf}
 use Rattle.worktree_fs.specs.declared.interrupt.Interrupt.{Ghosts as InterruptOf}
 use Rattle.worktree_fs.specs.declared.worktree.Worktree.{Ghosts as WorktreeOf}
@@ -9,7 +9,7 @@ use Rattle.worktree_fs.specs.Tree.{Names, look}
 use Rattle.worktree_report.specs.declared.refusal.Refusal.{Refusal}
 use Rattle.worktree_report.specs.declared.report.Report.{Report}
 use Rattle.worktree_report.specs.declared.setup.Setup.{Setup}
-use Rattle.worktree_report.specs.Behind.{BySetup, FailsBehind, InOrder}
+use Rattle.worktree_report.specs.Behind.{BySetup, FailsMeanwhile, InOrder, MakesFirst}
 use Rattle.worktree_report.specs.Converted.{IsOfReading}
 use Rattle.worktree_report.specs.Lines.{text_with}
 use Rattle.worktree_report.specs.Reported.{MakesReport}
@@ -18,11 +18,17 @@ use Rattle.worktree_report.specs.Words.{Places}
 use Rattle.worktree_report.proofs.Answered.{Texts-ok}
 
 module _ {W F I : Type 0} {w : WorktreeOf W} {f : FindOf F} {i : InterruptOf I} {w0 between w1 : W} {o0 o1 : F} {i0 i1 : I} {root : List ℕ} {setup : Setup} where
-  -- there is one, and the worktree fails behind it
-  pub FailsBehind-is : (most : ℕ) (r : Report) → MakesReport w f i w0 between o0 o1 i0 i1 root setup (Ok r) → f.holds o0 ≡ Some setup.blobs → Asks w between w1 → w.reads w1 ≤ w.reads between + most
-      → Increased (w.faults between) (w.faults w1) → FailsBehind w i (w.precomposes w0) w0 w1 i0 i1 root setup most
-  FailsBehind-is most r reports held asks reads rose =
-      record { between = between; text = text_with setup.options r; made = Texts-ok r (text_with setup.options r) reports held refl; asks = asks; reads = reads; rose = rose }
+  -- there is a report, and more is asked behind it
+  pub MakesFirst-is : (most : ℕ) (r : Report) → MakesReport w f i w0 between o0 o1 i0 i1 root setup (Ok r) → f.holds o0 ≡ Some setup.blobs → Asks w between w1 → w.reads w1 ≤ w.reads between + most
+      → MakesFirst w i (w.precomposes w0) w0 w1 i0 i1 root setup most
+  MakesFirst-is most r reports held asks reads =
+      record { between = between; text = text_with setup.options r; made = Texts-ok r (text_with setup.options r) reports held refl; asks = asks; reads = reads }
+
+  -- and the worktree fails behind it
+  pub FailsMeanwhile-behind : (most : ℕ) (r : Report) → MakesReport w f i w0 between o0 o1 i0 i1 root setup (Ok r) → f.holds o0 ≡ Some setup.blobs → Asks w between w1 → w.reads w1 ≤ w.reads between + most
+      → Increased (w.faults between) (w.faults w1) → FailsMeanwhile w i (w.precomposes w0) w0 w1 i0 i1 root setup most
+  FailsMeanwhile-behind most r reports held asks reads rose =
+      record { first = MakesFirst-is most r reports held asks reads; rose = let earlier = reports.worktree.faults in omega (arith, earlier, rose) }
 
 module _ {W I : Type 0} {w : WorktreeOf W} {w0 w1 : W} {i0 : I} {places : Places} where
   -- the setup is not read

@@ -45,10 +45,10 @@ use Rattle.worktree_report.specs.declared.setup.Setup.{Setup}
 use Rattle.worktree_report.specs.Asked.{About, Found, IsReportOf, IsWalkOf, NoRoot, ReadsFrom, Refuses, asked_of, chosen_of, described_by, report_of, walked_of}
 use Rattle.worktree_report.specs.Excluding.{excludes_of, rules_of}
 use Rattle.worktree_report.specs.Loading.{files_if, known_in}
-use Rattle.worktree_report.specs.Loads.{Gives, LoadsFiles, OfKnown, of_walk}
+use Rattle.worktree_report.specs.Loads.{Gives, HasLoaded, LoadsFiles, OfKnown, of_walk}
 use Rattle.worktree_report.specs.Orderly.{IsOrderly}
 use Rattle.worktree_report.specs.Outside.{IsOutside, LoadsAlone, OnMisread, OnReading, Stops}
-use Rattle.worktree_report.specs.Reported.{Describes, EntersAsAsked, IsNamedRoot, LoadsAndOpens, MakesReport, Misreads, OnReportFault, OnWalk, Reports}
+use Rattle.worktree_report.specs.Reported.{Describes, EntersAsAsked, IsNamedRoot, LoadsAndOpens, LoadsFirst, MakesReport, Misreads, OnReportFault, OnWalk, Reports}
 use Rattle.worktree_report.specs.Submodules.{described, emission_in, entry_in, facts_in}
 use Rattle.worktree_report.specs.Unopened.{deep_report, unlisted_report}
 use Rattle.worktree_report.proofs.Walks.{unlisted_so}
@@ -131,6 +131,8 @@ module _ {W F I : Type 0} {w : WorktreeOf W} {f : FindOf F} {i : InterruptOf I} 
         outside = outside;
         alone = on_reading _ _ e (λ is. record { asked = is; loads = loads; store = refl; interrupt = refl }) asked;
         stops = stops;
+        loaded = tt;
+        loaded_walk = no_walk _ _ e of_it;
         about = no_walk _ _ e of_it;
         found = λ s told. no_walk _ _ e of_it;
         cause = failed _ _ e of_it;
@@ -382,7 +384,7 @@ told_later : {W F : Type 0} (w : WorktreeOf W) (f : FindOf F) (w0 wl : W) (o0 : 
     → TellsIf (w.told w0) (f.holds o0) made s → TellsIf (w.told wl) (f.holds o0) made s
 told_later w f w0 wl o0 most made s loads told = record { tree_is = loads.tree ∙ told.tree_is; objects_are = told.objects_are }
 
-module _ {W F I : Type 0} {w : WorktreeOf W} {f : FindOf F} {i : InterruptOf I} {w0 wl w1 : W} {o0 o1 : F} {i0 i1 : I} {root : List ℕ} {setup : Setup} (loads : LoadsFiles w w0 wl (files_if setup)) where
+module _ {W F I : Type 0} {w : WorktreeOf W} {f : FindOf F} {i : InterruptOf I} {w0 wl w1 : W} {o0 o1 : F} {i0 i1 : I} {root : List ℕ} {setup : Setup} (has : HasLoaded w w0 wl (files_if setup)) where
   module _ (known : Option Known) (known_is : (t : Names) → w.told w0 ≡ Some t → known_in t root setup ≡ Ok known)
       (asked_for : setup.options.submodules ≡ true → is_some known ≡ true) (unasked : setup.options.submodules ≡ false → known ≡ None) where
     -- the walk gave something, and that is described
@@ -394,21 +396,23 @@ module _ {W F I : Type 0} {w : WorktreeOf W} {f : FindOf F} {i : InterruptOf I} 
               record {
                 walked = walked;
                 known = known;
-                walk_is = subst (λ (b : Bool). IsWalkOf b s root setup walked) loads.precomposes (reports.gives s (told_later w f w0 wl o0 _ _ s loads told) (quiet_later _ _ _ loads.faults quiet));
+                walk_is = subst (λ (b : Bool). IsWalkOf b s root setup walked) has.loads.precomposes (reports.gives s (told_later w f w0 wl o0 _ _ s has.loads told) (quiet_later _ _ _ has.loads.faults quiet));
                 known_is = known_is s.tree told.tree_is;
                 same = same;
               };
           orderly = subst (IsOrderly (w.precomposes w0) (w.told w0) root setup) (sym same)
               (described-orderly (w.precomposes w0) (w.told w0) root setup known walked known_is asked_for unasked reports.ordered
-              (subst (λ (b : Bool). hidden_in (chosen_of b setup) walked.entries ≡ 0) loads.precomposes reports.filtered) reports.counted reports.seen
-              (subst (λ (b : Bool). IsFromRoot (asked_of b root setup) setup.root walked) loads.precomposes reports.once));
+              (subst (λ (b : Bool). hidden_in (chosen_of b setup) walked.entries ≡ 0) has.loads.precomposes reports.filtered) reports.counted reports.seen
+              (subst (λ (b : Bool). IsFromRoot (asked_of b root setup) setup.root walked) has.loads.precomposes reports.once));
           named = λ t told quiet.
               subst (λ (x : Report). IsNamedRoot (w.precomposes w0) t root setup x.root) (sym same)
-              (subst (λ (b : Bool). IsNamedRoot b t root setup walked.root) loads.precomposes (reports.named t (loads.tree ∙ told) (quiet_later _ _ _ loads.faults quiet)));
+              (subst (λ (b : Bool). IsNamedRoot b t root setup walked.root) has.loads.precomposes (reports.named t (has.loads.tree ∙ told) (quiet_later _ _ _ has.loads.faults quiet)));
           misread = λ t told. tt;
           outside = tt;
           alone = tt;
           stops = tt;
+          loaded = record { loaded = wl; has = has; behind = reports.worktree };
+          loaded_walk = tt;
           about = tt;
           found = λ s told. tt;
           cause = tt;
@@ -417,12 +421,12 @@ module _ {W F I : Type 0} {w : WorktreeOf W} {f : FindOf F} {i : InterruptOf I} 
           no_root = λ t told quiet. tt;
           refused = λ s told quiet. tt;
           complete = λ s told quiet stored calm valid. tt;
-          worktree = kept_later w w0 wl w1 _ loads reports.worktree;
+          worktree = kept_later w w0 wl w1 _ has.loads reports.worktree;
           store = reports.store;
           interrupt = reports.interrupt;
-          listed = reports.listed ∙ loads.list_faults;
+          listed = reports.listed ∙ has.loads.list_faults;
           calm = reports.calm;
-          opens = opened_later w f i w0 wl w1 o0 i0 i1 root setup (Ok walked) (Ok r) loads reports.worktree.faults reports.opens (ap (λ (x : Report). x.outcome.read_dir_calls) same ∙ reports.opens.counted) (λ start named. ap (λ (x : Report). x.root) same ∙ named) (omega arith) (omega arith) (omega arith);
+          opens = opened_later w f i w0 wl w1 o0 i0 i1 root setup (Ok walked) (Ok r) has.loads reports.worktree.faults reports.opens (ap (λ (x : Report). x.outcome.read_dir_calls) same ∙ reports.opens.counted) (λ start named. ap (λ (x : Report). x.root) same ∙ named) (omega arith) (omega arith) (omega arith);
         }
 
     -- there is no memory to describe it
@@ -437,6 +441,8 @@ module _ {W F I : Type 0} {w : WorktreeOf W} {f : FindOf F} {i : InterruptOf I} 
           outside = tt;
           alone = tt;
           stops = tt;
+          loaded = tt;
+          loaded_walk = tt;
           about = tt;
           found = λ s told. tt;
           cause = tt;
@@ -445,12 +451,12 @@ module _ {W F I : Type 0} {w : WorktreeOf W} {f : FindOf F} {i : InterruptOf I} 
           no_root = λ t told quiet. tt;
           refused = λ s told quiet. tt;
           complete = λ s told quiet stored calm valid. refl;
-          worktree = kept_later w w0 wl w1 _ loads reports.worktree;
+          worktree = kept_later w w0 wl w1 _ has.loads reports.worktree;
           store = reports.store;
           interrupt = reports.interrupt;
           listed = tt;
           calm = tt;
-          opens = opened_later w f i w0 wl w1 o0 i0 i1 root setup (Ok walked) (Err errors.OutOfMemory) loads reports.worktree.faults reports.opens tt (λ start named. tt) (omega arith) (omega arith) (omega arith);
+          opens = opened_later w f i w0 wl w1 o0 i0 i1 root setup (Ok walked) (Err errors.OutOfMemory) has.loads reports.worktree.faults reports.opens tt (λ start named. tt) (omega arith) (omega arith) (omega arith);
         }
 
     -- the walk was refused
@@ -465,26 +471,28 @@ module _ {W F I : Type 0} {w : WorktreeOf W} {f : FindOf F} {i : InterruptOf I} 
           outside = walk_is_inside (IsOutside root setup) e;
           alone = walk_is_no_reading (LoadsAlone w w0 w1 o0 o1 i0 i1 setup) e;
           stops = walk_stops_nothing w w0 w1 setup e;
-          about = on_walk _ e (subst (λ (b : Bool). About b root setup e) loads.precomposes reports.about);
-          found = λ s told. on_walk _ e (subst (λ (b : Bool). Found b root setup (f.holds o0) s e) loads.precomposes (reports.found s (loads.tree ∙ told)));
-          cause = failed_walk _ _ _ e (rose_before _ _ _ loads.faults) reports.cause;
+          loaded = tt;
+          loaded_walk = on_walk (λ x. LoadsFirst w w0 w1 (files_if setup)) e (record { loaded = wl; has = has; behind = reports.worktree });
+          about = on_walk _ e (subst (λ (b : Bool). About b root setup e) has.loads.precomposes reports.about);
+          found = λ s told. on_walk _ e (subst (λ (b : Bool). Found b root setup (f.holds o0) s e) has.loads.precomposes (reports.found s (has.loads.tree ∙ told)));
+          cause = failed_walk _ _ _ e (rose_before _ _ _ has.loads.faults) reports.cause;
           interrupted = on_walk _ e reports.interrupted;
-          listing = on_walk _ e (subst (λ (n : ℕ). OnListingFault (Increased n (w.list_faults w1)) e) loads.list_faults reports.listing);
-          no_root = λ t told quiet. on_walk _ e (subst (λ (b : Bool). NoRoot b t root setup e) loads.precomposes (reports.no_root t (loads.tree ∙ told) (quiet_later _ _ _ loads.faults quiet)));
+          listing = on_walk _ e (subst (λ (n : ℕ). OnListingFault (Increased n (w.list_faults w1)) e) has.loads.list_faults reports.listing);
+          no_root = λ t told quiet. on_walk _ e (subst (λ (b : Bool). NoRoot b t root setup e) has.loads.precomposes (reports.no_root t (has.loads.tree ∙ told) (quiet_later _ _ _ has.loads.faults quiet)));
           refused = λ s told quiet.
               on_walk _ e
-              (subst (λ (b : Bool). Refuses b s root setup (Increased (f.faults o0) (f.faults o1)) e) loads.precomposes
-              (reports.refused s (told_later w f w0 wl o0 _ _ s loads told) (quiet_later _ _ _ loads.faults quiet)));
+              (subst (λ (b : Bool). Refuses b s root setup (Increased (f.faults o0) (f.faults o1)) e) has.loads.precomposes
+              (reports.refused s (told_later w f w0 wl o0 _ _ s has.loads told) (quiet_later _ _ _ has.loads.faults quiet)));
           complete = λ s told quiet stored calm valid.
               ap of_walk
-              (reports.complete s (told_later w f w0 wl o0 _ _ s loads told) (quiet_later _ _ _ loads.faults quiet) stored calm
-              (subst (λ (b : Bool). IsValid (asked_of b root setup) (excludes_of root setup) s setup.root setup.depth) (sym loads.precomposes) valid.walkable));
-          worktree = kept_later w w0 wl w1 _ loads reports.worktree;
+              (reports.complete s (told_later w f w0 wl o0 _ _ s has.loads told) (quiet_later _ _ _ has.loads.faults quiet) stored calm
+              (subst (λ (b : Bool). IsValid (asked_of b root setup) (excludes_of root setup) s setup.root setup.depth) (sym has.loads.precomposes) valid.walkable));
+          worktree = kept_later w w0 wl w1 _ has.loads reports.worktree;
           store = reports.store;
           interrupt = reports.interrupt;
           listed = tt;
           calm = tt;
-          opens = opened_later w f i w0 wl w1 o0 i0 i1 root setup (Err e) (Err (of_walk e)) loads reports.worktree.faults reports.opens tt (λ start named. tt) (omega arith) (unlisted_so_too e) (deep_so_too e);
+          opens = opened_later w f i w0 wl w1 o0 i0 i1 root setup (Err e) (Err (of_walk e)) has.loads reports.worktree.faults reports.opens tt (λ start named. tt) (omega arith) (unlisted_so_too e) (deep_so_too e);
         }
 
     pub MakesReport-described : (walked : Result WalkReport Error) (result : Result Report ReportError) → Reports w f i wl w1 o0 o1 i0 i1 root setup walked → Describes result known walked

@@ -205,9 +205,8 @@ module _ {W I : Type 0} (w : WorktreeOf W) (i : InterruptOf I) (w0 w1 w2 : W) (i
         | inl memory ↦ subst (λ (r : Refusal). top.HasCauses w i w0 w2 i0 i1 made places (Err r)) (sym memory) (HasCauses-memory w i w0 w2 i0 i1 made places)
         | inr other ↦ elim other [
           | inl failed ↦ subst (λ (r : Refusal). top.HasCauses w i w0 w2 i0 i1 made places (Err r)) (sym failed.0)
-              (let behind = failed.1 in
-              let known = behind.made.orderly.orderly in
-              HasCauses-fault w i w0 w2 i0 i1 made places (Rose-before _ _ _ faults (Rose-before _ _ _ behind.made.worktree.faults behind.rose))
+              (let known = failed.1.first.made.orderly.orderly in
+              HasCauses-fault w i w0 w2 i0 i1 made places (Rose-before _ _ _ faults failed.1.rose)
               (inr (λ t told. record { setup = setup; read = read t told; known = (known.known, known.known_is t (tree ∙ told)) })))
           | inr none ↦ HasCauses-walked setup (Err refusal) read tree faults once listed none
         ]

@@ -1,10 +1,11 @@
 -- Files of configuration are read in order, and no further than to the one for which there is a refusal.
-use Rattle.std.proofs.Common.{◌≡◌, ◌≤◌, ◌<◌, ◌+◌, get_or, ℕ, suc, List, [], ◌∷◌, ◌++◌, Bool, true, false, take, drop, length, Option, Some, Result, Ok, Err, IfErr, if◌then◌else◌, refl, sym, ap, ◌∙◌, subst, arith}
+use Rattle.std.proofs.Common.{◌≡◌, ◌≤◌, ◌<◌, ◌+◌, get_or, ℕ, suc, List, [], ◌∷◌, ◌++◌, Bool, true, false, take, drop, length, Option, Some, Result, Ok, Err, IfErr, OnOk, if◌then◌else◌, refl, sym, ap, ◌∙◌, subst, arith}
 use Rattle.std.proofs.Math.Seq.{drop-cons, take-length, take-suc}
 use Rattle.std.proofs.lemmas.List.{length-take-le}
 use Rattle.std.proofs.lemmas.List.Sums.{count_by_more_no, count_by_more_yes, sum_by-take-le}
 use Rattle.git_config_lite.specs.Sections.{Configuration}
 use Rattle.worktree_fs.specs.declared.worktree.Worktree.{Ghosts as WorktreeOf}
+use Rattle.worktree_fs.specs.Causes.{with_more}
 use Rattle.worktree_fs.specs.Tree.{Names}
 use Rattle.worktree_report.specs.declared.error.ReportError.{ReportError}
 use Rattle.worktree_report.specs.declared.error.ReportError.TheVariants as errors
@@ -14,7 +15,7 @@ use Rattle.worktree_report.specs.declared.permissions.Permissions.{Permissions}
 use Rattle.worktree_report.specs.declared.refusal.Misread.{Misread}
 use Rattle.worktree_report.specs.declared.setup.Setup.{Setup}
 use Rattle.worktree_report.specs.ConfigFiles.{ConfigFile}
-use Rattle.worktree_report.specs.Loading.{admitted, and_then, files_of, no_config, with_config, with_configs}
+use Rattle.worktree_report.specs.Loading.{admitted, and_then, files_if, files_of, no_config, with_config, with_configs}
 use Rattle.worktree_report.specs.Loads.{LoadsFiles, OfConfig, OfKnown, OfModules}
 use Rattle.worktree_report.specs.Outside.{IsActiveOf, IsConfigAt, IsModulesOf, OnMisread, Stops}
 use Rattle.worktree_report.specs.Permissions.{admits}
@@ -88,6 +89,27 @@ LoadsFiles-more w w0 wl w1 permissions xs i d inside before now =
       reads = let more = admitted_more permissions xs i d inside in omega (arith, before.reads, now.reads, more);
       reads_kept = omega (arith, before.reads_kept, now.reads_kept);
     }
+
+-- so many readings were made, and so many more
+pub reads-more : (permissions : Permissions) (xs : List ConfigFile) (i : ℕ) (d : ConfigFile) (before middle now : ℕ) → i < length xs
+    → with_more before (admitted permissions (take i xs)) ≤ middle → with_more middle (if admits permissions (get_or xs i d).0 then 1 else 0) ≤ now
+    → with_more before (admitted permissions (take (i + 1) xs)) ≤ now
+reads-more permissions xs i d before middle now inside first later = let more = admitted_more permissions xs i d inside in omega (arith, first, later, more)
+
+-- what holds where a call answers, and holds in any case
+pub on_ok : {T E P : Type 0} (result : Result T E) → P → OnOk result P
+on_ok (Ok answer) p = p
+on_ok (Err e) p = tt
+
+-- and one file more, where it is read
+pub reads-one_more : {T E : Type 0} (result : Result T E) (before middle now files : ℕ) → with_more before files ≤ middle → OnOk result (with_more middle 1 ≤ now)
+    → OnOk result (with_more before (files + 1) ≤ now)
+reads-one_more (Ok answer) before middle now files first later = omega (arith, first, later)
+reads-one_more (Err e) before middle now files first later = tt
+
+-- where submodules are asked for all files are read
+pub reads-asked : (setup : Setup) (before now : ℕ) → setup.options.submodules ≡ true → with_more before (files_of setup) ≤ now → with_more before (files_if setup) ≤ now
+reads-asked setup before now asked read = subst (λ (b : Bool). with_more before (if b then files_of setup else 0) ≤ now) (sym asked) read
 
 -- no more than all of them are
 pub LoadsFiles-within : {W : Type 0} (w : WorktreeOf W) (w0 w1 : W) (permissions : Permissions) (xs : List ConfigFile) (n : ℕ)

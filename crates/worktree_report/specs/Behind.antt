@@ -16,22 +16,26 @@ use Rattle.worktree_report.specs.Words.{Places}
 
 -- ---- by a setup
 
--- A report was made, and all that making it says holds; then the worktree failed, was asked for nodes and files alone, and so many
--- files were read at most.
-pub record FailsBehind {W I : Type 0} (w : WorktreeOf W) (i : InterruptOf I) (composes : Bool) (w0 w1 : W) (i0 i1 : I) (root : List ℕ) (setup : Setup) (most : ℕ) : Type 0 where
+-- One report was made, first of all, and all that making it says holds; then the worktree was asked for nodes and files alone, and so
+-- many files were read at most.
+pub record MakesFirst {W I : Type 0} (w : WorktreeOf W) (i : InterruptOf I) (composes : Bool) (w0 w1 : W) (i0 i1 : I) (root : List ℕ) (setup : Setup) (most : ℕ) : Type 0 where
   pub between : W
   pub text : List ℕ
   pub made : Texts w i composes w0 between i0 i1 root setup (Ok text)
   pub asks : Asks w between w1
   pub reads : w.reads w1 ≤ w.reads between + most
-  pub rose : Increased (w.faults between) (w.faults w1)
 
--- Why there is no text that a report is made for: for want of memory, as the worktree failed behind a report, where so many files are
--- read at most, or as there is no report.
+-- And the worktree failed, while the report was made or behind that.
+pub record FailsMeanwhile {W I : Type 0} (w : WorktreeOf W) (i : InterruptOf I) (composes : Bool) (w0 w1 : W) (i0 i1 : I) (root : List ℕ) (setup : Setup) (most : ℕ) : Type 0 where
+  pub first : MakesFirst w i composes w0 w1 i0 i1 root setup most
+  pub rose : Increased (w.faults w0) (w.faults w1)
+
+-- Why there is no text that a report is made for: for want of memory, as the worktree failed while there was a report, behind which so
+-- many files are read at most, or as there is no report.
 abbrev pub RefusesText : {W I : Type 0} → WorktreeOf W → InterruptOf I → Bool → W → W → I → I → List ℕ → Setup → ℕ → Refusal → Type 0
 RefusesText w i composes w0 w1 i0 i1 root setup most refusal =
     (refusal ≡ refusals.OutOfMemory)
-    ⊎ (((refusal ≡ refusals.Fault) × FailsBehind w i composes w0 w1 i0 i1 root setup most)
+    ⊎ (((refusal ≡ refusals.Fault) × FailsMeanwhile w i composes w0 w1 i0 i1 root setup most)
     ⊎ Texts w i composes w0 w1 i0 i1 root setup (Err refusal))
 
 -- ---- at some places

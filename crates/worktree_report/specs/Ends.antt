@@ -1,27 +1,28 @@
 -- What a top call ends in, where what it was asked for came to an answer: a text, or why there is none.
 use Rattle.std.specs.Prelude.{◌≡◌, ◌⊎◌, ◌≤◌, ℕ, List, true, Result, Ok, Err}
 use Rattle.worktree_fs.specs.declared.sink.Sink.{Ghosts as SinkOf}
-use Rattle.worktree_fs.specs.Causes.{Increased}
+use Rattle.worktree_fs.specs.Causes.{Incremented}
 use Rattle.worktree_report.specs.declared.refusal.Refusal.{Refusal}
 use Rattle.worktree_report.specs.declared.refusal.Refusal.TheVariants as refusals
 use Rattle.worktree_report.specs.Refusals.{Says, is_made, line_of, status_of}
 use Rattle.worktree_report.specs.Written.{Appends, AppendsPart}
 
--- one line more stands on standard error, where that tells what it was given and refuses nothing
+-- one line more stands on standard error, where that refuses nothing; else a front of it, and nothing is written behind what is refused
 abbrev pub IsSaid : {E : Type 0} → SinkOf E → E → E → List ℕ → Type 0
 IsSaid e e0 e1 line = Says (e.written e0) (e.written e1) (e.refusals e0) (e.refusals e1) line
 
--- the text is written whole, and standard error is not touched
+-- the text is written whole, no write of it is refused, and standard error is not touched
 pub record IsWritten {S E : Type 0} (s : SinkOf S) (e : SinkOf E) (s0 s1 : S) (e0 e1 : E) (text : List ℕ) (status : ℕ) : Type 0 where
   pub status_is : status ≡ 0
   pub written : Appends (s.written s0) (s.written s1) text
+  pub unrefused : s.refusals s1 ≡ s.refusals s0
   pub silent : e1 ≡ e0
 
--- the output is refused, behind a front of the text that is not all of it
+-- the output is refused once, behind a front of the text that is not all of it
 pub record IsCut {S E : Type 0} (s : SinkOf S) (e : SinkOf E) (s0 s1 : S) (e0 e1 : E) (usage text : List ℕ) (status : ℕ) : Type 0 where
   pub status_is : status ≡ 7
   pub written : AppendsPart (s.written s0) (s.written s1) text
-  pub cause : Increased (s.refusals s0) (s.refusals s1)
+  pub cause : Incremented (s.refusals s0) (s.refusals s1)
   pub said : IsSaid e e0 e1 (line_of usage refusals.Output)
 
 -- a status with the line of a refusal

@@ -2,6 +2,7 @@
 use Rattle.std.specs.Prelude.{◌≡◌, ◌≤◌, ◌+◌, ℕ, List, Result, Ok, Err}
 use Rattle.git_config_lite.specs.Sections.{Section, Configuration}
 use Rattle.worktree_fs.specs.declared.worktree.Worktree.{Ghosts as WorktreeOf}
+use Rattle.worktree_fs.specs.Causes.{with_more}
 use Rattle.dir_classify.specs.declared.error.Error.{Error}
 use Rattle.dir_classify.specs.declared.error.Error.TheVariants as walk
 use Rattle.worktree_fs.specs.declared.answers.ReadError.{ReadError}
@@ -38,6 +39,12 @@ pub record LoadsFiles {W : Type 0} (w : WorktreeOf W) (before now : W) (most : �
   pub precomposes : w.precomposes now ≡ w.precomposes before
   pub reads : w.reads now ≤ w.reads before + most
   pub reads_kept : w.reads before ≤ w.reads now
+
+-- So many files were read, each once, and none of these readings failed.
+pub record HasLoaded {W : Type 0} (w : WorktreeOf W) (before now : W) (files : ℕ) : Type 0 where
+  pub loads : LoadsFiles w before now files
+  pub read : with_more (w.reads before) files ≤ w.reads now
+  pub unfaulted : w.faults now ≡ w.faults before
 
 -- A configuration is what its text says; a refusal names its number.
 abbrev pub ReadsConfig : Result Configuration ReportError → ℕ → Result (List Section) ℕ → Type 0

@@ -1,6 +1,6 @@
 -- Why there is no report: the status and the line of each refusal.
-use Rattle.std.specs.Prelude.{◌≡◌, ℕ, List, [], ◌∷◌, ◌++◌, Bool, true, false, codes, decimal, Option, Some, None}
-use Rattle.worktree_fs.specs.Causes.{NotIncreased}
+use Rattle.std.specs.Prelude.{◌≡◌, ◌⊎◌, ℕ, List, [], ◌∷◌, ◌++◌, Bool, true, false, codes, decimal, Option, Some, None}
+use Rattle.worktree_fs.specs.Causes.{Incremented}
 use Rattle.worktree_report.specs.declared.refusal.WalkWord.{WalkWord}
 use Rattle.worktree_report.specs.declared.refusal.WalkWord.TheVariants as words
 use Rattle.worktree_report.specs.declared.refusal.Misread.{Misread}
@@ -8,7 +8,7 @@ use Rattle.worktree_report.specs.declared.refusal.Misread.TheVariants as misread
 use Rattle.worktree_report.specs.declared.refusal.Refusal.{Refusal}
 use Rattle.worktree_report.specs.declared.refusal.Refusal.TheVariants as refusals
 use Rattle.worktree_report.specs.Escapes.{escaped}
-use Rattle.worktree_report.specs.Written.{Appends}
+use Rattle.worktree_report.specs.Written.{Appends, AppendsPart}
 
 -- the status that the program ends with
 abbrev pub status_of : Refusal → ℕ
@@ -50,9 +50,12 @@ line_of usage refusals.Fault = codes "worktree fault\n"
 line_of usage refusals.Output = codes "output fault\n"
 line_of usage refusals.OutOfMemory = codes "out of memory\n"
 
--- the line stands behind what was written before, where that is told and nothing was refused
+-- The line stands behind what was written before, where that is told, and no write was refused; or one was, behind a front of the line
+-- that is not all of it.
 abbrev pub Says : Option (List ℕ) → Option (List ℕ) → ℕ → ℕ → List ℕ → Type 0
-Says before after refusals_before refusals_after line = NotIncreased refusals_before refusals_after → Appends before after line
+Says before after refusals_before refusals_after line =
+    (Appends before after line × (refusals_after ≡ refusals_before))
+    ⊎ (AppendsPart before after line × Incremented refusals_before refusals_after)
 
 -- whether the line of a refusal has to be made, which takes memory
 abbrev pub is_made : Refusal → Bool

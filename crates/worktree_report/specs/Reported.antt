@@ -37,8 +37,9 @@ use Rattle.worktree_report.specs.declared.refusal.WalkWord.{WalkWord}
 use Rattle.worktree_report.specs.Asked.{asked_of, chosen_of, read_in, text_of, About, Found, NoRoot, Refuses, IsReportOf, IsWalkOf, ReadsWithin, IsSafeAt, IsValidAt, ListsAt, WorksAt, RefusesWalkAt, IsAboutWalkAt}
 use Rattle.worktree_report.specs.Converted.{of_report, IsOfWalking}
 use Rattle.worktree_report.specs.Excluding.{excludes_of}
-use Rattle.worktree_report.specs.Loading.{known_in, IsKnown}
-use Rattle.worktree_report.specs.Loads.{of_walk}
+use Rattle.worktree_report.specs.Lines.{text_with}
+use Rattle.worktree_report.specs.Loading.{files_if, known_in, IsKnown}
+use Rattle.worktree_report.specs.Loads.{of_walk, HasLoaded}
 use Rattle.worktree_report.specs.Orderly.{IsOrderly, IsOrderlyText}
 use Rattle.worktree_report.specs.Outside.{FailsLoading, IsOutside, LoadsAlone, MisreadsAt, OnMisread, OnReading, Stops}
 use Rattle.worktree_report.specs.Submodules.{described}
@@ -149,6 +150,12 @@ pub record LoadsAndOpens {W I : Type 0} (w : WorktreeOf W) (i : InterruptOf I) (
   pub reads : setup.options.strategy ≡ Held → reads_rules_alone (chosen_of composes setup) ≡ true
       → ReadsWithin composes root setup result (w.reads w0) (w.reads w1) opened (refused_one result)
 
+-- What tells of submodules was read before anything else, so many files and none of them again, and none of these readings failed.
+pub record LoadsFirst {W : Type 0} (w : WorktreeOf W) (w0 w1 : W) (files : ℕ) : Type 0 where
+  pub loaded : W
+  pub has : HasLoaded w w0 loaded files
+  pub behind : KeepsTree w loaded w1
+
 -- The report of the work tree at `root`, where a worktree was `w0` and is `w1`, a store was `o0` and is `o1`, and an interrupt
 -- was `i0` and is `i1`.
 pub record MakesReport {W F I : Type 0} (w : WorktreeOf W) (f : FindOf F) (i : InterruptOf I) (w0 w1 : W) (o0 o1 : F) (i0 i1 : I)
@@ -165,6 +172,9 @@ pub record MakesReport {W F I : Type 0} (w : WorktreeOf W) (f : FindOf F) (i : I
   pub outside : IfErr result (OnMisread (IsOutside root setup))
   pub alone : IfErr result (OnReading (LoadsAlone w w0 w1 o0 o1 i0 i1 setup))
   pub stops : IfErr result (Stops w w0 w1 setup)
+  -- No reading that failed is made again: where there is a report, or the walk was refused, each of these files was read once.
+  pub loaded : OnOk result (LoadsFirst w w0 w1 (files_if setup))
+  pub loaded_walk : IfErr result (OnWalk (λ e. LoadsFirst w w0 w1 (files_if setup)))
   pub about : IfErr result (OnWalk (About (w.precomposes w0) root setup))
   pub found : (s : Sources) → w.told w0 ≡ Some s.tree → IfErr result (OnWalk (Found (w.precomposes w0) root setup (f.holds o0) s))
   pub cause : IfErr result (OnReportFault (Increased (w.faults w0) (w.faults w1)) (Increased (f.faults o0) (f.faults o1)))
@@ -195,6 +205,26 @@ pub record RefusesMaking {W I : Type 0} (w : WorktreeOf W) (i : InterruptOf I) (
   pub is : refusal ≡ of_report error
   pub opens : LoadsAndOpens w i composes w0 w1 i0 i1 root setup (Err error) (EntersOverTree w composes w0 w1 root setup (unlisted_report {T = Report} (Err error)))
 
+-- It is the text of a report that was made once: no more was opened, asked and read than making it takes, whatever failed. What tells of
+-- submodules was read first, and without a fault.
+pub record MakesText {W I : Type 0} (w : WorktreeOf W) (i : InterruptOf I) (composes : Bool) (w0 w1 : W) (i0 i1 : I) (root : List ℕ) (setup : Setup) (text : List ℕ) : Type 0 where
+  pub report : Report
+  pub text_is : text ≡ text_with setup.options report
+  pub orderly : IsOrderly composes (w.told w0) root setup report
+  pub loaded : LoadsFirst w w0 w1 (files_if setup)
+  pub opens : LoadsAndOpens w i composes w0 w1 i0 i1 root setup (Ok report) (EntersOverTree w composes w0 w1 root setup 0)
+
+-- what holds where the walk was refused or interrupted, so that all was read that tells of submodules
+abbrev pub OnWalking : Type 0 → Refusal → Type 0
+OnWalking Holds refusals.Interrupted = Holds
+OnWalking Holds refusals.Usage = Unit {0}
+OnWalking Holds (refusals.Setup line) = Unit {0}
+OnWalking Holds (refusals.Misread which) = Unit {0}
+OnWalking Holds (refusals.Walk word path) = Holds
+OnWalking Holds refusals.Fault = Unit {0}
+OnWalking Holds refusals.Output = Unit {0}
+OnWalking Holds refusals.OutOfMemory = Unit {0}
+
 -- The same of its text over a tree alone, with the refusals of the program. `composes` says whether the worktree composes names.
 pub record Texts {W I : Type 0} (w : WorktreeOf W) (i : InterruptOf I) (composes : Bool) (w0 w1 : W) (i0 i1 : I) (root : List ℕ) (setup : Setup) (result : Result (List ℕ) Refusal) : Type 0 where
   pub gives : (t : Names) → w.told w0 ≡ Some t → NotIncreased (w.faults w0) (w.faults w1) → IfOk result (λ text. text_of composes t root setup ≡ Some text)
@@ -213,6 +243,9 @@ pub record Texts {W I : Type 0} (w : WorktreeOf W) (i : InterruptOf I) (composes
   pub interrupted : IsErrOf result refusals.Interrupted → Increased (i.raised i0) (i.raised i1)
   pub interrupted_late : (t : Names) → w.told w0 ≡ Some t → IsErrOf result refusals.Interrupted → IsKnown (known_in t root setup)
   pub answers : IfErr result IsOfWalking
+  -- One report was made for a text, whatever failed; and where a walk was refused, no reading that failed was made again before it.
+  pub made : IfOk result (MakesText w i composes w0 w1 i0 i1 root setup)
+  pub loaded : IfErr result (OnWalking (LoadsFirst w w0 w1 (files_if setup)))
   -- what is opened and read where there is no report; want of memory may come behind one
   pub making : IfErr result (λ refusal. (refusal ≡ refusals.OutOfMemory) ⊎ RefusesMaking w i composes w0 w1 i0 i1 root setup refusal)
   pub complete : (t : Names) → w.told w0 ≡ Some t → NotIncreased (w.faults w0) (w.faults w1) → NotIncreased (i.raised i0) (i.raised i1)

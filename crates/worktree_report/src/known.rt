@@ -1,7 +1,7 @@
 //! What is known of submodules while a report is made.
-ghost use Rattle.std.specs.Prelude.{◌≡◌, ℕ, true, false, Some, None, IfOk, IfErr, is_some};
+ghost use Rattle.std.specs.Prelude.{◌≡◌, ◌≤◌, ℕ, true, false, Some, None, IfOk, IfErr, OnOk, is_some};
 ghost use Rattle.submodule.specs.Active.{platform};
-ghost use Rattle.worktree_fs.specs.Causes.{Increased};
+ghost use Rattle.worktree_fs.specs.Causes.{Increased, with_more};
 ghost use Rattle.worktree_fs.specs.Tree.{Names};
 ghost use Rattle.worktree_report.specs.Loading.{known_in, with_specs, files_if};
 ghost use Rattle.worktree_report.specs.Loads.{Gives, LoadsFiles, OfKnown};
@@ -68,6 +68,9 @@ pub fn known_in<W: Worktree>(
         → IfOk result (λ known. is_some known ≡ true) }
     ensures unasked { setup.now.options.submodules ≡ false
         → IfOk result (λ known. known ≡ None) }
+    ensures unfaulted { OnOk result (W.faults worktree.new ≡ W.faults worktree.old) }
+    ensures read { OnOk result (with_more (W.reads worktree.old) (files_if setup.now)
+        ≤ W.reads worktree.new) }
     ensures loads { LoadsFiles W.Worktree worktree.old worktree.new (files_if setup.now) }
 {
     if !setup.options.submodules {

@@ -3,6 +3,7 @@
 
 mod below;
 mod converted;
+mod counting;
 mod ending;
 mod error;
 mod escape;
@@ -24,6 +25,7 @@ mod words;
 mod writing;
 
 pub use converted::{of_report, status_of};
+pub use counting::{CountsFaults, has_failed_since};
 pub use dir_walk::Strategy;
 pub use ending::finish;
 pub use error::ReportError;

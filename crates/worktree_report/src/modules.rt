@@ -1,7 +1,7 @@
 //! The files that tell of submodules.
-ghost use Rattle.std.specs.Prelude.{◌≡◌, ℕ, Some, IfOk, IfErr, IsErrOf, OnOk, if◌then◌else◌};
+ghost use Rattle.std.specs.Prelude.{◌≡◌, ◌≤◌, ℕ, Some, IfOk, IfErr, IsErrOf, OnOk, if◌then◌else◌};
 ghost use Rattle.git_config_lite.specs.Grammar.{said};
-ghost use Rattle.worktree_fs.specs.Causes.{Increased};
+ghost use Rattle.worktree_fs.specs.Causes.{Increased, with_more};
 ghost use Rattle.worktree_fs.specs.Tree.{Names, look};
 ghost use Rattle.worktree_report.specs.Loading as loading;
 ghost use Rattle.worktree_report.specs.Loads.{Gives, ReadsConfig, LoadsFiles, OfConfig, OfModules};
@@ -41,6 +41,7 @@ fn bytes_at<W: Worktree>(
     ensures cause { IsErrOf result ReadError.Fault
         → Increased (W.faults worktree.old) (W.faults worktree.new) }
     ensures unfaulted { OnOk result (W.faults worktree.new ≡ W.faults worktree.old) }
+    ensures read { OnOk result (with_more (W.reads worktree.old) 1 ≤ W.reads worktree.new) }
     ensures loads { LoadsFiles W.Worktree worktree.old worktree.new 1 }
 {
     let mut bytes = Bytes::new(alloc);
@@ -87,6 +88,8 @@ fn with_config<W: Worktree>(
         (W.faults worktree.new))) }
     ensures outside { IfErr result (OnMisread (IsConfigAt permissions.now at named.now)) }
     ensures unfaulted { OnOk result (W.faults worktree.new ≡ W.faults worktree.old) }
+    ensures read { OnOk result (with_more (W.reads worktree.old)
+        (if admits permissions.now named.now.0 then 1 else 0) ≤ W.reads worktree.new) }
     ensures loads { LoadsFiles W.Worktree worktree.old worktree.new
         (if admits permissions.now named.now.0 then 1 else 0) }
 {
@@ -112,6 +115,9 @@ fn with_configs<W: Worktree>(
     ensures outside { IfErr result (OnMisread (IsConfigOf setup.now)) }
     ensures stops { IfErr result (Stops W.Worktree worktree.old worktree.new setup.now) }
     ensures unfaulted { OnOk result (W.faults worktree.new ≡ W.faults worktree.old) }
+    ensures read { OnOk result (with_more (W.reads worktree.old)
+        (loading.admitted setup.now.options.permissions setup.now.configs)
+        ≤ W.reads worktree.new) }
     ensures loads { LoadsFiles W.Worktree worktree.old worktree.new
         (loading.admitted setup.now.options.permissions setup.now.configs) }
 {
@@ -156,6 +162,7 @@ fn modules_beside<W: Worktree>(
         (W.faults worktree.new))) }
     ensures outside { IfErr result (OnMisread (IsModulesOf root.now)) }
     ensures unfaulted { OnOk result (W.faults worktree.new ≡ W.faults worktree.old) }
+    ensures read { OnOk result (with_more (W.reads worktree.old) 1 ≤ W.reads worktree.new) }
     ensures loads { LoadsFiles W.Worktree worktree.old worktree.new 1 }
 {
     let path = modules_path(alloc, root)?;
@@ -169,8 +176,9 @@ fn modules_beside<W: Worktree>(
 
 /// Reads the configurations of a setup that its permissions admit, with links followed and in
 /// order, and then `.gitmodules` in the worktree root, which is absolute and has no component `.`
-/// or `..`, a link not followed. What is no file counts as an empty one. Each is read at most once,
-/// none behind the one for which it is refused, and nothing else is asked of the worktree.
+/// or `..`, a link not followed. What is no file counts as an empty one. Each is read once, none
+/// behind the one for which it is refused, and nothing else is asked of the worktree. No reading
+/// that failed is made again.
 ///
 /// # Errors
 ///
@@ -197,6 +205,8 @@ pub fn load_modules<W: Worktree>(
     ensures outside { IfErr result (OnMisread (IsOutside worktree_root.now setup.now)) }
     ensures stops { IfErr result (Stops W.Worktree worktree.old worktree.new setup.now) }
     ensures unfaulted { OnOk result (W.faults worktree.new ≡ W.faults worktree.old) }
+    ensures read { OnOk result (with_more (W.reads worktree.old) (loading.files_of setup.now)
+        ≤ W.reads worktree.new) }
     ensures loads { LoadsFiles W.Worktree worktree.old worktree.new (loading.files_of setup.now) }
 {
     let config = with_configs(alloc, worktree, setup)?;

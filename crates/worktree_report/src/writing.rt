@@ -1,19 +1,21 @@
 //! Writing to a sink that takes as much at a time as it likes.
 ghost use Rattle.std.specs.Prelude.{◌≡◌, ℕ, ◌≤◌, ◌++◌, List, OnOk, OnErr};
-ghost use Rattle.worktree_fs.specs.Causes.{Increased};
+ghost use Rattle.worktree_fs.specs.Causes.{Incremented};
 ghost use Rattle.worktree_report.specs.Written.{Appends, AppendsPart};
 
 use worktree_fs::{Fault, Sink};
 
-/// Writes all of the bytes.
+/// Writes all of the bytes, by as many writes as the sink likes; none comes behind one that is
+/// refused.
 ///
 /// # Errors
 ///
-/// The sink refused a write or took nothing; a front of the bytes is then written.
+/// The sink refused a write or took nothing, once; a front of the bytes is then written.
 pub fn write_whole<S: Sink>(sink: &mut S, bytes: &[u8]) -> Result<(), Fault>
     ensures whole { OnOk result (Appends (S.written sink.old) (S.written sink.new) bytes.now) }
     ensures part { OnErr result (AppendsPart (S.written sink.old) (S.written sink.new) bytes.now) }
-    ensures cause { OnErr result (Increased (S.refusals sink.old) (S.refusals sink.new)) }
+    ensures cause { OnErr result (Incremented (S.refusals sink.old) (S.refusals sink.new)) }
+    ensures unrefused { OnOk result (S.refusals sink.new ≡ S.refusals sink.old) }
     ensures later { S.refusals sink.old ≤ S.refusals sink.new }
 {
     let mut rest = bytes;

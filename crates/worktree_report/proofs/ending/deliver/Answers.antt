@@ -3,7 +3,7 @@ use Rattle.worktree_report.proofs.ending.deliver.Goals as goal
 
 pub returns-in-Ok : goal.returns-in-Ok
 returns-in-Ok g c =
-    record { by = inl (record { status_is = refl; written = c.in-Ok.ensures.whole; silent = refl }); refusals = c.write_whole.ensures.later; err_refusals = omega arith }
+    record { by = inl (record { status_is = refl; written = c.in-Ok.ensures.whole; unrefused = c.in-Ok.ensures.unrefused; silent = refl }); refusals = c.write_whole.ensures.later; err_refusals = omega arith }
 
 pub returns-in-Err : goal.returns-in-Err
 returns-in-Err g c =

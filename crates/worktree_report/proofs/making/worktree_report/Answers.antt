@@ -9,5 +9,6 @@ returns-in_err-known g c =
 
 pub returns : goal.returns
 returns g c =
-    MakesReport-described c.in_ok-known.ensures.loads c.in_ok-known.known c.in_ok-known.ensures.gives c.in_ok-known.ensures.known c.in_ok-known.ensures.unasked c.walk_by_setup-walked.result c.report_by.result
+    let known = c.in_ok-known.ensures in
+    MakesReport-described (record { loads = known.loads; read = known.read; unfaulted = known.unfaulted }) c.in_ok-known.known c.in_ok-known.ensures.gives c.in_ok-known.ensures.known c.in_ok-known.ensures.unasked c.walk_by_setup-walked.result c.report_by.result
     c.walk_by_setup-walked.ensures c.report_by.ensures

@@ -1,10 +1,11 @@
-use Rattle.std.proofs.Common.{◌≡◌, ◌<◌, ◌+◌, List, length, get_or, Ok, sym, ap, if◌then◌else◌, subst, ◌∙◌, rules}
+use Rattle.std.proofs.Common.{◌≡◌, ◌<◌, ◌≤◌, ◌+◌, List, length, get_or, Ok, sym, ap, if◌then◌else◌, subst, ◌∙◌, rules}
 use Rattle.std.proofs.lemmas.Result.{err_from_is_err_and}
+use Rattle.worktree_fs.specs.Causes.{with_more}
 use Rattle.worktree_report.specs.ConfigFiles.{ConfigFile}
 use Rattle.worktree_report.specs.Loading.{with_config}
 use Rattle.worktree_report.specs.Loads.{LoadsFiles}
 use Rattle.worktree_report.specs.Permissions.{admits}
-use Rattle.worktree_report.proofs.Stopping.{LoadsFiles-more, LoadsFiles-within, Stops-config, read_more, same_more}
+use Rattle.worktree_report.proofs.Stopping.{LoadsFiles-more, LoadsFiles-within, Stops-config, read_more, reads-more, same_more}
 use Rattle.worktree_report.proofs.modules.with_configs.Goals as goal
 
 pub loop-i-preserved : goal.loop-i-preserved
@@ -23,6 +24,9 @@ loop-i-preserved g c =
       read = λ t told.
           read_more t permissions configs c.loop-i.i c.named-item.result c.loop-i.config c.in_ok-config.config inside (before.read t told)
           (subst (λ (x : ConfigFile). with_config t permissions (c.loop-i.i + 1) x c.loop-i.config ≡ Ok c.in_ok-config.config) is (now.gives t (before.loads.tree ∙ told)));
+      files =
+          reads-more permissions configs c.loop-i.i c.named-item.result _ _ _ inside before.files
+          (subst (λ (x : ConfigFile). with_more (g.W.Worktree.reads c.loop-i.worktree) (if admits permissions x.0 then 1 else 0) ≤ g.W.Worktree.reads c.with_config.new.worktree) is now.read);
       unfaulted = now.unfaulted ∙ before.unfaulted;
       loads =
           LoadsFiles-more g.W.Worktree _ c.loop-i.worktree c.with_config.new.worktree permissions configs c.loop-i.i c.named-item.result inside before.loads

@@ -1,4 +1,4 @@
-use Rattle.std.proofs.Common.{arith, ◌++◌, take}
+use Rattle.std.proofs.Common.{arith, ◌++◌, ◌∙◌, take}
 use Rattle.worktree_report.proofs.Writes.{Appends-more, parts_more}
 use Rattle.worktree_report.proofs.writing.write_whole.Goals as goal
 
@@ -9,5 +9,5 @@ loop-rest-preserved g c =
       front = so_far.front ++ take c.in_ok-taken.taken c.loop-rest.rest.now;
       parts = parts_more c.args.bytes.now so_far.front c.loop-rest.rest.now _ c.in_ok-taken.taken so_far.parts c.split_at.ensures.back;
       so_far = Appends-more _ _ _ so_far.front (take c.in_ok-taken.taken c.loop-rest.rest.now) so_far.so_far c.in_ok-taken.ensures.appended;
-      refusals = omega arith;
+      unrefused = c.in_ok-taken.ensures.unrefused (λ none. absurd (omega (arith, none, c.if-taken-eq0.false))) ∙ so_far.unrefused;
     }

@@ -1,4 +1,4 @@
-use Rattle.std.proofs.Common.{◌≡◌, ◌≤◌, ◌++◌, List, ℕ, length}
+use Rattle.std.proofs.Common.{◌≡◌, ◌++◌, List, ℕ, length}
 use Rattle.worktree_report.specs.Written.{Appends}
 use Rattle.worktree_report.proofs.writing.write_whole.Given as goal
 
@@ -10,7 +10,7 @@ invariant-loop-rest g l =
       front : List ℕ;
       parts : l.bytes ≡ front ++ l.rest;
       so_far : Appends (written l.fn.sink) (written l.sink) front;
-      refusals : refusals l.fn.sink ≤ refusals l.sink;
+      unrefused : refusals l.sink ≡ refusals l.fn.sink;
     }
 
 abbrev pub decreases-loop-rest : goal.decreases-loop-rest
