@@ -38,7 +38,14 @@ fn asks_for_one_real_path(rt: HostRuntime) {
 #[test]
 fn plans_nothing_by_a_report_with_a_fault(rt: HostRuntime) {
     let found = b"untracked file - always - -\td/a\nuntracked repository - always - -\td/r\n";
-    assert!(rt; end_so(rt.alloc(), Failing::Nothing, (0, b"d/a\n", 0), (0, found, 0)));
+    assert!(rt;
+        end_so(
+            rt.alloc(),
+            Failing::Nothing,
+            (0, b"d/a\n", 0),
+            (0, found, 0)
+        )
+    );
     for failing in &SWALLOWED {
         assert!(rt; end_so(rt.alloc(), *failing, FAULT, FAULT), "{failing:?}");
     }
