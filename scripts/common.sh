@@ -140,8 +140,7 @@ answer() {
 tell_line() {
     case $1 in
     'spec '*) echo "$script: spec=${1#spec } is no path spec that is read here: docs/FORMATS.md says what a path spec is" >&2 ;;
-    'worktree '*) echo "$script: worktree=${1#worktree } is no path below ROOT, or is given twice" >&2 ;;
-    'root '*) echo "$script: root=${1#root } is no path below ROOT" >&2 ;;
+    'worktree '*) echo "$script: worktree=${1#worktree } begins with a slash, or has a backslash, which is written as \\5c" >&2 ;;
     *) echo "$script: that line is: $1" >&2 ;;
     esac
 }
