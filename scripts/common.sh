@@ -147,10 +147,11 @@ tell_line() {
 
 # Names what in the work tree can make the file system fail, as far as it can be found from here.
 tell_faults() {
-    echo "$script: the file system failed somewhere; what is named here, if anything, can be why. worktree=PATH leaves a directory out:" >&2
+    echo "$script: the file system failed somewhere; what is named here, if anything, can be why. worktree=PATH leaves the directory out that holds it:" >&2
     {
         find "$root" -name .git -prune -o -type d \( ! -readable -o ! -executable \) -printf 'a directory that may not be read: %P\n' -prune
         find "$root" \( -name .gitignore -o -name .git -o -path '*/.git/HEAD' -o -path '*/.git/commondir' \) ! -readable -printf 'not to be read: %P\n'
+        find "$root" -name .git -prune -o -type l -printf '%Y %P\n' | sed -n 's/^[L?] /a link that cannot be followed: /p'
         find "$root" -name .git -type d ! -executable -printf 'not to be searched: %P\n'
         find "$root" -name .git -type f -exec env LC_ALL=C.UTF-8 grep -lavx '.*' {} + | sed 's/^/names a path that is not UTF-8: /'
         find "$root" -name .git -prune -o -print | LC_ALL=C.UTF-8 grep -avx '.*' | sed 's/^/a name that is not UTF-8: /'
