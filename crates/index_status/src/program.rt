@@ -106,7 +106,7 @@ fn text_asked<W: CountsFaults, I: Interrupt>(
 /// | 8 | want of memory |
 ///
 /// With a status other than 0 and 7 nothing goes to `out`. With each status other than 0 one line goes to `err`, with 0
-/// none; a refusal of `err` changes nothing. The interrupt is asked before each directory is read.
+/// none; a refusal of `err` changes no byte of `out`, and no status but to 8. The interrupt is asked before each directory is read.
 pub fn run_status<W: CountsFaults, I: Interrupt, S: Sink, E: Sink>(
     alloc: Global,
     words: &[Bytes],

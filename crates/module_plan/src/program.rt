@@ -168,7 +168,7 @@ fn text_asked<W: Worktree>(
 /// | 8 | want of memory |
 ///
 /// With a status other than 0 and 7 nothing goes to `out`. With each status other than 0 one line goes to `err`, with 0
-/// none; a refusal of `err` changes nothing. The interrupt is not asked.
+/// none; a refusal of `err` changes no byte of `out`, and no status but to 8. The interrupt is not asked.
 pub fn run_modules<W: Worktree, I: Interrupt, S: Sink, E: Sink>(
     alloc: Global,
     words: &[Bytes],

@@ -19,7 +19,7 @@ use worktree_fs::Sink;
 /// | 8 | want of memory, also of that for the line |
 /// | another | that of the refusal, by [`Refusal`] |
 ///
-/// A refusal of `err` changes nothing.
+/// A refusal of `err` changes no byte of `out`, and no status but to 8, as want of memory is free.
 pub fn finish<S: Sink, E: Sink>(
     alloc: Global,
     usage: &[u8],
