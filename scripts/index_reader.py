@@ -1,4 +1,4 @@
-"""A second reader of git's index files, written from git's manual (index-format) and docs/DIFFERENCES.md, apart from the crate.
+"""A second reader of git's index files, written from git's manual, gitformat-index(5) and docs/DIFFERENCES.md, apart from the crate.
 
 `read` answers a list of records, or the text of the refusal that the program prints.
 """
