@@ -1,7 +1,8 @@
 //! The file of an index.
-ghost use Rattle.std.specs.Prelude.{◌≡◌, ◌≤◌, ℕ, List, length, codes, position, take, Ok, IfOk, MatchResult};
+ghost use Rattle.std.specs.Prelude.{◌≡◌, ◌≤◌, ℕ, List, length, codes, position, take, Ok, Err, IfOk, MatchResult};
 ghost use Rattle.std.specs.Str.{bytes_eq};
 ghost use Rattle.sha1.specs.Sha1.{sha1};
+ghost use Rattle.git_index.specs.Fault.{IsFaultAt};
 ghost use Rattle.git_index.specs.IndexFile as files;
 ghost use Rattle.git_index.specs.Gives.{GivesIndex};
 ghost use Rattle.git_index.specs.Seen.{entries_seen, listed_seen};
@@ -113,6 +114,11 @@ pub fn read_index(alloc: Global, bytes: &[u8]) -> Result<IndexFile, IndexFileErr
         → files.index_of_bytes bytes.now ≡ Ok index }
     ensures told { (index : files.Index) → files.index_of_bytes bytes.now ≡ Ok index
         → IsFileOf bytes.now index }
+
+    // `Entry` is told where so many entries stand and the head promises more, but the bytes behind them begin
+    // with none.
+    ensures fault { (at : ℕ) → files.index_of_bytes bytes.now ≡ Err (IndexFileError.Entry at)
+        → IsFaultAt bytes.now at }
 
     // Beside each entry stands what else the file says of it.
     ensures beside { IfOk result (λ file. length file.details ≡ length file.entries) }
