@@ -1,4 +1,4 @@
--- The first entry that is outside the grammar, told from the writer's side: behind it stands none.
+-- Where an index file has fewer entries than its head promises, told from the writer's side.
 use Rattle.std.specs.Prelude.{◌≡◌, ◌<◌, ℕ, ◌-◌, ◌^◌, true, List, [], ◌∷◌, ◌++◌, length, take, codes}
 use Rattle.byteorder.specs.Endian.{big_bytes}
 use Rattle.git_index.specs.IndexFile.{is_version}
@@ -9,7 +9,7 @@ abbrev pub path_behind : List ℕ → List Written → List ℕ
 path_behind previous [] = previous
 path_behind previous (w ∷ ws) = path_behind w.path ws
 
--- so many entries stand behind the head, which promises more, and behind them stands none
+-- so many entries stand behind the head, which promises more, and what is behind them begins with none
 pub record IsFaultAt (bytes : List ℕ) (at : ℕ) : Type 0 where
   pub version : ℕ
   pub is_version : is_version version ≡ true

@@ -115,8 +115,8 @@ pub fn read_index(alloc: Global, bytes: &[u8]) -> Result<IndexFile, IndexFileErr
     ensures told { (index : files.Index) → files.index_of_bytes bytes.now ≡ Ok index
         → IsFileOf bytes.now index }
 
-    // `Entry` is told where so many entries stand and the head promises more, but the bytes behind them begin
-    // with none.
+    // `Entry` is told where as many entries as it says stand behind the head, which promises more, and what is
+    // behind them begins with none.
     ensures fault { (at : ℕ) → files.index_of_bytes bytes.now ≡ Err (IndexFileError.Entry at)
         → IsFaultAt bytes.now at }
 
