@@ -12,3 +12,4 @@ mod ReadParts
 mod ReadEntry
 mod ReadExtensions
 mod ReadFile
+mod Fault

@@ -8,5 +8,6 @@ pub mod Entries
 pub mod Extensions
 pub mod IndexFile
 pub mod Written
+pub mod Fault
 pub mod Seen
 pub mod Gives

@@ -1,7 +1,8 @@
 //! The file of an index.
-ghost use Rattle.std.specs.Prelude.{◌≡◌, ◌≤◌, ℕ, List, length, codes, position, take, IfOk, MatchResult};
+ghost use Rattle.std.specs.Prelude.{◌≡◌, ◌≤◌, ℕ, List, length, codes, position, take, Ok, Err, IfOk, MatchResult};
 ghost use Rattle.std.specs.Str.{bytes_eq};
 ghost use Rattle.sha1.specs.Sha1.{sha1};
+ghost use Rattle.git_index.specs.Fault.{IsFaultAt};
 ghost use Rattle.git_index.specs.IndexFile as files;
 ghost use Rattle.git_index.specs.Gives.{GivesIndex};
 ghost use Rattle.git_index.specs.Seen.{entries_seen, listed_seen};
@@ -92,7 +93,8 @@ impl IndexFile {
 /// - `Extensions`, `Split`, `Unknown`: behind the entries, the first extension that is cut, that says that the index is
 ///   split, or that has to be understood and is not.
 /// - `Directory`: the first entry that stands for a directory, from 0, where no extension marks a sparse index.
-/// - `OutOfMemory` for want of memory. The count in the head is not believed, so it wants none.
+/// - `OutOfMemory` for want of memory. The count in the head is not believed: room is made for no more entries than the
+///   bytes can hold.
 pub fn read_index(alloc: Global, bytes: &[u8]) -> Result<IndexFile, IndexFileError>
     // It answers what the bytes say, or what is wrong with them first; want of memory alone is free.
     ensures gives { GivesIndex result (files.index_of_bytes bytes.now) }
@@ -101,10 +103,22 @@ pub fn read_index(alloc: Global, bytes: &[u8]) -> Result<IndexFile, IndexFileErr
     ensures sound { IfOk result (IsFileOf bytes.now) }
 
     // Whatever entries and extensions the bytes are the file of, in whatever version, these are what it
-    // answers. So no two lists of entries have the same file.
+    // answers.
     ensures written { (version : ℕ) (ws : List Written) (es : List Held)
         → IsIndexText bytes.now version ws es → MatchResult result
         (λ file. file ≡ index_written ws es) (λ error. error ≡ IndexFileError.OutOfMemory) }
+
+    // These bytes are the file of one index at most, whether memory is wanted or not: the one that the
+    // definition reads.
+    ensures unique { (index : files.Index) → IsFileOf bytes.now index
+        → files.index_of_bytes bytes.now ≡ Ok index }
+    ensures told { (index : files.Index) → files.index_of_bytes bytes.now ≡ Ok index
+        → IsFileOf bytes.now index }
+
+    // `Entry` is told where as many entries as it says stand behind the head, which promises more, and what is
+    // behind them begins with none.
+    ensures fault { (at : ℕ) → files.index_of_bytes bytes.now ≡ Err (IndexFileError.Entry at)
+        → IsFaultAt bytes.now at }
 
     // Beside each entry stands what else the file says of it.
     ensures beside { IfOk result (λ file. length file.details ≡ length file.entries) }

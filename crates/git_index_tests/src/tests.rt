@@ -1,5 +1,5 @@
 //! Each row of the tables is read or refused as it says.
-use crate::files::{DESCENDING, FILES, REFUSED};
+use crate::files::{DESCENDING, FILES, PROMISED, REFUSED, SPARSE};
 use bstr::ByteSlice;
 use git_index::{Detail, IndexFile, IndexFileError, Stat, Time, read_index};
 use gitbase_core::{Flags, IndexEntry, IndexError, State};
@@ -118,4 +118,19 @@ fn entries_that_are_no_index_keep_their_number(rt: HostRuntime) {
         _ => false,
     };
     assert!(rt; refused);
+}
+
+#[test]
+fn the_count_is_not_believed(rt: HostRuntime) {
+    let refused = refusal_of(rt.alloc(), PROMISED) == Some(IndexFileError::Entry { at: 0 });
+    assert!(rt; refused);
+}
+
+#[test]
+fn a_marked_index_is_sparse(rt: HostRuntime) {
+    let is_sparse = match file_of(rt.alloc(), SPARSE) {
+        Some(file) => file.is_sparse(),
+        None => false,
+    };
+    assert!(rt; is_sparse);
 }

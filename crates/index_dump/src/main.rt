@@ -2,7 +2,8 @@
 //!
 //! First the number of entries, and ` sparse` where the index is; then for each entry what `git ls-files -s -v -z` prints,
 //! and its stat fields on a line, with `N` behind them where it is to be added and `S` where it is skipped. Or why the bytes
-//! are no index, with status 1. With a word behind its name it reads the file alone, and prints the number.
+//! are no index, with status 1. With a word of at most eight bytes after its name it reads the file alone, and prints the
+//! number.
 #![tactic(auto)]
 
 use git_index::{Detail, IndexFile, IndexFileError, read_index};
@@ -112,7 +113,7 @@ fn dump(rt: &HostRuntime, file: IndexFile) -> io::Result<ExitCode> {
     }
 }
 
-/// Whether there is a word behind the program's name.
+/// Whether there is a word of at most eight bytes after the program's name.
 fn has_word(rt: &HostRuntime) -> bool {
     let mut buffer = [0u8; 8];
     rt.arg(1, &mut buffer).is_ok()
