@@ -1,0 +1,4 @@
+pub mod Answers
+pub mod Finds
+pub mod GitDirectory
+pub mod Upward

@@ -1,0 +1,49 @@
+//! Why no work tree is found.
+use gitbase_core::{OutOfMemory, PathText};
+use thiserror::Error;
+use worktree_fs::ReadError;
+
+/// Why no work tree is found, or why it is not read.
+#[derive(Debug, Drop, PartialEq, Eq, Error)]
+pub enum PlacesError {
+    /// Neither the directory nor one above it, up to a ceiling, is the top of a work tree.
+    #[error("NoRepository")]
+    NoRepository,
+    /// The directory at `path` is a git directory itself, and has no work tree here.
+    #[error("Bare")]
+    Bare { path: PathText },
+    /// The file `.git` at `path` names no git directory.
+    #[error("GitFile")]
+    GitFile { path: PathText },
+    /// The worktree failed, and counted that.
+    #[error("Fault")]
+    Fault,
+    /// Want of memory.
+    #[error("OutOfMemory")]
+    OutOfMemory,
+}
+
+impl From<OutOfMemory> for PlacesError {
+    ghost use Rattle.std.specs.Prelude.{◌≡◌};
+    ghost use Rattle.git_places.specs.declared.error.PlacesError.TheVariants as errors;
+
+    ghost from_gives = { λ _ e. e ≡ errors.OutOfMemory };
+
+    fn from(_refused: OutOfMemory) -> PlacesError {
+        PlacesError::OutOfMemory
+    }
+}
+
+impl From<ReadError> for PlacesError {
+    ghost use Rattle.std.specs.Prelude.{◌≡◌};
+    ghost use Rattle.git_places.specs.Answers.{of_read};
+
+    ghost from_gives = { λ refused e. e ≡ of_read refused };
+
+    fn from(refused: ReadError) -> PlacesError {
+        match refused {
+            ReadError::Fault => PlacesError::Fault,
+            ReadError::OutOfMemory => PlacesError::OutOfMemory,
+        }
+    }
+}

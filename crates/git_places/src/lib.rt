@@ -1,0 +1,9 @@
+//! Where git keeps things: the work tree of a directory, its git directory, and what is common to all its work trees.
+#![tactic(auto)]
+
+mod error;
+mod git_directory;
+mod upward;
+
+pub use error::PlacesError;
+pub use upward::{Top, find_top};
