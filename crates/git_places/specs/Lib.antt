@@ -1,4 +1,7 @@
 pub mod Answers
 pub mod Finds
+pub mod Format
 pub mod GitDirectory
+pub mod Places
+pub mod Steps
 pub mod Upward

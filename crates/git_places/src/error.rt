@@ -1,5 +1,5 @@
 //! Why no work tree is found.
-use gitbase_core::{OutOfMemory, PathText};
+use gitbase_core::{Bytes, OutOfMemory, PathText};
 use thiserror::Error;
 use worktree_fs::ReadError;
 
@@ -15,6 +15,24 @@ pub enum PlacesError {
     /// The file `.git` at `path` names no git directory.
     #[error("GitFile")]
     GitFile { path: PathText },
+    /// `core.repositoryFormatVersion` has this value, which is neither 0 nor 1.
+    #[error("Version")]
+    Version { value: Bytes },
+    /// The repository's format asks for this key of `[extensions]`, which is not known.
+    #[error("Extension")]
+    Extension { key: Bytes },
+    /// The ids of the repository are of SHA-256.
+    #[error("Sha256")]
+    Sha256,
+    /// The value of this key of the repository's configuration cannot be read.
+    #[error("Value")]
+    Value { key: Bytes },
+    /// The configuration at `path` has a line outside the grammar of git-config(1).
+    #[error("Config")]
+    Config { path: PathText, line: usize },
+    /// No work tree is at this path, which `core.worktree` names.
+    #[error("NoWorkTree")]
+    NoWorkTree { path: PathText },
     /// The worktree failed, and counted that.
     #[error("Fault")]
     Fault,

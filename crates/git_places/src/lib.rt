@@ -2,8 +2,10 @@
 #![tactic(auto)]
 
 mod error;
+mod format;
 mod git_directory;
 mod upward;
 
 pub use error::PlacesError;
+pub use format::Version;
 pub use upward::{Top, find_top};
