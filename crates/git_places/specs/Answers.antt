@@ -10,6 +10,11 @@ abbrev pub Gives : {A : Type 0} → Result A PlacesError → Result A PlacesErro
 Gives (Ok answer) found = found ≡ Ok answer
 Gives (Err e) found = (found ≡ Err e) ⊎ ((e ≡ errors.Fault) ⊎ (e ≡ errors.OutOfMemory))
 
+-- the same of a call that asks no worktree, which never answers that it failed
+abbrev pub Decides : {A : Type 0} → Result A PlacesError → Result A PlacesError → Type 0
+Decides (Ok answer) found = found ≡ Ok answer
+Decides (Err e) found = ((found ≡ Err e) ⊎ (e ≡ errors.OutOfMemory)) × (e ≡ errors.Fault → ⊥)
+
 -- what holds unless the worktree failed
 abbrev pub UnlessFault : {A : Type 0} → Result A PlacesError → Type 0 → Type 0
 UnlessFault (Ok answer) Holds = Holds

@@ -1,6 +1,6 @@
 //! What the configuration of a repository says of its format.
 ghost use Rattle.std.specs.Prelude.{◌≡◌, not, find, Ok, IfOk, option_copied, option_map};
-ghost use Rattle.git_places.specs.Answers.{Gives};
+ghost use Rattle.git_places.specs.Answers.{Decides};
 ghost use Rattle.git_places.specs.Format as words;
 ghost use Rattle.git_config_lite.specs.Lookups as lookups;
 
@@ -20,7 +20,7 @@ pub enum Version {
 
 /// The version that a text says, if there is one.
 fn version_of(alloc: Global, text: Option<&[u8]>) -> Result<Option<Version>, PlacesError>
-    ensures { Gives result (words.version_of (option_copied text.entry)) }
+    ensures { Decides result (words.version_of (option_copied text.entry)) }
 {
     match text {
         None => Ok(None),
@@ -34,7 +34,7 @@ fn version_of(alloc: Global, text: Option<&[u8]>) -> Result<Option<Version>, Pla
 
 /// The version of a repository's format, by `core.repositoryFormatVersion`; none where nothing says so.
 pub fn version_in(alloc: Global, config: &File) -> Result<Option<Version>, PlacesError>
-    ensures { Gives result (words.version_in config.now.sections) }
+    ensures { Decides result (words.version_in config.now.sections) }
 {
     version_of(
         alloc,
@@ -153,7 +153,7 @@ fn unreadable(version: Version, section: &Section) -> Option<&Entry>
 
 /// Whether the sections named `extensions` leave the repository readable; the first key that does not is refused.
 pub fn readable_in(alloc: Global, version: Version, config: &File) -> Result<bool, PlacesError>
-    ensures { Gives result (words.readable_in version config.now.sections) }
+    ensures { Decides result (words.readable_in version config.now.sections) }
 {
     for section in config.sections_by_name(b"extensions") {
         if let Some(entry) = unreadable(version, section) {
@@ -170,7 +170,7 @@ pub fn truth_of(
     section: &[u8],
     key: &[u8],
 ) -> Result<bool, PlacesError>
-    ensures { Gives result (words.truth_of section.now key.now config.now.sections) }
+    ensures { Decides result (words.truth_of section.now key.now config.now.sections) }
 {
     match config.boolean(section, None, key) {
         Ok(None) => Ok(false),

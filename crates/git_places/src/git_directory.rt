@@ -12,7 +12,7 @@ use std::alloc::Global;
 use worktree_fs::{NodeKind, ReadError, Worktree, beside, gitdir_path, is_git_below, read_file};
 
 /// The path of `.git` in a directory.
-fn dot_git(alloc: Global, directory: &[u8]) -> Result<PathText, OutOfMemory>
+pub fn dot_git(alloc: Global, directory: &[u8]) -> Result<PathText, OutOfMemory>
     ensures { IfOk result (λ path. path ≡ words.dot_git directory.now) }
 {
     let mut path = PathText::from_bytes(alloc, directory)?;

@@ -4,8 +4,10 @@
 mod error;
 mod format;
 mod git_directory;
+mod places;
 mod upward;
 
 pub use error::PlacesError;
 pub use format::Version;
+pub use places::{Places, find_places};
 pub use upward::{Top, find_top};
