@@ -1,6 +1,9 @@
 //! Entries: what their conversions keep, and in what order they stand.
 use dir_classify::classify::Outcome;
-use dir_classify::{EmissionMode, EntryRef, Kind, Options, PathspecMatch, Property, Status};
+use dir_classify::{
+    CollapsedEntriesEmissionMode, EmissionMode, EntryRef, ForDeletionMode, Kind, Options,
+    PathspecMatch, Property, Status,
+};
 use glob_rules::ignore::{self, Origin, RuleGroup};
 use glob_rules::pathspec::{Match, MatchKind};
 use std::alloc::Global;
@@ -114,6 +117,14 @@ fn all_off() -> Options<'static> {
     }
 }
 
+/// What modes are where nothing is said.
+fn are_defaults() -> bool {
+    EmissionMode::default() == EmissionMode::Matching
+        && CollapsedEntriesEmissionMode::default() == CollapsedEntriesEmissionMode::OnStatusMismatch
+        && ForDeletionMode::default()
+            == ForDeletionMode::IgnoredDirectoriesCanHideNestedRepositories
+}
+
 /// The tests of kinds and statuses, and what options are where nothing is said.
 #[test]
 fn kinds_statuses_and_defaults(rt: HostRuntime) {
@@ -122,6 +133,6 @@ fn kinds_statuses_and_defaults(rt: HostRuntime) {
     assert!(rt; Status::Ignored(ignore::Kind::Precious).is_ignored());
     assert!(rt; are_looked_into());
     assert!(rt; becomes(MatchKind::WildcardMatch, PathspecMatch::WildcardMatch));
-    assert!(rt; EmissionMode::default() == EmissionMode::Matching);
+    assert!(rt; are_defaults());
     assert!(rt; Options::default() == all_off());
 }

@@ -38,12 +38,12 @@ const TEXTS: [&str; 10] = [
     "Failed to update the excludes stack to see if a path is excluded",
     "Failed to read the directory at '/w/\u{fffd}'",
     "Could not obtain directory entry in root of '/w/\u{fffd}'",
-    "The directory at '/w/\u{fffd}' lies deeper than the limit",
-    "The walk was interrupted",
+    "TooDeep",
+    "Interrupted",
     "Traversal root '/w/\u{fffd}' contains relative path components and could not be normalized",
     "Could not obtain symlink metadata on '/w/\u{fffd}'",
     "A symlink was found at component 1 of traversal root '/w/\u{fffd}' as seen from worktree root '/w'",
-    "Out of memory: the allocator refused to make room",
+    "OutOfMemory",
 ];
 
 /// Whether the error of a number has this text.

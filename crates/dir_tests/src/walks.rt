@@ -9,7 +9,7 @@ use crate::odd::{Looks, Odd};
 use crate::refusals::is_error;
 use bstr::ByteSlice;
 use dir_classify::{Context, Entry, Error, Options, Status, tells_excludes};
-use dir_walk::walk::walk;
+use dir_walk::walk;
 use dir_walk::{Outcome, Report, Strategy, walk_at_once, walk_by_path};
 use gitbase_core::{Bytes, MemoryStore, PathText, State};
 use glob_rules::ignore::{Origin, RuleGroup};
@@ -117,6 +117,7 @@ file`/w/lib/.git`gitdir: ../.git/modules/lib|file`/w/target/x.o|file`/w/notes/a|
 index`.gitmodules`file|index`lib`commit|index`src/main.c`file|ask`options`folding shown-folded|\
 give`always`/w`/w`5`10`untracked directory - always - - - notes`ignored directory - always - - 0:1:+ target|\
 give`never`/w`/w`0`1`untracked directory - always - - - @\
+two files in a directory`-|file`/w/d/a|file`/w/d/b|give`break 1`/w`/w`2`1`untracked file - always - - - d/a@\
 directories`-|file`/w/d/a|file`/w/d/b|file`/w/e/c|file`/w/f/g|\
 give`in turn`/w`/w`2`3`untracked directory - always - - - d`untracked file - always - - - e/c`\
 untracked directory - always - - - f|give`break 1`/w`/w`2`1`untracked file - always - - - d/a|\

@@ -95,150 +95,170 @@ module _ {W F I D : Type 0} (w : WorktreeOf W) (f : FindOf F) (i : InterruptOf I
   -- ---- no memory for a fork
 
   pub job-memory : {w0 : W} {o0 : F} {i0 : I} {rules : Option Stacked} {d0 : D} {start : Outcome} {given : Setting} {blocked : Option (List ℕ)} {levels : ℕ} {path : List ℕ} {class : Class}
-      → WalksJob w f i d w0 w0 o0 o0 i0 i0 rules d0 d0 start start given blocked levels path class (Err (Refused errors.OutOfMemory))
+      → WalksJob w f i d (record { worktree = w0; objects = o0; interrupt = i0; delegate = d0; rules = rules; outcome = start }) (record { worktree = w0; objects = o0; interrupt = i0; delegate = d0; rules = rules; outcome = start }) given blocked levels path class (Err (Refused errors.OutOfMemory))
   job-memory {d0 = d0} =
       record {
-        gives = λ made s stands quiet default limit level. tt;
-        part = λ made s stands quiet default. Within-none (d.given d0) (d.given d0) _ _ _ _ refl refl;
-        about = λ limit level. tt;
-        found = λ s told. tt;
-        refused = λ made s stands default limit level. inl tt;
-        caused = record { fault = tt; interrupt = tt; listing = tt; listed = tt; calm = tt };
-        worktree = record { tree = refl; faults = omega arith; list_faults = omega arith; reads = omega arith; lists = omega arith; precomposes = refl };
-        store = AsksStore-same;
-        interrupt = record { questions = omega arith; raised = omega arith };
-        enters = record { opened = 0; counted = λ small. omega (arith, small); asked = omega arith; within = λ made s stands quiet default. omega arith };
-        filtered = refl;
-        hands = Hands-none refl refl refl;
-        delegate = KeepsDelegate-same;
-        heeds = record { broken = tt; stopped = tt; unbroken = refl; kept_on = tt };
+        told = record {
+          gives = λ made s stands quiet default limit level. tt;
+          part = λ made s stands quiet default. Within-none (d.given d0) (d.given d0) _ _ _ _ refl refl;
+          refused = λ made s stands default limit level. inl tt;
+        };
+        walks = record {
+          about = λ limit level. tt;
+          found = λ s told. tt;
+          caused = record { fault = tt; interrupt = tt; listing = tt; listed = tt; calm = tt };
+          worktree = record { tree = refl; faults = omega arith; list_faults = omega arith; reads = omega arith; lists = omega arith; precomposes = refl };
+          store = AsksStore-same;
+          interrupt = record { questions = omega arith; raised = omega arith };
+          hands = Hands-none refl refl refl;
+          delegate = KeepsDelegate-same;
+          filtered = refl;
+          heeds = record { broken = tt; stopped = tt; unbroken = refl; kept_on = tt };
+        };
+        opens = record { opened = 0; counted = λ small. omega (arith, small); asked = omega arith; within = λ made s stands quiet default. omega arith };
       }
 
   -- ---- over a fork of the worktree
 
-  module _ {x0 x1 w1 : W} (w0 : W) {o0 o1 : F} {i0 i1 : I} {rules : Option Stacked} {d0 d1 : D} {start stop : Outcome} (given : Setting) {blocked : Option (List ℕ)} {levels : ℕ} (path : List ℕ) (class : Class) (result : Result Handed Stop)
+  module _ {x0 x1 w1 : W} (w0 : W) {o0 o1 : F} {i0 i1 : I} {rules rules_now : Option Stacked} {d0 d1 : D} {start stop : Outcome} (given : Setting) {blocked : Option (List ℕ)} {levels : ℕ} (path : List ℕ) (class : Class) (result : Result Handed Stop)
       (tree0 : w.told x0 ≡ w.told w0) (faults0 : w.faults x0 ≡ 0) (list_faults0 : w.list_faults x0 ≡ 0)
       (tree1 : w.told w1 ≡ w.told w0) (faults1 : w.faults w1 ≡ with_more (w.faults w0) (w.faults x1)) (later : w.faults w0 ≤ w.faults w1)
       (list_faults1 : w.list_faults w1 ≡ with_more (w.list_faults w0) (w.list_faults x1)) (list_later : w.list_faults w0 ≤ w.list_faults w1) (read_later : w.reads w0 ≤ w.reads w1) (lists1 : w.lists w1 ≡ w.lists w0) (precomposes1 : w.precomposes w1 ≡ w.precomposes w0) where
-    pub job-worktree : WalksJob w f i d x0 x1 o0 o1 i0 i1 rules d0 d1 start stop given blocked levels path class result → WalksJob w f i d w0 w1 o0 o1 i0 i1 rules d0 d1 start stop given blocked levels path class result
+    pub job-worktree : WalksJob w f i d (record { worktree = x0; objects = o0; interrupt = i0; delegate = d0; rules = rules; outcome = start }) (record { worktree = x1; objects = o1; interrupt = i1; delegate = d1; rules = rules_now; outcome = stop }) given blocked levels path class result → WalksJob w f i d (record { worktree = w0; objects = o0; interrupt = i0; delegate = d0; rules = rules; outcome = start }) (record { worktree = w1; objects = o1; interrupt = i1; delegate = d1; rules = rules_now; outcome = stop }) given blocked levels path class result
     job-worktree job =
         let on_fork : (made : Option Made) (s : Sources) → Stands given (w.told w0) (f.holds o0) rules blocked made s → Stands given (w.told x0) (f.holds o0) rules blocked made s =
         λ made s stands. record { tree = tree0 ∙ stands.tree; objects = stands.objects; made_is = stands.made_is; in_step = stands.in_step; blocked_is = stands.blocked_is } in
         let no_fault : NotIncreased (w.faults w0) (w.faults w1) → NotIncreased (w.faults x0) (w.faults x1) = quiet-fork (w.faults w0) (w.faults x0) (w.faults w1) (w.faults x1) faults0 faults1 in
         let rose : Increased (w.faults x0) (w.faults x1) → Increased (w.faults w0) (w.faults w1) = rose-more (w.faults w0) (w.faults x0) (w.faults w1) (w.faults x1) faults0 faults1 in
         record {
-          gives = λ made s stands quiet default limit level. job.gives made s (on_fork made s stands) (no_fault quiet) default limit level;
-          part = λ made s stands quiet default. job.part made s (on_fork made s stands) (no_fault quiet) default;
-          about = job.about;
-          found = λ s told. job.found s (tree0 ∙ told);
-          refused = λ made s stands default limit level.
-              let P : Type 0 = Increased (w.faults x0) (w.faults x1) in
-              let Q : Type 0 = Increased (w.faults w0) (w.faults w1) in
-              IfErr-weaker result (OnRefused (DirectoryRefuses given made s limit P path class)) (OnRefused (DirectoryRefuses given made s limit Q path class))
-              (refused-any (DirectoryRefuses given made s limit P path class) (DirectoryRefuses given made s limit Q path class) (λ e. DirectoryRefuses-weaker given made s limit P Q path class e rose))
-              (job.refused made s (on_fork made s stands) default limit level);
-          caused = record {
-            fault = caused-weaker (Increased (w.faults x0) (w.faults x1)) (Increased (f.faults o0) (f.faults o1)) (Increased (w.faults w0) (w.faults w1)) (Increased (f.faults o0) (f.faults o1)) result rose (λ h. h) job.caused.fault;
-            interrupt = job.caused.interrupt;
-            listing = listing-weaker (Increased (w.list_faults x0) (w.list_faults x1)) (Increased (w.list_faults w0) (w.list_faults w1)) result
-                (rose-more (w.list_faults w0) (w.list_faults x0) (w.list_faults w1) (w.list_faults x1) list_faults0 list_faults1) job.caused.listing;
-            listed = unless-weaker result (stays-more (w.list_faults w0) (w.list_faults x0) (w.list_faults w1) (w.list_faults x1) list_faults0 list_faults1 list_later) job.caused.listed;
-            calm = job.caused.calm;
+          told = record {
+            gives = λ made s stands quiet default limit level. job.told.gives made s (on_fork made s stands) (no_fault quiet) default limit level;
+            part = λ made s stands quiet default. job.told.part made s (on_fork made s stands) (no_fault quiet) default;
+            refused = λ made s stands default limit level.
+                let P : Type 0 = Increased (w.faults x0) (w.faults x1) in
+                let Q : Type 0 = Increased (w.faults w0) (w.faults w1) in
+                IfErr-weaker result (OnRefused (DirectoryRefuses given made s limit P path class)) (OnRefused (DirectoryRefuses given made s limit Q path class))
+                (refused-any (DirectoryRefuses given made s limit P path class) (DirectoryRefuses given made s limit Q path class) (λ e. DirectoryRefuses-weaker given made s limit P Q path class e rose))
+                (job.told.refused made s (on_fork made s stands) default limit level);
           };
-          worktree = record { tree = tree1; faults = later; list_faults = list_later; reads = read_later; lists = omega (arith, lists1); precomposes = precomposes1 };
-          store = job.store;
-          interrupt = job.interrupt;
-          enters = record { opened = job.enters.opened; counted = job.enters.counted; asked = job.enters.asked; within = λ made s stands quiet default. job.enters.within made s (on_fork made s stands) (no_fault quiet) default };
-          filtered = job.filtered;
-          hands = job.hands;
-          delegate = job.delegate;
-          heeds = job.heeds;
+          walks = record {
+            about = job.walks.about;
+            found = λ s told. job.walks.found s (tree0 ∙ told);
+            caused = record {
+              fault = caused-weaker (Increased (w.faults x0) (w.faults x1)) (Increased (f.faults o0) (f.faults o1)) (Increased (w.faults w0) (w.faults w1)) (Increased (f.faults o0) (f.faults o1)) result rose (λ h. h) job.walks.caused.fault;
+              interrupt = job.walks.caused.interrupt;
+              listing = listing-weaker (Increased (w.list_faults x0) (w.list_faults x1)) (Increased (w.list_faults w0) (w.list_faults w1)) result
+                  (rose-more (w.list_faults w0) (w.list_faults x0) (w.list_faults w1) (w.list_faults x1) list_faults0 list_faults1) job.walks.caused.listing;
+              listed = unless-weaker result (stays-more (w.list_faults w0) (w.list_faults x0) (w.list_faults w1) (w.list_faults x1) list_faults0 list_faults1 list_later) job.walks.caused.listed;
+              calm = job.walks.caused.calm;
+            };
+            worktree = record { tree = tree1; faults = later; list_faults = list_later; reads = read_later; lists = omega (arith, lists1); precomposes = precomposes1 };
+            store = job.walks.store;
+            interrupt = job.walks.interrupt;
+            hands = job.walks.hands;
+            delegate = job.walks.delegate;
+            filtered = job.walks.filtered;
+            heeds = job.walks.heeds;
+          };
+          opens = record { opened = job.opens.opened; counted = job.opens.counted; asked = job.opens.asked; within = λ made s stands quiet default. job.opens.within made s (on_fork made s stands) (no_fault quiet) default };
         }
 
   -- ---- over a fork of the store
 
-  module _ {w0 w1 : W} {x0 x1 o1 : F} (o0 : F) {i0 i1 : I} {rules : Option Stacked} {d0 d1 : D} {start stop : Outcome} (given : Setting) {blocked : Option (List ℕ)} {levels : ℕ} (path : List ℕ) (class : Class) (result : Result Handed Stop)
+  module _ {w0 w1 : W} {x0 x1 o1 : F} (o0 : F) {i0 i1 : I} {rules rules_now : Option Stacked} {d0 d1 : D} {start stop : Outcome} (given : Setting) {blocked : Option (List ℕ)} {levels : ℕ} (path : List ℕ) (class : Class) (result : Result Handed Stop)
       (holds0 : f.holds x0 ≡ f.holds o0) (faults0 : f.faults x0 ≡ 0)
       (holds1 : f.holds o1 ≡ f.holds o0) (faults1 : f.faults o1 ≡ with_more (f.faults o0) (f.faults x1)) (later : f.faults o0 ≤ f.faults o1) where
-    pub job-store : WalksJob w f i d w0 w1 x0 x1 i0 i1 rules d0 d1 start stop given blocked levels path class result → WalksJob w f i d w0 w1 o0 o1 i0 i1 rules d0 d1 start stop given blocked levels path class result
+    pub job-store : WalksJob w f i d (record { worktree = w0; objects = x0; interrupt = i0; delegate = d0; rules = rules; outcome = start }) (record { worktree = w1; objects = x1; interrupt = i1; delegate = d1; rules = rules_now; outcome = stop }) given blocked levels path class result → WalksJob w f i d (record { worktree = w0; objects = o0; interrupt = i0; delegate = d0; rules = rules; outcome = start }) (record { worktree = w1; objects = o1; interrupt = i1; delegate = d1; rules = rules_now; outcome = stop }) given blocked levels path class result
     job-store job =
         let in_fork : (made : Option Made) (s : Sources) → Stands given (w.told w0) (f.holds o0) rules blocked made s → Stands given (w.told w0) (f.holds x0) rules blocked made s =
         λ made s stands. record { tree = stands.tree; objects = λ some. holds0 ∙ stands.objects some; made_is = stands.made_is; in_step = stands.in_step; blocked_is = stands.blocked_is } in
         record {
-          gives = λ made s stands quiet default limit level. job.gives made s (in_fork made s stands) quiet default limit level;
-          part = λ made s stands quiet default. job.part made s (in_fork made s stands) quiet default;
-          about = job.about;
-          found = λ s told. rw holds0 at (job.found s told);
-          refused = λ made s stands default limit level. job.refused made s (in_fork made s stands) default limit level;
-          caused = record {
-            fault = caused-weaker (Increased (w.faults w0) (w.faults w1)) (Increased (f.faults x0) (f.faults x1)) (Increased (w.faults w0) (w.faults w1)) (Increased (f.faults o0) (f.faults o1)) result (λ h. h)
-                (rose-more (f.faults o0) (f.faults x0) (f.faults o1) (f.faults x1) faults0 faults1) job.caused.fault;
-            interrupt = job.caused.interrupt;
-            listing = job.caused.listing;
-            listed = job.caused.listed;
-            calm = job.caused.calm;
+          told = record {
+            gives = λ made s stands quiet default limit level. job.told.gives made s (in_fork made s stands) quiet default limit level;
+            part = λ made s stands quiet default. job.told.part made s (in_fork made s stands) quiet default;
+            refused = λ made s stands default limit level. job.told.refused made s (in_fork made s stands) default limit level;
           };
-          worktree = job.worktree;
-          store = record { holds = holds1; faults = later };
-          interrupt = job.interrupt;
-          enters = record { opened = job.enters.opened; counted = job.enters.counted; asked = job.enters.asked; within = λ made s stands quiet default. job.enters.within made s (in_fork made s stands) quiet default };
-          filtered = job.filtered;
-          hands = job.hands;
-          delegate = job.delegate;
-          heeds = job.heeds;
+          walks = record {
+            about = job.walks.about;
+            found = λ s told. rw holds0 at (job.walks.found s told);
+            caused = record {
+              fault = caused-weaker (Increased (w.faults w0) (w.faults w1)) (Increased (f.faults x0) (f.faults x1)) (Increased (w.faults w0) (w.faults w1)) (Increased (f.faults o0) (f.faults o1)) result (λ h. h)
+                  (rose-more (f.faults o0) (f.faults x0) (f.faults o1) (f.faults x1) faults0 faults1) job.walks.caused.fault;
+              interrupt = job.walks.caused.interrupt;
+              listing = job.walks.caused.listing;
+              listed = job.walks.caused.listed;
+              calm = job.walks.caused.calm;
+            };
+            worktree = job.walks.worktree;
+            store = record { holds = holds1; faults = later };
+            interrupt = job.walks.interrupt;
+            hands = job.walks.hands;
+            delegate = job.walks.delegate;
+            filtered = job.walks.filtered;
+            heeds = job.walks.heeds;
+          };
+          opens = record { opened = job.opens.opened; counted = job.opens.counted; asked = job.opens.asked; within = λ made s stands quiet default. job.opens.within made s (in_fork made s stands) quiet default };
         }
 
   -- ---- over a fork of the interrupt
 
-  module _ {w0 w1 : W} {o0 o1 : F} {x0 x1 i1 : I} (i0 : I) {rules : Option Stacked} {d0 d1 : D} {start stop : Outcome} (given : Setting) {blocked : Option (List ℕ)} {levels : ℕ} (path : List ℕ) (class : Class) (result : Result Handed Stop)
+  module _ {w0 w1 : W} {o0 o1 : F} {x0 x1 i1 : I} (i0 : I) {rules rules_now : Option Stacked} {d0 d1 : D} {start stop : Outcome} (given : Setting) {blocked : Option (List ℕ)} {levels : ℕ} (path : List ℕ) (class : Class) (result : Result Handed Stop)
       (questions0 : i.questions x0 ≡ 0) (raised0 : i.raised x0 ≡ 0)
       (questions1 : i.questions i1 ≡ with_more (i.questions i0) (i.questions x1)) (raised1 : i.raised i1 ≡ with_more (i.raised i0) (i.raised x1)) (later : i.raised i0 ≤ i.raised i1) where
-    pub job-interrupt : WalksJob w f i d w0 w1 o0 o1 x0 x1 rules d0 d1 start stop given blocked levels path class result → WalksJob w f i d w0 w1 o0 o1 i0 i1 rules d0 d1 start stop given blocked levels path class result
+    pub job-interrupt : WalksJob w f i d (record { worktree = w0; objects = o0; interrupt = x0; delegate = d0; rules = rules; outcome = start }) (record { worktree = w1; objects = o1; interrupt = x1; delegate = d1; rules = rules_now; outcome = stop }) given blocked levels path class result → WalksJob w f i d (record { worktree = w0; objects = o0; interrupt = i0; delegate = d0; rules = rules; outcome = start }) (record { worktree = w1; objects = o1; interrupt = i1; delegate = d1; rules = rules_now; outcome = stop }) given blocked levels path class result
     job-interrupt job =
         record {
-          gives = job.gives;
-          part = job.part;
-          about = job.about;
-          found = job.found;
-          refused = job.refused;
-          caused = record {
-            fault = job.caused.fault;
-            interrupt = raised-weaker (Increased (i.raised x0) (i.raised x1)) (Increased (i.raised i0) (i.raised i1)) result (rose-more (i.raised i0) (i.raised x0) (i.raised i1) (i.raised x1) raised0 raised1) job.caused.interrupt;
-            listing = job.caused.listing;
-            listed = job.caused.listed;
-            calm = unless-weaker result (stays-more (i.raised i0) (i.raised x0) (i.raised i1) (i.raised x1) raised0 raised1 later) job.caused.calm;
+          told = record {
+            gives = job.told.gives;
+            part = job.told.part;
+            refused = job.told.refused;
           };
-          worktree = job.worktree;
-          store = job.store;
-          interrupt = record { questions = omega (arith, job.interrupt.questions, questions0, questions1, raised0, raised1); raised = later };
-          enters = record { opened = job.enters.opened; counted = job.enters.counted; asked = omega (arith, job.enters.asked, questions0, questions1, raised0, raised1); within = job.enters.within };
-          filtered = job.filtered;
-          hands = job.hands;
-          delegate = job.delegate;
-          heeds = job.heeds;
+          walks = record {
+            about = job.walks.about;
+            found = job.walks.found;
+            caused = record {
+              fault = job.walks.caused.fault;
+              interrupt = raised-weaker (Increased (i.raised x0) (i.raised x1)) (Increased (i.raised i0) (i.raised i1)) result (rose-more (i.raised i0) (i.raised x0) (i.raised i1) (i.raised x1) raised0 raised1) job.walks.caused.interrupt;
+              listing = job.walks.caused.listing;
+              listed = job.walks.caused.listed;
+              calm = unless-weaker result (stays-more (i.raised i0) (i.raised x0) (i.raised i1) (i.raised x1) raised0 raised1 later) job.walks.caused.calm;
+            };
+            worktree = job.walks.worktree;
+            store = job.walks.store;
+            interrupt = record { questions = omega (arith, job.walks.interrupt.questions, questions0, questions1, raised0, raised1); raised = later };
+            hands = job.walks.hands;
+            delegate = job.walks.delegate;
+            filtered = job.walks.filtered;
+            heeds = job.walks.heeds;
+          };
+          opens = record { opened = job.opens.opened; counted = job.opens.counted; asked = omega (arith, job.opens.asked, questions0, questions1, raised0, raised1); within = job.opens.within };
         }
 
   -- ---- with rules that are made alike
 
-  pub job-rules : {w0 w1 : W} {o0 o1 : F} {i0 i1 : I} {rules fresh : Option Stacked} {d0 d1 : D} {start stop : Outcome} {given : Setting} {blocked : Option (List ℕ)} {levels : ℕ} {path : List ℕ} {class : Class} {result : Result Handed Stop}
+  pub job-rules : {w0 w1 : W} {o0 o1 : F} {i0 i1 : I} {rules fresh fresh_now : Option Stacked} {d0 d1 : D} {start stop : Outcome} {given : Setting} {blocked : Option (List ℕ)} {levels : ℕ} {path : List ℕ} {class : Class} {result : Result Handed Stop}
       → made_with fresh ≡ made_with rules → ((s : Sources) → InStepIf s fresh)
-      → WalksJob w f i d w0 w1 o0 o1 i0 i1 fresh d0 d1 start stop given blocked levels path class result → WalksJob w f i d w0 w1 o0 o1 i0 i1 rules d0 d1 start stop given blocked levels path class result
+      → WalksJob w f i d (record { worktree = w0; objects = o0; interrupt = i0; delegate = d0; rules = fresh; outcome = start }) (record { worktree = w1; objects = o1; interrupt = i1; delegate = d1; rules = fresh_now; outcome = stop }) given blocked levels path class result → WalksJob w f i d (record { worktree = w0; objects = o0; interrupt = i0; delegate = d0; rules = rules; outcome = start }) (record { worktree = w1; objects = o1; interrupt = i1; delegate = d1; rules = rules; outcome = stop }) given blocked levels path class result
   job-rules {w0} {o0 = o0} {rules = rules} {fresh = fresh} {given = given} {blocked = blocked} alike step job =
       let with_fresh : (made : Option Made) (s : Sources) → Stands given (w.told w0) (f.holds o0) rules blocked made s → Stands given (w.told w0) (f.holds o0) fresh blocked made s =
       λ made s stands. record { tree = stands.tree; objects = stands.objects; made_is = alike ∙ stands.made_is; in_step = step s; blocked_is = stands.blocked_is } in
       record {
-        gives = λ made s stands quiet default limit level. job.gives made s (with_fresh made s stands) quiet default limit level;
-        part = λ made s stands quiet default. job.part made s (with_fresh made s stands) quiet default;
-        about = λ limit level. rw alike at (job.about limit level);
-        found = λ s told. rw alike at (job.found s told);
-        refused = λ made s stands default limit level. job.refused made s (with_fresh made s stands) default limit level;
-        caused = job.caused;
-        worktree = job.worktree;
-        store = job.store;
-        interrupt = job.interrupt;
-        enters = record { opened = job.enters.opened; counted = job.enters.counted; asked = job.enters.asked; within = λ made s stands quiet default. job.enters.within made s (with_fresh made s stands) quiet default };
-        filtered = job.filtered;
-        hands = job.hands;
-        delegate = job.delegate;
-        heeds = job.heeds;
+        told = record {
+          gives = λ made s stands quiet default limit level. job.told.gives made s (with_fresh made s stands) quiet default limit level;
+          part = λ made s stands quiet default. job.told.part made s (with_fresh made s stands) quiet default;
+          refused = λ made s stands default limit level. job.told.refused made s (with_fresh made s stands) default limit level;
+        };
+        walks = record {
+          about = λ limit level. rw alike at (job.walks.about limit level);
+          found = λ s told. rw alike at (job.walks.found s told);
+          caused = job.walks.caused;
+          worktree = job.walks.worktree;
+          store = job.walks.store;
+          interrupt = job.walks.interrupt;
+          hands = job.walks.hands;
+          delegate = job.walks.delegate;
+          filtered = job.walks.filtered;
+          heeds = job.walks.heeds;
+        };
+        opens = record { opened = job.opens.opened; counted = job.opens.counted; asked = job.opens.asked; within = λ made s stands quiet default. job.opens.within made s (with_fresh made s stands) quiet default };
       }

@@ -1,5 +1,5 @@
 -- What stays over one call and then another.
-use Rattle.std.proofs.Common.{◌≡◌, List, [], ◌++◌, false, Option, Some, refl, sym, ap, ◌∙◌, append_assoc, arith}
+use Rattle.std.proofs.Common.{◌≡◌, ◌≤◌, List, [], ◌++◌, false, Option, Some, refl, sym, ap, ◌∙◌, append_assoc, arith}
 use Rattle.std.specs.Prelude.{Result, Ok, Err, is_some}
 use Rattle.std.proofs.lemmas.List.{append-nil}
 use Rattle.gitbase_core.specs.declared.find.Find.{Ghosts as FindOf}
@@ -83,6 +83,10 @@ Heeds-after d a b c (Err (Refused e)) same heeds = record { broken = tt; stopped
 
 pub KeepsDelegate-same : {D : Type 0} {d : DelegateOf D} {a : D} → KeepsDelegate d a a
 KeepsDelegate-same {D} {d} {a} = record { default = refl; given = Extends-same (d.given a) (d.given a) refl; breaks = omega arith; refusals = omega arith }
+
+-- a delegate that was asked whether it recurses
+pub KeepsDelegate-asked : {D : Type 0} {d : DelegateOf D} {a b : D} → d.is_default b ≡ d.is_default a → d.given b ≡ d.given a → d.breaks b ≡ d.breaks a → d.refusals a ≤ d.refusals b → KeepsDelegate d a b
+KeepsDelegate-asked {D} {d} {a} {b} default given breaks refusals = record { default = default; given = Extends-same (d.given a) (d.given b) given; breaks = omega (arith, breaks); refusals = refusals }
 
 pub KeepsRules-same : {W F : Type 0} {w : WorktreeOf W} {f : FindOf F} {a b : W} {k : F} {r : Option Stacked} → KeepsRules w f a b k r r
 KeepsRules-same = record { made = refl; in_step = λ u told step. step }

@@ -39,6 +39,7 @@ pub mod Lists
 pub mod Located
 pub mod Matching
 pub mod Members
+pub mod NameSteps
 pub mod Named
 pub mod NormalRoots
 pub mod Once

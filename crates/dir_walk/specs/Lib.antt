@@ -9,6 +9,7 @@ pub mod Given
 pub mod Guarded
 pub mod Jobs
 pub mod Kept
+pub mod Moments
 pub mod Opens
 pub mod Placed
 pub mod Puts
@@ -22,6 +23,7 @@ pub mod Starts
 pub mod Told
 pub mod Unopened
 pub mod WalkRefused
+pub mod WalkSteps
 pub mod Walkable
 pub mod Walked
 pub mod Walks

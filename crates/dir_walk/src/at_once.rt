@@ -7,16 +7,16 @@ ghost use Rattle.dir_walk.specs.WalkRefused.{by_default};
 ghost use Rattle.dir_walk.specs.Walks.{root_in, Collects, WalksWorktree};
 
 use crate::collect::Collect;
+use crate::function::walk_parts;
 use crate::outcome::Outcome;
 use crate::strategy::Strategy;
-use crate::walk::walk_parts;
 use dir_classify::{Context, Error, Options, Shared};
 use gitbase_core::{Find, PathText};
 use glob_rules::pathspec::Matcher;
 use std::alloc::Global;
 use worktree_fs::{Interrupt, Worktree};
 
-/// Walks a worktree as [`walk`](crate::walk::walk) does with a delegate that recurses by default and keeps what it is given,
+/// Walks a worktree as [`walk`](crate::walk) does with a delegate that recurses by default and keeps what it is given,
 /// and gives that too. Each subtree of the traversal root that is entered is a job of its own.
 ///
 /// The traversal root is found, classed and listed over the worktree that is handed in, and so are the names in it classed.
@@ -31,7 +31,7 @@ use worktree_fs::{Interrupt, Worktree};
 ///
 /// # Errors
 ///
-/// Those of [`walk`](crate::walk::walk), each for the same causes; `OutOfMemory` also where none is left for a fork or its rules.
+/// Those of [`walk`](crate::walk), each for the same causes; `OutOfMemory` also where none is left for a fork or its rules.
 pub fn walk_at_once<W: Worktree, F: Find, I: Interrupt, M: Matcher>(
     alloc: Global,
     worktree_root: &[u8],

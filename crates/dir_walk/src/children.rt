@@ -20,6 +20,7 @@ ghost use Rattle.dir_walk.specs.Refused.{IsAbout, IsInTree, Refuses, DirectoryRe
 ghost use Rattle.dir_walk.specs.Report.{depth_of};
 ghost use Rattle.dir_walk.specs.Told.{Stands, item_told, directory_told};
 ghost use Rattle.dir_walk.specs.Unopened.{deep_walk, unlisted_walk};
+ghost use Rattle.dir_walk.specs.WalkSteps.{EntersStep, WalksAny, WalksTold, at_directory, at_name, over_forks};
 
 use crate::close::{close, close_empty, leaf_class};
 use crate::delegate::Delegate;
@@ -59,61 +60,84 @@ fn walk_child<W: Worktree, F: Find, I: Interrupt, M: Matcher, D: Delegate>(
     requires root { place.old.root ≡ shared.now.worktree_root.now }
     requires lookup { IsLookupIf shared.now.index.now shared.now.ignore_case_index_lookup.now }
     requires excludes { tells_excludes (made_with excludes.old) ≡ true }
-    ensures gives { (made : Option Made) (s : Sources)
-        → Stands (setting_of M.Matcher shared.now) (W.told worktree.old) (F.holds objects.old)
-        excludes.old blocked.now made s
-        → NotIncreased (W.faults worktree.old) (W.faults worktree.new)
-        → D.is_default delegate.old ≡ true
-        → (limit : ℕ) → levels + depth_of place.old.path ≡ limit
-        → IfOk result (Gives (chosen shared.now.options) limit
-        (evidence (setting_of M.Matcher shared.now) made s)
-        (item_told (setting_of M.Matcher shared.now) made s (joined place.old.path name.now))
-        (D.given delegate.old) (D.given delegate.new) outcome.old outcome.new) }
-    ensures part { (made : Option Made) (s : Sources)
-        → Stands (setting_of M.Matcher shared.now) (W.told worktree.old) (F.holds objects.old)
-        excludes.old blocked.now made s
-        → NotIncreased (W.faults worktree.old) (W.faults worktree.new)
-        → D.is_default delegate.old ≡ true
-        → OnErr result (IsPart (chosen shared.now.options)
-        (item_told (setting_of M.Matcher shared.now) made s
-        (joined place.old.path name.now)) (D.given delegate.old) (D.given delegate.new)
-        outcome.old outcome.new) }
-    ensures about { (limit : ℕ) → levels + depth_of place.old.path ≡ limit
-        → IfErr result (OnRefused (IsAbout (made_with excludes.old) shared.now.worktree_root.now
-        limit)) }
-    ensures found { (s : Sources) → W.told worktree.old ≡ Some s.tree
-        → IfErr result (OnRefused (IsInTree shared.now.worktree_root.now
-        (F.holds objects.old) s (made_with excludes.old))) }
-    ensures refused { (made : Option Made) (s : Sources)
-        → Stands (setting_of M.Matcher shared.now) (W.told worktree.old) (F.holds objects.old)
-        excludes.old blocked.now made s
-        → D.is_default delegate.old ≡ true
-        → (limit : ℕ) → levels + depth_of place.old.path ≡ limit
-        → IfErr result (OnRefused (Refuses (setting_of M.Matcher shared.now) made s limit
-        (Increased (W.faults worktree.old) (W.faults worktree.new))
-        (item_told (setting_of M.Matcher shared.now) made s
-        (joined place.old.path name.now)))) }
-    ensures worktree { KeepsTree W.Worktree worktree.old worktree.new }
-    ensures store { AsksStore F.Find objects.old objects.new }
+    // Over any worktree, each refusal has its cause; what stays, and what the delegate is given.
+    ensures walks { WalksAny W.Worktree F.Find I.Interrupt D.Delegate
+        (record {
+          worktree = worktree.old;
+          objects = objects.old;
+          interrupt = interrupt.old;
+          delegate = delegate.old;
+          rules = excludes.old;
+          outcome = outcome.old;
+        })
+        (record {
+          worktree = worktree.new;
+          objects = objects.new;
+          interrupt = interrupt.new;
+          delegate = delegate.new;
+          rules = excludes.new;
+          outcome = outcome.new;
+        })
+        (setting_of M.Matcher shared.now) levels (at_name place.old.path name.now) result }
+    // Over what is told, the name gives all that is there, or a part of it, and is refused for what is there.
+    ensures told { WalksTold W.Worktree F.Find D.Delegate
+        (record {
+          worktree = worktree.old;
+          objects = objects.old;
+          interrupt = interrupt.old;
+          delegate = delegate.old;
+          rules = excludes.old;
+          outcome = outcome.old;
+        })
+        (record {
+          worktree = worktree.new;
+          objects = objects.new;
+          interrupt = interrupt.new;
+          delegate = delegate.new;
+          rules = excludes.new;
+          outcome = outcome.new;
+        })
+        (setting_of M.Matcher shared.now) blocked.now levels (at_name place.old.path name.now) result }
+    // How the directories that are opened are counted, and how many they are at most.
+    ensures opens { over_forks W.Worktree I.Interrupt 0
+        (record {
+          worktree = worktree.old;
+          objects = objects.old;
+          interrupt = interrupt.old;
+          delegate = delegate.old;
+          rules = excludes.old;
+          outcome = outcome.old;
+        })
+        (record {
+          worktree = worktree.new;
+          objects = objects.new;
+          interrupt = interrupt.new;
+          delegate = delegate.new;
+          rules = excludes.new;
+          outcome = outcome.new;
+        })
+        result (EntersStep W.Worktree F.Find D.Delegate
+        (record {
+          worktree = worktree.old;
+          objects = objects.old;
+          interrupt = interrupt.old;
+          delegate = delegate.old;
+          rules = excludes.old;
+          outcome = outcome.old;
+        })
+        (record {
+          worktree = worktree.new;
+          objects = objects.new;
+          interrupt = interrupt.new;
+          delegate = delegate.new;
+          rules = excludes.new;
+          outcome = outcome.new;
+        })
+        (setting_of M.Matcher shared.now) blocked.now levels (at_name place.old.path name.now) result) }
+    // The rules that were handed in stay in step.
     ensures rules { KeepsRules W.Worktree F.Find worktree.old worktree.new objects.old excludes.old
         excludes.new }
-    ensures interrupt { AsksInterrupt I.Interrupt interrupt.old interrupt.new }
-    ensures opens { OpensApart W.Worktree I.Interrupt worktree.old worktree.new interrupt.old
-        interrupt.new outcome.old outcome.new 0 (deep_walk result) (EntersAtMost W.Worktree
-        F.Find D.Delegate worktree.old worktree.new objects.old excludes.old delegate.old
-        (setting_of M.Matcher shared.now) blocked.now
-        (levels + depth_of place.old.path) (λ made s. item_told
-        (setting_of M.Matcher shared.now) made s (joined place.old.path name.now))
-        (unlisted_walk result)) }
-    ensures hands { Hands (joined place.old.path name.now)
-        (once_within (joined place.old.path name.now)) (D.given delegate.old)
-        (D.given delegate.new) outcome.old outcome.new result }
-    ensures delegate { KeepsDelegate D.Delegate delegate.old delegate.new }
-    ensures filtered { AddsShown (chosen shared.now.options) (D.given delegate.old)
-        (D.given delegate.new) }
-    ensures heeds { Heeds D.Delegate delegate.old delegate.new result }
-    ensures caused { Caused W.Worktree F.Find I.Interrupt worktree.old worktree.new objects.old
-        objects.new interrupt.old interrupt.new result }
+    // The place is the same when all is done.
     ensures stays { OnOk result (place.new ≡ place.old) }
 {
     let cut = place.push(alloc, name)?;
@@ -150,7 +174,7 @@ fn walk_child<W: Worktree, F: Find, I: Interrupt, M: Matcher, D: Delegate>(
 }
 
 /// Walks a directory that is entered as the traversal root, at `place` and of the class `class`, as
-/// [`walk_directory`](crate::directory::walk_directory) does; but each name that is entered is a job over forks.
+/// [`walk_tree`](crate::directory::walk_tree) does; but each name that is entered is a job over forks.
 pub(crate) fn walk_children<W: Worktree, F: Find, I: Interrupt, M: Matcher, D: Delegate>(
     alloc: Global,
     shared: &Shared<'_, M>,
@@ -168,58 +192,83 @@ pub(crate) fn walk_children<W: Worktree, F: Find, I: Interrupt, M: Matcher, D: D
     requires root { place.old.root ≡ shared.now.worktree_root.now }
     requires lookup { IsLookupIf shared.now.index.now shared.now.ignore_case_index_lookup.now }
     requires excludes { tells_excludes (made_with excludes.old) ≡ true }
-    ensures gives { (made : Option Made) (s : Sources)
-        → Stands (setting_of M.Matcher shared.now) (W.told worktree.old) (F.holds objects.old)
-        excludes.old blocked.now made s
-        → NotIncreased (W.faults worktree.old) (W.faults worktree.new)
-        → D.is_default delegate.old ≡ true
-        → (limit : ℕ) → levels + depth_of place.old.path ≡ limit
-        → IfOk result (Gives (chosen shared.now.options) limit
-        (evidence (setting_of M.Matcher shared.now) made s)
-        (directory_told (setting_of M.Matcher shared.now) made s place.old.path class.now)
-        (D.given delegate.old) (D.given delegate.new) outcome.old outcome.new) }
-    ensures part { (made : Option Made) (s : Sources)
-        → Stands (setting_of M.Matcher shared.now) (W.told worktree.old) (F.holds objects.old)
-        excludes.old blocked.now made s
-        → NotIncreased (W.faults worktree.old) (W.faults worktree.new)
-        → D.is_default delegate.old ≡ true
-        → OnErr result (IsPart (chosen shared.now.options)
-        (directory_told (setting_of M.Matcher shared.now) made s place.old.path class.now)
-        (D.given delegate.old) (D.given delegate.new) outcome.old outcome.new) }
-    ensures about { (limit : ℕ) → levels + depth_of place.old.path ≡ limit
-        → IfErr result (OnRefused (IsAbout (made_with excludes.old) shared.now.worktree_root.now
-        limit)) }
-    ensures found { (s : Sources) → W.told worktree.old ≡ Some s.tree
-        → IfErr result (OnRefused (IsInTree shared.now.worktree_root.now
-        (F.holds objects.old) s (made_with excludes.old))) }
-    ensures refused { (made : Option Made) (s : Sources)
-        → Stands (setting_of M.Matcher shared.now) (W.told worktree.old) (F.holds objects.old)
-        excludes.old blocked.now made s
-        → D.is_default delegate.old ≡ true
-        → (limit : ℕ) → levels + depth_of place.old.path ≡ limit
-        → IfErr result (OnRefused (DirectoryRefuses (setting_of M.Matcher shared.now) made s
-        limit (Increased (W.faults worktree.old) (W.faults worktree.new)) place.old.path
-        class.now)) }
-    ensures worktree { KeepsTree W.Worktree worktree.old worktree.new }
-    ensures store { AsksStore F.Find objects.old objects.new }
+    // Over any worktree, each refusal has its cause; what stays, and what the delegate is given.
+    ensures walks { WalksAny W.Worktree F.Find I.Interrupt D.Delegate
+        (record {
+          worktree = worktree.old;
+          objects = objects.old;
+          interrupt = interrupt.old;
+          delegate = delegate.old;
+          rules = excludes.old;
+          outcome = outcome.old;
+        })
+        (record {
+          worktree = worktree.new;
+          objects = objects.new;
+          interrupt = interrupt.new;
+          delegate = delegate.new;
+          rules = excludes.new;
+          outcome = outcome.new;
+        })
+        (setting_of M.Matcher shared.now) levels (at_directory place.old.path class.now) result }
+    // Over what is told, the directory gives all that is there, or a part of it, and is refused for what is there.
+    ensures told { WalksTold W.Worktree F.Find D.Delegate
+        (record {
+          worktree = worktree.old;
+          objects = objects.old;
+          interrupt = interrupt.old;
+          delegate = delegate.old;
+          rules = excludes.old;
+          outcome = outcome.old;
+        })
+        (record {
+          worktree = worktree.new;
+          objects = objects.new;
+          interrupt = interrupt.new;
+          delegate = delegate.new;
+          rules = excludes.new;
+          outcome = outcome.new;
+        })
+        (setting_of M.Matcher shared.now) blocked.now levels (at_directory place.old.path class.now) result }
+    // How the directories that are opened are counted, and how many they are at most.
+    ensures opens { over_forks W.Worktree I.Interrupt 1
+        (record {
+          worktree = worktree.old;
+          objects = objects.old;
+          interrupt = interrupt.old;
+          delegate = delegate.old;
+          rules = excludes.old;
+          outcome = outcome.old;
+        })
+        (record {
+          worktree = worktree.new;
+          objects = objects.new;
+          interrupt = interrupt.new;
+          delegate = delegate.new;
+          rules = excludes.new;
+          outcome = outcome.new;
+        })
+        result (EntersStep W.Worktree F.Find D.Delegate
+        (record {
+          worktree = worktree.old;
+          objects = objects.old;
+          interrupt = interrupt.old;
+          delegate = delegate.old;
+          rules = excludes.old;
+          outcome = outcome.old;
+        })
+        (record {
+          worktree = worktree.new;
+          objects = objects.new;
+          interrupt = interrupt.new;
+          delegate = delegate.new;
+          rules = excludes.new;
+          outcome = outcome.new;
+        })
+        (setting_of M.Matcher shared.now) blocked.now levels (at_directory place.old.path class.now) result) }
+    // The rules that were handed in stay in step.
     ensures rules { KeepsRules W.Worktree F.Find worktree.old worktree.new objects.old excludes.old
         excludes.new }
-    ensures interrupt { AsksInterrupt I.Interrupt interrupt.old interrupt.new }
-    ensures opens { OpensApart W.Worktree I.Interrupt worktree.old worktree.new interrupt.old
-        interrupt.new outcome.old outcome.new 1 (deep_walk result) (EntersAtMost W.Worktree
-        F.Find D.Delegate worktree.old worktree.new objects.old excludes.old delegate.old
-        (setting_of M.Matcher shared.now) blocked.now
-        (levels + depth_of place.old.path) (λ made s. directory_told
-        (setting_of M.Matcher shared.now) made s place.old.path class.now)
-        (unlisted_walk result)) }
-    ensures hands { Hands place.old.path (once_within place.old.path) (D.given delegate.old)
-        (D.given delegate.new) outcome.old outcome.new result }
-    ensures delegate { KeepsDelegate D.Delegate delegate.old delegate.new }
-    ensures filtered { AddsShown (chosen shared.now.options) (D.given delegate.old)
-        (D.given delegate.new) }
-    ensures heeds { Heeds D.Delegate delegate.old delegate.new result }
-    ensures caused { Caused W.Worktree F.Find I.Interrupt worktree.old worktree.new objects.old
-        objects.new interrupt.old interrupt.new result }
 {
     let path = place.path();
     let names = open(alloc, place, worktree, interrupt, outcome)?;

@@ -16,12 +16,14 @@ ghost use Rattle.dir_classify.specs.Layers.{setting_of, evidence, IsLookupIf, Is
 ghost use Rattle.dir_walk.specs.Emits.{Gives, IsPart};
 ghost use Rattle.dir_walk.specs.Given.{OnRefused};
 ghost use Rattle.dir_walk.specs.Kept.{KeepsTree, AsksInterrupt, KeepsDelegate, Heeds, Caused};
+ghost use Rattle.dir_walk.specs.Moments.{AreSame, moment};
 ghost use Rattle.dir_walk.specs.Opens.{EntersAtMost, OpensWithin, refused_walk};
 ghost use Rattle.dir_walk.specs.Puts.{AddsShown, Hands, once_within};
 ghost use Rattle.dir_walk.specs.Refused.{IsAbout, IsInTree, Refuses, DirectoryRefuses};
 ghost use Rattle.dir_walk.specs.Report.{depth_of};
 ghost use Rattle.dir_walk.specs.Told.{Stands, item_told, directory_told};
 ghost use Rattle.dir_walk.specs.Unopened.{deep_walk, unlisted_walk};
+ghost use Rattle.dir_walk.specs.WalkSteps.{EntersStep, WalksAny, WalksTold, at_directory, at_name, over_worktree};
 
 use crate::close::{close, close_empty, leaf_class};
 use crate::delegate::Delegate;
@@ -29,6 +31,7 @@ use crate::emit::put_leaf;
 use crate::handed::{Handed, Held, Stop};
 use crate::open::{is_entered, open, too_deep};
 use crate::outcome::Outcome;
+use crate::parts::Parts;
 use crate::place::Place;
 use dir_classify::{Error, Shared, classify};
 use gitbase_core::{Beneath, Find, PathText};
@@ -76,106 +79,68 @@ fn walk_name<W: Worktree, F: Find, I: Interrupt, M: Matcher, D: Delegate>(
     beneath: &Beneath<'_>,
     name: &[u8],
     levels: usize,
-    excludes: &mut Option<Stack>,
-    worktree: &mut W,
-    objects: &mut F,
-    interrupt: &mut I,
-    delegate: &mut D,
-    outcome: &mut Outcome,
+    parts: &mut Parts<'_, '_, '_, '_, '_, '_, W, F, I, D>,
 ) -> Result<Handed, Stop>
     requires name { IsName name.now }
     requires beneath { IsBeneath shared.now.index.now place.old.path beneath.now }
     requires root { place.old.root ≡ shared.now.worktree_root.now }
     requires lookup { IsLookupIf shared.now.index.now shared.now.ignore_case_index_lookup.now }
-    requires excludes { tells_excludes (made_with excludes.old) ≡ true }
-    ensures gives { (made : Option Made) (s : Sources)
-        → Stands (setting_of M.Matcher shared.now) (W.told worktree.old) (F.holds objects.old)
-        excludes.old blocked.now made s
-        → NotIncreased (W.faults worktree.old) (W.faults worktree.new)
-        → D.is_default delegate.old ≡ true
-        → (limit : ℕ) → levels + depth_of place.old.path ≡ limit
-        → IfOk result (Gives (chosen shared.now.options) limit
-        (evidence (setting_of M.Matcher shared.now) made s)
-        (item_told (setting_of M.Matcher shared.now) made s (joined place.old.path name.now))
-        (D.given delegate.old) (D.given delegate.new) outcome.old outcome.new) }
-    ensures part { (made : Option Made) (s : Sources)
-        → Stands (setting_of M.Matcher shared.now) (W.told worktree.old) (F.holds objects.old)
-        excludes.old blocked.now made s
-        → NotIncreased (W.faults worktree.old) (W.faults worktree.new)
-        → D.is_default delegate.old ≡ true
-        → OnErr result (IsPart (chosen shared.now.options)
-        (item_told (setting_of M.Matcher shared.now) made s
-        (joined place.old.path name.now)) (D.given delegate.old) (D.given delegate.new)
-        outcome.old outcome.new) }
-    ensures about { (limit : ℕ) → levels + depth_of place.old.path ≡ limit
-        → IfErr result (OnRefused (IsAbout (made_with excludes.old) shared.now.worktree_root.now
-        limit)) }
-    ensures found { (s : Sources) → W.told worktree.old ≡ Some s.tree
-        → IfErr result (OnRefused (IsInTree shared.now.worktree_root.now
-        (F.holds objects.old) s (made_with excludes.old))) }
-    ensures refused { (made : Option Made) (s : Sources)
-        → Stands (setting_of M.Matcher shared.now) (W.told worktree.old) (F.holds objects.old)
-        excludes.old blocked.now made s
-        → D.is_default delegate.old ≡ true
-        → (limit : ℕ) → levels + depth_of place.old.path ≡ limit
-        → IfErr result (OnRefused (Refuses (setting_of M.Matcher shared.now) made s limit
-        (Increased (W.faults worktree.old) (W.faults worktree.new))
-        (item_told (setting_of M.Matcher shared.now) made s
-        (joined place.old.path name.now)))) }
-    ensures worktree { KeepsTree W.Worktree worktree.old worktree.new }
-    ensures store { AsksStore F.Find objects.old objects.new }
-    ensures unmapped { maps_blobs (made_with excludes.old) ≡ false → objects.new ≡ objects.old }
-    ensures rules { KeepsRules W.Worktree F.Find worktree.old worktree.new objects.old excludes.old
-        excludes.new }
-    ensures interrupt { AsksInterrupt I.Interrupt interrupt.old interrupt.new }
-    ensures opens { OpensWithin W.Worktree I.Interrupt worktree.old worktree.new interrupt.old
-        interrupt.new outcome.old outcome.new (chosen shared.now.options) excludes.old
-        excludes.new (components place.old.path) 0 (refused_walk result) (deep_walk result)
-        (EntersAtMost W.Worktree F.Find D.Delegate worktree.old worktree.new objects.old
-        excludes.old delegate.old (setting_of M.Matcher shared.now) blocked.now
-        (levels + depth_of place.old.path) (λ made s. item_told
-        (setting_of M.Matcher shared.now) made s (joined place.old.path name.now))
-        (unlisted_walk result)) }
-    ensures hands { Hands (joined place.old.path name.now)
-        (once_within (joined place.old.path name.now)) (D.given delegate.old)
-        (D.given delegate.new) outcome.old outcome.new result }
-    ensures delegate { KeepsDelegate D.Delegate delegate.old delegate.new }
-    ensures filtered { AddsShown (chosen shared.now.options) (D.given delegate.old)
-        (D.given delegate.new) }
-    ensures heeds { Heeds D.Delegate delegate.old delegate.new result }
-    ensures caused { Caused W.Worktree F.Find I.Interrupt worktree.old worktree.new objects.old
-        objects.new interrupt.old interrupt.new result }
+    requires excludes { tells_excludes (made_with parts.old.excludes.now) ≡ true }
+    // The parts are behind the same references.
+    ensures same { AreSame parts.old parts.new }
+    // Over any worktree, each refusal has its cause; what stays, and what the delegate is given.
+    ensures walks { WalksAny W.Worktree F.Find I.Interrupt D.Delegate
+        (moment parts.old) (moment parts.new)
+        (setting_of M.Matcher shared.now) levels (at_name place.old.path name.now) result }
+    // Over what is told, the name gives all that is there, or a part of it, and is refused for what is there.
+    ensures told { WalksTold W.Worktree F.Find D.Delegate
+        (moment parts.old) (moment parts.new)
+        (setting_of M.Matcher shared.now) blocked.now levels (at_name place.old.path name.now) result }
+    // How the directories that are opened are counted, and how many they are at most.
+    ensures opens { over_worktree W.Worktree I.Interrupt (chosen shared.now.options) (components place.old.path) 0
+        (moment parts.old) (moment parts.new)
+        result (EntersStep W.Worktree F.Find D.Delegate
+        (moment parts.old) (moment parts.new)
+        (setting_of M.Matcher shared.now) blocked.now levels (at_name place.old.path name.now) result) }
+    // A store that no rules file is mapped to is not asked.
+    ensures unmapped { maps_blobs (made_with parts.old.excludes.now) ≡ false → parts.new.objects.now ≡ parts.old.objects.now }
+    // The rules that were handed in stay in step.
+    ensures rules { KeepsRules W.Worktree F.Find parts.old.worktree.now parts.new.worktree.now parts.old.objects.now parts.old.excludes.now
+        parts.new.excludes.now }
+    // The place is the same when all is done.
     ensures stays { OnOk result (place.new ≡ place.old) }
 {
     let cut = place.push(alloc, name)?;
     let path = place.path();
     let full = place.whole();
     let class = class_of(
-        alloc, full, path, name, beneath, shared, excludes, worktree, objects,
+        alloc,
+        full,
+        path,
+        name,
+        beneath,
+        shared,
+        parts.excludes,
+        parts.worktree,
+        parts.objects,
     )?;
-    if is_entered(&shared.options, path, &class, false, delegate) {
+    if is_entered(&shared.options, path, &class, false, parts.delegate) {
         if levels == 0 {
-            return Err(Stop::Refused(too_deep(alloc, place, interrupt)));
+            return Err(Stop::Refused(too_deep(alloc, place, parts.interrupt)));
         }
-        let handed = walk_directory(
-            alloc,
-            shared,
-            blocked,
-            place,
-            &class,
-            levels - 1,
-            excludes,
-            worktree,
-            objects,
-            interrupt,
-            delegate,
-            outcome,
-        );
+        let handed = walk_directory(alloc, shared, blocked, place, &class, levels - 1, parts);
         place.leave(cut, &handed);
         return handed;
     }
-    let class = leaf_class(alloc, shared, place, &class, worktree)?;
-    let handed = put_leaf(alloc, &shared.options, path, &class, delegate, outcome);
+    let class = leaf_class(alloc, shared, place, &class, parts.worktree)?;
+    let handed = put_leaf(
+        alloc,
+        &shared.options,
+        path,
+        &class,
+        parts.delegate,
+        parts.outcome,
+    );
     place.leave(cut, &handed);
     handed
 }
@@ -198,7 +163,84 @@ fn walk_name<W: Worktree, F: Find, I: Interrupt, M: Matcher, D: Delegate>(
 /// - with `TooDeep`: a directory that is to be entered lies deeper than the levels allow.
 /// - with `OutOfMemory`: memory was refused.
 #[cycle(walk)]
-pub(crate) fn walk_directory<W: Worktree, F: Find, I: Interrupt, M: Matcher, D: Delegate>(
+fn walk_directory<W: Worktree, F: Find, I: Interrupt, M: Matcher, D: Delegate>(
+    alloc: Global,
+    shared: &Shared<'_, M>,
+    blocked: &Option<PathText>,
+    place: &mut Place,
+    class: &classify::Outcome,
+    levels: usize,
+    parts: &mut Parts<'_, '_, '_, '_, '_, '_, W, F, I, D>,
+) -> Result<Handed, Stop>
+    requires root { place.old.root ≡ shared.now.worktree_root.now }
+    requires lookup { IsLookupIf shared.now.index.now shared.now.ignore_case_index_lookup.now }
+    requires excludes { tells_excludes (made_with parts.old.excludes.now) ≡ true }
+    // The parts are behind the same references.
+    ensures same { AreSame parts.old parts.new }
+    // Over any worktree, each refusal has its cause; what stays, and what the delegate is given.
+    ensures walks { WalksAny W.Worktree F.Find I.Interrupt D.Delegate
+        (moment parts.old) (moment parts.new)
+        (setting_of M.Matcher shared.now) levels (at_directory place.old.path class.now) result }
+    // Over what is told, the directory gives all that is there, or a part of it, and is refused for what is there.
+    ensures told { WalksTold W.Worktree F.Find D.Delegate
+        (moment parts.old) (moment parts.new)
+        (setting_of M.Matcher shared.now) blocked.now levels (at_directory place.old.path class.now) result }
+    // How the directories that are opened are counted, and how many they are at most.
+    ensures opens { over_worktree W.Worktree I.Interrupt (chosen shared.now.options) (components place.old.path) 1
+        (moment parts.old) (moment parts.new)
+        result (EntersStep W.Worktree F.Find D.Delegate
+        (moment parts.old) (moment parts.new)
+        (setting_of M.Matcher shared.now) blocked.now levels (at_directory place.old.path class.now) result) }
+    // A store that no rules file is mapped to is not asked.
+    ensures unmapped { maps_blobs (made_with parts.old.excludes.now) ≡ false → parts.new.objects.now ≡ parts.old.objects.now }
+    // The rules that were handed in stay in step.
+    ensures rules { KeepsRules W.Worktree F.Find parts.old.worktree.now parts.new.worktree.now parts.old.objects.now parts.old.excludes.now
+        parts.new.excludes.now }
+    // The place is the same when all is done.
+    ensures stays { OnOk result (place.new ≡ place.old) }
+{
+    let path = place.path();
+    let names = open(alloc, place, parts.worktree, parts.interrupt, parts.outcome)?;
+    if names.as_slice().is_empty() {
+        return close_empty(
+            alloc,
+            shared,
+            blocked,
+            path,
+            class,
+            parts.delegate,
+            parts.outcome,
+        );
+    }
+    let mut held = Held::new(alloc);
+    let beneath = shared.index.beneath(path);
+    for name in names.as_slice() {
+        let handed = walk_name(
+            alloc,
+            shared,
+            blocked,
+            place,
+            &beneath,
+            name.as_bytes(),
+            levels,
+            parts,
+        )?;
+        held.take(alloc, handed)?;
+    }
+    close(
+        alloc,
+        shared,
+        blocked,
+        place.path(),
+        class,
+        held,
+        parts.delegate,
+        parts.outcome,
+    )
+}
+
+/// Walks a directory as [`walk_directory`] does, where the parts stand apart.
+pub(crate) fn walk_tree<W: Worktree, F: Find, I: Interrupt, M: Matcher, D: Delegate>(
     alloc: Global,
     shared: &Shared<'_, M>,
     blocked: &Option<PathText>,
@@ -215,95 +257,95 @@ pub(crate) fn walk_directory<W: Worktree, F: Find, I: Interrupt, M: Matcher, D: 
     requires root { place.old.root ≡ shared.now.worktree_root.now }
     requires lookup { IsLookupIf shared.now.index.now shared.now.ignore_case_index_lookup.now }
     requires excludes { tells_excludes (made_with excludes.old) ≡ true }
-    ensures gives { (made : Option Made) (s : Sources)
-        → Stands (setting_of M.Matcher shared.now) (W.told worktree.old) (F.holds objects.old)
-        excludes.old blocked.now made s
-        → NotIncreased (W.faults worktree.old) (W.faults worktree.new)
-        → D.is_default delegate.old ≡ true
-        → (limit : ℕ) → levels + depth_of place.old.path ≡ limit
-        → IfOk result (Gives (chosen shared.now.options) limit
-        (evidence (setting_of M.Matcher shared.now) made s)
-        (directory_told (setting_of M.Matcher shared.now) made s place.old.path class.now)
-        (D.given delegate.old) (D.given delegate.new) outcome.old outcome.new) }
-    ensures part { (made : Option Made) (s : Sources)
-        → Stands (setting_of M.Matcher shared.now) (W.told worktree.old) (F.holds objects.old)
-        excludes.old blocked.now made s
-        → NotIncreased (W.faults worktree.old) (W.faults worktree.new)
-        → D.is_default delegate.old ≡ true
-        → OnErr result (IsPart (chosen shared.now.options)
-        (directory_told (setting_of M.Matcher shared.now) made s place.old.path class.now)
-        (D.given delegate.old) (D.given delegate.new) outcome.old outcome.new) }
-    ensures about { (limit : ℕ) → levels + depth_of place.old.path ≡ limit
-        → IfErr result (OnRefused (IsAbout (made_with excludes.old) shared.now.worktree_root.now
-        limit)) }
-    ensures found { (s : Sources) → W.told worktree.old ≡ Some s.tree
-        → IfErr result (OnRefused (IsInTree shared.now.worktree_root.now
-        (F.holds objects.old) s (made_with excludes.old))) }
-    ensures refused { (made : Option Made) (s : Sources)
-        → Stands (setting_of M.Matcher shared.now) (W.told worktree.old) (F.holds objects.old)
-        excludes.old blocked.now made s
-        → D.is_default delegate.old ≡ true
-        → (limit : ℕ) → levels + depth_of place.old.path ≡ limit
-        → IfErr result (OnRefused (DirectoryRefuses (setting_of M.Matcher shared.now) made s
-        limit (Increased (W.faults worktree.old) (W.faults worktree.new)) place.old.path
-        class.now)) }
-    ensures worktree { KeepsTree W.Worktree worktree.old worktree.new }
-    ensures store { AsksStore F.Find objects.old objects.new }
+    // Over any worktree, each refusal has its cause; what stays, and what the delegate is given.
+    ensures walks { WalksAny W.Worktree F.Find I.Interrupt D.Delegate
+        (record {
+          worktree = worktree.old;
+          objects = objects.old;
+          interrupt = interrupt.old;
+          delegate = delegate.old;
+          rules = excludes.old;
+          outcome = outcome.old;
+        })
+        (record {
+          worktree = worktree.new;
+          objects = objects.new;
+          interrupt = interrupt.new;
+          delegate = delegate.new;
+          rules = excludes.new;
+          outcome = outcome.new;
+        })
+        (setting_of M.Matcher shared.now) levels (at_directory place.old.path class.now) result }
+    // Over what is told, the directory gives all that is there, or a part of it, and is refused for what is there.
+    ensures told { WalksTold W.Worktree F.Find D.Delegate
+        (record {
+          worktree = worktree.old;
+          objects = objects.old;
+          interrupt = interrupt.old;
+          delegate = delegate.old;
+          rules = excludes.old;
+          outcome = outcome.old;
+        })
+        (record {
+          worktree = worktree.new;
+          objects = objects.new;
+          interrupt = interrupt.new;
+          delegate = delegate.new;
+          rules = excludes.new;
+          outcome = outcome.new;
+        })
+        (setting_of M.Matcher shared.now) blocked.now levels (at_directory place.old.path class.now) result }
+    // How the directories that are opened are counted, and how many they are at most.
+    ensures opens { over_worktree W.Worktree I.Interrupt (chosen shared.now.options) (components place.old.path) 1
+        (record {
+          worktree = worktree.old;
+          objects = objects.old;
+          interrupt = interrupt.old;
+          delegate = delegate.old;
+          rules = excludes.old;
+          outcome = outcome.old;
+        })
+        (record {
+          worktree = worktree.new;
+          objects = objects.new;
+          interrupt = interrupt.new;
+          delegate = delegate.new;
+          rules = excludes.new;
+          outcome = outcome.new;
+        })
+        result (EntersStep W.Worktree F.Find D.Delegate
+        (record {
+          worktree = worktree.old;
+          objects = objects.old;
+          interrupt = interrupt.old;
+          delegate = delegate.old;
+          rules = excludes.old;
+          outcome = outcome.old;
+        })
+        (record {
+          worktree = worktree.new;
+          objects = objects.new;
+          interrupt = interrupt.new;
+          delegate = delegate.new;
+          rules = excludes.new;
+          outcome = outcome.new;
+        })
+        (setting_of M.Matcher shared.now) blocked.now levels (at_directory place.old.path class.now) result) }
+    // A store that no rules file is mapped to is not asked.
     ensures unmapped { maps_blobs (made_with excludes.old) ≡ false → objects.new ≡ objects.old }
+    // The rules that were handed in stay in step.
     ensures rules { KeepsRules W.Worktree F.Find worktree.old worktree.new objects.old excludes.old
         excludes.new }
-    ensures interrupt { AsksInterrupt I.Interrupt interrupt.old interrupt.new }
-    ensures opens { OpensWithin W.Worktree I.Interrupt worktree.old worktree.new interrupt.old
-        interrupt.new outcome.old outcome.new (chosen shared.now.options) excludes.old
-        excludes.new (components place.old.path) 1 (refused_walk result) (deep_walk result)
-        (EntersAtMost W.Worktree F.Find D.Delegate worktree.old worktree.new objects.old
-        excludes.old delegate.old (setting_of M.Matcher shared.now) blocked.now
-        (levels + depth_of place.old.path) (λ made s. directory_told
-        (setting_of M.Matcher shared.now) made s place.old.path class.now)
-        (unlisted_walk result)) }
-    ensures hands { Hands place.old.path (once_within place.old.path) (D.given delegate.old)
-        (D.given delegate.new) outcome.old outcome.new result }
-    ensures delegate { KeepsDelegate D.Delegate delegate.old delegate.new }
-    ensures filtered { AddsShown (chosen shared.now.options) (D.given delegate.old)
-        (D.given delegate.new) }
-    ensures heeds { Heeds D.Delegate delegate.old delegate.new result }
-    ensures caused { Caused W.Worktree F.Find I.Interrupt worktree.old worktree.new objects.old
-        objects.new interrupt.old interrupt.new result }
+    // The place is the same when all is done.
     ensures stays { OnOk result (place.new ≡ place.old) }
 {
-    let path = place.path();
-    let names = open(alloc, place, worktree, interrupt, outcome)?;
-    if names.as_slice().is_empty() {
-        return close_empty(alloc, shared, blocked, path, class, delegate, outcome);
-    }
-    let mut held = Held::new(alloc);
-    let beneath = shared.index.beneath(path);
-    for name in names.as_slice() {
-        let handed = walk_name(
-            alloc,
-            shared,
-            blocked,
-            place,
-            &beneath,
-            name.as_bytes(),
-            levels,
-            excludes,
-            worktree,
-            objects,
-            interrupt,
-            delegate,
-            outcome,
-        )?;
-        held.take(alloc, handed)?;
-    }
-    close(
-        alloc,
-        shared,
-        blocked,
-        place.path(),
-        class,
-        held,
+    let mut parts = Parts {
+        excludes,
+        worktree,
+        objects,
+        interrupt,
         delegate,
         outcome,
-    )
+    };
+    walk_directory(alloc, shared, blocked, place, class, levels, &mut parts)
 }

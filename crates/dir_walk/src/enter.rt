@@ -24,7 +24,7 @@ ghost use Rattle.dir_walk.specs.Walks.{Ends, EntersWalked, Tells};
 
 use crate::children::walk_children;
 use crate::delegate::Delegate;
-use crate::directory::walk_directory;
+use crate::directory::walk_tree;
 use crate::emit::emit;
 use crate::handed::{Handed, Stop};
 use crate::open::{deletion_mode, too_deep};
@@ -191,7 +191,7 @@ fn walk_deep<W: Worktree, F: Find, I: Interrupt, M: Matcher, D: Delegate>(
     }
     let levels = depth_limit - depth;
     match strategy {
-        Strategy::Held => walk_directory(
+        Strategy::Held => walk_tree(
             alloc, shared, blocked, place, class, levels, excludes, worktree, objects, interrupt,
             delegate, outcome,
         ),

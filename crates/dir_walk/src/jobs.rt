@@ -6,7 +6,7 @@ ghost use Rattle.dir_classify.specs.Layers.{setting_of, IsLookupIf};
 ghost use Rattle.dir_walk.specs.Jobs.{WalksJob};
 
 use crate::delegate::Delegate;
-use crate::directory::walk_directory;
+use crate::directory::walk_tree;
 use crate::handed::{Handed, Stop};
 use crate::outcome::Outcome;
 use crate::place::Place;
@@ -37,10 +37,24 @@ pub(crate) fn walk_job<W: Worktree, F: Find, I: Interrupt, M: Matcher, D: Delega
     requires root { place.old.root ≡ shared.now.worktree_root.now }
     requires lookup { IsLookupIf shared.now.index.now shared.now.ignore_case_index_lookup.now }
     requires excludes { tells_excludes (made_with excludes.now) ≡ true }
-    ensures job { WalksJob W.Worktree F.Find I.Interrupt D.Delegate worktree.old worktree.new
-        objects.old objects.new interrupt.old interrupt.new excludes.now delegate.old delegate.new
-        outcome.old outcome.new (setting_of M.Matcher shared.now) blocked.now levels
-        place.old.path class.now result }
+    ensures job { WalksJob W.Worktree F.Find I.Interrupt D.Delegate
+        (record {
+          worktree = worktree.old;
+          objects = objects.old;
+          interrupt = interrupt.old;
+          delegate = delegate.old;
+          rules = excludes.now;
+          outcome = outcome.old;
+        })
+        (record {
+          worktree = worktree.new;
+          objects = objects.new;
+          interrupt = interrupt.new;
+          delegate = delegate.new;
+          rules = excludes.now;
+          outcome = outcome.new;
+        })
+        (setting_of M.Matcher shared.now) blocked.now levels place.old.path class.now result }
     ensures stays { OnOk result (place.new ≡ place.old) }
     ensures lists { W.lists worktree.new ≡ W.lists worktree.old }
 {
@@ -80,10 +94,24 @@ fn on_worktree<W: Worktree, F: Find, I: Interrupt, M: Matcher, D: Delegate>(
     requires root { place.old.root ≡ shared.now.worktree_root.now }
     requires lookup { IsLookupIf shared.now.index.now shared.now.ignore_case_index_lookup.now }
     requires excludes { tells_excludes (made_with rules.old) ≡ true }
-    ensures job { WalksJob W.Worktree F.Find I.Interrupt D.Delegate worktree.old worktree.new
-        objects.old objects.new interrupt.old interrupt.new rules.old delegate.old delegate.new
-        outcome.old outcome.new (setting_of M.Matcher shared.now) blocked.now levels
-        place.old.path class.now result }
+    ensures job { WalksJob W.Worktree F.Find I.Interrupt D.Delegate
+        (record {
+          worktree = worktree.old;
+          objects = objects.old;
+          interrupt = interrupt.old;
+          delegate = delegate.old;
+          rules = rules.old;
+          outcome = outcome.old;
+        })
+        (record {
+          worktree = worktree.new;
+          objects = objects.new;
+          interrupt = interrupt.new;
+          delegate = delegate.new;
+          rules = rules.new;
+          outcome = outcome.new;
+        })
+        (setting_of M.Matcher shared.now) blocked.now levels place.old.path class.now result }
     ensures stays { OnOk result (place.new ≡ place.old) }
     ensures lists { W.lists worktree.new ≡ W.lists worktree.old }
 {
@@ -114,10 +142,24 @@ fn on_store<W: Worktree, F: Find, I: Interrupt, M: Matcher, D: Delegate>(
     requires root { place.old.root ≡ shared.now.worktree_root.now }
     requires lookup { IsLookupIf shared.now.index.now shared.now.ignore_case_index_lookup.now }
     requires excludes { tells_excludes (made_with rules.old) ≡ true }
-    ensures job { WalksJob W.Worktree F.Find I.Interrupt D.Delegate worktree.old worktree.new
-        objects.old objects.new interrupt.old interrupt.new rules.old delegate.old delegate.new
-        outcome.old outcome.new (setting_of M.Matcher shared.now) blocked.now levels
-        place.old.path class.now result }
+    ensures job { WalksJob W.Worktree F.Find I.Interrupt D.Delegate
+        (record {
+          worktree = worktree.old;
+          objects = objects.old;
+          interrupt = interrupt.old;
+          delegate = delegate.old;
+          rules = rules.old;
+          outcome = outcome.old;
+        })
+        (record {
+          worktree = worktree.new;
+          objects = objects.new;
+          interrupt = interrupt.new;
+          delegate = delegate.new;
+          rules = rules.new;
+          outcome = outcome.new;
+        })
+        (setting_of M.Matcher shared.now) blocked.now levels place.old.path class.now result }
     ensures stays { OnOk result (place.new ≡ place.old) }
 {
     let mut fork = objects.fork(alloc)?;
@@ -147,14 +189,28 @@ fn on_interrupt<W: Worktree, F: Find, I: Interrupt, M: Matcher, D: Delegate>(
     requires root { place.old.root ≡ shared.now.worktree_root.now }
     requires lookup { IsLookupIf shared.now.index.now shared.now.ignore_case_index_lookup.now }
     requires excludes { tells_excludes (made_with rules.old) ≡ true }
-    ensures job { WalksJob W.Worktree F.Find I.Interrupt D.Delegate worktree.old worktree.new
-        objects.old objects.new interrupt.old interrupt.new rules.old delegate.old delegate.new
-        outcome.old outcome.new (setting_of M.Matcher shared.now) blocked.now levels
-        place.old.path class.now result }
+    ensures job { WalksJob W.Worktree F.Find I.Interrupt D.Delegate
+        (record {
+          worktree = worktree.old;
+          objects = objects.old;
+          interrupt = interrupt.old;
+          delegate = delegate.old;
+          rules = rules.old;
+          outcome = outcome.old;
+        })
+        (record {
+          worktree = worktree.new;
+          objects = objects.new;
+          interrupt = interrupt.new;
+          delegate = delegate.new;
+          rules = rules.new;
+          outcome = outcome.new;
+        })
+        (setting_of M.Matcher shared.now) blocked.now levels place.old.path class.now result }
     ensures stays { OnOk result (place.new ≡ place.old) }
 {
     let mut fork = interrupt.fork(alloc)?;
-    let result = walk_directory(
+    let result = walk_tree(
         alloc, shared, blocked, place, class, levels, rules, worktree, objects, &mut fork,
         delegate, outcome,
     );

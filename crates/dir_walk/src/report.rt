@@ -12,9 +12,9 @@ ghost use Rattle.dir_walk.specs.WalkRefused.{by_default};
 ghost use Rattle.dir_walk.specs.Walks.{Tells, WalksWorktree};
 
 use crate::collect::{Collect, EmittedEntries};
+use crate::function::walk_as;
 use crate::outcome::Outcome;
 use crate::strategy::Strategy;
-use crate::walk::walk_as;
 use dir_classify::{Context, Error, Options};
 use gitbase_core::{Find, PathText};
 use glob_rules::pathspec::Matcher;
@@ -32,14 +32,14 @@ pub struct Report {
     pub entries: EmittedEntries,
 }
 
-/// Walks a worktree as [`walk`](crate::walk::walk) does with a delegate that recurses by default and keeps what it is given,
+/// Walks a worktree as [`walk`](crate::walk) does with a delegate that recurses by default and keeps what it is given,
 /// or its subtrees at once, as [`walk_at_once`](crate::walk_at_once) does, and gives the entries in the order of their paths.
 ///
 /// See docs/DECISIONS.md#walk-by-path.
 ///
 /// # Errors
 ///
-/// Those of [`walk`](crate::walk::walk), each for the same causes; `OutOfMemory` also where none is left to sort the entries.
+/// Those of [`walk`](crate::walk), each for the same causes; `OutOfMemory` also where none is left to sort the entries.
 pub fn walk_by_path<W: Worktree, F: Find, I: Interrupt, M: Matcher>(
     alloc: Global,
     worktree_root: &[u8],

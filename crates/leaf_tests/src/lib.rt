@@ -29,3 +29,7 @@ mod submodule_answers;
 mod submodules;
 #[cfg(test)]
 mod submodules_as_git;
+#[cfg(test)]
+mod texts;
+#[cfg(test)]
+mod values;

@@ -81,22 +81,22 @@ fn path_specs_as_git_has_them(rt: HostRuntime) {
 
 /// Rows, parted by LFs: what is asked, the specs, the path, its kind, and what is wanted, parted by backquotes.
 ///
-/// `text` is how a refusal reads; `match` the first letter of the match's kind, `!` where it excludes, and its number; `where`
+/// `read` is where a text is refused, or that it leads out of the worktree; `match` the first letter of the match's kind, `!` where it excludes, and its number; `where`
 /// whether the path can match, and whether it covers without and with what leads to it, and the directory in front of
 /// all matches, or a dot.
 const ROWS: &[u8] = b"\
-text`:(glob,icase)a/**```\n\
-text`:(literal,glob)x```The pathspec could not be parsed at byte 10\n\
-text`:(attr:x)y```The pathspec could not be parsed at byte 2\n\
-text`/a```The path of the pathspec is absolute or leaves the repository\n\
-text````The pathspec could not be parsed at byte 0\n\
-text`:(top,)x```The pathspec could not be parsed at byte 6\n\
-text`:(top,,glob)x```The pathspec could not be parsed at byte 6\n\
-text`:(bad```The pathspec could not be parsed at byte 5\n\
-text`:(glob,bad,literal)/a```The pathspec could not be parsed at byte 7\n\
-text`:!/../a```The path of the pathspec is absolute or leaves the repository\n\
-text`:::a```\n\
-text`:```\n\
+read`:(glob,icase)a/**```\n\
+read`:(literal,glob)x```10\n\
+read`:(attr:x)y```2\n\
+read`/a```leads out\n\
+read````0\n\
+read`:(top,)x```6\n\
+read`:(top,,glob)x```6\n\
+read`:(bad```5\n\
+read`:(glob,bad,literal)/a```7\n\
+read`:!/../a```leads out\n\
+read`:::a```\n\
+read`:```\n\
 match`a`a`?`V.1\n\
 match`b|a`a/x`?`P.2\n\
 match`*.c`d/x.c`?`W.1\n\
@@ -127,7 +127,9 @@ where`:!x|a/b`x`?`nnna/b\n";
 fn is_refused(alloc: Global, text: &[u8], want: &[u8]) -> bool {
     match Spec::parse(alloc, text, AS_WRITTEN) {
         Ok(_) => want.is_empty(),
-        Err(error) => is_shown(alloc, &error, want),
+        Err(Error::Parse { at }) => is_shown(alloc, &at, want),
+        Err(Error::Normalize) => want == b"leads out".as_slice(),
+        Err(Error::OutOfMemory) => false,
     }
 }
 
@@ -198,7 +200,7 @@ fn holds(alloc: Global, row: &[u8]) -> bool {
     let (specs, rest) = parted(rest);
     let (path, rest) = parted(rest);
     let (kind, want) = parted(rest);
-    if question == b"text".as_slice() {
+    if question == b"read".as_slice() {
         return is_refused(alloc, specs, want);
     }
     match specs_of(alloc, specs, AS_WRITTEN) {

@@ -3,7 +3,7 @@ use crate::rows::{joined, replaced};
 use crate::rule_answers as git;
 use bstr::ByteSlice;
 use gitbase_core::PathText;
-use glob_rules::ignore::{Kind, List, ParseIgnore, Search};
+use glob_rules::ignore::{Kind, List, Match, ParseIgnore, Search};
 use glob_rules::{Case, Pattern, WildMode, wildmatch};
 use std::alloc::Global;
 
@@ -134,6 +134,57 @@ fn rules_as_git_has_them_otherwise(rt: HostRuntime) {
     );
 }
 
+/// A list with a rule of each form.
+const LIST: &[u8] = b"*.o\n!k.o\n# c\n\\#x\n/a/b\ndoc/\nt\\ \n$p\n";
+
+/// Paths, `d` where it is a directory and `?` where no kind is told, and the line that decides, with `!` where it is negative and `$`
+/// where it is precious.
+const ASKED: &[u8] = b"\
+x.o;?;1|k.o;?;!2|#x;?;4|a/b;?;5|c/a/b;?;0|q/doc;d;6|q/doc;?;0|t ;?;7|p;?;$8";
+
+/// What a rule is, as a row says it.
+fn sign_of(found: &Match<'_>) -> &'static [u8] {
+    if found.pattern.is_negative() {
+        return b"!";
+    }
+    match found.kind {
+        Kind::Precious => b"$",
+        Kind::Expendable => b"",
+    }
+}
+
+/// Whether this is the rule of a row.
+fn is_rule(found: &Match<'_>, want: &[u8]) -> bool {
+    match want.strip_prefix(sign_of(found)) {
+        Some(line) => line.len() == 1 && is_digit(line, found.sequence_number),
+        None => false,
+    }
+}
+
+fn is_asked(search: &Search, row: &[u8]) -> bool {
+    let (path, rest) = parted(row);
+    let (kind, want) = parted(rest);
+    let is_dir = if kind == b"d".as_slice() {
+        Some(true)
+    } else {
+        None
+    };
+    match search.pattern_matching_relative_path(path, is_dir, Case::Sensitive) {
+        Some(found) => is_rule(&found, want),
+        None => want == b"0".as_slice(),
+    }
+}
+
+#[test]
+fn a_rule_of_each_form(rt: HostRuntime) {
+    let mut search = Search::new(rt.alloc());
+    let list = list_of(rt.alloc(), LIST, b"", WITH_PRECIOUS);
+    assert!(rt; is_pushed(rt.alloc(), &mut search, list));
+    for row in ASKED.split(|byte| *byte == b'|') {
+        assert!(rt; is_asked(&search, row), "{row:?}");
+    }
+}
+
 /// Whether the rule that holds for a path is precious, of this line, and in the list of this number.
 fn is_in_list(search: &Search, path: &[u8], number: usize, line: usize) -> bool {
     match search.place_matching_relative_path(path, None, Case::Sensitive) {
@@ -196,6 +247,12 @@ fn is_match(pattern: &[u8], text: &[u8]) -> bool {
         wildcards_take_slash: false,
     };
     wildmatch(pattern, text, mode)
+}
+
+#[test]
+fn globs(rt: HostRuntime) {
+    assert!(rt; is_match(b"**/b", b"b") && !is_match(b"*", b"a/b"));
+    assert!(rt; !is_match(b"a/**", b"a") && !is_match(b"[", b"x"));
 }
 
 /// A text so many times, and an end behind it.

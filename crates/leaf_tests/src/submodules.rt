@@ -1,4 +1,4 @@
-//! Submodules: what is said of them, and how refusals read.
+//! Submodules: what is said of them, and how the refusals of their values read.
 use crate::config::{from_source, local};
 use crate::rows::{is_shown, parted};
 use bstr::ByteSlice;
@@ -8,13 +8,12 @@ use gitbase_core::{OutOfMemory, PathText};
 use glob_rules::pathspec::Defaults;
 use std::alloc::Global;
 use submodule::{
-    Branch, FetchRecurse, FieldError, File, Ignore, NamesAndActive, RefspecError, Update,
-    UpdateParseError, UrlError, branch, init, is_active_platform, path, update, url,
+    Branch, FetchRecurse, File, Ignore, NamesAndActive, Update, init, is_active_platform,
 };
 
 /// Rows, parted by bars: what is asked, about what, what is wanted, the overrides and the text, parted by backquotes.
 ///
-/// Where a refusal is wanted, it is wanted as it reads.
+/// Where a refusal is wanted, it is wanted as it reads; of a text that is refused the line is wanted.
 const ROWS: &[u8] = b"\
 path`m`The submodule 'm' was missing its 'path' field or it was empty``[submodule \"m\"]\n|\
 path`m`The submodule 'm' was missing its 'path' field or it was empty``[submodule \"m\"]\npath =\n|\
@@ -58,7 +57,7 @@ ignore`m`unset``[submodule \"m\"]\npath = lib\n|\
 shallow`m`deep``[submodule \"m\"]\nshallow = deep\n|\
 shallow`m`true``[submodule \"m\"]\nshallow\n|\
 shallow`m`unset`[submodule \"m\"]\nshallow = yes\nurl = v\n`[submodule \"m\"]\npath = lib\n|\
-file``Got an unexpected token on line 3 of the '.gitmodules' file``[submodule \"m\"]\npath = lib\n[submodule \"n]\n[submodule \"o]\n";
+refused``3``[submodule \"m\"]\npath = lib\n[submodule \"n]\n[submodule \"o]\n";
 
 /// The submodules of a text, with the overrides of another.
 fn file_of(alloc: Global, text: &[u8], more: &[u8]) -> Result<File, init::Error> {
@@ -200,7 +199,10 @@ fn holds(alloc: Global, row: &[u8]) -> bool {
     let (more, text) = parted(rest);
     match file_of(alloc, text, more) {
         Ok(file) => answers(alloc, file, question, about, want),
-        Err(error) => question == b"file".as_slice() && is_shown(alloc, &error, want),
+        Err(init::Error::Parse { line }) => {
+            question == b"refused".as_slice() && is_shown(alloc, &line, want)
+        }
+        Err(init::Error::OutOfMemory) => false,
     }
 }
 
@@ -213,7 +215,7 @@ fn what_is_said_of_submodules(rt: HostRuntime) {
 
 /// Rows, parted by bars: the names that are active and not, whether letters fold, and the configuration.
 ///
-/// The submodules are `m` at the path `lib`, and `n`. A refusal is wanted as it reads.
+/// The submodules are `m` at the path `lib`, and `n`.
 const ACTIVE: &[u8] = b"\
 no no``|\
 yes no``[submodule \"m\"]\nurl = u\n|\
@@ -223,10 +225,10 @@ yes no``[submodule]\nactive = x*\nactive = m\n|\
 no no``[submodule]\nactive = M\n|\
 yes no`fold`[submodule]\nactive = M\n|\
 maybe yes``[submodule \"m\"]\nactive = maybe\n[submodule \"n\"]\nurl = u\n|\
-Value 1 of 'submodule.active' could not be parsed as a pathspec at byte 0``[submodule]\nactive\n|\
-Value 2 of 'submodule.active' could not be parsed as a pathspec at byte 2``\
+value 1, byte 0``[submodule]\nactive\n|\
+value 2, byte 2``\
 [submodule \"m\"]\nactive = maybe\n[submodule]\nactive = a\nactive = :(x)b\nactive = /c\n|\
-The pathspec in value 2 of 'submodule.active' is absolute or leaves the repository``\
+value 2 leads out``\
 [submodule]\nactive = m\nactive = ../x\n";
 
 /// What the state of the next name is called.
@@ -245,6 +247,23 @@ fn state_name<'a>(states: &mut NamesAndActive<'a>, name: &[u8]) -> &'a [u8] {
     }
 }
 
+/// Whether a value of `submodule.active` is refused so.
+fn is_refusal(alloc: Global, error: &is_active_platform::Error, want: &[u8]) -> bool {
+    let text = match error {
+        is_active_platform::Error::ParsePattern { value, at } => {
+            format!(in alloc; "value {value}, byte {at}")
+        }
+        is_active_platform::Error::NormalizePattern { value } => {
+            format!(in alloc; "value {value} leads out")
+        }
+        is_active_platform::Error::OutOfMemory => return false,
+    };
+    match text {
+        Ok(text) => text.as_bytes() == want,
+        Err(_) => false,
+    }
+}
+
 /// Whether the names `m` and `n` have these states.
 fn are_states(
     alloc: Global,
@@ -259,7 +278,7 @@ fn are_states(
             let second = state_name(&mut states, b"n");
             want.split_once_str(b" ") == Some((first, second)) && states.next().is_none()
         }
-        Err(error) => is_shown(alloc, &error, want),
+        Err(error) => is_refusal(alloc, &error, want),
     }
 }
 
@@ -385,48 +404,4 @@ fn grows(alloc: Global, path: &[u8]) -> bool {
 #[test]
 fn a_file_takes_more_overrides(rt: HostRuntime) {
     assert!(rt; grows(rt.alloc(), b"/w/.gitmodules"));
-}
-
-const MEMORY: &[u8] = b"Out of memory: the allocator refused to make room";
-
-/// Whether wants of memory read alike in the errors of this crate.
-fn wants_of_memory_read_alike(alloc: Global) -> bool {
-    is_shown(alloc, &path::Error::OutOfMemory, MEMORY)
-        && is_shown(alloc, &url::Error::OutOfMemory, MEMORY)
-        && is_shown(alloc, &UrlError::OutOfMemory, MEMORY)
-        && is_shown(alloc, &update::Error::OutOfMemory, MEMORY)
-        && is_shown(alloc, &UpdateParseError::OutOfMemory, MEMORY)
-        && is_shown(alloc, &branch::Error::OutOfMemory, MEMORY)
-        && is_shown(alloc, &RefspecError::OutOfMemory, MEMORY)
-        && is_shown(alloc, &FieldError::OutOfMemory, MEMORY)
-        && is_shown(alloc, &init::Error::OutOfMemory, MEMORY)
-        && is_shown(alloc, &is_active_platform::Error::OutOfMemory, MEMORY)
-        && is_shown(alloc, &glob_rules::pathspec::Error::OutOfMemory, MEMORY)
-}
-
-/// Whether the refusals of values read so.
-fn values_are_refused_so(alloc: Global) -> bool {
-    is_shown(
-        alloc,
-        &UrlError::EmptyHost,
-        b"The host of the URL is empty, and its scheme needs one",
-    ) && is_shown(
-        alloc,
-        &UrlError::Port,
-        b"The port of the URL is no number from 0 to 65535",
-    ) && is_shown(
-        alloc,
-        &RefspecError::Invalid,
-        b"The source of the refspec is not a valid reference name",
-    ) && is_shown(
-        alloc,
-        &UpdateParseError::Invalid,
-        b"The update is none of 'checkout', 'rebase', 'merge' and 'none', and no command behind a '!'",
-    )
-}
-
-#[test]
-fn refusals_of_values_are_sentences(rt: HostRuntime) {
-    assert!(rt; wants_of_memory_read_alike(rt.alloc()));
-    assert!(rt; values_are_refused_so(rt.alloc()));
 }

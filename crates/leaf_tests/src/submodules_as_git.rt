@@ -195,7 +195,7 @@ fn is_branch(alloc: Global, row: &[u8]) -> bool {
 
 /// What a table is about.
 #[derive(Clone, Copy)]
-enum About {
+pub enum About {
     Activity,
     Field,
     Value,
@@ -216,7 +216,7 @@ fn holds(alloc: Global, about: About, row: &[u8]) -> bool {
 }
 
 /// The first row of a table that git answers and these submodules do not.
-fn first_lie(alloc: Global, about: About, table: &'static [u8]) -> Option<&'static [u8]> {
+pub fn first_lie(alloc: Global, about: About, table: &'static [u8]) -> Option<&'static [u8]> {
     for row in table.lines() {
         if !holds(alloc, about, row) {
             return Some(row);

@@ -6,24 +6,26 @@ use index_status::{StatesError, StatusError};
 use module_plan::ModuleError;
 use std::alloc::Global;
 use std::fmt::Display;
-use worktree_report::ReportError;
+use worktree_report::{ReportError, SetupError};
 
 /// Rows, parted by bars: an error and its text, parted by a backquote.
 const ROWS: &[u8] = b"\
-report config`Got an unexpected token on line 3 of configuration 2|\
-report modules`Got an unexpected token on line 3 of the '.gitmodules' file|\
-report active`Value 2 of 'submodule.active' is no pathspec of the repository|\
-report read`Could not read a configuration or the '.gitmodules' file|\
-report walk`Failed to walk the worktree|\
-report no room`Out of memory: the allocator refused to make room|\
-plan active`The pathspec in value 2 of 'submodule.active' is refused|\
-plan fault`Could not learn what stands at '/w/a'|\
-plan no room`Out of memory: the allocator refused to make room|\
-states fault`Could not learn what stands at '/w/a'|\
-states no room`Out of memory: the allocator refused to make room|\
-status report`Failed to make the report|\
-status fault`Could not learn what stands at '/w/a'|\
-status no room`Out of memory: the allocator refused to make room";
+setup line`Line|\
+setup no room`OutOfMemory|\
+report config`Config|\
+report modules`Modules|\
+report active`ActiveSpec|\
+report read`ReadFault|\
+report walk`Walk|\
+report no room`OutOfMemory|\
+plan active`ActiveSpec|\
+plan fault`Fault|\
+plan no room`OutOfMemory|\
+states fault`Fault|\
+states no room`OutOfMemory|\
+status report`Report|\
+status fault`Fault|\
+status no room`OutOfMemory";
 
 /// Whether an error is shown by a text.
 fn is_shown<E: Display + Drop>(alloc: Global, error: E, want: &[u8]) -> bool {
@@ -36,6 +38,8 @@ fn is_shown<E: Display + Drop>(alloc: Global, error: E, want: &[u8]) -> bool {
 /// Whether an error about a path, if any, is shown by a text.
 fn shows(alloc: Global, error: &[u8], path: PathText, want: &[u8]) -> bool {
     match error {
+        b"setup line" => is_shown(alloc, SetupError::Line { line: 3 }, want),
+        b"setup no room" => is_shown(alloc, SetupError::OutOfMemory, want),
         b"report config" => is_shown(alloc, ReportError::Config { at: 2, line: 3 }, want),
         b"report modules" => is_shown(alloc, ReportError::Modules { line: 3 }, want),
         b"report active" => is_shown(alloc, ReportError::ActiveSpec { at: 2 }, want),
@@ -61,7 +65,7 @@ fn holds(alloc: Global, row: &[u8]) -> Result<bool, OutOfMemory> {
 }
 
 #[test]
-fn errors_are_shown_by_sentences(rt: HostRuntime) {
+fn errors_are_shown_by_their_names(rt: HostRuntime) {
     for row in ROWS.split(|byte| *byte == b'|') {
         assert!(rt; matches!(holds(rt.alloc(), row), Ok(true)), "{row:?}");
     }

@@ -14,6 +14,11 @@ use Rattle.worktree_report.specs.Ends.{Runs}
 use Rattle.worktree_report.specs.Run as report
 use Rattle.worktree_report.specs.Words.{command_of}
 
+-- the words ask that names are composed: the first one is `composed`
+abbrev pub composes : List (List ℕ) → Bool
+composes [] = false
+composes (word ∷ words) = bytes_eq word (codes "composed")
+
 -- the words, without one `composed` before them
 abbrev pub uncomposed : List (List ℕ) → List (List ℕ)
 uncomposed [] = []

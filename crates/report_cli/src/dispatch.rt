@@ -6,6 +6,7 @@ ghost use Rattle.worktree_report.specs.Written.{Appends};
 ghost use Rattle.report_cli.specs.Dispatch.{
   call_named,
   call_of,
+  composes,
   uncomposed,
   AsksNothingBy,
   IsOutputBy,
@@ -56,6 +57,16 @@ fn uncomposed(words: &[Bytes]) -> &[Bytes]
     match words {
         [word, rest @ ..] if word.as_bytes() == b"composed".as_slice() => rest,
         _ => words,
+    }
+}
+
+/// Whether the worktree is to compose names: the first word says so.
+pub fn composes(words: &[Bytes]) -> bool
+    ensures { result ≡ composes words.now }
+{
+    match words {
+        [word, ..] => word.as_bytes() == b"composed".as_slice(),
+        [] => false,
     }
 }
 

@@ -1,11 +1,14 @@
 //! The program: the words of its command line, answered over the real disk and the standard streams.
 #![tactic(auto)]
 
+ghost use Rattle.std.specs.Prelude.{◌≡◌};
+ghost use Rattle.report_cli.specs.Dispatch.{composes};
+
 mod dispatch;
 #[cfg(test)]
 mod tests;
 
-use dispatch::dispatch;
+use dispatch::{composes, dispatch};
 use gitbase_core::{Bytes, OutOfMemory};
 use std::alloc::Global;
 use std::env::{Env, FillError};
@@ -29,12 +32,11 @@ fn words<R: Env>(rt: &R, alloc: Global) -> Result<Vec<Bytes>, OutOfMemory> {
     Ok(words)
 }
 
-/// Whether the worktree is to compose names: the first word says so.
-fn composes(words: &[Bytes]) -> bool {
-    match words.first() {
-        Some(word) => word.as_bytes() == b"composed".as_slice(),
-        None => false,
-    }
+/// All files of the system, whose names are composed where the words ask for that.
+fn disk<'a>(rt: &'a HostRuntime, words: &[Bytes]) -> DiskWorktree<'a>
+    ensures { result.composes ≡ composes words.now }
+{
+    DiskWorktree::new(rt, composes(words))
 }
 
 fn main(rt: HostRuntime) -> ExitCode {
@@ -42,7 +44,7 @@ fn main(rt: HostRuntime) -> ExitCode {
     let Ok(words) = words(&rt, alloc) else {
         return ExitCode::from(8);
     };
-    let mut worktree = DiskWorktree::new(&rt, composes(&words));
+    let mut worktree = disk(&rt, &words);
     let mut interrupt = PlannedInterrupt::never();
     let mut out = StdSink::out(&rt);
     let mut err = StdSink::err(&rt);

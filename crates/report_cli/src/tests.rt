@@ -11,11 +11,11 @@ mod rows;
 mod walks;
 
 use crate::dispatch::dispatch;
-use depths::{DEEPEST, is_walked};
+use depths::{DEEPEST, LIMITED, is_walked};
 use endings::ENDINGS;
 use faults::{
-    AT_ONCE, COLLAPSE, COLLAPSE_AT_ONCE, CONFIGURED, EACH_IN_TURN, EACH_LOOK, Ending, Failing,
-    IGNORING, IN_ORDER, MISREAD_FIRST, NESTED,
+    AT_ONCE, CASES, COLLAPSE, COLLAPSE_AT_ONCE, CONFIGURED, EACH_IN_TURN, EACH_LOOK, Ending,
+    Failing, IGNORING, IN_ORDER, MISREAD_FIRST, NESTED,
 };
 use git_config_lite::Source;
 use gitbase_core::{Bytes, OutOfMemory};
@@ -326,7 +326,7 @@ fn tells_the_states_of_the_index(rt: HostRuntime) {
 #[test]
 fn enters_directories_to_the_limit(rt: HostRuntime) {
     let alloc = rt.alloc();
-    for setup in [REQUIRED, WITHOUT_RULES] {
+    for setup in [LIMITED, WITHOUT_RULES] {
         assert_eq!(rt; is_walked(alloc, 256, setup), Some(true));
         assert_eq!(rt; is_walked(alloc, 257, setup), Some(false));
     }
@@ -416,6 +416,12 @@ fn ends_as_it_must_whatever_fails(rt: HostRuntime) {
         assert!(rt;
             reports_so(rt.alloc(), IGNORING, AT_ONCE, *failing, *at_once),
             "{failing:?} at once"
+        );
+    }
+    for (nodes, setup, failing, ending) in &CASES {
+        assert!(rt;
+            reports_so(rt.alloc(), nodes, setup, *failing, *ending),
+            "{failing:?}"
         );
     }
 }

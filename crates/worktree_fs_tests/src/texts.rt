@@ -11,68 +11,35 @@ fn shows<E: Display>(alloc: Global, error: &E, want: &str) -> bool {
     }
 }
 
-const NO_MEMORY: &str = "Out of memory: the allocator refused to make room";
-
 fn shows_reads(alloc: Global) -> bool {
-    shows(alloc, &Fault, "Could not write to the output")
-        && shows(
-            alloc,
-            &ReadError::Fault,
-            "Could not access a path of the worktree",
-        )
-        && shows(alloc, &ReadError::OutOfMemory, NO_MEMORY)
+    shows(alloc, &Fault, "Fault")
+        && shows(alloc, &ReadError::Fault, "Fault")
+        && shows(alloc, &ReadError::OutOfMemory, "OutOfMemory")
 }
 
 fn shows_lists(alloc: Global) -> bool {
-    shows(
-        alloc,
-        &ListError::Absent,
-        "Could not list a directory that does not exist",
-    ) && shows(
-        alloc,
-        &ListError::NotADirectory,
-        "Could not list what is not a directory",
-    ) && shows(
-        alloc,
-        &ListError::OpenFault,
-        "Failed to open a directory for listing",
-    ) && shows(
-        alloc,
-        &ListError::EntryFault,
-        "Could not obtain an entry of a directory",
-    ) && shows(alloc, &ListError::OutOfMemory, NO_MEMORY)
+    shows(alloc, &ListError::Absent, "Absent")
+        && shows(alloc, &ListError::NotADirectory, "NotADirectory")
+        && shows(alloc, &ListError::OpenFault, "OpenFault")
+        && shows(alloc, &ListError::EntryFault, "EntryFault")
+        && shows(alloc, &ListError::OutOfMemory, "OutOfMemory")
 }
 
 fn shows_adds(alloc: Global) -> bool {
-    shows(
-        alloc,
-        &AddError::NotNormal,
-        "The path of a node to add has to be absolute, and its components have to be names",
-    ) && shows(
-        alloc,
-        &AddError::NoParent,
-        "The path of a node to add leads through a node that is not a directory",
-    ) && shows(
-        alloc,
-        &AddError::Exists,
-        "There already is a node at the path of a node to add",
-    ) && shows(alloc, &AddError::OutOfMemory, NO_MEMORY)
+    shows(alloc, &AddError::NotNormal, "NotNormal")
+        && shows(alloc, &AddError::NoParent, "NoParent")
+        && shows(alloc, &AddError::Exists, "Exists")
+        && shows(alloc, &AddError::OutOfMemory, "OutOfMemory")
 }
 
 fn shows_lookups(alloc: Global) -> bool {
-    shows(
-        alloc,
-        &PathStackError::<Fault>::NotNormal,
-        "The path to look up contains relative or absolute components",
-    ) && shows(
-        alloc,
-        &PathStackError::Delegate(Fault),
-        "A directory or component on the way to the path was refused",
-    ) && shows(alloc, &PathStackError::<Fault>::OutOfMemory, NO_MEMORY)
+    shows(alloc, &PathStackError::<Fault>::NotNormal, "NotNormal")
+        && shows(alloc, &PathStackError::Delegate(Fault), "Delegate")
+        && shows(alloc, &PathStackError::<Fault>::OutOfMemory, "OutOfMemory")
 }
 
 #[test]
-fn errors_are_shown_as_sentences(rt: HostRuntime) {
+fn errors_are_shown_by_their_names(rt: HostRuntime) {
     let alloc = rt.alloc();
     assert!(rt; shows_reads(alloc) && shows_lists(alloc));
     assert!(rt; shows_adds(alloc) && shows_lookups(alloc));

@@ -41,7 +41,7 @@ fn report_by(
 ///   was read, in this order.
 /// - `ReadFault` comes only where the worktree failed while these were read, and counted it. Where
 ///   one of these four comes nothing was walked: store and interrupt are as they were.
-/// - `Walk` has the error of [`dir_walk::walk::walk`], for the same causes.
+/// - `Walk` has the error of [`dir_walk::walk`], for the same causes.
 /// - `OutOfMemory` for want of memory.
 pub fn worktree_report<W: Worktree, F: Find, I: Interrupt>(
     alloc: Global,

@@ -1,5 +1,5 @@
 //! The report of a work tree.
-ghost use Rattle.std.specs.Prelude.{◌≡◌, [], map, IfOk};
+ghost use Rattle.std.specs.Prelude.{◌≡◌, map, IfOk};
 ghost use Rattle.worktree_report.specs.Submodules as submodules;
 
 use crate::facts::{Facts, facts_in};
@@ -39,15 +39,6 @@ impl Model for ReportEntries {
 }
 
 impl ReportEntries {
-    /// No entries; takes no memory.
-    pub fn new(alloc: Global) -> ReportEntries
-        ensures { result ≡ [] }
-    {
-        ReportEntries {
-            items: Vec::new(alloc),
-        }
-    }
-
     /// The entries of the vector; takes no memory.
     pub fn from_vec(items: Vec<ReportEntry>) -> ReportEntries
         ensures { result ≡ items.items }

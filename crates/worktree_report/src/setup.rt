@@ -24,6 +24,7 @@ use glob_rules::pathspec::Search;
 use meant::meant;
 use std::alloc::Global;
 use std::collections::BTreeSet;
+use thiserror::Error;
 use worktree_stack::ignore_source;
 
 /// The options of a setup, under the names that its lines give them.
@@ -37,39 +38,39 @@ pub struct SetupOptions {
     pub emit_pruned: bool,
     /// Whether tracked paths are reported.
     pub emit_tracked: bool,
+    /// Whether directories without names are reported.
+    pub emit_empty_directories: bool,
+    /// Whether untracked directories are tested for being bare repositories.
+    pub classify_untracked_bare_repositories: bool,
+    /// Whether the ignore rules see a link as what it leads to.
+    pub symlinks_to_directories_are_ignored_like_directories: bool,
+    /// Whether a leading `$` makes an ignore rule one for files that are worth keeping.
+    pub precious: bool,
+    /// Whether each line says of which submodule its path is.
+    pub submodules: bool,
+    /// Whether a last line says how much was walked.
+    pub print_outcome: bool,
+    /// Whether ignore rules are asked.
+    pub excludes: bool,
     /// How untracked paths are reported.
     pub emit_untracked: EmissionMode,
     /// Whether ignored paths are reported, and how.
     pub emit_ignored: Option<EmissionMode>,
     /// Whether paths are reported besides the directory that was folded over them, and which.
     pub emit_collapsed: Option<CollapsedEntriesEmissionMode>,
-    /// Whether directories without names are reported.
-    pub emit_empty_directories: bool,
     /// Whether the paths are to be deleted, and how ignored directories are looked into for
     /// repositories.
     pub for_deletion: Option<ForDeletionMode>,
-    /// Whether untracked directories are tested for being bare repositories.
-    pub classify_untracked_bare_repositories: bool,
-    /// Whether the ignore rules see a link as what it leads to.
-    pub symlinks_to_directories_are_ignored_like_directories: bool,
-    /// Whether ignore rules are asked.
-    pub excludes: bool,
-    /// Whether a leading `$` makes an ignore rule one for files that are worth keeping.
-    pub precious: bool,
-    /// Whether a path stays excluded where a directory above it is, whatever rules say of the path.
-    pub strict_parents: bool,
-    /// Whether each line says which ignore rule decided.
-    pub origins: bool,
-    /// Whether a last line says how much was walked.
-    pub print_outcome: bool,
-    /// Whether each line says of which submodule its path is.
-    pub submodules: bool,
     /// Where rules files are read.
     pub ignore_source: ignore_source::Source,
     /// Which configurations are read.
     pub permissions: Permissions,
     /// How the walk goes.
     pub strategy: Strategy,
+    /// Whether a path stays excluded where a directory above it is, whatever rules say of the path.
+    pub strict_parents: bool,
+    /// Whether each line says which ignore rule decided.
+    pub origins: bool,
 }
 
 /// What a report is made from, beside the worktree.
@@ -86,16 +87,16 @@ pub struct Setup {
     pub root: Option<Bytes>,
     /// How many components a directory that is entered may have below the worktree root.
     pub depth: usize,
-    /// The entries of the index.
-    pub index: State,
-    /// The blobs that ignore rules may be mapped to.
-    pub blobs: MemoryStore,
+    /// The path specs.
+    pub specs: Search,
     /// Ignore rules that come before those of any directory, each with a line feed.
     pub overrides: Bytes,
     /// Ignore rules that come after those of all directories, each with a line feed.
     pub globals: Bytes,
-    /// The path specs.
-    pub specs: Search,
+    /// The entries of the index.
+    pub index: State,
+    /// The blobs that ignore rules may be mapped to.
+    pub blobs: MemoryStore,
     /// The directories that are worktrees of their own, relative to the worktree root.
     pub worktrees: BTreeSet<PathText>,
     /// The configurations that are read for submodules, in this order, as far as the permissions
@@ -106,11 +107,13 @@ pub struct Setup {
 }
 
 /// Why a setup text means no setup.
-#[derive(Clone, Copy, Debug, PartialEq, Eq)]
+#[derive(Clone, Copy, Debug, PartialEq, Eq, Error)]
 pub enum SetupError {
     /// The first line outside the grammar, counted from 1.
+    #[error("Line")]
     Line { line: usize },
     /// Want of memory.
+    #[error("OutOfMemory")]
     OutOfMemory,
 }
 

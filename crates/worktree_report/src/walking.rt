@@ -178,7 +178,7 @@ fn walk_excluding<W: Worktree, F: Find, I: Interrupt>(
 ///
 /// # Errors
 ///
-/// Those of [`dir_walk::walk::walk`], for the same causes.
+/// Those of [`dir_walk::walk`], for the same causes.
 pub fn walk_by_setup<W: Worktree, F: Find, I: Interrupt>(
     alloc: Global,
     worktree: &mut W,

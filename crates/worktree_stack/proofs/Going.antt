@@ -25,6 +25,7 @@ use Rattle.worktree_stack.specs.Making.{Way, WorksOn, checked_out, mkdirs, pushe
 use Rattle.worktree_stack.specs.Placed.{IsFileCut, IsBlobCut, IsMemoryCut}
 use Rattle.worktree_stack.specs.Reading.{RulesKind, of_attributes, of_ignore, readings_of}
 use Rattle.worktree_stack.specs.Refused.{RefusesAt, IsFileOf, IsBlobOf}
+use Rattle.worktree_stack.specs.SeenNames.{Sees, names_on}
 use Rattle.worktree_stack.specs.Setup.{Made}
 use Rattle.worktree_stack.specs.Stacked.{Stacked, IsLevel, made_of}
 use Rattle.worktree_stack.specs.Steps.{HasTried, CarriesOut, IsStopped, IsStoppedAt, Stops, the_call}
@@ -33,6 +34,8 @@ use Rattle.worktree_stack.proofs.Carrying.{carries-then, carries-left, carries-n
 use Rattle.worktree_stack.proofs.Halting.{fine-both, pushes-append, unpushed-none, passed-none, halts-more, halts-then, works-behind}
 use Rattle.worktree_stack.proofs.LookedUp.{store-then}
 use Rattle.worktree_stack.proofs.Refusals.{rose-earlier}
+use Rattle.worktree_stack.proofs.Seeing.{sees-nothing}
+use Rattle.worktree_stack.proofs.SeeingOn.{out-front, out-then, sees-unpushed}
 use Rattle.worktree_stack.proofs.Stepping.{carries-stepped}
 use Rattle.worktree_stack.proofs.Working.{AreUnpushed, unpushed-front, unmade-counts, read-untold, carries-unmade, works-unpushed, where-same}
 
@@ -78,6 +81,7 @@ module _ {W F : Type 0} (w : WorktreeOf W) (f : FindOf F) (way : Way) (is_link p
           answered = second.answered ∙ first.answered;
           platforms = second.platforms ∙ first.platforms;
           levels = λ level. second.levels (first.levels level);
+          sees = out-then w (f.holds oa) (f.holds ob) way (made_of s0) (made_of s1) a b (mkdirs s0) (mkdirs s1) s0.statistics s1.statistics s0.attributes s1.attributes s2.attributes r first.leaves_store.holds first.made first.works first.sees second.sees;
           store_untouched = λ none. second.store_untouched (ap (λ (m : Made). m.mappings) first.made ∙ none) ∙ first.store_untouched none;
           asked = omega (arith, first.asked, second.asked, ap (λ (m : Made). asked_on m b) first.made, asked-append (made_of s0) a b);
           alters = alters-then w wa wb wc first.alters second.alters;
@@ -117,6 +121,7 @@ module _ {W F : Type 0} (w : WorktreeOf W) (f : FindOf F) (way : Way) (is_link p
         answered = g.answered;
         platforms = g.platforms;
         levels = g.levels;
+        sees = out-front (w.told w0) (f.holds o0) way (made_of old) (mkdirs old) calls more old.attributes new.attributes e g.sees;
         store_untouched = g.store_untouched;
         asked = omega (arith, g.asked, asked-front (made_of old) (calls ++ more) calls more refl);
         alters = g.alters;
@@ -145,6 +150,7 @@ module _ {W F : Type 0} (w : WorktreeOf W) (f : FindOf F) (way : Way) (is_link p
         answered = refl;
         platforms = refl;
         levels = λ level. level;
+        sees = sees-nothing (w.told w0) (f.holds o0) (λ t. []) s.attributes s.attributes (Ok tt) refl (λ t. refl);
         store_untouched = λ none. refl;
         asked = omega arith;
         alters = record { untold = λ none. none; faults = omega arith; list_faults = refl; reads = omega arith; lists = refl; precomposes = refl };
@@ -167,6 +173,7 @@ module _ {W F : Type 0} (w : WorktreeOf W) (f : FindOf F) (way : Way) (is_link p
         answered = g.answered;
         platforms = g.platforms;
         levels = g.levels;
+        sees = g.sees;
         store_untouched = g.store_untouched;
         asked = g.asked;
         alters = g.alters;
@@ -242,10 +249,11 @@ module _ {W F : Type 0} (w : WorktreeOf W) (f : FindOf F) (way : Way) (is_link p
     pub goes-unpushed : (r : Result (Unit {0}) AtPathError) → made_of new ≡ made_of old → OnOk r (CarriesOut (w.told w0) (f.holds o0) calls old new)
         → IfErr r (Stops (w.told w0) (f.holds o0) (Increased (w.faults w0) (w.faults w1)) (Increased (f.faults o0) (f.faults o1)) calls old new)
         → mkdirs new ≡ mkdirs old → new.is_dir ≡ old.is_dir → new.is_answered ≡ old.is_answered → new.statistics.platforms ≡ old.statistics.platforms → (IsLevel old → IsLevel new)
+        → Sees (w.told w0) (f.holds o0) (λ s. names_on (made_of old) s calls) old.attributes new.attributes r
         → ((made_of old).mappings ≡ [] → o1 ≡ o0)
         → w.reads w1 ≤ w.reads w0 + asked_on (made_of old) calls
         → Goes w f w0 w1 o0 o1 way is_link protects calls [] old new r
-    goes-unpushed r made carried stopped n is_dir answered platforms levels untouched asked =
+    goes-unpushed r made carried stopped n is_dir answered platforms levels seen untouched asked =
         record {
           made = made;
           carried = each r (carries-unmade (w.told w0) (f.holds o0) calls old new) carried;
@@ -257,6 +265,7 @@ module _ {W F : Type 0} (w : WorktreeOf W) (f : FindOf F) (way : Way) (is_link p
           answered = answered;
           platforms = platforms;
           levels = levels;
+          sees = sees-unpushed (w.told w0) (f.holds o0) way (made_of old) (mkdirs old) calls old.attributes new.attributes r are seen;
           store_untouched = untouched;
           asked = asked;
           alters = alters-asked w w0 w1 asks;
@@ -309,6 +318,7 @@ module _ {W F : Type 0} (w : WorktreeOf W) (f : FindOf F) (way : Way) (is_link p
           answered = onto (λ (s : Stacked). s.is_answered ≡ old.is_answered) refl;
           platforms = onto (λ (s : Stacked). s.statistics.platforms ≡ old.statistics.platforms) refl;
           levels = onto (λ (s : Stacked). IsLevel old → IsLevel s) (λ level. level);
+          sees = sees-nothing (w.told w0) (f.holds o0) (λ t. []) old.attributes new.attributes (Ok tt) (onto (λ (s : Stacked). s.attributes ≡ old.attributes) refl) (λ t. refl);
           store_untouched = λ none. refl;
           asked = omega (arith, p.changes.reads);
           alters = alters-changed w w0 w1 p.changes;
@@ -346,6 +356,7 @@ module _ {W F : Type 0} (w : WorktreeOf W) (f : FindOf F) (way : Way) (is_link p
             answered = onto (λ (s : Stacked). s.is_answered ≡ old.is_answered) refl;
             platforms = onto (λ (s : Stacked). s.statistics.platforms ≡ old.statistics.platforms) refl;
             levels = onto (λ (s : Stacked). IsLevel old → IsLevel s) (λ level. level);
+            sees = sees-nothing (w.told w0) (f.holds o0) (λ t. []) old.attributes new.attributes (Err e) (onto (λ (s : Stacked). s.attributes ≡ old.attributes) refl) (λ t. refl);
             store_untouched = λ none. refl;
             asked = omega (arith, p.changes.reads);
             alters = alters-changed w w0 w1 p.changes;
@@ -388,6 +399,7 @@ module _ {W F : Type 0} (w : WorktreeOf W) (f : FindOf F) (way : Way) (is_link p
             answered = onto (λ (s : Stacked). s.is_answered ≡ old.is_answered) refl;
             platforms = onto (λ (s : Stacked). s.statistics.platforms ≡ old.statistics.platforms) refl;
             levels = onto (λ (s : Stacked). IsLevel old → IsLevel s) (λ level. level);
+            sees = sees-nothing (w.told w0) (f.holds o0) (λ t. []) old.attributes new.attributes (Err e) (onto (λ (s : Stacked). s.attributes ≡ old.attributes) refl) (λ t. refl);
             store_untouched = λ none. refl;
             asked = omega (arith, p.changes.reads);
             alters = alters-changed w w0 w1 p.changes;

@@ -87,7 +87,7 @@ module _ (made : Made) (way : Way) (objects : Objects) where
   read-pops p zero calls read = read
   read-pops p (suc n) calls read = read-pops p n calls read
 
-same-outcome : (p : Prepared) (calls : ℕ) → makes.Made ≡ p.answer → calls ≡ p.calls → p ≡ unchanged p.tree calls
+pub same-outcome : (p : Prepared) (calls : ℕ) → makes.Made ≡ p.answer → calls ≡ p.calls → p ≡ unchanged p.tree calls
 same-outcome p calls answer counted = ap (λ (a : MakeAnswer). record { answer = a; tree = p.tree; calls = p.calls }) (sym answer) ∙ ap (unchanged p.tree) (sym counted)
 
 -- what was pushed on a way and then on another

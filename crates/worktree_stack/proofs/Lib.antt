@@ -39,3 +39,5 @@ pub mod LookedOut
 pub mod Plain
 pub mod Keeping
 pub mod HeldOut
+pub mod Seeing
+pub mod SeeingOn

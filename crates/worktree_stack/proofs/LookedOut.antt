@@ -16,8 +16,9 @@ use Rattle.worktree_stack.specs.ChecksOut.{AreThere, ChecksOut, IsWithin, left_o
 use Rattle.worktree_stack.specs.Counted.{count_platform, counts_of}
 use Rattle.worktree_stack.specs.GoesOn.{Goes, GoesWithin}
 use Rattle.worktree_stack.specs.Lookups.{IsLookedUp, staying}
-use Rattle.worktree_stack.specs.Making.{Way, WorksOn, mkdirs, way_of, without_mkdirs}
+use Rattle.worktree_stack.specs.Making.{Way, WorksOn, mkdirs, unchanged, way_of, without_mkdirs}
 use Rattle.worktree_stack.specs.Reading.{Sources, RulesKind, of_attributes, of_ignore}
+use Rattle.worktree_stack.specs.SeenNames.{names_out}
 use Rattle.worktree_stack.specs.Setup.{Made, Setup, setup_of}
 use Rattle.worktree_stack.specs.Stacked.{Stacked, made_of, pushed}
 use Rattle.worktree_stack.specs.Steps.{CarriesOut}
@@ -25,6 +26,7 @@ use Rattle.worktree_stack.proofs.Carrying.{carries-then, read-none}
 use Rattle.worktree_stack.proofs.Halting.{halts-then, works-behind}
 use Rattle.worktree_stack.proofs.Looking.{fewer-stay}
 use Rattle.worktree_stack.proofs.Preparing.{some-same}
+use Rattle.worktree_stack.proofs.Seeing.{sees-none}
 use Rattle.worktree_stack.proofs.Within.{sources-same}
 use Rattle.worktree_stack.proofs.Working.{works-unpushed}
 
@@ -72,6 +74,7 @@ module _ {W F : Type 0} (w : WorktreeOf W) (f : FindOf F) (w0 w1 : W) (o0 o1 : F
       (record {
         made = refl;
         levels = λ level. level;
+        sees = sees-none (w.told w0) (f.holds o0) (λ s. names_out (made_of old) (way_of checkout (w.precomposes w0) old.root kind) s.objects (unchanged s.tree (mkdirs old)) (lookup_calls old.at (components path))) old.attributes errors.NotNormal;
         looked_up = tt;
         is_dir = tt;
         answered = tt;
@@ -120,6 +123,7 @@ module _ {W F : Type 0} (w : WorktreeOf W) (f : FindOf F) (w0 w1 : W) (o0 o1 : F
         record {
           made = goes.made;
           levels = goes.levels;
+          sees = goes.sees;
           looked_up = tt;
           is_dir = tt;
           answered = tt;
@@ -149,6 +153,7 @@ module _ {W F : Type 0} (w : WorktreeOf W) (f : FindOf F) (w0 w1 : W) (o0 o1 : F
         (record {
           made = goes.made;
           levels = goes.levels;
+          sees = goes.sees;
           looked_up = record { at = looked_up.at; current = looked_up.current };
           is_dir = refl;
           answered = refl;

@@ -21,8 +21,10 @@ use Rattle.worktree_stack.specs.LooksUp.{LooksUp}
 use Rattle.worktree_stack.specs.Reading.{Sources, Tells, RulesKind, of_attributes, of_ignore}
 use Rattle.worktree_stack.specs.Stacked.{Stacked, made_of, pushed, IsInStep, IsLevel}
 use Rattle.worktree_stack.specs.Lookups.{asks_worktree, staying}
+use Rattle.worktree_stack.specs.SeenNames.{Sees, names_on}
 use Rattle.worktree_stack.specs.Setup.{has_attributes}
 use Rattle.worktree_stack.proofs.Looking.{fewer-stay}
+use Rattle.worktree_stack.proofs.Seeing.{sees-none}
 
 not_both : (b : Bool) → b ≡ false → b ≡ true → ⊥
 not_both true e f = cc e
@@ -46,6 +48,7 @@ not-normal {W} {F} {T} w f w0 o0 path kind old new counted not_normal =
       made = refl;
       in_step = λ s tells in_step. in_step;
       levels = λ level. level;
+      sees = sees-none (w.told w0) (f.holds o0) (λ s. names_on (made_of old) s (lookup_calls old.at (components path))) old.attributes errors.NotNormal;
       looked_up = tt;
       is_dir = tt;
       answered = tt;
@@ -89,7 +92,8 @@ pub look-refused : {W F T : Type 0} (w : WorktreeOf W) (f : FindOf F)
     → IsOnWay new.at (components path) → new.statistics.platforms ≡ mid.statistics.platforms
     → Stops (w.told w0) (f.holds o0) (Increased (w.faults w0) (w.faults w1)) (Increased (f.faults o0) (f.faults o1)) (lookup_calls mid.at (components path)) mid new e
     → (asks_worktree (made_of mid) ≡ false → w1 ≡ w0) → ((made_of mid).mappings ≡ [] → o1 ≡ o0)
-    → (IsLevel mid → IsLevel new) → new.is_answered ≡ mid.is_answered
+    → (IsLevel mid → IsLevel new)
+    → Sees {T = T} (w.told w0) (f.holds o0) (λ s. names_on (made_of mid) s (lookup_calls mid.at (components path))) mid.attributes new.attributes (Err e) → new.is_answered ≡ mid.is_answered
     → length (pushed (staying mid.at (components path))) ≤ length (pushed new.at)
     → (has_attributes (made_of mid) ≡ false → w.reads w1 + length (pushed (staying mid.at (components path))) ≤ w.reads w0 + length (pushed new.at) + 1)
     → LooksUp {W = W} {F = F} {T = T} w f w0 w1 o0 o1 path kind old new (Err e)
@@ -100,12 +104,13 @@ look-refused {W} {F} {T} w f w0 w1 o0 o1 path kind old mid new e counted normal 
     → IsOnWay new.at (components path) → new.statistics.platforms ≡ m.statistics.platforms
     → Stops (w.told w0) (f.holds o0) (Increased (w.faults w0) (w.faults w1)) (Increased (f.faults o0) (f.faults o1)) (lookup_calls m.at (components path)) m new e
     → (asks_worktree (made_of m) ≡ false → w1 ≡ w0) → ((made_of m).mappings ≡ [] → o1 ≡ o0)
-    → (IsLevel m → IsLevel new) → new.is_answered ≡ m.is_answered
+    → (IsLevel m → IsLevel new)
+    → Sees {T = T} (w.told w0) (f.holds o0) (λ s. names_on (made_of m) s (lookup_calls m.at (components path))) m.attributes new.attributes (Err e) → new.is_answered ≡ m.is_answered
     → length (pushed (staying m.at (components path))) ≤ length (pushed new.at)
     → (has_attributes (made_of m) ≡ false → w.reads w1 + length (pushed (staying m.at (components path))) ≤ w.reads w0 + length (pushed new.at) + 1)
     → LooksUp {W = W} {F = F} {T = T} w f w0 w1 o0 o1 path kind old new (Err e))
     (sym counted)
-    (λ made step way platforms stops untouched store_untouched levels answered stays reads.
+    (λ made step way platforms stops untouched store_untouched levels names answered stays reads.
     let told = w.told w0 in
     let holds = f.holds o0 in
     let calls : List Call = lookup_calls old.at (components path) in
@@ -115,6 +120,7 @@ look-refused {W} {F} {T} w f w0 w1 o0 o1 path kind old mid new e counted normal 
       made = made;
       in_step = step;
       levels = levels;
+      sees = names;
       looked_up = tt;
       is_dir = tt;
       answered = tt;

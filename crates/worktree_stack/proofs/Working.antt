@@ -21,7 +21,7 @@ use Rattle.worktree_stack.specs.Steps.{HasReadOf, HasRead, CarriesOut}
 -- ---- what comes of calls and more behind them
 
 -- every component is pushed, whatever came of those before it
-abbrev ran : Way → Prepared → List Call → Prepared
+abbrev pub ran : Way → Prepared → List Call → Prepared
 ran way p [] = p
 ran way p (push path is_last ∷ calls) = ran way (pushed_out way p path is_last) calls
 ran way p (push_directory path ∷ calls) = ran way p calls
@@ -43,7 +43,7 @@ module _ (way : Way) where
   checked-append p (push_directory path ∷ a) b is = checked-append p a b is
   checked-append p (pop_directory ∷ a) b is = checked-append p a b is
 
-  ran-checked : (p : Prepared) (a : List Call) → (checked_out way p a).answer ≡ makes.Made → ran way p a ≡ checked_out way p a
+  pub ran-checked : (p : Prepared) (a : List Call) → (checked_out way p a).answer ≡ makes.Made → ran way p a ≡ checked_out way p a
   ran-checked p [] is = refl
   ran-checked p (push path is_last ∷ a) is =
       go (pushed_out way p path is_last) (pushed_out way p path is_last).answer refl (ran-checked (pushed_out way p path is_last) a) is

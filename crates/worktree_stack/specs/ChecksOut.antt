@@ -19,9 +19,10 @@ use Rattle.worktree_stack.specs.declared.statistics.Statistics.{Statistics}
 use Rattle.worktree_stack.specs.Checkout.{LeadsToDirectory, NoDirectory}
 use Rattle.worktree_stack.specs.Counted.{count_platform}
 use Rattle.worktree_stack.specs.Lookups.{IsLookedUp, staying}
-use Rattle.worktree_stack.specs.Making.{Way, way_of, is_known, is_made, mkdirs, without_mkdirs, WorksOn}
+use Rattle.worktree_stack.specs.Making.{Way, way_of, is_known, is_made, mkdirs, unchanged, without_mkdirs, WorksOn}
 use Rattle.worktree_stack.specs.Reading.{Sources, Tells, Place, in_tree, file_at, places_of}
 use Rattle.worktree_stack.specs.Refused.{IsAmong, RefusesAt}
+use Rattle.worktree_stack.specs.SeenNames.{Sees, names_out}
 use Rattle.worktree_stack.specs.Setup.{Made}
 use Rattle.worktree_stack.specs.Stacked.{Stacked, IsInStep, IsLevel, made_of, pushed}
 use Rattle.worktree_stack.specs.Steps.{HasRead, HasTried, CarriesOut, IsStopped}
@@ -186,6 +187,10 @@ pub record ChecksOut {W F T : Type 0} (w : WorktreeOf W) (f : FindOf F) (w0 w1 :
   pub platforms : new.statistics.platforms ≡ one_more old.statistics.platforms
   pub stays : length (pushed (staying old.at (components path))) ≤ length (pushed new.at)
   pub store_untouched : (made_of old).mappings ≡ [] → o1 ≡ o0
+  -- The names that were seen stay seen, and those of the directories that it pushes come behind them, each as it is read in the tree
+  -- that it was made in.
+  pub sees : Sees (w.told w0) (f.holds o0) (λ s. names_out (made_of old) (way_of checkout (w.precomposes w0) old.root kind) s.objects (unchanged s.tree (mkdirs old)) (lookup_calls old.at (components path)))
+      old.attributes new.attributes result
   -- What is pushed, made, read and counted, and why it is refused.
   pub tested : OnOk result (AreFine is_link checkout.validate.protect_windows (left_of old.at (components path)))
   pub carried : OnOk result (CarriesOut None None (lookup_calls old.at (components path)) (without_mkdirs old) (without_mkdirs new))

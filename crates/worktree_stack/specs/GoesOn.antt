@@ -20,6 +20,7 @@ use Rattle.worktree_stack.specs.Asked.{asked_on}
 use Rattle.worktree_stack.specs.Lookups.{stepped}
 use Rattle.worktree_stack.specs.Making.{Way, WorksOn, is_known, is_made, mkdirs, pushed_out, unchanged, without_mkdirs}
 use Rattle.worktree_stack.specs.Reading.{Sources, Tells}
+use Rattle.worktree_stack.specs.SeenNames.{Sees, names_out}
 use Rattle.worktree_stack.specs.Setup.{HeldAttributes, Held, Made}
 use Rattle.worktree_stack.specs.Stacked.{Stacked, HoldsFor, IsLevel, made_of, pushed}
 use Rattle.worktree_stack.specs.Steps.{CarriesOut}
@@ -90,6 +91,7 @@ pub record Goes {W F : Type 0} (w : WorktreeOf W) (f : FindOf F) (w0 w1 : W) (o0
   pub answered : new.is_answered ≡ old.is_answered
   pub platforms : new.statistics.platforms ≡ old.statistics.platforms
   pub levels : IsLevel old → IsLevel new
+  pub sees : Sees (w.told w0) (f.holds o0) (λ s. names_out (made_of old) way s.objects (unchanged s.tree (mkdirs old)) calls) old.attributes new.attributes result
   pub store_untouched : (made_of old).mappings ≡ [] → o1 ≡ o0
   pub asked : w.reads w1 ≤ w.reads w0 + asked_on (made_of old) calls
   pub alters : Alters w w0 w1

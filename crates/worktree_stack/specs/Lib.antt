@@ -15,6 +15,7 @@ pub mod Mappings
 pub mod Validate
 pub mod Checkout
 pub mod Making
+pub mod SeenNames
 pub mod ChecksOut
 pub mod GoesOn
 pub mod HeldOut

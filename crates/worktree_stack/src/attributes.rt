@@ -1,7 +1,7 @@
 //! What is said of attributes: by the lists of a caller, and by those of the directories on the way to a path.
 ghost use Rattle.std.specs.Prelude.{◌≡◌, ◌++◌, [], ◌∷◌, true, Some, IfOk, OnOk, OnErr};
 ghost use Rattle.glob_rules.specs.AttributeLines as texts;
-ghost use Rattle.glob_rules.specs.AttributeNames.{names_in};
+ghost use Rattle.glob_rules.specs.AttributeNames.{SeesPart, names_in};
 ghost use Rattle.glob_rules.specs.AttributeOutcome.{asking_anew, asking_for, filled, finds_some, nothing_asked};
 ghost use Rattle.glob_rules.specs.Attributes.{list_from};
 ghost use Rattle.worktree_stack.specs.Setup.{HeldAttributes, push_list, pop_list, pop_lists, bare_attributes, without_info};
@@ -122,6 +122,8 @@ impl Attributes {
             (names_in (texts.lines allow_macros bytes.now)) (Some self.old)) }
         ensures setup { self.new.setup ≡ self.old.setup }
         ensures refused { OnErr result (self.new.lists ≡ self.old.lists) }
+        ensures seen { OnErr result (SeesPart self.old.names
+            (names_in (texts.lines allow_macros bytes.now)) self.new.names) }
     {
         self.stack.add_patterns_buffer(
             alloc,

@@ -20,7 +20,7 @@ pub mod validate;
 pub use attributes::Attributes;
 pub use error::{AtPathError, BlobWhy, DirectoryWhy, RulesWhy};
 pub use ignore::Ignore;
-pub use mappings::PathIdMapping;
+pub use mappings::{PathIdMapping, PathIdMappings};
 pub use platform::Platform;
 pub use stack::Stack;
 pub use state::{Checkout, State};

@@ -19,7 +19,47 @@ use std::marker::Model;
 /// The path of a rules file, and the id of the blob that an index has for it.
 pub type PathIdMapping = (PathText, ObjectId);
 
-/// The blobs of rules files, in the order of their paths.
+/// The blobs that an index has for rules files, in the order of their paths.
+///
+/// Contracts see the list.
+#[derive(Debug, Drop)]
+pub struct PathIdMappings {
+    items: Vec<PathIdMapping>,
+}
+
+impl Model for PathIdMappings {
+    ghost use Rattle.std.specs.Prelude.{List};
+    ghost use Rattle.worktree_stack.specs.Setup.{Mapping};
+
+    ghost Value = { List Mapping };
+
+    ghost view = { λ m. m.items.items };
+}
+
+impl PathIdMappings {
+    /// The mappings of the vector; takes no memory.
+    pub fn from_vec(items: Vec<PathIdMapping>) -> PathIdMappings
+        ensures { result ≡ items.items }
+    {
+        PathIdMappings { items }
+    }
+
+    /// The mappings.
+    pub fn as_slice(&self) -> &[PathIdMapping]
+        ensures { result.now ≡ self.now }
+    {
+        &self.items
+    }
+
+    /// The mappings as a vector; takes no memory.
+    pub fn into_vec(self) -> Vec<PathIdMapping>
+        ensures { result.items ≡ self }
+    {
+        self.items
+    }
+}
+
+/// The blobs of rules files, in the order of their paths, among which one is found without passing over all.
 ///
 /// Contracts see the list.
 #[derive(Drop)]

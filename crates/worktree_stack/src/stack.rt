@@ -137,7 +137,14 @@ impl Stack {
             Case::Sensitive
         };
         let id_mappings = state.id_mappings_from_index(alloc, index, case)?;
-        Ok(Stack::new(alloc, root, state, case, Bytes::new(alloc), id_mappings))
+        Ok(Stack::new(
+            alloc,
+            root,
+            state,
+            case,
+            Bytes::new(alloc),
+            id_mappings.into_vec(),
+        ))
     }
 
     /// A stack that is made as this one was, with nothing pushed and nothing counted. It is in step with whatever is told. Fails
@@ -328,7 +335,8 @@ impl Stack {
     /// Empty components mean nothing. `mode` is that of the path in an index, where it is known, and says whether the path is a
     /// directory. Whether anything is at the path makes no difference, but in checkout where the mode is that of a directory.
     ///
-    /// Attributes are read before ignore rules, and the information file with the root, behind its own `.gitattributes`. `objects` are
+    /// Attributes are read before ignore rules, and the information file with the root, behind its own `.gitattributes`. The names of
+    /// attributes are seen file by file and line by line, and stay seen, also after a refusal; see docs/DECISIONS.md#attribute-names. `objects` are
     /// asked for the blobs that rules files are mapped to. The worktree is read at most as often as the readings of the directories ask it that
     /// are pushed, or were to be: not at all where rules come from mappings alone, but for the information file, and where the stack tells no
     /// attributes at most once for each. In the directory that is pushed already a lookup begins at the last name; no clause

@@ -1,13 +1,13 @@
 //! What a stack keeps for the directories on the way to a path.
 ghost use Rattle.std.specs.Prelude.{◌≡◌, true, None, Some, is_some, IfOk, OnOk, OnErr, option_copied};
 ghost use Rattle.glob_rules.specs.AttributeLines as texts;
-ghost use Rattle.glob_rules.specs.AttributeNames.{names_in};
+ghost use Rattle.glob_rules.specs.AttributeNames.{SeesPart, names_in};
 ghost use Rattle.glob_rules.specs.Attributes.{list_from};
 ghost use Rattle.worktree_stack.specs.Stacked.{attributes_of, ignore_of, checkout_of};
 ghost use Rattle.worktree_stack.specs.Mappings.{mappings_in, are_ascending};
-ghost use Rattle.worktree_stack.specs.Setup.{attributes_setup_of, setup_of, lists_of, push_list, pop_list, pop_lists, bare_attributes, push_level, pop_level, bare};
+ghost use Rattle.worktree_stack.specs.Setup.{attributes_setup_of, setup_of, lists_of, names_of, push_list, pop_list, pop_lists, bare_attributes, push_level, pop_level, bare};
 
-use crate::mappings::PathIdMapping;
+use crate::mappings::PathIdMappings;
 use crate::matched::Matched;
 use crate::validate::Options;
 use crate::{Attributes, Ignore, mappings};
@@ -91,13 +91,14 @@ impl State {
         alloc: Global,
         index: &Index,
         case: Case,
-    ) -> Result<Vec<PathIdMapping>, OutOfMemory>
-        ensures mappings { IfOk result (λ mappings. mappings.items ≡ mappings_in case
+    ) -> Result<PathIdMappings, OutOfMemory>
+        ensures mappings { IfOk result (λ mappings. mappings ≡ mappings_in case
             (attributes_setup_of (attributes_of self.now)) (setup_of (ignore_of self.now))
             index.now) }
-        ensures ascending { IfOk result (λ mappings. are_ascending mappings.items ≡ true) }
+        ensures ascending { IfOk result (λ mappings. are_ascending mappings ≡ true) }
     {
-        mappings::in_index(alloc, self, index, case)
+        let items = mappings::in_index(alloc, self, index, case)?;
+        Ok(PathIdMappings::from_vec(items))
     }
 
     /// The rules that exclude paths, where there are such.
@@ -238,6 +239,8 @@ impl State {
         ensures checkout { checkout_of self.new ≡ checkout_of self.old }
         ensures refused { OnErr result
             (lists_of (attributes_of self.new) ≡ lists_of (attributes_of self.old)) }
+        ensures seen { OnErr result (SeesPart (names_of (attributes_of self.old))
+            (names_in (texts.lines allow_macros bytes.now)) (names_of (attributes_of self.new))) }
     {
         match self {
             State::CreateDirectoryAndAttributesStack {

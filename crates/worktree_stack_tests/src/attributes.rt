@@ -4,7 +4,7 @@ ghost use Rattle.worktree_stack.specs.Setup.{has_attributes};
 ghost use Rattle.worktree_stack.specs.Stacked.{made_of};
 
 use crate::lookups::look_up_path;
-use crate::mapped::index_of;
+use crate::mapped::{LEFT_OUT, index_of};
 use crate::steps::{Scene, first_lie, ignore_of, parted};
 use bstr::ByteSlice;
 use gitbase_core::{Bytes, MemoryStore, OutOfMemory, PathText, State as Index};
@@ -227,9 +227,6 @@ fn cases(rt: HostRuntime) {
     }
 }
 
-/// An index with a file of attributes that may be executed, and files of ignore rules.
-const UNMAPPED: &[u8] = b"x-3.gitattributes;f-1.gitignore;f-2a/.gitignore";
-
 /// How many files an index maps for a state of attributes.
 fn mapped_count(alloc: Global, rows: &[u8]) -> Option<usize> {
     let Some(index) = index_of(alloc, rows) else {
@@ -241,7 +238,7 @@ fn mapped_count(alloc: Global, rows: &[u8]) -> Option<usize> {
             &index,
             Case::Sensitive,
         ) {
-            Ok(mappings) => Some(mappings.len()),
+            Ok(mappings) => Some(mappings.as_slice().len()),
             Err(_) => None,
         },
         Err(_) => None,
@@ -250,9 +247,10 @@ fn mapped_count(alloc: Global, rows: &[u8]) -> Option<usize> {
 
 #[test]
 fn mappings(rt: HostRuntime) {
-    assert_eq!(rt; mapped_count(rt.alloc(), UNMAPPED), Some(0));
+    assert_eq!(rt; mapped_count(rt.alloc(), LEFT_OUT), Some(0));
     assert_eq!(rt;
         mapped_count(rt.alloc(), b"f-3a/.gitattributes;f-1a/.gitignore"),
         Some(1)
     );
+    assert!(rt; matches!(Source::default(), Source::IdMapping));
 }

@@ -1,13 +1,9 @@
-//! Components that may be checked out, and directories that are made on the way to them.
-//!
-//! See docs/DECISIONS.md#checkout-delegate and docs/DIFFERENCES.md#gix-checkout-gone.
+//! Components that may be checked out, and the trees of checkouts.
 use bstr::ByteSlice;
 use gitbase_core::OutOfMemory;
 use std::alloc::Global;
-use worktree_fs::{AddError, CallKind, MemoryWorktree, NewNode, NodeKind, Worktree};
-use worktree_stack::delegate::create_leading_directory;
+use worktree_fs::{AddError, CallKind, MemoryWorktree, NewNode, NodeKind};
 use worktree_stack::validate::{ComponentError, Options, component};
-use worktree_stack::{AtPathError, DirectoryWhy};
 
 /// Names, whether each is to be a link (`l`), whether names are refused that mean more on Windows (`w`), and what is answered.
 const NAMES: &[u8] = b"\
@@ -26,26 +22,6 @@ a:b`-`w`windows\n\
 a:b`-`-`ok\n\
 a\\b`-`w`windows\n\
 a\\b`l`-`ok\n";
-
-/// What stands at `/w/a` (`f` a file, `l` a link to a directory, `o` another node, `d` a directory), whether it may be removed (`u`), the
-/// call that fails with its number, the path, and what is answered: a word, how often a directory was asked for, and the node there.
-const PATHS: &[u8] = b"\
--`-`-`/w/a`made`1`d\n\
-d`-`-`/w/a`made`1`d\n\
-d`u`-`/w/a`made`1`d\n\
-f`-`-`/w/a`collision`1`f\n\
-f`u`-`/w/a`made`2`d\n\
-l`-`-`/w/a`collision`1`l\n\
-l`u`-`/w/a`made`2`d\n\
-o`-`-`/w/a`collision`1`o\n\
-o`u`-`/w/a`made`2`d\n\
--`u`-`/w/x/a`no parent`1`-\n\
-f`u`-`/w/a/b`no parent`1`-\n\
--`-`m1`/w/a`fault`1`-\n\
-f`u`m2`/w/a`fault`2`-\n\
-f`u`r1`/w/a`fault`1`f\n\
-f`-`k1`/w/a`fault`1`f\n\
-f`u`k1`/w/a`fault`1`f\n";
 
 /// The first field of a row, and those behind it.
 pub fn parted(row: &[u8]) -> (&[u8], &[u8]) {
@@ -112,19 +88,6 @@ pub fn plan(alloc: Global, tree: &mut MemoryWorktree, call: &[u8]) -> Result<(),
     }
 }
 
-/// The word of an answer, where a refusal names the path.
-fn answer_word(answer: &Result<(), AtPathError>, path: &[u8]) -> &'static [u8] {
-    match answer {
-        Ok(()) => b"made",
-        Err(AtPathError::Collision { path: at }) if at.as_bytes() == path => b"collision",
-        Err(AtPathError::Directory { path: at, why }) if at.as_bytes() == path => match why {
-            DirectoryWhy::NoParent => b"no parent",
-            DirectoryWhy::Fault => b"fault",
-        },
-        Err(_) => b"another",
-    }
-}
-
 pub fn kind_word(kind: Option<NodeKind>) -> &'static [u8] {
     match kind {
         Some(NodeKind::File) => b"f",
@@ -132,39 +95,5 @@ pub fn kind_word(kind: Option<NodeKind>) -> &'static [u8] {
         Some(NodeKind::Directory) => b"d",
         Some(NodeKind::Untrackable) => b"o",
         None => b"-",
-    }
-}
-
-fn is_made(alloc: Global, row: &[u8]) -> bool {
-    let (node, rest) = parted(row);
-    let (unlinks, rest) = parted(rest);
-    let (call, rest) = parted(rest);
-    let (path, rest) = parted(rest);
-    let (want, rest) = parted(rest);
-    let (count, kind) = parted(rest);
-    let Ok(mut tree) = tree_of(alloc, node) else {
-        return false;
-    };
-    if plan(alloc, &mut tree, call).is_err() {
-        return false;
-    }
-    let mut calls = 0;
-    let answer = create_leading_directory(
-        alloc,
-        path,
-        unlinks == b"u".as_slice(),
-        &mut tree,
-        &mut calls,
-    );
-    let after = tree.kind(alloc, path).unwrap_or(None);
-    answer_word(&answer, path) == want
-        && crate::steps::is_digit(calls, count)
-        && kind_word(after) == kind
-}
-
-#[test]
-fn directories(rt: HostRuntime) {
-    for row in PATHS.lines() {
-        assert!(rt; is_made(rt.alloc(), row), "{row:?}");
     }
 }

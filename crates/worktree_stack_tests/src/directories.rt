@@ -12,12 +12,12 @@ use worktree_fs::{MemoryWorktree, Worktree};
 use worktree_stack::validate::Options;
 use worktree_stack::{AtPathError, Attributes, DirectoryWhy, Stack, State, attributes_source};
 
-/// What stands at `/w/a` (`l` a link to a directory, `f` a file, `-` nothing), or what else the tree is; whether what is in the way is
+/// What stands at `/w/a` (`l` a link to a directory, `f` a file, `o` another node, `d` a directory, `-` nothing), or what else the tree is; whether what is in the way is
 /// removed (`u`), and the call that fails with its number. Then for each lookup the path, the mode (`m` a submodule, `l` a link, `e` none, for
 /// an entry), what is answered, how often a directory was asked for and pushed in all, and a path with the node that is there then; where
 /// it stands, the state of the attribute `x` of the path that was looked up.
 ///
-/// See docs/DECISIONS.md#checkout-removes-rules and docs/DECISIONS.md#checkout-rules-made.
+/// See docs/DECISIONS.md#checkout-removes-rules, docs/DECISIONS.md#checkout-rules-made and docs/DIFFERENCES.md#gix-checkout-gone.
 const LOOKUPS: &[u8] = b"\
 l`-`-`a/f`-`collision`1`1`/w/a`l\n\
 l`u`-`a/f`-`ok`2`2`/w/a`d\n\
@@ -27,6 +27,11 @@ l`u`m1`a/f`-`fault`1`1`/w/a`l;a/f`-`ok`3`2`/w/a`d\n\
 l`u`m2`a/f`-`fault`2`1`/w/a`-;a/f`-`ok`3`2`/w/a`d\n\
 l`u`r1`a/f`-`fault`1`1`/w/a`l;a/f`-`ok`3`2`/w/a`d\n\
 f`-`-`a`-`ok`0`1`/w/a`f\n\
+f`-`-`a/f`-`collision`1`1`/w/a`f\n\
+f`u`k1`a/f`-`fault`1`1`/w/a`f\n\
+f`-`k1`a/f`-`fault`1`1`/w/a`f\n\
+o`u`-`a/f`-`ok`2`2`/w/a`d\n\
+d`u`-`a/f`-`ok`1`2`/w/a`d\n\
 -`-`-`b/.GIT/f`-`dot git`1`2`/w/b/.GIT`-\n\
 -`-`-`.gitmodules`l`modules link`0`1`/w/.gitmodules`-\n\
 -`-`-`.gitmodules`-`ok`0`1`/w/.gitmodules`-\n\

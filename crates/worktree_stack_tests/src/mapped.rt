@@ -1,7 +1,7 @@
 //! Cases of rules files that an index maps to blobs.
 use crate::failing::FailingStore;
 use crate::lookups::look_up_path;
-use crate::steps::{Scene, first_lie, id_of, is_digit, parse, parted};
+use crate::steps::{Scene, first_lie, id_of, parse, parted};
 use bstr::ByteSlice;
 use gitbase_core::{Flags, IndexEntry, MemoryStore, Mode, OutOfMemory, PathText, State as Index};
 use glob_rules::Case;
@@ -9,7 +9,7 @@ use glob_rules::ignore::Search;
 use std::alloc::Global;
 use worktree_fs::MemoryWorktree;
 use worktree_stack::ignore_source::Source;
-use worktree_stack::{AtPathError, BlobWhy, Ignore, Stack, State};
+use worktree_stack::{AtPathError, BlobWhy, Ignore, PathIdMapping, Stack, State};
 
 /// Cases, parted by `@`. Each begins with `m` for rules from mappings alone or `w` for the worktree first, with `f` where
 /// letters are folded, and with the entries of the index, parted by `;`: `f` for a file, `o` and `t` for ours and theirs in a
@@ -130,19 +130,51 @@ fn cases(rt: HostRuntime) {
 const MAPPED: &[u8] =
     b"fs1.gitignore;f-2a/.gitignore;x-3b/.gitignore;f-4c/.gitattributes;o-5d/.gitignore;t-6d/.gitignore";
 
-/// Whether so many rules files are mapped, the first one to the blob 1.
-fn has_mappings(alloc: Global, source: &[u8], want: &[u8]) -> bool {
-    let Some(index) = index_of(alloc, MAPPED) else {
+/// An index of a file of attributes, and of two rules files of which one is left out of the worktree.
+pub const LEFT_OUT: &[u8] = b"x-3.gitattributes;fs1.gitignore;f-2a/.gitignore";
+
+/// What stands behind a mapping, which is written as the digit of its id, its path and a `;`.
+fn behind_mapping<'a>(rest: &'a [u8], mapping: &PathIdMapping) -> Option<&'a [u8]> {
+    let (digit, path) = rest.split_at(rest.len().min(1));
+    if mapping.1 != id_of(digit) {
+        return None;
+    }
+    match path.strip_prefix(mapping.0.as_bytes()) {
+        Some(behind) => behind.strip_prefix(b";"),
+        None => None,
+    }
+}
+
+/// Whether these are the mappings that are written so.
+fn are_mapped(mappings: &[PathIdMapping], want: &[u8]) -> bool {
+    let mut rest = want;
+    for mapping in mappings {
+        match behind_mapping(rest, mapping) {
+            Some(behind) => rest = behind,
+            None => return false,
+        }
+    }
+    rest.is_empty()
+}
+
+/// Whether a state of ignore rules has these mappings of an index.
+fn has_mappings(alloc: Global, source: &[u8], rows: &[u8], want: &[u8]) -> bool {
+    let Some(index) = index_of(alloc, rows) else {
         return false;
     };
     match state_of(alloc, source) {
         Ok(state) => match state.id_mappings_from_index(alloc, &index, Case::Sensitive) {
+<<<<<<< HEAD
+            Ok(mappings) => are_mapped(&mappings, want),
+=======
             Ok(mappings) => {
-                is_digit(mappings.len(), want)
+                is_digit(mappings.as_slice().len(), want)
                     && mappings
+                        .as_slice()
                         .first()
                         .is_some_and(|mapping| mapping.1 == id_of(b"1"))
             }
+>>>>>>> e189a9d113c5c7f14ecf2ce0368150eac954db38
             Err(_) => false,
         },
         Err(_) => false,
@@ -151,8 +183,18 @@ fn has_mappings(alloc: Global, source: &[u8], want: &[u8]) -> bool {
 
 #[test]
 fn mappings(rt: HostRuntime) {
-    assert!(rt; has_mappings(rt.alloc(), b"w", b"1"));
-    assert!(rt; has_mappings(rt.alloc(), b"m", b"3"));
+    let alloc = rt.alloc();
+    assert!(rt; has_mappings(alloc, b"w", LEFT_OUT, b"1.gitignore;"));
+    assert!(rt; has_mappings(alloc, b"m", LEFT_OUT, b"1.gitignore;2a/.gitignore;"));
+    assert!(rt; has_mappings(alloc, b"w", MAPPED, b"1.gitignore;"));
+    assert!(rt;
+        has_mappings(
+            alloc,
+            b"m",
+            MAPPED,
+            b"1.gitignore;2a/.gitignore;5d/.gitignore;"
+        )
+    );
 }
 
 /// Whether a lookup says that the store failed.

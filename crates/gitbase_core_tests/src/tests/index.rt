@@ -254,6 +254,13 @@ fn holds(alloc: Global, row: &[u8]) -> bool {
 }
 
 #[test]
+fn flags_intersect(rt: HostRuntime) {
+    let both = Flags::UPTODATE.union(Flags::SKIP_WORKTREE);
+    assert!(rt; both.intersects(Flags::SKIP_WORKTREE.union(Flags::ASSUME_VALID)));
+    assert!(rt; !both.intersects(Flags::ASSUME_VALID));
+}
+
+#[test]
 fn lists_and_what_an_index_says(rt: HostRuntime) {
     for row in ROWS.split(|byte| *byte == b'|') {
         assert!(rt; holds(rt.alloc(), row), "{row:?}");

@@ -6,15 +6,15 @@ use std::fmt::Display;
 
 /// Rows, parted by bars: an error and its text, parted by a backquote.
 const ROWS: &[u8] = b"\
-no room`Out of memory: the allocator refused to make room|\
-no room for a blob`Out of memory: the allocator refused to make room|\
-fault`An object could not be read from the store|\
-length`An object id has 40 hexadecimal digits|\
-digit`Invalid character encountered at offset 3: it is no hexadecimal digit|\
-path`The path of entry 3 is empty, begins with a slash or has an empty component|\
-mode`The path of entry 3 does not fit its mode: that of a directory ends in a slash, and no other|\
-order`Entry 3 does not follow the one before it by path and stage|\
-stage`The stage of entry 3 is above 3, or its path has stage 0 beside another";
+no room`OutOfMemory|\
+no room for a blob`OutOfMemory|\
+fault`Fault|\
+length`Length|\
+digit`Digit|\
+path`Path|\
+mode`ModePath|\
+order`NotAscending|\
+stage`Stage";
 
 /// Whether an error is shown by a text.
 fn is_shown<E: Display + Drop>(alloc: Global, error: E, want: &[u8]) -> bool {
@@ -41,7 +41,7 @@ fn holds(alloc: Global, row: &[u8]) -> bool {
 }
 
 #[test]
-fn errors_are_shown_by_sentences(rt: HostRuntime) {
+fn errors_are_shown_by_their_names(rt: HostRuntime) {
     for row in ROWS.split(|byte| *byte == b'|') {
         assert!(rt; holds(rt.alloc(), row), "{row:?}");
     }

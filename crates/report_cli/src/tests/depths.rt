@@ -4,6 +4,9 @@ use gitbase_core::OutOfMemory;
 use std::alloc::Global;
 use worktree_fs::NewNode;
 
+/// A limit that is the one of a setup without it.
+pub const LIMITED: &[u8] = b"depth 256\n";
+
 /// The deepest tree that a setup can ask for, in which each directory is entered without a look for rules or repositories.
 pub const DEEPEST: &[u8] = b"depth 1000\noption recurse_repositories yes\noption excludes no\n";
 

@@ -1,5 +1,6 @@
 //! Each call that goes outside fails in turn: how a report ends then.
-use crate::tests::rows::A_FILE;
+use crate::tests::rows::{A_FILE, REQUIRED, WITHOUT_RULES};
+use crate::tests::walks::{COUNTED, TWO};
 use worktree_fs::{CallKind, NewNode};
 
 /// A git directory's `HEAD`.
@@ -124,6 +125,46 @@ pub static EACH_IN_TURN: [(Failing, Ending, Ending); 17] = [
         (0, BOTH, 0),
     ),
     (Failing::Interrupt(3), (0, BOTH, 0), (0, BOTH, 0)),
+];
+
+/// A worktree with its setup, what fails, and how a run ends.
+pub type Case = (
+    &'static [(&'static [u8], NewNode<'static>)],
+    &'static [u8],
+    Failing,
+    Ending,
+);
+
+/// One file.
+const ONE: &[(&[u8], NewNode<'static>)] = &[(b"/w/a", A_FILE)];
+
+pub static CASES: [Case; 6] = [
+    (
+        TWO,
+        COUNTED,
+        Failing::Call(CallKind::ListOpen, 2),
+        (6, b"worktree fault\n", 1),
+    ),
+    (TWO, COUNTED, Failing::Out, (7, b"output fault\n", 0)),
+    (
+        TWO,
+        COUNTED,
+        Failing::Interrupt(2),
+        (1, b"interrupted\n", 0),
+    ),
+    (ONE, REQUIRED, Failing::Call(CallKind::Kind, 2), (0, b"", 1)),
+    (
+        ONE,
+        WITHOUT_RULES,
+        Failing::Call(CallKind::Read, 1),
+        (6, b"worktree fault\n", 1),
+    ),
+    (
+        ONE,
+        WITHOUT_RULES,
+        Failing::Call(CallKind::ListOpen, 1),
+        (6, b"worktree fault\n", 1),
+    ),
 ];
 
 /// Untracked directories are told in place of what lies in them.

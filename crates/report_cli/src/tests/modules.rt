@@ -67,31 +67,39 @@ pub static MODULED: [Row; 9] = [
     Row {
         name: "a second submodule of the same path",
         nodes: &[
+            (b"/g/m/HEAD", HEAD),
+            (b"/g/m/objects", NewNode::Directory),
+            (b"/g/m/refs", NewNode::Directory),
             (
                 b"/w/.gitmodules",
-                NewNode::File(b"[submodule \"m\"]\npath = f\n[submodule \"n\"]\npath = f\n"),
+                NewNode::File(
+                    b"[submodule \"m\"]\npath = lib\nurl = u\n[submodule \"n\"]\npath = lib\n",
+                ),
             ),
-            (b"/w/f", NewNode::File(b"")),
+            (b"/w/lib/.git", LINK),
             (b"/c", CONFIG),
         ],
-        setup: b"option submodules yes\nconfig local /c\n",
+        setup: WITH_CONFIG,
         status: 0,
-        out: b"untracked file - always - - -\t.gitmodules\nuntracked file - always - - active:m\tf\n",
+        out: b"tracked file file always - - -\t.gitmodules\ntracked repository repository always - - active:m\tlib\n",
         err: b"",
     },
     Row {
         name: "a path that leads out of the worktree",
         nodes: &[
+            (b"/g/m/HEAD", HEAD),
+            (b"/g/m/objects", NewNode::Directory),
+            (b"/g/m/refs", NewNode::Directory),
             (
                 b"/w/.gitmodules",
                 NewNode::File(b"[submodule \"m\"]\npath = ../lib\nurl = u\n"),
             ),
-            (b"/w/lib", NewNode::File(b"")),
+            (b"/w/lib/.git", LINK),
             (b"/c", CONFIG),
         ],
-        setup: b"option submodules yes\nconfig local /c\n",
+        setup: WITH_CONFIG,
         status: 0,
-        out: b"untracked file - always - - -\t.gitmodules\nuntracked file - always - - -\tlib\n",
+        out: b"tracked file file always - - -\t.gitmodules\ntracked repository repository always - - -\tlib\n",
         err: b"",
     },
     Row {

@@ -19,7 +19,7 @@ pub struct Row {
 
 pub const A_FILE: NewNode<'static> = NewNode::File(b"");
 
-pub static REPORTS: [Row; 8] = [
+pub static REPORTS: [Row; 9] = [
     Row {
         name: "one file",
         nodes: &[(b"/w/a", A_FILE)],
@@ -32,6 +32,14 @@ pub static REPORTS: [Row; 8] = [
         name: "one file, without rules",
         nodes: &[(b"/w/a", A_FILE)],
         setup: WITHOUT_RULES,
+        status: 0,
+        out: b"untracked file - always - -\ta\n",
+        err: b"",
+    },
+    Row {
+        name: "one file, and no other line than that there are no rules",
+        nodes: &[(b"/w/a", A_FILE)],
+        setup: b"option excludes no\n",
         status: 0,
         out: b"untracked file - always - -\ta\n",
         err: b"",
@@ -102,7 +110,7 @@ pub static IGNORED: [Row; 6] = [
             (b"/w/a.o", A_FILE),
             (b"/w/k.o", A_FILE),
         ],
-        setup: b"option recurse_repositories yes\noption emit_ignored matching\n",
+        setup: b"option emit_ignored matching\n",
         status: 0,
         out: b"untracked file - always - -\t.gitignore\nignored file - always - -\ta.o\nuntracked file - always - -\tk.o\n",
         err: b"",

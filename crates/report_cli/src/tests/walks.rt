@@ -6,7 +6,7 @@ use worktree_fs::NewNode;
 const HEAD: NewNode<'static> = NewNode::File(b"ref: refs/heads/main\n");
 
 /// Two files in a directory.
-const TWO: &[(&[u8], NewNode<'static>)] = &[(b"/w/d/a", A_FILE), (b"/w/d/b", A_FILE)];
+pub const TWO: &[(&[u8], NewNode<'static>)] = &[(b"/w/d/a", A_FILE), (b"/w/d/b", A_FILE)];
 
 /// A work tree with a submodule, ignored and untracked files, beside its own git directory.
 const CHECKOUT: &[(&[u8], NewNode<'static>)] = &[
@@ -28,11 +28,14 @@ const CHECKOUT: &[(&[u8], NewNode<'static>)] = &[
     (b"/w/notes/b", A_FILE),
 ];
 
-pub static FOLDED: [Row; 6] = [
+/// Untracked directories are told in place of what lies in them, and the counts of the walk.
+pub const COUNTED: &[u8] = b"option emit_untracked collapse\noption print_outcome yes\n";
+
+pub static FOLDED: [Row; 7] = [
     Row {
         name: "a directory in place of its files",
         nodes: TWO,
-        setup: b"option emit_untracked collapse\noption print_outcome yes\n",
+        setup: COUNTED,
         status: 0,
         out: b"untracked directory - always - -\td\n# read_dir 2 returned 1 seen 3\n",
         err: b"",
@@ -80,6 +83,14 @@ pub static FOLDED: [Row; 6] = [
         setup: b"worktree d\noption emit_tracked yes\n",
         status: 0,
         out: b"tracked repository - always - -\td\n",
+        err: b"",
+    },
+    Row {
+        name: "a worktree of its own that is a file",
+        nodes: &[(b"/w/x", A_FILE)],
+        setup: b"worktree x\noption emit_tracked yes\n",
+        status: 0,
+        out: b"tracked repository - always - -\tx\n",
         err: b"",
     },
 ];

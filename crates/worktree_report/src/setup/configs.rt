@@ -1,9 +1,8 @@
 //! The configurations that a setup names.
-ghost use Rattle.std.specs.Prelude.{◌≡◌, []};
+ghost use Rattle.std.specs.Prelude.{◌≡◌};
 
 use git_config_lite::Source;
 use gitbase_core::PathText;
-use std::alloc::Global;
 use std::marker::Model;
 
 /// Configurations in the order in which they are read: what each belongs to, and the path of its
@@ -25,15 +24,6 @@ impl Model for Configs {
 }
 
 impl Configs {
-    /// No configurations; takes no memory.
-    pub fn new(alloc: Global) -> Configs
-        ensures { result ≡ [] }
-    {
-        Configs {
-            items: Vec::new(alloc),
-        }
-    }
-
     /// The configurations of the vector; takes no memory.
     pub fn from_vec(items: Vec<(Source, PathText)>) -> Configs
         ensures { result ≡ items.items }

@@ -1,15 +1,15 @@
 //! What is pushed for a directory: what is said of attributes, and then the rules that exclude paths.
 ghost use Rattle.std.specs.Prelude.{◌≡◌, ◌++◌, IfOk, OnOk, OnErr};
-ghost use Rattle.glob_rules.specs.AttributeLines as texts;
-ghost use Rattle.glob_rules.specs.AttributeNames.{names_in};
+ghost use Rattle.glob_rules.specs.AttributeNames.{SeesPart};
 ghost use Rattle.gitbase_core.specs.Path.{is_empty};
 ghost use Rattle.worktree_fs.specs.Paths.{fronts, spelled};
 ghost use Rattle.worktree_fs.specs.PathStack.{push_directory};
 ghost use Rattle.worktree_stack.specs.Counted.{count_call};
 ghost use Rattle.worktree_stack.specs.Excludes.{ancestors};
 ghost use Rattle.worktree_stack.specs.Placed.{Reads};
-ghost use Rattle.worktree_stack.specs.Reading.{Sources, Tells, attribute_readings, own_readings, info_readings_if, ignore_readings, readings_of, rulebook, rules_from, text_of, bytes_of, attributes_from, lists_if, own_lists_if, info_lists_if};
-ghost use Rattle.worktree_stack.specs.Setup.{attributes_name, attributes_setup_of, lists_of, push_list, IsLonger};
+ghost use Rattle.worktree_stack.specs.Reading.{Sources, Tells, attribute_readings, own_readings, info_readings_if, ignore_readings, readings_of, rulebook, rules_from, text_of, attributes_from, lists_if, own_lists_if, info_lists_if};
+ghost use Rattle.worktree_stack.specs.SeenNames.{Sees, info_names_if, names_at, names_from, names_if, own_names_if};
+ghost use Rattle.worktree_stack.specs.Setup.{attributes_name, attributes_setup_of, lists_of, names_of, push_list, IsLonger};
 ghost use Rattle.worktree_stack.specs.Stacked.{HoldsFor, HoldsRules, HasAsMany, HasAsManyRules, PushesLists, attributes_of, checkout_of, ignore_of, info_count_if, own_count, count_at, made_of};
 
 use super::Stack;
@@ -127,6 +127,9 @@ impl Stack {
             (spelled self.old.current)) }
         ensures many { OnOk result (IsLonger (own_count (made_of self.old).attributes)
             (lists_of self.old.attributes) (lists_of self.new.attributes)) }
+        ensures names { Sees (W.told worktree.old) (F.holds objects.old)
+            (λ s. own_names_if (made_of self.old) (made_of self.old).attributes s
+            (spelled self.old.current)) self.old.attributes self.new.attributes result }
         ensures reads { Reads W.Worktree F.Find worktree.old worktree.new objects.old objects.new
             (own_readings (made_of self.old) (made_of self.old).attributes
             (spelled self.old.current)) self.old.statistics self.new.statistics result }
@@ -189,6 +192,9 @@ impl Stack {
         ensures many { OnOk result (IsLonger
             (info_count_if (made_of self.old).attributes (spelled self.old.current))
             (lists_of self.old.attributes) (lists_of self.new.attributes)) }
+        ensures names { Sees (W.told worktree.old) (F.holds objects.old)
+            (λ s. info_names_if (made_of self.old).attributes s (spelled self.old.current))
+            self.old.attributes self.new.attributes result }
         ensures reads { Reads W.Worktree F.Find worktree.old worktree.new objects.old objects.new
             (info_readings_if (made_of self.old).attributes (spelled self.old.current))
             self.old.statistics self.new.statistics result }
@@ -242,6 +248,9 @@ impl Stack {
         ensures many { OnOk result (IsLonger
             (count_at (made_of self.old).attributes (spelled self.old.current))
             (lists_of self.old.attributes) (lists_of self.new.attributes)) }
+        ensures names { Sees (W.told worktree.old) (F.holds objects.old)
+            (λ s. names_if (made_of self.old) (made_of self.old).attributes s
+            (spelled self.old.current)) self.old.attributes self.new.attributes result }
         ensures reads { Reads W.Worktree F.Find worktree.old worktree.new objects.old objects.new
             (attribute_readings (made_of self.old) (made_of self.old).attributes
             (spelled self.old.current)) self.old.statistics self.new.statistics result }
@@ -283,6 +292,9 @@ impl Stack {
         ensures lists { (s : Sources) → Tells (W.told worktree.old) (F.holds objects.old) s
             → OnOk result (PushesLists (made_of self.old) s self.old.current self.old.attributes
             self.new.attributes) }
+        ensures names { Sees (W.told worktree.old) (F.holds objects.old)
+            (λ s. names_at (made_of self.old) s self.old.current) self.old.attributes
+            self.new.attributes result }
         ensures levels { HasAsMany (ancestors self.old.current) self.old.attributes self.old.ignore
             → OnOk result (HasAsMany (fronts self.old.current) self.new.attributes
             self.new.ignore) }
@@ -335,7 +347,8 @@ fn list_of(
     List::from_bytes(alloc, bytes.as_bytes(), Some(source), base, parse)
 }
 
-/// Pushes the list of a text that was read, which speaks of attributes. Where memory is refused nothing is pushed.
+/// Pushes the list of a text that was read, which speaks of attributes. Where memory is refused nothing is pushed, and the first of its
+/// names may be seen.
 /// See docs/DECISIONS.md#attribute-bases.
 fn push_text(
     state: &mut State,
@@ -347,7 +360,7 @@ fn push_text(
 ) -> Result<(), OutOfMemory>
     ensures pushed { OnOk result (attributes_of state.new ≡ push_list
         (attributes_from allow_macros directory.now (text_of source bytes.now))
-        (names_in (texts.lines allow_macros (bytes_of (text_of source bytes.now))))
+        (names_from allow_macros (text_of source bytes.now))
         (attributes_of state.old)) }
     ensures setup { attributes_setup_of (attributes_of state.new) ≡ attributes_setup_of
         (attributes_of state.old) }
@@ -355,6 +368,8 @@ fn push_text(
     ensures checkout { checkout_of state.new ≡ checkout_of state.old }
     ensures refused { OnErr result
         (lists_of (attributes_of state.new) ≡ lists_of (attributes_of state.old)) }
+    ensures seen { OnErr result (SeesPart (names_of (attributes_of state.old))
+        (names_from allow_macros (text_of source bytes.now)) (names_of (attributes_of state.new))) }
 {
     let base = PathText::from_bytes(alloc, directory)?;
     let Some(source) = source else {

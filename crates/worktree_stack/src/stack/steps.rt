@@ -15,7 +15,8 @@ ghost use Rattle.worktree_stack.specs.Lookups.{IsIn, asks_worktree, is_dir_of, I
 ghost use Rattle.worktree_stack.specs.Making.{Way, mkdirs};
 ghost use Rattle.worktree_stack.specs.Reading.{Sources, Tells, places_in, readings_of};
 ghost use Rattle.worktree_stack.specs.Stacked.{IsInStep, IsLevel, PushesLists, made_of, pushed};
-ghost use Rattle.worktree_stack.specs.Setup.{has_attributes, lists_of};
+ghost use Rattle.worktree_stack.specs.SeenNames.{Sees, names_at, names_on};
+ghost use Rattle.worktree_stack.specs.Setup.{has_attributes, lists_of, names_of};
 ghost use Rattle.worktree_stack.specs.Steps.{CarriesOut, Stops};
 
 use super::Stack;
@@ -37,6 +38,7 @@ impl Stack {
         ensures carried { (told : Option Names) (holds : Option Objects)
             → CarriesOut told holds (pop_directory ∷ []) self.old self.new }
         ensures dropped { AreLowest (lists_of self.new.attributes) (lists_of self.old.attributes) }
+        ensures names { names_of self.new.attributes ≡ names_of self.old.attributes }
     {
         self.state.pop_ignore();
         self.state.pop_attributes(self.stack.deepest());
@@ -81,6 +83,7 @@ impl Stack {
             → CarriesOut told holds (replicate (surplus self.old.at (components relative.now))
             pop_directory) self.old self.new }
         ensures dropped { AreLowest (lists_of self.new.attributes) (lists_of self.old.attributes) }
+        ensures names { names_of self.new.attributes ≡ names_of self.old.attributes }
         ensures undropped { surplus self.old.at (components relative.now) ≡ 0
             → lists_of self.new.attributes ≡ lists_of self.old.attributes }
     {
@@ -119,6 +122,9 @@ impl Stack {
         ensures lists { (s : Sources) → Tells (W.told worktree.old) (F.holds objects.old) s
             → OnOk result (PushesLists (made_of self.old) s self.old.current self.old.attributes
             self.new.attributes) }
+        ensures names { Sees (W.told worktree.old) (F.holds objects.old)
+            (λ s. names_at (made_of self.old) s self.old.current) self.old.attributes
+            self.new.attributes result }
         ensures in_step { (s : Sources) → Tells (W.told worktree.old) (F.holds objects.old) s
             → pushed self.old.at ≡ ancestors self.old.current → IsInStep s self.old
             → IsInStep s self.new }
@@ -192,6 +198,9 @@ impl Stack {
         ensures answered { self.new.is_answered ≡ self.old.is_answered }
         ensures platforms { self.new.statistics.platforms ≡ self.old.statistics.platforms }
         ensures mkdirs { mkdirs self.new ≡ mkdirs self.old }
+        ensures names { Sees (W.told worktree.old) (F.holds objects.old)
+            (λ s. names_on (made_of self.old) s (root_calls self.old.at))
+            self.old.attributes self.new.attributes result }
         ensures carried { OnOk result (CarriesOut (W.told worktree.old) (F.holds objects.old)
             (root_calls self.old.at) self.old self.new) }
         ensures stopped { IfErr result (Stops (W.told worktree.old) (F.holds objects.old)
@@ -240,6 +249,10 @@ impl Stack {
         ensures is_dir { self.new.is_dir ≡ self.old.is_dir }
         ensures answered { self.new.is_answered ≡ self.old.is_answered }
         ensures platforms { self.new.statistics.platforms ≡ self.old.statistics.platforms }
+        ensures names { Sees (W.told worktree.old) (F.holds objects.old)
+            (λ s. names_on (made_of self.old) s
+            (calls_for (deepest_names self.old.at) name.now false))
+            self.old.attributes self.new.attributes result }
         ensures carried { OnOk result (CarriesOut (W.told worktree.old) (F.holds objects.old)
             (calls_for (deepest_names self.old.at) name.now false) self.old self.new) }
         ensures stopped { IfErr result (Stops (W.told worktree.old) (F.holds objects.old)
@@ -283,6 +296,10 @@ impl Stack {
         ensures is_dir { self.new.is_dir ≡ self.old.is_dir }
         ensures answered { self.new.is_answered ≡ self.old.is_answered }
         ensures platforms { self.new.statistics.platforms ≡ self.old.statistics.platforms }
+        ensures names { Sees (W.told worktree.old) (F.holds objects.old)
+            (λ s. names_on (made_of self.old) s
+            (calls_below (deepest_names self.old.at) (components left.now)))
+            self.old.attributes self.new.attributes result }
         ensures carried { OnOk result (CarriesOut (W.told worktree.old) (F.holds objects.old)
             (calls_below (deepest_names self.old.at) (components left.now)) self.old self.new) }
         ensures stopped { IfErr result (Stops (W.told worktree.old) (F.holds objects.old)
@@ -332,6 +349,10 @@ impl Stack {
         ensures is_dir { self.new.is_dir ≡ self.old.is_dir }
         ensures answered { self.new.is_answered ≡ self.old.is_answered }
         ensures platforms { self.new.statistics.platforms ≡ self.old.statistics.platforms }
+        ensures names { Sees (W.told worktree.old) (F.holds objects.old)
+            (λ s. names_on (made_of self.old) s
+            (lookup_calls self.old.at (components relative.now)))
+            self.old.attributes self.new.attributes result }
         ensures carried { OnOk result (CarriesOut (W.told worktree.old) (F.holds objects.old)
             (lookup_calls self.old.at (components relative.now)) self.old self.new) }
         ensures stopped { IfErr result (Stops (W.told worktree.old) (F.holds objects.old)

@@ -1,4 +1,4 @@
-use Rattle.std.proofs.Common.{◌≡◌, inl, ◌+◌, ap, sym, refl, ◌∙◌, length, arith, eqb-true}
+use Rattle.std.proofs.Common.{◌≡◌, inl, ◌+◌, ap, sym, refl, ◌∙◌, length, arith, eqb-true, rules}
 use Rattle.std.proofs.lemmas.Result.{IfOk-weaker, on_err_weaker, err_from_is_err_and}
 use Rattle.gitbase_core.specs.Path.{joined}
 use Rattle.worktree_fs.specs.Answers.{ListsNames}
@@ -11,7 +11,7 @@ use Rattle.dir_walk.specs.Emits.{Gives}
 use Rattle.dir_walk.specs.Told.{look_directory, item_told}
 use Rattle.dir_walk.proofs.Emitting.{Within-all}
 use Rattle.dir_walk.proofs.Ending.{Caused-later, Caused-memory}
-use Rattle.dir_walk.proofs.Keeping.{Heeds-after, KeepsDelegate-same, KeepsDelegate-then, KeepsRules-same, KeepsRules-then, AsksStore-same, AsksStore-then, KeepsTree-then, AsksInterrupt-then}
+use Rattle.dir_walk.proofs.Keeping.{Heeds-after, KeepsDelegate-same, KeepsDelegate-then, KeepsRules-same, KeepsRules-then, AsksStore-same, AsksStore-then, KeepsTree-then, AsksInterrupt-then, KeepsDelegate-asked}
 use Rattle.dir_walk.proofs.Apart.{apart-end, apart-one, apart-then, apart-tried}
 use Rattle.dir_walk.proofs.Entered.{enters-all, enters-last, enters-more}
 use Rattle.dir_walk.proofs.Listed.{entered-empty, HasNames-listed, HasPaths-name, Gives-empty, Gives-listed, part-empty, part-name, part-close}
@@ -23,33 +23,49 @@ use Rattle.dir_walk.specs.Unopened.{unlisted_one}
 use Rattle.dir_walk.proofs.Shallow.{shallow-memory}
 use Rattle.dir_walk.proofs.children.walk_children.Goals as goal
 
-pub returns-in_err-names-clause-delegate : goal.returns-in_err-names-clause-delegate
-returns-in_err-names-clause-delegate g c = KeepsDelegate-same
+pub returns-in_err-names-clause-walks : goal.returns-in_err-names-clause-walks
+returns-in_err-names-clause-walks g c =
+    record {
+      about = λ limit level.
+          let p = err_from_is_err_and c.from_residual.result c.from_residual.ensures.1 in
+          rw (p.1, p.2) (rw c.requires.root at (c.in_err-names.ensures.about (made_with c.args.excludes.now) limit (omega (arith, level))));
+      found = λ s told.
+          let a = c.args in let p = err_from_is_err_and c.from_residual.result c.from_residual.ensures.1 in
+          rw (p.1, p.2) (IsInTree-open (g.F.Find.holds a.objects.now) s (made_with a.excludes.now) a.shared.now.worktree_root.now a.place.now.path _ (rw c.requires.root at (c.in_err-names.ensures.refused s.tree told)));
+      caused =
+          let p = err_from_is_err_and c.from_residual.result c.from_residual.ensures.1 in let stored = g.F.Find.faults c.args.objects.now in
+          rw (p.1, p.2) (record { fault = c.in_err-names.ensures.fault stored stored; interrupt = c.in_err-names.ensures.raised; listing = c.in_err-names.ensures.listing; listed = tt; calm = tt });
+      worktree = search rules;
+      store = search rules;
+      interrupt = search rules;
+      hands =
+          let p = err_from_is_err_and c.from_residual.result c.from_residual.ensures.1 in rw p.1 (Hands-none refl c.open.ensures.returned c.open.ensures.seen);
+      delegate = KeepsDelegate-same;
+      filtered = search rules;
+      heeds = search rules;
+    }
 
-pub returns-in_err-names-clause-caused : goal.returns-in_err-names-clause-caused
-returns-in_err-names-clause-caused g c =
-    let p = err_from_is_err_and c.from_residual.result c.from_residual.ensures.1 in let stored = g.F.Find.faults c.args.objects.now in
-    rw (p.1, p.2) (record { fault = c.in_err-names.ensures.fault stored stored; interrupt = c.in_err-names.ensures.raised; listing = c.in_err-names.ensures.listing; listed = tt; calm = tt })
-
-pub returns-then-is_empty-clause-gives : goal.returns-then-is_empty-clause-gives
-returns-then-is_empty-clause-gives g c = λ made s stands quiet default limit level.
-    let a = c.args in let told = g.D.Delegate.given in let given = setting_of g.M.Matcher a.shared.now in
-    let d = a.place.now.path in let ev = evidence given made s in let names = c.in_ok-names.names in
-    let bare : length names ≡ 0 = ap length (sym c.as_slice.ensures) ∙ eqb-true (length c.as_slice.result.now) 0 (sym c.is_empty.ensures ∙ c.if-is_empty.true) in
-    let lists : ListsNames (look_directory given s.tree d) names = rw c.requires.root at (c.in_ok-names.ensures.lists s.tree stands.tree) in
-    let opened = c.in_ok-names.ensures.counted (told a.delegate.now) in let is = IsEvidence-told given made s a.blocked.now stands.blocked_is in
-    IfOk-weaker c.close_empty.result _ _ (λ h closes. Gives-empty given made s d a.class.now names lists bare limit _ _ _ _ _ _ h (omega (arith, level)) opened closes)
-    (rw c.path-path.ensures.path at (c.close_empty.ensures.gives ev is))
-
-pub returns-then-is_empty-clause-part : goal.returns-then-is_empty-clause-part
-returns-then-is_empty-clause-part g c = λ made s stands quiet default.
-    let a = c.args in let given = setting_of g.M.Matcher a.shared.now in let d = a.place.now.path in let ev = evidence given made s in
-    let names = c.in_ok-names.names in
-    let bare : length names ≡ 0 = ap length (sym c.as_slice.ensures) ∙ eqb-true (length c.as_slice.result.now) 0 (sym c.is_empty.ensures ∙ c.if-is_empty.true) in
-    let lists : ListsNames (look_directory given s.tree d) names = rw c.requires.root at (c.in_ok-names.ensures.lists s.tree stands.tree) in
-    let opened = c.in_ok-names.ensures.counted (g.D.Delegate.given a.delegate.now) in
-    let is = IsEvidence-told given made s a.blocked.now stands.blocked_is in
-    on_err_weaker c.close_empty.result (λ part. part-empty given made s d a.class.now names lists bare _ _ _ a.outcome.now c.open.new.outcome c.close_empty.new.outcome opened part) (rw c.path-path.ensures.path at (c.close_empty.ensures.part ev is))
+pub returns-then-is_empty-clause-told : goal.returns-then-is_empty-clause-told
+returns-then-is_empty-clause-told g c =
+    record {
+      gives = λ made s stands quiet default limit level.
+          let a = c.args in let told = g.D.Delegate.given in let given = setting_of g.M.Matcher a.shared.now in
+          let d = a.place.now.path in let ev = evidence given made s in let names = c.in_ok-names.names in
+          let bare : length names ≡ 0 = ap length (sym c.as_slice.ensures) ∙ eqb-true (length c.as_slice.result.now) 0 (sym c.is_empty.ensures ∙ c.if-is_empty.true) in
+          let lists : ListsNames (look_directory given s.tree d) names = rw c.requires.root at (c.in_ok-names.ensures.lists s.tree stands.tree) in
+          let opened = c.in_ok-names.ensures.counted (told a.delegate.now) in let is = IsEvidence-told given made s a.blocked.now stands.blocked_is in
+          IfOk-weaker c.close_empty.result _ _ (λ h closes. Gives-empty given made s d a.class.now names lists bare limit _ _ _ _ _ _ h (omega (arith, level)) opened closes)
+          (rw c.path-path.ensures.path at (c.close_empty.ensures.gives ev is));
+      part = λ made s stands quiet default.
+          let a = c.args in let given = setting_of g.M.Matcher a.shared.now in let d = a.place.now.path in let ev = evidence given made s in
+          let names = c.in_ok-names.names in
+          let bare : length names ≡ 0 = ap length (sym c.as_slice.ensures) ∙ eqb-true (length c.as_slice.result.now) 0 (sym c.is_empty.ensures ∙ c.if-is_empty.true) in
+          let lists : ListsNames (look_directory given s.tree d) names = rw c.requires.root at (c.in_ok-names.ensures.lists s.tree stands.tree) in
+          let opened = c.in_ok-names.ensures.counted (g.D.Delegate.given a.delegate.now) in
+          let is = IsEvidence-told given made s a.blocked.now stands.blocked_is in
+          on_err_weaker c.close_empty.result (λ part. part-empty given made s d a.class.now names lists bare _ _ _ a.outcome.now c.open.new.outcome c.close_empty.new.outcome opened part) (rw c.path-path.ensures.path at (c.close_empty.ensures.part ev is));
+      refused = λ made s stands default limit level. memory-only c.close_empty.result _ (inl tt) c.close_empty.ensures.memory;
+    }
 
 pub loop-name-init : goal.loop-name-init
 loop-name-init g c =
@@ -71,201 +87,199 @@ loop-name-init g c =
           rw (c.new-held.ensures.entries, c.new-held.ensures.blocked) (SoFar-none given made s limit a.place.now.path (told a.delegate.now) (told a.delegate.now) a.outcome.now c.open.new.outcome (c.in_ok-names.ensures.counted (told a.delegate.now)));
     }
 
-pub returns-in_err-handed-clause-part : goal.returns-in_err-handed-clause-part
-returns-in_err-handed-clause-part g c = λ made s stands quiet default.
-    let a = c.args in let w = g.W.Worktree in let given = setting_of g.M.Matcher a.shared.now in let d = a.place.now.path in
-    let has = HasNames-listed given s.tree d c.as_slice.ensures c.is_empty.ensures c.if-is_empty.false c.as_slice-name-items.ensures c.in_ok-names.ensures.names (rw c.requires.root at (c.in_ok-names.ensures.lists s.tree stands.tree)) in
-    let kept = c.loop-name.invariant in
-    let now = Stands-later given c.loop-name.excludes kept.worktree.tree kept.store.holds kept.rules.made kept.rules.in_step stands in
-    let before : NotIncreased (w.faults a.worktree.now) (w.faults c.loop-name.worktree) = omega (arith, quiet, c.walk_child.ensures.worktree.faults) in
-    let here : NotIncreased (w.faults c.loop-name.worktree) (w.faults c.walk_child.new.worktree) = omega (arith, quiet, kept.worktree.faults) in
-    let so_far = kept.so_far made s stands before default (a.levels + depth_of d) refl in
-    let p = err_from_is_err_and c.from_residual-in_err-handed.result c.from_residual-in_err-handed.ensures.1 in
-    rw p.1 (part-name given made s d a.class.now c.as_slice-name-items.result.now has.lists has.are c.path-path.ensures.plain has.some (a.levels + depth_of d) c.loop-name.name-index c.name-item.result _ _ _ _ _ _ _ _ c.loop-name-test.true c.name-item.is so_far
-    (rw (c.as_bytes.ensures, c.loop-name.invariant.stays) at (c.in_err-handed.ensures.part made s now here (kept.delegate.default ∙ default))))
+pub returns-in_err-handed-clause-told : goal.returns-in_err-handed-clause-told
+returns-in_err-handed-clause-told g c =
+    record {
+      gives = search rules;
+      part = λ made s stands quiet default.
+          let a = c.args in let w = g.W.Worktree in let given = setting_of g.M.Matcher a.shared.now in let d = a.place.now.path in
+          let has = HasNames-listed given s.tree d c.as_slice.ensures c.is_empty.ensures c.if-is_empty.false c.as_slice-name-items.ensures c.in_ok-names.ensures.names (rw c.requires.root at (c.in_ok-names.ensures.lists s.tree stands.tree)) in
+          let kept = c.loop-name.invariant in
+          let now = Stands-later given c.loop-name.excludes kept.worktree.tree kept.store.holds kept.rules.made kept.rules.in_step stands in
+          let before : NotIncreased (w.faults a.worktree.now) (w.faults c.loop-name.worktree) = omega (arith, quiet, c.walk_child.ensures.walks.worktree.faults) in
+          let here : NotIncreased (w.faults c.loop-name.worktree) (w.faults c.walk_child.new.worktree) = omega (arith, quiet, kept.worktree.faults) in
+          let so_far = kept.so_far made s stands before default (a.levels + depth_of d) refl in
+          let p = err_from_is_err_and c.from_residual-in_err-handed.result c.from_residual-in_err-handed.ensures.1 in
+          rw p.1 (part-name given made s d a.class.now c.as_slice-name-items.result.now has.lists has.are c.path-path.ensures.plain has.some (a.levels + depth_of d) c.loop-name.name-index c.name-item.result _ _ _ _ _ _ _ _ c.loop-name-test.true c.name-item.is so_far
+          (rw (c.as_bytes.ensures, c.loop-name.invariant.stays) at (c.in_err-handed.ensures.told.part made s now here (kept.delegate.default ∙ default))));
+      refused = λ made s stands default limit level.
+          let a = c.args in let w = g.W.Worktree in let given = setting_of g.M.Matcher a.shared.now in let d = a.place.now.path in
+          let kept = c.loop-name.invariant in
+          let has = HasNames-listed given s.tree d c.as_slice.ensures c.is_empty.ensures c.if-is_empty.false c.as_slice-name-items.ensures c.in_ok-names.ensures.names (rw c.requires.root at (c.in_ok-names.ensures.lists s.tree stands.tree)) in
+          let now = Stands-later given c.loop-name.excludes kept.worktree.tree kept.store.holds kept.rules.made kept.rules.in_step stands in
+          let name = c.name-item.result in let v = item_told given made s (joined d name) in
+          let within = HasPaths-name given made s d a.class.now c.as_slice-name-items.result.now has.lists has.are c.path-path.ensures.plain has.some c.loop-name.name-index name c.loop-name-test.true c.name-item.is in
+          let here : Type 0 = Increased (w.faults c.loop-name.worktree) (w.faults c.walk_child.new.worktree) in
+          let whole : Type 0 = Increased (w.faults a.worktree.now) (w.faults c.walk_child.new.worktree) in
+          let p = err_from_is_err_and c.from_residual-in_err-handed.result c.from_residual-in_err-handed.ensures.1 in
+          rw (p.1, p.2) (DirectoryRefuses-name given made s limit here whole v d a.class.now within (λ rose. omega (arith, rose, kept.worktree.faults)) _ (rw (c.as_bytes.ensures, c.loop-name.invariant.stays) at (c.in_err-handed.ensures.told.refused made s now (kept.delegate.default ∙ default) limit (rw kept.stays level))));
+    }
 
 pub returns-in_err-handed-clause-rules : goal.returns-in_err-handed-clause-rules
 returns-in_err-handed-clause-rules g c = let kept = c.loop-name.invariant in KeepsRules-then kept.worktree.tree kept.store.holds kept.rules c.walk_child.ensures.rules
 
-pub returns-in_err-handed-clause-delegate : goal.returns-in_err-handed-clause-delegate
-returns-in_err-handed-clause-delegate g c = KeepsDelegate-then c.loop-name.invariant.delegate c.walk_child.ensures.delegate
+pub returns-in_err-handed-clause-walks : goal.returns-in_err-handed-clause-walks
+returns-in_err-handed-clause-walks g c =
+    record {
+      about = λ limit level.
+          let p = err_from_is_err_and c.from_residual-in_err-handed.result c.from_residual-in_err-handed.ensures.1 in
+          rw (p.1, p.2) (rw c.loop-name.invariant.rules.made at (c.in_err-handed.ensures.walks.about limit (rw c.loop-name.invariant.stays level)));
+      found = λ s told.
+          let kept = c.loop-name.invariant in let p = err_from_is_err_and c.from_residual-in_err-handed.result c.from_residual-in_err-handed.ensures.1 in
+          rw (p.1, p.2) (rw (kept.store.holds, kept.rules.made) at (c.in_err-handed.ensures.walks.found s (kept.worktree.tree ∙ told)));
+      caused =
+          let kept = c.loop-name.invariant in let p = err_from_is_err_and c.from_residual-in_err-handed.result c.from_residual-in_err-handed.ensures.1 in
+          rw (p.1, p.2) (Caused-later _ kept.worktree.faults kept.store.faults kept.calm kept.listed c.in_err-handed.ensures.walks.caused);
+      worktree = search rules;
+      store = search rules;
+      interrupt = search rules;
+      hands =
+          let p = err_from_is_err_and c.from_residual-in_err-handed.result c.from_residual-in_err-handed.ensures.1 in
+          rw p.1 (Hands-refused c.args.place.now.path c.as_slice-name-items.result.now c.loop-name.name-index c.name-item.result c.loop-name-test.true c.name-item.is c.loop-name.invariant.puts (rw (c.as_bytes.ensures, c.loop-name.invariant.stays) at c.in_err-handed.ensures.walks.hands.puts) (rw c.as_slice-name-items.ensures c.in_ok-names.ensures.names)
+          c.path-path.ensures.plain);
+      delegate = KeepsDelegate-then c.loop-name.invariant.delegate c.walk_child.ensures.walks.delegate;
+      filtered = c.walk_child.ensures.walks.filtered ∙ c.loop-name.invariant.filtered;
+      heeds =
+          let p = err_from_is_err_and c.from_residual-in_err-handed.result c.from_residual-in_err-handed.ensures.1 in
+          rw (p.1, p.2) (Heeds-after g.D.Delegate _ _ _ _ c.loop-name.invariant.kept_on c.in_err-handed.ensures.walks.heeds);
+    }
 
-pub returns-in_err-take-clause-part : goal.returns-in_err-take-clause-part
-returns-in_err-take-clause-part g c = λ made s stands quiet default.
-    let a = c.args in let w = g.W.Worktree in let told = g.D.Delegate.given in let o = chosen a.shared.now.options in
-    let given = setting_of g.M.Matcher a.shared.now in let d = a.place.now.path in let ev = evidence given made s in
-    let has = HasNames-listed given s.tree d c.as_slice.ensures c.is_empty.ensures c.if-is_empty.false c.as_slice-name-items.ensures c.in_ok-names.ensures.names (rw c.requires.root at (c.in_ok-names.ensures.lists s.tree stands.tree)) in
-    let kept = c.loop-name.invariant in
-    let now = Stands-later given c.loop-name.excludes kept.worktree.tree kept.store.holds kept.rules.made kept.rules.in_step stands in
-    let before : NotIncreased (w.faults a.worktree.now) (w.faults c.loop-name.worktree) = omega (arith, quiet, c.walk_child.ensures.worktree.faults) in
-    let here : NotIncreased (w.faults c.loop-name.worktree) (w.faults c.walk_child.new.worktree) = omega (arith, quiet, kept.worktree.faults) in
-    let name = c.name-item.result in
-    let gives : Gives o (a.levels + depth_of d) ev (item_told given made s (joined d name)) (told c.loop-name.delegate) (told c.walk_child.new.delegate) c.loop-name.outcome c.walk_child.new.outcome c.in_ok-handed.handed =
-    rw (c.as_bytes.ensures, c.loop-name.invariant.stays) at (c.in_ok-handed.ensures.gives made s now here (kept.delegate.default ∙ default) (a.levels + depth_of d) (rw kept.stays refl)) in
-    let so_far = kept.so_far made s stands before default (a.levels + depth_of d) refl in
-    let p = err_from_is_err_and c.from_residual-in_err-take.result c.from_residual-in_err-take.ensures.1 in
-    rw p.1 (part-name given made s d a.class.now c.as_slice-name-items.result.now has.lists has.are c.path-path.ensures.plain has.some (a.levels + depth_of d) c.loop-name.name-index name _ _ _ _ _ _ _ _ c.loop-name-test.true c.name-item.is so_far (Within-all _ _ _ _ _ _ _ _ _ gives.emits (λ q. omega arith) (omega arith)))
+pub returns-in_err-take-clause-told : goal.returns-in_err-take-clause-told
+returns-in_err-take-clause-told g c =
+    record {
+      gives = search rules;
+      part = λ made s stands quiet default.
+          let a = c.args in let w = g.W.Worktree in let told = g.D.Delegate.given in let o = chosen a.shared.now.options in
+          let given = setting_of g.M.Matcher a.shared.now in let d = a.place.now.path in let ev = evidence given made s in
+          let has = HasNames-listed given s.tree d c.as_slice.ensures c.is_empty.ensures c.if-is_empty.false c.as_slice-name-items.ensures c.in_ok-names.ensures.names (rw c.requires.root at (c.in_ok-names.ensures.lists s.tree stands.tree)) in
+          let kept = c.loop-name.invariant in
+          let now = Stands-later given c.loop-name.excludes kept.worktree.tree kept.store.holds kept.rules.made kept.rules.in_step stands in
+          let before : NotIncreased (w.faults a.worktree.now) (w.faults c.loop-name.worktree) = omega (arith, quiet, c.walk_child.ensures.walks.worktree.faults) in
+          let here : NotIncreased (w.faults c.loop-name.worktree) (w.faults c.walk_child.new.worktree) = omega (arith, quiet, kept.worktree.faults) in
+          let name = c.name-item.result in
+          let gives : Gives o (a.levels + depth_of d) ev (item_told given made s (joined d name)) (told c.loop-name.delegate) (told c.walk_child.new.delegate) c.loop-name.outcome c.walk_child.new.outcome c.in_ok-handed.handed =
+          rw (c.as_bytes.ensures, c.loop-name.invariant.stays) at (c.in_ok-handed.ensures.told.gives made s now here (kept.delegate.default ∙ default) (a.levels + depth_of d) (rw kept.stays refl)) in
+          let so_far = kept.so_far made s stands before default (a.levels + depth_of d) refl in
+          let p = err_from_is_err_and c.from_residual-in_err-take.result c.from_residual-in_err-take.ensures.1 in
+          rw p.1 (part-name given made s d a.class.now c.as_slice-name-items.result.now has.lists has.are c.path-path.ensures.plain has.some (a.levels + depth_of d) c.loop-name.name-index name _ _ _ _ _ _ _ _ c.loop-name-test.true c.name-item.is so_far (Within-all _ _ _ _ _ _ _ _ _ gives.emits (λ q. omega arith) (omega arith)));
+      refused = λ made s stands default limit level.
+          let p = err_from_is_err_and c.from_residual-in_err-take.result c.from_residual-in_err-take.ensures.1 in rw (p.1, p.2) (inl tt);
+    }
 
 pub returns-in_err-take-clause-rules : goal.returns-in_err-take-clause-rules
 returns-in_err-take-clause-rules g c = let kept = c.loop-name.invariant in KeepsRules-then kept.worktree.tree kept.store.holds kept.rules c.walk_child.ensures.rules
 
-pub returns-in_err-take-clause-delegate : goal.returns-in_err-take-clause-delegate
-returns-in_err-take-clause-delegate g c = KeepsDelegate-then c.loop-name.invariant.delegate c.walk_child.ensures.delegate
+pub returns-in_err-take-clause-walks : goal.returns-in_err-take-clause-walks
+returns-in_err-take-clause-walks g c =
+    record {
+      about = λ limit level.
+          let p = err_from_is_err_and c.from_residual-in_err-take.result c.from_residual-in_err-take.ensures.1 in rw (p.1, p.2) tt;
+      found = λ s told.
+          let p = err_from_is_err_and c.from_residual-in_err-take.result c.from_residual-in_err-take.ensures.1 in rw (p.1, p.2) tt;
+      caused = search rules;
+      worktree = search rules;
+      store = search rules;
+      interrupt = search rules;
+      hands =
+          let p = err_from_is_err_and c.from_residual-in_err-take.result c.from_residual-in_err-take.ensures.1 in
+          rw p.1 (Hands-refused c.args.place.now.path c.as_slice-name-items.result.now c.loop-name.name-index c.name-item.result c.loop-name-test.true c.name-item.is c.loop-name.invariant.puts (rw (c.as_bytes.ensures, c.loop-name.invariant.stays) at c.in_ok-handed.ensures.walks.hands.puts) (rw c.as_slice-name-items.ensures c.in_ok-names.ensures.names)
+          c.path-path.ensures.plain);
+      delegate = KeepsDelegate-then c.loop-name.invariant.delegate c.walk_child.ensures.walks.delegate;
+      filtered = c.walk_child.ensures.walks.filtered ∙ c.loop-name.invariant.filtered;
+      heeds = let p = err_from_is_err_and c.from_residual-in_err-take.result c.from_residual-in_err-take.ensures.1 in rw (p.1, p.2) (record { broken = tt; stopped = tt; unbroken = c.in_ok-handed.ensures.walks.heeds.kept_on ∙ c.loop-name.invariant.kept_on; kept_on = tt });
+    }
 
 pub loop-name-preserved : goal.loop-name-preserved
 loop-name-preserved g c =
     let kept = c.loop-name.invariant in
     record {
-      worktree = KeepsTree-then kept.worktree c.walk_child.ensures.worktree;
-      store = AsksStore-then kept.store c.walk_child.ensures.store;
+      worktree = KeepsTree-then kept.worktree c.walk_child.ensures.walks.worktree;
+      store = AsksStore-then kept.store c.walk_child.ensures.walks.store;
       rules = KeepsRules-then kept.worktree.tree kept.store.holds kept.rules c.walk_child.ensures.rules;
-      interrupt = AsksInterrupt-then kept.interrupt c.walk_child.ensures.interrupt;
-      opens = apart-then (enters-more (setting_of g.M.Matcher c.args.shared.now) c.args.blocked.now (c.args.levels + depth_of c.args.place.now.path) c.args.place.now.path c.as_slice-name-items.result.now c.loop-name.name-index c.name-item.result c.loop-name-test.true c.name-item.is kept.worktree kept.store kept.rules kept.delegate c.walk_child.ensures.worktree.faults) kept.opens (rw (c.as_bytes.ensures, c.loop-name.invariant.stays) at c.in_ok-handed.ensures.opens);
-      puts = rw c.in_ok-take.ensures.entries (Puts-name c.args.place.now.path c.as_slice-name-items.result.now c.loop-name.name-index c.name-item.result c.loop-name-test.true c.name-item.is kept.puts (rw (c.as_bytes.ensures, c.loop-name.invariant.stays) at c.in_ok-handed.ensures.hands.puts));
-      delegate = KeepsDelegate-then kept.delegate c.walk_child.ensures.delegate;
-      filtered = c.walk_child.ensures.filtered ∙ kept.filtered;
-      listed = c.in_ok-handed.ensures.caused.listed ∙ kept.listed;
-      calm = c.in_ok-handed.ensures.caused.calm ∙ kept.calm;
-      kept_on = c.in_ok-handed.ensures.heeds.kept_on ∙ kept.kept_on;
+      interrupt = AsksInterrupt-then kept.interrupt c.walk_child.ensures.walks.interrupt;
+      opens = apart-then (enters-more (setting_of g.M.Matcher c.args.shared.now) c.args.blocked.now (c.args.levels + depth_of c.args.place.now.path) c.args.place.now.path c.as_slice-name-items.result.now c.loop-name.name-index c.name-item.result c.loop-name-test.true c.name-item.is kept.worktree kept.store kept.rules kept.delegate c.walk_child.ensures.walks.worktree.faults) kept.opens (rw (c.as_bytes.ensures, c.loop-name.invariant.stays) at c.in_ok-handed.ensures.opens);
+      puts = rw c.in_ok-take.ensures.entries (Puts-name c.args.place.now.path c.as_slice-name-items.result.now c.loop-name.name-index c.name-item.result c.loop-name-test.true c.name-item.is kept.puts (rw (c.as_bytes.ensures, c.loop-name.invariant.stays) at c.in_ok-handed.ensures.walks.hands.puts));
+      delegate = KeepsDelegate-then kept.delegate c.walk_child.ensures.walks.delegate;
+      filtered = c.walk_child.ensures.walks.filtered ∙ kept.filtered;
+      listed = c.in_ok-handed.ensures.walks.caused.listed ∙ kept.listed;
+      calm = c.in_ok-handed.ensures.walks.caused.calm ∙ kept.calm;
+      kept_on = c.in_ok-handed.ensures.walks.heeds.kept_on ∙ kept.kept_on;
       stays = c.in_ok-handed.ensures.stays ∙ kept.stays;
       so_far = λ made s stands quiet default limit level.
           let a = c.args in let w = g.W.Worktree in let told = g.D.Delegate.given in let o = chosen a.shared.now.options in
           let given = setting_of g.M.Matcher a.shared.now in let d = a.place.now.path in let ev = evidence given made s in
           let now = Stands-later given c.loop-name.excludes kept.worktree.tree kept.store.holds kept.rules.made kept.rules.in_step stands in
-          let before : NotIncreased (w.faults a.worktree.now) (w.faults c.loop-name.worktree) = omega (arith, quiet, c.walk_child.ensures.worktree.faults) in
+          let before : NotIncreased (w.faults a.worktree.now) (w.faults c.loop-name.worktree) = omega (arith, quiet, c.walk_child.ensures.walks.worktree.faults) in
           let here : NotIncreased (w.faults c.loop-name.worktree) (w.faults c.walk_child.new.worktree) = omega (arith, quiet, kept.worktree.faults) in
           let name = c.name-item.result in
           let gives : Gives o limit ev (item_told given made s (joined d name)) (told c.loop-name.delegate) (told c.walk_child.new.delegate) c.loop-name.outcome c.walk_child.new.outcome c.in_ok-handed.handed =
-          rw (c.as_bytes.ensures, c.loop-name.invariant.stays) at (c.in_ok-handed.ensures.gives made s now here (kept.delegate.default ∙ default) limit (rw kept.stays level)) in
+          rw (c.as_bytes.ensures, c.loop-name.invariant.stays) at (c.in_ok-handed.ensures.told.gives made s now here (kept.delegate.default ∙ default) limit (rw kept.stays level)) in
           SoFar-more given made s limit d c.as_slice-name-items.result.now c.loop-name.name-index name _ _ _ _ _ _ _ _ _ _ c.in_ok-handed.handed c.loop-name-test.true c.name-item.is (kept.so_far made s stands before default limit level) gives c.in_ok-take.ensures.entries c.in_ok-take.ensures.blocked;
     }
 
-pub returns-clause-gives : goal.returns-clause-gives
-returns-clause-gives g c = λ made s stands quiet default limit level.
-    let a = c.args in let given = setting_of g.M.Matcher a.shared.now in
-    let d = a.place.now.path in let ev = evidence given made s in
-    let has = HasNames-listed given s.tree d c.as_slice.ensures c.is_empty.ensures c.if-is_empty.false c.as_slice-name-items.ensures c.in_ok-names.ensures.names (rw c.requires.root at (c.in_ok-names.ensures.lists s.tree stands.tree)) in
-    let held = c.loop-name.held in let is = IsEvidence-told given made s a.blocked.now stands.blocked_is in
-    IfOk-weaker c.close.result _ _ (λ h closes. Gives-listed given made s d a.class.now c.as_slice-name-items.result.now has.lists has.are c.path-path.ensures.plain has.some limit c.loop-name.name-index _ _ _ _ _ held.entries.items held.blocked c.loop-name-test.false (c.loop-name.invariant.so_far made s stands quiet default limit level) _ h (omega (arith, level)) closes)
-    (rw (c.path.ensures.path, c.loop-name.invariant.stays) at (c.close.ensures.gives ev is))
+pub returns-clause-told : goal.returns-clause-told
+returns-clause-told g c =
+    record {
+      gives = λ made s stands quiet default limit level.
+          let a = c.args in let given = setting_of g.M.Matcher a.shared.now in
+          let d = a.place.now.path in let ev = evidence given made s in
+          let has = HasNames-listed given s.tree d c.as_slice.ensures c.is_empty.ensures c.if-is_empty.false c.as_slice-name-items.ensures c.in_ok-names.ensures.names (rw c.requires.root at (c.in_ok-names.ensures.lists s.tree stands.tree)) in
+          let held = c.loop-name.held in let is = IsEvidence-told given made s a.blocked.now stands.blocked_is in
+          IfOk-weaker c.close.result _ _ (λ h closes. Gives-listed given made s d a.class.now c.as_slice-name-items.result.now has.lists has.are c.path-path.ensures.plain has.some limit c.loop-name.name-index _ _ _ _ _ held.entries.items held.blocked c.loop-name-test.false (c.loop-name.invariant.so_far made s stands quiet default limit level) _ h (omega (arith, level)) closes)
+          (rw (c.path.ensures.path, c.loop-name.invariant.stays) at (c.close.ensures.gives ev is));
+      part = λ made s stands quiet default.
+          let a = c.args in let told = g.D.Delegate.given in let given = setting_of g.M.Matcher a.shared.now in let d = a.place.now.path in
+          let ev = evidence given made s in
+          let has = HasNames-listed given s.tree d c.as_slice.ensures c.is_empty.ensures c.if-is_empty.false c.as_slice-name-items.ensures c.in_ok-names.ensures.names (rw c.requires.root at (c.in_ok-names.ensures.lists s.tree stands.tree)) in
+          let held = c.loop-name.held in let is = IsEvidence-told given made s a.blocked.now stands.blocked_is in
+          let so_far = c.loop-name.invariant.so_far made s stands quiet default (a.levels + depth_of d) refl in
+          on_err_weaker c.close.result (λ part. part-close given made s d a.class.now c.as_slice-name-items.result.now has.lists has.are c.path-path.ensures.plain has.some (a.levels + depth_of d) c.loop-name.name-index (told a.delegate.now) (told c.loop-name.delegate) (told c.close.new.delegate) a.outcome.now c.loop-name.outcome held.entries.items held.blocked c.loop-name-test.false so_far c.close.new.outcome part)
+          (rw (c.path.ensures.path, c.loop-name.invariant.stays) at (c.close.ensures.part ev is));
+      refused = λ made s stands default limit level. memory-only c.close.result _ (inl tt) c.close.ensures.memory;
+    }
 
-pub returns-clause-part : goal.returns-clause-part
-returns-clause-part g c = λ made s stands quiet default.
-    let a = c.args in let told = g.D.Delegate.given in let given = setting_of g.M.Matcher a.shared.now in let d = a.place.now.path in
-    let ev = evidence given made s in
-    let has = HasNames-listed given s.tree d c.as_slice.ensures c.is_empty.ensures c.if-is_empty.false c.as_slice-name-items.ensures c.in_ok-names.ensures.names (rw c.requires.root at (c.in_ok-names.ensures.lists s.tree stands.tree)) in
-    let held = c.loop-name.held in let is = IsEvidence-told given made s a.blocked.now stands.blocked_is in
-    let so_far = c.loop-name.invariant.so_far made s stands quiet default (a.levels + depth_of d) refl in
-    on_err_weaker c.close.result (λ part. part-close given made s d a.class.now c.as_slice-name-items.result.now has.lists has.are c.path-path.ensures.plain has.some (a.levels + depth_of d) c.loop-name.name-index (told a.delegate.now) (told c.loop-name.delegate) (told c.close.new.delegate) a.outcome.now c.loop-name.outcome held.entries.items held.blocked c.loop-name-test.false so_far c.close.new.outcome part)
-    (rw (c.path.ensures.path, c.loop-name.invariant.stays) at (c.close.ensures.part ev is))
+pub returns-clause-walks : goal.returns-clause-walks
+returns-clause-walks g c =
+    record {
+      about = λ limit level. memory-only c.close.result _ tt c.close.ensures.memory;
+      found = λ s told. memory-only c.close.result _ tt c.close.ensures.memory;
+      caused =
+          let kept = c.loop-name.invariant in
+          Caused-later c.close.result kept.worktree.faults kept.store.faults kept.calm kept.listed (Caused-memory c.close.result c.close.ensures.memory);
+      worktree = search rules;
+      store = search rules;
+      interrupt = search rules;
+      hands =
+          Hands-closed c.args.place.now.path c.as_slice-name-items.result.now c.loop-name.name-index (rw c.as_slice-name-items.ensures c.in_ok-names.ensures.names) c.path-path.ensures.plain c.loop-name.invariant.puts (rw (c.path.ensures.path, c.loop-name.invariant.stays) at c.close.ensures.hands);
+      delegate = KeepsDelegate-then c.loop-name.invariant.delegate c.close.ensures.delegate;
+      filtered = c.close.ensures.filtered ∙ c.loop-name.invariant.filtered;
+      heeds = Heeds-after g.D.Delegate _ _ _ c.close.result c.loop-name.invariant.kept_on c.close.ensures.heeds;
+    }
 
-pub returns-clause-delegate : goal.returns-clause-delegate
-returns-clause-delegate g c = KeepsDelegate-then c.loop-name.invariant.delegate c.close.ensures.delegate
+pub returns-in_err-names-clause-told : goal.returns-in_err-names-clause-told
+returns-in_err-names-clause-told g c =
+    record {
+      gives = search rules;
+      part = search rules;
+      refused = λ made s stands default limit level.
+          let p = err_from_is_err_and c.from_residual.result c.from_residual.ensures.1 in
+          rw (p.1, p.2) (inl (rw c.requires.root at (c.in_err-names.ensures.refused s.tree stands.tree)));
+    }
 
-pub returns-in_err-names-clause-about : goal.returns-in_err-names-clause-about
-returns-in_err-names-clause-about g c = λ limit level.
-    let p = err_from_is_err_and c.from_residual.result c.from_residual.ensures.1 in
-    rw (p.1, p.2) (rw c.requires.root at (c.in_err-names.ensures.about (made_with c.args.excludes.now) limit (omega (arith, level))))
-
-pub returns-in_err-names-clause-found : goal.returns-in_err-names-clause-found
-returns-in_err-names-clause-found g c = λ s told.
-    let a = c.args in let p = err_from_is_err_and c.from_residual.result c.from_residual.ensures.1 in
-    rw (p.1, p.2) (IsInTree-open (g.F.Find.holds a.objects.now) s (made_with a.excludes.now) a.shared.now.worktree_root.now a.place.now.path _ (rw c.requires.root at (c.in_err-names.ensures.refused s.tree told)))
-
-pub returns-in_err-names-clause-refused : goal.returns-in_err-names-clause-refused
-returns-in_err-names-clause-refused g c = λ made s stands default limit level.
-    let p = err_from_is_err_and c.from_residual.result c.from_residual.ensures.1 in
-    rw (p.1, p.2) (inl (rw c.requires.root at (c.in_err-names.ensures.refused s.tree stands.tree)))
-
-pub returns-then-is_empty-clause-about : goal.returns-then-is_empty-clause-about
-returns-then-is_empty-clause-about g c = λ limit level. memory-only c.close_empty.result _ tt c.close_empty.ensures.memory
-
-pub returns-then-is_empty-clause-found : goal.returns-then-is_empty-clause-found
-returns-then-is_empty-clause-found g c = λ s told. memory-only c.close_empty.result _ tt c.close_empty.ensures.memory
-
-pub returns-then-is_empty-clause-refused : goal.returns-then-is_empty-clause-refused
-returns-then-is_empty-clause-refused g c = λ made s stands default limit level. memory-only c.close_empty.result _ (inl tt) c.close_empty.ensures.memory
-
-pub returns-clause-about : goal.returns-clause-about
-returns-clause-about g c = λ limit level. memory-only c.close.result _ tt c.close.ensures.memory
-
-pub returns-clause-found : goal.returns-clause-found
-returns-clause-found g c = λ s told. memory-only c.close.result _ tt c.close.ensures.memory
-
-pub returns-clause-refused : goal.returns-clause-refused
-returns-clause-refused g c = λ made s stands default limit level. memory-only c.close.result _ (inl tt) c.close.ensures.memory
-
-pub returns-in_err-handed-clause-about : goal.returns-in_err-handed-clause-about
-returns-in_err-handed-clause-about g c = λ limit level.
-    let p = err_from_is_err_and c.from_residual-in_err-handed.result c.from_residual-in_err-handed.ensures.1 in
-    rw (p.1, p.2) (rw c.loop-name.invariant.rules.made at (c.in_err-handed.ensures.about limit (rw c.loop-name.invariant.stays level)))
-
-pub returns-in_err-handed-clause-found : goal.returns-in_err-handed-clause-found
-returns-in_err-handed-clause-found g c = λ s told.
-    let kept = c.loop-name.invariant in let p = err_from_is_err_and c.from_residual-in_err-handed.result c.from_residual-in_err-handed.ensures.1 in
-    rw (p.1, p.2) (rw (kept.store.holds, kept.rules.made) at (c.in_err-handed.ensures.found s (kept.worktree.tree ∙ told)))
-
-pub returns-in_err-handed-clause-refused : goal.returns-in_err-handed-clause-refused
-returns-in_err-handed-clause-refused g c = λ made s stands default limit level.
-    let a = c.args in let w = g.W.Worktree in let given = setting_of g.M.Matcher a.shared.now in let d = a.place.now.path in
-    let kept = c.loop-name.invariant in
-    let has = HasNames-listed given s.tree d c.as_slice.ensures c.is_empty.ensures c.if-is_empty.false c.as_slice-name-items.ensures c.in_ok-names.ensures.names (rw c.requires.root at (c.in_ok-names.ensures.lists s.tree stands.tree)) in
-    let now = Stands-later given c.loop-name.excludes kept.worktree.tree kept.store.holds kept.rules.made kept.rules.in_step stands in
-    let name = c.name-item.result in let v = item_told given made s (joined d name) in
-    let within = HasPaths-name given made s d a.class.now c.as_slice-name-items.result.now has.lists has.are c.path-path.ensures.plain has.some c.loop-name.name-index name c.loop-name-test.true c.name-item.is in
-    let here : Type 0 = Increased (w.faults c.loop-name.worktree) (w.faults c.walk_child.new.worktree) in
-    let whole : Type 0 = Increased (w.faults a.worktree.now) (w.faults c.walk_child.new.worktree) in
-    let p = err_from_is_err_and c.from_residual-in_err-handed.result c.from_residual-in_err-handed.ensures.1 in
-    rw (p.1, p.2) (DirectoryRefuses-name given made s limit here whole v d a.class.now within (λ rose. omega (arith, rose, kept.worktree.faults)) _ (rw (c.as_bytes.ensures, c.loop-name.invariant.stays) at (c.in_err-handed.ensures.refused made s now (kept.delegate.default ∙ default) limit (rw kept.stays level))))
-
-pub returns-in_err-names-clause-hands : goal.returns-in_err-names-clause-hands
-returns-in_err-names-clause-hands g c =
-    let p = err_from_is_err_and c.from_residual.result c.from_residual.ensures.1 in rw p.1 (Hands-none refl c.open.ensures.returned c.open.ensures.seen)
-
-pub returns-then-is_empty-clause-hands : goal.returns-then-is_empty-clause-hands
-returns-then-is_empty-clause-hands g c = Hands-empty c.open.ensures.returned c.open.ensures.seen (rw c.path-path.ensures.path at c.close_empty.ensures.hands)
-
-pub returns-in_err-handed-clause-hands : goal.returns-in_err-handed-clause-hands
-returns-in_err-handed-clause-hands g c =
-    let p = err_from_is_err_and c.from_residual-in_err-handed.result c.from_residual-in_err-handed.ensures.1 in
-    rw p.1 (Hands-refused c.args.place.now.path c.as_slice-name-items.result.now c.loop-name.name-index c.name-item.result c.loop-name-test.true c.name-item.is c.loop-name.invariant.puts (rw (c.as_bytes.ensures, c.loop-name.invariant.stays) at c.in_err-handed.ensures.hands.puts) (rw c.as_slice-name-items.ensures c.in_ok-names.ensures.names)
-    c.path-path.ensures.plain)
-
-pub returns-in_err-take-clause-hands : goal.returns-in_err-take-clause-hands
-returns-in_err-take-clause-hands g c =
-    let p = err_from_is_err_and c.from_residual-in_err-take.result c.from_residual-in_err-take.ensures.1 in
-    rw p.1 (Hands-refused c.args.place.now.path c.as_slice-name-items.result.now c.loop-name.name-index c.name-item.result c.loop-name-test.true c.name-item.is c.loop-name.invariant.puts (rw (c.as_bytes.ensures, c.loop-name.invariant.stays) at c.in_ok-handed.ensures.hands.puts) (rw c.as_slice-name-items.ensures c.in_ok-names.ensures.names)
-    c.path-path.ensures.plain)
-
-pub returns-clause-hands : goal.returns-clause-hands
-returns-clause-hands g c =
-    Hands-closed c.args.place.now.path c.as_slice-name-items.result.now c.loop-name.name-index (rw c.as_slice-name-items.ensures c.in_ok-names.ensures.names) c.path-path.ensures.plain c.loop-name.invariant.puts (rw (c.path.ensures.path, c.loop-name.invariant.stays) at c.close.ensures.hands)
-
-pub returns-in_err-handed-clause-heeds : goal.returns-in_err-handed-clause-heeds
-returns-in_err-handed-clause-heeds g c =
-    let p = err_from_is_err_and c.from_residual-in_err-handed.result c.from_residual-in_err-handed.ensures.1 in
-    rw (p.1, p.2) (Heeds-after g.D.Delegate _ _ _ _ c.loop-name.invariant.kept_on c.in_err-handed.ensures.heeds)
-
-pub returns-in_err-handed-clause-caused : goal.returns-in_err-handed-clause-caused
-returns-in_err-handed-clause-caused g c =
-    let kept = c.loop-name.invariant in let p = err_from_is_err_and c.from_residual-in_err-handed.result c.from_residual-in_err-handed.ensures.1 in
-    rw (p.1, p.2) (Caused-later _ kept.worktree.faults kept.store.faults kept.calm kept.listed c.in_err-handed.ensures.caused)
-
-pub returns-in_err-take-clause-about : goal.returns-in_err-take-clause-about
-returns-in_err-take-clause-about g c = λ limit level.
-    let p = err_from_is_err_and c.from_residual-in_err-take.result c.from_residual-in_err-take.ensures.1 in rw (p.1, p.2) tt
-
-pub returns-in_err-take-clause-found : goal.returns-in_err-take-clause-found
-returns-in_err-take-clause-found g c = λ s told.
-    let p = err_from_is_err_and c.from_residual-in_err-take.result c.from_residual-in_err-take.ensures.1 in rw (p.1, p.2) tt
-
-pub returns-clause-heeds : goal.returns-clause-heeds
-returns-clause-heeds g c = Heeds-after g.D.Delegate _ _ _ c.close.result c.loop-name.invariant.kept_on c.close.ensures.heeds
-
-pub returns-clause-caused : goal.returns-clause-caused
-returns-clause-caused g c =
-    let kept = c.loop-name.invariant in
-    Caused-later c.close.result kept.worktree.faults kept.store.faults kept.calm kept.listed (Caused-memory c.close.result c.close.ensures.memory)
+pub returns-then-is_empty-clause-walks : goal.returns-then-is_empty-clause-walks
+returns-then-is_empty-clause-walks g c =
+    record {
+      about = λ limit level. memory-only c.close_empty.result _ tt c.close_empty.ensures.memory;
+      found = λ s told. memory-only c.close_empty.result _ tt c.close_empty.ensures.memory;
+      caused = search rules;
+      worktree = search rules;
+      store = search rules;
+      interrupt = search rules;
+      hands = Hands-empty c.open.ensures.returned c.open.ensures.seen (rw c.path-path.ensures.path at c.close_empty.ensures.hands);
+      delegate = search rules;
+      filtered = search rules;
+      heeds = search rules;
+    }
 
 pub returns-in_err-names-clause-opens : goal.returns-in_err-names-clause-opens
 returns-in_err-names-clause-opens g c =
@@ -286,14 +300,14 @@ returns-in_err-handed-clause-opens g c =
     let kept = c.loop-name.invariant in let p = err_from_is_err_and c.from_residual-in_err-handed.result c.from_residual-in_err-handed.ensures.1 in
     rw (p.1, p.2)
     (apart-then
-    (enters-last (setting_of g.M.Matcher c.args.shared.now) c.args.blocked.now (c.args.levels + depth_of c.args.place.now.path) c.args.place.now.path c.as_slice-name-items.result.now c.loop-name.name-index c.name-item.result c.loop-name-test.true c.name-item.is kept.worktree kept.store kept.rules kept.delegate c.walk_child.ensures.worktree.faults (omega arith) c.args.class.now _
+    (enters-last (setting_of g.M.Matcher c.args.shared.now) c.args.blocked.now (c.args.levels + depth_of c.args.place.now.path) c.args.place.now.path c.as_slice-name-items.result.now c.loop-name.name-index c.name-item.result c.loop-name-test.true c.name-item.is kept.worktree kept.store kept.rules kept.delegate c.walk_child.ensures.walks.worktree.faults (omega arith) c.args.class.now _
     (λ s told. HasNames-listed (setting_of g.M.Matcher c.args.shared.now) s.tree c.args.place.now.path c.as_slice.ensures c.is_empty.ensures c.if-is_empty.false c.as_slice-name-items.ensures c.in_ok-names.ensures.names (rw c.requires.root at (c.in_ok-names.ensures.lists s.tree told))) c.path-path.ensures.plain)
     kept.opens (rw (c.as_bytes.ensures, c.loop-name.invariant.stays) at c.in_err-handed.ensures.opens))
 
 pub returns-in_err-take-clause-opens : goal.returns-in_err-take-clause-opens
 returns-in_err-take-clause-opens g c =
     let kept = c.loop-name.invariant in let p = err_from_is_err_and c.from_residual-in_err-take.result c.from_residual-in_err-take.ensures.1 in
-    let ends = (enters-last (setting_of g.M.Matcher c.args.shared.now) c.args.blocked.now (c.args.levels + depth_of c.args.place.now.path) c.args.place.now.path c.as_slice-name-items.result.now c.loop-name.name-index c.name-item.result c.loop-name-test.true c.name-item.is kept.worktree kept.store kept.rules kept.delegate c.walk_child.ensures.worktree.faults (omega arith) c.args.class.now 0
+    let ends = (enters-last (setting_of g.M.Matcher c.args.shared.now) c.args.blocked.now (c.args.levels + depth_of c.args.place.now.path) c.args.place.now.path c.as_slice-name-items.result.now c.loop-name.name-index c.name-item.result c.loop-name-test.true c.name-item.is kept.worktree kept.store kept.rules kept.delegate c.walk_child.ensures.walks.worktree.faults (omega arith) c.args.class.now 0
     (λ s told. HasNames-listed (setting_of g.M.Matcher c.args.shared.now) s.tree c.args.place.now.path c.as_slice.ensures c.is_empty.ensures c.if-is_empty.false c.as_slice-name-items.ensures c.in_ok-names.ensures.names (rw c.requires.root at (c.in_ok-names.ensures.lists s.tree told))) c.path-path.ensures.plain) in
     rw (p.1, p.2)
     (apart-then (λ m n so_far here made s stands quiet default. let most = ends m n so_far here made s stands quiet default in omega (arith, most))
@@ -305,16 +319,3 @@ returns-clause-opens g c =
     (enters-all g.W.Worktree g.F.Find g.D.Delegate c.args.worktree.now c.loop-name.worktree c.args.objects.now c.args.excludes.now c.args.delegate.now (setting_of g.M.Matcher c.args.shared.now) c.args.blocked.now (c.args.levels + depth_of c.args.place.now.path) c.args.place.now.path c.as_slice-name-items.result.now c.loop-name.name-index (omega arith) c.loop-name-test.false c.args.class.now _
     (λ s told. HasNames-listed (setting_of g.M.Matcher c.args.shared.now) s.tree c.args.place.now.path c.as_slice.ensures c.is_empty.ensures c.if-is_empty.false c.as_slice-name-items.ensures c.in_ok-names.ensures.names (rw c.requires.root at (c.in_ok-names.ensures.lists s.tree told))) c.path-path.ensures.plain)
     c.loop-name.invariant.opens c.close.ensures.entered (shallow-memory c.close.result c.close.ensures.memory)
-
-pub returns-in_err-handed-clause-filtered : goal.returns-in_err-handed-clause-filtered
-returns-in_err-handed-clause-filtered g c = c.walk_child.ensures.filtered ∙ c.loop-name.invariant.filtered
-
-pub returns-in_err-take-clause-filtered : goal.returns-in_err-take-clause-filtered
-returns-in_err-take-clause-filtered g c = c.walk_child.ensures.filtered ∙ c.loop-name.invariant.filtered
-
-pub returns-clause-filtered : goal.returns-clause-filtered
-returns-clause-filtered g c = c.close.ensures.filtered ∙ c.loop-name.invariant.filtered
-
-pub returns-in_err-take-clause-refused : goal.returns-in_err-take-clause-refused
-returns-in_err-take-clause-refused g c = λ made s stands default limit level.
-    let p = err_from_is_err_and c.from_residual-in_err-take.result c.from_residual-in_err-take.ensures.1 in rw (p.1, p.2) (inl tt)

@@ -1,4 +1,4 @@
-use Rattle.std.proofs.Common.{◌≡◌, ◌⊎◌, inl, inr, Bool, ◌<◌, ◌≤◌, ◌+◌, ◌-◌, ◌&&◌, ℕ, List, None, ap, sym, refl, ◌∙◌, length, arith, eqb-true, true, false, subst}
+use Rattle.std.proofs.Common.{◌≡◌, ◌⊎◌, inl, inr, Bool, ◌<◌, ◌≤◌, ◌+◌, ◌-◌, ◌&&◌, ℕ, List, None, ap, sym, refl, ◌∙◌, length, arith, eqb-true, true, false, subst, rules}
 use Rattle.std.proofs.lemmas.Result.{IfOk-weaker, IfErr-weaker, on_ok_weaker, on_err_weaker, err_from_is_err_and}
 use Rattle.gitbase_core.specs.Path.{is_empty, joined}
 use Rattle.worktree_fs.specs.Answers.{ListsNames}
@@ -22,7 +22,7 @@ use Rattle.dir_walk.specs.Unopened.{unlisted_one}
 use Rattle.dir_classify.proofs.Classed.{asked-quiet}
 use Rattle.dir_walk.proofs.Emitting.{Within-all}
 use Rattle.dir_walk.proofs.Ending.{Caused-later, Caused-memory}
-use Rattle.dir_walk.proofs.Keeping.{Heeds-after, KeepsDelegate-same, KeepsDelegate-then, KeepsRules-same, KeepsRules-then, AsksStore-same, AsksStore-then, KeepsTree-then, AsksInterrupt-then, unmapped-then}
+use Rattle.dir_walk.proofs.Keeping.{Heeds-after, KeepsDelegate-same, KeepsDelegate-then, KeepsRules-same, KeepsRules-then, AsksStore-same, AsksStore-then, KeepsTree-then, AsksInterrupt-then, unmapped-then, KeepsDelegate-asked}
 use Rattle.dir_walk.proofs.Entered.{enters-all, enters-last, enters-more}
 use Rattle.dir_walk.proofs.Opening.{opens-none, opens-then, opens-still, opens-end, opens-least, opens-one, opens-refused, opens-below, opens-class, hides-none}
 use Rattle.dir_walk.proofs.Listed.{entered-empty, HasNames-listed, HasPaths-name, Gives-empty, Gives-listed, part-empty, part-name, part-close}
@@ -36,40 +36,58 @@ use Rattle.dir_walk.proofs.Hiding.{AddsShown-same}
 use Rattle.dir_walk.proofs.Judged.{indexed-unlisted}
 use Rattle.dir_walk.proofs.Refusals.{HasPaths, IsAbout-class, IsAbout-deep, IsInTree-class, IsInTree-open, Refuses-class, Refuses-deep, Refuses-directory, DirectoryRefuses-name, memory-only, refused-any, rose-or, either}
 use Rattle.dir_walk.proofs.Shallow.{shallow-class, shallow-memory}
+use Rattle.dir_walk.proofs.NameSteps.{told-entered}
 use Rattle.dir_walk.proofs.directory.+walk.Goals as goal
 
-pub walk_directory-returns-in_err-names-clause-delegate : goal.walk_directory-returns-in_err-names-clause-delegate
-walk_directory-returns-in_err-names-clause-delegate g t c = KeepsDelegate-same
+pub walk_directory-returns-in_err-names-clause-walks : goal.walk_directory-returns-in_err-names-clause-walks
+walk_directory-returns-in_err-names-clause-walks g t c =
+    record {
+      about = λ limit level.
+          let p = err_from_is_err_and c.from_residual.result c.from_residual.ensures.1 in
+          rw (p.1, p.2) (rw c.requires.root at (c.in_err-names.ensures.about (made_with c.args.parts.now.excludes.now) limit (omega (arith, level))));
+      found = λ s told.
+          let a = c.args in let p = err_from_is_err_and c.from_residual.result c.from_residual.ensures.1 in
+          rw (p.1, p.2) (IsInTree-open (g.F.Find.holds a.parts.now.objects.now) s (made_with a.parts.now.excludes.now) a.shared.now.worktree_root.now a.place.now.path _ (rw c.requires.root at (c.in_err-names.ensures.refused s.tree told)));
+      caused =
+          let p = err_from_is_err_and c.from_residual.result c.from_residual.ensures.1 in let stored = g.F.Find.faults c.args.parts.now.objects.now in
+          rw (p.1, p.2) (record { fault = c.in_err-names.ensures.fault stored stored; interrupt = c.in_err-names.ensures.raised; listing = c.in_err-names.ensures.listing; listed = tt; calm = tt });
+      worktree = search rules;
+      store = search rules;
+      interrupt = search rules;
+      hands =
+          let p = err_from_is_err_and c.from_residual.result c.from_residual.ensures.1 in rw p.1 (Hands-none refl c.open.ensures.returned c.open.ensures.seen);
+      delegate = KeepsDelegate-same;
+      filtered = search rules;
+      heeds = search rules;
+    }
 
-pub walk_directory-returns-in_err-names-clause-caused : goal.walk_directory-returns-in_err-names-clause-caused
-walk_directory-returns-in_err-names-clause-caused g t c =
-    let p = err_from_is_err_and c.from_residual.result c.from_residual.ensures.1 in let stored = g.F.Find.faults c.args.objects.now in
-    rw (p.1, p.2) (record { fault = c.in_err-names.ensures.fault stored stored; interrupt = c.in_err-names.ensures.raised; listing = c.in_err-names.ensures.listing; listed = tt; calm = tt })
-
-pub walk_directory-returns-then-is_empty-clause-gives : goal.walk_directory-returns-then-is_empty-clause-gives
-walk_directory-returns-then-is_empty-clause-gives g t c = λ made s stands quiet default limit level.
-    let a = c.args in let told = g.D.Delegate.given in let given = setting_of g.M.Matcher a.shared.now in
-    let d = a.place.now.path in let ev = evidence given made s in let names = c.in_ok-names.names in
-    let bare : length names ≡ 0 = ap length (sym c.as_slice.ensures) ∙ eqb-true (length c.as_slice.result.now) 0 (sym c.is_empty.ensures ∙ c.if-is_empty.true) in
-    let lists : ListsNames (look_directory given s.tree d) names = rw c.requires.root at (c.in_ok-names.ensures.lists s.tree stands.tree) in
-    let opened = c.in_ok-names.ensures.counted (told a.delegate.now) in let is = IsEvidence-told given made s a.blocked.now stands.blocked_is in
-    IfOk-weaker c.close_empty.result _ _ (λ h closes. Gives-empty given made s d a.class.now names lists bare limit _ _ _ _ _ _ h (omega (arith, level)) opened closes)
-    (rw c.path-path.ensures.path at (c.close_empty.ensures.gives ev is))
-
-pub walk_directory-returns-then-is_empty-clause-part : goal.walk_directory-returns-then-is_empty-clause-part
-walk_directory-returns-then-is_empty-clause-part g t c = λ made s stands quiet default.
-    let a = c.args in let given = setting_of g.M.Matcher a.shared.now in let d = a.place.now.path in let ev = evidence given made s in
-    let names = c.in_ok-names.names in
-    let bare : length names ≡ 0 = ap length (sym c.as_slice.ensures) ∙ eqb-true (length c.as_slice.result.now) 0 (sym c.is_empty.ensures ∙ c.if-is_empty.true) in
-    let lists : ListsNames (look_directory given s.tree d) names = rw c.requires.root at (c.in_ok-names.ensures.lists s.tree stands.tree) in
-    let opened = c.in_ok-names.ensures.counted (g.D.Delegate.given a.delegate.now) in
-    let is = IsEvidence-told given made s a.blocked.now stands.blocked_is in
-    on_err_weaker c.close_empty.result (λ part. part-empty given made s d a.class.now names lists bare _ _ _ a.outcome.now c.open.new.outcome c.close_empty.new.outcome opened part) (rw c.path-path.ensures.path at (c.close_empty.ensures.part ev is))
+pub walk_directory-returns-then-is_empty-clause-told : goal.walk_directory-returns-then-is_empty-clause-told
+walk_directory-returns-then-is_empty-clause-told g t c =
+    record {
+      gives = λ made s stands quiet default limit level.
+          let a = c.args in let told = g.D.Delegate.given in let given = setting_of g.M.Matcher a.shared.now in
+          let d = a.place.now.path in let ev = evidence given made s in let names = c.in_ok-names.names in
+          let bare : length names ≡ 0 = ap length (sym c.as_slice.ensures) ∙ eqb-true (length c.as_slice.result.now) 0 (sym c.is_empty.ensures ∙ c.if-is_empty.true) in
+          let lists : ListsNames (look_directory given s.tree d) names = rw c.requires.root at (c.in_ok-names.ensures.lists s.tree stands.tree) in
+          let opened = c.in_ok-names.ensures.counted (told a.parts.now.delegate.now) in let is = IsEvidence-told given made s a.blocked.now stands.blocked_is in
+          IfOk-weaker c.close_empty.result _ _ (λ h closes. Gives-empty given made s d a.class.now names lists bare limit _ _ _ _ _ _ h (omega (arith, level)) opened closes)
+          (rw c.path-path.ensures.path at (c.close_empty.ensures.gives ev is));
+      part = λ made s stands quiet default.
+          let a = c.args in let given = setting_of g.M.Matcher a.shared.now in let d = a.place.now.path in let ev = evidence given made s in
+          let names = c.in_ok-names.names in
+          let bare : length names ≡ 0 = ap length (sym c.as_slice.ensures) ∙ eqb-true (length c.as_slice.result.now) 0 (sym c.is_empty.ensures ∙ c.if-is_empty.true) in
+          let lists : ListsNames (look_directory given s.tree d) names = rw c.requires.root at (c.in_ok-names.ensures.lists s.tree stands.tree) in
+          let opened = c.in_ok-names.ensures.counted (g.D.Delegate.given a.parts.now.delegate.now) in
+          let is = IsEvidence-told given made s a.blocked.now stands.blocked_is in
+          on_err_weaker c.close_empty.result (λ part. part-empty given made s d a.class.now names lists bare _ _ _ a.parts.now.outcome.now c.open.new.outcome c.close_empty.new.outcome opened part) (rw c.path-path.ensures.path at (c.close_empty.ensures.part ev is));
+      refused = λ made s stands default limit level. memory-only c.close_empty.result _ (inl tt) c.close_empty.ensures.memory;
+    }
 
 pub walk_directory-loop-name-init : goal.walk_directory-loop-name-init
 walk_directory-loop-name-init g t c =
     let a = c.args in let told = g.D.Delegate.given in let given = setting_of g.M.Matcher a.shared.now in
     record {
+      same = search rules;
       worktree = let opened = c.open.ensures.worktree in record { tree = opened.tree; faults = opened.faults; list_faults = opened.list_faults; reads = opened.reads; lists = opened.lists; precomposes = opened.precomposes };
       store = AsksStore-same;
       unmapped = λ none. refl;
@@ -84,306 +102,362 @@ walk_directory-loop-name-init g t c =
       kept_on = refl;
       stays = refl;
       so_far = λ made s stands quiet default limit level.
-          rw (c.new-held.ensures.entries, c.new-held.ensures.blocked) (SoFar-none given made s limit a.place.now.path (told a.delegate.now) (told a.delegate.now) a.outcome.now c.open.new.outcome (c.in_ok-names.ensures.counted (told a.delegate.now)));
+          rw (c.new-held.ensures.entries, c.new-held.ensures.blocked) (SoFar-none given made s limit a.place.now.path (told a.parts.now.delegate.now) (told a.parts.now.delegate.now) a.parts.now.outcome.now c.open.new.outcome (c.in_ok-names.ensures.counted (told a.parts.now.delegate.now)));
     }
 
-pub walk_directory-returns-in_err-handed-clause-part : goal.walk_directory-returns-in_err-handed-clause-part
-walk_directory-returns-in_err-handed-clause-part g t c = λ made s stands quiet default.
-    let a = c.args in let w = g.W.Worktree in let given = setting_of g.M.Matcher a.shared.now in let d = a.place.now.path in
-    let has = HasNames-listed given s.tree d c.as_slice.ensures c.is_empty.ensures c.if-is_empty.false c.as_slice-name-items.ensures c.in_ok-names.ensures.names (rw c.requires.root at (c.in_ok-names.ensures.lists s.tree stands.tree)) in
-    let kept = c.loop-name.invariant in
-    let now = Stands-later given c.loop-name.excludes kept.worktree.tree kept.store.holds kept.rules.made kept.rules.in_step stands in
-    let before : NotIncreased (w.faults a.worktree.now) (w.faults c.loop-name.worktree) = omega (arith, quiet, c.walk_name.ensures.worktree.faults) in
-    let here : NotIncreased (w.faults c.loop-name.worktree) (w.faults c.walk_name.new.worktree) = omega (arith, quiet, kept.worktree.faults) in
-    let so_far = kept.so_far made s stands before default (a.levels + depth_of d) refl in
-    let p = err_from_is_err_and c.from_residual-in_err-handed.result c.from_residual-in_err-handed.ensures.1 in
-    rw p.1 (part-name given made s d a.class.now c.as_slice-name-items.result.now has.lists has.are c.path-path.ensures.plain has.some (a.levels + depth_of d) c.loop-name.name-index c.name-item.result _ _ _ _ _ _ _ _ c.loop-name-test.true c.name-item.is so_far
-    (rw (c.as_bytes.ensures, c.loop-name.invariant.stays) at (c.in_err-handed.ensures.part made s now here (kept.delegate.default ∙ default))))
+pub walk_directory-returns-in_err-handed-clause-told : goal.walk_directory-returns-in_err-handed-clause-told
+walk_directory-returns-in_err-handed-clause-told g t c =
+    record {
+      gives = λ made s stands quiet default limit level. let p = err_from_is_err_and c.from_residual-in_err-handed.result c.from_residual-in_err-handed.ensures.1 in rw p.1 tt;
+      part = λ made s stands quiet default.
+          let a = c.args in let w = g.W.Worktree in let given = setting_of g.M.Matcher a.shared.now in let d = a.place.now.path in
+          let has = HasNames-listed given s.tree d c.as_slice.ensures c.is_empty.ensures c.if-is_empty.false c.as_slice-name-items.ensures c.in_ok-names.ensures.names (rw c.requires.root at (c.in_ok-names.ensures.lists s.tree stands.tree)) in
+          let kept = c.loop-name.invariant in
+          let now = Stands-later given c.loop-name.parts.excludes.now kept.worktree.tree kept.store.holds kept.rules.made kept.rules.in_step stands in
+          let before : NotIncreased (w.faults a.parts.now.worktree.now) (w.faults c.loop-name.parts.worktree.now) = omega (arith, quiet, c.walk_name.ensures.walks.worktree.faults) in
+          let here : NotIncreased (w.faults c.loop-name.parts.worktree.now) (w.faults c.walk_name.new.parts.worktree.now) = omega (arith, quiet, kept.worktree.faults) in
+          let so_far = kept.so_far made s stands before default (a.levels + depth_of d) refl in
+          let p = err_from_is_err_and c.from_residual-in_err-handed.result c.from_residual-in_err-handed.ensures.1 in
+          rw p.1 (part-name given made s d a.class.now c.as_slice-name-items.result.now has.lists has.are c.path-path.ensures.plain has.some (a.levels + depth_of d) c.loop-name.name-index c.name-item.result _ _ _ _ _ _ _ _ c.loop-name-test.true c.name-item.is so_far
+          (rw (c.as_bytes.ensures, c.loop-name.invariant.stays) at (c.in_err-handed.ensures.told.part made s now here (kept.delegate.default ∙ default))));
+      refused = λ made s stands default limit level.
+          let a = c.args in let w = g.W.Worktree in let given = setting_of g.M.Matcher a.shared.now in let d = a.place.now.path in
+          let kept = c.loop-name.invariant in
+          let has = HasNames-listed given s.tree d c.as_slice.ensures c.is_empty.ensures c.if-is_empty.false c.as_slice-name-items.ensures c.in_ok-names.ensures.names (rw c.requires.root at (c.in_ok-names.ensures.lists s.tree stands.tree)) in
+          let now = Stands-later given c.loop-name.parts.excludes.now kept.worktree.tree kept.store.holds kept.rules.made kept.rules.in_step stands in
+          let name = c.name-item.result in let v = item_told given made s (joined d name) in
+          let within = HasPaths-name given made s d a.class.now c.as_slice-name-items.result.now has.lists has.are c.path-path.ensures.plain has.some c.loop-name.name-index name c.loop-name-test.true c.name-item.is in
+          let here : Type 0 = Increased (w.faults c.loop-name.parts.worktree.now) (w.faults c.walk_name.new.parts.worktree.now) in
+          let whole : Type 0 = Increased (w.faults a.parts.now.worktree.now) (w.faults c.walk_name.new.parts.worktree.now) in
+          let p = err_from_is_err_and c.from_residual-in_err-handed.result c.from_residual-in_err-handed.ensures.1 in
+          rw (p.1, p.2) (DirectoryRefuses-name given made s limit here whole v d a.class.now within (λ rose. omega (arith, rose, kept.worktree.faults)) _ (rw (c.as_bytes.ensures, c.loop-name.invariant.stays) at (c.in_err-handed.ensures.told.refused made s now (kept.delegate.default ∙ default) limit (rw kept.stays level))));
+    }
 
 pub walk_directory-returns-in_err-handed-clause-rules : goal.walk_directory-returns-in_err-handed-clause-rules
 walk_directory-returns-in_err-handed-clause-rules g t c = let kept = c.loop-name.invariant in KeepsRules-then kept.worktree.tree kept.store.holds kept.rules c.walk_name.ensures.rules
 
-pub walk_directory-returns-in_err-handed-clause-delegate : goal.walk_directory-returns-in_err-handed-clause-delegate
-walk_directory-returns-in_err-handed-clause-delegate g t c = KeepsDelegate-then c.loop-name.invariant.delegate c.walk_name.ensures.delegate
+pub walk_directory-returns-in_err-handed-clause-walks : goal.walk_directory-returns-in_err-handed-clause-walks
+walk_directory-returns-in_err-handed-clause-walks g t c =
+    record {
+      about = λ limit level.
+          let p = err_from_is_err_and c.from_residual-in_err-handed.result c.from_residual-in_err-handed.ensures.1 in
+          rw (p.1, p.2) (rw c.loop-name.invariant.rules.made at (c.in_err-handed.ensures.walks.about limit (rw c.loop-name.invariant.stays level)));
+      found = λ s told.
+          let kept = c.loop-name.invariant in let p = err_from_is_err_and c.from_residual-in_err-handed.result c.from_residual-in_err-handed.ensures.1 in
+          rw (p.1, p.2) (rw (kept.store.holds, kept.rules.made) at (c.in_err-handed.ensures.walks.found s (kept.worktree.tree ∙ told)));
+      caused =
+          let kept = c.loop-name.invariant in let p = err_from_is_err_and c.from_residual-in_err-handed.result c.from_residual-in_err-handed.ensures.1 in
+          rw (p.1, p.2) (Caused-later _ kept.worktree.faults kept.store.faults kept.calm kept.listed c.in_err-handed.ensures.walks.caused);
+      worktree = KeepsTree-then c.loop-name.invariant.worktree c.walk_name.ensures.walks.worktree;
+      store = AsksStore-then c.loop-name.invariant.store c.walk_name.ensures.walks.store;
+      interrupt = AsksInterrupt-then c.loop-name.invariant.interrupt c.walk_name.ensures.walks.interrupt;
+      hands =
+          let p = err_from_is_err_and c.from_residual-in_err-handed.result c.from_residual-in_err-handed.ensures.1 in
+          rw p.1 (Hands-refused c.args.place.now.path c.as_slice-name-items.result.now c.loop-name.name-index c.name-item.result c.loop-name-test.true c.name-item.is c.loop-name.invariant.puts (rw (c.as_bytes.ensures, c.loop-name.invariant.stays) at c.in_err-handed.ensures.walks.hands.puts) (rw c.as_slice-name-items.ensures c.in_ok-names.ensures.names)
+          c.path-path.ensures.plain);
+      delegate = KeepsDelegate-then c.loop-name.invariant.delegate c.walk_name.ensures.walks.delegate;
+      filtered = c.walk_name.ensures.walks.filtered ∙ c.loop-name.invariant.filtered;
+      heeds =
+          let p = err_from_is_err_and c.from_residual-in_err-handed.result c.from_residual-in_err-handed.ensures.1 in
+          rw (p.1, p.2) (Heeds-after g.D.Delegate _ _ _ _ c.loop-name.invariant.kept_on c.in_err-handed.ensures.walks.heeds);
+    }
 
-pub walk_directory-returns-in_err-take-clause-part : goal.walk_directory-returns-in_err-take-clause-part
-walk_directory-returns-in_err-take-clause-part g t c = λ made s stands quiet default.
-    let a = c.args in let w = g.W.Worktree in let told = g.D.Delegate.given in let o = chosen a.shared.now.options in
-    let given = setting_of g.M.Matcher a.shared.now in let d = a.place.now.path in let ev = evidence given made s in
-    let has = HasNames-listed given s.tree d c.as_slice.ensures c.is_empty.ensures c.if-is_empty.false c.as_slice-name-items.ensures c.in_ok-names.ensures.names (rw c.requires.root at (c.in_ok-names.ensures.lists s.tree stands.tree)) in
-    let kept = c.loop-name.invariant in
-    let now = Stands-later given c.loop-name.excludes kept.worktree.tree kept.store.holds kept.rules.made kept.rules.in_step stands in
-    let before : NotIncreased (w.faults a.worktree.now) (w.faults c.loop-name.worktree) = omega (arith, quiet, c.walk_name.ensures.worktree.faults) in
-    let here : NotIncreased (w.faults c.loop-name.worktree) (w.faults c.walk_name.new.worktree) = omega (arith, quiet, kept.worktree.faults) in
-    let name = c.name-item.result in
-    let gives : Gives o (a.levels + depth_of d) ev (item_told given made s (joined d name)) (told c.loop-name.delegate) (told c.walk_name.new.delegate) c.loop-name.outcome c.walk_name.new.outcome c.in_ok-handed.handed =
-    rw (c.as_bytes.ensures, c.loop-name.invariant.stays) at (c.in_ok-handed.ensures.gives made s now here (kept.delegate.default ∙ default) (a.levels + depth_of d) (rw kept.stays refl)) in
-    let so_far = kept.so_far made s stands before default (a.levels + depth_of d) refl in
-    let p = err_from_is_err_and c.from_residual-in_err-take.result c.from_residual-in_err-take.ensures.1 in
-    rw p.1 (part-name given made s d a.class.now c.as_slice-name-items.result.now has.lists has.are c.path-path.ensures.plain has.some (a.levels + depth_of d) c.loop-name.name-index name _ _ _ _ _ _ _ _ c.loop-name-test.true c.name-item.is so_far (Within-all _ _ _ _ _ _ _ _ _ gives.emits (λ q. omega arith) (omega arith)))
+pub walk_directory-returns-in_err-take-clause-told : goal.walk_directory-returns-in_err-take-clause-told
+walk_directory-returns-in_err-take-clause-told g t c =
+    record {
+      gives = λ made s stands quiet default limit level. let p = err_from_is_err_and c.from_residual-in_err-take.result c.from_residual-in_err-take.ensures.1 in rw p.1 tt;
+      part = λ made s stands quiet default.
+          let a = c.args in let w = g.W.Worktree in let told = g.D.Delegate.given in let o = chosen a.shared.now.options in
+          let given = setting_of g.M.Matcher a.shared.now in let d = a.place.now.path in let ev = evidence given made s in
+          let has = HasNames-listed given s.tree d c.as_slice.ensures c.is_empty.ensures c.if-is_empty.false c.as_slice-name-items.ensures c.in_ok-names.ensures.names (rw c.requires.root at (c.in_ok-names.ensures.lists s.tree stands.tree)) in
+          let kept = c.loop-name.invariant in
+          let now = Stands-later given c.loop-name.parts.excludes.now kept.worktree.tree kept.store.holds kept.rules.made kept.rules.in_step stands in
+          let before : NotIncreased (w.faults a.parts.now.worktree.now) (w.faults c.loop-name.parts.worktree.now) = omega (arith, quiet, c.walk_name.ensures.walks.worktree.faults) in
+          let here : NotIncreased (w.faults c.loop-name.parts.worktree.now) (w.faults c.walk_name.new.parts.worktree.now) = omega (arith, quiet, kept.worktree.faults) in
+          let name = c.name-item.result in
+          let gives : Gives o (a.levels + depth_of d) ev (item_told given made s (joined d name)) (told c.loop-name.parts.delegate.now) (told c.walk_name.new.parts.delegate.now) c.loop-name.parts.outcome.now c.walk_name.new.parts.outcome.now c.in_ok-handed.handed =
+          rw (c.as_bytes.ensures, c.loop-name.invariant.stays) at (c.in_ok-handed.ensures.told.gives made s now here (kept.delegate.default ∙ default) (a.levels + depth_of d) (rw kept.stays refl)) in
+          let so_far = kept.so_far made s stands before default (a.levels + depth_of d) refl in
+          let p = err_from_is_err_and c.from_residual-in_err-take.result c.from_residual-in_err-take.ensures.1 in
+          rw p.1 (part-name given made s d a.class.now c.as_slice-name-items.result.now has.lists has.are c.path-path.ensures.plain has.some (a.levels + depth_of d) c.loop-name.name-index name _ _ _ _ _ _ _ _ c.loop-name-test.true c.name-item.is so_far (Within-all _ _ _ _ _ _ _ _ _ gives.emits (λ q. omega arith) (omega arith)));
+      refused = λ made s stands default limit level.
+          let p = err_from_is_err_and c.from_residual-in_err-take.result c.from_residual-in_err-take.ensures.1 in rw (p.1, p.2) (inl tt);
+    }
 
 pub walk_directory-returns-in_err-take-clause-rules : goal.walk_directory-returns-in_err-take-clause-rules
 walk_directory-returns-in_err-take-clause-rules g t c = let kept = c.loop-name.invariant in KeepsRules-then kept.worktree.tree kept.store.holds kept.rules c.walk_name.ensures.rules
 
-pub walk_directory-returns-in_err-take-clause-delegate : goal.walk_directory-returns-in_err-take-clause-delegate
-walk_directory-returns-in_err-take-clause-delegate g t c = KeepsDelegate-then c.loop-name.invariant.delegate c.walk_name.ensures.delegate
+pub walk_directory-returns-in_err-take-clause-walks : goal.walk_directory-returns-in_err-take-clause-walks
+walk_directory-returns-in_err-take-clause-walks g t c =
+    record {
+      about = λ limit level.
+          let p = err_from_is_err_and c.from_residual-in_err-take.result c.from_residual-in_err-take.ensures.1 in rw (p.1, p.2) tt;
+      found = λ s told.
+          let p = err_from_is_err_and c.from_residual-in_err-take.result c.from_residual-in_err-take.ensures.1 in rw (p.1, p.2) tt;
+      caused = let p = err_from_is_err_and c.from_residual-in_err-take.result c.from_residual-in_err-take.ensures.1 in rw (p.1, p.2) (record { fault = tt; interrupt = tt; listing = tt; listed = tt; calm = tt });
+      worktree = KeepsTree-then c.loop-name.invariant.worktree c.walk_name.ensures.walks.worktree;
+      store = AsksStore-then c.loop-name.invariant.store c.walk_name.ensures.walks.store;
+      interrupt = AsksInterrupt-then c.loop-name.invariant.interrupt c.walk_name.ensures.walks.interrupt;
+      hands =
+          let p = err_from_is_err_and c.from_residual-in_err-take.result c.from_residual-in_err-take.ensures.1 in
+          rw p.1 (Hands-refused c.args.place.now.path c.as_slice-name-items.result.now c.loop-name.name-index c.name-item.result c.loop-name-test.true c.name-item.is c.loop-name.invariant.puts (rw (c.as_bytes.ensures, c.loop-name.invariant.stays) at c.in_ok-handed.ensures.walks.hands.puts) (rw c.as_slice-name-items.ensures c.in_ok-names.ensures.names)
+          c.path-path.ensures.plain);
+      delegate = KeepsDelegate-then c.loop-name.invariant.delegate c.walk_name.ensures.walks.delegate;
+      filtered = c.walk_name.ensures.walks.filtered ∙ c.loop-name.invariant.filtered;
+      heeds = let p = err_from_is_err_and c.from_residual-in_err-take.result c.from_residual-in_err-take.ensures.1 in rw (p.1, p.2) (record { broken = tt; stopped = tt; unbroken = c.in_ok-handed.ensures.walks.heeds.kept_on ∙ c.loop-name.invariant.kept_on; kept_on = tt });
+    }
 
 pub walk_directory-loop-name-preserved : goal.walk_directory-loop-name-preserved
 walk_directory-loop-name-preserved g t c =
     let kept = c.loop-name.invariant in
     record {
-      worktree = KeepsTree-then kept.worktree c.walk_name.ensures.worktree;
-      store = AsksStore-then kept.store c.walk_name.ensures.store;
-      unmapped = unmapped-then c.args.excludes.now c.loop-name.excludes kept.rules.made kept.unmapped c.walk_name.ensures.unmapped;
+      same = search rules;
+      worktree = KeepsTree-then kept.worktree c.walk_name.ensures.walks.worktree;
+      store = AsksStore-then kept.store c.walk_name.ensures.walks.store;
+      unmapped = unmapped-then c.args.parts.now.excludes.now c.loop-name.parts.excludes.now kept.rules.made kept.unmapped c.walk_name.ensures.unmapped;
       rules = KeepsRules-then kept.worktree.tree kept.store.holds kept.rules c.walk_name.ensures.rules;
-      interrupt = AsksInterrupt-then kept.interrupt c.walk_name.ensures.interrupt;
-      opens = opens-then (enters-more (setting_of g.M.Matcher c.args.shared.now) c.args.blocked.now (c.args.levels + depth_of c.args.place.now.path) c.args.place.now.path c.as_slice-name-items.result.now c.loop-name.name-index c.name-item.result c.loop-name-test.true c.name-item.is kept.worktree kept.store kept.rules kept.delegate c.walk_name.ensures.worktree.faults) kept.rules.made (omega arith) kept.opens (rw (c.as_bytes.ensures, c.loop-name.invariant.stays) at c.in_ok-handed.ensures.opens);
-      puts = rw c.in_ok-take.ensures.entries (Puts-name c.args.place.now.path c.as_slice-name-items.result.now c.loop-name.name-index c.name-item.result c.loop-name-test.true c.name-item.is kept.puts (rw (c.as_bytes.ensures, c.loop-name.invariant.stays) at c.in_ok-handed.ensures.hands.puts));
-      delegate = KeepsDelegate-then kept.delegate c.walk_name.ensures.delegate;
-      filtered = c.walk_name.ensures.filtered ∙ kept.filtered;
-      listed = c.in_ok-handed.ensures.caused.listed ∙ kept.listed;
-      calm = c.in_ok-handed.ensures.caused.calm ∙ kept.calm;
-      kept_on = c.in_ok-handed.ensures.heeds.kept_on ∙ kept.kept_on;
+      interrupt = AsksInterrupt-then kept.interrupt c.walk_name.ensures.walks.interrupt;
+      opens = opens-then (enters-more (setting_of g.M.Matcher c.args.shared.now) c.args.blocked.now (c.args.levels + depth_of c.args.place.now.path) c.args.place.now.path c.as_slice-name-items.result.now c.loop-name.name-index c.name-item.result c.loop-name-test.true c.name-item.is kept.worktree kept.store kept.rules kept.delegate c.walk_name.ensures.walks.worktree.faults) kept.rules.made (omega arith) kept.opens (rw (c.as_bytes.ensures, c.loop-name.invariant.stays) at c.in_ok-handed.ensures.opens);
+      puts = rw c.in_ok-take.ensures.entries (Puts-name c.args.place.now.path c.as_slice-name-items.result.now c.loop-name.name-index c.name-item.result c.loop-name-test.true c.name-item.is kept.puts (rw (c.as_bytes.ensures, c.loop-name.invariant.stays) at c.in_ok-handed.ensures.walks.hands.puts));
+      delegate = KeepsDelegate-then kept.delegate c.walk_name.ensures.walks.delegate;
+      filtered = c.walk_name.ensures.walks.filtered ∙ kept.filtered;
+      listed = c.in_ok-handed.ensures.walks.caused.listed ∙ kept.listed;
+      calm = c.in_ok-handed.ensures.walks.caused.calm ∙ kept.calm;
+      kept_on = c.in_ok-handed.ensures.walks.heeds.kept_on ∙ kept.kept_on;
       stays = c.in_ok-handed.ensures.stays ∙ kept.stays;
       so_far = λ made s stands quiet default limit level.
           let a = c.args in let w = g.W.Worktree in let told = g.D.Delegate.given in let o = chosen a.shared.now.options in
           let given = setting_of g.M.Matcher a.shared.now in let d = a.place.now.path in let ev = evidence given made s in
-          let now = Stands-later given c.loop-name.excludes kept.worktree.tree kept.store.holds kept.rules.made kept.rules.in_step stands in
-          let before : NotIncreased (w.faults a.worktree.now) (w.faults c.loop-name.worktree) = omega (arith, quiet, c.walk_name.ensures.worktree.faults) in
-          let here : NotIncreased (w.faults c.loop-name.worktree) (w.faults c.walk_name.new.worktree) = omega (arith, quiet, kept.worktree.faults) in
+          let now = Stands-later given c.loop-name.parts.excludes.now kept.worktree.tree kept.store.holds kept.rules.made kept.rules.in_step stands in
+          let before : NotIncreased (w.faults a.parts.now.worktree.now) (w.faults c.loop-name.parts.worktree.now) = omega (arith, quiet, c.walk_name.ensures.walks.worktree.faults) in
+          let here : NotIncreased (w.faults c.loop-name.parts.worktree.now) (w.faults c.walk_name.new.parts.worktree.now) = omega (arith, quiet, kept.worktree.faults) in
           let name = c.name-item.result in
-          let gives : Gives o limit ev (item_told given made s (joined d name)) (told c.loop-name.delegate) (told c.walk_name.new.delegate) c.loop-name.outcome c.walk_name.new.outcome c.in_ok-handed.handed =
-          rw (c.as_bytes.ensures, c.loop-name.invariant.stays) at (c.in_ok-handed.ensures.gives made s now here (kept.delegate.default ∙ default) limit (rw kept.stays level)) in
+          let gives : Gives o limit ev (item_told given made s (joined d name)) (told c.loop-name.parts.delegate.now) (told c.walk_name.new.parts.delegate.now) c.loop-name.parts.outcome.now c.walk_name.new.parts.outcome.now c.in_ok-handed.handed =
+          rw (c.as_bytes.ensures, c.loop-name.invariant.stays) at (c.in_ok-handed.ensures.told.gives made s now here (kept.delegate.default ∙ default) limit (rw kept.stays level)) in
           SoFar-more given made s limit d c.as_slice-name-items.result.now c.loop-name.name-index name _ _ _ _ _ _ _ _ _ _ c.in_ok-handed.handed c.loop-name-test.true c.name-item.is (kept.so_far made s stands before default limit level) gives c.in_ok-take.ensures.entries c.in_ok-take.ensures.blocked;
     }
 
-pub walk_directory-returns-clause-gives : goal.walk_directory-returns-clause-gives
-walk_directory-returns-clause-gives g t c = λ made s stands quiet default limit level.
-    let a = c.args in let given = setting_of g.M.Matcher a.shared.now in
-    let d = a.place.now.path in let ev = evidence given made s in
-    let has = HasNames-listed given s.tree d c.as_slice.ensures c.is_empty.ensures c.if-is_empty.false c.as_slice-name-items.ensures c.in_ok-names.ensures.names (rw c.requires.root at (c.in_ok-names.ensures.lists s.tree stands.tree)) in
-    let held = c.loop-name.held in let is = IsEvidence-told given made s a.blocked.now stands.blocked_is in
-    IfOk-weaker c.close.result _ _ (λ h closes. Gives-listed given made s d a.class.now c.as_slice-name-items.result.now has.lists has.are c.path-path.ensures.plain has.some limit c.loop-name.name-index _ _ _ _ _ held.entries.items held.blocked c.loop-name-test.false (c.loop-name.invariant.so_far made s stands quiet default limit level) _ h (omega (arith, level)) closes)
-    (rw (c.path.ensures.path, c.loop-name.invariant.stays) at (c.close.ensures.gives ev is))
+pub walk_directory-returns-clause-told : goal.walk_directory-returns-clause-told
+walk_directory-returns-clause-told g t c =
+    record {
+      gives = λ made s stands quiet default limit level.
+          let a = c.args in let given = setting_of g.M.Matcher a.shared.now in
+          let d = a.place.now.path in let ev = evidence given made s in
+          let has = HasNames-listed given s.tree d c.as_slice.ensures c.is_empty.ensures c.if-is_empty.false c.as_slice-name-items.ensures c.in_ok-names.ensures.names (rw c.requires.root at (c.in_ok-names.ensures.lists s.tree stands.tree)) in
+          let held = c.loop-name.held in let is = IsEvidence-told given made s a.blocked.now stands.blocked_is in
+          IfOk-weaker c.close.result _ _ (λ h closes. Gives-listed given made s d a.class.now c.as_slice-name-items.result.now has.lists has.are c.path-path.ensures.plain has.some limit c.loop-name.name-index _ _ _ _ _ held.entries.items held.blocked c.loop-name-test.false (c.loop-name.invariant.so_far made s stands quiet default limit level) _ h (omega (arith, level)) closes)
+          (rw (c.path.ensures.path, c.loop-name.invariant.stays) at (c.close.ensures.gives ev is));
+      part = λ made s stands quiet default.
+          let a = c.args in let told = g.D.Delegate.given in let given = setting_of g.M.Matcher a.shared.now in let d = a.place.now.path in
+          let ev = evidence given made s in
+          let has = HasNames-listed given s.tree d c.as_slice.ensures c.is_empty.ensures c.if-is_empty.false c.as_slice-name-items.ensures c.in_ok-names.ensures.names (rw c.requires.root at (c.in_ok-names.ensures.lists s.tree stands.tree)) in
+          let held = c.loop-name.held in let is = IsEvidence-told given made s a.blocked.now stands.blocked_is in
+          let so_far = c.loop-name.invariant.so_far made s stands quiet default (a.levels + depth_of d) refl in
+          on_err_weaker c.close.result (λ part. part-close given made s d a.class.now c.as_slice-name-items.result.now has.lists has.are c.path-path.ensures.plain has.some (a.levels + depth_of d) c.loop-name.name-index (told a.parts.now.delegate.now) (told c.loop-name.parts.delegate.now) (told c.close.new.delegate) a.parts.now.outcome.now c.loop-name.parts.outcome.now held.entries.items held.blocked c.loop-name-test.false so_far c.close.new.outcome part)
+          (rw (c.path.ensures.path, c.loop-name.invariant.stays) at (c.close.ensures.part ev is));
+      refused = λ made s stands default limit level. memory-only c.close.result _ (inl tt) c.close.ensures.memory;
+    }
 
-pub walk_directory-returns-clause-part : goal.walk_directory-returns-clause-part
-walk_directory-returns-clause-part g t c = λ made s stands quiet default.
-    let a = c.args in let told = g.D.Delegate.given in let given = setting_of g.M.Matcher a.shared.now in let d = a.place.now.path in
-    let ev = evidence given made s in
-    let has = HasNames-listed given s.tree d c.as_slice.ensures c.is_empty.ensures c.if-is_empty.false c.as_slice-name-items.ensures c.in_ok-names.ensures.names (rw c.requires.root at (c.in_ok-names.ensures.lists s.tree stands.tree)) in
-    let held = c.loop-name.held in let is = IsEvidence-told given made s a.blocked.now stands.blocked_is in
-    let so_far = c.loop-name.invariant.so_far made s stands quiet default (a.levels + depth_of d) refl in
-    on_err_weaker c.close.result (λ part. part-close given made s d a.class.now c.as_slice-name-items.result.now has.lists has.are c.path-path.ensures.plain has.some (a.levels + depth_of d) c.loop-name.name-index (told a.delegate.now) (told c.loop-name.delegate) (told c.close.new.delegate) a.outcome.now c.loop-name.outcome held.entries.items held.blocked c.loop-name-test.false so_far c.close.new.outcome part)
-    (rw (c.path.ensures.path, c.loop-name.invariant.stays) at (c.close.ensures.part ev is))
+pub walk_directory-returns-clause-walks : goal.walk_directory-returns-clause-walks
+walk_directory-returns-clause-walks g t c =
+    record {
+      about = λ limit level. memory-only c.close.result _ tt c.close.ensures.memory;
+      found = λ s told. memory-only c.close.result _ tt c.close.ensures.memory;
+      caused =
+          let kept = c.loop-name.invariant in
+          Caused-later c.close.result kept.worktree.faults kept.store.faults kept.calm kept.listed (Caused-memory c.close.result c.close.ensures.memory);
+      worktree = search rules;
+      store = search rules;
+      interrupt = search rules;
+      hands =
+          Hands-closed c.args.place.now.path c.as_slice-name-items.result.now c.loop-name.name-index (rw c.as_slice-name-items.ensures c.in_ok-names.ensures.names) c.path-path.ensures.plain c.loop-name.invariant.puts (rw (c.path.ensures.path, c.loop-name.invariant.stays) at c.close.ensures.hands);
+      delegate = KeepsDelegate-then c.loop-name.invariant.delegate c.close.ensures.delegate;
+      filtered = c.close.ensures.filtered ∙ c.loop-name.invariant.filtered;
+      heeds = Heeds-after g.D.Delegate _ _ _ c.close.result c.loop-name.invariant.kept_on c.close.ensures.heeds;
+    }
 
-pub walk_directory-returns-clause-delegate : goal.walk_directory-returns-clause-delegate
-walk_directory-returns-clause-delegate g t c = KeepsDelegate-then c.loop-name.invariant.delegate c.close.ensures.delegate
-
-pub walk_name-returns-then-is_entered-clause-gives : goal.walk_name-returns-then-is_entered-clause-gives
-walk_name-returns-then-is_entered-clause-gives g t c = λ made s stands quiet default limit level.
-    let a = c.args in let w = g.W.Worktree in let o = chosen a.shared.now.options in
-    let given = setting_of g.M.Matcher a.shared.now in let ev = evidence given made s in let d = a.place.now.path in
-    let q = joined d a.name.now in let p = c.push.new.self.path in let at = ap (λ (x : Standing). x.path) c.in_ok-cut.ensures.pushed in
-    let k = c.in_ok-class.class in
-    let asked : NotIncreased (w.faults a.worktree.now) (w.faults c.class_of.new.worktree) = omega (arith, quiet, c.walk_directory-handed.ensures.worktree.faults) in
-    let here : NotIncreased (w.faults c.class_of.new.worktree) (w.faults c.walk_directory-handed.new.worktree) = omega (arith, quiet, c.class_of.ensures.keeps.faults) in
-    let is : k ≡ class o ev p None (on_disk given s.tree p true) = rw (c.path-path.ensures.path, stands.made_is) at (c.in_ok-class.ensures.class s (telling stands) stands.in_step asked) in
-    let read : (asks o ev p None (on_disk given s.tree p true) && ev.is_unread p) ≡ false = rw (c.path-path.ensures.path, stands.made_is) at (c.in_ok-class.ensures.read s (telling stands) stands.in_step asked) in
-    let now = Stands-later given c.class_of.new.excludes c.class_of.ensures.keeps.tree c.class_of.ensures.store.holds c.class_of.ensures.rules.made c.class_of.ensures.rules.in_step stands in
-    let some : is_empty p ≡ false = ap is_empty at ∙ joined-some d a.name.now c.requires.name in
-    let into : enters o k false ≡ true = sym (c.is_entered.ensures.entered default) ∙ c.if-is_entered.true in
-    let deeper : (a.levels - 1) + depth_of p ≡ limit = omega (arith, level, c.if-levels-eq0.false, ap depth_of at, depth_of-joined d a.name.now c.requires.name) in
-    IfOk-weaker c.walk_directory-handed.result _ _ (λ h gives. Gives-directory given made s p k is q at _ _ limit _ _ h read some into gives)
-    (rw c.is_entered.ensures.given at (c.walk_directory-handed.ensures.gives made s now here (c.is_entered.ensures.default ∙ default) limit deeper))
-
-pub walk_name-returns-then-is_entered-clause-part : goal.walk_name-returns-then-is_entered-clause-part
-walk_name-returns-then-is_entered-clause-part g t c = λ made s stands quiet default.
-    let a = c.args in let w = g.W.Worktree in let o = chosen a.shared.now.options in let given = setting_of g.M.Matcher a.shared.now in
-    let ev = evidence given made s in let d = a.place.now.path in let q = joined d a.name.now in let p = c.push.new.self.path in
-    let at = ap (λ (x : Standing). x.path) c.in_ok-cut.ensures.pushed in let k = c.in_ok-class.class in
-    let asked : NotIncreased (w.faults a.worktree.now) (w.faults c.class_of.new.worktree) = omega (arith, quiet, c.walk_directory-handed.ensures.worktree.faults) in
-    let here : NotIncreased (w.faults c.class_of.new.worktree) (w.faults c.walk_directory-handed.new.worktree) = omega (arith, quiet, c.class_of.ensures.keeps.faults) in
-    let is : k ≡ class o ev p None (on_disk given s.tree p true) = rw (c.path-path.ensures.path, stands.made_is) at (c.in_ok-class.ensures.class s (telling stands) stands.in_step asked) in
-    let now = Stands-later given c.class_of.new.excludes c.class_of.ensures.keeps.tree c.class_of.ensures.store.holds c.class_of.ensures.rules.made c.class_of.ensures.rules.in_step stands in
-    let some : is_empty p ≡ false = ap is_empty at ∙ joined-some d a.name.now c.requires.name in
-    let into : enters o k false ≡ true = sym (c.is_entered.ensures.entered default) ∙ c.if-is_entered.true in
-    on_err_weaker c.walk_directory-handed.result (λ part. part-directory given made s p k is q at _ _ _ _ some into part)
-    (rw c.is_entered.ensures.given at (c.walk_directory-handed.ensures.part made s now here (c.is_entered.ensures.default ∙ default)))
-
-pub walk_name-returns-clause-gives : goal.walk_name-returns-clause-gives
-walk_name-returns-clause-gives g t c = λ made s stands quiet default limit level.
-    let a = c.args in let w = g.W.Worktree in let o = chosen a.shared.now.options in
-    let given = setting_of g.M.Matcher a.shared.now in let ev = evidence given made s in let q = joined a.place.now.path a.name.now in
-    let p = c.push.new.self.path in let at = ap (λ (x : Standing). x.path) c.in_ok-cut.ensures.pushed in let k = c.in_ok-class.class in
-    let asked : NotIncreased (w.faults a.worktree.now) (w.faults c.class_of.new.worktree) = omega (arith, quiet, c.leaf_class.ensures.worktree.faults) in
-    let here : NotIncreased (w.faults c.class_of.new.worktree) (w.faults c.leaf_class.new.worktree) = omega (arith, quiet, c.class_of.ensures.keeps.faults) in
-    let is : k ≡ class o ev p None (on_disk given s.tree p true) = rw (c.path-path.ensures.path, stands.made_is) at (c.in_ok-class.ensures.class s (telling stands) stands.in_step asked) in
-    let read : (asks o ev p None (on_disk given s.tree p true) && ev.is_unread p) ≡ false = rw (c.path-path.ensures.path, stands.made_is) at (c.in_ok-class.ensures.read s (telling stands) stands.in_step asked) in
-    let leaving : enters o k false ≡ false = sym (c.is_entered.ensures.entered default) ∙ c.if-is_entered.false in let z = c.in_ok-class-2.class in
-    let hides : z ≡ leaf_class o ev p k = c.in_ok-class-2.ensures.class made s (c.class_of.ensures.keeps.tree ∙ stands.tree) here in
-    IfOk-weaker c.put_leaf-handed.result _ _ (λ h closes. Gives-leaf given made s p k is q at _ _ limit _ _ h read leaving (Gives-put o limit ev p k z _ _ _ _ h hides closes))
-    (rw (c.path-path.ensures.path, c.is_entered.ensures.given) at c.put_leaf-handed.ensures.gives)
-
-pub walk_name-returns-clause-part : goal.walk_name-returns-clause-part
-walk_name-returns-clause-part g t c = λ made s stands quiet default.
-    let a = c.args in let w = g.W.Worktree in let o = chosen a.shared.now.options in let given = setting_of g.M.Matcher a.shared.now in
-    let ev = evidence given made s in let q = joined a.place.now.path a.name.now in let p = c.push.new.self.path in
-    let at = ap (λ (x : Standing). x.path) c.in_ok-cut.ensures.pushed in let k = c.in_ok-class.class in
-    let asked : NotIncreased (w.faults a.worktree.now) (w.faults c.class_of.new.worktree) = omega (arith, quiet, c.leaf_class.ensures.worktree.faults) in
-    let here : NotIncreased (w.faults c.class_of.new.worktree) (w.faults c.leaf_class.new.worktree) = omega (arith, quiet, c.class_of.ensures.keeps.faults) in
-    let is : k ≡ class o ev p None (on_disk given s.tree p true) = rw (c.path-path.ensures.path, stands.made_is) at (c.in_ok-class.ensures.class s (telling stands) stands.in_step asked) in
-    let leaving : enters o k false ≡ false = sym (c.is_entered.ensures.entered default) ∙ c.if-is_entered.false in let z = c.in_ok-class-2.class in
-    let hides : z ≡ leaf_class o ev p k = c.in_ok-class-2.ensures.class made s (c.class_of.ensures.keeps.tree ∙ stands.tree) here in
-    on_err_weaker c.put_leaf-handed.result (λ part. part-leaf given made s p k is q at _ _ _ _ leaving (part-put o ev p k z _ _ _ _ hides part))
-    (rw (c.path-path.ensures.path, c.is_entered.ensures.given) at c.put_leaf-handed.ensures.part)
-
-pub walk_directory-returns-in_err-names-clause-about : goal.walk_directory-returns-in_err-names-clause-about
-walk_directory-returns-in_err-names-clause-about g t c = λ limit level.
-    let p = err_from_is_err_and c.from_residual.result c.from_residual.ensures.1 in
-    rw (p.1, p.2) (rw c.requires.root at (c.in_err-names.ensures.about (made_with c.args.excludes.now) limit (omega (arith, level))))
-
-pub walk_directory-returns-in_err-names-clause-found : goal.walk_directory-returns-in_err-names-clause-found
-walk_directory-returns-in_err-names-clause-found g t c = λ s told.
-    let a = c.args in let p = err_from_is_err_and c.from_residual.result c.from_residual.ensures.1 in
-    rw (p.1, p.2) (IsInTree-open (g.F.Find.holds a.objects.now) s (made_with a.excludes.now) a.shared.now.worktree_root.now a.place.now.path _ (rw c.requires.root at (c.in_err-names.ensures.refused s.tree told)))
-
-pub walk_directory-returns-in_err-names-clause-refused : goal.walk_directory-returns-in_err-names-clause-refused
-walk_directory-returns-in_err-names-clause-refused g t c = λ made s stands default limit level.
-    let p = err_from_is_err_and c.from_residual.result c.from_residual.ensures.1 in
-    rw (p.1, p.2) (inl (rw c.requires.root at (c.in_err-names.ensures.refused s.tree stands.tree)))
-
-pub walk_directory-returns-then-is_empty-clause-about : goal.walk_directory-returns-then-is_empty-clause-about
-walk_directory-returns-then-is_empty-clause-about g t c = λ limit level. memory-only c.close_empty.result _ tt c.close_empty.ensures.memory
-
-pub walk_directory-returns-then-is_empty-clause-found : goal.walk_directory-returns-then-is_empty-clause-found
-walk_directory-returns-then-is_empty-clause-found g t c = λ s told. memory-only c.close_empty.result _ tt c.close_empty.ensures.memory
-
-pub walk_directory-returns-then-is_empty-clause-refused : goal.walk_directory-returns-then-is_empty-clause-refused
-walk_directory-returns-then-is_empty-clause-refused g t c = λ made s stands default limit level. memory-only c.close_empty.result _ (inl tt) c.close_empty.ensures.memory
-
-pub walk_directory-returns-clause-about : goal.walk_directory-returns-clause-about
-walk_directory-returns-clause-about g t c = λ limit level. memory-only c.close.result _ tt c.close.ensures.memory
-
-pub walk_directory-returns-clause-found : goal.walk_directory-returns-clause-found
-walk_directory-returns-clause-found g t c = λ s told. memory-only c.close.result _ tt c.close.ensures.memory
-
-pub walk_directory-returns-clause-refused : goal.walk_directory-returns-clause-refused
-walk_directory-returns-clause-refused g t c = λ made s stands default limit level. memory-only c.close.result _ (inl tt) c.close.ensures.memory
-
-pub walk_directory-returns-in_err-handed-clause-about : goal.walk_directory-returns-in_err-handed-clause-about
-walk_directory-returns-in_err-handed-clause-about g t c = λ limit level.
-    let p = err_from_is_err_and c.from_residual-in_err-handed.result c.from_residual-in_err-handed.ensures.1 in
-    rw (p.1, p.2) (rw c.loop-name.invariant.rules.made at (c.in_err-handed.ensures.about limit (rw c.loop-name.invariant.stays level)))
-
-pub walk_directory-returns-in_err-handed-clause-found : goal.walk_directory-returns-in_err-handed-clause-found
-walk_directory-returns-in_err-handed-clause-found g t c = λ s told.
-    let kept = c.loop-name.invariant in let p = err_from_is_err_and c.from_residual-in_err-handed.result c.from_residual-in_err-handed.ensures.1 in
-    rw (p.1, p.2) (rw (kept.store.holds, kept.rules.made) at (c.in_err-handed.ensures.found s (kept.worktree.tree ∙ told)))
-
-pub walk_directory-returns-in_err-handed-clause-refused : goal.walk_directory-returns-in_err-handed-clause-refused
-walk_directory-returns-in_err-handed-clause-refused g t c = λ made s stands default limit level.
-    let a = c.args in let w = g.W.Worktree in let given = setting_of g.M.Matcher a.shared.now in let d = a.place.now.path in
-    let kept = c.loop-name.invariant in
-    let has = HasNames-listed given s.tree d c.as_slice.ensures c.is_empty.ensures c.if-is_empty.false c.as_slice-name-items.ensures c.in_ok-names.ensures.names (rw c.requires.root at (c.in_ok-names.ensures.lists s.tree stands.tree)) in
-    let now = Stands-later given c.loop-name.excludes kept.worktree.tree kept.store.holds kept.rules.made kept.rules.in_step stands in
-    let name = c.name-item.result in let v = item_told given made s (joined d name) in
-    let within = HasPaths-name given made s d a.class.now c.as_slice-name-items.result.now has.lists has.are c.path-path.ensures.plain has.some c.loop-name.name-index name c.loop-name-test.true c.name-item.is in
-    let here : Type 0 = Increased (w.faults c.loop-name.worktree) (w.faults c.walk_name.new.worktree) in
-    let whole : Type 0 = Increased (w.faults a.worktree.now) (w.faults c.walk_name.new.worktree) in
-    let p = err_from_is_err_and c.from_residual-in_err-handed.result c.from_residual-in_err-handed.ensures.1 in
-    rw (p.1, p.2) (DirectoryRefuses-name given made s limit here whole v d a.class.now within (λ rose. omega (arith, rose, kept.worktree.faults)) _ (rw (c.as_bytes.ensures, c.loop-name.invariant.stays) at (c.in_err-handed.ensures.refused made s now (kept.delegate.default ∙ default) limit (rw kept.stays level))))
-
-pub walk_name-returns-in_err-class-clause-about : goal.walk_name-returns-in_err-class-clause-about
-walk_name-returns-in_err-class-clause-about g t c = λ limit level.
-    let a = c.args in let r = err_from_is_err_and c.from_residual-in_err-class.result c.from_residual-in_err-class.ensures.1 in
-    let at = ap (λ (x : Standing). x.path) c.in_ok-cut.ensures.pushed in
-    let near : depth_of c.push.new.self.path ≤ limit + 1 = omega (arith, level, ap depth_of at, depth_of-joined a.place.now.path a.name.now c.requires.name) in
-    rw (r.1, r.2) (IsAbout-class (made_with a.excludes.now) a.shared.now.worktree_root.now limit c.push.new.self.path _ c.path-path.ensures.normal near (rw c.path-path.ensures.path at c.in_err-class.ensures.about))
-
-pub walk_name-returns-in_err-class-clause-found : goal.walk_name-returns-in_err-class-clause-found
-walk_name-returns-in_err-class-clause-found g t c = λ s told.
-    let a = c.args in let r = err_from_is_err_and c.from_residual-in_err-class.result c.from_residual-in_err-class.ensures.1 in
-    let made = made_with a.excludes.now in
-    rw (r.1, r.2) (IsInTree-class a.shared.now.worktree_root.now (g.F.Find.holds a.objects.now) s made c.push.new.self.path _ c.path-path.ensures.normal (rw c.path-path.ensures.path at c.in_err-class.ensures.about)
-    (λ known. rw c.path-path.ensures.path at (c.in_err-class.ensures.refused s (record { tree_is = told; objects_are = λ some. known }))))
-
-pub walk_name-returns-in_err-class-clause-refused : goal.walk_name-returns-in_err-class-clause-refused
-walk_name-returns-in_err-class-clause-refused g t c = λ made s stands default limit level.
-    let a = c.args in let w = g.W.Worktree in let given = setting_of g.M.Matcher a.shared.now in let p = c.push.new.self.path in
-    let at = ap (λ (x : Standing). x.path) c.in_ok-cut.ensures.pushed in let ev = evidence given made s in
-    let some : is_empty p ≡ false = ap is_empty at ∙ joined-some a.place.now.path a.name.now c.requires.name in
-    let Asks : Type 0 = asks (chosen a.shared.now.options) ev p None (on_disk given s.tree p true) ≡ true in
-    let failed : Type 0 = Increased (w.faults a.worktree.now) (w.faults c.class_of.new.worktree) in
-    let r = err_from_is_err_and c.from_residual-in_err-class.result c.from_residual-in_err-class.ensures.1 in
-    let P : List ℕ → Type 0 = λ x. Refuses given made s limit failed (item_told given made s x) c.in_err-class.field-0.0 in
-    rw (r.1, r.2) (subst P at (Refuses-class given made s limit failed Asks (item_told given made s p) p c.in_err-class.field-0.0 c.path-path.ensures.normal (rw (c.path-path.ensures.path, stands.made_is) at c.in_err-class.ensures.about)
-    (rw (c.path-path.ensures.path, stands.made_is) at (c.in_err-class.ensures.refused s (telling stands)))
-    (either (λ quiet. inl (asked-quiet (w.faults a.worktree.now) (w.faults c.class_of.new.worktree) (λ k. asks (chosen a.shared.now.options) ev p None k) (on_disk given s.tree p true) c.in_err-class.field-0.0 quiet
-    (rw (c.path-path.ensures.path, stands.made_is) at (c.in_err-class.ensures.asked s stands.tree)))) (λ rose. inr rose) (rose-or (w.faults a.worktree.now) (w.faults c.class_of.new.worktree)))
-    (among-asked given made s p some)))
-
-pub walk_name-returns-then-levels-eq0-clause-about : goal.walk_name-returns-then-levels-eq0-clause-about
-walk_name-returns-then-levels-eq0-clause-about g t c = λ limit level.
-    let a = c.args in let root = a.shared.now.worktree_root.now in let p = c.push.new.self.path in
-    let at = ap (λ (x : Standing). x.path) c.in_ok-cut.ensures.pushed in
-    let base : c.push.new.self.root ≡ root = ap (λ (x : Standing). x.root) c.in_ok-cut.ensures.pushed ∙ c.requires.root in
-    let deep : depth_of p ≡ limit + 1 = omega (arith, level, c.if-levels-eq0.true, ap depth_of at, depth_of-joined a.place.now.path a.name.now c.requires.name) in
-    IsAbout-deep (made_with a.excludes.now) root p limit _ _ c.path-path.ensures.normal c.path-path.ensures.spelled deep (rw base at c.too_deep.ensures.deep)
-
-pub walk_name-returns-then-levels-eq0-clause-refused : goal.walk_name-returns-then-levels-eq0-clause-refused
-walk_name-returns-then-levels-eq0-clause-refused g t c = λ made s stands default limit level.
-    let a = c.args in let w = g.W.Worktree in let given = setting_of g.M.Matcher a.shared.now in let d = a.place.now.path in
-    let p = c.push.new.self.path in let at = ap (λ (x : Standing). x.path) c.in_ok-cut.ensures.pushed in
-    let base : c.push.new.self.root ≡ a.shared.now.worktree_root.now = ap (λ (x : Standing). x.root) c.in_ok-cut.ensures.pushed ∙ c.requires.root in
-    let deep : limit < depth_of p = omega (arith, level, c.if-levels-eq0.true, ap depth_of at, depth_of-joined d a.name.now c.requires.name) in
-    let k = c.in_ok-class.class in let some : is_empty p ≡ false = ap is_empty at ∙ joined-some d a.name.now c.requires.name in
-    let into : enters (chosen a.shared.now.options) k false ≡ true = sym (c.is_entered.ensures.entered default) ∙ c.if-is_entered.true in
-    let exact = λ (quiet : NotIncreased (w.faults a.worktree.now) (w.faults c.class_of.new.worktree)). (rw (c.path-path.ensures.path, stands.made_is) at (c.in_ok-class.ensures.class s (telling stands) stands.in_step quiet)) in
-    let failed : Type 0 = Increased (w.faults a.worktree.now) (w.faults c.class_of.new.worktree) in
-    let P : List ℕ → Type 0 = λ x. Refuses given made s limit failed (item_told given made s x) c.too_deep.result in
-    subst P at (Refuses-deep given made s limit failed _ (item_told given made s p) p c.too_deep.result deep
-    (either (λ quiet. inl (enter-told given made s p k (exact quiet) some into)) (λ rose. inr rose) (rose-or (w.faults a.worktree.now) (w.faults c.class_of.new.worktree))) (rw base at c.too_deep.ensures.deep))
-
-pub walk_name-returns-then-is_entered-clause-about : goal.walk_name-returns-then-is_entered-clause-about
-walk_name-returns-then-is_entered-clause-about g t c = λ limit level.
+pub walk_name-returns-then-is_entered-clause-told : goal.walk_name-returns-then-is_entered-clause-told
+walk_name-returns-then-is_entered-clause-told g t c =
     let a = c.args in let at = ap (λ (x : Standing). x.path) c.in_ok-cut.ensures.pushed in
-    let deeper : (a.levels - 1) + depth_of c.push.new.self.path ≡ limit = omega (arith, level, c.if-levels-eq0.false, ap depth_of at, depth_of-joined a.place.now.path a.name.now c.requires.name) in
-    rw c.class_of.ensures.rules.made at (c.walk_directory-handed.ensures.about limit deeper)
+    told-entered g.W.Worktree g.F.Find g.D.Delegate
+    (record { worktree = c.class_of.new.worktree; objects = c.class_of.new.objects; interrupt = a.parts.now.interrupt.now; delegate = c.is_entered.new.delegate; rules = c.class_of.new.excludes; outcome = a.parts.now.outcome.now })
+    (setting_of g.M.Matcher a.shared.now) c.push.new.self.path c.in_ok-class.class c.walk_directory-handed.result c.requires.name at
+    (omega (arith, c.if-levels-eq0.false, ap depth_of at, depth_of-joined a.place.now.path a.name.now c.requires.name))
+    (rw c.path-path.ensures.path at c.in_ok-class.ensures) (λ default. sym (c.is_entered.ensures.entered default) ∙ c.if-is_entered.true) c.is_entered.ensures.default c.is_entered.ensures.given
+    c.walk_directory-handed.ensures.walks.worktree.faults c.walk_directory-handed.ensures.told
 
-pub walk_name-returns-then-is_entered-clause-found : goal.walk_name-returns-then-is_entered-clause-found
-walk_name-returns-then-is_entered-clause-found g t c = λ s told. rw (c.class_of.ensures.store.holds, c.class_of.ensures.rules.made) at (c.walk_directory-handed.ensures.found s (c.class_of.ensures.keeps.tree ∙ told))
+pub walk_name-returns-clause-told : goal.walk_name-returns-clause-told
+walk_name-returns-clause-told g t c =
+    record {
+      gives = λ made s stands quiet default limit level.
+          let a = c.args in let w = g.W.Worktree in let o = chosen a.shared.now.options in
+          let given = setting_of g.M.Matcher a.shared.now in let ev = evidence given made s in let q = joined a.place.now.path a.name.now in
+          let p = c.push.new.self.path in let at = ap (λ (x : Standing). x.path) c.in_ok-cut.ensures.pushed in let k = c.in_ok-class.class in
+          let asked : NotIncreased (w.faults a.parts.now.worktree.now) (w.faults c.class_of.new.worktree) = omega (arith, quiet, c.leaf_class.ensures.worktree.faults) in
+          let here : NotIncreased (w.faults c.class_of.new.worktree) (w.faults c.leaf_class.new.worktree) = omega (arith, quiet, c.class_of.ensures.keeps.faults) in
+          let is : k ≡ class o ev p None (on_disk given s.tree p true) = rw (c.path-path.ensures.path, stands.made_is) at (c.in_ok-class.ensures.class s (telling stands) stands.in_step asked) in
+          let read : (asks o ev p None (on_disk given s.tree p true) && ev.is_unread p) ≡ false = rw (c.path-path.ensures.path, stands.made_is) at (c.in_ok-class.ensures.read s (telling stands) stands.in_step asked) in
+          let leaving : enters o k false ≡ false = sym (c.is_entered.ensures.entered default) ∙ c.if-is_entered.false in let z = c.in_ok-class-2.class in
+          let hides : z ≡ leaf_class o ev p k = c.in_ok-class-2.ensures.class made s (c.class_of.ensures.keeps.tree ∙ stands.tree) here in
+          IfOk-weaker c.put_leaf-handed.result _ _ (λ h closes. Gives-leaf given made s p k is q at _ _ limit _ _ h read leaving (Gives-put o limit ev p k z _ _ _ _ h hides closes))
+          (rw (c.path-path.ensures.path, c.is_entered.ensures.given) at c.put_leaf-handed.ensures.gives);
+      part = λ made s stands quiet default.
+          let a = c.args in let w = g.W.Worktree in let o = chosen a.shared.now.options in let given = setting_of g.M.Matcher a.shared.now in
+          let ev = evidence given made s in let q = joined a.place.now.path a.name.now in let p = c.push.new.self.path in
+          let at = ap (λ (x : Standing). x.path) c.in_ok-cut.ensures.pushed in let k = c.in_ok-class.class in
+          let asked : NotIncreased (w.faults a.parts.now.worktree.now) (w.faults c.class_of.new.worktree) = omega (arith, quiet, c.leaf_class.ensures.worktree.faults) in
+          let here : NotIncreased (w.faults c.class_of.new.worktree) (w.faults c.leaf_class.new.worktree) = omega (arith, quiet, c.class_of.ensures.keeps.faults) in
+          let is : k ≡ class o ev p None (on_disk given s.tree p true) = rw (c.path-path.ensures.path, stands.made_is) at (c.in_ok-class.ensures.class s (telling stands) stands.in_step asked) in
+          let leaving : enters o k false ≡ false = sym (c.is_entered.ensures.entered default) ∙ c.if-is_entered.false in let z = c.in_ok-class-2.class in
+          let hides : z ≡ leaf_class o ev p k = c.in_ok-class-2.ensures.class made s (c.class_of.ensures.keeps.tree ∙ stands.tree) here in
+          on_err_weaker c.put_leaf-handed.result (λ part. part-leaf given made s p k is q at _ _ _ _ leaving (part-put o ev p k z _ _ _ _ hides part))
+          (rw (c.path-path.ensures.path, c.is_entered.ensures.given) at c.put_leaf-handed.ensures.part);
+      refused = λ made s stands default limit level. memory-only c.put_leaf-handed.result _ tt c.put_leaf-handed.ensures.memory;
+    }
 
-pub walk_name-returns-then-is_entered-clause-refused : goal.walk_name-returns-then-is_entered-clause-refused
-walk_name-returns-then-is_entered-clause-refused g t c = λ made s stands default limit level.
-    let a = c.args in let w = g.W.Worktree in let given = setting_of g.M.Matcher a.shared.now in let d = a.place.now.path in
-    let q = joined d a.name.now in let p = c.push.new.self.path in let at = ap (λ (x : Standing). x.path) c.in_ok-cut.ensures.pushed in
-    let ev = evidence given made s in let k = c.in_ok-class.class in
-    let some : is_empty p ≡ false = ap is_empty at ∙ joined-some d a.name.now c.requires.name in
-    let into : enters (chosen a.shared.now.options) k false ≡ true = sym (c.is_entered.ensures.entered default) ∙ c.if-is_entered.true in
-    let exact = λ (quiet : NotIncreased (w.faults a.worktree.now) (w.faults c.class_of.new.worktree)). (rw (c.path-path.ensures.path, stands.made_is) at (c.in_ok-class.ensures.class s (telling stands) stands.in_step quiet)) in
-    let now = Stands-later given c.class_of.new.excludes c.class_of.ensures.keeps.tree c.class_of.ensures.store.holds c.class_of.ensures.rules.made c.class_of.ensures.rules.in_step stands in
-    let deeper : (a.levels - 1) + depth_of p ≡ limit = omega (arith, level, c.if-levels-eq0.false, ap depth_of at, depth_of-joined d a.name.now c.requires.name) in
-    let inside : Type 0 = Increased (w.faults c.class_of.new.worktree) (w.faults c.walk_directory-handed.new.worktree) in
-    let failed : Type 0 = Increased (w.faults a.worktree.now) (w.faults c.walk_directory-handed.new.worktree) in
-    let same = ap (λ (b : Bool). look s.tree (full_path given.root p) b) some in
-    let within : HasPaths (directory_told given made s p k) (item_told given made s p) ⊎ failed =
-    either (λ quiet. inl (HasPaths-told given made s p k (exact quiet) some into)) (λ rose. inr (omega (arith, rose, c.walk_directory-handed.ensures.worktree.faults))) (rose-or (w.faults a.worktree.now) (w.faults c.class_of.new.worktree)) in
-    let judged : IsJudged (w.faults a.worktree.now) (w.faults c.class_of.new.worktree) (λ kind read. class (chosen a.shared.now.options) read p None kind) ev (on_disk given s.tree p true) k = rw (c.path-path.ensures.path, stands.made_is) at ((c.in_ok-class.ensures.swallowed s (telling stands) stands.in_step).0.judged) in
-    let P : List ℕ → Error → Type 0 = λ x. Refuses given made s limit failed (item_told given made s x) in
-    IfErr-weaker c.walk_directory-handed.result (OnRefused (DirectoryRefuses given made s limit inside p k)) (OnRefused (P q))
-    (refused-any (DirectoryRefuses given made s limit inside p k) (P q)
-    (λ e h. subst (λ (x : List ℕ). P x e) at (Refuses-directory given made s limit inside failed (item_told given made s p) p k e same within (λ rose. omega (arith, rose, c.class_of.ensures.keeps.faults))
-    (λ why unlisted. indexed-unlisted _ _ (chosen a.shared.now.options) ev p (look_name given s.tree p) k why judged into unlisted) h)))
-    (c.walk_directory-handed.ensures.refused made s now (c.is_entered.ensures.default ∙ default) limit deeper)
+pub walk_directory-returns-in_err-names-clause-told : goal.walk_directory-returns-in_err-names-clause-told
+walk_directory-returns-in_err-names-clause-told g t c =
+    record {
+      gives = search rules;
+      part = search rules;
+      refused = λ made s stands default limit level.
+          let p = err_from_is_err_and c.from_residual.result c.from_residual.ensures.1 in
+          rw (p.1, p.2) (inl (rw c.requires.root at (c.in_err-names.ensures.refused s.tree stands.tree)));
+    }
 
-pub walk_name-returns-clause-about : goal.walk_name-returns-clause-about
-walk_name-returns-clause-about g t c = λ limit level. memory-only c.put_leaf-handed.result _ tt c.put_leaf-handed.ensures.memory
+pub walk_directory-returns-then-is_empty-clause-walks : goal.walk_directory-returns-then-is_empty-clause-walks
+walk_directory-returns-then-is_empty-clause-walks g t c =
+    record {
+      about = λ limit level. memory-only c.close_empty.result _ tt c.close_empty.ensures.memory;
+      found = λ s told. memory-only c.close_empty.result _ tt c.close_empty.ensures.memory;
+      caused = search rules;
+      worktree = search rules;
+      store = search rules;
+      interrupt = search rules;
+      hands = Hands-empty c.open.ensures.returned c.open.ensures.seen (rw c.path-path.ensures.path at c.close_empty.ensures.hands);
+      delegate = search rules;
+      filtered = search rules;
+      heeds = search rules;
+    }
 
-pub walk_name-returns-clause-found : goal.walk_name-returns-clause-found
-walk_name-returns-clause-found g t c = λ s told. memory-only c.put_leaf-handed.result _ tt c.put_leaf-handed.ensures.memory
+pub walk_name-returns-in_err-class-clause-walks : goal.walk_name-returns-in_err-class-clause-walks
+walk_name-returns-in_err-class-clause-walks g t c =
+    record {
+      about = λ limit level.
+          let a = c.args in let r = err_from_is_err_and c.from_residual-in_err-class.result c.from_residual-in_err-class.ensures.1 in
+          let at = ap (λ (x : Standing). x.path) c.in_ok-cut.ensures.pushed in
+          let near : depth_of c.push.new.self.path ≤ limit + 1 = omega (arith, level, ap depth_of at, depth_of-joined a.place.now.path a.name.now c.requires.name) in
+          rw (r.1, r.2) (IsAbout-class (made_with a.parts.now.excludes.now) a.shared.now.worktree_root.now limit c.push.new.self.path _ c.path-path.ensures.normal near (rw c.path-path.ensures.path at c.in_err-class.ensures.about));
+      found = λ s told.
+          let a = c.args in let r = err_from_is_err_and c.from_residual-in_err-class.result c.from_residual-in_err-class.ensures.1 in
+          let made = made_with a.parts.now.excludes.now in
+          rw (r.1, r.2) (IsInTree-class a.shared.now.worktree_root.now (g.F.Find.holds a.parts.now.objects.now) s made c.push.new.self.path _ c.path-path.ensures.normal (rw c.path-path.ensures.path at c.in_err-class.ensures.about)
+          (λ known. rw c.path-path.ensures.path at (c.in_err-class.ensures.refused s (record { tree_is = told; objects_are = λ some. known }))));
+      caused = search rules;
+      worktree = search rules;
+      store = search rules;
+      interrupt = search rules;
+      hands =
+          let r = err_from_is_err_and c.from_residual-in_err-class.result c.from_residual-in_err-class.ensures.1 in rw r.1 (Hands-none refl refl refl);
+      delegate = KeepsDelegate-same;
+      filtered = refl;
+      heeds = let p = err_from_is_err_and c.from_residual-in_err-class.result c.from_residual-in_err-class.ensures.1 in rw (p.1, p.2) (record { broken = tt; stopped = tt; unbroken = refl; kept_on = tt });
+    }
 
-pub walk_name-returns-clause-refused : goal.walk_name-returns-clause-refused
-walk_name-returns-clause-refused g t c = λ made s stands default limit level. memory-only c.put_leaf-handed.result _ tt c.put_leaf-handed.ensures.memory
+pub walk_name-returns-in_err-class-clause-told : goal.walk_name-returns-in_err-class-clause-told
+walk_name-returns-in_err-class-clause-told g t c =
+    record {
+      gives = search rules;
+      part = search rules;
+      refused = λ made s stands default limit level.
+          let a = c.args in let w = g.W.Worktree in let given = setting_of g.M.Matcher a.shared.now in let p = c.push.new.self.path in
+          let at = ap (λ (x : Standing). x.path) c.in_ok-cut.ensures.pushed in let ev = evidence given made s in
+          let some : is_empty p ≡ false = ap is_empty at ∙ joined-some a.place.now.path a.name.now c.requires.name in
+          let Asks : Type 0 = asks (chosen a.shared.now.options) ev p None (on_disk given s.tree p true) ≡ true in
+          let failed : Type 0 = Increased (w.faults a.parts.now.worktree.now) (w.faults c.class_of.new.worktree) in
+          let r = err_from_is_err_and c.from_residual-in_err-class.result c.from_residual-in_err-class.ensures.1 in
+          let P : List ℕ → Type 0 = λ x. Refuses given made s limit failed (item_told given made s x) c.in_err-class.field-0.0 in
+          rw (r.1, r.2) (subst P at (Refuses-class given made s limit failed Asks (item_told given made s p) p c.in_err-class.field-0.0 c.path-path.ensures.normal (rw (c.path-path.ensures.path, stands.made_is) at c.in_err-class.ensures.about)
+          (rw (c.path-path.ensures.path, stands.made_is) at (c.in_err-class.ensures.refused s (telling stands)))
+          (either (λ quiet. inl (asked-quiet (w.faults a.parts.now.worktree.now) (w.faults c.class_of.new.worktree) (λ k. asks (chosen a.shared.now.options) ev p None k) (on_disk given s.tree p true) c.in_err-class.field-0.0 quiet
+          (rw (c.path-path.ensures.path, stands.made_is) at (c.in_err-class.ensures.asked s stands.tree)))) (λ rose. inr rose) (rose-or (w.faults a.parts.now.worktree.now) (w.faults c.class_of.new.worktree)))
+          (among-asked given made s p some)));
+    }
+
+pub walk_name-returns-then-levels-eq0-clause-walks : goal.walk_name-returns-then-levels-eq0-clause-walks
+walk_name-returns-then-levels-eq0-clause-walks g t c =
+    record {
+      about = λ limit level.
+          let a = c.args in let root = a.shared.now.worktree_root.now in let p = c.push.new.self.path in
+          let at = ap (λ (x : Standing). x.path) c.in_ok-cut.ensures.pushed in
+          let base : c.push.new.self.root ≡ root = ap (λ (x : Standing). x.root) c.in_ok-cut.ensures.pushed ∙ c.requires.root in
+          let deep : depth_of p ≡ limit + 1 = omega (arith, level, c.if-levels-eq0.true, ap depth_of at, depth_of-joined a.place.now.path a.name.now c.requires.name) in
+          IsAbout-deep (made_with a.parts.now.excludes.now) root p limit _ _ c.path-path.ensures.normal c.path-path.ensures.spelled deep (rw base at c.too_deep.ensures.deep);
+      found = search rules;
+      caused = search rules;
+      worktree = search rules;
+      store = search rules;
+      interrupt = search rules;
+      hands = Hands-none c.is_entered.ensures.given refl refl;
+      delegate = KeepsDelegate-asked c.is_entered.ensures.default c.is_entered.ensures.given c.is_entered.ensures.breaks c.is_entered.ensures.refusals;
+      filtered = AddsShown-same (chosen c.args.shared.now.options) c.is_entered.ensures.given;
+      heeds = search rules;
+    }
+
+pub walk_name-returns-then-levels-eq0-clause-told : goal.walk_name-returns-then-levels-eq0-clause-told
+walk_name-returns-then-levels-eq0-clause-told g t c =
+    record {
+      gives = search rules;
+      part = search rules;
+      refused = λ made s stands default limit level.
+          let a = c.args in let w = g.W.Worktree in let given = setting_of g.M.Matcher a.shared.now in let d = a.place.now.path in
+          let p = c.push.new.self.path in let at = ap (λ (x : Standing). x.path) c.in_ok-cut.ensures.pushed in
+          let base : c.push.new.self.root ≡ a.shared.now.worktree_root.now = ap (λ (x : Standing). x.root) c.in_ok-cut.ensures.pushed ∙ c.requires.root in
+          let deep : limit < depth_of p = omega (arith, level, c.if-levels-eq0.true, ap depth_of at, depth_of-joined d a.name.now c.requires.name) in
+          let k = c.in_ok-class.class in let some : is_empty p ≡ false = ap is_empty at ∙ joined-some d a.name.now c.requires.name in
+          let into : enters (chosen a.shared.now.options) k false ≡ true = sym (c.is_entered.ensures.entered default) ∙ c.if-is_entered.true in
+          let exact = λ (quiet : NotIncreased (w.faults a.parts.now.worktree.now) (w.faults c.class_of.new.worktree)). (rw (c.path-path.ensures.path, stands.made_is) at (c.in_ok-class.ensures.class s (telling stands) stands.in_step quiet)) in
+          let failed : Type 0 = Increased (w.faults a.parts.now.worktree.now) (w.faults c.class_of.new.worktree) in
+          let P : List ℕ → Type 0 = λ x. Refuses given made s limit failed (item_told given made s x) c.too_deep.result in
+          subst P at (Refuses-deep given made s limit failed _ (item_told given made s p) p c.too_deep.result deep
+          (either (λ quiet. inl (enter-told given made s p k (exact quiet) some into)) (λ rose. inr rose) (rose-or (w.faults a.parts.now.worktree.now) (w.faults c.class_of.new.worktree))) (rw base at c.too_deep.ensures.deep));
+    }
+
+pub walk_name-returns-then-is_entered-clause-walks : goal.walk_name-returns-then-is_entered-clause-walks
+walk_name-returns-then-is_entered-clause-walks g t c =
+    record {
+      about = λ limit level.
+          let a = c.args in let at = ap (λ (x : Standing). x.path) c.in_ok-cut.ensures.pushed in
+          let deeper : (a.levels - 1) + depth_of c.push.new.self.path ≡ limit = omega (arith, level, c.if-levels-eq0.false, ap depth_of at, depth_of-joined a.place.now.path a.name.now c.requires.name) in
+          rw c.class_of.ensures.rules.made at (c.walk_directory-handed.ensures.walks.about limit deeper);
+      found = λ s told. rw (c.class_of.ensures.store.holds, c.class_of.ensures.rules.made) at (c.walk_directory-handed.ensures.walks.found s (c.class_of.ensures.keeps.tree ∙ told));
+      caused = Caused-later c.walk_directory-handed.result c.class_of.ensures.keeps.faults c.class_of.ensures.store.faults refl c.class_of.ensures.keeps.list_faults c.walk_directory-handed.ensures.walks.caused;
+      worktree = record { tree = c.walk_directory-handed.ensures.walks.worktree.tree ∙ c.class_of.ensures.keeps.tree; faults = omega (arith, c.class_of.ensures.keeps.faults, c.walk_directory-handed.ensures.walks.worktree.faults); list_faults = omega (arith, c.class_of.ensures.keeps.list_faults, c.walk_directory-handed.ensures.walks.worktree.list_faults); reads = omega (arith, c.class_of.ensures.keeps.reads, c.walk_directory-handed.ensures.walks.worktree.reads); lists = omega (arith, c.class_of.ensures.keeps.lists, c.walk_directory-handed.ensures.walks.worktree.lists); precomposes = c.walk_directory-handed.ensures.walks.worktree.precomposes ∙ c.class_of.ensures.keeps.precomposes };
+      store = AsksStore-then c.class_of.ensures.store c.walk_directory-handed.ensures.walks.store;
+      interrupt = c.walk_directory-handed.ensures.walks.interrupt;
+      hands =
+          let path = ap (λ (x : Standing). x.path) c.in_ok-cut.ensures.pushed in rw (path, c.is_entered.ensures.given) at c.walk_directory-handed.ensures.walks.hands;
+      delegate = KeepsDelegate-then (KeepsDelegate-asked c.is_entered.ensures.default c.is_entered.ensures.given c.is_entered.ensures.breaks c.is_entered.ensures.refusals) c.walk_directory-handed.ensures.walks.delegate;
+      filtered = c.walk_directory-handed.ensures.walks.filtered ∙ AddsShown-same (chosen c.args.shared.now.options) c.is_entered.ensures.given;
+      heeds = Heeds-after g.D.Delegate _ _ _ c.walk_directory-handed.result c.is_entered.ensures.breaks c.walk_directory-handed.ensures.walks.heeds;
+    }
+
+pub walk_name-returns-clause-walks : goal.walk_name-returns-clause-walks
+walk_name-returns-clause-walks g t c =
+    record {
+      about = λ limit level. memory-only c.put_leaf-handed.result _ tt c.put_leaf-handed.ensures.memory;
+      found = λ s told. memory-only c.put_leaf-handed.result _ tt c.put_leaf-handed.ensures.memory;
+      caused = search rules;
+      worktree = search rules;
+      store = search rules;
+      interrupt = search rules;
+      hands =
+          let path = ap (λ (x : Standing). x.path) c.in_ok-cut.ensures.pushed in
+          Hands-leaf (rw (c.path-path.ensures.path, path, c.is_entered.ensures.given) at c.put_leaf-handed.ensures.hands);
+      delegate = search rules;
+      filtered = c.put_leaf-handed.ensures.filtered ∙ AddsShown-same (chosen c.args.shared.now.options) c.is_entered.ensures.given;
+      heeds = search rules;
+    }
 
 pub walk_directory-returns-in_err-names-clause-opens : goal.walk_directory-returns-in_err-names-clause-opens
 walk_directory-returns-in_err-names-clause-opens g t c =
@@ -404,14 +478,14 @@ walk_directory-returns-in_err-handed-clause-opens g t c =
     let kept = c.loop-name.invariant in let p = err_from_is_err_and c.from_residual-in_err-handed.result c.from_residual-in_err-handed.ensures.1 in
     rw (p.1, p.2)
     (opens-then
-    (enters-last (setting_of g.M.Matcher c.args.shared.now) c.args.blocked.now (c.args.levels + depth_of c.args.place.now.path) c.args.place.now.path c.as_slice-name-items.result.now c.loop-name.name-index c.name-item.result c.loop-name-test.true c.name-item.is kept.worktree kept.store kept.rules kept.delegate c.walk_name.ensures.worktree.faults (omega arith) c.args.class.now _
+    (enters-last (setting_of g.M.Matcher c.args.shared.now) c.args.blocked.now (c.args.levels + depth_of c.args.place.now.path) c.args.place.now.path c.as_slice-name-items.result.now c.loop-name.name-index c.name-item.result c.loop-name-test.true c.name-item.is kept.worktree kept.store kept.rules kept.delegate c.walk_name.ensures.walks.worktree.faults (omega arith) c.args.class.now _
     (λ s told. HasNames-listed (setting_of g.M.Matcher c.args.shared.now) s.tree c.args.place.now.path c.as_slice.ensures c.is_empty.ensures c.if-is_empty.false c.as_slice-name-items.ensures c.in_ok-names.ensures.names (rw c.requires.root at (c.in_ok-names.ensures.lists s.tree told))) c.path-path.ensures.plain)
     kept.rules.made (omega arith) kept.opens (rw (c.as_bytes.ensures, c.loop-name.invariant.stays) at c.in_err-handed.ensures.opens))
 
 pub walk_directory-returns-in_err-take-clause-opens : goal.walk_directory-returns-in_err-take-clause-opens
 walk_directory-returns-in_err-take-clause-opens g t c =
     let kept = c.loop-name.invariant in let p = err_from_is_err_and c.from_residual-in_err-take.result c.from_residual-in_err-take.ensures.1 in
-    let ends = (enters-last (setting_of g.M.Matcher c.args.shared.now) c.args.blocked.now (c.args.levels + depth_of c.args.place.now.path) c.args.place.now.path c.as_slice-name-items.result.now c.loop-name.name-index c.name-item.result c.loop-name-test.true c.name-item.is kept.worktree kept.store kept.rules kept.delegate c.walk_name.ensures.worktree.faults (omega arith) c.args.class.now 0
+    let ends = (enters-last (setting_of g.M.Matcher c.args.shared.now) c.args.blocked.now (c.args.levels + depth_of c.args.place.now.path) c.args.place.now.path c.as_slice-name-items.result.now c.loop-name.name-index c.name-item.result c.loop-name-test.true c.name-item.is kept.worktree kept.store kept.rules kept.delegate c.walk_name.ensures.walks.worktree.faults (omega arith) c.args.class.now 0
     (λ s told. HasNames-listed (setting_of g.M.Matcher c.args.shared.now) s.tree c.args.place.now.path c.as_slice.ensures c.is_empty.ensures c.if-is_empty.false c.as_slice-name-items.ensures c.in_ok-names.ensures.names (rw c.requires.root at (c.in_ok-names.ensures.lists s.tree told))) c.path-path.ensures.plain) in
     rw (p.1, p.2)
     (opens-then (λ m n so_far here made s stands quiet default. let most = ends m n so_far here made s stands quiet default in omega (arith, most))
@@ -420,7 +494,7 @@ walk_directory-returns-in_err-take-clause-opens g t c =
 pub walk_directory-returns-clause-opens : goal.walk_directory-returns-clause-opens
 walk_directory-returns-clause-opens g t c =
     opens-end
-    (enters-all g.W.Worktree g.F.Find g.D.Delegate c.args.worktree.now c.loop-name.worktree c.args.objects.now c.args.excludes.now c.args.delegate.now (setting_of g.M.Matcher c.args.shared.now) c.args.blocked.now (c.args.levels + depth_of c.args.place.now.path) c.args.place.now.path c.as_slice-name-items.result.now c.loop-name.name-index (omega arith) c.loop-name-test.false c.args.class.now _
+    (enters-all g.W.Worktree g.F.Find g.D.Delegate c.args.parts.now.worktree.now c.loop-name.parts.worktree.now c.args.parts.now.objects.now c.args.parts.now.excludes.now c.args.parts.now.delegate.now (setting_of g.M.Matcher c.args.shared.now) c.args.blocked.now (c.args.levels + depth_of c.args.place.now.path) c.args.place.now.path c.as_slice-name-items.result.now c.loop-name.name-index (omega arith) c.loop-name-test.false c.args.class.now _
     (λ s told. HasNames-listed (setting_of g.M.Matcher c.args.shared.now) s.tree c.args.place.now.path c.as_slice.ensures c.is_empty.ensures c.if-is_empty.false c.as_slice-name-items.ensures c.in_ok-names.ensures.names (rw c.requires.root at (c.in_ok-names.ensures.lists s.tree told))) c.path-path.ensures.plain)
     c.loop-name.invariant.opens c.close.ensures.entered (shallow-memory c.close.result c.close.ensures.memory)
 
@@ -450,8 +524,8 @@ walk_name-returns-then-is_entered-clause-opens g t c =
     let d = a.place.now.path in let q = joined d a.name.now in let p = c.push.new.self.path in let k = c.in_ok-class.class in
     opens-then
     (λ m n none below made s stands quiet default.
-    let asked : NotIncreased (w.faults a.worktree.now) (w.faults c.class_of.new.worktree) = omega (arith, quiet, c.walk_directory-handed.ensures.worktree.faults) in
-    let here : NotIncreased (w.faults c.class_of.new.worktree) (w.faults c.walk_directory-handed.new.worktree) = omega (arith, quiet, c.class_of.ensures.keeps.faults) in
+    let asked : NotIncreased (w.faults a.parts.now.worktree.now) (w.faults c.class_of.new.worktree) = omega (arith, quiet, c.walk_directory-handed.ensures.walks.worktree.faults) in
+    let here : NotIncreased (w.faults c.class_of.new.worktree) (w.faults c.walk_directory-handed.new.parts.worktree.now) = omega (arith, quiet, c.class_of.ensures.keeps.faults) in
     let is : k ≡ class o (evidence given made s) p None (on_disk given s.tree p true) = rw (c.path-path.ensures.path, stands.made_is) at (c.in_ok-class.ensures.class s (telling stands) stands.in_step asked) in
     let now = Stands-later given c.class_of.new.excludes c.class_of.ensures.keeps.tree c.class_of.ensures.store.holds c.class_of.ensures.rules.made c.class_of.ensures.rules.in_step stands in
     let some : is_empty p ≡ false = ap is_empty path ∙ joined-some d a.name.now c.requires.name in
@@ -480,118 +554,52 @@ walk_name-returns-clause-opens g t c =
     (opens-class c.args.place.now.path c.args.name.now c.requires.name c.class_of.ensures.keeps.lists (rw (c.path-path.ensures.path, path) at c.in_ok-class.ensures.reads)) c.leaf_class.ensures.worktree.lists c.put_leaf-handed.ensures.entered (omega (arith, shallow-memory c.put_leaf-handed.result c.put_leaf-handed.ensures.memory))
     (λ on. c.leaf_class.ensures.reads (hides-none o on))
 
-pub walk_directory-returns-in_err-names-clause-hands : goal.walk_directory-returns-in_err-names-clause-hands
-walk_directory-returns-in_err-names-clause-hands g t c =
-    let p = err_from_is_err_and c.from_residual.result c.from_residual.ensures.1 in rw p.1 (Hands-none refl c.open.ensures.returned c.open.ensures.seen)
+pub walk_name-returns-in_err-cut-clause-walks : goal.walk_name-returns-in_err-cut-clause-walks
+walk_name-returns-in_err-cut-clause-walks g t c =
+    record {
+      about = search rules;
+      found = search rules;
+      caused = search rules;
+      worktree = search rules;
+      store = search rules;
+      interrupt = search rules;
+      hands =
+          let r = err_from_is_err_and c.from_residual.result c.from_residual.ensures.1 in rw r.1 (Hands-none refl refl refl);
+      delegate = KeepsDelegate-same;
+      filtered = refl;
+      heeds = let p = err_from_is_err_and c.from_residual.result c.from_residual.ensures.1 in rw (p.1, p.2) (record { broken = tt; stopped = tt; unbroken = refl; kept_on = tt });
+    }
 
-pub walk_directory-returns-then-is_empty-clause-hands : goal.walk_directory-returns-then-is_empty-clause-hands
-walk_directory-returns-then-is_empty-clause-hands g t c = Hands-empty c.open.ensures.returned c.open.ensures.seen (rw c.path-path.ensures.path at c.close_empty.ensures.hands)
-
-pub walk_directory-returns-in_err-handed-clause-hands : goal.walk_directory-returns-in_err-handed-clause-hands
-walk_directory-returns-in_err-handed-clause-hands g t c =
-    let p = err_from_is_err_and c.from_residual-in_err-handed.result c.from_residual-in_err-handed.ensures.1 in
-    rw p.1 (Hands-refused c.args.place.now.path c.as_slice-name-items.result.now c.loop-name.name-index c.name-item.result c.loop-name-test.true c.name-item.is c.loop-name.invariant.puts (rw (c.as_bytes.ensures, c.loop-name.invariant.stays) at c.in_err-handed.ensures.hands.puts) (rw c.as_slice-name-items.ensures c.in_ok-names.ensures.names)
-    c.path-path.ensures.plain)
-
-pub walk_directory-returns-in_err-take-clause-hands : goal.walk_directory-returns-in_err-take-clause-hands
-walk_directory-returns-in_err-take-clause-hands g t c =
-    let p = err_from_is_err_and c.from_residual-in_err-take.result c.from_residual-in_err-take.ensures.1 in
-    rw p.1 (Hands-refused c.args.place.now.path c.as_slice-name-items.result.now c.loop-name.name-index c.name-item.result c.loop-name-test.true c.name-item.is c.loop-name.invariant.puts (rw (c.as_bytes.ensures, c.loop-name.invariant.stays) at c.in_ok-handed.ensures.hands.puts) (rw c.as_slice-name-items.ensures c.in_ok-names.ensures.names)
-    c.path-path.ensures.plain)
-
-pub walk_directory-returns-clause-hands : goal.walk_directory-returns-clause-hands
-walk_directory-returns-clause-hands g t c =
-    Hands-closed c.args.place.now.path c.as_slice-name-items.result.now c.loop-name.name-index (rw c.as_slice-name-items.ensures c.in_ok-names.ensures.names) c.path-path.ensures.plain c.loop-name.invariant.puts (rw (c.path.ensures.path, c.loop-name.invariant.stays) at c.close.ensures.hands)
-
-pub walk_name-returns-in_err-cut-clause-hands : goal.walk_name-returns-in_err-cut-clause-hands
-walk_name-returns-in_err-cut-clause-hands g t c =
-    let r = err_from_is_err_and c.from_residual.result c.from_residual.ensures.1 in rw r.1 (Hands-none refl refl refl)
-
-pub walk_name-returns-in_err-class-clause-hands : goal.walk_name-returns-in_err-class-clause-hands
-walk_name-returns-in_err-class-clause-hands g t c =
-    let r = err_from_is_err_and c.from_residual-in_err-class.result c.from_residual-in_err-class.ensures.1 in rw r.1 (Hands-none refl refl refl)
-
-pub walk_name-returns-then-levels-eq0-clause-hands : goal.walk_name-returns-then-levels-eq0-clause-hands
-walk_name-returns-then-levels-eq0-clause-hands g t c = Hands-none c.is_entered.ensures.given refl refl
-
-pub walk_name-returns-then-is_entered-clause-hands : goal.walk_name-returns-then-is_entered-clause-hands
-walk_name-returns-then-is_entered-clause-hands g t c =
-    let path = ap (λ (x : Standing). x.path) c.in_ok-cut.ensures.pushed in rw (path, c.is_entered.ensures.given) at c.walk_directory-handed.ensures.hands
-
-pub walk_name-returns-in_err-class-2-clause-hands : goal.walk_name-returns-in_err-class-2-clause-hands
-walk_name-returns-in_err-class-2-clause-hands g t c =
-    let r = err_from_is_err_and c.from_residual-in_err-class-2.result c.from_residual-in_err-class-2.ensures.1 in rw r.1 (Hands-none c.is_entered.ensures.given refl refl)
-
-pub walk_name-returns-clause-hands : goal.walk_name-returns-clause-hands
-walk_name-returns-clause-hands g t c =
-    let path = ap (λ (x : Standing). x.path) c.in_ok-cut.ensures.pushed in
-    Hands-leaf (rw (c.path-path.ensures.path, path, c.is_entered.ensures.given) at c.put_leaf-handed.ensures.hands)
-
-pub walk_directory-returns-in_err-handed-clause-heeds : goal.walk_directory-returns-in_err-handed-clause-heeds
-walk_directory-returns-in_err-handed-clause-heeds g t c =
-    let p = err_from_is_err_and c.from_residual-in_err-handed.result c.from_residual-in_err-handed.ensures.1 in
-    rw (p.1, p.2) (Heeds-after g.D.Delegate _ _ _ _ c.loop-name.invariant.kept_on c.in_err-handed.ensures.heeds)
-
-pub walk_directory-returns-in_err-handed-clause-caused : goal.walk_directory-returns-in_err-handed-clause-caused
-walk_directory-returns-in_err-handed-clause-caused g t c =
-    let kept = c.loop-name.invariant in let p = err_from_is_err_and c.from_residual-in_err-handed.result c.from_residual-in_err-handed.ensures.1 in
-    rw (p.1, p.2) (Caused-later _ kept.worktree.faults kept.store.faults kept.calm kept.listed c.in_err-handed.ensures.caused)
-
-pub walk_directory-returns-in_err-take-clause-about : goal.walk_directory-returns-in_err-take-clause-about
-walk_directory-returns-in_err-take-clause-about g t c = λ limit level.
-    let p = err_from_is_err_and c.from_residual-in_err-take.result c.from_residual-in_err-take.ensures.1 in rw (p.1, p.2) tt
-
-pub walk_directory-returns-in_err-take-clause-found : goal.walk_directory-returns-in_err-take-clause-found
-walk_directory-returns-in_err-take-clause-found g t c = λ s told.
-    let p = err_from_is_err_and c.from_residual-in_err-take.result c.from_residual-in_err-take.ensures.1 in rw (p.1, p.2) tt
-
-pub walk_directory-returns-in_err-take-clause-refused : goal.walk_directory-returns-in_err-take-clause-refused
-walk_directory-returns-in_err-take-clause-refused g t c = λ made s stands default limit level.
-    let p = err_from_is_err_and c.from_residual-in_err-take.result c.from_residual-in_err-take.ensures.1 in rw (p.1, p.2) (inl tt)
-
-pub walk_directory-returns-clause-heeds : goal.walk_directory-returns-clause-heeds
-walk_directory-returns-clause-heeds g t c = Heeds-after g.D.Delegate _ _ _ c.close.result c.loop-name.invariant.kept_on c.close.ensures.heeds
-
-pub walk_directory-returns-clause-caused : goal.walk_directory-returns-clause-caused
-walk_directory-returns-clause-caused g t c =
-    let kept = c.loop-name.invariant in
-    Caused-later c.close.result kept.worktree.faults kept.store.faults kept.calm kept.listed (Caused-memory c.close.result c.close.ensures.memory)
+pub walk_name-returns-in_err-class-2-clause-walks : goal.walk_name-returns-in_err-class-2-clause-walks
+walk_name-returns-in_err-class-2-clause-walks g t c =
+    record {
+      about = search rules;
+      found = search rules;
+      caused = search rules;
+      worktree = search rules;
+      store = search rules;
+      interrupt = search rules;
+      hands =
+          let r = err_from_is_err_and c.from_residual-in_err-class-2.result c.from_residual-in_err-class-2.ensures.1 in rw r.1 (Hands-none c.is_entered.ensures.given refl refl);
+      delegate = KeepsDelegate-asked c.is_entered.ensures.default c.is_entered.ensures.given c.is_entered.ensures.breaks c.is_entered.ensures.refusals;
+      filtered = AddsShown-same (chosen c.args.shared.now.options) c.is_entered.ensures.given;
+      heeds = search rules;
+    }
 
 pub walk_name-returns-then-is_entered-clause-rules : goal.walk_name-returns-then-is_entered-clause-rules
 walk_name-returns-then-is_entered-clause-rules g t c = KeepsRules-then c.class_of.ensures.keeps.tree c.class_of.ensures.store.holds c.class_of.ensures.rules c.walk_directory-handed.ensures.rules
 
-pub walk_directory-returns-in_err-handed-clause-filtered : goal.walk_directory-returns-in_err-handed-clause-filtered
-walk_directory-returns-in_err-handed-clause-filtered g t c = c.walk_name.ensures.filtered ∙ c.loop-name.invariant.filtered
-
-pub walk_directory-returns-in_err-take-clause-filtered : goal.walk_directory-returns-in_err-take-clause-filtered
-walk_directory-returns-in_err-take-clause-filtered g t c = c.walk_name.ensures.filtered ∙ c.loop-name.invariant.filtered
-
-pub walk_directory-returns-clause-filtered : goal.walk_directory-returns-clause-filtered
-walk_directory-returns-clause-filtered g t c = c.close.ensures.filtered ∙ c.loop-name.invariant.filtered
-
-pub walk_name-returns-then-levels-eq0-clause-filtered : goal.walk_name-returns-then-levels-eq0-clause-filtered
-walk_name-returns-then-levels-eq0-clause-filtered g t c = AddsShown-same (chosen c.args.shared.now.options) c.is_entered.ensures.given
-
-pub walk_name-returns-then-is_entered-clause-filtered : goal.walk_name-returns-then-is_entered-clause-filtered
-walk_name-returns-then-is_entered-clause-filtered g t c = c.walk_directory-handed.ensures.filtered ∙ AddsShown-same (chosen c.args.shared.now.options) c.is_entered.ensures.given
-
-pub walk_name-returns-in_err-class-2-clause-filtered : goal.walk_name-returns-in_err-class-2-clause-filtered
-walk_name-returns-in_err-class-2-clause-filtered g t c = AddsShown-same (chosen c.args.shared.now.options) c.is_entered.ensures.given
-
-pub walk_name-returns-clause-filtered : goal.walk_name-returns-clause-filtered
-walk_name-returns-clause-filtered g t c = c.put_leaf-handed.ensures.filtered ∙ AddsShown-same (chosen c.args.shared.now.options) c.is_entered.ensures.given
-
 pub walk_directory-returns-in_err-handed-clause-unmapped : goal.walk_directory-returns-in_err-handed-clause-unmapped
-walk_directory-returns-in_err-handed-clause-unmapped g t c = let kept = c.loop-name.invariant in unmapped-then c.args.excludes.now c.loop-name.excludes kept.rules.made kept.unmapped c.walk_name.ensures.unmapped
+walk_directory-returns-in_err-handed-clause-unmapped g t c = let kept = c.loop-name.invariant in unmapped-then c.args.parts.now.excludes.now c.loop-name.parts.excludes.now kept.rules.made kept.unmapped c.walk_name.ensures.unmapped
 
 pub walk_directory-returns-in_err-take-clause-unmapped : goal.walk_directory-returns-in_err-take-clause-unmapped
-walk_directory-returns-in_err-take-clause-unmapped g t c = let kept = c.loop-name.invariant in unmapped-then c.args.excludes.now c.loop-name.excludes kept.rules.made kept.unmapped c.walk_name.ensures.unmapped
+walk_directory-returns-in_err-take-clause-unmapped g t c = let kept = c.loop-name.invariant in unmapped-then c.args.parts.now.excludes.now c.loop-name.parts.excludes.now kept.rules.made kept.unmapped c.walk_name.ensures.unmapped
 
 pub walk_directory-returns-clause-unmapped : goal.walk_directory-returns-clause-unmapped
 walk_directory-returns-clause-unmapped g t c = c.loop-name.invariant.unmapped
 
 pub walk_name-returns-then-is_entered-clause-unmapped : goal.walk_name-returns-then-is_entered-clause-unmapped
-walk_name-returns-then-is_entered-clause-unmapped g t c = unmapped-then c.args.excludes.now c.class_of.new.excludes c.class_of.ensures.rules.made c.class_of.ensures.unmapped c.walk_directory-handed.ensures.unmapped
+walk_name-returns-then-is_entered-clause-unmapped g t c = unmapped-then c.args.parts.now.excludes.now c.class_of.new.excludes c.class_of.ensures.rules.made c.class_of.ensures.unmapped c.walk_directory-handed.ensures.unmapped
 
 pub walk_name-returns-in_err-class-clause-unmapped : goal.walk_name-returns-in_err-class-clause-unmapped
 walk_name-returns-in_err-class-clause-unmapped g t c = c.class_of.ensures.unmapped

@@ -33,21 +33,21 @@ returns-then-depth-depth_limit-clause-about g c =
 
 pub returns-in-Held-clause-refused : goal.returns-in-Held-clause-refused
 returns-in-Held-clause-refused g c = λ made s stands default.
-    c.walk_directory.ensures.refused made s stands default c.args.depth_limit (omega (arith, c.if-depth-depth_limit.false, c.depth_of-depth.ensures, ap {B = ℕ} depth_of c.path.ensures.path))
+    c.walk_tree.ensures.told.refused made s stands default c.args.depth_limit (omega (arith, c.if-depth-depth_limit.false, c.depth_of-depth.ensures, ap {B = ℕ} depth_of c.path.ensures.path))
 
 pub returns-in-Held-clause-about : goal.returns-in-Held-clause-about
 returns-in-Held-clause-about g c =
-    about-from (made_with c.args.excludes.now) c.args.shared.now.worktree_root.now c.args.place.now.path c.args.depth_limit c.walk_directory.result
-    (c.walk_directory.ensures.about c.args.depth_limit (omega (arith, c.if-depth-depth_limit.false, c.depth_of-depth.ensures, ap {B = ℕ} depth_of c.path.ensures.path)))
+    about-from (made_with c.args.excludes.now) c.args.shared.now.worktree_root.now c.args.place.now.path c.args.depth_limit c.walk_tree.result
+    (c.walk_tree.ensures.walks.about c.args.depth_limit (omega (arith, c.if-depth-depth_limit.false, c.depth_of-depth.ensures, ap {B = ℕ} depth_of c.path.ensures.path)))
 
 pub returns-in-AtOnce-clause-refused : goal.returns-in-AtOnce-clause-refused
 returns-in-AtOnce-clause-refused g c = λ made s stands default.
-    c.walk_children.ensures.refused made s stands default c.args.depth_limit (omega (arith, c.if-depth-depth_limit.false, c.depth_of-depth.ensures, ap {B = ℕ} depth_of c.path.ensures.path))
+    c.walk_children.ensures.told.refused made s stands default c.args.depth_limit (omega (arith, c.if-depth-depth_limit.false, c.depth_of-depth.ensures, ap {B = ℕ} depth_of c.path.ensures.path))
 
 pub returns-in-AtOnce-clause-about : goal.returns-in-AtOnce-clause-about
 returns-in-AtOnce-clause-about g c =
     about-from (made_with c.args.excludes.now) c.args.shared.now.worktree_root.now c.args.place.now.path c.args.depth_limit c.walk_children.result
-    (c.walk_children.ensures.about c.args.depth_limit (omega (arith, c.if-depth-depth_limit.false, c.depth_of-depth.ensures, ap {B = ℕ} depth_of c.path.ensures.path)))
+    (c.walk_children.ensures.walks.about c.args.depth_limit (omega (arith, c.if-depth-depth_limit.false, c.depth_of-depth.ensures, ap {B = ℕ} depth_of c.path.ensures.path)))
 
 pub returns-then-depth-depth_limit-clause-opens : goal.returns-then-depth-depth_limit-clause-opens
 returns-then-depth-depth_limit-clause-opens g c = opens-not c.args.strategy _ _ _ _ _ _ _ _ _ _ _ (λ n none made s stands quiet default. omega (arith, none)) refl refl c.too_deep.ensures.asked
@@ -56,7 +56,7 @@ pub returns-in-Held-clause-opens : goal.returns-in-Held-clause-opens
 returns-in-Held-clause-opens g c =
     let level : (c.args.depth_limit - c.depth_of-depth.result) + depth_of c.args.place.now.path ≡ c.args.depth_limit =
     omega (arith, c.if-depth-depth_limit.false, c.depth_of-depth.ensures, ap {B = ℕ} depth_of c.path.ensures.path) in
-    rw c.in-Held.is (rw level at c.walk_directory.ensures.opens)
+    rw c.in-Held.is (rw level at c.walk_tree.ensures.opens)
 
 pub returns-in-AtOnce-clause-opens : goal.returns-in-AtOnce-clause-opens
 returns-in-AtOnce-clause-opens g c =
@@ -65,7 +65,7 @@ returns-in-AtOnce-clause-opens g c =
     rw c.in-AtOnce.is (rw level at c.walk_children.ensures.opens)
 
 pub returns-in-Held-clause-unmapped : goal.returns-in-Held-clause-unmapped
-returns-in-Held-clause-unmapped g c = λ held. c.walk_directory.ensures.unmapped
+returns-in-Held-clause-unmapped g c = λ held. c.walk_tree.ensures.unmapped
 
 pub returns-in-AtOnce-clause-unmapped : goal.returns-in-AtOnce-clause-unmapped
 returns-in-AtOnce-clause-unmapped g c = λ held. absurd (let other : AtOnce ≡ Held = sym c.in-AtOnce.is ∙ held in cc other)

@@ -12,22 +12,7 @@ returns-clause-job g c =
     let a = c.args in
     let forked = c.in_ok-fork.ensures in
     let absorbed = c.absorb.ensures in
-    let walked = c.walk_directory-result.ensures in
-    job-interrupt g.W.Worktree g.F.Find g.I.Interrupt g.D.Delegate a.interrupt.now (setting_of g.M.Matcher a.shared.now) a.place.now.path a.class.now c.walk_directory-result.result
+    let walked = c.walk_tree-result.ensures in
+    job-interrupt g.W.Worktree g.F.Find g.I.Interrupt g.D.Delegate a.interrupt.now (setting_of g.M.Matcher a.shared.now) a.place.now.path a.class.now c.walk_tree-result.result
     forked.questions forked.raised absorbed.questions absorbed.raised absorbed.later
-    (record {
-      gives = walked.gives;
-      part = walked.part;
-      about = walked.about;
-      found = walked.found;
-      refused = walked.refused;
-      caused = walked.caused;
-      worktree = walked.worktree;
-      store = walked.store;
-      interrupt = walked.interrupt;
-      enters = record { opened = walked.opens.opened; counted = walked.opens.opens.counted; asked = walked.opens.opens.asked; within = walked.opens.within };
-      filtered = walked.filtered;
-      hands = walked.hands;
-      delegate = walked.delegate;
-      heeds = walked.heeds;
-    })
+    (record { told = walked.told; walks = walked.walks; opens = record { opened = walked.opens.opened; counted = walked.opens.opens.counted; asked = walked.opens.opens.asked; within = walked.opens.within } })

@@ -38,7 +38,7 @@ returns-in_err-look_up-clause-looks_up g c keeps =
     subst (λ (r : Result (Unit {0}) AtPathError). LooksUp W F c.args.worktree.now c.look_up.new.worktree c.args.objects.now c.look_up.new.objects c.args.relative.now (is_dir_of c.args.mode) c.args.self.now c.look_up.new.self r)
     (sym (is_err c.from_residual.result e same))
     (look-refused W F c.args.worktree.now c.look_up.new.worktree c.args.objects.now c.look_up.new.objects c.args.relative.now _ c.args.self.now c.count_platform.new.self c.look_up.new.self e
-    c.count_platform.ensures (search rules) c.look_up.ensures.made c.look_up.ensures.in_step c.in_err-look_up.ensures.on_way c.look_up.ensures.platforms c.in_err-look_up.ensures.stopped c.look_up.ensures.untouched c.look_up.ensures.store_untouched c.look_up.ensures.levels c.look_up.ensures.answered c.look_up.ensures.stays c.in_err-look_up.ensures.reads)
+    c.count_platform.ensures (search rules) c.look_up.ensures.made c.look_up.ensures.in_step c.in_err-look_up.ensures.on_way c.look_up.ensures.platforms c.in_err-look_up.ensures.stopped c.look_up.ensures.untouched c.look_up.ensures.store_untouched c.look_up.ensures.levels c.in_err-look_up.ensures.names c.look_up.ensures.answered c.look_up.ensures.stays c.in_err-look_up.ensures.reads)
 
 pub returns-in_err-check_out-clause-checks_out : goal.returns-in_err-check_out-clause-checks_out
 returns-in_err-check_out-clause-checks_out g c checkout is =

@@ -19,6 +19,7 @@ use Rattle.worktree_fs.proofs.Lookups.{on_ok}
 use Rattle.worktree_stack.specs.HeldOut.{AddsOut, HoldsOut}
 use Rattle.worktree_stack.specs.Making.{mkdirs}
 use Rattle.worktree_stack.proofs.HeldOut.{holds-whole, none-surplus}
+use Rattle.worktree_stack.proofs.SeeingOn.{sees-popped}
 use Rattle.worktree_stack.proofs.stack.Stack.check_out.Goals as goal
 
 pub rest_out-requires-clause-end : goal.rest_out-requires-clause-end
@@ -68,7 +69,7 @@ returns-in_err-push_root-clause-goes g c =
     (goes-as W F way (is_link_of a.mode) a.checkout.validate.protect_windows (Err e) (append_assoc (root_calls a.self.now.at) (replicate (surplus a.self.now.at (components a.relative.now)) pop_directory) (calls_below (kept (deepest_names a.self.now.at) (components a.relative.now)) (left_of a.self.now.at (components a.relative.now)))) refl
     (goes-more W F way (is_link_of a.mode) a.checkout.validate.protect_windows e more (left_of a.self.now.at (components a.relative.now))
     (goes-unpushed W F way (is_link_of a.mode) a.checkout.validate.protect_windows (root_calls a.self.now.at) a.self.now c.push_root.new.self (unpushed-root a.self.now.at) went.leaves went.leaves_store
-    (Err e) went.made tt c.in_err-push_root.ensures.stopped went.mkdirs went.is_dir went.answered went.platforms went.levels went.store_untouched went.asked)))
+    (Err e) went.made tt c.in_err-push_root.ensures.stopped went.mkdirs went.is_dir went.answered went.platforms went.levels c.in_err-push_root.ensures.names went.store_untouched went.asked)))
 
 pub returns-clause-goes : goal.returns-clause-goes
 returns-clause-goes g c =
@@ -90,10 +91,10 @@ returns-clause-goes g c =
     let n = surplus c.push_root.new.self.at parts in
     let carried = pops.carried (W.told c.push_root.new.worktree) (F.holds c.push_root.new.objects) in
     let first = goes-unpushed W F way link protects (root_calls a.self.now.at) a.self.now c.push_root.new.self (unpushed-root a.self.now.at) root.leaves root.leaves_store
-    (Ok tt) root.made c.in_ok-push_root.ensures.carried tt root.mkdirs root.is_dir root.answered root.platforms root.levels root.store_untouched root.asked in
+    (Ok tt) root.made c.in_ok-push_root.ensures.carried tt root.mkdirs root.is_dir root.answered root.platforms root.levels c.in_ok-push_root.ensures.names root.store_untouched root.asked in
     let second = goes-unpushed W F way link protects (replicate n pop_directory) c.push_root.new.self mid (unpushed-pops n)
     (record { tree = refl; faults = omega arith; list_faults = refl; reads = omega arith; lists = refl; precomposes = refl }) (record { holds = refl; faults = omega arith })
-    (Ok tt) pops.made carried tt (popped-mkdirs c.push_root.new.self mid (replicate n pop_directory) carried.counted) pops.is_dir pops.answered pops.platforms pops.levels (λ none. refl) (omega arith) in
+    (Ok tt) pops.made carried tt (popped-mkdirs c.push_root.new.self mid (replicate n pop_directory) carried.counted) pops.is_dir pops.answered pops.platforms pops.levels (sees-popped (W.told c.push_root.new.worktree) (F.holds c.push_root.new.objects) (made_of c.push_root.new.self) n c.push_root.new.self.attributes mid.attributes pops.names pops.dropped) (λ none. refl) (omega arith) in
     let third : Goes W F c.push_root.new.worktree c.rest_out.new.worktree c.push_root.new.objects c.rest_out.new.objects way link protects (calls_below (deepest_names mid.at) left) left mid c.rest_out.new.self c.rest_out.result =
     subst (λ (x : Way). Goes W F c.push_root.new.worktree c.rest_out.new.worktree c.push_root.new.objects c.rest_out.new.objects x link protects (calls_below (deepest_names mid.at) left) left mid c.rest_out.new.self c.rest_out.result) ways c.rest_out.ensures.goes in
     goes-as W F way link protects c.rest_out.result (calls_are a.self.now.at c.push_root.new.self.at mid.at parts left staying) (sym (left_names a.self.now.at c.push_root.new.self.at mid.at parts left staying))

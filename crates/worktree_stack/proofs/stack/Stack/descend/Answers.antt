@@ -1,4 +1,4 @@
-use Rattle.std.proofs.Common.{◌≡◌, [], inl, refl, arith, rules}
+use Rattle.std.proofs.Common.{◌≡◌, [], ap, inl, refl, arith, rules}
 use Rattle.std.specs.Prelude.{IsErrAnd}
 use Rattle.std.proofs.lemmas.Result.{IfErr-weaker}
 use Rattle.worktree_fs.proofs.Calls.{handed_on}
@@ -8,6 +8,9 @@ use Rattle.worktree_stack.proofs.Asked.{asked-step}
 use Rattle.worktree_stack.proofs.InStep.{pushed-below}
 use Rattle.worktree_stack.proofs.Levels.{level-below}
 use Rattle.worktree_stack.proofs.Carrying.{carries-none, stops-left}
+use Rattle.worktree_stack.specs.Stacked.{Stacked}
+use Rattle.worktree_stack.proofs.Seeing.{sees-refused}
+use Rattle.worktree_stack.proofs.SeeingOn.{sees-below}
 use Rattle.worktree_stack.proofs.Stepping.{in_step_below, carries-below, stops-below}
 use Rattle.worktree_stack.proofs.stack.Stack.descend.Goals as goal
 
@@ -18,6 +21,17 @@ returns-in_err-push-clause-stopped g c =
     let same : IsErrAnd c.from_residual.result (λ x. x ≡ errors.OutOfMemory) = search rules in
     handed_on c.from_residual.result errors.OutOfMemory _ same
     (inl (stops-left told holds _ [] _ c.args.self.now c.args.self.now c.push.new.self refl (carries-none told holds c.args.self.now c.args.self.now refl refl refl) refl c.in_err-push.ensures.refused))
+
+pub returns-in_err-push-clause-names : goal.returns-in_err-push-clause-names
+returns-in_err-push-clause-names g c =
+    let same : IsErrAnd c.from_residual.result (λ x. x ≡ errors.OutOfMemory) = search rules in
+    sees-refused (g.W.Worktree.told c.args.worktree.now) (g.F.Find.holds c.args.objects.now) _ c.args.self.now.attributes c.push.new.self.attributes c.from_residual.result errors.OutOfMemory same
+    (ap (λ (s : Stacked). s.attributes) c.in_err-push.ensures.refused)
+
+pub returns-clause-names : goal.returns-clause-names
+returns-clause-names g c =
+    sees-below (g.W.Worktree.told c.args.worktree.now) (g.F.Find.holds c.args.objects.now) c.args.self.now c.push.new.self c.args.name.now c.push_directory.new.self.attributes c.push_directory.result c.in_ok-push.ensures.made
+    c.push_directory.ensures.names
 
 pub returns-clause-carried : goal.returns-clause-carried
 returns-clause-carried g c =

@@ -1,4 +1,5 @@
-use Rattle.std.proofs.Common.{◌≡◌, ◌∙◌, ◌++◌, [], ℕ, append_assoc, drop, List, replicate, OnOk, OnErr, sym, ap, subst, length, arith}
+use Rattle.std.proofs.Common.{◌≡◌, ◌∙◌, ◌++◌, [], ℕ, append_assoc, drop, List, Result, Ok, replicate, OnOk, OnErr, refl, sym, ap, subst, length, arith, rules}
+use Rattle.std.specs.Prelude.{IsErrAnd}
 use Rattle.std.proofs.lemmas.List.{append-nil}
 use Rattle.std.proofs.lemmas.Result.{IfErr-weaker}
 use Rattle.worktree_fs.proofs.Lookups.{on_ok}
@@ -7,8 +8,11 @@ use Rattle.worktree_fs.specs.PathStack.{Call, kept, deepest_names, IsOnWay, call
 use Rattle.worktree_fs.specs.Causes.{Increased}
 use Rattle.worktree_stack.specs.Asked.{asked_on}
 use Rattle.worktree_stack.specs.Lookups.{IsLookedUp}
-use Rattle.worktree_stack.proofs.Refusals.{rose-earlier}
+use Rattle.worktree_stack.proofs.Refusals.{is_err, rose-earlier}
+use Rattle.worktree_stack.proofs.SeeingOn.{on-front, on-then, sees-popped}
 use Rattle.worktree_stack.proofs.LookedUp.{tells-before}
+use Rattle.worktree_stack.specs.declared.error.AtPathError.{AtPathError}
+use Rattle.worktree_stack.specs.SeenNames.{Sees, names_on}
 use Rattle.worktree_stack.specs.Setup.{Made, has_attributes}
 use Rattle.worktree_stack.specs.Stacked.{made_of}
 use Rattle.worktree_stack.specs.Steps.{CarriesOut, Stops}
@@ -72,6 +76,40 @@ returns-clause-stopped g c =
     (subst (λ h. Stops told h (Increased (W.faults c.push_root.new.worktree) (W.faults c.push_rest.new.worktree)) (Increased (F.faults c.push_root.new.objects) (F.faults c.push_rest.new.objects)) below c.pop_surplus.new.self c.push_rest.new.self e) c.push_root.ensures.leaves_store.holds
     (subst (λ t. Stops t (F.holds c.push_root.new.objects) (Increased (W.faults c.push_root.new.worktree) (W.faults c.push_rest.new.worktree)) (Increased (F.faults c.push_root.new.objects) (F.faults c.push_rest.new.objects)) below c.pop_surplus.new.self c.push_rest.new.self e) (c.push_root.ensures.leaves.tree) stops)))
     c.push_rest.ensures.stopped
+
+pub returns-in_err-push_root-clause-names : goal.returns-in_err-push_root-clause-names
+returns-in_err-push_root-clause-names g c =
+    let told = g.W.Worktree.told c.args.worktree.now in
+    let holds = g.F.Find.holds c.args.objects.now in
+    let parts : List (List ℕ) = components c.args.relative.now in
+    let pops : List Call = replicate (surplus c.args.self.now.at parts) pop_directory in
+    let below : List Call = calls_below (kept (deepest_names c.args.self.now.at) parts) (drop (length (kept (deepest_names c.args.self.now.at) parts)) parts) in
+    let e : AtPathError = c.in_err-push_root.field-0.0 in
+    let same : IsErrAnd c.from_residual.result (λ x. x ≡ e) = search rules in
+    subst (λ (r : Result (Unit {0}) AtPathError). Sees told holds (λ s. names_on (made_of c.args.self.now) s (lookup_calls c.args.self.now.at parts)) c.args.self.now.attributes c.push_root.new.self.attributes r) (sym (is_err c.from_residual.result e same))
+    (on-front told holds (made_of c.args.self.now) (root_calls c.args.self.now.at) (pops ++ below) (lookup_calls c.args.self.now.at parts) c.args.self.now.attributes c.push_root.new.self.attributes e
+    (append_assoc (root_calls c.args.self.now.at) pops below) c.in_err-push_root.ensures.names)
+
+pub returns-clause-names : goal.returns-clause-names
+returns-clause-names g c =
+    let W = g.W.Worktree in
+    let F = g.F.Find in
+    let told = W.told c.args.worktree.now in
+    let holds = F.holds c.args.objects.now in
+    let made : Made = made_of c.args.self.now in
+    let n = surplus c.push_root.new.self.at (components c.args.relative.now) in
+    let pops : List Call = replicate n pop_directory in
+    let below : List Call = calls_below (deepest_names c.pop_surplus.new.self.at) (components c.rest-left.result.now) in
+    let before : List Call = root_calls c.args.self.now.at ++ pops in
+    let root = c.push_root.ensures in
+    let pop = c.pop_surplus.ensures in
+    on-then told (W.told c.push_root.new.worktree) holds (F.holds c.push_root.new.objects) made (made_of c.pop_surplus.new.self) before below (lookup_calls c.args.self.now.at (components c.args.relative.now))
+    c.args.self.now.attributes c.pop_surplus.new.self.attributes c.push_rest.new.self.attributes c.push_rest.result root.leaves.tree root.leaves_store.holds (pop.made ∙ root.made)
+    (calls_are c.args.self.now.at c.push_root.new.self.at c.pop_surplus.new.self.at (components c.args.relative.now) (components c.rest-left.result.now)
+    (record { rooted = c.in_ok-push_root.ensures.at; popped = c.pop_surplus.ensures.at; left_is = c.rest-left.ensures }))
+    (on-then told told holds holds made made (root_calls c.args.self.now.at) pops before c.args.self.now.attributes c.push_root.new.self.attributes c.pop_surplus.new.self.attributes (Ok tt) refl refl refl refl
+    c.in_ok-push_root.ensures.names (sees-popped told holds made n c.push_root.new.self.attributes c.pop_surplus.new.self.attributes pop.names pop.dropped))
+    c.push_rest.ensures.names
 
 pub returns-clause-reads : goal.returns-clause-reads
 returns-clause-reads g c alone =

@@ -23,6 +23,7 @@ loop-preserved c =
       in_step = λ s in_step. c.pop_directory.ensures.in_step s (c.loop.invariant.in_step s in_step);
       levels = λ level. c.pop_directory.ensures.levels (c.loop.invariant.levels level);
       dropped = lowest-then _ _ _ c.pop_directory.ensures.dropped c.loop.invariant.dropped;
+      names = c.pop_directory.ensures.names ∙ c.loop.invariant.names;
       undropped = λ none. let never : ◌≡◌ {A = ℕ} 0 1 = omega (arith, none, c.loop-test.true) in absurd (cc never);
       platforms = c.pop_directory.ensures.platforms ∙ c.loop.invariant.platforms;
       carried = λ told holds.

@@ -5,7 +5,7 @@ use Rattle.gitbase_core.specs.Objects.{Objects}
 use Rattle.worktree_fs.specs.Tree.{Names}
 use Rattle.worktree_stack.specs.HeldOut.{AreLowest}
 use Rattle.worktree_stack.specs.Reading.{Sources}
-use Rattle.worktree_stack.specs.Setup.{lists_of}
+use Rattle.worktree_stack.specs.Setup.{lists_of, names_of}
 use Rattle.worktree_stack.specs.Stacked.{IsInStep, IsLevel, made_of}
 use Rattle.worktree_stack.specs.Steps.{CarriesOut}
 use Rattle.worktree_stack.specs.Lookups.{staying}
@@ -23,6 +23,7 @@ invariant-loop l =
       in_step : (s : Sources) → IsInStep s l.fn.self → IsInStep s l.self;
       levels : IsLevel l.fn.self → IsLevel l.self;
       dropped : AreLowest (lists_of l.self.attributes) (lists_of l.fn.self.attributes);
+      names : names_of l.self.attributes ≡ names_of l.fn.self.attributes;
       undropped : l.end ≡ 0 → lists_of l.self.attributes ≡ lists_of l.fn.self.attributes;
       platforms : l.self.statistics.platforms ≡ l.fn.self.statistics.platforms;
       carried : (told : Option Names) (holds : Option Objects) → CarriesOut told holds (replicate l.counter pop_directory) l.fn.self l.self;

@@ -1,4 +1,4 @@
-use Rattle.std.proofs.Common.{◌≡◌, ◌∙◌, ◌++◌, ℕ, List, Option, Result, Ok, Err, sym, ap, subst, rules}
+use Rattle.std.proofs.Common.{◌≡◌, ◌∙◌, ◌++◌, ℕ, List, Option, Result, Ok, Err, refl, sym, ap, subst, rules}
 use Rattle.std.specs.Prelude.{IsErrAnd}
 use Rattle.worktree_fs.specs.Paths.{spelled}
 use Rattle.worktree_stack.specs.declared.error.AtPathError.{AtPathError}
@@ -6,12 +6,14 @@ use Rattle.worktree_stack.specs.declared.statistics.Statistics.{Statistics}
 use Rattle.worktree_stack.specs.Placed.{Reads}
 use Rattle.worktree_stack.specs.Reading.{OneReading, own_readings, info_readings_if}
 use Rattle.worktree_stack.specs.Setup.{AttributesSetup, Made, attributes_setup_of}
-use Rattle.worktree_stack.specs.Stacked.{made_of}
-use Rattle.worktree_stack.specs.Setup.{HeldAttributes, IsLonger, lists_of, pop_list}
+use Rattle.worktree_stack.specs.SeenNames.{Sees, info_names_if, names_if, own_names_if}
+use Rattle.worktree_stack.specs.Stacked.{Stacked, made_of}
+use Rattle.worktree_stack.specs.Setup.{HeldAttributes, IsLonger, lists_of, names_of, pop_list}
 use Rattle.worktree_stack.specs.Stacked.{own_count, info_count_if, attributes_of}
 use Rattle.worktree_stack.proofs.Refusals.{is_err}
 use Rattle.worktree_stack.proofs.Readings.{reads-cut, reads-then}
 use Rattle.worktree_stack.proofs.Pushing.{info-same, own-dropped, longer-then}
+use Rattle.worktree_stack.proofs.Seeing.{names-dropped, sees-both, sees-front, sees-undone}
 use Rattle.worktree_stack.proofs.stack.Stack.push_attributes.Goals as goal
 
 pub returns-in_err-push_own-clause-reads : goal.returns-in_err-push_own-clause-reads
@@ -76,3 +78,41 @@ returns-clause-many g c =
     longer-then (own_count setup) (info_count_if setup d) (lists_of c.args.self.now.attributes) (lists_of c.push_own.new.self.attributes) (lists_of c.push_info.new.self.attributes) c.in_ok-push_own.ensures.many
     (subst (λ (x : Option AttributesSetup). IsLonger (info_count_if x d) (lists_of c.push_own.new.self.attributes) (lists_of c.push_info.new.self.attributes)) setup_is
     (subst (λ (x : List ℕ). IsLonger (info_count_if (attributes_setup_of c.push_own.new.self.attributes) x) (lists_of c.push_own.new.self.attributes) (lists_of c.push_info.new.self.attributes)) dir_is c.in_default.ensures.many))
+
+pub returns-in_err-push_own-clause-names : goal.returns-in_err-push_own-clause-names
+returns-in_err-push_own-clause-names g c =
+    let made : Made = made_of c.args.self.now in
+    let d : List ℕ = spelled c.args.self.now.current in
+    let told = g.W.Worktree.told c.args.worktree.now in
+    let holds = g.F.Find.holds c.args.objects.now in
+    let e : AtPathError = c.in_err-push_own.field-0.0 in
+    let said : IsErrAnd c.from_residual.result (λ x. x ≡ e) = search rules in
+    subst (λ (r : Result (Unit {0}) AtPathError). Sees told holds (λ s. names_if made made.attributes s d) c.args.self.now.attributes c.push_own.new.self.attributes r) (sym (is_err c.from_residual.result e said))
+    (sees-front told holds (λ s. own_names_if made made.attributes s d) c.args.self.now.attributes c.push_own.new.self.attributes (λ s. names_if made made.attributes s d) e c.in_err-push_own.ensures.names
+    (λ s tells. (info_names_if made.attributes s d, refl)))
+
+pub returns-in-Err-clause-names : goal.returns-in-Err-clause-names
+returns-in-Err-clause-names g c =
+    let W = g.W.Worktree in
+    let F = g.F.Find in
+    let old : Stacked = c.args.self.now in
+    let mid : Stacked = c.push_own.new.self in
+    let after : Option HeldAttributes = c.push_info.new.self.attributes in
+    let held : attributes_of c.self.inside.state ≡ after = search rules in
+    let lists : lists_of (attributes_of c.pop_list.new.self) ≡ lists_of old.attributes =
+    ap lists_of (c.pop_list.ensures.attributes ∙ ap pop_list held)
+    ∙ own-dropped after (attributes_setup_of old.attributes) (lists_of old.attributes) (lists_of mid.attributes)
+    (c.push_info.ensures.setup ∙ c.push_own.ensures.setup) c.in-Err.ensures.held c.in_ok-push_own.ensures.many in
+    sees-undone (W.told c.args.worktree.now) (F.holds c.args.objects.now) _ old.attributes after (attributes_of c.pop_list.new.self) c.in-Err.refused
+    (sees-both (W.told c.args.worktree.now) (W.told c.push_own.new.worktree) (F.holds c.args.objects.now) (F.holds c.push_own.new.objects) (made_of old) old mid after (Err c.in-Err.refused) c.push_own.ensures.reads.leaves.tree c.push_own.ensures.reads.leaves_store.holds
+    c.push_own.ensures.setup (search rules) c.in_ok-push_own.ensures.names c.in-Err.ensures.names)
+    (ap names_of (c.pop_list.ensures.attributes ∙ ap pop_list held) ∙ names-dropped after) lists
+
+pub returns-clause-names : goal.returns-clause-names
+returns-clause-names g c =
+    let W = g.W.Worktree in
+    let F = g.F.Find in
+    let old : Stacked = c.args.self.now in
+    let mid : Stacked = c.push_own.new.self in
+    sees-both (W.told c.args.worktree.now) (W.told c.push_own.new.worktree) (F.holds c.args.objects.now) (F.holds c.push_own.new.objects) (made_of old) old mid c.push_info.new.self.attributes (Ok tt) c.push_own.ensures.reads.leaves.tree c.push_own.ensures.reads.leaves_store.holds
+    c.push_own.ensures.setup (search rules) c.in_ok-push_own.ensures.names c.in_default.ensures.names

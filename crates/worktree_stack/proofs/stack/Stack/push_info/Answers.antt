@@ -1,15 +1,19 @@
-use Rattle.std.proofs.Common.{◌≡◌, ◌∷◌, [], ℕ, List, Option, Some, Result, refl, ap, subst, rules}
+use Rattle.std.proofs.Common.{◌≡◌, ◌∙◌, ◌∷◌, [], ℕ, List, Option, Some, Result, true, refl, ap, subst, rules}
 use Rattle.std.specs.Prelude.{IsErrAnd}
 use Rattle.worktree_fs.specs.Paths.{spelled}
 use Rattle.worktree_stack.specs.declared.error.AtPathError.{AtPathError}
 use Rattle.worktree_stack.specs.declared.error.AtPathError.TheVariants as errors
 use Rattle.worktree_stack.specs.declared.statistics.Statistics.{Statistics}
 use Rattle.worktree_stack.specs.Placed.{Reads}
-use Rattle.worktree_stack.specs.Reading.{OneReading, of_attributes, text_of, info_readings_if, info_places}
-use Rattle.worktree_stack.specs.Setup.{AttributesSetup, Made, attributes_setup_of}
-use Rattle.worktree_stack.specs.Stacked.{made_of}
+use Rattle.worktree_stack.specs.Reading.{Text, attributes_from, OneReading, of_attributes, text_of, info_readings_if, info_places}
+use Rattle.worktree_stack.specs.SeenNames.{names_from}
+use Rattle.worktree_stack.specs.Setup.{AttributesSetup, HeldAttributes, Made, attributes_setup_of, lists_of, names_of, push_list}
+use Rattle.worktree_stack.specs.Stacked.{made_of, attributes_of}
+use Rattle.glob_rules.specs.AttributeNames.{SeesPart}
+use Rattle.glob_rules.specs.Attributes.{AttributeList}
 use Rattle.worktree_stack.proofs.Readings.{reads-lost, only-attributes}
 use Rattle.worktree_stack.proofs.Pushing.{info-some, empty-nil, reads-as, reads-placed}
+use Rattle.worktree_stack.proofs.Seeing.{info-named, sees-refused, sees-some, sees-text}
 use Rattle.worktree_stack.proofs.stack.Stack.push_info.Goals as goal
 
 pub returns-in_err-source-clause-reads : goal.returns-in_err-source-clause-reads
@@ -65,3 +69,46 @@ returns-in_err-push_text-clause-reads g c =
     reads-lost W F c.args.worktree.now c.read_text.new.worktree c.args.objects.now c.read_text.new.objects readings (record { kind = of_attributes; places = info_places path }) s0 s1 v
     c.from_residual-in_err-push_text.result readings_are memory
     (subst (λ (r : Result (Option (List ℕ)) AtPathError). Reads W F c.args.worktree.now c.read_text.new.worktree c.args.objects.now c.read_text.new.objects readings s0 s1 r) c.in_ok-source.was all)
+
+pub returns-in_err-source-clause-names : goal.returns-in_err-source-clause-names
+returns-in_err-source-clause-names g c =
+    let e : AtPathError = c.in_err-source.field-0.0 in
+    let said : IsErrAnd c.from_residual.result (λ x. x ≡ e) = search rules in
+    sees-refused (g.W.Worktree.told c.args.worktree.now) (g.F.Find.holds c.args.objects.now) _ c.args.self.now.attributes _ c.from_residual.result e said (search rules)
+
+pub returns-in_err-push_text-clause-names : goal.returns-in_err-push_text-clause-names
+returns-in_err-push_text-clause-names g c =
+    let made : Made = made_of c.args.self.now in
+    let setup : AttributesSetup = c.in-Some.attributes.now.setup in
+    let held_is : c.args.self.now.attributes ≡ Some c.in-Some.attributes.now = search rules in
+    let setup_is : made.attributes ≡ Some setup = ap attributes_setup_of held_is in
+    let d : List ℕ = spelled c.args.self.now.current in
+    let path : List ℕ = c.as_bytes-path.result.now in
+    let info_is : setup.info ≡ Some path = search rules in
+    let root : d ≡ [] = empty-nil d (search rules) in
+    let text : Option Text = text_of c.in_ok-source.source c.read_text.new.buffer in
+    let held : attributes_of c.self.inside.state ≡ c.args.self.now.attributes = search rules in
+    let memory : IsErrAnd c.from_residual-in_err-push_text.result (λ x. x ≡ errors.OutOfMemory) = search rules in
+    sees-some (g.W.Worktree.told c.args.worktree.now) (g.F.Find.holds c.args.objects.now) _ c.args.self.now.attributes (attributes_of c.push_text.new.state) c.from_residual-in_err-push_text.result errors.OutOfMemory
+    (names_from true text) memory (c.in_err-push_text.ensures.refused ∙ ap lists_of held)
+    (subst (λ (h : Option HeldAttributes). SeesPart (names_of h) (names_from true text) (names_of (attributes_of c.push_text.new.state))) held c.in_err-push_text.ensures.seen)
+    (λ s tells. info-named setup s d path text made.attributes setup_is info_is root (c.in_ok-source.ensures.text s tells))
+
+pub returns-clause-names : goal.returns-clause-names
+returns-clause-names g c =
+    let made : Made = made_of c.args.self.now in
+    let setup : AttributesSetup = c.in-Some.attributes.now.setup in
+    let held_is : c.args.self.now.attributes ≡ Some c.in-Some.attributes.now = search rules in
+    let setup_is : made.attributes ≡ Some setup = ap attributes_setup_of held_is in
+    let d : List ℕ = spelled c.args.self.now.current in
+    let path : List ℕ = c.as_bytes-path.result.now in
+    let info_is : setup.info ≡ Some path = search rules in
+    let root : d ≡ [] = empty-nil d (search rules) in
+    let dir : List ℕ = c.current_relative-directory.result.now in
+    let text : Option Text = text_of c.in_ok-source.source c.read_text.new.buffer in
+    let list : AttributeList = attributes_from true dir text in
+    let seen : List (List ℕ) = names_from true text in
+    let held : attributes_of c.self.inside.state ≡ c.args.self.now.attributes = search rules in
+    let pushed : attributes_of c.push_text.new.state ≡ push_list list seen c.args.self.now.attributes = c.in_ok-push_text.ensures.pushed ∙ ap (push_list list seen) held in
+    sees-text (g.W.Worktree.told c.args.worktree.now) (g.F.Find.holds c.args.objects.now) _ c.args.self.now.attributes (attributes_of c.push_text.new.state) c.in-Some.attributes.now true dir text held_is pushed
+    (λ s tells. info-named setup s d path text made.attributes setup_is info_is root (c.in_ok-source.ensures.text s tells))

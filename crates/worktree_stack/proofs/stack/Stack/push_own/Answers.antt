@@ -1,4 +1,4 @@
-use Rattle.std.proofs.Common.{◌≡◌, ◌∙◌, ◌∷◌, [], ℕ, List, Option, Some, None, Result, refl, ap, subst, rules}
+use Rattle.std.proofs.Common.{◌≡◌, ◌∙◌, ◌∷◌, [], ℕ, List, Option, Some, None, Result, Ok, refl, ap, subst, rules}
 use Rattle.std.specs.Prelude.{IsErrAnd}
 use Rattle.worktree_fs.specs.Paths.{spelled}
 use Rattle.worktree_stack.specs.declared.error.AtPathError.{AtPathError}
@@ -6,15 +6,17 @@ use Rattle.worktree_stack.specs.declared.error.AtPathError.TheVariants as errors
 use Rattle.worktree_stack.specs.declared.statistics.Statistics.{Statistics}
 use Rattle.worktree_stack.specs.Placed.{Reads}
 use Rattle.worktree_stack.specs.Reading.{Text, bytes_of, attributes_from, OneReading, of_attributes, text_of, places_by, own_readings, attribute_places_of}
-use Rattle.worktree_stack.specs.Setup.{AttributesSetup, HeldAttributes, Made, attributes_name, attributes_setup_of, push_list, mapped_to}
+use Rattle.worktree_stack.specs.Setup.{AttributesSetup, HeldAttributes, Made, attributes_name, attributes_setup_of, lists_of, names_of, push_list, mapped_to}
+use Rattle.worktree_stack.specs.SeenNames.{names_from, own_names_if}
 use Rattle.worktree_stack.specs.Stacked.{made_of, own_count, attributes_of}
 use Rattle.glob_rules.specs.AttributeLines.{lines}
-use Rattle.glob_rules.specs.AttributeNames.{names_in}
+use Rattle.glob_rules.specs.AttributeNames.{SeesPart, names_in}
 use Rattle.glob_rules.specs.Attributes.{AttributeList}
 use Rattle.gitbase_core.specs.Path.{joined}
 use Rattle.worktree_fs.specs.Paths.{full_path}
 use Rattle.worktree_stack.proofs.Readings.{reads-unread, reads-lost, only-attributes}
 use Rattle.worktree_stack.proofs.Pushing.{attribute-placed, own-some, own-listed, reads-as, reads-done, reads-placed, longer-none, longer-one}
+use Rattle.worktree_stack.proofs.Seeing.{own-named, sees-nothing, sees-refused, sees-some, sees-text}
 use Rattle.worktree_stack.proofs.stack.Stack.push_own.Goals as goal
 
 pub returns-in_err-set_paths-clause-reads : goal.returns-in_err-set_paths-clause-reads
@@ -170,3 +172,68 @@ pub returns-in_default-clause-many : goal.returns-in_default-clause-many
 returns-in_default-clause-many g c =
     let none : c.args.self.now.attributes ≡ None = search rules in
     longer-none c.args.self.now.attributes _ (ap (λ (h : Option HeldAttributes). own_count (attributes_setup_of h)) none)
+
+pub returns-in_default-clause-names : goal.returns-in_default-clause-names
+returns-in_default-clause-names g c =
+    let none : c.args.self.now.attributes ≡ None = search rules in
+    sees-nothing (g.W.Worktree.told c.args.worktree.now) (g.F.Find.holds c.args.objects.now) _ c.args.self.now.attributes c.args.self.now.attributes (Ok tt) refl
+    (λ s. ap (λ (h : Option HeldAttributes). own_names_if (made_of c.args.self.now) (attributes_setup_of h) s (spelled c.args.self.now.current)) none)
+
+pub returns-in_err-set_paths-clause-names : goal.returns-in_err-set_paths-clause-names
+returns-in_err-set_paths-clause-names g c =
+    let memory : IsErrAnd c.from_residual.result (λ x. x ≡ errors.OutOfMemory) = search rules in
+    sees-refused (g.W.Worktree.told c.args.worktree.now) (g.F.Find.holds c.args.objects.now) _ c.args.self.now.attributes _ c.from_residual.result errors.OutOfMemory memory (search rules)
+
+pub returns-in_err-source-clause-names : goal.returns-in_err-source-clause-names
+returns-in_err-source-clause-names g c =
+    let e : AtPathError = c.in_err-source.field-0.0 in
+    let said : IsErrAnd c.from_residual-in_err-source.result (λ x. x ≡ e) = search rules in
+    sees-refused (g.W.Worktree.told c.args.worktree.now) (g.F.Find.holds c.args.objects.now) _ c.args.self.now.attributes _ c.from_residual-in_err-source.result e said (search rules)
+
+pub returns-in_err-push_text-clause-names : goal.returns-in_err-push_text-clause-names
+returns-in_err-push_text-clause-names g c =
+    let made : Made = made_of c.args.self.now in
+    let setup : AttributesSetup = c.in-Some.attributes.now.setup in
+    let held_is : c.args.self.now.attributes ≡ Some c.in-Some.attributes.now = search rules in
+    let setup_is : made.attributes ≡ Some setup = ap attributes_setup_of held_is in
+    let d : List ℕ = spelled c.args.self.now.current in
+    let path : List ℕ = c.as_bytes-path.result.now in
+    let whole : List ℕ = c.as_bytes.result.now in
+    let whole_is : whole ≡ full_path made.root (joined d attributes_name) = search rules in
+    let path_is : path ≡ joined d attributes_name = search rules in
+    let mapped_is : c.id_of.result ≡ mapped_to made.mappings path = search rules in
+    let places_are : places_by c.of_attributes-order.result whole path ≡ attribute_places_of made setup d =
+    c.of_attributes-order.ensures whole path ∙ attribute-placed made d whole path c.id_of.result setup c.source.result c.source.ensures whole_is path_is mapped_is in
+    let dir : List ℕ = c.current_relative-directory.result.now in
+    let dir_is : dir ≡ d = search rules in
+    let text : Option Text = text_of c.in_ok-source.source c.read_text.new.buffer in
+    let held : attributes_of c.self.inside.state ≡ c.args.self.now.attributes = search rules in
+    let memory : IsErrAnd c.from_residual-in_err-push_text.result (λ x. x ≡ errors.OutOfMemory) = search rules in
+    sees-some (g.W.Worktree.told c.args.worktree.now) (g.F.Find.holds c.args.objects.now) _ c.args.self.now.attributes (attributes_of c.push_text.new.state) c.from_residual-in_err-push_text.result errors.OutOfMemory
+    (names_from c.is_root.result text) memory (c.in_err-push_text.ensures.refused ∙ ap lists_of held)
+    (subst (λ (h : Option HeldAttributes). SeesPart (names_of h) (names_from c.is_root.result text) (names_of (attributes_of c.push_text.new.state))) held c.in_err-push_text.ensures.seen)
+    (λ s tells. own-named made setup s d dir (places_by c.of_attributes-order.result whole path) text c.is_root.result made.attributes c.is_root.ensures dir_is setup_is places_are (c.in_ok-source.ensures.text s tells))
+
+pub returns-clause-names : goal.returns-clause-names
+returns-clause-names g c =
+    let made : Made = made_of c.args.self.now in
+    let setup : AttributesSetup = c.in-Some.attributes.now.setup in
+    let held_is : c.args.self.now.attributes ≡ Some c.in-Some.attributes.now = search rules in
+    let setup_is : made.attributes ≡ Some setup = ap attributes_setup_of held_is in
+    let d : List ℕ = spelled c.args.self.now.current in
+    let path : List ℕ = c.as_bytes-path.result.now in
+    let whole : List ℕ = c.as_bytes.result.now in
+    let whole_is : whole ≡ full_path made.root (joined d attributes_name) = search rules in
+    let path_is : path ≡ joined d attributes_name = search rules in
+    let mapped_is : c.id_of.result ≡ mapped_to made.mappings path = search rules in
+    let places_are : places_by c.of_attributes-order.result whole path ≡ attribute_places_of made setup d =
+    c.of_attributes-order.ensures whole path ∙ attribute-placed made d whole path c.id_of.result setup c.source.result c.source.ensures whole_is path_is mapped_is in
+    let dir : List ℕ = c.current_relative-directory.result.now in
+    let dir_is : dir ≡ d = search rules in
+    let text : Option Text = text_of c.in_ok-source.source c.read_text.new.buffer in
+    let list : AttributeList = attributes_from c.is_root.result dir text in
+    let seen : List (List ℕ) = names_from c.is_root.result text in
+    let held : attributes_of c.self.inside.state ≡ c.args.self.now.attributes = search rules in
+    let pushed : attributes_of c.push_text.new.state ≡ push_list list seen c.args.self.now.attributes = c.in_ok-push_text.ensures.pushed ∙ ap (push_list list seen) held in
+    sees-text (g.W.Worktree.told c.args.worktree.now) (g.F.Find.holds c.args.objects.now) _ c.args.self.now.attributes (attributes_of c.push_text.new.state) c.in-Some.attributes.now c.is_root.result dir text held_is pushed
+    (λ s tells. own-named made setup s d dir (places_by c.of_attributes-order.result whole path) text c.is_root.result made.attributes c.is_root.ensures dir_is setup_is places_are (c.in_ok-source.ensures.text s tells))

@@ -1,14 +1,16 @@
-use Rattle.std.proofs.Common.{◌≡◌, ◌∙◌, ◌++◌, ◌∷◌, [], ℕ, List, inl, refl, sym, ap, subst, is_some, true, false, length, arith, rules}
+use Rattle.std.proofs.Common.{◌≡◌, ◌∙◌, ◌++◌, ◌∷◌, [], ℕ, List, Result, Ok, Err, inl, refl, sym, ap, subst, is_some, true, false, length, arith, rules}
 use Rattle.std.specs.Prelude.{IsErrAnd}
 use Rattle.std.proofs.lemmas.List.{length-append}
 use Rattle.gitbase_core.specs.Path.{components}
 use Rattle.worktree_fs.specs.Causes.{Increased}
 use Rattle.worktree_fs.specs.Paths.{spelled}
-use Rattle.worktree_fs.specs.PathStack.{deepest_names, calls_for, calls_below}
+use Rattle.worktree_fs.specs.PathStack.{Call, deepest_names, calls_for, calls_below}
 use Rattle.worktree_fs.proofs.Calls.{handed_on}
+use Rattle.worktree_stack.specs.declared.error.AtPathError.{AtPathError}
 use Rattle.worktree_stack.specs.declared.error.AtPathError.TheVariants as errors
 use Rattle.worktree_stack.specs.Asked.{asked_on}
 use Rattle.worktree_stack.specs.Lookups.{asks_worktree}
+use Rattle.worktree_stack.specs.SeenNames.{Sees, names_on}
 use Rattle.worktree_stack.specs.Setup.{Made, has_attributes}
 use Rattle.worktree_stack.specs.Stacked.{Stacked, made_of}
 use Rattle.worktree_stack.specs.Steps.{CarriesOut, Stops}
@@ -17,7 +19,9 @@ use Rattle.worktree_stack.proofs.Descent.{below_first, below_next, on_way, on_wa
 use Rattle.worktree_stack.proofs.Asked.{asked-append, asked-front}
 use Rattle.worktree_stack.proofs.Carrying.{carries-none, carries-then, carries-as, carries-left, stops-left, stops-after}
 use Rattle.worktree_stack.proofs.LookedUp.{leaves-then, store-then, tells-before}
-use Rattle.worktree_stack.proofs.Refusals.{rose-earlier}
+use Rattle.worktree_stack.proofs.Refusals.{is_err, rose-earlier}
+use Rattle.worktree_stack.proofs.Seeing.{sees-nothing}
+use Rattle.worktree_stack.proofs.SeeingOn.{on-front, on-then, sees-last, sees-left, sees-short}
 use Rattle.worktree_stack.proofs.stack.Stack.push_rest.Goals as goal
 
 pub loop-next-init : goal.loop-next-init
@@ -34,6 +38,7 @@ loop-next-init g c =
       platforms = refl;
       in_step = λ s tells in_step. in_step;
       levels = λ level. level;
+      sees = sees-nothing (g.W.Worktree.told c.args.worktree.now) (g.F.Find.holds c.args.objects.now) (λ s. []) c.args.self.now.attributes c.args.self.now.attributes (Ok tt) refl (λ s. refl);
       untouched = λ none. refl;
       store_untouched = λ none. refl;
       leaves = record { tree = refl; faults = omega arith; list_faults = refl; reads = omega arith; lists = refl; precomposes = refl };
@@ -57,6 +62,50 @@ returns-in_err-push-clause-stopped g c =
     let before = c.loop-next.invariant in
     handed_on c.from_residual.result errors.OutOfMemory _ same
     (inl (stops-left (g.W.Worktree.told c.args.worktree.now) (g.F.Find.holds c.args.objects.now) _ before.made _ c.args.self.now c.loop-next.self c.push.new.self before.front before.carried before.is_dir c.in_err-push.ensures.refused))
+
+pub returns-in_err-push-clause-names : goal.returns-in_err-push-clause-names
+returns-in_err-push-clause-names g c =
+    let same : IsErrAnd c.from_residual.result (λ x. x ≡ errors.OutOfMemory) = search rules in
+    let before = c.loop-next.invariant in
+    sees-short (g.W.Worktree.told c.args.worktree.now) (g.F.Find.holds c.args.objects.now) (made_of c.args.self.now) before.made _ _ c.args.self.now.attributes c.loop-next.self.attributes c.push.new.self.attributes
+    c.from_residual.result errors.OutOfMemory same before.front (ap (λ (s : Stacked). s.attributes) c.in_err-push.ensures.refused) before.sees
+
+pub returns-then-next-clause-names : goal.returns-then-next-clause-names
+returns-then-next-clause-names g c =
+    let before = c.loop-next.invariant in
+    let names : List (List ℕ) = deepest_names c.loop-next.self.at in
+    let name : List ℕ = c.in-Some.next.name.now in
+    sees-last (g.W.Worktree.told c.args.worktree.now) (g.F.Find.holds c.args.objects.now) (made_of c.args.self.now) before.made _ (spelled (names ++ name ∷ [])) true c.args.self.now.attributes c.loop-next.self.attributes c.push.new.self.attributes
+    (last-calls _ before.made names (components c.loop-next.rest.now) (components c.in-Some.next.rest.now) name before.front c.in-Some.ensures.0 (sym c.in-Some.ensures.2 ∙ c.if-next.true))
+    (ap (λ (s : Stacked). s.attributes) c.in_ok-push.ensures.made) before.sees
+
+pub returns-in_err-descend-clause-names : goal.returns-in_err-descend-clause-names
+returns-in_err-descend-clause-names g c =
+    let W = g.W.Worktree in
+    let F = g.F.Find in
+    let told = W.told c.args.worktree.now in
+    let holds = F.holds c.args.objects.now in
+    let before = c.loop-next.invariant in
+    let names : List (List ℕ) = deepest_names c.loop-next.self.at in
+    let name : List ℕ = c.in-Some.next.name.now in
+    let more : List (List ℕ) = components c.in-Some.next.rest.now in
+    let e : AtPathError = c.in_err-descend.field-0.0 in
+    let same : IsErrAnd c.from_residual-in_err-descend.result (λ x. x ≡ e) = search rules in
+    let below : List Call = calls_below (names ++ name ∷ []) more in
+    let calls : List Call = calls_below (deepest_names c.args.self.now.at) (components c.args.left.now) in
+    subst (λ (r : Result (Unit {0}) AtPathError). Sees told holds (λ s. names_on (made_of c.args.self.now) s calls) c.args.self.now.attributes c.descend.new.self.attributes r) (sym (is_err c.from_residual-in_err-descend.result e same))
+    (on-front told holds (made_of c.args.self.now) (before.made ++ calls_for names name false) below calls c.args.self.now.attributes c.descend.new.self.attributes e
+    (further _ before.made names (components c.loop-next.rest.now) more name before.front c.in-Some.ensures.0 (sym c.in-Some.ensures.2 ∙ c.if-next.false))
+    (on-then told (W.told c.loop-next.worktree) holds (F.holds c.loop-next.objects) (made_of c.args.self.now) (made_of c.loop-next.self) before.made (calls_for names name false) (before.made ++ calls_for names name false)
+    c.args.self.now.attributes c.loop-next.self.attributes c.descend.new.self.attributes (Err e) before.leaves.tree before.leaves_store.holds before.setup refl before.sees c.in_err-descend.ensures.names))
+
+pub returns-clause-names : goal.returns-clause-names
+returns-clause-names g c =
+    let before = c.loop-next.invariant in
+    let told = g.W.Worktree.told c.args.worktree.now in
+    let holds = g.F.Find.holds c.args.objects.now in
+    sees-left told holds (made_of c.args.self.now) before.made _ c.args.self.now.attributes c.loop-next.self.attributes c.leave.new.self.attributes
+    (no-calls _ before.made (deepest_names c.loop-next.self.at) (components c.loop-next.rest.now) before.front (search rules)) (ap (λ (s : Stacked). s.attributes) c.leave.ensures) before.sees
 
 pub returns-then-next-clause-carried : goal.returns-then-next-clause-carried
 returns-then-next-clause-carried g c =
@@ -141,6 +190,9 @@ loop-next-preserved g c =
       platforms = c.descend.ensures.platforms ∙ before.platforms;
       in_step = λ s tells in_step. c.descend.ensures.in_step s (tells-before _ _ _ _ s (before.leaves.tree) before.leaves_store.holds tells) (before.in_step s tells in_step);
       levels = λ level. c.descend.ensures.levels (before.levels level);
+      sees =
+          on-then told (W.told c.loop-next.worktree) holds (F.holds c.loop-next.objects) (made_of c.args.self.now) (made_of c.loop-next.self) before.made (calls_for names name false) (before.made ++ calls_for names name false)
+          c.args.self.now.attributes c.loop-next.self.attributes c.descend.new.self.attributes (Ok tt) before.leaves.tree before.leaves_store.holds before.setup refl before.sees c.in_ok-descend.ensures.names;
       untouched = λ none. c.descend.ensures.untouched (ap (λ (m : Made). asks_worktree m) before.setup ∙ none) ∙ before.untouched none;
       store_untouched = λ none. c.descend.ensures.store_untouched (ap (λ (m : Made). m.mappings) before.setup ∙ none) ∙ before.store_untouched none;
       leaves = leaves-then W c.args.worktree.now c.loop-next.worktree c.descend.new.worktree before.leaves c.descend.ensures.leaves;

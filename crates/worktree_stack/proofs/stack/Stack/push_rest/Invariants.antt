@@ -1,4 +1,4 @@
-use Rattle.std.proofs.Common.{◌≡◌, ◌≤◌, ◌+◌, ◌++◌, List, [], is_some, true, false, length}
+use Rattle.std.proofs.Common.{◌≡◌, ◌≤◌, ◌+◌, ◌++◌, List, [], Ok, is_some, true, false, length}
 use Rattle.gitbase_core.specs.Path.{components}
 use Rattle.worktree_fs.specs.PathStack.{Call, deepest_names, calls_below}
 use Rattle.worktree_fs.specs.Kept.{Asks, AsksStore}
@@ -6,6 +6,7 @@ use Rattle.worktree_stack.specs.Asked.{asked_on}
 use Rattle.worktree_stack.specs.Lookups.{asks_worktree}
 use Rattle.worktree_stack.specs.Reading.{Sources, Tells}
 use Rattle.worktree_stack.specs.Stacked.{IsInStep, IsLevel, made_of}
+use Rattle.worktree_stack.specs.SeenNames.{Sees, names_on}
 use Rattle.worktree_stack.specs.Setup.{has_attributes}
 use Rattle.worktree_stack.specs.Steps.{CarriesOut}
 use Rattle.worktree_stack.proofs.Descent.{IsBelow}
@@ -29,6 +30,7 @@ invariant-loop-next g l =
       platforms : l.self.statistics.platforms ≡ l.fn.self.statistics.platforms;
       in_step : (s : Sources) → Tells (W.told l.fn.worktree) (F.holds l.fn.objects) s → IsInStep s l.fn.self → IsInStep s l.self;
       levels : IsLevel l.fn.self → IsLevel l.self;
+      sees : Sees {T = Unit {0}} (W.told l.fn.worktree) (F.holds l.fn.objects) (λ s. names_on (made_of l.fn.self) s made) l.fn.self.attributes l.self.attributes (Ok tt);
       untouched : asks_worktree (made_of l.fn.self) ≡ false → l.worktree ≡ l.fn.worktree;
       store_untouched : (made_of l.fn.self).mappings ≡ [] → l.objects ≡ l.fn.objects;
       leaves : Asks W l.fn.worktree l.worktree;

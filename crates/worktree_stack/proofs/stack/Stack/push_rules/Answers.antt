@@ -5,13 +5,15 @@ use Rattle.worktree_stack.specs.declared.error.AtPathError.{AtPathError}
 use Rattle.worktree_stack.specs.declared.statistics.Statistics.{Statistics}
 use Rattle.worktree_stack.specs.Placed.{Reads}
 use Rattle.worktree_stack.specs.Reading.{is_read, texts_of, reading, OneReading, Sources, attribute_readings, readings_of, lists_at, ignore_readings}
-use Rattle.worktree_stack.specs.Setup.{AttributesSetup, HeldAttributes, lists_of, IsLonger, pop_lists, Made, attributes_setup_of}
+use Rattle.worktree_stack.specs.Setup.{AttributesSetup, HeldAttributes, lists_of, names_of, IsLonger, pop_lists, Made, attributes_setup_of}
 use Rattle.worktree_stack.specs.Stacked.{Stacked, made_of, attributes_of, count_at}
 use Rattle.worktree_stack.proofs.Refusals.{is_err}
 use Rattle.worktree_stack.proofs.Readings.{reads-cut, reads-then, later}
 use Rattle.worktree_stack.proofs.InStep.{pushed_all}
 use Rattle.worktree_stack.proofs.Levels.{lists-level}
 use Rattle.worktree_stack.proofs.Pushing.{reads-counted, all-dropped, rules-bridge, level-bridge}
+use Rattle.worktree_stack.specs.SeenNames.{Sees, names_at}
+use Rattle.worktree_stack.proofs.Seeing.{names-popped, sees-before, sees-undone}
 use Rattle.worktree_stack.proofs.stack.Stack.push_rules.Goals as goal
 
 pub returns-in_err-push_attributes-clause-reads : goal.returns-in_err-push_attributes-clause-reads
@@ -173,3 +175,45 @@ returns-clause-levels g c level =
           (subst (λ (h : Option HeldAttributes). IsLonger (count_at setup d) (lists_of old.attributes) (lists_of h)) (sym held) many) level.0,
       level-bridge old after new.ignore current_is kept c.in_default.ensures.levels level.1,
     )
+
+pub returns-in_err-push_attributes-clause-names : goal.returns-in_err-push_attributes-clause-names
+returns-in_err-push_attributes-clause-names g c =
+    let told = g.W.Worktree.told c.args.worktree.now in
+    let holds = g.F.Find.holds c.args.objects.now in
+    let old : Stacked = c.args.self.now in
+    let new : Option HeldAttributes = c.push_attributes.new.self.attributes in
+    let e : AtPathError = c.in_err-push_attributes.field-0.0 in
+    let said : IsErrAnd c.from_residual.result (λ x. x ≡ e) = search rules in
+    subst (λ (r : Result (Unit {0}) AtPathError). Sees told holds (λ s. names_at (made_of old) s old.current) old.attributes new r) (sym (is_err c.from_residual.result e said))
+    (subst (λ (m : Stacked). Sees {T = Unit {0}} told holds (λ s. names_at (made_of m) s m.current) m.attributes new (Err e)) c.count_push.ensures c.in_err-push_attributes.ensures.names)
+
+pub returns-in-Err-clause-names : goal.returns-in-Err-clause-names
+returns-in-Err-clause-names g c =
+    let told = g.W.Worktree.told c.args.worktree.now in
+    let holds = g.F.Find.holds c.args.objects.now in
+    let old : Stacked = c.args.self.now in
+    let after : Stacked = c.push_attributes.new.self in
+    let d : List ℕ = spelled old.current in
+    let setup : Option AttributesSetup = attributes_setup_of old.attributes in
+    let setup_is : attributes_setup_of after.attributes ≡ setup = c.push_attributes.ensures.setup ∙ ap (λ (m : Stacked). attributes_setup_of m.attributes) c.count_push.ensures in
+    let many : IsLonger (count_at setup d) (lists_of old.attributes) (lists_of after.attributes) =
+    subst (λ (m : Stacked). IsLonger (count_at (attributes_setup_of m.attributes) (spelled m.current)) (lists_of m.attributes) (lists_of after.attributes)) c.count_push.ensures c.in_ok-push_attributes.ensures.many in
+    let held : attributes_of c.self.inside.state ≡ after.attributes = search rules in
+    let dir_is : c.current_relative-directory.result.now ≡ d = search rules in
+    let popped : attributes_of c.pop_attributes.new.self ≡ pop_lists d after.attributes =
+    c.pop_attributes.ensures.attributes ∙ ap (λ (x : List ℕ). pop_lists x (attributes_of c.self.inside.state)) dir_is ∙ ap (pop_lists d) held in
+    sees-undone told holds _ old.attributes after.attributes (attributes_of c.pop_attributes.new.self) c.in-Err.refused
+    (sees-before told holds _ old.attributes after.attributes c.in-Err.refused
+    (subst (λ (m : Stacked). Sees {T = Unit {0}} told holds (λ s. names_at (made_of m) s m.current) m.attributes after.attributes (Ok tt)) c.count_push.ensures c.in_ok-push_attributes.ensures.names))
+    (ap names_of popped ∙ names-popped d after.attributes)
+    (ap lists_of popped ∙ all-dropped after.attributes setup d (lists_of old.attributes) (lists_of after.attributes) setup_is refl many)
+
+pub returns-clause-names : goal.returns-clause-names
+returns-clause-names g c =
+    let told = g.W.Worktree.told c.args.worktree.now in
+    let holds = g.F.Find.holds c.args.objects.now in
+    let old : Stacked = c.args.self.now in
+    let after : Stacked = c.push_attributes.new.self in
+    let held : c.push_ignore.new.self.attributes ≡ after.attributes = search rules in
+    subst (λ (h : Option HeldAttributes). Sees {T = Unit {0}} told holds (λ s. names_at (made_of old) s old.current) old.attributes h (Ok tt)) (sym held)
+    (subst (λ (m : Stacked). Sees {T = Unit {0}} told holds (λ s. names_at (made_of m) s m.current) m.attributes after.attributes (Ok tt)) c.count_push.ensures c.in_ok-push_attributes.ensures.names)

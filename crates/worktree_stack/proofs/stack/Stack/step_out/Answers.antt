@@ -18,6 +18,7 @@ use Rattle.worktree_stack.specs.Making.{pushed_out, unchanged}
 use Rattle.worktree_stack.specs.Reading.{Sources}
 use Rattle.worktree_fs.specs.declared.answers.MakeAnswer.TheVariants as makes
 use Rattle.worktree_stack.proofs.HeldOut.{adds-step}
+use Rattle.worktree_stack.proofs.SeeingOn.{sees-one}
 use Rattle.worktree_stack.proofs.stack.Stack.step_out.Goals as goal
 
 pub returns-in_err-push_out-clause-goes : goal.returns-in_err-push_out-clause-goes
@@ -56,7 +57,7 @@ returns-clause-goes g c =
     (goes-then W F way (is_link_of a.mode) protects c.push_directory.result
     (goes-pushed W F way (is_link_of a.mode) protects a.objects.now a.self.now mid a.name.now false (Ok tt) pushes)
     (goes-unpushed W F way (is_link_of a.mode) protects (push_directory (spelled mid.current) ∷ []) mid c.push_directory.new.self tt went.leaves went.leaves_store
-    c.push_directory.result went.made (went.carried below) went.stopped went.mkdirs went.is_dir went.answered went.platforms (went.levels below) went.store_untouched
+    c.push_directory.result went.made (went.carried below) went.stopped went.mkdirs went.is_dir went.answered went.platforms (went.levels below) (sees-one (W.told c.push_out.new.worktree) (F.holds a.objects.now) mid c.push_directory.new.self.attributes c.push_directory.result went.names) went.store_untouched
     (omega (arith, went.asked, asked-directory (made_of mid) (spelled mid.current)))))
 
 pub returns-in_err-push_out-clause-keeps : goal.returns-in_err-push_out-clause-keeps

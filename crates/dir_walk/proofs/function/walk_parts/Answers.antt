@@ -17,7 +17,7 @@ use Rattle.dir_walk.proofs.FeedsSo.{feeds-broken, feeds-done, feeds-nothing, fee
 use Rattle.dir_walk.proofs.Overall.{enters-walk, opens-whole, refused-most}
 use Rattle.dir_walk.proofs.Unstarted.{no-start-weaker}
 use Rattle.dir_walk.proofs.WalksSo.{walks-done, walks-outside, walks-refused}
-use Rattle.dir_walk.proofs.walk.walk_parts.Goals as goal
+use Rattle.dir_walk.proofs.function.walk_parts.Goals as goal
 
 pub returns-in_err-root : goal.returns-in_err-root
 returns-in_err-root g c =
