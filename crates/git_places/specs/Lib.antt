@@ -1,4 +1,5 @@
 pub mod Answers
+pub mod Ceilings
 pub mod Finds
 pub mod Format
 pub mod GitDirectory

@@ -1,6 +1,7 @@
 //! Where git keeps things: the work tree of a directory, its git directory, and what is common to all its work trees.
 #![tactic(auto)]
 
+mod ceilings;
 mod error;
 mod format;
 mod git_directory;
@@ -8,6 +9,7 @@ mod places;
 mod surroundings;
 mod upward;
 
+pub use ceilings::{Ceilings, ceilings_of};
 pub use error::PlacesError;
 pub use format::Version;
 pub use places::{Places, find_places};

@@ -1,4 +1,4 @@
-use Rattle.std.proofs.Common.{rules, ◌≡◌, [], true, false, Ok, Err, ◌⊎◌, inl, inr, Some, List, ℕ, refl, sym, ap, ◌∙◌}
+use Rattle.std.proofs.Common.{rules, ◌≡◌, Ok, Err, inl, Some, List, ℕ, refl, sym, ap, ◌∙◌}
 use Rattle.worktree_fs.specs.Tree.{Names}
 use Rattle.git_places.specs.GitDirectory.{git_at}
 use Rattle.git_places.specs.Upward.{top, absolute, is_ceiling, top_in, here_or}
