@@ -1,5 +1,5 @@
 -- The work tree that is found is the nearest one.
-use Rattle.std.proofs.Common.{◌≡◌, ℕ, Bool, true, false, List, [], ◌∷◌, ◌++◌, ◌⊎◌, inl, inr, if◌then◌else◌, Option, Some, None, Result, Ok, Err, refl, sym, ap, ◌∙◌}
+use Rattle.std.proofs.Common.{◌≡◌, ℕ, Bool, true, false, List, [], ◌∷◌, ◌++◌, if◌then◌else◌, Option, Some, None, Result, Ok, Err, refl, sym, ap, ◌∙◌}
 use Rattle.gitbase_core.specs.Path.{path_of}
 use Rattle.worktree_fs.specs.Tree.{Names}
 use Rattle.git_places.specs.GitDirectory.{git_at}

@@ -1,7 +1,7 @@
 -- The components of a directory and its path, on the way upward.
-use Rattle.std.proofs.Common.{◌≡◌, ℕ, Bool, true, false, List, [], ◌∷◌, ◌++◌, ◌⊎◌, inl, inr, reverse, if◌then◌else◌, Option, Some, None, Result, Ok, Err, refl, sym, ap, subst, ◌∙◌}
+use Rattle.std.proofs.Common.{◌≡◌, ℕ, Bool, true, false, List, [], ◌∷◌, ◌++◌, inl, inr, reverse, if◌then◌else◌, Option, Some, None, Result, Ok, Err, refl, sym, ap, ◌∙◌}
 use Rattle.std.proofs.lemmas.List.{append-nil, append_assoc, reverse-append, reverse-reverse}
-use Rattle.gitbase_core.specs.Path.{components, joined, path_of, parent}
+use Rattle.gitbase_core.specs.Path.{components, path_of, parent}
 use Rattle.gitbase_core.proofs.Names.{AreNames, AreNames-components}
 use Rattle.std.specs.Prelude.{is_some, unwrap_or}
 use Rattle.git_places.specs.Answers.{Gives}

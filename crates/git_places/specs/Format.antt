@@ -1,5 +1,5 @@
 -- What the configuration of a repository says of its format.
-use Rattle.std.specs.Prelude.{ℕ, Bool, true, false, not, ◌||◌, ◌&&◌, codes, bytes_eq, find, List, [], ◌∷◌, ◌++◌, Option, Some, None, option_map, Result, Ok, Err, if◌then◌else◌}
+use Rattle.std.specs.Prelude.{ℕ, Bool, true, false, not, ◌||◌, ◌&&◌, codes, bytes_eq, find, List, [], ◌∷◌, Option, Some, None, option_map, Result, Ok, Err, if◌then◌else◌}
 use Rattle.git_config_lite.specs.declared.entry.Entry.{Entry}
 use Rattle.gitbase_core.specs.Text.{eq_ignore_case}
 use Rattle.git_config_lite.specs.Lookups.{boolean, sections_named, string, text_of}

@@ -1,5 +1,5 @@
 -- What stands at `.git` in a directory.
-use Rattle.std.specs.Prelude.{ℕ, Bool, true, List, [], codes, Option, Some, None, Result, Ok, Err, if◌then◌else◌, unwrap_or}
+use Rattle.std.specs.Prelude.{ℕ, true, List, [], codes, Option, Some, None, Result, Ok, Err, if◌then◌else◌, unwrap_or}
 use Rattle.gitbase_core.specs.Path.{joined, parent}
 use Rattle.worktree_fs.specs.Changes.{from_directory}
 use Rattle.worktree_fs.specs.Tree.{Names, Look, look}

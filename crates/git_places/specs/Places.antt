@@ -1,6 +1,5 @@
 -- The work tree of a directory and where its repository lies.
 use Rattle.std.specs.Prelude.{ℕ, Bool, true, false, codes, bytes_eq, is_some, unwrap_or, List, [], ◌∷◌, Option, Some, None, Result, Ok, Err, if◌then◌else◌}
-use Rattle.gitbase_core.specs.Path.{joined}
 use Rattle.git_config_lite.specs.declared.metadata.Metadata.{Metadata}
 use Rattle.git_config_lite.specs.declared.metadata.Source.TheVariants as sources
 use Rattle.git_config_lite.specs.Grammar.{said}
@@ -8,7 +7,7 @@ use Rattle.git_config_lite.specs.Lookups.{string}
 use Rattle.git_config_lite.specs.Sections.{Section, Configuration}
 use Rattle.git_config_lite.specs.Writers.{appended}
 use Rattle.worktree_fs.specs.Changes.{from_directory, real_path}
-use Rattle.worktree_fs.specs.Repository.{common_of, file_at}
+use Rattle.worktree_fs.specs.Repository.{common_of, file_at, is_directory_at}
 use Rattle.worktree_fs.specs.Tree.{Names, is_empty, look}
 use Rattle.git_places.specs.Format.{readable_in, truth_of, version_in}
 use Rattle.git_places.specs.GitDirectory.{dot_git}
@@ -58,7 +57,7 @@ abbrev pub asked_of : Names → List ℕ → Configuration → Bool → Result C
 asked_of t git config true = and_then (λ more. Ok (appended config more)) (config_at t (own_config git))
 asked_of t git config false = Ok (if is_shared t git then configuration git [] else config)
 
--- the work tree at a path that the configuration names
+-- the work tree at a path that the configuration names: a directory
 abbrev pub work_tree_at : List ℕ → Option (List ℕ) → Result (List ℕ) PlacesError
 work_tree_at path None = Err (errors.NoWorkTree path)
 work_tree_at path (Some real) = Ok real
@@ -66,7 +65,9 @@ work_tree_at path (Some real) = Ok real
 abbrev pub work_tree_from : Names → List ℕ → List ℕ → Result (List ℕ) PlacesError
 work_tree_from t git path =
     if is_empty path then Err (errors.Value (codes "worktree"))
-    else work_tree_at (from_directory path git) (real_path t (from_directory path git) (47 ∷ []))
+    else if is_directory_at (look t (from_directory path git) true)
+    then work_tree_at (from_directory path git) (real_path t (from_directory path git) (47 ∷ []))
+    else Err (errors.NoWorkTree (from_directory path git))
 
 -- the directory at which the search ended, unless `core.worktree` names another
 abbrev pub work_tree_by : Names → Top → Option (List ℕ) → Result (List ℕ) PlacesError

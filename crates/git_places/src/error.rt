@@ -30,7 +30,7 @@ pub enum PlacesError {
     /// The configuration at `path` has a line outside the grammar of git-config(1).
     #[error("Config")]
     Config { path: PathText, line: usize },
-    /// No work tree is at this path, which `core.worktree` names.
+    /// No directory is at this path, which `core.worktree` names.
     #[error("NoWorkTree")]
     NoWorkTree { path: PathText },
     /// The worktree failed, and counted that.

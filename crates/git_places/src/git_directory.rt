@@ -95,7 +95,7 @@ fn git_of_file<W: Worktree>(
 }
 
 /// Whether a path leads to a directory.
-fn is_directory<W: Worktree>(
+pub fn is_directory<W: Worktree>(
     alloc: Global,
     worktree: &mut W,
     path: &[u8],

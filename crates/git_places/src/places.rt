@@ -8,7 +8,7 @@ ghost use Rattle.git_places.specs.Places as words;
 
 use crate::error::PlacesError;
 use crate::format::{Version, readable_in, truth_of, version_in};
-use crate::git_directory::dot_git;
+use crate::git_directory::{dot_git, is_directory};
 use crate::upward::{Top, find_top};
 use git_config_lite::{File, Metadata, ParseError, Source};
 use gitbase_core::{Bytes, OutOfMemory, PathText};
@@ -159,6 +159,30 @@ fn asked_of<W: Worktree>(
     Ok(config)
 }
 
+/// The refusal of a path that `core.worktree` names.
+fn no_work_tree(alloc: Global, path: &[u8]) -> Result<PlacesError, OutOfMemory>
+    ensures { IfOk result (λ e. e ≡ PlacesError.NoWorkTree path.now) }
+{
+    Ok(PlacesError::NoWorkTree {
+        path: PathText::from_bytes(alloc, path)?,
+    })
+}
+
+/// The work tree at a path, without its links.
+fn work_tree_at<W: Worktree>(
+    alloc: Global,
+    worktree: &mut W,
+    path: &[u8],
+) -> Result<PathText, PlacesError>
+    ensures { Finds W.Worktree worktree.old worktree.new
+        (λ t. words.work_tree_at path.now (real_path t path.now (47 ∷ []))) result }
+{
+    match worktree.real_path(alloc, path, b"/")? {
+        Some(real) => Ok(real),
+        None => Err(no_work_tree(alloc, path)?),
+    }
+}
+
 /// The work tree that `core.worktree` names.
 fn work_tree_from<W: Worktree>(
     alloc: Global,
@@ -175,12 +199,10 @@ fn work_tree_from<W: Worktree>(
         });
     }
     let full = from_directory(alloc, path, git)?;
-    match worktree.real_path(alloc, full.as_bytes(), b"/")? {
-        Some(real) => Ok(real),
-        None => Err(PlacesError::NoWorkTree {
-            path: PathText::from_bytes(alloc, full.as_bytes())?,
-        }),
+    if !is_directory(alloc, worktree, full.as_bytes())? {
+        return Err(no_work_tree(alloc, full.as_bytes())?);
     }
+    work_tree_at(alloc, worktree, full.as_bytes())
 }
 
 /// The directory at which the search ended, unless another is named.
@@ -363,7 +385,7 @@ fn layout_of<W: Worktree>(alloc: Global, worktree: &mut W, top: Top) -> Result<P
 /// - `Version`: the format has a version that is neither 0 nor 1.
 /// - `Extension`, `Sha256`: the format asks for what is not known; `objectFormat` in version 0 is such a key, too.
 /// - `Value`: `extensions.worktreeConfig` or `core.bare` is no boolean, or `core.worktree` is empty.
-/// - `NoWorkTree`: nothing is at the path that `core.worktree` names.
+/// - `NoWorkTree`: no directory is at the path that `core.worktree` names.
 /// - `Fault`: the worktree failed, which it counted. No fault reads as "nothing is there".
 /// - `OutOfMemory` for want of memory.
 ///
