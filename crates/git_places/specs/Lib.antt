@@ -7,3 +7,4 @@ pub mod Places
 pub mod Steps
 pub mod Surroundings
 pub mod Upward
+pub mod Variables

@@ -8,6 +8,7 @@ mod git_directory;
 mod places;
 mod surroundings;
 mod upward;
+mod variables;
 
 pub use ceilings::{Ceilings, ceilings_of};
 pub use error::PlacesError;
@@ -15,3 +16,4 @@ pub use format::Version;
 pub use places::{Places, find_places};
 pub use surroundings::Surroundings;
 pub use upward::{Top, find_top};
+pub use variables::{Variable, surroundings_of};
