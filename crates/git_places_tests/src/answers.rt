@@ -128,6 +128,8 @@ found - /w/r/.git /w/r/.git /w/r/.git^/w/r^-^g /w/r/.git;d /w/r/a/b;f /w/r/.git/
 found - /w/o /w/g /w/g^/w/r^-^d /w/r;g /w/g;f /w/r/.git=gitdir: ../g~;f /w/g/config=[core]~repositoryformatversion=0~worktree=../o~;d /w/o\n\
 found - /w/o /w/g /w/g^/w/r^-^d /w/r;g /w/g;d /w/v/x;l /w/h=v/x;l /w/v/x/g=/w/g;f /w/r/.git=gitdir: ../h/g~;f /w/g/config=[core]~repositoryformatversion=0~worktree=../o~;d /w/o;d /w/v/o\n\
 no-work-tree^/w/r/a^-^g /w/r/.git;d /w/r/a/b;f /w/r/.git/config=[core]~repositoryformatversion=0~worktree=nowhere~\n\
+no-work-tree^/w/r/a^-^g /w/r/.git;d /w/r/a/b;d /w/o;f /w/f=x;f /w/r/.git/config=[core]~repositoryformatversion=0~worktree=../../f/../o~\n\
+no-work-tree^/w/r/a^-^g /w/r/.git;d /w/r/a/b;d /w/o;f /w/r/.git/config=[core]~repositoryformatversion=0~worktree=/w/nowhere/../o~\n\
 no-work-tree^/w/r/a^-^g /w/r/.git;d /w/r/a/b;f /w/r/.git/config=[core]~repositoryformatversion=0~worktree=../../nowhere/x~\n\
 no-work-tree^/w/r/a^-^g /w/r/.git;d /w/r/a/b;f /w/r/.git/config=[core]~repositoryformatversion=0~worktree=/w/nowhere/x~\n\
 no-work-tree^/w/r/a^-^g /w/r/.git;d /w/r/a/b;f /w/r/.git/config=[core]~repositoryformatversion=0~worktree=/w/nowhere~\n\
@@ -163,6 +165,7 @@ version 2^/w/r/a^-^g /w/r/.git;d /w/r/a/b;f /w/r/.git/config=[core]~repositoryfo
 version one^/w/r/a^-^g /w/r/.git;d /w/r/a/b;f /w/r/.git/config=[core]~repositoryformatversion=one~\n\
 version ^/w/r/a^-^g /w/r/.git;d /w/r/a/b;f /w/r/.git/config=[core]~repositoryformatversion=~\n\
 version 2^/w/r/a^-^g /w/r/.git;d /w/r/a/b;f /w/r/.git/config=[core]~RepositoryFormatVersion=2~\n\
+version ^/w/r/a^-^g /w/r/.git;d /w/r/a/b;f /w/r/.git/config=[core]~repositoryformatversion~\n\
 found - /w/r /w/r/.git /w/r/.git^/w/r/a^-^g /w/r/.git;d /w/r/a/b;f /w/r/.git/config=[core \"x\"]~repositoryformatversion=2~\n\
 version 2^/w/r/a^-^g /w/.git;d /w/r/a/b;g /w/r/.git;f /w/r/.git/config=[core]~repositoryformatversion=2~\n\
 found - /w/r /w/r/.git /w/r/.git^/w/r/a^-^g /w/r/.git;d /w/r/a/b;f /w/r/.git/config=[core]~repositoryformatversion=1~[extensions]~noop~\n\
@@ -226,6 +229,7 @@ no-repository^/w/r/a/b^/w/r^g /w/r/.git;d /w/r/a/b\n\
 no-repository^/w/r/a/b^/w/r/^g /w/r/.git;d /w/r/a/b\n\
 no-repository^/w/r/a/b^/w/r//^g /w/r/.git;d /w/r/a/b\n\
 no-repository^/w/r/a/b^/w/r/a/..^g /w/r/.git;d /w/r/a/b\n\
+found - /w/r /w/r/.git /w/r/.git^/w/r/a/b^/w/r/nowhere/..^g /w/r/.git;d /w/r/a/b\n\
 found - /w/r /w/r/.git /w/r/.git^/w/r/a/b^/w^g /w/r/.git;d /w/r/a/b\n\
 found - /w/r /w/r/.git /w/r/.git^/w/r^/w/r^g /w/r/.git;d /w/r/a/b\n\
 no-repository^/w/r/a^/w/r^g /w/r/.git;d /w/r/a/b\n\
@@ -275,6 +279,7 @@ no-repository^/w/r/a/b^/w/r^g /w/r;d /w/r/a/b\n\
 /// - git takes the work tree that `core.worktree` names in a git directory too; here a directory in it is refused as bare
 /// - git reads the format of a bare repository too; here it is refused as bare
 /// - git says that it cannot read the file `commondir`, or what it names; here the `.git` file that leads to it names no git directory
+/// - git takes `..` behind a file for the directory that the file is in; here nothing is behind a file
 /// - git ends a path at a NUL; here no path has one
 pub const DIFFERENCES: &[u8] = b"\
 found - /w/r /w/r/.git /w/r/.git=>found - /w /w/.git /w/.git^/w/r/a/b^-^g /w/.git;d /w/r/a/b;d /w/r/.git/objects;d /w/r/.git/refs;f /w/r/.git/HEAD=ref:refs/heads/x~\n\
@@ -317,5 +322,7 @@ extension x=>bare^/w/b^-^g /w/b;f /w/b/config=[core]~repositoryformatversion=1~[
 config=>bare^/w/b^-^g /w/b;f /w/b/config=[core]~x y~\n\
 common=>git-file^/w/t^-^g /w/m/.git;d /w/t/a;f /w/t/.git=gitdir: /w/m/.git/worktrees/t~;f /w/m/.git/worktrees/t/HEAD=ref: refs/heads/x~;f /w/m/.git/worktrees/t/commondir=;f /w/m/.git/worktrees/t/gitdir=/w/t/.git~;f /w/m/.git/config=[core]~repositoryformatversion=0~\n\
 common=>git-file^/w/t^-^g /w/m/.git;d /w/t/a;f /w/t/.git=gitdir: /w/m/.git/worktrees/t~;f /w/m/.git/worktrees/t/HEAD=ref: refs/heads/x~;f /w/m/.git/worktrees/t/commondir= ../..~;f /w/m/.git/worktrees/t/gitdir=/w/t/.git~;f /w/m/.git/config=[core]~repositoryformatversion=0~\n\
+found - /w/o /w/r/.git /w/r/.git=>no-work-tree^/w/r/a^-^g /w/r/.git;d /w/r/a/b;d /w/o;f /w/f=x;f /w/r/.git/config=[core]~repositoryformatversion=0~worktree=/w/f/../o~\n\
+no-repository=>found - /w/r /w/r/.git /w/r/.git^/w/r/a/b^/w/r/f/..^g /w/r/.git;d /w/r/a/b;f /w/r/f=x\n\
 found - /w/r /w/r/g /w/r/g=>git-file^/w/r^-^g /w/r/g;f /w/r/.git=gitdir: g\x00x~\n\
 ";
