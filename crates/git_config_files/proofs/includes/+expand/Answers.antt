@@ -1,0 +1,18 @@
+use Rattle.std.proofs.Common.{rules, arith, ◌≡◌, ◌-◌, Some, true}
+use Rattle.worktree_fs.specs.Tree.{Names, look}
+use Rattle.git_config_files.specs.Includes.{expanded, text_at}
+use Rattle.git_config_files.proofs.Deeper.{passes, refused, stepped}
+use Rattle.git_config_files.proofs.includes.+expand.Goals as goal
+
+pub expand-returns : goal.expand-returns
+expand-returns g t c = stepped _ _ _ _ _ _ (c.args.levels - 1) _ _ (omega (arith, c.if-levels-eq0.false)) (search rules)
+
+pub expand-returns-in_err-bytes : goal.expand-returns-in_err-bytes
+expand-returns-in_err-bytes g t c =
+    let e = c.in_err-bytes.field-0.0 in
+    let a = c.args in
+    let carry = λ (tree : Names) (told : g.W.Worktree.told a.worktree.now ≡ Some tree).
+    passes e (text_at a.path.now (look tree a.path.now true)) (expanded tree a.known.now a.source a.levels a.path.now)
+    (c.in_err-bytes.ensures.gives tree told) (refused tree a.known.now a.source a.levels a.path.now e)
+    in
+    search rules

@@ -1,0 +1,121 @@
+-- Which conditions of an include hold: git-config(1), "Conditional includes".
+use Rattle.std.specs.Prelude.{ℕ, Bool, true, false, ◌&&◌, ◌||◌, ◌++◌, codes, drop, length, nat_eq, nat_lt, take, bytes_eq, is_some, List, [], ◌∷◌, Option, Some, None, Result, Ok, Err, if◌then◌else◌, unwrap_or}
+use Rattle.std.specs.List.{ends_with}
+use Rattle.gitbase_core.specs.Path.{is_absolute, parent}
+use Rattle.gitbase_core.specs.Text.{eq_ignore_case}
+use Rattle.glob_rules.specs.Glob.{matches}
+use Rattle.glob_rules.specs.Rule.{mode_of}
+use Rattle.glob_rules.specs.declared.Case.{Case}
+use Rattle.glob_rules.specs.declared.Case.TheVariants as cases
+use Rattle.worktree_fs.specs.Changes.{real_path}
+use Rattle.worktree_fs.specs.Repository.{behind_front}
+use Rattle.worktree_fs.specs.Tree.{Names, is_empty}
+use Rattle.git_config_files.specs.declared.error.FilesError.{FilesError}
+use Rattle.git_config_files.specs.declared.error.FilesError.TheVariants as errors
+
+-- by what includes are judged: the git directory without links and as it is spelled, the branch, if there is one, and the home, as it is
+-- spelled and without links
+pub record Known : Type 0 where
+  pub git : List ℕ
+  pub spelled : List ℕ
+  pub branch : Option (List ℕ)
+  pub home : Option (List ℕ)
+  pub real_home : Option (List ℕ)
+
+-- ---- patterns
+
+-- a pattern that ends in a slash means all that lies beneath
+abbrev pub with_stars : List ℕ → List ℕ
+with_stars pattern = if ends_with nat_eq pattern (47 ∷ []) then pattern ++ codes "**" else pattern
+
+-- a pattern that begins with `~/` begins with the home, if there is one
+abbrev pub at_home : Option (List ℕ) → Option (List ℕ) → List ℕ → List ℕ
+at_home None rest pattern = pattern
+at_home (Some home) None pattern = pattern
+at_home (Some home) (Some rest) pattern = home ++ 47 ∷ rest
+
+-- one that is not absolute then may lie anywhere
+abbrev pub anywhere : List ℕ → List ℕ
+anywhere pattern = if is_absolute pattern then pattern else codes "**/" ++ pattern
+
+abbrev pub whole_pattern : Known → List ℕ → List ℕ
+whole_pattern known pattern = with_stars (anywhere (at_home known.real_home (behind_front (codes "~/") pattern) pattern))
+
+abbrev pub matches_path : Case → List ℕ → List ℕ → Bool
+matches_path case pattern text = matches (mode_of case) pattern text
+
+-- ---- `gitdir:` and `gitdir/i:`
+
+-- two texts are equal, with or without regard to the case of letters
+abbrev pub is_same : Case → List ℕ → List ℕ → Bool
+is_same cases.Sensitive a b = bytes_eq a b
+is_same cases.Fold a b = eq_ignore_case a b
+
+-- what a text has behind a front; none where it does not begin so
+abbrev pub behind_same : Case → List ℕ → List ℕ → Option (List ℕ)
+behind_same case front text =
+    if nat_lt (length text) (length front) then None
+    else if is_same case (take (length front) text) front then Some (drop (length front) text) else None
+
+abbrev pub matches_some : Case → List ℕ → Option (List ℕ) → Bool
+matches_some case pattern None = false
+matches_some case pattern (Some text) = matches_path case pattern text
+
+-- a pattern beneath a directory: an empty one, and one that ends in a slash, mean all that lies beneath
+abbrev pub beneath_pattern : List ℕ → List ℕ
+beneath_pattern rest = if is_empty rest || ends_with nat_eq rest (47 ∷ []) then rest ++ codes "**" else rest
+
+-- a pattern that begins with `./` is one beneath the directory of the file, whose path without links this is; the directory itself is no
+-- pattern
+abbrev pub matches_from : Case → List ℕ → List ℕ → List ℕ → Bool
+matches_from case file rest text = matches_some case (beneath_pattern rest) (behind_same case (unwrap_or (parent file) [] ++ 47 ∷ []) text)
+
+-- either spelling of the git directory may match
+abbrev pub either : Known → (List ℕ → Bool) → Bool
+either known test = test known.git || test known.spelled
+
+-- whether what stands behind a `~` is the name of a user
+abbrev pub is_user : Option (List ℕ) → Bool
+is_user None = false
+is_user (Some []) = false
+is_user (Some (b ∷ rest)) = if nat_eq b 47 then false else true
+
+-- whether a path is one that is not expanded here: `~USER` and `%(prefix)/`
+abbrev pub is_unknown_home : List ℕ → Bool
+is_unknown_home path = is_user (behind_front (codes "~") path) || is_some (behind_front (codes "%(prefix)/") path)
+
+-- whether the git directory is where a pattern of the file `from` says
+abbrev pub is_at : Names → Known → List ℕ → Case → Option (List ℕ) → List ℕ → Bool
+is_at t known from case (Some rest) pattern =
+    either known (matches_from case (unwrap_or (real_path t from (47 ∷ [])) from) rest)
+is_at t known from case None pattern = either known (matches_path case (whole_pattern known pattern))
+
+abbrev pub directory_holds : Names → Known → List ℕ → Case → List ℕ → Result Bool FilesError
+directory_holds t known from case pattern =
+    if is_unknown_home pattern then Err (errors.Home from)
+    else Ok (is_at t known from case (behind_front (codes "./") pattern) pattern)
+
+-- ---- `onbranch:`
+
+abbrev pub on_branch : Option (List ℕ) → List ℕ → Bool
+on_branch None pattern = false
+on_branch (Some branch) pattern = matches_path cases.Sensitive (with_stars pattern) branch
+
+-- ---- all of them
+
+-- what is said by what stands behind a mark, or by the rest where the mark does not stand there
+abbrev pub by_mark : Option (List ℕ) → (List ℕ → Result Bool FilesError) → Result Bool FilesError → Result Bool FilesError
+by_mark None said rest = rest
+by_mark (Some text) said rest = said text
+
+-- a condition on the branch; one that asks for the configuration is not read, and one that is not known does not hold
+abbrev pub other_holds : Known → List ℕ → List ℕ → Result Bool FilesError
+other_holds known from condition =
+    by_mark (behind_front (codes "onbranch:") condition) (λ pattern. Ok (on_branch known.branch pattern))
+    (by_mark (behind_front (codes "hasconfig:remote.*.url:") condition) (λ text. Err (errors.Condition from)) (Ok false))
+
+-- whether a condition of the file `from` holds
+abbrev pub holds : Names → Known → List ℕ → List ℕ → Result Bool FilesError
+holds t known from condition =
+    by_mark (behind_front (codes "gitdir:") condition) (directory_holds t known from cases.Sensitive)
+    (by_mark (behind_front (codes "gitdir/i:") condition) (directory_holds t known from cases.Fold) (other_holds known from condition))

@@ -1,0 +1,23 @@
+-- The configurations that git reads, in its order: git-config(1), "FILES".
+use Rattle.std.specs.Prelude.{ℕ, Bool, true, false, codes, List, [], ◌∷◌, ◌++◌, Option, Some, None, Result, Ok, Err, if◌then◌else◌}
+use Rattle.git_config_lite.specs.declared.metadata.Source.{Source}
+use Rattle.git_config_lite.specs.declared.metadata.Source.TheVariants as sources
+use Rattle.git_config_lite.specs.Sections.{Section}
+use Rattle.worktree_fs.specs.Tree.{Names}
+use Rattle.git_config_files.specs.Conditions.{Known}
+use Rattle.git_config_files.specs.Includes.{expanded}
+use Rattle.git_config_files.specs.Steps.{and_then}
+use Rattle.git_config_files.specs.declared.error.FilesError.{FilesError}
+
+-- a file of the stack: what it belongs to, and its path
+pub record Configured : Type 0 where
+  pub source : Source
+  pub path : List ℕ
+
+-- what files say one behind another, behind what is done; each follows includes ten deep
+abbrev pub stacked : Names → Known → List Section → List Configured → Result (List Section) FilesError
+stacked t known done [] = Ok done
+stacked t known done (at ∷ files) = and_then (λ more. stacked t known (done ++ more) files) (expanded t known at.source 10 at.path)
+
+abbrev pub stack_in : Names → Known → List Configured → Result (List Section) FilesError
+stack_in t known files = stacked t known [] files

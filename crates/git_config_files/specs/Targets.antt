@@ -1,0 +1,53 @@
+-- Which file a key includes.
+use Rattle.std.specs.Prelude.{ℕ, Bool, true, false, ◌&&◌, ◌++◌, codes, bytes_eq, List, [], ◌∷◌, Option, Some, None, Result, Ok, Err, if◌then◌else◌, unwrap_or}
+use Rattle.gitbase_core.specs.Path.{parent}
+use Rattle.gitbase_core.specs.Text.{eq_ignore_case}
+use Rattle.git_config_lite.specs.declared.entry.Entry.{Entry}
+use Rattle.git_config_lite.specs.Sections.{Section}
+use Rattle.worktree_fs.specs.Changes.{from_directory}
+use Rattle.worktree_fs.specs.Repository.{behind_front}
+use Rattle.worktree_fs.specs.Tree.{Names}
+use Rattle.git_config_files.specs.Conditions.{Known, is_unknown_home, holds}
+use Rattle.git_config_files.specs.Steps.{and_then}
+use Rattle.git_config_files.specs.declared.error.FilesError.{FilesError}
+use Rattle.git_config_files.specs.declared.error.FilesError.TheVariants as errors
+
+-- a path that begins with `~/`, with the home before it
+abbrev pub from_home : List ℕ → Option (List ℕ) → List ℕ → Result (List ℕ) FilesError
+from_home from None rest = Err (errors.Home from)
+from_home from (Some home) rest = Ok (home ++ 47 ∷ rest)
+
+abbrev pub by_home : Known → List ℕ → List ℕ → Option (List ℕ) → Result (List ℕ) FilesError
+by_home known from path None = Ok path
+by_home known from path (Some rest) = from_home from known.home rest
+
+-- a path that the file `from` has as a value, with the home in the place of `~/`
+abbrev pub expanded_path : Known → List ℕ → List ℕ → Result (List ℕ) FilesError
+expanded_path known from path =
+    if is_unknown_home path then Err (errors.Home from) else by_home known from path (behind_front (codes "~/") path)
+
+-- taken from the directory of the file, where it is relative
+abbrev pub beside : List ℕ → List ℕ → List ℕ
+beside from path = from_directory path (unwrap_or (parent from) [])
+
+-- the file that a value names; a key without a value names none, and is refused
+abbrev pub named : Known → List ℕ → Option (List ℕ) → Result (Option (List ℕ)) FilesError
+named known from None = Err (errors.Include from)
+named known from (Some text) = and_then (λ path. Ok (Some (beside from path))) (expanded_path known from text)
+
+abbrev pub if_holds : Known → List ℕ → Entry → Bool → Result (Option (List ℕ)) FilesError
+if_holds known from e does = if does then named known from e.value else Ok None
+
+abbrev pub if_condition : Names → Known → List ℕ → List ℕ → Entry → Result (Option (List ℕ)) FilesError
+if_condition t known from condition e = and_then (if_holds known from e) (holds t known from condition)
+
+-- the file that a key `path` includes, by the name and the subsection of its section
+abbrev pub of_section : Names → Known → List ℕ → List ℕ → Option (List ℕ) → Entry → Result (Option (List ℕ)) FilesError
+of_section t known from name None e = if eq_ignore_case name (codes "include") then named known from e.value else Ok None
+of_section t known from name (Some condition) e =
+    if eq_ignore_case name (codes "includeif") then if_condition t known from condition e else Ok None
+
+-- the file that a key of a section of the file `from` includes, if it includes one
+abbrev pub target : Names → Known → List ℕ → Section → Entry → Result (Option (List ℕ)) FilesError
+target t known from section e =
+    if eq_ignore_case e.key (codes "path") then of_section t known from section.name section.subsection e else Ok None

@@ -1,0 +1,55 @@
+//! Why the configurations of a repository are not read.
+use gitbase_core::{OutOfMemory, PathText};
+use thiserror::Error;
+use worktree_fs::ReadError;
+
+/// Why the configurations are not read. `path` is the file in which the fault is.
+#[derive(Debug, Drop, PartialEq, Eq, Error)]
+pub enum FilesError {
+    /// A line of the file is outside the grammar of git-config(1).
+    #[error("Config")]
+    Config { path: PathText, line: usize },
+    /// A `path` of an include in the file has no value, or what it names is there and is no file.
+    #[error("Include")]
+    Include { path: PathText },
+    /// A path in the file begins with `~/`, and there is no home; or with `~USER` or `%(prefix)/`, which are not expanded.
+    #[error("Home")]
+    Home { path: PathText },
+    /// The file has an include with the condition `hasconfig:remote.*.url:`, which is not read.
+    #[error("Condition")]
+    Condition { path: PathText },
+    /// The file is included behind ten others.
+    #[error("Depth")]
+    Depth { path: PathText },
+    /// The worktree failed, and counted that.
+    #[error("Fault")]
+    Fault,
+    /// Want of memory.
+    #[error("OutOfMemory")]
+    OutOfMemory,
+}
+
+impl From<OutOfMemory> for FilesError {
+    ghost use Rattle.std.specs.Prelude.{◌≡◌};
+    ghost use Rattle.git_config_files.specs.declared.error.FilesError.TheVariants as errors;
+
+    ghost from_gives = { λ _ e. e ≡ errors.OutOfMemory };
+
+    fn from(_refused: OutOfMemory) -> FilesError {
+        FilesError::OutOfMemory
+    }
+}
+
+impl From<ReadError> for FilesError {
+    ghost use Rattle.std.specs.Prelude.{◌≡◌};
+    ghost use Rattle.git_config_files.specs.Answers.{of_read};
+
+    ghost from_gives = { λ refused e. e ≡ of_read refused };
+
+    fn from(refused: ReadError) -> FilesError {
+        match refused {
+            ReadError::Fault => FilesError::Fault,
+            ReadError::OutOfMemory => FilesError::OutOfMemory,
+        }
+    }
+}

@@ -1,0 +1,127 @@
+//! Which file a key includes.
+ghost use Rattle.std.specs.Prelude.{◌≡◌, ◌&&◌, codes, Ok, IfOk, option_copied};
+ghost use Rattle.git_config_files.specs.Answers.{Decides};
+ghost use Rattle.git_config_files.specs.Finds.{Finds};
+ghost use Rattle.git_config_files.specs.Targets as words;
+
+use crate::conditions::{behind, bytes_of, holds, is_unknown_home, joined};
+use crate::error::FilesError;
+use crate::known::Known;
+use git_config_lite::{Entry, Section};
+use gitbase_core::{Bytes, OutOfMemory, PathText, eq_ignore_case};
+use std::alloc::Global;
+use worktree_fs::{Worktree, beside};
+
+/// The refusal of a path that has a home which is not known.
+fn home_error(alloc: Global, from: &[u8]) -> Result<FilesError, OutOfMemory>
+    ensures { IfOk result (λ e. e ≡ FilesError.Home from.now) }
+{
+    Ok(FilesError::Home {
+        path: PathText::from_bytes(alloc, from)?,
+    })
+}
+
+/// A path that the file `from` has as a value, with the home in the place of `~/`.
+pub fn expanded_path(
+    alloc: Global,
+    known: &Known,
+    from: &[u8],
+    path: &[u8],
+) -> Result<Bytes, FilesError>
+    ensures { Decides result (words.expanded_path known.now from.now path.now) }
+{
+    if is_unknown_home(path) {
+        return Err(home_error(alloc, from)?);
+    }
+    let Some(rest) = behind(path, b"~/".as_slice()) else {
+        return Ok(Bytes::from_slice(alloc, path)?);
+    };
+    match bytes_of(&known.home) {
+        Some(home) => Ok(joined(alloc, home, rest)?),
+        None => Err(home_error(alloc, from)?),
+    }
+}
+
+/// The file that a value names.
+fn named(
+    alloc: Global,
+    known: &Known,
+    from: &[u8],
+    value: &Option<Bytes>,
+) -> Result<Option<Bytes>, FilesError>
+    ensures { Decides result (words.named known.now from.now value.now) }
+{
+    match value {
+        Some(text) => {
+            let path = expanded_path(alloc, known, from, text.as_bytes())?;
+            Ok(Some(beside(alloc, path.as_bytes(), from)?))
+        }
+        None => Err(FilesError::Include {
+            path: PathText::from_bytes(alloc, from)?,
+        }),
+    }
+}
+
+/// The file that a key `path` of a section with a condition includes.
+fn if_holds<W: Worktree>(
+    alloc: Global,
+    worktree: &mut W,
+    known: &Known,
+    from: &[u8],
+    condition: &[u8],
+    entry: &Entry,
+) -> Result<Option<Bytes>, FilesError>
+    ensures { Finds W.Worktree worktree.old worktree.new
+        (λ t. words.if_condition t known.now from.now condition.now entry.now) result }
+{
+    if !holds(alloc, worktree, known, from, condition)? {
+        return Ok(None);
+    }
+    named(alloc, known, from, &entry.value)
+}
+
+/// The file that a key `path` of a section includes.
+fn of_section<W: Worktree>(
+    alloc: Global,
+    worktree: &mut W,
+    known: &Known,
+    from: &[u8],
+    section: &Section,
+    entry: &Entry,
+) -> Result<Option<Bytes>, FilesError>
+    ensures { Finds W.Worktree worktree.old worktree.new (λ t. words.of_section t known.now from.now
+        section.now.name section.now.subsection entry.now) result }
+{
+    match section.subsection_name() {
+        None => {
+            if eq_ignore_case(section.name(), b"include") {
+                return named(alloc, known, from, &entry.value);
+            }
+            Ok(None)
+        }
+        Some(condition) => {
+            if eq_ignore_case(section.name(), b"includeif") {
+                return if_holds(alloc, worktree, known, from, condition, entry);
+            }
+            Ok(None)
+        }
+    }
+}
+
+/// The file that a key of a section of the file `from` includes, if it includes one.
+pub fn target<W: Worktree>(
+    alloc: Global,
+    worktree: &mut W,
+    known: &Known,
+    from: &[u8],
+    section: &Section,
+    entry: &Entry,
+) -> Result<Option<Bytes>, FilesError>
+    ensures { Finds W.Worktree worktree.old worktree.new
+        (λ t. words.target t known.now from.now section.now entry.now) result }
+{
+    if !eq_ignore_case(entry.key.as_bytes(), b"path") {
+        return Ok(None);
+    }
+    of_section(alloc, worktree, known, from, section, entry)
+}

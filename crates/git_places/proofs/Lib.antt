@@ -1,0 +1,2 @@
+mod UpwardLemmas
+mod Nearest

@@ -1,0 +1,89 @@
+-- The work tree that is found is the nearest one.
+use Rattle.std.proofs.Common.{◌≡◌, ℕ, Bool, true, false, List, [], ◌∷◌, ◌++◌, if◌then◌else◌, Option, Some, None, Result, Ok, Err, refl, sym, ap, ◌∙◌}
+use Rattle.gitbase_core.specs.Path.{path_of}
+use Rattle.worktree_fs.specs.Tree.{Names}
+use Rattle.git_places.specs.GitDirectory.{git_at}
+use Rattle.git_places.specs.Upward.{Top, top, below, absolute, is_ceiling, here_or, top_from, top_in, ArePassed, IsNearest}
+use Rattle.git_places.specs.declared.error.PlacesError.{PlacesError}
+use Rattle.git_places.specs.declared.error.PlacesError.TheVariants as errors
+
+-- what is found at or above a directory is there, or nothing is there and it is found above
+data Split (directory : List ℕ) (above : Result Top PlacesError) (at : Result (Option (List ℕ)) PlacesError) (found : Top) : Type 0 where
+  here : (git : List ℕ) → at ≡ Ok (Some git) → found ≡ top directory git → Split directory above at found
+  further : at ≡ Ok None → above ≡ Ok found → Split directory above at found
+
+abbrev found_top : Top → Result Top PlacesError
+found_top found = Ok found
+
+ok-is : (x y : Top) → found_top x ≡ found_top y → x ≡ y
+ok-is x y e = cc e
+
+abbrev there : List ℕ → Result (Option (List ℕ)) PlacesError
+there git = Ok (Some git)
+
+split : (directory : List ℕ) (above : Result Top PlacesError) (at : Result (Option (List ℕ)) PlacesError) (found : Top)
+    → here_or directory above at ≡ Ok found → Split directory above at found
+split directory above (Ok (Some git)) found e = here git refl (sym (ok-is _ _ e))
+split directory above (Ok None) found e = further refl e
+split directory above (Err e) found is = absurd (cc is)
+
+-- the nearest one, by the components of the directory
+record NearestOf (ceilings : List (List ℕ)) (t : Names) (start : List (List ℕ)) (found : Top) : Type 0 where
+  passed : List (List ℕ)
+  rest : List (List ℕ)
+  way : passed ++ rest ≡ start
+  is_here : found.directory ≡ absolute (path_of rest)
+  git : git_at t found.directory ≡ Ok (Some found.git)
+  without : ArePassed ceilings t passed rest
+
+at_hand : (ceilings : List (List ℕ)) (t : Names) (rest : List (List ℕ)) (git : List ℕ) (found : Top)
+    → git_at t (absolute (path_of rest)) ≡ Ok (Some git) → found ≡ top (absolute (path_of rest)) git → NearestOf ceilings t rest found
+at_hand ceilings t rest git found at is =
+    record {
+      passed = [];
+      rest = rest;
+      way = refl;
+      is_here = ap (λ (f : Top). f.directory) is;
+      git = ap (λ (f : Top). git_at t f.directory) is ∙ at ∙ ap (λ (f : Top). there f.git) (sym is);
+      without = record {};
+    }
+
+nearest_of : (ceilings : List (List ℕ)) (t : Names) (start : List (List ℕ)) (found : Top) → top_from ceilings t start ≡ Ok found → NearestOf ceilings t start found
+unfolding top_from
+nearest_of ceilings t [] found e = go (split _ _ _ found e)
+  where
+    go : Split (absolute []) (Err errors.NoRepository) (git_at t (absolute [])) found → NearestOf ceilings t [] found
+    go (here git at is) = at_hand ceilings t [] git found at is
+    go (further at above) = absurd (cc above)
+nearest_of ceilings t (name ∷ below) found e = go (λ up. nearest_of ceilings t below found up) (split _ _ _ found e)
+  where
+    further_on : NearestOf ceilings t below found → git_at t (absolute (path_of (name ∷ below))) ≡ Ok None → is_ceiling ceilings (path_of below) ≡ false → NearestOf ceilings t (name ∷ below) found
+    further_on up at clear =
+        record {
+          passed = name ∷ up.passed;
+          rest = up.rest;
+          way = ap (λ (l : List (List ℕ)). name ∷ l) up.way;
+          is_here = up.is_here;
+          git = up.git;
+          without = (
+            ap (λ (l : List (List ℕ)). git_at t (absolute (path_of (name ∷ l)))) up.way ∙ at,
+            ap (λ (l : List (List ℕ)). is_ceiling ceilings (path_of l)) up.way ∙ clear,
+            up.without,
+          );
+        }
+
+    by_ceiling : (b : Bool) → is_ceiling ceilings (path_of below) ≡ b → (top_from ceilings t below ≡ Ok found → NearestOf ceilings t below found)
+        → git_at t (absolute (path_of (name ∷ below))) ≡ Ok None → (if b then Err errors.NoRepository else top_from ceilings t below) ≡ Ok found → NearestOf ceilings t (name ∷ below) found
+    by_ceiling true is hyp at above = absurd (cc above)
+    by_ceiling false is hyp at above = further_on (hyp above) at is
+
+    go : (top_from ceilings t below ≡ Ok found → NearestOf ceilings t below found)
+        → Split (absolute (path_of (name ∷ below))) (if is_ceiling ceilings (path_of below) then Err errors.NoRepository else top_from ceilings t below) (git_at t (absolute (path_of (name ∷ below)))) found
+        → NearestOf ceilings t (name ∷ below) found
+    go hyp (here git at is) = at_hand ceilings t (name ∷ below) git found at is
+    go hyp (further at above) = by_ceiling (is_ceiling ceilings (path_of below)) refl hyp at above
+
+pub nearest : (ceilings : List (List ℕ)) (t : Names) (current : List ℕ) (found : Top) → top_in ceilings t current ≡ Ok found → IsNearest ceilings t current found
+nearest ceilings t current found e =
+    let of = nearest_of ceilings t (below current) found e in
+    record { passed = of.passed; rest = of.rest; way = of.way; here = of.is_here; git = of.git; without = of.without }

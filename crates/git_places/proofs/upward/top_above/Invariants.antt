@@ -1,0 +1,18 @@
+use Rattle.std.proofs.Common.{◌≡◌, Some, length}
+use Rattle.worktree_fs.specs.Kept.{Asks}
+use Rattle.worktree_fs.specs.Tree.{Names}
+use Rattle.git_places.specs.Upward.{top_in}
+use Rattle.git_places.proofs.UpwardLemmas.{IsSpelled}
+use Rattle.git_places.proofs.upward.top_above.Given as goal
+
+abbrev pub invariant-loop-path : goal.invariant-loop-path
+invariant-loop-path g l =
+    record {
+      spelled : IsSpelled l.path;
+      same : (t : Names) → g.W.Worktree.told l.fn.worktree ≡ Some t → top_in l.ceilings t l.path ≡ top_in l.ceilings t l.fn.current;
+      unfaulted : g.W.Worktree.faults l.worktree ≡ g.W.Worktree.faults l.fn.worktree;
+      keeps : Asks g.W.Worktree l.fn.worktree l.worktree;
+    }
+
+abbrev pub decreases-loop-path : goal.decreases-loop-path
+decreases-loop-path g l = length l.path

@@ -1,0 +1,91 @@
+-- What the configuration of a repository says of its format.
+use Rattle.std.specs.Prelude.{ℕ, Bool, true, false, not, ◌||◌, ◌&&◌, codes, bytes_eq, find, List, [], ◌∷◌, Option, Some, None, option_map, Result, Ok, Err, if◌then◌else◌}
+use Rattle.git_config_lite.specs.declared.entry.Entry.{Entry}
+use Rattle.gitbase_core.specs.Text.{eq_ignore_case}
+use Rattle.git_config_lite.specs.Lookups.{boolean, sections_named, string, text_of}
+use Rattle.git_config_lite.specs.Sections.{Section}
+use Rattle.git_places.specs.declared.error.PlacesError.{PlacesError}
+use Rattle.git_places.specs.declared.error.PlacesError.TheVariants as errors
+use Rattle.git_places.specs.declared.format.Version.{Version}
+use Rattle.git_places.specs.declared.format.Version.TheVariants as versions
+
+-- the version of the format by `core.repositoryFormatVersion`: 0 or 1; none where nothing says so
+abbrev pub version_of : Option (List ℕ) → Result (Option Version) PlacesError
+version_of None = Ok None
+version_of (Some text) =
+    if bytes_eq text (codes "0") then Ok (Some versions.Zero)
+    else if bytes_eq text (codes "1") then Ok (Some versions.One)
+    else Err (errors.Version text)
+
+abbrev pub version_in : List Section → Result (Option Version) PlacesError
+version_in sections = version_of (string (codes "core") None (codes "repositoryformatversion") sections)
+
+-- ---- extensions
+
+-- a key of `[extensions]` by which nothing is read otherwise here: `worktreeConfig` is asked for by itself
+abbrev pub is_harmless : List ℕ → Bool
+is_harmless key =
+    eq_ignore_case key (codes "noop") || (eq_ignore_case key (codes "preciousobjects") || (eq_ignore_case key (codes "partialclone") || eq_ignore_case key (codes "worktreeconfig")))
+
+-- one that only version 1 may have, and that has no say here either: no ref is read
+abbrev pub is_harmless_later : List ℕ → Bool
+is_harmless_later key = eq_ignore_case key (codes "noop-v1") || (eq_ignore_case key (codes "refstorage") || eq_ignore_case key (codes "relativeworktrees"))
+
+abbrev pub is_object_format : List ℕ → Bool
+is_object_format key = eq_ignore_case key (codes "objectformat")
+
+-- a key that may not stand in version 0; any other may, whatever it is
+abbrev pub is_for_later : List ℕ → Bool
+is_for_later key = eq_ignore_case key (codes "noop-v1") || is_object_format key
+
+abbrev pub is_sha1 : Entry → Bool
+is_sha1 e = bytes_eq (text_of e.value) (codes "sha1")
+
+abbrev pub is_sha1_format : Entry → Bool
+is_sha1_format e = is_object_format e.key && is_sha1 e
+
+-- whether a key is known to version 1, with the value that it has
+abbrev pub is_known_later : Entry → Bool
+is_known_later e = is_harmless e.key || (is_harmless_later e.key || is_sha1_format e)
+
+-- whether a key of a section `extensions`, with a subsection or without one, leaves the repository readable
+abbrev pub is_readable : Version → Option (List ℕ) → Entry → Bool
+is_readable versions.Zero (Some subsection) e = true
+is_readable versions.Zero None e = not (is_for_later e.key)
+is_readable versions.One (Some subsection) e = false
+is_readable versions.One None e = is_known_later e
+
+abbrev pub is_sha256 : Version → Entry → Bool
+is_sha256 versions.Zero e = false
+is_sha256 versions.One e = is_object_format e.key && bytes_eq (text_of e.value) (codes "sha256")
+
+-- the refusal of a key: that the ids of the repository are of SHA-256 has a word of its own
+abbrev pub refusal_of : Version → Entry → PlacesError
+refusal_of version e = if is_sha256 version e then errors.Sha256 else errors.Extension e.key
+
+-- the refusal of a section: that of its first key that does not leave the repository readable
+abbrev pub refusal_in : Version → Section → Option PlacesError
+refusal_in version section = option_map (refusal_of version) (find (λ e. not (is_readable version section.subsection e)) section.entries)
+
+abbrev pub first_or : Option PlacesError → Result Bool PlacesError → Result Bool PlacesError
+first_or None rest = rest
+first_or (Some e) rest = Err e
+
+-- whether the sections that are named `extensions` leave the repository readable: the first refusal counts
+abbrev pub readable : Version → List Section → Result Bool PlacesError
+readable version [] = Ok true
+readable version (section ∷ sections) = first_or (refusal_in version section) (readable version sections)
+
+abbrev pub readable_in : Version → List Section → Result Bool PlacesError
+readable_in version sections = readable version (sections_named (Some (codes "extensions")) sections)
+
+-- ---- truths
+
+-- the truth of a key, no where nothing is said; a value that is none is refused
+abbrev pub truth_by : List ℕ → Result (Option Bool) (List ℕ) → Result Bool PlacesError
+truth_by key (Ok None) = Ok false
+truth_by key (Ok (Some b)) = Ok b
+truth_by key (Err text) = Err (errors.Value key)
+
+abbrev pub truth_of : List ℕ → List ℕ → List Section → Result Bool PlacesError
+truth_of section key sections = truth_by key (boolean section None key sections)

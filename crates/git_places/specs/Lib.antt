@@ -1,0 +1,10 @@
+pub mod Answers
+pub mod Ceilings
+pub mod Finds
+pub mod Format
+pub mod GitDirectory
+pub mod Places
+pub mod Steps
+pub mod Surroundings
+pub mod Upward
+pub mod Variables

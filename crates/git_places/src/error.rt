@@ -1,0 +1,67 @@
+//! Why no work tree is found.
+use gitbase_core::{Bytes, OutOfMemory, PathText};
+use thiserror::Error;
+use worktree_fs::ReadError;
+
+/// Why no work tree is found, or why it is not read.
+#[derive(Debug, Drop, PartialEq, Eq, Error)]
+pub enum PlacesError {
+    /// Neither the directory nor one above it, up to a ceiling, is the top of a work tree.
+    #[error("NoRepository")]
+    NoRepository,
+    /// The directory at `path` is a git directory itself, and has no work tree here.
+    #[error("Bare")]
+    Bare { path: PathText },
+    /// The file `.git` at `path` names no git directory.
+    #[error("GitFile")]
+    GitFile { path: PathText },
+    /// `core.repositoryFormatVersion` has this value, which is neither 0 nor 1.
+    #[error("Version")]
+    Version { value: Bytes },
+    /// The repository's format asks for this key of `[extensions]`, which is not known.
+    #[error("Extension")]
+    Extension { key: Bytes },
+    /// The ids of the repository are of SHA-256.
+    #[error("Sha256")]
+    Sha256,
+    /// The value of this key of the repository's configuration cannot be read.
+    #[error("Value")]
+    Value { key: Bytes },
+    /// The configuration at `path` has a line outside the grammar of git-config(1).
+    #[error("Config")]
+    Config { path: PathText, line: usize },
+    /// No directory is at this path, which `core.worktree` names.
+    #[error("NoWorkTree")]
+    NoWorkTree { path: PathText },
+    /// The worktree failed, and counted that.
+    #[error("Fault")]
+    Fault,
+    /// Want of memory.
+    #[error("OutOfMemory")]
+    OutOfMemory,
+}
+
+impl From<OutOfMemory> for PlacesError {
+    ghost use Rattle.std.specs.Prelude.{◌≡◌};
+    ghost use Rattle.git_places.specs.declared.error.PlacesError.TheVariants as errors;
+
+    ghost from_gives = { λ _ e. e ≡ errors.OutOfMemory };
+
+    fn from(_refused: OutOfMemory) -> PlacesError {
+        PlacesError::OutOfMemory
+    }
+}
+
+impl From<ReadError> for PlacesError {
+    ghost use Rattle.std.specs.Prelude.{◌≡◌};
+    ghost use Rattle.git_places.specs.Answers.{of_read};
+
+    ghost from_gives = { λ refused e. e ≡ of_read refused };
+
+    fn from(refused: ReadError) -> PlacesError {
+        match refused {
+            ReadError::Fault => PlacesError::Fault,
+            ReadError::OutOfMemory => PlacesError::OutOfMemory,
+        }
+    }
+}

@@ -1,0 +1,182 @@
+//! What the configuration of a repository says of its format.
+ghost use Rattle.std.specs.Prelude.{◌≡◌, not, find, Ok, IfOk, option_copied, option_map};
+ghost use Rattle.git_places.specs.Answers.{Decides};
+ghost use Rattle.git_places.specs.Format as words;
+ghost use Rattle.git_config_lite.specs.Lookups as lookups;
+
+use crate::error::PlacesError;
+use git_config_lite::{Entry, File, Section};
+use gitbase_core::{Bytes, OutOfMemory, eq_ignore_case};
+use std::alloc::Global;
+
+/// The version of a repository's format.
+#[derive(Clone, Copy, Debug, PartialEq, Eq)]
+pub enum Version {
+    /// The keys of `[extensions]` have no say, but for `worktreeConfig`.
+    Zero,
+    /// Each key of `[extensions]` has to be known.
+    One,
+}
+
+/// The version that a text says, if there is one.
+fn version_of(alloc: Global, text: Option<&[u8]>) -> Result<Option<Version>, PlacesError>
+    ensures { Decides result (words.version_of (option_copied text.entry)) }
+{
+    match text {
+        None => Ok(None),
+        Some(b"0") => Ok(Some(Version::Zero)),
+        Some(b"1") => Ok(Some(Version::One)),
+        Some(text) => Err(PlacesError::Version {
+            value: Bytes::from_slice(alloc, text)?,
+        }),
+    }
+}
+
+/// The version of a repository's format, by `core.repositoryFormatVersion`; none where nothing says so.
+pub fn version_in(alloc: Global, config: &File) -> Result<Option<Version>, PlacesError>
+    ensures { Decides result (words.version_in config.now.sections) }
+{
+    version_of(
+        alloc,
+        config.string(b"core", None, b"repositoryformatversion"),
+    )
+}
+
+/// A key of `[extensions]` that has no say here, in either version.
+fn is_harmless(key: &[u8]) -> bool
+    ensures { result ≡ words.is_harmless key.now }
+{
+    eq_ignore_case(key, b"noop")
+        || eq_ignore_case(key, b"preciousobjects")
+        || eq_ignore_case(key, b"partialclone")
+        || eq_ignore_case(key, b"worktreeconfig")
+}
+
+/// A key that has no say here, and that version 1 alone may have.
+fn is_harmless_later(key: &[u8]) -> bool
+    ensures { result ≡ words.is_harmless_later key.now }
+{
+    eq_ignore_case(key, b"noop-v1")
+        || eq_ignore_case(key, b"refstorage")
+        || eq_ignore_case(key, b"relativeworktrees")
+}
+
+fn is_object_format(key: &[u8]) -> bool
+    ensures { result ≡ words.is_object_format key.now }
+{
+    eq_ignore_case(key, b"objectformat")
+}
+
+fn is_for_later(key: &[u8]) -> bool
+    ensures { result ≡ words.is_for_later key.now }
+{
+    eq_ignore_case(key, b"noop-v1") || is_object_format(key)
+}
+
+/// The value of a key, empty where it has none.
+fn value_of(entry: &Entry) -> &[u8]
+    ensures { result.now ≡ lookups.text_of entry.now.value }
+{
+    match &entry.value {
+        Some(value) => value.as_bytes(),
+        None => &[],
+    }
+}
+
+fn is_sha1(entry: &Entry) -> bool
+    ensures { result ≡ words.is_sha1 entry.now }
+{
+    value_of(entry) == b"sha1".as_slice()
+}
+
+fn is_sha1_format(entry: &Entry) -> bool
+    ensures { result ≡ words.is_sha1_format entry.now }
+{
+    is_object_format(entry.key.as_bytes()) && is_sha1(entry)
+}
+
+/// Whether version 1 knows a key, with its value.
+fn is_known_later(entry: &Entry) -> bool
+    ensures { result ≡ words.is_known_later entry.now }
+{
+    is_harmless(entry.key.as_bytes())
+        || is_harmless_later(entry.key.as_bytes())
+        || is_sha1_format(entry)
+}
+
+/// Whether a key of a section `extensions` leaves the repository readable.
+fn is_readable(version: Version, subsection: Option<&[u8]>, entry: &Entry) -> bool
+    ensures { result ≡ words.is_readable version (option_copied subsection.entry) entry.now }
+{
+    match (version, subsection) {
+        (Version::Zero, Some(_)) => true,
+        (Version::Zero, None) => !is_for_later(entry.key.as_bytes()),
+        (Version::One, Some(_)) => false,
+        (Version::One, None) => is_known_later(entry),
+    }
+}
+
+fn is_sha256(version: Version, entry: &Entry) -> bool
+    ensures { result ≡ words.is_sha256 version entry.now }
+{
+    match version {
+        Version::Zero => false,
+        Version::One => {
+            is_object_format(entry.key.as_bytes()) && value_of(entry) == b"sha256".as_slice()
+        }
+    }
+}
+
+/// The refusal of a key.
+fn refusal_of(alloc: Global, version: Version, entry: &Entry) -> Result<PlacesError, OutOfMemory>
+    ensures { IfOk result (λ e. e ≡ words.refusal_of version entry.now) }
+{
+    if is_sha256(version, entry) {
+        return Ok(PlacesError::Sha256);
+    }
+    Ok(PlacesError::Extension {
+        key: Bytes::from_slice(alloc, entry.key.as_bytes())?,
+    })
+}
+
+/// The first key of a section that does not leave the repository readable.
+fn unreadable(version: Version, section: &Section) -> Option<&Entry>
+    ensures { option_copied result
+        ≡ find (λ e. not (words.is_readable version section.now.subsection e)) section.now.entries }
+{
+    let subsection = section.subsection_name();
+    section
+        .entries()
+        .iter()
+        .find(|entry| !is_readable(version, subsection, entry))
+}
+
+/// Whether the sections named `extensions` leave the repository readable; the first key that does not is refused.
+pub fn readable_in(alloc: Global, version: Version, config: &File) -> Result<bool, PlacesError>
+    ensures { Decides result (words.readable_in version config.now.sections) }
+{
+    for section in config.sections_by_name(b"extensions") {
+        if let Some(entry) = unreadable(version, section) {
+            return Err(refusal_of(alloc, version, entry)?);
+        }
+    }
+    Ok(true)
+}
+
+/// What a key says as a boolean, no where it does not stand there.
+pub fn truth_of(
+    alloc: Global,
+    config: &File,
+    section: &[u8],
+    key: &[u8],
+) -> Result<bool, PlacesError>
+    ensures { Decides result (words.truth_of section.now key.now config.now.sections) }
+{
+    match config.boolean(section, None, key) {
+        Ok(None) => Ok(false),
+        Ok(Some(truth)) => Ok(truth),
+        Err(_) => Err(PlacesError::Value {
+            key: Bytes::from_slice(alloc, key)?,
+        }),
+    }
+}

@@ -1,0 +1,155 @@
+//! What stands at `.git` in a directory.
+ghost use Rattle.std.specs.Prelude.{◌≡◌, ◌∷◌, [], true, Some, None, Ok, IfOk, option_map, if◌then◌else◌};
+ghost use Rattle.worktree_fs.specs.Changes.{from_directory};
+ghost use Rattle.worktree_fs.specs.Repository.{file_at, is_directory_at, is_git_below};
+ghost use Rattle.worktree_fs.specs.Tree.{look};
+ghost use Rattle.git_places.specs.Finds.{Finds};
+ghost use Rattle.git_places.specs.GitDirectory as words;
+
+use crate::error::PlacesError;
+use gitbase_core::{Bytes, OutOfMemory, PathText};
+use std::alloc::Global;
+use worktree_fs::{NodeKind, ReadError, Worktree, beside, gitdir_path, is_git_below, read_file};
+
+/// The path of `.git` in a directory.
+pub fn dot_git(alloc: Global, directory: &[u8]) -> Result<PathText, OutOfMemory>
+    ensures { IfOk result (λ path. path ≡ words.dot_git directory.now) }
+{
+    let mut path = PathText::from_bytes(alloc, directory)?;
+    path.push_component(alloc, b".git".as_slice())?;
+    Ok(path)
+}
+
+fn git_file(alloc: Global, path: &[u8]) -> Result<PlacesError, OutOfMemory>
+    ensures { IfOk result (λ e. e ≡ PlacesError.GitFile path.now) }
+{
+    Ok(PlacesError::GitFile {
+        path: PathText::from_bytes(alloc, path)?,
+    })
+}
+
+/// The git directory at a path, if one is there.
+fn git_directory<W: Worktree>(
+    alloc: Global,
+    worktree: &mut W,
+    path: &[u8],
+) -> Result<Option<PathText>, PlacesError>
+    ensures { Finds W.Worktree worktree.old worktree.new
+        (λ t. if is_git_below t path.now then Ok (Some path.now) else Ok None) result }
+{
+    if !is_git_below(alloc, worktree, path)? {
+        return Ok(None);
+    }
+    Ok(Some(PathText::from_bytes(alloc, path)?))
+}
+
+/// The git directory that a file has to name.
+fn named_git<W: Worktree>(
+    alloc: Global,
+    worktree: &mut W,
+    file: &[u8],
+    git: &[u8],
+) -> Result<Option<PathText>, PlacesError>
+    ensures { Finds W.Worktree worktree.old worktree.new
+        (λ t. words.named_git t file.now git.now) result }
+{
+    if !is_git_below(alloc, worktree, git)? {
+        return Err(git_file(alloc, file)?);
+    }
+    Ok(Some(PathText::from_bytes(alloc, git)?))
+}
+
+/// The git directory that the text of a file names.
+fn git_of_text<W: Worktree>(
+    alloc: Global,
+    worktree: &mut W,
+    file: &[u8],
+    text: &[u8],
+) -> Result<Option<PathText>, PlacesError>
+    ensures { Finds W.Worktree worktree.old worktree.new
+        (λ t. words.git_of_file t file.now (Some text.now)) result }
+{
+    match gitdir_path(text) {
+        Some(path) => {
+            let git = beside(alloc, path, file)?;
+            named_git(alloc, worktree, file, git.as_bytes())
+        }
+        None => Err(git_file(alloc, file)?),
+    }
+}
+
+/// The git directory by the file at a path, if there is one.
+fn git_of_file<W: Worktree>(
+    alloc: Global,
+    worktree: &mut W,
+    path: &[u8],
+) -> Result<Option<PathText>, PlacesError>
+    ensures { Finds W.Worktree worktree.old worktree.new
+        (λ t. words.git_of_file t path.now (file_at (look t path.now true))) result }
+{
+    let mut text = Bytes::new(alloc);
+    if !read_file(alloc, worktree, path, &mut text)? {
+        return Ok(None);
+    }
+    git_of_text(alloc, worktree, path, text.as_bytes())
+}
+
+/// Whether a path leads to a directory.
+pub fn is_directory<W: Worktree>(
+    alloc: Global,
+    worktree: &mut W,
+    path: &[u8],
+) -> Result<bool, PlacesError>
+    ensures { Finds W.Worktree worktree.old worktree.new
+        (λ t. Ok (is_directory_at (look t path.now true))) result }
+{
+    let kind = worktree.kind_following(alloc, path)?;
+    Ok(kind == Some(NodeKind::Directory))
+}
+
+/// The git directory by what stands at `.git`.
+fn git_of_look<W: Worktree>(
+    alloc: Global,
+    worktree: &mut W,
+    path: &[u8],
+) -> Result<Option<PathText>, PlacesError>
+    ensures { Finds W.Worktree worktree.old worktree.new
+        (λ t. words.git_of_look t path.now (look t path.now true)) result }
+{
+    if is_directory(alloc, worktree, path)? {
+        return git_directory(alloc, worktree, path);
+    }
+    git_of_file(alloc, worktree, path)
+}
+
+/// The refusal of a directory that is itself a git directory.
+fn refuse_bare<W: Worktree>(
+    alloc: Global,
+    worktree: &mut W,
+    directory: &[u8],
+) -> Result<Option<PathText>, PlacesError>
+    ensures { Finds W.Worktree worktree.old worktree.new
+        (λ t. words.unless_bare t directory.now (Ok None)) result }
+{
+    if is_git_below(alloc, worktree, directory)? {
+        return Err(PlacesError::Bare {
+            path: PathText::from_bytes(alloc, directory)?,
+        });
+    }
+    Ok(None)
+}
+
+/// The git directory of the work tree whose top a directory is, if it is one.
+pub fn git_at<W: Worktree>(
+    alloc: Global,
+    worktree: &mut W,
+    directory: &[u8],
+) -> Result<Option<PathText>, PlacesError>
+    ensures { Finds W.Worktree worktree.old worktree.new (λ t. words.git_at t directory.now) result }
+{
+    let path = dot_git(alloc, directory)?;
+    if let Some(git) = git_of_look(alloc, worktree, path.as_bytes())? {
+        return Ok(Some(git));
+    }
+    refuse_bare(alloc, worktree, directory)
+}

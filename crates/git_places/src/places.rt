@@ -1,0 +1,404 @@
+//! The work tree of a directory and where its repository lies.
+ghost use Rattle.std.specs.Prelude.{◌≡◌, [], ◌∷◌, true, Ok, Some, IfOk, option_copied, unwrap_or};
+ghost use Rattle.worktree_fs.specs.Changes.{real_path};
+ghost use Rattle.git_places.specs.Answers.{Decides};
+ghost use Rattle.git_places.specs.Finds.{Finds};
+ghost use Rattle.git_config_lite.specs.Writers.{appended};
+ghost use Rattle.git_places.specs.Places as words;
+
+use crate::error::PlacesError;
+use crate::format::{Version, readable_in, truth_of, version_in};
+use crate::git_directory::{dot_git, is_directory};
+use crate::upward::{Top, find_top};
+use git_config_lite::{File, Metadata, ParseError, Source};
+use gitbase_core::{Bytes, OutOfMemory, PathText};
+use std::alloc::Global;
+use std::marker::Model;
+use worktree_fs::{Worktree, common_of, from_directory, read_file};
+
+/// Where a work tree and its repository lie; absolute paths. Contracts see a record of them.
+#[derive(Debug, Drop)]
+pub struct Places {
+    /// The top of the work tree: the directory that has the `.git`, or what `core.worktree` names, without links.
+    pub root: PathText,
+    /// The git directory of this work tree, as it is spelled; its `index` is there.
+    pub git_dir: PathText,
+    /// What all work trees of the repository share, as it is spelled: its `config`, `info/exclude`, objects and refs.
+    pub common_dir: PathText,
+    /// By what the repository is told from others: the path, without links, of `.git` in the root, a directory or a file; where
+    /// `core.worktree` names another root, of the git directory.
+    pub own_git: PathText,
+    /// Whether this work tree has a configuration of its own, `config.worktree` of the git directory, behind that of the common
+    /// directory: where `extensions.worktreeConfig` says so, and the format has a version.
+    pub has_own_config: bool,
+}
+
+impl Model for Places {
+    ghost use Rattle.git_places.specs.Places as words;
+
+    ghost Value = { words.Layout };
+
+    ghost view = { λ places. record { root = places.root; git = places.git_dir; common = places.common_dir; own = places.own_git; has_own_config = places.has_own_config } };
+}
+
+/// What is said of a configuration of the repository at a path.
+fn local_at(alloc: Global, path: &[u8]) -> Result<Metadata, OutOfMemory>
+    ensures { IfOk result (λ meta. meta ≡ words.local_at path.now) }
+{
+    Ok(Metadata {
+        source: Source::Local,
+        path: Some(PathText::from_bytes(alloc, path)?),
+    })
+}
+
+/// A configuration without sections.
+fn empty_config(alloc: Global, path: &[u8]) -> Result<File, OutOfMemory>
+    ensures { IfOk result (λ file. file ≡ words.configuration path.now []) }
+{
+    let meta = local_at(alloc, path)?;
+    Ok(File::new(alloc, meta))
+}
+
+/// The refusal of a configuration by its line.
+fn config_error(alloc: Global, path: &[u8], line: usize) -> Result<PlacesError, OutOfMemory>
+    ensures { IfOk result (λ e. e ≡ PlacesError.Config path.now line) }
+{
+    Ok(PlacesError::Config {
+        path: PathText::from_bytes(alloc, path)?,
+        line,
+    })
+}
+
+/// What the bytes of a configuration say.
+fn config_of(alloc: Global, path: &[u8], bytes: &[u8]) -> Result<File, PlacesError>
+    ensures { Decides result (words.config_of path.now (Some bytes.now)) }
+{
+    let meta = local_at(alloc, path)?;
+    match File::from_bytes(alloc, bytes, meta) {
+        Ok(file) => Ok(file),
+        Err(ParseError::Syntax { line }) => Err(config_error(alloc, path, line)?),
+        Err(ParseError::OutOfMemory) => Err(PlacesError::OutOfMemory),
+    }
+}
+
+/// What a configuration of the repository says; one that is not there says nothing.
+fn config_at<W: Worktree>(alloc: Global, worktree: &mut W, path: &[u8]) -> Result<File, PlacesError>
+    ensures { Finds W.Worktree worktree.old worktree.new (λ t. words.config_at t path.now) result }
+{
+    let mut bytes = Bytes::new(alloc);
+    if !read_file(alloc, worktree, path, &mut bytes)? {
+        return Ok(empty_config(alloc, path)?);
+    }
+    config_of(alloc, path, bytes.as_bytes())
+}
+
+/// Whether a git directory says that its common directory is elsewhere.
+fn is_shared<W: Worktree>(alloc: Global, worktree: &mut W, git: &[u8]) -> Result<bool, PlacesError>
+    ensures { Finds W.Worktree worktree.old worktree.new (λ t. Ok (words.is_shared t git.now)) result }
+{
+    let path = from_directory(alloc, b"commondir", git)?;
+    let mut bytes = Bytes::new(alloc);
+    Ok(read_file(alloc, worktree, path.as_bytes(), &mut bytes)?)
+}
+
+/// The configuration of a work tree by itself.
+fn own_config<W: Worktree>(alloc: Global, worktree: &mut W, git: &[u8]) -> Result<File, PlacesError>
+    ensures { Finds W.Worktree worktree.old worktree.new
+        (λ t. words.config_at t (words.own_config git.now)) result }
+{
+    let path = own_config_path(alloc, git)?;
+    config_at(alloc, worktree, path.as_bytes())
+}
+
+fn own_config_path(alloc: Global, git: &[u8]) -> Result<Bytes, OutOfMemory>
+    ensures { IfOk result (λ path. path ≡ words.own_config git.now) }
+{
+    from_directory(alloc, b"config.worktree", git)
+}
+
+/// One configuration behind another.
+fn both(alloc: Global, config: File, more: File) -> Result<File, PlacesError>
+    ensures { Decides result (Ok (appended config more)) }
+{
+    let mut both = config;
+    both.append(alloc, more)?;
+    Ok(both)
+}
+
+/// The shared configuration with that of the work tree behind it.
+fn with_own<W: Worktree>(
+    alloc: Global,
+    worktree: &mut W,
+    git: &[u8],
+    config: File,
+) -> Result<File, PlacesError>
+    ensures { Finds W.Worktree worktree.old worktree.new
+        (λ t. words.asked_of t git.now config true) result }
+{
+    let more = own_config(alloc, worktree, git)?;
+    both(alloc, config, more)
+}
+
+/// Of what `core.bare` and `core.worktree` are asked.
+fn asked_of<W: Worktree>(
+    alloc: Global,
+    worktree: &mut W,
+    git: &[u8],
+    config: File,
+    own: bool,
+) -> Result<File, PlacesError>
+    ensures { Finds W.Worktree worktree.old worktree.new
+        (λ t. words.asked_of t git.now config own) result }
+{
+    if own {
+        return with_own(alloc, worktree, git, config);
+    }
+    if is_shared(alloc, worktree, git)? {
+        return Ok(empty_config(alloc, git)?);
+    }
+    Ok(config)
+}
+
+/// The refusal of a path that `core.worktree` names.
+fn no_work_tree(alloc: Global, path: &[u8]) -> Result<PlacesError, OutOfMemory>
+    ensures { IfOk result (λ e. e ≡ PlacesError.NoWorkTree path.now) }
+{
+    Ok(PlacesError::NoWorkTree {
+        path: PathText::from_bytes(alloc, path)?,
+    })
+}
+
+/// The work tree at a path, without its links.
+fn work_tree_at<W: Worktree>(
+    alloc: Global,
+    worktree: &mut W,
+    path: &[u8],
+) -> Result<PathText, PlacesError>
+    ensures { Finds W.Worktree worktree.old worktree.new
+        (λ t. words.work_tree_at path.now (real_path t path.now (47 ∷ []))) result }
+{
+    match worktree.real_path(alloc, path, b"/")? {
+        Some(real) => Ok(real),
+        None => Err(no_work_tree(alloc, path)?),
+    }
+}
+
+/// The work tree that `core.worktree` names.
+fn work_tree_from<W: Worktree>(
+    alloc: Global,
+    worktree: &mut W,
+    git: &[u8],
+    path: &[u8],
+) -> Result<PathText, PlacesError>
+    ensures { Finds W.Worktree worktree.old worktree.new
+        (λ t. words.work_tree_from t git.now path.now) result }
+{
+    if path.is_empty() {
+        return Err(PlacesError::Value {
+            key: Bytes::from_slice(alloc, b"worktree")?,
+        });
+    }
+    let full = from_directory(alloc, path, git)?;
+    if !is_directory(alloc, worktree, full.as_bytes())? {
+        return Err(no_work_tree(alloc, full.as_bytes())?);
+    }
+    work_tree_at(alloc, worktree, full.as_bytes())
+}
+
+/// The directory at which the search ended, unless another is named.
+fn work_tree_by<W: Worktree>(
+    alloc: Global,
+    worktree: &mut W,
+    top: &Top,
+    path: Option<&[u8]>,
+) -> Result<PathText, PlacesError>
+    ensures { Finds W.Worktree worktree.old worktree.new
+        (λ t. words.work_tree_by t top.now (option_copied path.entry)) result }
+{
+    match path {
+        Some(path) => work_tree_from(alloc, worktree, top.git.as_bytes(), path),
+        None => Ok(PathText::from_bytes(alloc, top.directory.as_bytes())?),
+    }
+}
+
+/// The work tree, by the configurations that are asked for it.
+fn work_tree_asked<W: Worktree>(
+    alloc: Global,
+    worktree: &mut W,
+    top: &Top,
+    asked: &File,
+) -> Result<PathText, PlacesError>
+    ensures { Finds W.Worktree worktree.old worktree.new
+        (λ t. words.work_tree_asked t top.now asked.now) result }
+{
+    if truth_of(alloc, asked, b"core", b"bare")? {
+        return Err(PlacesError::Bare {
+            path: PathText::from_bytes(alloc, top.git.as_bytes())?,
+        });
+    }
+    work_tree_by(
+        alloc,
+        worktree,
+        top,
+        asked.string(b"core", None, b"worktree"),
+    )
+}
+
+/// The work tree, by whether each has a configuration of its own.
+fn work_tree_of<W: Worktree>(
+    alloc: Global,
+    worktree: &mut W,
+    top: &Top,
+    config: File,
+    own: bool,
+) -> Result<PathText, PlacesError>
+    ensures { Finds W.Worktree worktree.old worktree.new
+        (λ t. words.work_tree_of t top.now config own) result }
+{
+    let asked = asked_of(alloc, worktree, top.git.as_bytes(), config, own)?;
+    work_tree_asked(alloc, worktree, top, &asked)
+}
+
+/// Whether each work tree has a configuration of its own, by the version of the format.
+fn has_own_config(
+    alloc: Global,
+    config: &File,
+    version: Option<Version>,
+) -> Result<bool, PlacesError>
+    ensures { Decides result (words.has_own_config config.now.sections version) }
+{
+    match version {
+        Some(version) => {
+            readable_in(alloc, version, config)?;
+            truth_of(alloc, config, b"extensions", b"worktreeconfig")
+        }
+        None => Ok(false),
+    }
+}
+
+/// The root of the work tree, by the version of the format.
+fn root_by<W: Worktree>(
+    alloc: Global,
+    worktree: &mut W,
+    top: &Top,
+    config: File,
+    version: Option<Version>,
+    own: bool,
+) -> Result<PathText, PlacesError>
+    ensures { Finds W.Worktree worktree.old worktree.new
+        (λ t. words.root_by t top.now config version own) result }
+{
+    match version {
+        Some(_) => work_tree_of(alloc, worktree, top, config, own),
+        None => Ok(PathText::from_bytes(alloc, top.directory.as_bytes())?),
+    }
+}
+
+/// The path by which the repository is told from others, with its links.
+fn own_path(alloc: Global, top: &Top, root: &[u8]) -> Result<PathText, OutOfMemory>
+    ensures { IfOk result (λ path. path ≡ words.own_path top.now root.now) }
+{
+    if root == top.directory.as_bytes() {
+        return dot_git(alloc, root);
+    }
+    PathText::from_bytes(alloc, top.git.as_bytes())
+}
+
+/// A path without its links, or as it is where nothing is there.
+fn real_or_same<W: Worktree>(
+    alloc: Global,
+    worktree: &mut W,
+    path: PathText,
+) -> Result<PathText, PlacesError>
+    ensures { Finds W.Worktree worktree.old worktree.new
+        (λ t. Ok (unwrap_or (real_path t path (47 ∷ [])) path)) result }
+{
+    match worktree.real_path(alloc, path.as_bytes(), b"/")? {
+        Some(real) => Ok(real),
+        None => Ok(path),
+    }
+}
+
+/// The places of a repository whose root and common directory are known.
+fn layout<W: Worktree>(
+    alloc: Global,
+    worktree: &mut W,
+    top: Top,
+    common: &[u8],
+    own: bool,
+    root: PathText,
+) -> Result<Places, PlacesError>
+    ensures { Finds W.Worktree worktree.old worktree.new
+        (λ t. Ok (words.layout_with t top common.now own root)) result }
+{
+    let common_dir = PathText::from_bytes(alloc, common)?;
+    let path = own_path(alloc, &top, root.as_bytes())?;
+    let own_git = real_or_same(alloc, worktree, path)?;
+    Ok(Places {
+        root,
+        git_dir: top.git,
+        common_dir,
+        own_git,
+        has_own_config: own,
+    })
+}
+
+/// The places of a repository by what its configuration says.
+fn layout_said<W: Worktree>(
+    alloc: Global,
+    worktree: &mut W,
+    top: Top,
+    common: &[u8],
+    config: File,
+) -> Result<Places, PlacesError>
+    ensures { Finds W.Worktree worktree.old worktree.new
+        (λ t. words.layout_said t top common.now config) result }
+{
+    let version = version_in(alloc, &config)?;
+    let own = has_own_config(alloc, &config, version)?;
+    let root = root_by(alloc, worktree, &top, config, version, own)?;
+    layout(alloc, worktree, top, common, own, root)
+}
+
+/// The places of the repository of a work tree.
+fn layout_of<W: Worktree>(alloc: Global, worktree: &mut W, top: Top) -> Result<Places, PlacesError>
+    ensures { Finds W.Worktree worktree.old worktree.new (λ t. words.layout_of t top) result }
+{
+    let common = common_of(alloc, worktree, top.git.as_bytes())?;
+    let path = from_directory(alloc, b"config", common.as_bytes())?;
+    let config = config_at(alloc, worktree, path.as_bytes())?;
+    layout_said(alloc, worktree, top, common.as_bytes(), config)
+}
+
+/// Where the work tree of the directory `current`, an absolute path without links, and its repository lie, as git(1) finds them.
+///
+/// The nearest work tree upward is taken, as [`find_top`] finds it; `ceilings` are paths without their first slash. The repository's
+/// format is read from its own configuration alone, in which no include is followed: `config` of the common directory, and
+/// `config.worktree` of the git directory behind it where `extensions.worktreeConfig` is set. Where
+/// `core.repositoryFormatVersion` says nothing, that configuration has no say; `core.bare` and `core.worktree` have none where the
+/// git directory shares another one's, and has no configuration of its own.
+///
+/// # Errors
+///
+/// - `NoRepository`, `GitFile`, `Bare`: those of [`find_top`]; `Bare` also where `core.bare` says so.
+/// - `Config`: a line of a configuration is outside its grammar.
+/// - `Version`: the format has a version that is neither 0 nor 1.
+/// - `Extension`, `Sha256`: the format asks for what is not known; `objectFormat` in version 0 is such a key, too.
+/// - `Value`: `extensions.worktreeConfig` or `core.bare` is no boolean, or `core.worktree` is empty.
+/// - `NoWorkTree`: no directory is at the path that `core.worktree` names.
+/// - `Fault`: the worktree failed, which it counted. No fault reads as "nothing is there".
+/// - `OutOfMemory` for want of memory.
+///
+/// See docs/DIFFERENCES.md#repository-format.
+pub fn find_places<W: Worktree>(
+    alloc: Global,
+    worktree: &mut W,
+    current: &[u8],
+    ceilings: &[Bytes],
+) -> Result<Places, PlacesError>
+    ensures { Finds W.Worktree worktree.old worktree.new
+        (λ t. words.layout_in ceilings.now t current.now) result }
+{
+    let top = find_top(alloc, worktree, current, ceilings)?;
+    layout_of(alloc, worktree, top)
+}

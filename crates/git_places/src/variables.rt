@@ -1,0 +1,120 @@
+//! The surroundings, by the variables of the environment.
+ghost use Rattle.std.specs.Prelude.{◌≡◌, codes, IfOk};
+ghost use Rattle.git_places.specs.Variables as words;
+
+use crate::surroundings::Surroundings;
+use gitbase_core::{Bytes, OutOfMemory, PathText};
+use std::alloc::Global;
+use std::marker::Model;
+
+/// A variable of the environment. Contracts see a record of both texts.
+#[derive(Debug, Drop)]
+pub struct Variable {
+    pub name: Bytes,
+    pub value: Bytes,
+}
+
+impl Model for Variable {
+    ghost use Rattle.git_places.specs.Variables as words;
+
+    ghost Value = { words.Variable };
+
+    ghost view = { λ variable. record { name = variable.name; value = variable.value } };
+}
+
+/// A variable that names a place of the repository.
+fn is_place(name: &[u8]) -> bool
+    ensures { result ≡ words.is_place name.now }
+{
+    name == b"GIT_DIR".as_slice()
+        || name == b"GIT_WORK_TREE".as_slice()
+        || name == b"GIT_INDEX_FILE".as_slice()
+        || name == b"GIT_COMMON_DIR".as_slice()
+        || name == b"GIT_OBJECT_DIRECTORY".as_slice()
+}
+
+/// One that says how path specs are read.
+fn is_of_path_specs(name: &[u8]) -> bool
+    ensures { result ≡ words.is_of_path_specs name.now }
+{
+    name == b"GIT_LITERAL_PATHSPECS".as_slice()
+        || name == b"GIT_GLOB_PATHSPECS".as_slice()
+        || name == b"GIT_NOGLOB_PATHSPECS".as_slice()
+        || name == b"GIT_ICASE_PATHSPECS".as_slice()
+}
+
+/// One that has a configuration, or the number of those that others have.
+fn is_configuration(variable: &Variable) -> bool
+    ensures { result ≡ words.is_configuration variable.now }
+{
+    let name = variable.name.as_bytes();
+    name == b"GIT_CONFIG".as_slice()
+        || name == b"GIT_CONFIG_PARAMETERS".as_slice()
+        || name == b"GIT_CONFIG_COUNT".as_slice() && variable.value.as_bytes() != b"0".as_slice()
+}
+
+fn points_elsewhere(variable: &Variable) -> bool
+    ensures { result ≡ words.points_elsewhere variable.now }
+{
+    let name = variable.name.as_bytes();
+    is_place(name) || is_of_path_specs(name) || is_configuration(variable)
+}
+
+/// The value of the first variable of a name.
+fn value_of(
+    alloc: Global,
+    variables: &[Variable],
+    name: &[u8],
+) -> Result<Option<Bytes>, OutOfMemory>
+    ensures { IfOk result (λ value. value ≡ words.value_of name.now variables.now) }
+{
+    match variables
+        .iter()
+        .find(|variable| variable.name.as_bytes() == name)
+    {
+        Some(variable) => Ok(Some(Bytes::from_slice(alloc, variable.value.as_bytes())?)),
+        None => Ok(None),
+    }
+}
+
+/// The name of the first variable that points git elsewhere.
+fn elsewhere(alloc: Global, variables: &[Variable]) -> Result<Option<Bytes>, OutOfMemory>
+    ensures { IfOk result (λ name. name ≡ words.elsewhere variables.now) }
+{
+    match variables.iter().find(|variable| points_elsewhere(variable)) {
+        Some(variable) => Ok(Some(Bytes::from_slice(alloc, variable.name.as_bytes())?)),
+        None => Ok(None),
+    }
+}
+
+/// What git heeds of the variables of the environment, in the directory `current`, an absolute path without links.
+///
+/// Of two variables of one name the first counts. These point git elsewhere: `GIT_DIR`, `GIT_WORK_TREE`, `GIT_INDEX_FILE`,
+/// `GIT_COMMON_DIR`, `GIT_OBJECT_DIRECTORY`, `GIT_CONFIG`, `GIT_CONFIG_PARAMETERS`, `GIT_CONFIG_COUNT` (but `0`), and the four
+/// `GIT_*_PATHSPECS`; see git(1), git-config(1).
+pub fn surroundings_of(
+    alloc: Global,
+    current: &[u8],
+    variables: &[Variable],
+) -> Result<Surroundings, OutOfMemory>
+    ensures { IfOk result (λ around. around ≡ words.surroundings_of current.now variables.now) }
+{
+    let directory = PathText::from_bytes(alloc, current)?;
+    let home = value_of(alloc, variables, b"HOME")?;
+    let config_home = value_of(alloc, variables, b"XDG_CONFIG_HOME")?;
+    let config_global = value_of(alloc, variables, b"GIT_CONFIG_GLOBAL")?;
+    let config_system = value_of(alloc, variables, b"GIT_CONFIG_SYSTEM")?;
+    let no_system = value_of(alloc, variables, b"GIT_CONFIG_NOSYSTEM")?;
+    let ceilings = value_of(alloc, variables, b"GIT_CEILING_DIRECTORIES")?;
+    let elsewhere = elsewhere(alloc, variables)?;
+    Ok(Surroundings {
+        directory,
+        home,
+        config_home,
+        config_global,
+        config_system,
+        no_system,
+        ceilings,
+        elsewhere,
+    })
+}

@@ -1,0 +1,151 @@
+//! Layouts of work trees and repositories, and what git answers in them.
+use crate::answers as git;
+use crate::tree::{parted, tree_of};
+use bstr::ByteSlice;
+use git_places::{Ceilings, Places, PlacesError, ceilings_of, find_places};
+use gitbase_core::PathText;
+use std::alloc::Global;
+use worktree_fs::{MemoryWorktree, Worktree};
+
+/// The same of trees at whose top a repository lies, which were asked of git by hand.
+const TOPS: &[u8] = b"\
+found - / /.git /.git^/w/r^-^g /.git;d /w/r\n\
+found - / /.git /.git^/^-^g /.git\n\
+no-repository^/w/r^/^g /.git;d /w/r\n\
+no-repository^/w/r^:/^g /.git;d /w/r\n\
+no-repository^/w/r^//^g /.git;d /w/r\n\
+found - / /.git /.git^/w/r^://^g /.git;d /w/r\n\
+";
+
+/// Whether a path leads to this one, which has no links.
+fn leads_to(alloc: Global, tree: &mut MemoryWorktree, path: &PathText, want: &[u8]) -> bool {
+    match tree.real_path(alloc, path.as_bytes(), b"/") {
+        Ok(Some(real)) => real.as_bytes() == want,
+        _ => false,
+    }
+}
+
+/// Whether the work tree has a configuration of its own; `-` says that git does not tell.
+fn has_own(has: bool, want: &[u8]) -> bool {
+    match want {
+        b"own" => has,
+        b"shared" => !has,
+        _ => true,
+    }
+}
+
+fn are_places(alloc: Global, tree: &mut MemoryWorktree, found: &Places, want: &[u8]) -> bool {
+    let (own, rest) = parted(want, b' ');
+    let (root, rest) = parted(rest, b' ');
+    let (git_dir, common) = parted_in_two(rest);
+    has_own(found.has_own_config, own)
+        && found.root.as_bytes() == root
+        && leads_to(alloc, tree, &found.git_dir, git_dir)
+        && leads_to(alloc, tree, &found.common_dir, common)
+}
+
+/// Two paths, which may have blanks: the second one begins at the last blank before a slash.
+fn parted_in_two(paths: &[u8]) -> (&[u8], &[u8]) {
+    match paths.rfind(b" /") {
+        Some(at) => {
+            let (before, rest) = paths.split_at(at);
+            (before, rest.get(1..).unwrap_or(b""))
+        }
+        None => (paths, b""),
+    }
+}
+
+fn word_of(error: &PlacesError) -> &'static [u8] {
+    match error {
+        PlacesError::NoRepository => b"no-repository",
+        PlacesError::Bare { .. } => b"bare",
+        PlacesError::GitFile { .. } => b"git-file",
+        PlacesError::Version { .. } => b"version",
+        PlacesError::Extension { .. } => b"extension",
+        PlacesError::Sha256 => b"sha256",
+        PlacesError::Value { .. } => b"value",
+        PlacesError::Config { .. } => b"config",
+        PlacesError::NoWorkTree { .. } => b"no-work-tree",
+        PlacesError::Fault => b"fault",
+        PlacesError::OutOfMemory => b"memory",
+    }
+}
+
+/// What a refusal names, where git names it.
+fn named_by(error: &PlacesError) -> &[u8] {
+    match error {
+        PlacesError::Version { value } => value.as_bytes(),
+        PlacesError::Extension { key } => key.as_bytes(),
+        PlacesError::Value { key } => key.as_bytes(),
+        _ => b"",
+    }
+}
+
+/// Whether a refusal is the one that is wanted; git writes keys in small letters.
+fn is_refused(error: &PlacesError, want: &[u8]) -> bool {
+    let (word, named) = parted(want, b' ');
+    word_of(error) == word && named_by(error).eq_ignore_ascii_case(named)
+}
+
+fn answers(
+    alloc: Global,
+    tree: &mut MemoryWorktree,
+    current: &[u8],
+    ceilings: &Ceilings,
+    want: &[u8],
+) -> bool {
+    match find_places(alloc, tree, current, ceilings.as_slice()) {
+        Ok(found) => match want.strip_prefix(b"found ") {
+            Some(places) => are_places(alloc, tree, &found, places),
+            None => false,
+        },
+        Err(error) => is_refused(&error, want),
+    }
+}
+
+fn ceilings_in(alloc: Global, tree: &mut MemoryWorktree, text: &[u8]) -> Option<Ceilings> {
+    if text == b"-".as_slice() {
+        return Some(Ceilings::new(alloc));
+    }
+    ceilings_of(alloc, tree, text).ok()
+}
+
+/// Whether the answer of a tree is the one that is wanted.
+fn is_answered(alloc: Global, want: &[u8], asked: &[u8]) -> bool {
+    let (current, rest) = parted(asked, b'^');
+    let (text, steps) = parted(rest, b'^');
+    let Some(tree) = tree_of(alloc, steps) else {
+        return false;
+    };
+    let mut tree = tree;
+    match ceilings_in(alloc, &mut tree, text) {
+        Some(ceilings) => answers(alloc, &mut tree, current, &ceilings, want),
+        None => false,
+    }
+}
+
+/// The answer that is wanted: of two that differ, the one of the definitions.
+fn wanted(answer: &[u8]) -> &[u8] {
+    match answer.split_once_str(b"=>") {
+        Some((_, own)) => own,
+        None => answer,
+    }
+}
+
+fn first_lie(alloc: Global, rows: &'static [u8]) -> Option<&'static [u8]> {
+    for row in rows.split(|byte| *byte == b'\n') {
+        let (answer, asked) = parted(row, b'^');
+        if !row.is_empty() && !is_answered(alloc, wanted(answer), asked) {
+            return Some(row);
+        }
+    }
+    None
+}
+
+#[test]
+fn places_are_where_git_finds_them(rt: HostRuntime) {
+    let alloc = rt.alloc();
+    assert_eq!(rt; first_lie(alloc, git::ANSWERS), None);
+    assert_eq!(rt; first_lie(alloc, git::DIFFERENCES), None);
+    assert_eq!(rt; first_lie(alloc, TOPS), None);
+}
