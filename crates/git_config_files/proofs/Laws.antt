@@ -29,3 +29,12 @@ pub after_is : (t : Names) (known : Known) (follow : Follow) (from : List ℕ) (
 unfolding after placed
 after_is t known follow from done [] = ap good (sym (append-nil done))
 after_is t known follow from done (key ∷ keys) = one t known follow from done key keys (behind t known follow from key) (λ now. after_is t known follow from now keys)
+
+-- of a whole file the same
+alike : (r : Result (List Section) FilesError) → and_then (λ (rest : List Section). Ok ([] ++ rest)) r ≡ r
+alike (Err e) = refl
+alike (Ok rest) = refl
+
+pub placed_is : (t : Names) (known : Known) (follow : Follow) (from : List ℕ) (keys : List Section)
+    → after t known follow from [] keys ≡ placed t known follow from keys
+placed_is t known follow from keys = after_is t known follow from [] keys ∙ alike (placed t known follow from keys)

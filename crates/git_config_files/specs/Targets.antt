@@ -12,19 +12,19 @@ use Rattle.git_config_files.specs.Steps.{and_then}
 use Rattle.git_config_files.specs.declared.error.FilesError.{FilesError}
 use Rattle.git_config_files.specs.declared.error.FilesError.TheVariants as errors
 
--- a path that begins with `~/`, with the home before it
+-- a path that begins with a `~`, with the home in its place
 abbrev pub from_home : List ℕ → Option (List ℕ) → List ℕ → Result (List ℕ) FilesError
 from_home from None rest = Err (errors.Home from)
-from_home from (Some home) rest = Ok (home ++ 47 ∷ rest)
+from_home from (Some home) rest = Ok (home ++ rest)
 
 abbrev pub by_home : Known → List ℕ → List ℕ → Option (List ℕ) → Result (List ℕ) FilesError
 by_home known from path None = Ok path
 by_home known from path (Some rest) = from_home from known.home rest
 
--- a path that the file `from` has as a value, with the home in the place of `~/`
+-- a path that the file `from` has as a value, with the home in the place of a `~` at its front
 abbrev pub expanded_path : Known → List ℕ → List ℕ → Result (List ℕ) FilesError
 expanded_path known from path =
-    if is_unknown_home path then Err (errors.Home from) else by_home known from path (behind_front (codes "~/") path)
+    if is_unknown_home path then Err (errors.Home from) else by_home known from path (behind_front (codes "~") path)
 
 -- taken from the directory of the file, where it is relative
 abbrev pub beside : List ℕ → List ℕ → List ℕ

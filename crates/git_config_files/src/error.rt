@@ -9,10 +9,13 @@ pub enum FilesError {
     /// A line of the file is outside the grammar of git-config(1).
     #[error("Config")]
     Config { path: PathText, line: usize },
-    /// A `path` of an include in the file has no value, or what it names is there and is no file.
+    /// A `path` of an include in the file has no value.
     #[error("Include")]
     Include { path: PathText },
-    /// A path in the file begins with `~/`, and there is no home; or with `~USER` or `%(prefix)/`, which are not expanded.
+    /// What stands at this path is no file, or is a link without an end.
+    #[error("NoFile")]
+    NoFile { path: PathText },
+    /// A path in the file begins with `~`, and there is no home; or with `~USER` or `%(prefix)/`, which are not expanded.
     #[error("Home")]
     Home { path: PathText },
     /// The file has an include with the condition `hasconfig:remote.*.url:`, which is not read.

@@ -43,9 +43,9 @@ fn keys_in(alloc: Global, source: Source, path: &[u8], bytes: &[u8]) -> Result<K
 }
 
 fn no_file(alloc: Global, path: &[u8]) -> Result<FilesError, OutOfMemory>
-    ensures { IfOk result (λ e. e ≡ FilesError.Include path.now) }
+    ensures { IfOk result (λ e. e ≡ FilesError.NoFile path.now) }
 {
-    Ok(FilesError::Include {
+    Ok(FilesError::NoFile {
         path: PathText::from_bytes(alloc, path)?,
     })
 }

@@ -2,7 +2,7 @@
 use gitbase_core::{Bytes, PathText};
 use std::marker::Model;
 
-/// By what the conditions of includes are judged, and what stands for `~/`. Contracts see a record of these.
+/// By what the conditions of includes are judged, and what stands for a `~`. Contracts see a record of these.
 #[derive(Debug, Drop)]
 pub struct Known {
     /// The git directory, without links.

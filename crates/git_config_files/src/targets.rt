@@ -21,7 +21,7 @@ fn home_error(alloc: Global, from: &[u8]) -> Result<FilesError, OutOfMemory>
     })
 }
 
-/// A path that the file `from` has as a value, with the home in the place of `~/`.
+/// A path that the file `from` has as a value, with the home in the place of a `~` at its front.
 pub fn expanded_path(
     alloc: Global,
     known: &Known,
@@ -33,7 +33,7 @@ pub fn expanded_path(
     if is_unknown_home(path) {
         return Err(home_error(alloc, from)?);
     }
-    let Some(rest) = behind(path, b"~/".as_slice()) else {
+    let Some(rest) = behind(path, b"~".as_slice()) else {
         return Ok(Bytes::from_slice(alloc, path)?);
     };
     match bytes_of(&known.home) {
