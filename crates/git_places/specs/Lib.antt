@@ -4,4 +4,5 @@ pub mod Format
 pub mod GitDirectory
 pub mod Places
 pub mod Steps
+pub mod Surroundings
 pub mod Upward

@@ -84,17 +84,15 @@ work_tree_asked t top asked = and_then (unless_bare_by t top asked.sections) (tr
 abbrev pub work_tree_of : Names → Top → Configuration → Bool → Result (List ℕ) PlacesError
 work_tree_of t top config own = and_then (work_tree_asked t top) (asked_of t top.git config own)
 
-abbrev pub work_tree_readable : Names → Top → Configuration → Bool → Result (List ℕ) PlacesError
-work_tree_readable t top config readable =
-    and_then (work_tree_of t top config) (truth_of (codes "extensions") (codes "worktreeconfig") config.sections)
+-- whether each work tree has a configuration of its own, by the version of the format: where none is said, the configuration has no say
+abbrev pub has_own_config : List Section → Option Version → Result Bool PlacesError
+has_own_config sections None = Ok false
+has_own_config sections (Some version) =
+    and_then (λ readable. truth_of (codes "extensions") (codes "worktreeconfig") sections) (readable_in version sections)
 
--- by the version of the format: where none is said, the configuration has no say
-abbrev pub work_tree_in : Names → Top → Configuration → Option Version → Result (List ℕ) PlacesError
-work_tree_in t top config None = Ok top.directory
-work_tree_in t top config (Some version) = and_then (work_tree_readable t top config) (readable_in version config.sections)
-
-abbrev pub root_in : Names → Top → Configuration → Result (List ℕ) PlacesError
-root_in t top config = and_then (work_tree_in t top config) (version_in config.sections)
+abbrev pub root_by : Names → Top → Configuration → Option Version → Bool → Result (List ℕ) PlacesError
+root_by t top config None own = Ok top.directory
+root_by t top config (Some version) own = work_tree_of t top config own
 
 -- ---- all of it
 
@@ -103,23 +101,34 @@ pub record Layout : Type 0 where
   pub git : List ℕ  -- the git directory of the work tree
   pub common : List ℕ  -- what all work trees of the repository share
   pub own : List ℕ  -- by what the repository is told from others: what stands at `.git` in the root
+  pub has_own_config : Bool  -- whether `config.worktree` of the git directory is read behind the shared configuration
 
 -- the path by which the repository is told: `.git` in the root, as it stands, and where `core.worktree` names another root the git directory
 abbrev pub own_path : Top → List ℕ → List ℕ
 own_path top root = if bytes_eq root top.directory then dot_git root else top.git
 
-abbrev pub layout_with : Names → Top → List ℕ → List ℕ → Layout
-layout_with t top common root =
+abbrev pub layout_with : Names → Top → List ℕ → Bool → List ℕ → Layout
+layout_with t top common own root =
     record {
       root = root;
       git = top.git;
       common = common;
       own = unwrap_or (real_path t (own_path top root) (47 ∷ [])) (own_path top root);
+      has_own_config = own;
     }
 
+abbrev pub layout_rooted : Names → Top → List ℕ → Configuration → Option Version → Bool → Result Layout PlacesError
+layout_rooted t top common config version own =
+    and_then (λ root. Ok (layout_with t top common own root)) (root_by t top config version own)
+
+abbrev pub layout_by : Names → Top → List ℕ → Configuration → Option Version → Result Layout PlacesError
+layout_by t top common config version = and_then (layout_rooted t top common config version) (has_own_config config.sections version)
+
+abbrev pub layout_said : Names → Top → List ℕ → Configuration → Result Layout PlacesError
+layout_said t top common config = and_then (layout_by t top common config) (version_in config.sections)
+
 abbrev pub layout_of : Names → Top → Result Layout PlacesError
-layout_of t top =
-    and_then (λ root. Ok (layout_with t top (common_of t top.git) root)) (and_then (root_in t top) (config_at t (shared_config (common_of t top.git))))
+layout_of t top = and_then (layout_said t top (common_of t top.git)) (config_at t (shared_config (common_of t top.git)))
 
 abbrev pub layout_in : List (List ℕ) → Names → List ℕ → Result Layout PlacesError
 layout_in ceilings t current = and_then (layout_of t) (top_in ceilings t current)

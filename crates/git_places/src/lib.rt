@@ -5,9 +5,11 @@ mod error;
 mod format;
 mod git_directory;
 mod places;
+mod surroundings;
 mod upward;
 
 pub use error::PlacesError;
 pub use format::Version;
 pub use places::{Places, find_places};
+pub use surroundings::Surroundings;
 pub use upward::{Top, find_top};

@@ -28,6 +28,9 @@ pub struct Places {
     /// By what the repository is told from others: the path, without links, of `.git` in the root, a directory or a file; where
     /// `core.worktree` names another root, of the git directory.
     pub own_git: PathText,
+    /// Whether this work tree has a configuration of its own, `config.worktree` of the git directory, behind that of the common
+    /// directory: where `extensions.worktreeConfig` says so, and the format has a version.
+    pub has_own_config: bool,
 }
 
 impl Model for Places {
@@ -35,7 +38,7 @@ impl Model for Places {
 
     ghost Value = { words.Layout };
 
-    ghost view = { λ places. record { root = places.root; git = places.git_dir; common = places.common_dir; own = places.own_git } };
+    ghost view = { λ places. record { root = places.root; git = places.git_dir; common = places.common_dir; own = places.own_git; has_own_config = places.has_own_config } };
 }
 
 /// What is said of a configuration of the repository at a path.
@@ -234,34 +237,37 @@ fn work_tree_of<W: Worktree>(
     work_tree_asked(alloc, worktree, top, &asked)
 }
 
-/// The work tree of a repository of a version.
-fn work_tree_in<W: Worktree>(
+/// Whether each work tree has a configuration of its own, by the version of the format.
+fn has_own_config(
     alloc: Global,
-    worktree: &mut W,
-    top: &Top,
-    config: File,
-    version: Version,
-) -> Result<PathText, PlacesError>
-    ensures { Finds W.Worktree worktree.old worktree.new
-        (λ t. words.work_tree_in t top.now config (Some version)) result }
+    config: &File,
+    version: Option<Version>,
+) -> Result<bool, PlacesError>
+    ensures { Decides result (words.has_own_config config.now.sections version) }
 {
-    readable_in(alloc, version, &config)?;
-    let own = truth_of(alloc, &config, b"extensions", b"worktreeconfig")?;
-    work_tree_of(alloc, worktree, top, config, own)
+    match version {
+        Some(version) => {
+            readable_in(alloc, version, config)?;
+            truth_of(alloc, config, b"extensions", b"worktreeconfig")
+        }
+        None => Ok(false),
+    }
 }
 
-/// The root of the work tree, by the repository's own configuration.
-fn root_in<W: Worktree>(
+/// The root of the work tree, by the version of the format.
+fn root_by<W: Worktree>(
     alloc: Global,
     worktree: &mut W,
     top: &Top,
     config: File,
+    version: Option<Version>,
+    own: bool,
 ) -> Result<PathText, PlacesError>
     ensures { Finds W.Worktree worktree.old worktree.new
-        (λ t. words.root_in t top.now config) result }
+        (λ t. words.root_by t top.now config version own) result }
 {
-    match version_in(alloc, &config)? {
-        Some(version) => work_tree_in(alloc, worktree, top, config, version),
+    match version {
+        Some(_) => work_tree_of(alloc, worktree, top, config, own),
         None => Ok(PathText::from_bytes(alloc, top.directory.as_bytes())?),
     }
 }
@@ -297,10 +303,11 @@ fn layout<W: Worktree>(
     worktree: &mut W,
     top: Top,
     common: &[u8],
+    own: bool,
     root: PathText,
 ) -> Result<Places, PlacesError>
     ensures { Finds W.Worktree worktree.old worktree.new
-        (λ t. Ok (words.layout_with t top common.now root)) result }
+        (λ t. Ok (words.layout_with t top common.now own root)) result }
 {
     let common_dir = PathText::from_bytes(alloc, common)?;
     let path = own_path(alloc, &top, root.as_bytes())?;
@@ -310,7 +317,25 @@ fn layout<W: Worktree>(
         git_dir: top.git,
         common_dir,
         own_git,
+        has_own_config: own,
     })
+}
+
+/// The places of a repository by what its configuration says.
+fn layout_said<W: Worktree>(
+    alloc: Global,
+    worktree: &mut W,
+    top: Top,
+    common: &[u8],
+    config: File,
+) -> Result<Places, PlacesError>
+    ensures { Finds W.Worktree worktree.old worktree.new
+        (λ t. words.layout_said t top common.now config) result }
+{
+    let version = version_in(alloc, &config)?;
+    let own = has_own_config(alloc, &config, version)?;
+    let root = root_by(alloc, worktree, &top, config, version, own)?;
+    layout(alloc, worktree, top, common, own, root)
 }
 
 /// The places of the repository of a work tree.
@@ -320,8 +345,7 @@ fn layout_of<W: Worktree>(alloc: Global, worktree: &mut W, top: Top) -> Result<P
     let common = common_of(alloc, worktree, top.git.as_bytes())?;
     let path = from_directory(alloc, b"config", common.as_bytes())?;
     let config = config_at(alloc, worktree, path.as_bytes())?;
-    let root = root_in(alloc, worktree, &top, config)?;
-    layout(alloc, worktree, top, common.as_bytes(), root)
+    layout_said(alloc, worktree, top, common.as_bytes(), config)
 }
 
 /// Where the work tree of the directory `current`, an absolute path without links, and its repository lie, as git(1) finds them.
