@@ -171,7 +171,11 @@ fn matches_beneath(
     if matches_path(case, pattern, real) {
         return true;
     }
-    matches_some(case, pattern, behind_same(case, front, known.spelled.as_bytes()))
+    matches_some(
+        case,
+        pattern,
+        behind_same(case, front, known.spelled.as_bytes()),
+    )
 }
 
 /// Whether the git directory matches a pattern that begins with `./`.

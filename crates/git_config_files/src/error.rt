@@ -1,9 +1,9 @@
 //! Why the configurations of a repository are not read.
-use gitbase_core::{OutOfMemory, PathText};
+use gitbase_core::{Bytes, OutOfMemory, PathText};
 use thiserror::Error;
 use worktree_fs::ReadError;
 
-/// Why the configurations are not read. `path` is the file in which the fault is.
+/// Why the configurations, or the rules files that they name, are not read. `path` is the file in which the fault is.
 #[derive(Debug, Drop, PartialEq, Eq, Error)]
 pub enum FilesError {
     /// A line of the file is outside the grammar of git-config(1).
@@ -24,6 +24,12 @@ pub enum FilesError {
     /// The file is included behind ten others.
     #[error("Depth")]
     Depth { path: PathText },
+    /// The value of this key, or of this variable of the environment, cannot be read.
+    #[error("Value")]
+    Value { key: Bytes },
+    /// This variable of the environment points git elsewhere.
+    #[error("Elsewhere")]
+    Elsewhere { name: Bytes },
     /// The worktree failed, and counted that.
     #[error("Fault")]
     Fault,

@@ -50,8 +50,8 @@ fn no_file(alloc: Global, path: &[u8]) -> Result<FilesError, OutOfMemory>
     })
 }
 
-/// The text of the file that a path leads to.
-fn text_at<W: Worktree>(
+/// The text of the file that a path leads to, if one is there.
+pub fn text_at<W: Worktree>(
     alloc: Global,
     worktree: &mut W,
     path: &[u8],
