@@ -58,7 +58,7 @@ one_file t known done files (Ok more) rest_is = rest_is (done ++ more) ∙ follo
 stacked_after : (t : Names) (known : Known) (done : List Section) (files : List Configured)
     → stacked t known done files ≡ and_then (λ (rest : List Section). Ok (done ++ rest)) (stack_in t known files)
 stacked_after t known done [] = ap good (sym (append-nil done))
-stacked_after t known done (at ∷ files) = one_file t known done files (expanded t known at.source 10 at.path) (λ now. stacked_after t known now files)
+stacked_after t known done (at ∷ files) = one_file t known done files (expanded t known at.source 11 at.path) (λ now. stacked_after t known now files)
 
 pub stacked_is : (t : Names) (known : Known) (files : List Configured) → stacked t known [] files ≡ stack_in t known files
 stacked_is t known files = stacked_after t known [] files ∙ alike (stack_in t known files)

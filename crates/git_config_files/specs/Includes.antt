@@ -73,7 +73,7 @@ abbrev pub too_deep : List ℕ → Option (List ℕ) → Result (List Section) F
 too_deep path None = Ok []
 too_deep path (Some bytes) = Err (errors.Depth path)
 
--- what the file at a path says, with what it includes in place, so many levels deep
+-- what the file at a path says, with what it includes in place, where so many files may lie in one another
 unfoldable pub expanded : Names → Known → Source → ℕ → List ℕ → Result (List Section) FilesError
 expanded t known source zero path = and_then (too_deep path) (text_at path (look t path true))
 expanded t known source (suc levels) path =

@@ -59,8 +59,8 @@ fn is_answered(alloc: Global, want: &[u8], words: &[u8], steps: &[u8]) -> bool {
     };
     let mut tree = tree;
     match places_in(alloc, &mut tree) {
-        Some(places) => answers(alloc, &mut tree, &places, &around, want),
-        None => false,
+        Ok(places) => answers(alloc, &mut tree, &places, &around, want),
+        Err(_) => false,
     }
 }
 

@@ -3,7 +3,7 @@ use crate::answers as git;
 use crate::tree::{is_line, lines_of, parted, places_in, surroundings_of, tree_of, wanted};
 use git_config_files::{FilesError, Stack, read_stack};
 use git_config_lite::{Entry, Metadata, Section, Source};
-use git_places::{Places, Surroundings};
+use git_places::{Places, PlacesError, Surroundings};
 use std::alloc::Global;
 use worktree_fs::{MemoryWorktree, Worktree};
 
@@ -33,7 +33,11 @@ fn behind_folded<'a>(rest: &'a [u8], front: &[u8]) -> Option<&'a [u8]> {
         return None;
     }
     let (head, more) = rest.split_at(front.len());
-    if head.eq_ignore_ascii_case(front) { Some(more) } else { None }
+    if head.eq_ignore_ascii_case(front) {
+        Some(more)
+    } else {
+        None
+    }
 }
 
 /// What stands behind the file in which a key stands, without links.
@@ -109,12 +113,17 @@ fn word_of(error: &FilesError) -> &'static [u8] {
     }
 }
 
+/// Whether a line is wanted that is outside the grammar.
+fn is_config_line(alloc: Global, line: usize, want: &[u8]) -> bool {
+    let (word, number) = parted(want, b' ');
+    word == b"!config".as_slice() && is_line(alloc, line, number)
+}
+
 /// Whether a refusal is the one that is wanted.
 pub fn is_refused(alloc: Global, error: &FilesError, want: &[u8]) -> bool {
-    let (word, line) = parted(want, b' ');
     match error {
-        FilesError::Config { line: at, .. } => word == b"!config".as_slice() && is_line(alloc, *at, line),
-        error => word == word_of(error),
+        FilesError::Config { line, .. } => is_config_line(alloc, *line, want),
+        error => want == word_of(error),
     }
 }
 
@@ -142,8 +151,9 @@ fn is_answered(alloc: Global, want: &[u8], words: &[u8], steps: &[u8]) -> bool {
     };
     let mut tree = tree;
     match places_in(alloc, &mut tree) {
-        Some(places) => answers(alloc, &mut tree, &places, &around, &want),
-        None => false,
+        Ok(places) => answers(alloc, &mut tree, &places, &around, &want),
+        Err(PlacesError::Config { line, .. }) => is_config_line(alloc, line, &want),
+        Err(_) => false,
     }
 }
 

@@ -12,7 +12,8 @@ fault`Fault|\
 memory`OutOfMemory";
 
 /// Files of which one is included twice, and one has no key.
-const TREE: &[u8] = b"g /w/r/.git=main;f /w/r/.git/config=[include]$path=i$path=j$path=i$;f /w/r/.git/i=[a]$k=1$;\
+const TREE: &[u8] =
+    b"g /w/r/.git=main;f /w/r/.git/config=[include]$path=i$path=j$path=i$;f /w/r/.git/i=[a]$k=1$;\
 f /w/r/.git/j=;f /w/h/.gitconfig=[a]$k=2$";
 
 fn is_shown(alloc: Global, error: FilesError, want: &[u8]) -> bool {
@@ -63,14 +64,12 @@ fn are_files(files: &ConfigFiles, want: &[u8]) -> bool {
 }
 
 fn appear(alloc: Global, steps: &[u8], want: &[u8]) -> bool {
-    let (Some(tree), Some(around)) = (
-        tree_of(alloc, steps),
-        surroundings_of(alloc, b"home=/w/h"),
-    ) else {
+    let (Some(tree), Some(around)) = (tree_of(alloc, steps), surroundings_of(alloc, b"home=/w/h"))
+    else {
         return false;
     };
     let mut tree = tree;
-    let Some(places) = places_in(alloc, &mut tree) else {
+    let Ok(places) = places_in(alloc, &mut tree) else {
         return false;
     };
     match read_stack(alloc, &mut tree, &places, &around) {

@@ -1,6 +1,6 @@
 //! Trees in memory and what is set in the environment, from the words of a row.
 use bstr::ByteSlice;
-use git_places::{Places, Surroundings, find_places};
+use git_places::{Places, PlacesError, Surroundings, find_places};
 use gitbase_core::{Bytes, PathText};
 use std::alloc::Global;
 use worktree_fs::{MemoryWorktree, NewNode};
@@ -123,8 +123,8 @@ pub fn surroundings_of(alloc: Global, words: &[u8]) -> Option<Surroundings> {
 }
 
 /// Where the work tree lies.
-pub fn places_in(alloc: Global, tree: &mut MemoryWorktree) -> Option<Places> {
-    find_places(alloc, tree, b"/w/r", &[]).ok()
+pub fn places_in(alloc: Global, tree: &mut MemoryWorktree) -> Result<Places, PlacesError> {
+    find_places(alloc, tree, b"/w/r", &[])
 }
 
 /// The answer that is wanted: of two that differ, the one of the definitions.
@@ -135,7 +135,7 @@ pub fn wanted(answer: &[u8]) -> &[u8] {
     }
 }
 
-/// Whether a refusal is the one that is named by a word, and by the number of a line where there is one.
+/// Whether a line is the one that is wanted.
 pub fn is_line(alloc: Global, line: usize, want: &[u8]) -> bool {
     match format!(in alloc; "{line}") {
         Ok(text) => text.as_bytes() == want,
