@@ -1,5 +1,5 @@
 -- A file that is not too deep.
-use Rattle.std.proofs.Common.{◌≡◌, ◌⊎◌, inl, inr, ℕ, List, zero, suc, Option, Result, Err, true, ap, subst, sym}
+use Rattle.std.proofs.Common.{◌≡◌, ◌⊎◌, inl, inr, ℕ, List, [], zero, suc, Option, Some, None, Result, Ok, Err, true, refl, ap, subst, sym}
 use Rattle.git_config_lite.specs.declared.metadata.Source.{Source}
 use Rattle.git_config_lite.specs.Sections.{Section}
 use Rattle.worktree_fs.specs.declared.worktree.Worktree.{Ghosts as WorktreeOf}
@@ -7,17 +7,50 @@ use Rattle.worktree_fs.specs.Tree.{Names, look}
 use Rattle.git_config_files.specs.Conditions.{Known}
 use Rattle.git_config_files.specs.Answers.{Gives}
 use Rattle.git_config_files.specs.Finds.{Finds}
-use Rattle.git_config_files.specs.Includes.{in_place, expanded, text_at, too_deep}
+use Rattle.git_config_files.specs.Includes.{Follow, after, placed, in_place, keys_in, expanded, text_at, too_deep}
+use Rattle.git_config_files.proofs.Laws.{placed_is}
 use Rattle.git_config_files.specs.Steps.{and_then}
 use Rattle.git_config_files.specs.declared.error.FilesError.{FilesError}
 
+-- what a file says, where its keys are gone through one by one
+abbrev pub in_order : Names → Known → Follow → Source → List ℕ → Option (List ℕ) → Result (List Section) FilesError
+in_order t known follow source path None = Ok []
+in_order t known follow source path (Some bytes) = and_then (after t known follow path []) (keys_in source path bytes)
+
+same_keys : (t : Names) (known : Known) (follow : Follow) (path : List ℕ) (r : Result (List Section) FilesError)
+    → and_then (after t known follow path []) r ≡ and_then (placed t known follow path) r
+same_keys t known follow path (Err e) = refl
+same_keys t known follow path (Ok keys) = placed_is t known follow path keys
+
+same_file : (t : Names) (known : Known) (follow : Follow) (source : Source) (path : List ℕ) (r : Result (Option (List ℕ)) FilesError)
+    → and_then (in_order t known follow source path) r ≡ and_then (in_place t known follow source path) r
+same_file t known follow source path (Err e) = refl
+same_file t known follow source path (Ok None) = refl
+same_file t known follow source path (Ok (Some bytes)) = same_keys t known follow path (keys_in source path bytes)
+
+-- what is found may be said in other words
+pub found_as : {W A : Type 0} (w : WorktreeOf W) (before now : W) (found other : Names → Result A FilesError) (result : Result A FilesError)
+    → ((t : Names) → found t ≡ other t) → Finds w before now found result → Finds w before now other result
+found_as {A = A} w before now found other result same finds =
+    record {
+      gives = λ t told. subst (λ (r : Result A FilesError). Gives result r) (same t) (finds.gives t told);
+      cause = finds.cause;
+      unfaulted = finds.unfaulted;
+      keeps = finds.keeps;
+    }
+
+deeper : (t : Names) (known : Known) (source : Source) (below : ℕ) (path : List ℕ)
+    → and_then (in_order t known (expanded t known source below) source path) (text_at path (look t path true)) ≡ expanded t known source (suc below) path
+unfolding expanded
+deeper t known source below path = same_file t known (expanded t known source below) source path (text_at path (look t path true))
+
 pub stepped : {W : Type 0} (w : WorktreeOf W) (before now : W) (known : Known) (source : Source) (levels below : ℕ) (path : List ℕ) (result : Result (List Section) FilesError)
     → levels ≡ suc below
-    → Finds w before now (λ t. and_then (in_place t known (expanded t known source below) source path) (text_at path (look t path true))) result
+    → Finds w before now (λ t. and_then (in_order t known (expanded t known source below) source path) (text_at path (look t path true))) result
     → Finds w before now (λ t. expanded t known source levels path) result
-unfolding expanded
 stepped w before now known source levels below path result e finds =
-    subst (λ (n : ℕ). Finds w before now (λ t. expanded t known source n path) result) (sym e) finds
+    subst (λ (n : ℕ). Finds w before now (λ t. expanded t known source n path) result) (sym e)
+    (found_as w before now _ (λ t. expanded t known source (suc below) path) result (λ t. deeper t known source below path) finds)
 
 -- a file that is refused is refused at every depth
 pub refused : (t : Names) (known : Known) (source : Source) (levels : ℕ) (path : List ℕ) (e : FilesError)

@@ -28,18 +28,18 @@ pub record Known : Type 0 where
 abbrev pub with_stars : List ℕ → List ℕ
 with_stars pattern = if ends_with nat_eq pattern (47 ∷ []) then pattern ++ codes "**" else pattern
 
--- a pattern that begins with `~/` begins with the home, if there is one
+-- a pattern that begins with a `~` begins with the home, if there is one
 abbrev pub at_home : Option (List ℕ) → Option (List ℕ) → List ℕ → List ℕ
 at_home None rest pattern = pattern
 at_home (Some home) None pattern = pattern
-at_home (Some home) (Some rest) pattern = home ++ 47 ∷ rest
+at_home (Some home) (Some rest) pattern = home ++ rest
 
 -- one that is not absolute then may lie anywhere
 abbrev pub anywhere : List ℕ → List ℕ
 anywhere pattern = if is_absolute pattern then pattern else codes "**/" ++ pattern
 
 abbrev pub whole_pattern : Known → List ℕ → List ℕ
-whole_pattern known pattern = with_stars (anywhere (at_home known.real_home (behind_front (codes "~/") pattern) pattern))
+whole_pattern known pattern = with_stars (anywhere (at_home known.real_home (behind_front (codes "~") pattern) pattern))
 
 abbrev pub matches_path : Case → List ℕ → List ℕ → Bool
 matches_path case pattern text = matches (mode_of case) pattern text
@@ -65,14 +65,25 @@ matches_some case pattern (Some text) = matches_path case pattern text
 abbrev pub beneath_pattern : List ℕ → List ℕ
 beneath_pattern rest = if is_empty rest || ends_with nat_eq rest (47 ∷ []) then rest ++ codes "**" else rest
 
--- a pattern that begins with `./` is one beneath the directory of the file, whose path without links this is; the directory itself is no
--- pattern
-abbrev pub matches_from : Case → List ℕ → List ℕ → List ℕ → Bool
-matches_from case file rest text = matches_some case (beneath_pattern rest) (behind_same case (unwrap_or (parent file) [] ++ 47 ∷ []) text)
-
 -- either spelling of the git directory may match
 abbrev pub either : Known → (List ℕ → Bool) → Bool
 either known test = test known.git || test known.spelled
+
+-- a pattern beneath a directory matches the git directory without links, which has to lie there, or as it is spelled
+abbrev pub matches_beneath : Known → Case → List ℕ → List ℕ → Option (List ℕ) → Bool
+matches_beneath known case front pattern None = false
+matches_beneath known case front pattern (Some real) =
+    matches_path case pattern real || matches_some case pattern (behind_same case front known.spelled)
+
+-- the directory of a file, with a slash behind it
+abbrev pub directory_of : List ℕ → List ℕ
+directory_of file = unwrap_or (parent file) [] ++ 47 ∷ []
+
+-- a pattern that begins with `./` is one beneath the directory of the file, whose path without links this is; the directory itself is no
+-- pattern
+abbrev pub matches_from : Known → Case → List ℕ → List ℕ → Bool
+matches_from known case file rest =
+    matches_beneath known case (directory_of file) (beneath_pattern rest) (behind_same case (directory_of file) known.git)
 
 -- whether what stands behind a `~` is the name of a user
 abbrev pub is_user : Option (List ℕ) → Bool
@@ -86,8 +97,7 @@ is_unknown_home path = is_user (behind_front (codes "~") path) || is_some (behin
 
 -- whether the git directory is where a pattern of the file `from` says
 abbrev pub is_at : Names → Known → List ℕ → Case → Option (List ℕ) → List ℕ → Bool
-is_at t known from case (Some rest) pattern =
-    either known (matches_from case (unwrap_or (real_path t from (47 ∷ [])) from) rest)
+is_at t known from case (Some rest) pattern = matches_from known case (unwrap_or (real_path t from (47 ∷ [])) from) rest
 is_at t known from case None pattern = either known (matches_path case (whole_pattern known pattern))
 
 abbrev pub directory_holds : Names → Known → List ℕ → Case → List ℕ → Result Bool FilesError

@@ -1,4 +1,4 @@
--- The configurations that git reads, in its order: git-config(1), "FILES".
+-- What several configurations say together.
 use Rattle.std.specs.Prelude.{ℕ, Bool, true, false, codes, List, [], ◌∷◌, ◌++◌, Option, Some, None, Result, Ok, Err, if◌then◌else◌}
 use Rattle.git_config_lite.specs.declared.metadata.Source.{Source}
 use Rattle.git_config_lite.specs.declared.metadata.Source.TheVariants as sources
@@ -14,10 +14,13 @@ pub record Configured : Type 0 where
   pub source : Source
   pub path : List ℕ
 
--- what files say one behind another, behind what is done; each follows includes ten deep
+-- what files say, one behind another, each with what it includes in place: it and ten included files may lie in one another
+abbrev pub stack_in : Names → Known → List Configured → Result (List Section) FilesError
+stack_in t known [] = Ok []
+stack_in t known (at ∷ files) =
+    and_then (λ more. and_then (λ rest. Ok (more ++ rest)) (stack_in t known files)) (expanded t known at.source 11 at.path)
+
+-- the same file by file, behind what is done
 abbrev pub stacked : Names → Known → List Section → List Configured → Result (List Section) FilesError
 stacked t known done [] = Ok done
-stacked t known done (at ∷ files) = and_then (λ more. stacked t known (done ++ more) files) (expanded t known at.source 10 at.path)
-
-abbrev pub stack_in : Names → Known → List Configured → Result (List Section) FilesError
-stack_in t known files = stacked t known [] files
+stacked t known done (at ∷ files) = and_then (λ more. stacked t known (done ++ more) files) (expanded t known at.source 11 at.path)

@@ -49,40 +49,40 @@ behind_key t known follow from key (e ∷ es) = and_then (followed follow) (targ
 abbrev pub behind : Names → Known → Follow → List ℕ → Section → Result (List Section) FilesError
 behind t known follow from key = behind_key t known follow from key key.entries
 
--- behind what is done, some keys of the file `from`, each with what stands behind it
-unfoldable pub after : Names → Known → Follow → List ℕ → List Section → List Section → Result (List Section) FilesError
-after t known follow from done [] = Ok done
-after t known follow from done (key ∷ keys) =
-    and_then (λ more. after t known follow from (done ++ key ∷ more) keys) (behind t known follow from key)
+-- keys of the file `from`: each of them, and right behind it what the file says that it includes
+unfoldable pub placed : Names → Known → Follow → List ℕ → List Section → Result (List Section) FilesError
+placed t known follow from [] = Ok []
+placed t known follow from (key ∷ keys) =
+    and_then (λ more. and_then (λ rest. Ok ((key ∷ more) ++ rest)) (placed t known follow from keys)) (behind t known follow from key)
 
 -- the text of the file that a path leads to; none where nothing is there. What is there and is no file is refused, and an endless link
 abbrev pub text_at : List ℕ → Look → Result (Option (List ℕ)) FilesError
 text_at path (found (file bytes)) = Ok (Some bytes)
-text_at path (found (directory names)) = Err (errors.Include path)
-text_at path (found (link target)) = Err (errors.Include path)
-text_at path (found other) = Err (errors.Include path)
+text_at path (found (directory names)) = Err (errors.NoFile path)
+text_at path (found (link target)) = Err (errors.NoFile path)
+text_at path (found other) = Err (errors.NoFile path)
 text_at path absent = Ok None
-text_at path too_many_links = Err (errors.Include path)
+text_at path too_many_links = Err (errors.NoFile path)
 
 abbrev pub in_place : Names → Known → Follow → Source → List ℕ → Option (List ℕ) → Result (List Section) FilesError
 in_place t known follow source path None = Ok []
-in_place t known follow source path (Some bytes) = and_then (after t known follow path []) (keys_in source path bytes)
+in_place t known follow source path (Some bytes) = and_then (placed t known follow path) (keys_in source path bytes)
 
 -- an included file that is there is too deep behind ten others
 abbrev pub too_deep : List ℕ → Option (List ℕ) → Result (List Section) FilesError
 too_deep path None = Ok []
 too_deep path (Some bytes) = Err (errors.Depth path)
 
--- what the file at a path says, with what it includes in place, so many levels deep
+-- what the file at a path says, with what it includes in place, where so many files may lie in one another
 unfoldable pub expanded : Names → Known → Source → ℕ → List ℕ → Result (List Section) FilesError
 expanded t known source zero path = and_then (too_deep path) (text_at path (look t path true))
 expanded t known source (suc levels) path =
     and_then (in_place t known (expanded t known source levels) source path) (text_at path (look t path true))
 
--- ---- the same in the manual's words
+-- ---- the same key by key
 
--- each key, and right behind it what the file says that it includes
-unfoldable pub placed : Names → Known → Follow → List ℕ → List Section → Result (List Section) FilesError
-placed t known follow from [] = Ok []
-placed t known follow from (key ∷ keys) =
-    and_then (λ more. and_then (λ rest. Ok ((key ∷ more) ++ rest)) (placed t known follow from keys)) (behind t known follow from key)
+-- behind what is done, some keys of the file `from`, each with what stands behind it
+unfoldable pub after : Names → Known → Follow → List ℕ → List Section → List Section → Result (List Section) FilesError
+after t known follow from done [] = Ok done
+after t known follow from done (key ∷ keys) =
+    and_then (λ more. after t known follow from (done ++ key ∷ more) keys) (behind t known follow from key)

@@ -3,5 +3,8 @@ pub mod Conditions
 pub mod Files
 pub mod Finds
 pub mod Includes
+pub mod Rules
+pub mod Stack
 pub mod Steps
 pub mod Targets
+pub mod Which

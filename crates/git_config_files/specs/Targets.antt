@@ -12,28 +12,31 @@ use Rattle.git_config_files.specs.Steps.{and_then}
 use Rattle.git_config_files.specs.declared.error.FilesError.{FilesError}
 use Rattle.git_config_files.specs.declared.error.FilesError.TheVariants as errors
 
--- a path that begins with `~/`, with the home before it
-abbrev pub from_home : List ℕ → Option (List ℕ) → List ℕ → Result (List ℕ) FilesError
-from_home from None rest = Err (errors.Home from)
-from_home from (Some home) rest = Ok (home ++ 47 ∷ rest)
+-- a path behind a `~`, with the home in the place of that; none where there is no home
+abbrev pub from_home : Option (List ℕ) → List ℕ → Option (List ℕ)
+from_home None rest = None
+from_home (Some home) rest = Some (home ++ rest)
 
-abbrev pub by_home : Known → List ℕ → List ℕ → Option (List ℕ) → Result (List ℕ) FilesError
-by_home known from path None = Ok path
-by_home known from path (Some rest) = from_home from known.home rest
+abbrev pub by_home : Option (List ℕ) → List ℕ → Option (List ℕ) → Option (List ℕ)
+by_home home path None = Some path
+by_home home path (Some rest) = from_home home rest
 
--- a path that the file `from` has as a value, with the home in the place of `~/`
-abbrev pub expanded_path : Known → List ℕ → List ℕ → Result (List ℕ) FilesError
-expanded_path known from path =
-    if is_unknown_home path then Err (errors.Home from) else by_home known from path (behind_front (codes "~/") path)
+-- a path that a key has as its value, with the home in the place of a `~` at its front; none where that home is not known
+abbrev pub expanded_path : Option (List ℕ) → List ℕ → Option (List ℕ)
+expanded_path home path = if is_unknown_home path then None else by_home home path (behind_front (codes "~") path)
 
 -- taken from the directory of the file, where it is relative
 abbrev pub beside : List ℕ → List ℕ → List ℕ
 beside from path = from_directory path (unwrap_or (parent from) [])
 
+abbrev pub named_at : List ℕ → Option (List ℕ) → Result (Option (List ℕ)) FilesError
+named_at from None = Err (errors.Home from)
+named_at from (Some path) = Ok (Some (beside from path))
+
 -- the file that a value names; a key without a value names none, and is refused
 abbrev pub named : Known → List ℕ → Option (List ℕ) → Result (Option (List ℕ)) FilesError
 named known from None = Err (errors.Include from)
-named known from (Some text) = and_then (λ path. Ok (Some (beside from path))) (expanded_path known from text)
+named known from (Some text) = named_at from (expanded_path known.home text)
 
 abbrev pub if_holds : Known → List ℕ → Entry → Bool → Result (Option (List ℕ)) FilesError
 if_holds known from e does = if does then named known from e.value else Ok None

@@ -34,22 +34,21 @@ fn with_stars(alloc: Global, pattern: &[u8]) -> Result<Bytes, OutOfMemory>
     Ok(made)
 }
 
-/// A directory, a slash and more.
-pub fn joined(alloc: Global, directory: &[u8], rest: &[u8]) -> Result<Bytes, OutOfMemory>
-    ensures { IfOk result (λ made. made ≡ directory.now ++ 47 ∷ rest.now) }
+/// One text behind another.
+pub fn joined(alloc: Global, front: &[u8], rest: &[u8]) -> Result<Bytes, OutOfMemory>
+    ensures { IfOk result (λ made. made ≡ front.now ++ rest.now) }
 {
-    let mut made = Bytes::from_slice(alloc, directory)?;
-    made.extend(alloc, b"/")?;
+    let mut made = Bytes::from_slice(alloc, front)?;
     made.extend(alloc, rest)?;
     Ok(made)
 }
 
-/// A pattern that begins with `~/` begins with the home, if there is one.
+/// A pattern that begins with a `~` begins with the home, if there is one.
 fn at_home(alloc: Global, home: Option<&[u8]>, pattern: &[u8]) -> Result<Bytes, OutOfMemory>
     ensures { IfOk result (λ made. made
-        ≡ words.at_home (option_copied home.entry) (behind_front (codes "~/") pattern.now) pattern.now) }
+        ≡ words.at_home (option_copied home.entry) (behind_front (codes "~") pattern.now) pattern.now) }
 {
-    match (home, behind(pattern, b"~/".as_slice())) {
+    match (home, behind(pattern, b"~".as_slice())) {
         (Some(home), Some(rest)) => joined(alloc, home, rest),
         _ => Bytes::from_slice(alloc, pattern),
     }
@@ -147,15 +146,39 @@ fn beneath_pattern(alloc: Global, rest: &[u8]) -> Result<Bytes, OutOfMemory>
 
 /// The directory of a file, with a slash behind it.
 fn directory_of(alloc: Global, file: &PathText) -> Result<Bytes, OutOfMemory>
-    ensures { IfOk result (λ made. made ≡ unwrap_or (parent file.now) [] ++ 47 ∷ []) }
+    ensures { IfOk result (λ made. made ≡ words.directory_of file.now) }
 {
     match file.parent() {
-        Some(directory) => joined(alloc, directory, b""),
+        Some(directory) => joined(alloc, directory, b"/"),
         None => Bytes::from_slice(alloc, b"/"),
     }
 }
 
-/// Whether the git directory matches a pattern that begins with `./`, by either spelling.
+/// Whether a pattern beneath a directory matches the git directory, by what this has without links behind that directory.
+fn matches_beneath(
+    known: &Known,
+    case: Case,
+    front: &[u8],
+    pattern: &[u8],
+    real: Option<&[u8]>,
+) -> bool
+    ensures { result ≡ words.matches_beneath known.now case front.now pattern.now
+        (option_copied real.entry) }
+{
+    let Some(real) = real else {
+        return false;
+    };
+    if matches_path(case, pattern, real) {
+        return true;
+    }
+    matches_some(
+        case,
+        pattern,
+        behind_same(case, front, known.spelled.as_bytes()),
+    )
+}
+
+/// Whether the git directory matches a pattern that begins with `./`.
 fn matches_from(
     alloc: Global,
     known: &Known,
@@ -163,18 +186,13 @@ fn matches_from(
     file: &PathText,
     rest: &[u8],
 ) -> Result<bool, OutOfMemory>
-    ensures { IfOk result (λ is. is
-        ≡ words.either known.now (words.matches_from case file.now rest.now)) }
+    ensures { IfOk result (λ is. is ≡ words.matches_from known.now case file.now rest.now) }
 {
     let front = directory_of(alloc, file)?;
     let pattern = beneath_pattern(alloc, rest)?;
     let front = front.as_bytes();
     let real = behind_same(case, front, known.git.as_bytes());
-    if matches_some(case, pattern.as_bytes(), real) {
-        return Ok(true);
-    }
-    let spelled = behind_same(case, front, known.spelled.as_bytes());
-    Ok(matches_some(case, pattern.as_bytes(), spelled))
+    Ok(matches_beneath(known, case, front, pattern.as_bytes(), real))
 }
 
 /// Whether the git directory matches a whole pattern, by either spelling.

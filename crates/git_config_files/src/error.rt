@@ -1,18 +1,21 @@
 //! Why the configurations of a repository are not read.
-use gitbase_core::{OutOfMemory, PathText};
+use gitbase_core::{Bytes, OutOfMemory, PathText};
 use thiserror::Error;
 use worktree_fs::ReadError;
 
-/// Why the configurations are not read. `path` is the file in which the fault is.
+/// Why the configurations, or the rules files that they name, are not read. `path` is the file in which the fault is.
 #[derive(Debug, Drop, PartialEq, Eq, Error)]
 pub enum FilesError {
     /// A line of the file is outside the grammar of git-config(1).
     #[error("Config")]
     Config { path: PathText, line: usize },
-    /// A `path` of an include in the file has no value, or what it names is there and is no file.
+    /// A `path` of an include in the file has no value.
     #[error("Include")]
     Include { path: PathText },
-    /// A path in the file begins with `~/`, and there is no home; or with `~USER` or `%(prefix)/`, which are not expanded.
+    /// What stands at this path is no file, or is a link without an end.
+    #[error("NoFile")]
+    NoFile { path: PathText },
+    /// A path in the file begins with `~`, and there is no home; or with `~USER` or `%(prefix)/`, which are not expanded.
     #[error("Home")]
     Home { path: PathText },
     /// The file has an include with the condition `hasconfig:remote.*.url:`, which is not read.
@@ -21,6 +24,12 @@ pub enum FilesError {
     /// The file is included behind ten others.
     #[error("Depth")]
     Depth { path: PathText },
+    /// The value of this key, or of this variable of the environment, cannot be read.
+    #[error("Value")]
+    Value { key: Bytes },
+    /// This variable of the environment points git elsewhere.
+    #[error("Elsewhere")]
+    Elsewhere { name: Bytes },
     /// The worktree failed, and counted that.
     #[error("Fault")]
     Fault,

@@ -14,8 +14,8 @@ use gitbase_core::{Bytes, OutOfMemory, PathText};
 use std::alloc::Global;
 use worktree_fs::{ReadAnswer, Worktree};
 
-/// How many files a file may be included behind.
-const LEVELS: usize = 10;
+/// How many files may lie in one another: the one that is read, and ten that are included behind it.
+const LEVELS: usize = 11;
 
 /// Where a file is read.
 fn read_at(alloc: Global, source: Source, path: &[u8]) -> Result<Metadata, OutOfMemory>
@@ -43,15 +43,15 @@ fn keys_in(alloc: Global, source: Source, path: &[u8], bytes: &[u8]) -> Result<K
 }
 
 fn no_file(alloc: Global, path: &[u8]) -> Result<FilesError, OutOfMemory>
-    ensures { IfOk result (λ e. e ≡ FilesError.Include path.now) }
+    ensures { IfOk result (λ e. e ≡ FilesError.NoFile path.now) }
 {
-    Ok(FilesError::Include {
+    Ok(FilesError::NoFile {
         path: PathText::from_bytes(alloc, path)?,
     })
 }
 
-/// The text of the file that a path leads to.
-fn text_at<W: Worktree>(
+/// The text of the file that a path leads to, if one is there.
+pub fn text_at<W: Worktree>(
     alloc: Global,
     worktree: &mut W,
     path: &[u8],
@@ -113,7 +113,7 @@ fn all<W: Worktree>(
     Ok(done)
 }
 
-/// The keys of the file at a path, with includes followed so many levels deep.
+/// The keys of the file at a path, with what it includes, where so many files may lie in one another.
 #[cycle(expand)]
 #[tactic(auto, unfolding(crate::specs::Includes::expanded))]
 fn expand<W: Worktree>(
@@ -148,7 +148,7 @@ pub fn expanded<W: Worktree>(
     path: &[u8],
 ) -> Result<Keys, FilesError>
     ensures { Finds W.Worktree worktree.old worktree.new
-        (λ t. words.expanded t known.now source 10 path.now) result }
+        (λ t. words.expanded t known.now source 11 path.now) result }
 {
     expand(alloc, worktree, known, source, LEVELS, path)
 }

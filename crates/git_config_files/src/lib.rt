@@ -2,14 +2,17 @@
 #![tactic(auto)]
 
 mod conditions;
+mod config_files;
 mod error;
 mod includes;
 mod keys;
 mod known;
+mod rules;
 mod stack;
 mod targets;
+mod which;
 
+pub use config_files::{ConfigFiles, Configured};
 pub use error::FilesError;
-pub use keys::Keys;
-pub use known::Known;
-pub use stack::{Configured, keys_of_stack};
+pub use rules::{Rules, RulesFile, rules_files};
+pub use stack::{Stack, read_stack};

@@ -1,43 +1,49 @@
-//! The configurations that git reads, in its order.
-ghost use Rattle.std.specs.Prelude.{◌≡◌, []};
+//! What all configurations of a work tree say.
+ghost use Rattle.std.specs.Prelude.{◌≡◌, [], IfOk};
+ghost use Rattle.git_config_files.specs.Files as joint;
 ghost use Rattle.git_config_files.specs.Finds.{Finds};
-ghost use Rattle.git_config_files.specs.Files as words;
+ghost use Rattle.git_config_files.specs.Stack as words;
 
+use crate::config_files::{ConfigFiles, Configured};
 use crate::error::FilesError;
 use crate::includes::expanded;
 use crate::keys::Keys;
-use crate::known::Known;
-use git_config_lite::Source;
-use gitbase_core::PathText;
+use crate::known::{Known, known_of};
+use crate::which::files_of;
+use git_config_lite::{File, Metadata, Source};
+use git_places::{Places, Surroundings};
+use gitbase_core::{Bytes, OutOfMemory};
 use std::alloc::Global;
 use std::marker::Model;
 use worktree_fs::Worktree;
 
-/// A file of the stack: what it belongs to, and its path. Contracts see a record of both.
+/// What all configurations of a work tree say. Contracts see a record of both parts.
 #[derive(Debug, Drop)]
-pub struct Configured {
-    pub source: Source,
-    /// An absolute path.
-    pub path: PathText,
+pub struct Stack {
+    /// What the files say, in git's order and with what they include in place. Each key is a section by itself, which says in which
+    /// file it stands.
+    pub file: File,
+    /// The files in which these keys stand, in the order in which they first appear; a file without keys is none of them.
+    pub files: ConfigFiles,
 }
 
-impl Model for Configured {
-    ghost use Rattle.git_config_files.specs.Files as words;
+impl Model for Stack {
+    ghost use Rattle.git_config_files.specs.Stack as words;
 
-    ghost Value = { words.Configured };
+    ghost Value = { words.Stack };
 
-    ghost view = { λ file. record { source = file.source; path = file.path } };
+    ghost view = { λ stack. record { file = stack.file; files = stack.files } };
 }
 
-/// What the files of the stack say, one behind another, each with what it includes in place.
-pub fn keys_of_stack<W: Worktree>(
+/// What files say, one behind another, gone through one by one.
+fn keys_in_turn<W: Worktree>(
     alloc: Global,
     worktree: &mut W,
     known: &Known,
     files: &[Configured],
 ) -> Result<Keys, FilesError>
     ensures { Finds W.Worktree worktree.old worktree.new
-        (λ t. words.stack_in t known.now files.now) result }
+        (λ t. joint.stacked t known.now [] files.now) result }
 {
     let mut done = Keys::new(alloc);
     for file in files {
@@ -45,4 +51,101 @@ pub fn keys_of_stack<W: Worktree>(
         done.append(more)?;
     }
     Ok(done)
+}
+
+/// What files say, one behind another, each with what it includes in place.
+fn keys_of_stack<W: Worktree>(
+    alloc: Global,
+    worktree: &mut W,
+    known: &Known,
+    files: &[Configured],
+) -> Result<Keys, FilesError>
+    ensures { Finds W.Worktree worktree.old worktree.new
+        (λ t. joint.stack_in t known.now files.now) result }
+{
+    keys_in_turn(alloc, worktree, known, files)
+}
+
+/// The files in which keys stand, in the order in which they first appear.
+fn appearing(alloc: Global, file: &File) -> Result<ConfigFiles, OutOfMemory>
+    ensures { IfOk result (λ files. files ≡ words.appearing [] file.now.sections) }
+{
+    let mut files = ConfigFiles::new(alloc);
+    for key in file.sections() {
+        files.add_met(alloc, key.meta())?;
+    }
+    Ok(files)
+}
+
+/// The stack of some keys.
+fn stack_of(alloc: Global, keys: Keys) -> Result<Stack, OutOfMemory>
+    ensures { IfOk result (λ stack. stack ≡ words.stack_of keys) }
+{
+    let meta = Metadata {
+        source: Source::Api,
+        path: None,
+    };
+    let file = File::from_sections(alloc, meta, keys.into_sections());
+    let files = appearing(alloc, &file)?;
+    Ok(Stack { file, files })
+}
+
+/// What the configurations say that are read, by what their includes are judged by.
+fn stack_by<W: Worktree>(
+    alloc: Global,
+    worktree: &mut W,
+    known: &Known,
+    files: &ConfigFiles,
+) -> Result<Stack, FilesError>
+    ensures { Finds W.Worktree worktree.old worktree.new
+        (λ t. words.stack_by t known.now files.now) result }
+{
+    let keys = keys_of_stack(alloc, worktree, known, files.as_slice())?;
+    Ok(stack_of(alloc, keys)?)
+}
+
+/// The refusal of a variable that points git elsewhere.
+fn elsewhere(alloc: Global, name: &[u8]) -> Result<FilesError, OutOfMemory>
+    ensures { IfOk result (λ e. e ≡ FilesError.Elsewhere name.now) }
+{
+    Ok(FilesError::Elsewhere {
+        name: Bytes::from_slice(alloc, name)?,
+    })
+}
+
+/// What git's configurations say for the work tree of a repository, in its order: that of the system, those of the user, that which all
+/// work trees share, and that of this one; each with the files that it includes right behind the key that names them, up to ten deep.
+/// `around` is what the caller's environment says.
+///
+/// A key is found by [`File::string`], the last one counts; a file that is not there says nothing.
+///
+/// # Errors
+///
+/// - `Elsewhere`: a variable of the environment points git elsewhere.
+/// - `Config`: a line of a file is outside its grammar.
+/// - `NoFile`: what stands at the path of a configuration, or of an included file, is no file.
+/// - `Include`: a key that includes a file has no value.
+/// - `Home`: the path of an included file, or of a condition, begins with a home that is not known.
+/// - `Condition`: an include asks for what the configuration says, by `hasconfig:remote.*.url:`.
+/// - `Depth`: a file is included behind ten others.
+/// - `Value`: `GIT_CONFIG_NOSYSTEM` is no boolean.
+/// - `Fault`: the worktree failed, which it counted. No fault reads as "nothing is there".
+/// - `OutOfMemory` for want of memory.
+///
+/// See docs/DIFFERENCES.md#configurations-of-git.
+pub fn read_stack<W: Worktree>(
+    alloc: Global,
+    worktree: &mut W,
+    places: &Places,
+    around: &Surroundings,
+) -> Result<Stack, FilesError>
+    ensures { Finds W.Worktree worktree.old worktree.new
+        (λ t. words.stack_at t places.now around.now) result }
+{
+    if let Some(name) = &around.elsewhere {
+        return Err(elsewhere(alloc, name.as_bytes())?);
+    }
+    let files = files_of(alloc, places, around)?;
+    let known = known_of(alloc, worktree, places, around)?;
+    stack_by(alloc, worktree, &known, &files)
 }

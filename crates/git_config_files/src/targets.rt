@@ -1,5 +1,5 @@
 //! Which file a key includes.
-ghost use Rattle.std.specs.Prelude.{◌≡◌, ◌&&◌, codes, Ok, IfOk, option_copied};
+ghost use Rattle.std.specs.Prelude.{◌≡◌, ◌&&◌, codes, Ok, Some, IfOk, option_copied};
 ghost use Rattle.git_config_files.specs.Answers.{Decides};
 ghost use Rattle.git_config_files.specs.Finds.{Finds};
 ghost use Rattle.git_config_files.specs.Targets as words;
@@ -21,24 +21,23 @@ fn home_error(alloc: Global, from: &[u8]) -> Result<FilesError, OutOfMemory>
     })
 }
 
-/// A path that the file `from` has as a value, with the home in the place of `~/`.
+/// A path that a key has as its value, with the home in the place of a `~` at its front; none where that home is not known.
 pub fn expanded_path(
     alloc: Global,
-    known: &Known,
-    from: &[u8],
+    home: Option<&[u8]>,
     path: &[u8],
-) -> Result<Bytes, FilesError>
-    ensures { Decides result (words.expanded_path known.now from.now path.now) }
+) -> Result<Option<Bytes>, OutOfMemory>
+    ensures { IfOk result (λ made. made ≡ words.expanded_path (option_copied home.entry) path.now) }
 {
     if is_unknown_home(path) {
-        return Err(home_error(alloc, from)?);
+        return Ok(None);
     }
-    let Some(rest) = behind(path, b"~/".as_slice()) else {
-        return Ok(Bytes::from_slice(alloc, path)?);
+    let Some(rest) = behind(path, b"~".as_slice()) else {
+        return Ok(Some(Bytes::from_slice(alloc, path)?));
     };
-    match bytes_of(&known.home) {
-        Some(home) => Ok(joined(alloc, home, rest)?),
-        None => Err(home_error(alloc, from)?),
+    match home {
+        Some(home) => Ok(Some(joined(alloc, home, rest)?)),
+        None => Ok(None),
     }
 }
 
@@ -52,13 +51,25 @@ fn named(
     ensures { Decides result (words.named known.now from.now value.now) }
 {
     match value {
-        Some(text) => {
-            let path = expanded_path(alloc, known, from, text.as_bytes())?;
-            Ok(Some(beside(alloc, path.as_bytes(), from)?))
-        }
+        Some(text) => named_by(alloc, known, from, text.as_bytes()),
         None => Err(FilesError::Include {
             path: PathText::from_bytes(alloc, from)?,
         }),
+    }
+}
+
+/// The file that the text of a value names.
+fn named_by(
+    alloc: Global,
+    known: &Known,
+    from: &[u8],
+    text: &[u8],
+) -> Result<Option<Bytes>, FilesError>
+    ensures { Decides result (words.named known.now from.now (Some text.now)) }
+{
+    match expanded_path(alloc, bytes_of(&known.home), text)? {
+        Some(path) => Ok(Some(beside(alloc, path.as_bytes(), from)?)),
+        None => Err(home_error(alloc, from)?),
     }
 }
 

@@ -2,7 +2,7 @@ use Rattle.std.proofs.Common.{◌≡◌, [], Some, drop}
 use Rattle.worktree_fs.specs.Kept.{Asks}
 use Rattle.worktree_fs.specs.Tree.{Names}
 use Rattle.git_config_files.specs.Files.{stacked}
-use Rattle.git_config_files.proofs.stack.keys_of_stack.Given as goal
+use Rattle.git_config_files.proofs.stack.keys_in_turn.Given as goal
 
 abbrev pub invariant-loop-file : goal.invariant-loop-file
 invariant-loop-file g l =

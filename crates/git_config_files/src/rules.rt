@@ -1,0 +1,248 @@
+//! The files of ignore rules outside the work tree.
+ghost use Rattle.std.specs.Prelude.{◌≡◌, Some, None, Ok, IfOk, option_copied};
+ghost use Rattle.std.specs.List.{list_any};
+ghost use Rattle.git_config_files.specs.Answers.{Decides};
+ghost use Rattle.git_config_files.specs.Finds.{Finds};
+ghost use Rattle.git_config_files.specs.Rules as words;
+
+use crate::conditions::bytes_of;
+use crate::error::FilesError;
+use crate::includes::text_at;
+use crate::targets::expanded_path;
+use crate::which::{in_config_home, value_error};
+use git_config_lite::{Entry, File, Section};
+use git_places::{Places, Surroundings};
+use gitbase_core::{Bytes, OutOfMemory, PathText, eq_ignore_case, without_mark};
+use std::alloc::Global;
+use std::marker::Model;
+use worktree_fs::{Worktree, from_directory};
+
+/// A file of ignore rules. Contracts see a record of both parts.
+#[derive(Debug, Drop)]
+pub struct RulesFile {
+    /// An absolute path.
+    pub path: PathText,
+    /// What stands there, without the byte order mark at the front, if there is one.
+    pub bytes: Bytes,
+}
+
+impl Model for RulesFile {
+    ghost use Rattle.git_config_files.specs.Rules as words;
+
+    ghost Value = { words.RulesFile };
+
+    ghost view = { λ file. record { path = file.path; bytes = file.bytes } };
+}
+
+/// The files of ignore rules outside the work tree; those of the repository come before those of the user. Contracts see a record of both.
+#[derive(Debug, Drop)]
+pub struct Rules {
+    /// The file that `core.excludesFile` names, or the user's `ignore`, if it is there.
+    pub user: Option<RulesFile>,
+    /// `info/exclude` of the repository, if it is there.
+    pub repository: Option<RulesFile>,
+}
+
+impl Model for Rules {
+    ghost use Rattle.git_config_files.specs.Rules as words;
+
+    ghost Value = { words.Rules };
+
+    ghost view = { λ rules. words.rules_of rules.user rules.repository };
+}
+
+fn lacks_value(entry: &Entry) -> bool
+    ensures { result ≡ words.lacks_value entry.now }
+{
+    eq_ignore_case(entry.key.as_bytes(), b"excludesfile") && entry.value.is_none()
+}
+
+fn some_lack(entries: &[Entry]) -> bool
+    ensures { result ≡ list_any words.lacks_value entries.now }
+{
+    entries.iter().any(lacks_value)
+}
+
+/// Whether a section is `[core]`.
+fn is_core(section: &Section) -> bool
+    ensures { result ≡ words.is_core section.now.name section.now.subsection }
+{
+    match section.subsection_name() {
+        None => eq_ignore_case(section.name(), b"core"),
+        Some(_) => false,
+    }
+}
+
+/// Whether a section has `core.excludesFile` without a value.
+fn lacks_in(section: &Section) -> bool
+    ensures { result ≡ words.lacks_in section.now }
+{
+    is_core(section) && some_lack(section.entries())
+}
+
+fn some_lacks(config: &File) -> bool
+    ensures { result ≡ list_any words.lacks_in config.now.sections }
+{
+    for section in config.sections() {
+        if lacks_in(section) {
+            return true;
+        }
+    }
+    false
+}
+
+/// The last value of `core.excludesFile`, if there is one.
+fn told_excludes(alloc: Global, config: &File) -> Result<Option<Bytes>, FilesError>
+    ensures { Decides result (words.told_excludes config.now.sections) }
+{
+    if some_lacks(config) {
+        return Err(value_error(alloc, b"core.excludesFile")?);
+    }
+    match config.string(b"core", None, b"excludesfile") {
+        Some(text) => Ok(Some(Bytes::from_slice(alloc, text)?)),
+        None => Ok(None),
+    }
+}
+
+/// A path from the top of the work tree on; one with a home that is not known is refused.
+fn from_root(alloc: Global, root: &[u8], path: Option<&[u8]>) -> Result<Option<Bytes>, FilesError>
+    ensures { Decides result (words.from_root root.now (option_copied path.entry)) }
+{
+    match path {
+        Some(path) => Ok(Some(from_directory(alloc, path, root)?)),
+        None => Err(value_error(alloc, b"core.excludesFile")?),
+    }
+}
+
+/// Where the user's rules lie, by what a configuration tells.
+fn excludes_told(
+    alloc: Global,
+    root: &[u8],
+    around: &Surroundings,
+    text: &[u8],
+) -> Result<Option<Bytes>, FilesError>
+    ensures { Decides result (words.excludes_by root.now around.now (Some text.now)) }
+{
+    if text.is_empty() {
+        return Ok(None);
+    }
+    let path = expanded_path(alloc, bytes_of(&around.home), text)?;
+    from_root(alloc, root, bytes_of(&path))
+}
+
+/// Where they lie where nothing is told.
+fn excludes_default(
+    alloc: Global,
+    root: &[u8],
+    around: &Surroundings,
+) -> Result<Option<Bytes>, OutOfMemory>
+    ensures { IfOk result (λ path. words.excludes_by root.now around.now None ≡ Ok path) }
+{
+    match in_config_home(alloc, around, b"ignore")? {
+        Some(path) => Ok(Some(from_directory(alloc, path.as_bytes(), root)?)),
+        None => Ok(None),
+    }
+}
+
+/// Where the user's rules lie.
+fn excludes_path(
+    alloc: Global,
+    root: &[u8],
+    around: &Surroundings,
+    config: &File,
+) -> Result<Option<Bytes>, FilesError>
+    ensures { Decides result (words.excludes_path root.now around.now config.now.sections) }
+{
+    match told_excludes(alloc, config)? {
+        Some(text) => excludes_told(alloc, root, around, text.as_bytes()),
+        None => Ok(excludes_default(alloc, root, around)?),
+    }
+}
+
+/// The rules at a path, if a file is there.
+fn rules_at<W: Worktree>(
+    alloc: Global,
+    worktree: &mut W,
+    path: &[u8],
+) -> Result<Option<RulesFile>, FilesError>
+    ensures { Finds W.Worktree worktree.old worktree.new (λ t. words.rules_at t path.now) result }
+{
+    let Some(text) = text_at(alloc, worktree, path)? else {
+        return Ok(None);
+    };
+    Ok(Some(RulesFile {
+        path: PathText::from_bytes(alloc, path)?,
+        bytes: Bytes::from_slice(alloc, without_mark(text.as_bytes()))?,
+    }))
+}
+
+/// The rules at a path, if there is one.
+fn maybe_rules<W: Worktree>(
+    alloc: Global,
+    worktree: &mut W,
+    path: &Option<Bytes>,
+) -> Result<Option<RulesFile>, FilesError>
+    ensures { Finds W.Worktree worktree.old worktree.new
+        (λ t. words.maybe_rules t path.now) result }
+{
+    match path {
+        Some(path) => rules_at(alloc, worktree, path.as_bytes()),
+        None => Ok(None),
+    }
+}
+
+/// The rules of the user.
+fn user_rules<W: Worktree>(
+    alloc: Global,
+    worktree: &mut W,
+    root: &[u8],
+    around: &Surroundings,
+    config: &File,
+) -> Result<Option<RulesFile>, FilesError>
+    ensures { Finds W.Worktree worktree.old worktree.new
+        (λ t. words.user_rules t root.now around.now config.now.sections) result }
+{
+    let path = excludes_path(alloc, root, around, config)?;
+    maybe_rules(alloc, worktree, &path)
+}
+
+/// The rules of the repository.
+fn repository_rules<W: Worktree>(
+    alloc: Global,
+    worktree: &mut W,
+    common: &[u8],
+) -> Result<Option<RulesFile>, FilesError>
+    ensures { Finds W.Worktree worktree.old worktree.new
+        (λ t. words.rules_at t (words.info_exclude common.now)) result }
+{
+    let path = from_directory(alloc, b"info/exclude", common)?;
+    rules_at(alloc, worktree, path.as_bytes())
+}
+
+/// The ignore rules outside the work tree of a repository: those of the file that `core.excludesFile` names in `config`, which is what
+/// [`read_stack`](crate::read_stack) answers, and `info/exclude` of the repository. A path is taken from the top of the work tree where
+/// it is relative, and a `~` at its front is the home; an empty one names no file. Where nothing is named, the user's rules are in
+/// `git/ignore` beneath `XDG_CONFIG_HOME`, or beneath `.config` in the home. What is not there has no rules.
+///
+/// # Errors
+///
+/// - `Value`: `core.excludesFile` has no value, or begins with a home that is not known.
+/// - `NoFile`: what stands at the path of one of the files is no file.
+/// - `Fault`: the worktree failed, which it counted. No fault reads as "nothing is there".
+/// - `OutOfMemory` for want of memory.
+///
+/// See docs/DIFFERENCES.md#configurations-of-git.
+pub fn rules_files<W: Worktree>(
+    alloc: Global,
+    worktree: &mut W,
+    places: &Places,
+    around: &Surroundings,
+    config: &File,
+) -> Result<Rules, FilesError>
+    ensures { Finds W.Worktree worktree.old worktree.new
+        (λ t. words.rules_in t places.now around.now config.now.sections) result }
+{
+    let user = user_rules(alloc, worktree, places.root.as_bytes(), around, config)?;
+    let repository = repository_rules(alloc, worktree, places.common_dir.as_bytes())?;
+    Ok(Rules { user, repository })
+}

@@ -1,0 +1,13 @@
+//! What git's configurations say in a work tree, and which files of ignore rules they name: stacks, as git reads them.
+#![tactic(auto)]
+
+#[cfg(test)]
+mod answers;
+#[cfg(test)]
+mod rules;
+#[cfg(test)]
+mod stacks;
+#[cfg(test)]
+mod texts;
+#[cfg(test)]
+mod tree;

@@ -1,0 +1,83 @@
+//! The files of ignore rules outside the work tree.
+use crate::answers as git;
+use crate::stacks::is_refused;
+use crate::tree::{parted, places_in, surroundings_of, tree_of, wanted};
+use git_config_files::{FilesError, Rules, RulesFile, read_stack, rules_files};
+use git_places::{Places, Surroundings};
+use std::alloc::Global;
+use worktree_fs::{MemoryWorktree, Worktree};
+
+/// Whether a file is at the path that is wanted, without links, and has this text; `-` wants none.
+fn is_file(
+    alloc: Global,
+    tree: &mut MemoryWorktree,
+    file: &Option<RulesFile>,
+    want: &[u8],
+    text: &[u8],
+) -> bool {
+    let Some(file) = file else {
+        return want == b"-".as_slice();
+    };
+    match tree.real_path(alloc, file.path.as_bytes(), b"/") {
+        Ok(Some(real)) => real.as_bytes() == want && file.bytes.as_bytes() == text,
+        _ => false,
+    }
+}
+
+fn are_rules(alloc: Global, tree: &mut MemoryWorktree, rules: &Rules, want: &[u8]) -> bool {
+    let (user, repository) = parted(want, b' ');
+    is_file(alloc, tree, &rules.user, user, b"u\n")
+        && is_file(alloc, tree, &rules.repository, repository, b"r\n")
+}
+
+fn rules_in(
+    alloc: Global,
+    tree: &mut MemoryWorktree,
+    places: &Places,
+    around: &Surroundings,
+) -> Result<Rules, FilesError> {
+    let stack = read_stack(alloc, tree, places, around)?;
+    rules_files(alloc, tree, places, around, &stack.file)
+}
+
+fn answers(
+    alloc: Global,
+    tree: &mut MemoryWorktree,
+    places: &Places,
+    around: &Surroundings,
+    want: &[u8],
+) -> bool {
+    match rules_in(alloc, tree, places, around) {
+        Ok(rules) => are_rules(alloc, tree, &rules, want),
+        Err(error) => is_refused(alloc, &error, want),
+    }
+}
+
+fn is_answered(alloc: Global, want: &[u8], words: &[u8], steps: &[u8]) -> bool {
+    let (Some(tree), Some(around)) = (tree_of(alloc, steps), surroundings_of(alloc, words)) else {
+        return false;
+    };
+    let mut tree = tree;
+    match places_in(alloc, &mut tree) {
+        Ok(places) => answers(alloc, &mut tree, &places, &around, want),
+        Err(_) => false,
+    }
+}
+
+fn first_lie(alloc: Global, rows: &'static [u8]) -> Option<&'static [u8]> {
+    for row in rows.split(|byte| *byte == b'\n') {
+        let (answer, asked) = parted(row, b'^');
+        let (words, steps) = parted(asked, b'^');
+        if !row.is_empty() && !is_answered(alloc, wanted(answer), words, steps) {
+            return Some(row);
+        }
+    }
+    None
+}
+
+#[test]
+fn rules_files_are_those_that_git_reads(rt: HostRuntime) {
+    let alloc = rt.alloc();
+    assert_eq!(rt; first_lie(alloc, git::RULES), None);
+    assert_eq!(rt; first_lie(alloc, git::RULES_DIFFERENCES), None);
+}
