@@ -140,21 +140,24 @@ answer() {
 tell_line() {
     case $1 in
     'spec '*) echo "$script: spec=${1#spec } is no path spec that is read here: docs/FORMATS.md says what a path spec is" >&2 ;;
-    'worktree '*) echo "$script: worktree=${1#worktree } begins with a slash, or has a backslash, which is written as \\5c" >&2 ;;
+    'worktree '*) echo "$script: worktree=${1#worktree } has a backslash, which is written as \\5c" >&2 ;;
     *) echo "$script: that line is: $1" >&2 ;;
     esac
 }
 
 # Names what in the work tree can make the file system fail, as far as it can be found from here.
 tell_faults() {
-    echo "$script: the file system failed somewhere; what is named here, if anything, can be why. worktree=PATH leaves the directory out that holds it:" >&2
+    echo "$script: the file system failed somewhere; what is named here, if anything, can be why." \
+        "worktree=PATH leaves the directory out that holds it:" >&2
     {
-        find "$root" -name .git -prune -o -type d \( ! -readable -o ! -executable \) -printf 'a directory that may not be read: %P\n' -prune
-        find "$root" \( -name .gitignore -o -name .git -o -path '*/.git/HEAD' -o -path '*/.git/commondir' \) ! -readable -printf 'not to be read: %P\n'
-        find "$root" -name .git -prune -o -type l -printf '%Y %P\n' | sed -n 's/^[L?] /a link that cannot be followed: /p'
-        find "$root" -name .git -type d ! -executable -printf 'not to be searched: %P\n'
-        find "$root" -name .git -type f -exec env LC_ALL=C.UTF-8 grep -lavx '.*' {} + | sed 's/^/names a path that is not UTF-8: /'
-        find "$root" -name .git -prune -o -print | LC_ALL=C.UTF-8 grep -avx '.*' | sed 's/^/a name that is not UTF-8: /'
+        cd -- "$root"
+        find . -name .git -prune -o -type d \( ! -readable -o ! -executable \) -printf 'a directory that may not be read: %P\n' -prune
+        find . \( -name .gitignore -o -name .git -o -path '*/.git/HEAD' -o -path '*/.git/commondir' \) ! -readable \
+            -printf 'not to be read: %P\n'
+        find . -name .git -prune -o -type l -printf '%Y %P\n' | sed -n 's/^[L?] /a link that cannot be followed: /p'
+        find . -name .git -type d ! -executable -printf 'not to be searched: %P\n'
+        find . -name .git -type f -exec env LC_ALL=C.UTF-8 grep -lavx '.*' {} + | sed 's|^\./|names a path that is not UTF-8: |'
+        find . -name .git -prune -o -print | LC_ALL=C.UTF-8 grep -avx '.*' | sed 's|^\./|a name that is not UTF-8: |'
     } 2>/dev/null | head -n 5 | cat -v >&2 || true
 }
 
