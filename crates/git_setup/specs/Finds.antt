@@ -1,0 +1,23 @@
+-- What a call promises that reads a work tree and its repository.
+use Rattle.std.specs.Prelude.{Result}
+use Rattle.worktree_fs.specs.declared.worktree.Worktree.{Ghosts as WorktreeOf}
+use Rattle.worktree_fs.specs.Tree.{Names}
+use Rattle.git_setup.specs.Outcomes.{GivesBy, DecidesBy, UnlessBy, FindsBy}
+use Rattle.git_setup.specs.declared.error.GitRefusal.{GitRefusal}
+use Rattle.git_setup.specs.declared.error.GitRefusal.TheVariants as errors
+
+-- an answer is what is to be found, a refusal of it too; the worktree may fail instead, and memory may be wanted
+abbrev pub Gives : {A : Type 0} → Result A GitRefusal → Result A GitRefusal → Type 0
+Gives result found = GivesBy errors.Fault errors.OutOfMemory result found
+
+-- the same of a call that asks no worktree, which never answers that it failed
+abbrev pub Decides : {A : Type 0} → Result A GitRefusal → Result A GitRefusal → Type 0
+Decides result found = DecidesBy errors.Fault errors.OutOfMemory result found
+
+-- what holds unless the worktree failed
+abbrev pub UnlessFault : {A : Type 0} → Result A GitRefusal → Type 0 → Type 0
+UnlessFault result Holds = UnlessBy errors.Fault result Holds
+
+-- over a told tree the answer is what is found in it; a fault has its cause, no other answer hides one, and the worktree stays as it was
+abbrev pub Finds : {W A : Type 0} → WorktreeOf W → W → W → (Names → Result A GitRefusal) → Result A GitRefusal → Type 0
+Finds w before now found result = FindsBy w before now errors.Fault errors.OutOfMemory found result

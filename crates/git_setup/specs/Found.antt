@@ -1,0 +1,139 @@
+-- The setup that is found from a directory.
+use Rattle.std.specs.Prelude.{ℕ, List, [], ◌∷◌, Bool, true, false, map, codes, Option, Some, None, is_some, Result, Ok, Err, unwrap_or, if◌then◌else◌}
+use Rattle.std.specs.FinMap.{empty}
+use Rattle.gitbase_core.specs.declared.entry.IndexEntry.{IndexEntry}
+use Rattle.git_config_files.specs.Files.{Configured}
+use Rattle.git_config_files.specs.Rules.{rules_in}
+use Rattle.git_config_files.specs.Stack.{Stack, stack_at}
+use Rattle.git_places.specs.Ceilings.{ceilings_of}
+use Rattle.git_places.specs.Places.{Layout, layout_in}
+use Rattle.git_places.specs.Surroundings.{Surroundings}
+use Rattle.glob_rules.specs.PathSpec.{PathSpec}
+use Rattle.worktree_fs.specs.Changes.{real_path}
+use Rattle.worktree_fs.specs.Tree.{Names}
+use Rattle.worktree_report.specs.ConfigFiles.{ConfigFile}
+use Rattle.worktree_report.specs.declared.setup.Setup.{Setup}
+use Rattle.worktree_report.specs.declared.setup.SetupOptions.{SetupOptions}
+use Rattle.git_setup.specs.AskedSpecs.{specs_in}
+use Rattle.git_setup.specs.GlobalRules.{globals_of}
+use Rattle.git_setup.specs.IndexAt.{entries_here, index_path}
+use Rattle.git_setup.specs.Present.{index_seen}
+use Rattle.git_setup.specs.Protected.{protected_in}
+use Rattle.git_setup.specs.Refusals.{as_files, as_places}
+use Rattle.git_setup.specs.Steps.{◌>>=◌, and_then}
+use Rattle.git_setup.specs.Switches.{switches_in}
+use Rattle.git_setup.specs.declared.asked.Asked.{Asked}
+use Rattle.git_setup.specs.declared.error.GitRefusal.{GitRefusal}
+use Rattle.git_setup.specs.declared.error.GitRefusal.TheVariants as errors
+use Rattle.git_setup.specs.declared.found.Found.{Found}
+use Rattle.git_setup.specs.declared.parts.Parts.{Parts}
+use Rattle.git_setup.specs.declared.reading.Read.{Read}
+use Rattle.git_setup.specs.declared.switches.Switches.{Switches}
+
+-- ---- where
+
+-- a variable that points git elsewhere is refused, before anything is asked
+abbrev pub unless_elsewhere : Option (List ℕ) → Result (List (List ℕ)) GitRefusal → Result (List (List ℕ)) GitRefusal
+unless_elsewhere None given = given
+unless_elsewhere (Some name) given = Err (errors.Elsewhere name)
+
+abbrev pub ceilings_told : Names → Option (List ℕ) → List (List ℕ)
+ceilings_told t None = []
+ceilings_told t (Some text) = ceilings_of t text
+
+abbrev pub ceilings_in : Names → Surroundings → Result (List (List ℕ)) GitRefusal
+ceilings_in t around = unless_elsewhere around.elsewhere (Ok (ceilings_told t around.ceilings))
+
+abbrev pub places_by : Names → Surroundings → List (List ℕ) → Result Layout GitRefusal
+places_by t around ceilings = as_places (layout_in ceilings t around.directory)
+
+-- the work tree around the current directory
+abbrev pub places_in : Names → Surroundings → Result Layout GitRefusal
+places_in t around = and_then (places_by t around) (ceilings_in t around)
+
+-- ---- what is asked
+
+abbrev pub is_for_deletion : SetupOptions → Bool
+is_for_deletion options = is_some options.for_deletion
+
+abbrev pub options_with : SetupOptions → Bool → SetupOptions
+options_with options ignore_case = record options { ignore_case = ignore_case }
+
+-- the current directory matters to a deletion alone
+abbrev pub current_for : SetupOptions → List ℕ → Option (List ℕ)
+current_for options directory = if is_for_deletion options then Some directory else None
+
+-- ---- the configurations that are read for submodules
+
+abbrev pub config_real : Names → Configured → ConfigFile
+config_real t file = (file.source, unwrap_or (real_path t file.path (codes "/")) file.path)
+
+-- those in which keys stand, by their paths without links
+abbrev pub configs_for : Names → SetupOptions → List Configured → List ConfigFile
+configs_for t options files = if options.submodules then map (config_real t) files else []
+
+-- ---- what the files say
+
+-- the entries of the index as they are seen in the work tree, and what the configurations say
+unfoldable pub read_in : Names → Layout → Surroundings → Result Read GitRefusal
+read_in t places around = do
+  entries ← entries_here t places.git
+  stack ← as_files (stack_at t places around)
+  switches ← switches_in stack.file.sections
+  index ← index_seen t places.root (index_path places.git) switches.looks_for_skipped entries
+  Ok (record { stack = stack; switches = switches; index = index })
+
+abbrev pub parts_of : Read → List ℕ → List PathSpec → List (List ℕ) → List ConfigFile → Parts
+parts_of read globals specs worktrees configs =
+    record {
+      ignore_case = read.switches.ignore_case;
+      index = read.index;
+      globals = globals;
+      specs = specs;
+      worktrees = worktrees;
+      configs = configs;
+    }
+
+-- what a setup has of that, and of the rules files and the path specs
+unfoldable pub parts_by : Names → Layout → Surroundings → Asked → Read → Result Parts GitRefusal
+parts_by t places around asked read = do
+  rules ← as_files (rules_in t places around read.stack.file.sections)
+  specs ← specs_in read.switches.ignore_case places.root around.directory asked.paths.items
+  worktrees ← protected_in (is_for_deletion asked.options) read.switches.ignore_case read.index
+  Ok (parts_of read (globals_of rules) specs worktrees (configs_for t asked.options read.stack.files))
+
+-- ---- all of it
+
+-- what a setup has from the repository
+abbrev pub setup_with : List ℕ → List ℕ → Asked → Parts → Setup
+setup_with git directory asked parts =
+    record {
+      git_dir = Some git;
+      current_dir = current_for asked.options directory;
+      root = None;
+      depth = asked.depth;
+      index = parts.index;
+      blobs = empty;
+      overrides = [];
+      globals = parts.globals;
+      specs = parts.specs;
+      worktrees = record { keys = parts.worktrees };
+      configs = parts.configs;
+      options = options_with asked.options parts.ignore_case;
+    }
+
+abbrev pub found_with : Layout → Surroundings → Asked → Parts → Found
+found_with places around asked parts = record { root = places.root; setup = setup_with places.own around.directory asked parts }
+
+-- what is found in a work tree
+abbrev pub found_by : Names → Surroundings → Asked → Layout → Result Found GitRefusal
+found_by t around asked places = do
+  read ← read_in t places around
+  parts ← parts_by t places around asked read
+  Ok (found_with places around asked parts)
+
+-- the setup that is found from the current directory, or the first refusal
+unfoldable pub found_in : Names → Surroundings → Asked → Result Found GitRefusal
+found_in t around asked = do
+  places ← places_in t around
+  found_by t around asked places

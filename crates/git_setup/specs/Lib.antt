@@ -1,0 +1,13 @@
+pub mod Outcomes
+pub mod Finds
+pub mod Steps
+pub mod Refusals
+pub mod IndexAt
+pub mod Switches
+pub mod Present
+pub mod GlobalRules
+pub mod Placed
+pub mod AskedSpecs
+pub mod Protected
+pub mod Found
+pub mod SameText

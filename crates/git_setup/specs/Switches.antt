@@ -1,0 +1,25 @@
+-- What the configuration says of how names compare, and of a sparse work tree.
+use Rattle.std.specs.Prelude.{ℕ, Bool, true, false, not, ◌&&◌, ◌++◌, List, codes, Option, Some, None, Result, Ok, Err}
+use Rattle.git_config_lite.specs.Lookups.{boolean}
+use Rattle.git_config_lite.specs.Sections.{Section}
+use Rattle.git_setup.specs.Steps.{◌>>=◌, and_then}
+use Rattle.git_setup.specs.declared.error.GitRefusal.{GitRefusal}
+use Rattle.git_setup.specs.declared.error.GitRefusal.TheVariants as errors
+use Rattle.git_setup.specs.declared.switches.Switches.{Switches}
+
+abbrev pub truth_said : List ℕ → Result (Option Bool) (List ℕ) → Result Bool GitRefusal
+truth_said name (Ok None) = Ok false
+truth_said name (Ok (Some truth)) = Ok truth
+truth_said name (Err text) = Err (errors.Boolean name)
+
+-- what the key `section.key` says as a boolean, no where nothing does; one that is no boolean is refused by this name
+abbrev pub truth_in : List Section → List ℕ → List ℕ → List ℕ → Result Bool GitRefusal
+truth_in sections section key name = truth_said name (boolean section None key sections)
+
+-- `core.ignoreCase`; and whether a skipped entry that is in the work tree counts as one that is not skipped
+unfoldable pub switches_in : List Section → Result Switches GitRefusal
+switches_in sections = do
+  folds ← truth_in sections (codes "core") (codes "ignorecase") (codes "core.ignoreCase")
+  sparse ← truth_in sections (codes "core") (codes "sparsecheckout") (codes "core.sparseCheckout")
+  expects ← truth_in sections (codes "sparse") (codes "expectfilesoutsideofpatterns") (codes "sparse.expectFilesOutsideOfPatterns")
+  Ok (record { ignore_case = folds; looks_for_skipped = sparse && not expects })

@@ -1,0 +1,140 @@
+//! Why no setup is found.
+use git_config_files::FilesError;
+use git_index::IndexFileError;
+use git_places::PlacesError;
+use gitbase_core::{Bytes, IndexError, OutOfMemory, PathText};
+use thiserror::Error;
+use worktree_fs::ReadError;
+
+/// Why no setup is found for the current directory: the first refusal, in the order of the steps of [`crate::setup_here`].
+#[derive(Debug, Drop, PartialEq, Eq, Error)]
+pub enum GitRefusal {
+    /// This variable of the environment points git elsewhere.
+    #[error("Elsewhere")]
+    Elsewhere {
+        name: Bytes,
+    },
+    /// There is no work tree, or its repository is not read here. Never a fault, and never want of memory.
+    #[error("Places")]
+    Places(PlacesError),
+    /// What stands at `path`, in the place of the index, is no file.
+    #[error("IndexNode")]
+    IndexNode {
+        path: PathText,
+    },
+    /// The index file at `path` is outside its grammar. Never for want of memory.
+    #[error("IndexFile")]
+    IndexFile {
+        path: PathText,
+        error: IndexFileError,
+    },
+    /// An entry of the index file at `path`, counted from 0, breaks a rule.
+    #[error("IndexEntry")]
+    IndexEntry {
+        path: PathText,
+        error: IndexError,
+    },
+    /// A configuration, or a rules file that one names, is not read. Never a fault, never want of memory and never a variable of the
+    /// environment.
+    #[error("Files")]
+    Files(FilesError),
+    /// The value of this key of the configuration is no boolean.
+    #[error("Boolean")]
+    Boolean {
+        key: Bytes,
+    },
+    /// The index has one entry for all that is beneath this directory, and something is in its place.
+    #[error("SparseDirectory")]
+    SparseDirectory {
+        path: PathText,
+    },
+    /// Paths are asked for from a directory that is not in the work tree, whose top is `root`.
+    #[error("OutsideRoot")]
+    OutsideRoot {
+        directory: PathText,
+        root: PathText,
+    },
+    /// This text is no path spec.
+    #[error("PathSpec")]
+    PathSpec {
+        text: Bytes,
+    },
+    /// The path of this path spec leads out of the work tree.
+    #[error("OutsidePath")]
+    OutsidePath {
+        text: Bytes,
+    },
+    /// The path of this path spec is from a directory of the work tree, `prefix`, whose bytes would mean something else in front of it.
+    #[error("Prefix")]
+    Prefix {
+        text: Bytes,
+        prefix: Bytes,
+    },
+    /// Paths are to be deleted, names compare without regard to case, and there is a submodule, at `path`.
+    #[error("SubmoduleCase")]
+    SubmoduleCase {
+        path: PathText,
+    },
+    /// The worktree failed, and counted that.
+    #[error("Fault")]
+    Fault,
+    /// Want of memory.
+    #[error("OutOfMemory")]
+    OutOfMemory,
+}
+
+impl From<OutOfMemory> for GitRefusal {
+    ghost use Rattle.std.specs.Prelude.{◌≡◌};
+    ghost use Rattle.git_setup.specs.declared.error.GitRefusal.TheVariants as errors;
+
+    ghost from_gives = { λ _ e. e ≡ errors.OutOfMemory };
+
+    fn from(_refused: OutOfMemory) -> GitRefusal {
+        GitRefusal::OutOfMemory
+    }
+}
+
+impl From<ReadError> for GitRefusal {
+    ghost use Rattle.std.specs.Prelude.{◌≡◌};
+    ghost use Rattle.git_setup.specs.Refusals.{of_read};
+
+    ghost from_gives = { λ refused e. e ≡ of_read refused };
+
+    fn from(refused: ReadError) -> GitRefusal {
+        match refused {
+            ReadError::Fault => GitRefusal::Fault,
+            ReadError::OutOfMemory => GitRefusal::OutOfMemory,
+        }
+    }
+}
+
+impl From<PlacesError> for GitRefusal {
+    ghost use Rattle.std.specs.Prelude.{◌≡◌};
+    ghost use Rattle.git_setup.specs.Refusals.{of_places};
+
+    ghost from_gives = { λ refused e. e ≡ of_places refused };
+
+    fn from(refused: PlacesError) -> GitRefusal {
+        match refused {
+            PlacesError::Fault => GitRefusal::Fault,
+            PlacesError::OutOfMemory => GitRefusal::OutOfMemory,
+            refused => GitRefusal::Places(refused),
+        }
+    }
+}
+
+impl From<FilesError> for GitRefusal {
+    ghost use Rattle.std.specs.Prelude.{◌≡◌};
+    ghost use Rattle.git_setup.specs.Refusals.{of_files};
+
+    ghost from_gives = { λ refused e. e ≡ of_files refused };
+
+    fn from(refused: FilesError) -> GitRefusal {
+        match refused {
+            FilesError::Elsewhere { name } => GitRefusal::Elsewhere { name },
+            FilesError::Fault => GitRefusal::Fault,
+            FilesError::OutOfMemory => GitRefusal::OutOfMemory,
+            refused => GitRefusal::Files(refused),
+        }
+    }
+}

@@ -1,0 +1,141 @@
+//! What a setup has of a repository.
+ghost use Rattle.std.specs.Prelude.{◌≡◌, ◌++◌, ◌∷◌, [], codes, map, Ok, OnOk, unwrap_or};
+ghost use Rattle.worktree_fs.specs.Changes.{real_path};
+ghost use Rattle.git_setup.specs.Finds.{Finds};
+ghost use Rattle.git_setup.specs.Found as words;
+
+use crate::asked::Asked;
+use crate::error::GitRefusal;
+use crate::globals::globals_of;
+use crate::pathspecs::specs_in;
+use crate::protected::{Protected, protected_in};
+use crate::reading::Read;
+use git_config_files::{Configured, rules_files};
+use git_config_lite::Source;
+use git_places::{Places, Surroundings};
+use gitbase_core::{Bytes, OutOfMemory, PathText, State};
+use glob_rules::pathspec::Search;
+use std::alloc::Global;
+use worktree_fs::Worktree;
+use worktree_report::{Configs, SetupOptions};
+
+/// What a setup has of a repository.
+#[derive(Debug, Drop)]
+pub struct Parts {
+    /// Whether names compare without regard to the case of ASCII letters.
+    pub ignore_case: bool,
+    /// The index.
+    pub index: State,
+    /// The rules that come behind those of all directories.
+    pub globals: Bytes,
+    /// The path specs that are asked for.
+    pub specs: Search,
+    /// The submodules that a deletion leaves alone.
+    pub worktrees: Protected,
+    /// The configurations that are read for submodules.
+    pub configs: Configs,
+}
+
+/// Whether the options are for deletion.
+pub fn is_for_deletion(options: &SetupOptions) -> bool
+    ensures { result ≡ words.is_for_deletion options.now }
+{
+    options.for_deletion.is_some()
+}
+
+/// The path of a configuration without its links, or as it is where nothing is there.
+fn real_config<W: Worktree>(
+    alloc: Global,
+    worktree: &mut W,
+    path: &[u8],
+) -> Result<PathText, GitRefusal>
+    ensures { Finds W.Worktree worktree.old worktree.new
+        (λ t. Ok (unwrap_or (real_path t path.now (codes "/")) path.now)) result }
+{
+    match worktree.real_path(alloc, path, b"/")? {
+        Some(real) => Ok(real),
+        None => Ok(PathText::from_bytes(alloc, path)?),
+    }
+}
+
+/// Adds a configuration at the end.
+fn push(
+    configs: &mut Vec<(Source, PathText)>,
+    source: Source,
+    path: PathText,
+) -> Result<(), OutOfMemory>
+    ensures { OnOk result (configs.new.items ≡ configs.old.items ++ (source, path) ∷ []) }
+{
+    configs.push((source, path))?;
+    Ok(())
+}
+
+/// Configurations by their paths without links.
+fn real_configs<W: Worktree>(
+    alloc: Global,
+    worktree: &mut W,
+    files: &[Configured],
+) -> Result<Configs, GitRefusal>
+    ensures { Finds W.Worktree worktree.old worktree.new
+        (λ t. Ok (map (words.config_real t) files.now)) result }
+{
+    let mut configs = Vec::new(alloc);
+    for file in files {
+        let path = real_config(alloc, worktree, file.path.as_bytes())?;
+        push(&mut configs, file.source, path)?;
+    }
+    Ok(Configs::from_vec(configs))
+}
+
+/// The configurations that are read for submodules, if these are asked for.
+fn configs_for<W: Worktree>(
+    alloc: Global,
+    worktree: &mut W,
+    options: &SetupOptions,
+    files: &[Configured],
+) -> Result<Configs, GitRefusal>
+    ensures { Finds W.Worktree worktree.old worktree.new
+        (λ t. Ok (words.configs_for t options.now files.now)) result }
+{
+    if options.submodules {
+        return real_configs(alloc, worktree, files);
+    }
+    Ok(Configs::from_vec(Vec::new(alloc)))
+}
+
+/// What a setup has of a repository.
+#[tactic(auto, unfolding(crate::specs::Found::parts_by))]
+pub fn parts_here<W: Worktree>(
+    alloc: Global,
+    worktree: &mut W,
+    places: &Places,
+    around: &Surroundings,
+    asked: &Asked,
+    read: Read,
+) -> Result<Parts, GitRefusal>
+    ensures { Finds W.Worktree worktree.old worktree.new
+        (λ t. words.parts_by t places.now around.now asked.now read) result }
+{
+    let rules = rules_files(alloc, worktree, places, around, &read.stack.file)?;
+    let ignore_case = read.switches.ignore_case;
+    let root = places.root.as_bytes();
+    let specs = specs_in(
+        alloc,
+        ignore_case,
+        root,
+        around.directory.as_bytes(),
+        &asked.paths,
+    )?;
+    let deletes = is_for_deletion(&asked.options);
+    let worktrees = protected_in(alloc, deletes, ignore_case, read.index.entries())?;
+    let globals = globals_of(alloc, &rules)?;
+    let configs = configs_for(alloc, worktree, &asked.options, read.stack.files.as_slice())?;
+    Ok(Parts {
+        ignore_case,
+        index: read.index,
+        globals,
+        specs,
+        worktrees,
+        configs,
+    })
+}

@@ -1,0 +1,64 @@
+//! What the configuration says of how names compare, and of a sparse work tree.
+ghost use Rattle.git_setup.specs.Finds.{Decides};
+ghost use Rattle.git_setup.specs.Switches as words;
+
+use crate::error::GitRefusal;
+use git_config_lite::File;
+use gitbase_core::Bytes;
+use std::alloc::Global;
+
+/// What the configuration says of how names compare, and of a sparse work tree.
+#[derive(Clone, Copy, Debug, PartialEq, Eq)]
+pub struct Switches {
+    /// Whether names compare without regard to the case of ASCII letters.
+    pub ignore_case: bool,
+    /// Whether a skipped entry that is in the work tree counts as one that is not skipped.
+    pub looks_for_skipped: bool,
+}
+
+/// What a key says as a boolean; `name` is what it is called where it is refused.
+fn truth_in(
+    alloc: Global,
+    config: &File,
+    section: &[u8],
+    key: &[u8],
+    name: &[u8],
+) -> Result<bool, GitRefusal>
+    ensures { Decides result (words.truth_in config.now.sections section.now key.now name.now) }
+{
+    match config.boolean(section, None, key) {
+        Ok(Some(truth)) => Ok(truth),
+        Ok(None) => Ok(false),
+        Err(_) => Err(GitRefusal::Boolean {
+            key: Bytes::from_slice(alloc, name)?,
+        }),
+    }
+}
+
+/// The switches of a configuration.
+///
+/// See docs/DIFFERENCES.md#last-boolean.
+#[tactic(auto, unfolding(crate::specs::Switches::switches_in))]
+pub fn switches_in(alloc: Global, config: &File) -> Result<Switches, GitRefusal>
+    ensures { Decides result (words.switches_in config.now.sections) }
+{
+    let ignore_case = truth_in(alloc, config, b"core", b"ignorecase", b"core.ignoreCase")?;
+    let sparse = truth_in(
+        alloc,
+        config,
+        b"core",
+        b"sparsecheckout",
+        b"core.sparseCheckout",
+    )?;
+    let expects = truth_in(
+        alloc,
+        config,
+        b"sparse",
+        b"expectfilesoutsideofpatterns",
+        b"sparse.expectFilesOutsideOfPatterns",
+    )?;
+    Ok(Switches {
+        ignore_case,
+        looks_for_skipped: sparse & !expects,
+    })
+}
