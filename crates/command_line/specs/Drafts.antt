@@ -1,0 +1,129 @@
+-- What the options of a command say together.
+use Rattle.std.specs.Prelude.{ℕ, Bool, true, false, Option, None, if◌then◌else◌}
+use Rattle.clean_plan.specs.declared.what.Finding.{Finding}
+use Rattle.clean_plan.specs.declared.what.Finding.TheVariants as findings
+use Rattle.clean_plan.specs.declared.what.What.{What}
+use Rattle.clean_plan.specs.declared.what.What.TheVariants as whats
+use Rattle.dir_classify.specs.declared.options.CollapsedEntriesEmissionMode.{CollapsedEntriesEmissionMode}
+use Rattle.dir_classify.specs.declared.options.EmissionMode.{EmissionMode}
+use Rattle.dir_classify.specs.declared.options.EmissionMode.TheVariants.{Matching}
+use Rattle.dir_classify.specs.declared.options.ForDeletionMode.{ForDeletionMode}
+use Rattle.dir_walk.specs.declared.strategy.Strategy.{Strategy}
+use Rattle.dir_walk.specs.declared.strategy.Strategy.TheVariants.{Held}
+use Rattle.worktree_report.specs.Permissions.{all_permissions, isolated_permissions}
+use Rattle.worktree_report.specs.declared.permissions.Permissions.{Permissions}
+use Rattle.worktree_report.specs.declared.setup.SetupOptions.{SetupOptions}
+use Rattle.worktree_stack.specs.declared.ignore_source.Source.TheVariants as sources
+use Rattle.command_line.specs.declared.draft.Draft.{Draft}
+use Rattle.command_line.specs.declared.form.Color.{Color}
+use Rattle.command_line.specs.declared.form.Color.TheVariants.{Auto}
+use Rattle.command_line.specs.declared.form.Form.{Form}
+use Rattle.command_line.specs.declared.form.LineEnd.{LineEnd}
+use Rattle.command_line.specs.declared.form.LineEnd.TheVariants.{Feed}
+use Rattle.command_line.specs.declared.form.Wording.{Wording}
+use Rattle.command_line.specs.declared.form.Wording.TheVariants.{Words}
+use Rattle.command_line.specs.declared.opt.Switch.{Switch}
+use Rattle.command_line.specs.declared.opt.Switch.TheVariants as switches
+
+-- Each untracked path by itself and nothing else, by the rules that git asks: what lies in an excluded directory stays excluded.
+-- Whether letters compare without regard to their case is left to the configuration.
+abbrev pub default_options : SetupOptions
+default_options =
+    record {
+      ignore_case = false;
+      recurse_repositories = false;
+      emit_pruned = false;
+      emit_tracked = false;
+      emit_untracked = Matching;
+      emit_ignored = None;
+      emit_collapsed = None;
+      emit_empty_directories = false;
+      for_deletion = None;
+      classify_untracked_bare_repositories = false;
+      symlinks_to_directories_are_ignored_like_directories = false;
+      excludes = true;
+      precious = false;
+      strict_parents = true;
+      origins = false;
+      print_outcome = false;
+      submodules = false;
+      ignore_source = sources.WorktreeThenIdMappingIfNotSkipped;
+      permissions = all_permissions;
+      strategy = Held;
+    }
+
+abbrev pub default_form : Form
+default_form = record { wording = Words; end = Feed; color = Auto }
+
+-- what no words say: untracked paths may be removed, and no repository, bare ones neither
+abbrev pub default_draft : Draft
+default_draft =
+    record { options = default_options; what = whats.Untracked; finding = findings.All; depth = 256; form = default_form; is_help = false }
+
+-- options with one of them turned on or off
+abbrev pub turned : Switch → Bool → SetupOptions → SetupOptions
+turned switches.Tracked on options = record options { emit_tracked = on }
+turned switches.Pruned on options = record options { emit_pruned = on }
+turned switches.EmptyDirectories on options = record options { emit_empty_directories = on }
+turned switches.Origins on options = record options { origins = on }
+turned switches.Submodules on options = record options { submodules = on }
+turned switches.Outcome on options = record options { print_outcome = on }
+turned switches.Excludes on options = record options { excludes = on }
+turned switches.Precious on options = record options { precious = on }
+turned switches.StrictParents on options = record options { strict_parents = on }
+turned switches.RecurseRepositories on options = record options { recurse_repositories = on }
+turned switches.BareRepositories on options = record options { classify_untracked_bare_repositories = on }
+turned switches.LinksAsDirectories on options = record options { symlinks_to_directories_are_ignored_like_directories = on }
+
+abbrev pub permissions_of : Bool → Permissions
+permissions_of is_isolated = if is_isolated then isolated_permissions else all_permissions
+
+-- ---- a draft with one more thing said; what was said of it before is forgotten
+
+abbrev pub with_options : SetupOptions → Draft → Draft
+with_options options draft = record draft { options = options }
+
+abbrev pub with_form : Form → Draft → Draft
+with_form form draft = record draft { form = form }
+
+abbrev pub with_switch : Switch → Bool → Draft → Draft
+with_switch switch on draft = with_options (turned switch on draft.options) draft
+
+abbrev pub with_untracked : EmissionMode → Draft → Draft
+with_untracked mode draft = with_options (record draft.options { emit_untracked = mode }) draft
+
+abbrev pub with_ignored : Option EmissionMode → Draft → Draft
+with_ignored mode draft = with_options (record draft.options { emit_ignored = mode }) draft
+
+abbrev pub with_collapsed : Option CollapsedEntriesEmissionMode → Draft → Draft
+with_collapsed mode draft = with_options (record draft.options { emit_collapsed = mode }) draft
+
+abbrev pub with_deletion : Option ForDeletionMode → Draft → Draft
+with_deletion mode draft = with_options (record draft.options { for_deletion = mode }) draft
+
+abbrev pub with_permissions : Bool → Draft → Draft
+with_permissions is_isolated draft = with_options (record draft.options { permissions = permissions_of is_isolated }) draft
+
+abbrev pub with_strategy : Strategy → Draft → Draft
+with_strategy strategy draft = with_options (record draft.options { strategy = strategy }) draft
+
+abbrev pub with_wording : Wording → Draft → Draft
+with_wording wording draft = with_form (record draft.form { wording = wording }) draft
+
+abbrev pub with_end : LineEnd → Draft → Draft
+with_end end draft = with_form (record draft.form { end = end }) draft
+
+abbrev pub with_color : Color → Draft → Draft
+with_color color draft = with_form (record draft.form { color = color }) draft
+
+abbrev pub with_what : What → Draft → Draft
+with_what what draft = record draft { what = what }
+
+abbrev pub with_finding : Finding → Draft → Draft
+with_finding finding draft = record draft { finding = finding }
+
+abbrev pub with_depth : ℕ → Draft → Draft
+with_depth depth draft = record draft { depth = depth }
+
+abbrev pub with_help : Draft → Draft
+with_help draft = record draft { is_help = true }

@@ -1,0 +1,190 @@
+-- The help texts, and the version.
+use Rattle.std.specs.Prelude.{ℕ, List, [], ◌∷◌, ◌++◌, codes}
+use Rattle.std.specs.List.{flat_map}
+use Rattle.command_line.specs.declared.verb.Topic.{Topic}
+use Rattle.command_line.specs.declared.verb.Topic.TheVariants as topics
+use Rattle.command_line.specs.declared.verb.Verb.TheVariants as verbs
+
+-- how a command is called
+abbrev pub usage_of : Topic → List ℕ
+usage_of topics.Whole = codes "usage: tizhagor [-C DIR] report|plan|modules|state [OPTION..] [--] [PATH..]\n"
+usage_of (topics.Of verbs.Report) = codes "usage: tizhagor [-C DIR] report [OPTION..] [--] [PATH..]\n"
+usage_of (topics.Of verbs.Plan) = codes "usage: tizhagor [-C DIR] plan [OPTION..] [--] [PATH..]\n"
+usage_of (topics.Of verbs.Modules) = codes "usage: tizhagor [-C DIR] modules [OPTION..]\n"
+usage_of (topics.Of verbs.State) = codes "usage: tizhagor [-C DIR] state [OPTION..]\n"
+
+-- lines, each with a line feed
+abbrev text : List (List ℕ) → List ℕ
+text lines = flat_map (λ line. line ++ 10 ∷ []) lines
+
+abbrev whole : List ℕ
+whole =
+    text
+    (codes "usage: tizhagor [-C DIR] report|plan|modules|state [OPTION..] [--] [PATH..]"
+    ∷ codes ""
+    ∷ codes "Says what lies in the git work tree around the current directory. Nothing is run,"
+    ∷ codes "changed or removed, and git is not needed."
+    ∷ codes ""
+    ∷ codes "  report    the untracked paths, and others that options ask for, with their class"
+    ∷ codes "  plan      what may be removed, as git clean -n -d names it"
+    ∷ codes "  modules   what git submodule update would do"
+    ∷ codes "  state     the paths of the index that are not as it has them, and the report"
+    ∷ codes ""
+    ∷ codes "  -C DIR        works in DIR"
+    ∷ codes "  -h, --help    this text; behind a command, that of the command"
+    ∷ codes "  --version     the version"
+    ∷ codes ""
+    ∷ codes "For example: tizhagor -C linux report --ignored=collapse"
+    ∷ []
+    )
+
+unfoldable pub report : List ℕ
+report =
+    text
+    (codes "usage: tizhagor [-C DIR] report [OPTION..] [--] [PATH..]"
+    ∷ codes ""
+    ∷ codes "Writes a line a path: its words, a tab, and the path from the top of the work tree."
+    ∷ codes "A PATH is a path spec from the current directory, as git has them."
+    ∷ codes ""
+    ∷ codes "What is shown"
+    ∷ codes "  -u[MODE], --untracked-files[=MODE]"
+    ∷ codes "                        untracked paths each by itself (matching, the default),"
+    ∷ codes "                        or directories in place of what they hold (collapse)"
+    ∷ codes "  --ignored[=MODE]      ignored paths too: matching, or collapse; or no"
+    ∷ codes "  --collapsed=WHICH     besides a directory that stands for what it holds: what"
+    ∷ codes "                        has another status (mismatch), or all; or no"
+    ∷ codes "  --tracked, --pruned, --empty-directories"
+    ∷ codes "                        tracked paths; those named .git, left out of a sparse"
+    ∷ codes "                        work tree or meant by no PATH; empty directories"
+    ∷ codes "  --origins             a word more: the ignore rule that decided"
+    ∷ codes "  --submodules          a word more: the submodule at the path"
+    ∷ codes "  --permissions=WHICH   the configurations that tell of submodules: secure, all,"
+    ∷ codes "                        or isolated, which is that of the repository alone"
+    ∷ codes "  --outcome             a last line with the counts of the walk"
+    ∷ codes "How it is looked at"
+    ∷ codes "  --no-excludes         no ignore rules"
+    ∷ codes "  --precious            an ignore rule that begins with $ keeps what it matches"
+    ∷ codes "  --no-strict-parents   rules may take up again what lies in an excluded directory"
+    ∷ codes "  --recurse-repositories"
+    ∷ codes "                        nested repositories are directories like any other"
+    ∷ codes "  --bare-repositories   untracked bare repositories are told as repositories"
+    ∷ codes "  --links-as-directories"
+    ∷ codes "                        ignore rules see a link as what it leads to"
+    ∷ codes "  --for-deletion=MODE   as what is to be deleted: hide, nonbare or all says how"
+    ∷ codes "                        repositories are looked for in ignored directories; or no"
+    ∷ codes "  --strategy=HOW        held, or at-once: a job for each directory at the top"
+    ∷ codes "  --depth=N             directories are entered down to N components, at most 1000"
+    ∷ codes "How it is written"
+    ∷ codes "  -z, --null            a NUL behind each line, and paths as they are"
+    ∷ codes "  --plain               two letters in place of words: ?? untracked, !! ignored,"
+    ∷ codes "                        $$ precious, two blanks tracked, -- pruned"
+    ∷ codes "  --color[=WHEN], --no-color"
+    ∷ codes "                        lines in the colour of their status: auto, always, never"
+    ∷ codes "  -h, --help            this text"
+    ∷ codes ""
+    ∷ codes "Of options that say the same the last counts; --no- before the name of one without"
+    ∷ codes "a value turns it off. For example: tizhagor report --ignored -z src"
+    ∷ []
+    )
+
+unfoldable pub plan : List ℕ
+plan =
+    text
+    (codes "usage: tizhagor [-C DIR] plan [OPTION..] [--] [PATH..]"
+    ∷ codes ""
+    ∷ codes "Writes the paths that may be removed, as git clean -n -d names them, one a line. It is"
+    ∷ codes "called at the top of the work tree, from where the paths lead. Nothing is removed. No"
+    ∷ codes "path of the index goes, no repository whose git directory is whole (bare ones go with"
+    ∷ codes "--nonbare), and not the current directory. A PATH is a path spec, as git has them."
+    ∷ codes ""
+    ∷ codes "  -x                    ignored paths too"
+    ∷ codes "  -X                    ignored paths alone"
+    ∷ codes "  --nonbare             bare repositories are directories like any other"
+    ∷ codes "  --no-excludes         no ignore rules"
+    ∷ codes "  --precious            an ignore rule that begins with $ keeps what it matches"
+    ∷ codes "  --no-strict-parents   rules may take up again what lies in an excluded directory"
+    ∷ codes "  --links-as-directories"
+    ∷ codes "                        ignore rules see a link as what it leads to"
+    ∷ codes "  --strategy=HOW        held, or at-once: a job for each directory at the top"
+    ∷ codes "  --depth=N             directories are entered down to N components, at most 1000"
+    ∷ codes "  -z, --null            a NUL behind each path, which stands as it is"
+    ∷ codes "  -h, --help            this text"
+    ∷ codes ""
+    ∷ codes "Of options that say the same the last counts; --no- before the name of one without"
+    ∷ codes "a value turns it off. For example: tizhagor plan -xz | xargs -0 -r ls -d --"
+    ∷ []
+    )
+
+abbrev modules : List ℕ
+modules =
+    text
+    (codes "usage: tizhagor [-C DIR] modules [OPTION..]"
+    ∷ codes ""
+    ∷ codes "Writes the steps that git submodule update would take for the active submodules, and"
+    ∷ codes "the submodules that it would leave out, one a line. Nothing is run."
+    ∷ codes ""
+    ∷ codes "  --permissions=WHICH   the configurations that are read: secure, all, or isolated,"
+    ∷ codes "                        which is that of the repository alone"
+    ∷ codes "  -h, --help            this text"
+    ∷ codes ""
+    ∷ codes "For example: tizhagor modules --permissions=isolated"
+    ∷ []
+    )
+
+unfoldable pub state : List ℕ
+state =
+    text
+    (codes "usage: tizhagor [-C DIR] state [OPTION..]"
+    ∷ codes ""
+    ∷ codes "Writes a line for each path of the index that differs from it or is not looked at: its"
+    ∷ codes "state, a tab, and the path from the top of the work tree; then the lines of report."
+    ∷ codes ""
+    ∷ codes "What is shown"
+    ∷ codes "  -u[MODE], --untracked-files[=MODE]"
+    ∷ codes "                        untracked paths each by itself (matching, the default),"
+    ∷ codes "                        or directories in place of what they hold (collapse)"
+    ∷ codes "  --ignored[=MODE]      ignored paths too: matching, or collapse; or no"
+    ∷ codes "  --collapsed=WHICH     besides a directory that stands for what it holds: what"
+    ∷ codes "                        has another status (mismatch), or all; or no"
+    ∷ codes "  --tracked, --pruned, --empty-directories"
+    ∷ codes "                        tracked paths; those named .git, left out of a sparse"
+    ∷ codes "                        work tree or meant by no PATH; empty directories"
+    ∷ codes "  --origins             a word more: the ignore rule that decided"
+    ∷ codes "  --submodules          a word more: the submodule at the path"
+    ∷ codes "  --permissions=WHICH   the configurations that tell of submodules: secure, all,"
+    ∷ codes "                        or isolated, which is that of the repository alone"
+    ∷ codes "  --outcome             a last line with the counts of the walk"
+    ∷ codes "How it is looked at"
+    ∷ codes "  --no-excludes         no ignore rules"
+    ∷ codes "  --precious            an ignore rule that begins with $ keeps what it matches"
+    ∷ codes "  --no-strict-parents   rules may take up again what lies in an excluded directory"
+    ∷ codes "  --recurse-repositories"
+    ∷ codes "                        nested repositories are directories like any other"
+    ∷ codes "  --bare-repositories   untracked bare repositories are told as repositories"
+    ∷ codes "  --links-as-directories"
+    ∷ codes "                        ignore rules see a link as what it leads to"
+    ∷ codes "  --for-deletion=MODE   as what is to be deleted: hide, nonbare or all says how"
+    ∷ codes "                        repositories are looked for in ignored directories; or no"
+    ∷ codes "  --strategy=HOW        held, or at-once: a job for each directory at the top"
+    ∷ codes "  --depth=N             directories are entered down to N components, at most 1000"
+    ∷ codes "How it is written"
+    ∷ codes "  -z, --null            a NUL behind each line, and paths as they are"
+    ∷ codes "  --color[=WHEN], --no-color"
+    ∷ codes "                        lines in the colour of their status: auto, always, never"
+    ∷ codes "  -h, --help            this text"
+    ∷ codes ""
+    ∷ codes "Of options that say the same the last counts; --no- before the name of one without"
+    ∷ codes "a value turns it off. For example: tizhagor state --ignored"
+    ∷ []
+    )
+
+-- the help text of a command, or of the whole program
+abbrev pub help_of : Topic → List ℕ
+help_of topics.Whole = whole
+help_of (topics.Of verbs.Report) = report
+help_of (topics.Of verbs.Plan) = plan
+help_of (topics.Of verbs.Modules) = modules
+help_of (topics.Of verbs.State) = state
+
+abbrev pub version : List ℕ
+version = codes "tizhagor, unreleased\n"

@@ -1,0 +1,12 @@
+pub mod Verbs
+pub mod Forms
+pub mod Options
+pub mod Drafts
+pub mod Steps
+pub mod Readings
+pub mod Requests
+pub mod Unspelled
+pub mod Rows
+pub mod Rendered
+pub mod Helps
+pub mod Misuses

@@ -1,0 +1,45 @@
+-- The words of a command, one after the other.
+use Rattle.std.specs.Prelude.{ℕ, List, [], ◌∷◌, ◌++◌, codes}
+use Rattle.command_line.specs.declared.draft.Draft.{Draft}
+use Rattle.command_line.specs.declared.misuse.Wrong.{Wrong}
+use Rattle.command_line.specs.declared.misuse.Wrong.TheVariants.{NoValue}
+use Rattle.command_line.specs.declared.read.Read.{Read}
+use Rattle.command_line.specs.declared.read.Read.TheVariants as reads
+use Rattle.command_line.specs.declared.step.Next.{Next}
+use Rattle.command_line.specs.declared.step.Next.TheVariants as nexts
+use Rattle.command_line.specs.declared.step.Step.{Step}
+use Rattle.command_line.specs.declared.step.Step.TheVariants as steps
+use Rattle.command_line.specs.declared.verb.Verb.{Verb}
+use Rattle.command_line.specs.Drafts.{default_draft}
+use Rattle.command_line.specs.Steps.{step_of}
+
+-- what the options say and the paths as they are written; or the first word that is wrong, and how
+pub data Reading : Type 0 where
+  said : Draft → List (List ℕ) → Reading
+  wrong : Wrong → List ℕ → Reading
+
+abbrev pub seen : Read → Reading
+seen (reads.Said draft paths) = said draft paths.items
+seen (reads.Wrong how word) = wrong how word
+
+-- no more words: an option may want a value still
+abbrev pub ended : Draft → Next → List (List ℕ) → Reading
+ended draft nexts.Any paths = said draft paths
+ended draft nexts.Paths paths = said draft paths
+ended draft nexts.Depth paths = wrong NoValue (codes "--depth")
+
+-- what is said with one more word: it says something, it is a path, or it is wrong
+abbrev pub stepped : Step → List ℕ → (Draft → Next → List (List ℕ) → Reading) → Draft → Next → List (List ℕ) → Reading
+stepped (steps.Said now then) word onward draft next paths = onward now then paths
+stepped steps.Path word onward draft next paths = onward draft next (paths ++ word ∷ [])
+stepped (steps.Wrong how) word onward draft next paths = wrong how word
+
+-- the words left, by what was said before them
+unfoldable pub read_on : Verb → List (List ℕ) → Draft → Next → List (List ℕ) → Reading
+read_on verb [] draft next paths = ended draft next paths
+read_on verb (word ∷ words) draft next paths =
+    stepped (step_of verb next word draft) word (λ d n p. read_on verb words d n p) draft next paths
+
+-- what the words of a command say together
+abbrev pub read_words : Verb → List (List ℕ) → Reading
+read_words verb words = read_on verb words default_draft nexts.Any []

@@ -1,0 +1,152 @@
+-- What the words of a command line ask for.
+use Rattle.std.specs.Prelude.{◌≡◌, ℕ, List, [], ◌∷◌, Bool, ◌||◌, nat_eq, ⊤, codes, Option, Some, None, Result, Ok, Err, if◌then◌else◌}
+use Rattle.std.specs.List.{starts_with}
+use Rattle.std.specs.Str.{bytes_eq}
+use Rattle.clean_plan.specs.declared.what.Finding.{Finding}
+use Rattle.clean_plan.specs.declared.what.What.{What}
+use Rattle.git_setup.specs.declared.asked.Asked.{Asked}
+use Rattle.worktree_report.specs.declared.setup.SetupOptions.{SetupOptions}
+use Rattle.command_line.specs.declared.command.Command as code
+use Rattle.command_line.specs.declared.command.Command.TheVariants as commands
+use Rattle.command_line.specs.declared.command.Request.{Request}
+use Rattle.command_line.specs.declared.draft.Draft.{Draft}
+use Rattle.command_line.specs.declared.form.Form.{Form}
+use Rattle.command_line.specs.declared.misuse.Misuse.{Misuse}
+use Rattle.command_line.specs.declared.misuse.Misuse.TheVariants as misuses
+use Rattle.command_line.specs.declared.misuse.Wrong.{Wrong}
+use Rattle.command_line.specs.declared.misuse.Wrong.TheVariants as wrongs
+use Rattle.command_line.specs.declared.verb.Topic.{Topic}
+use Rattle.command_line.specs.declared.verb.Topic.TheVariants as topics
+use Rattle.command_line.specs.declared.verb.Verb.{Verb}
+use Rattle.command_line.specs.declared.verb.Verb.TheVariants as verbs
+use Rattle.command_line.specs.Readings.{Reading, said, wrong, read_words}
+use Rattle.command_line.specs.Verbs.{verb_of}
+
+-- what is asked of a work tree
+pub record Want : Type 0 where
+  pub options : SetupOptions
+  pub paths : List (List ℕ)
+  pub depth : ℕ
+
+abbrev pub want_of : Asked → Want
+want_of asked = record { options = asked.options; paths = asked.paths.items; depth = asked.depth }
+
+-- what is to be done
+pub data Command : Type 0 where
+  report : Want → Form → Command
+  plan : Want → What → Finding → Form → Command
+  modules : Want → Command
+  state : Want → Form → Command
+  help : Topic → Command
+  version : Command
+
+-- what a command of the code is to do
+abbrev pub seen : code.Command → Command
+seen (commands.Report asked form) = report (want_of asked) form
+seen (commands.Plan asked what finding form) = plan (want_of asked) what finding form
+seen (commands.Modules asked) = modules (want_of asked)
+seen (commands.State asked form) = state (want_of asked) form
+seen (commands.Help topic) = help topic
+seen commands.Version = version
+
+-- what words from the command on ask for; or the first word that is wrong, how, and what is asked for so far
+pub data Answer : Type 0 where
+  does : Command → Answer
+  misuses_word : Topic → Wrong → List ℕ → Answer
+
+abbrev want_in : Draft → List (List ℕ) → Want
+want_in draft paths = record { options = draft.options; paths = paths; depth = draft.depth }
+
+abbrev done : Verb → Draft → List (List ℕ) → Command
+done verbs.Report draft paths = report (want_in draft paths) draft.form
+done verbs.Plan draft paths = plan (want_in draft paths) draft.what draft.finding draft.form
+done verbs.Modules draft paths = modules (want_in draft paths)
+done verbs.State draft paths = state (want_in draft paths) draft.form
+
+-- what a command is to do, by what its words say
+abbrev pub told : Verb → Draft → List (List ℕ) → Command
+told verb draft paths = if draft.is_help then help (topics.Of verb) else done verb draft paths
+
+abbrev answer_by : Verb → Reading → Answer
+answer_by verb (said draft paths) = does (told verb draft paths)
+answer_by verb (wrong how word) = misuses_word (topics.Of verb) how word
+
+-- the words behind a command
+abbrev pub of_verb : Verb → List (List ℕ) → Answer
+of_verb verb words = answer_by verb (read_words verb words)
+
+-- a word before any command is wrong
+abbrev pub misused : Wrong → List ℕ → Answer
+misused how word = misuses_word topics.Whole how word
+
+abbrev pub is_help : List ℕ → Bool
+is_help word = bytes_eq word (codes "-h") || bytes_eq word (codes "--help")
+
+-- what is wrong with a first word that is no command
+abbrev pub wrong_first : List ℕ → Wrong
+wrong_first word =
+    if bytes_eq word (codes "-C") then wrongs.SecondDirectory
+    else if starts_with nat_eq word (codes "-") then wrongs.UnknownOption
+    else wrongs.UnknownCommand
+
+abbrev verb_or_wrong : Option Verb → List ℕ → List (List ℕ) → Answer
+verb_or_wrong (Some verb) word words = of_verb verb words
+verb_or_wrong None word words = misused (wrong_first word) word
+
+-- the words that begin with this one
+abbrev pub first : List ℕ → List (List ℕ) → Answer
+first word words =
+    if is_help word then does (help topics.Whole)
+    else if bytes_eq word (codes "--version") then does version
+    else verb_or_wrong (verb_of word) word words
+
+-- the words from the command on
+abbrev pub command_in : List (List ℕ) → Answer
+command_in [] = misused wrongs.NoCommand []
+command_in (word ∷ words) = first word words
+
+-- what is asked for, and in which directory
+pub data Asking : Type 0 where
+  asks : Option (List ℕ) → Command → Asking
+  is_misuse : Topic → Wrong → List ℕ → Asking
+
+abbrev pub in_directory : Option (List ℕ) → Answer → Asking
+in_directory directory (does command) = asks directory command
+in_directory directory (misuses_word topic how word) = is_misuse topic how word
+
+-- an empty directory is the current one
+abbrev pub directory_of : List ℕ → Option (List ℕ)
+directory_of [] = None
+directory_of (b ∷ bytes) = Some (b ∷ bytes)
+
+-- the words behind `-C`
+abbrev pub elsewhere : List (List ℕ) → Asking
+elsewhere [] = in_directory None (misused wrongs.NoValue (codes "-C"))
+elsewhere (word ∷ words) = in_directory (directory_of word) (command_in words)
+
+-- the words of a command line
+abbrev pub request_in : List (List ℕ) → Asking
+request_in [] = in_directory None (command_in [])
+request_in (word ∷ words) = if bytes_eq word (codes "-C") then elsewhere words else in_directory None (command_in (word ∷ words))
+
+-- ---- an answer of the code is the one that is defined, unless memory was wanting
+
+abbrev pub Misused : Misuse → Answer → Type 0
+Misused misuses.OutOfMemory answer = ⊤
+Misused (misuses.Word topic how word) answer = answer ≡ misuses_word topic how word
+
+abbrev pub Commands : Result code.Command Misuse → Answer → Type 0
+Commands (Ok command) answer = answer ≡ does (seen command)
+Commands (Err misuse) answer = Misused misuse answer
+
+abbrev pub Directories : Result (Option (List ℕ)) Misuse → Option (List ℕ) → Type 0
+Directories (Ok directory) wanted = wanted ≡ directory
+Directories (Err misuse) wanted = misuse ≡ misuses.OutOfMemory
+
+abbrev pub MisusedAt : Misuse → Asking → Type 0
+MisusedAt misuses.OutOfMemory asking = ⊤
+MisusedAt (misuses.Word topic how word) asking = asking ≡ is_misuse topic how word
+
+abbrev pub Answers : Result Request Misuse → Asking → Type 0
+Answers (Ok request) asking = asking ≡ asks request.directory (seen request.command)
+Answers (Err misuse) asking = MisusedAt misuse asking

@@ -1,0 +1,209 @@
+-- How one word of a command is read.
+use Rattle.std.specs.Prelude.{ℕ, ◌+◌, List, [], ◌∷◌, Bool, true, false, ◌==◌, ◌||◌, position, take, drop, codes, Option, Some, None, if◌then◌else◌}
+use Rattle.std.specs.Str.{bytes_eq}
+use Rattle.clean_plan.specs.declared.what.Finding.TheVariants as findings
+use Rattle.clean_plan.specs.declared.what.What.TheVariants as whats
+use Rattle.dir_classify.specs.declared.options.CollapsedEntriesEmissionMode.{CollapsedEntriesEmissionMode}
+use Rattle.dir_classify.specs.declared.options.EmissionMode.{EmissionMode}
+use Rattle.dir_classify.specs.declared.options.EmissionMode.TheVariants.{Matching}
+use Rattle.dir_classify.specs.declared.options.ForDeletionMode.{ForDeletionMode}
+use Rattle.dir_walk.specs.declared.strategy.Strategy.TheVariants.{Held, AtOnce}
+use Rattle.worktree_report.specs.SetupDepth.{depth_of}
+use Rattle.command_line.specs.declared.draft.Draft.{Draft}
+use Rattle.command_line.specs.declared.form.Color.TheVariants.{Auto, Always, Never}
+use Rattle.command_line.specs.declared.form.LineEnd.TheVariants.{Nul}
+use Rattle.command_line.specs.declared.form.Wording.TheVariants.{Letters}
+use Rattle.command_line.specs.declared.misuse.Wrong.TheVariants as wrongs
+use Rattle.command_line.specs.declared.opt.Opt.{Opt}
+use Rattle.command_line.specs.declared.opt.Opt.TheVariants as opts
+use Rattle.command_line.specs.declared.step.Next.{Next}
+use Rattle.command_line.specs.declared.step.Next.TheVariants as nexts
+use Rattle.command_line.specs.declared.step.Step.{Step}
+use Rattle.command_line.specs.declared.step.Step.TheVariants.{Said, Path, Wrong as is_wrong}
+use Rattle.command_line.specs.declared.verb.Verb.{Verb}
+use Rattle.command_line.specs.Drafts.{with_switch, with_untracked, with_ignored, with_collapsed, with_deletion, with_permissions, with_strategy, with_wording, with_end, with_color, with_what, with_finding, with_depth, with_help}
+use Rattle.command_line.specs.Options.{opt_of, opt_of_letter, takes, emission_of, collapsed_of, deletion_of}
+use Rattle.command_line.specs.Verbs.{takes_paths}
+
+-- something more is said, and the next word may be anything
+abbrev pub on : Draft → Step
+on draft = Said draft nexts.Any
+
+-- an option without a value
+abbrev pub bare : Opt → Draft → Step
+bare (opts.With switch) draft = on (with_switch switch true draft)
+bare (opts.Without switch) draft = on (with_switch switch false draft)
+bare opts.Untracked draft = on (with_untracked Matching draft)
+bare opts.Ignored draft = on (with_ignored (Some Matching) draft)
+bare opts.Collapsed draft = is_wrong wrongs.NoValue
+bare opts.Deletion draft = is_wrong wrongs.NoValue
+bare opts.Permissions draft = is_wrong wrongs.NoValue
+bare opts.Strategy draft = is_wrong wrongs.NoValue
+bare opts.Depth draft = Said draft nexts.Depth
+bare opts.IgnoredToo draft = on (with_what whats.UntrackedAndIgnored draft)
+bare opts.IgnoredAlone draft = on (with_what whats.IgnoredOnly draft)
+bare opts.NonBare draft = on (with_finding findings.NonBare draft)
+bare opts.Nul draft = on (with_end Nul draft)
+bare opts.Plain draft = on (with_wording Letters draft)
+bare opts.Color draft = on (with_color Always draft)
+bare opts.NoColor draft = on (with_color Never draft)
+bare opts.Help draft = on (with_help draft)
+
+-- ---- values
+
+abbrev untracked_as : Option EmissionMode → Draft → Step
+untracked_as (Some mode) draft = on (with_untracked mode draft)
+untracked_as None draft = is_wrong wrongs.UnknownValue
+
+abbrev pub untracked_by : List ℕ → Draft → Step
+untracked_by value draft = untracked_as (emission_of value) draft
+
+abbrev ignored_as : Option EmissionMode → Draft → Step
+ignored_as (Some mode) draft = on (with_ignored (Some mode) draft)
+ignored_as None draft = is_wrong wrongs.UnknownValue
+
+abbrev pub ignored_by : List ℕ → Draft → Step
+ignored_by value draft = if bytes_eq value (codes "no") then on (with_ignored None draft) else ignored_as (emission_of value) draft
+
+abbrev collapsed_as : Option CollapsedEntriesEmissionMode → Draft → Step
+collapsed_as (Some mode) draft = on (with_collapsed (Some mode) draft)
+collapsed_as None draft = is_wrong wrongs.UnknownValue
+
+abbrev pub collapsed_by : List ℕ → Draft → Step
+collapsed_by value draft = if bytes_eq value (codes "no") then on (with_collapsed None draft) else collapsed_as (collapsed_of value) draft
+
+abbrev deletion_as : Option ForDeletionMode → Draft → Step
+deletion_as (Some mode) draft = on (with_deletion (Some mode) draft)
+deletion_as None draft = is_wrong wrongs.UnknownValue
+
+abbrev pub deletion_by : List ℕ → Draft → Step
+deletion_by value draft = if bytes_eq value (codes "no") then on (with_deletion None draft) else deletion_as (deletion_of value) draft
+
+-- what is safe in a repository of anybody is all, since nothing that is read is run
+abbrev pub permissions_by : List ℕ → Draft → Step
+permissions_by value draft =
+    if bytes_eq value (codes "isolated") then on (with_permissions true draft)
+    else if bytes_eq value (codes "secure") || bytes_eq value (codes "all") then on (with_permissions false draft)
+    else is_wrong wrongs.UnknownValue
+
+abbrev pub strategy_by : List ℕ → Draft → Step
+strategy_by value draft =
+    if bytes_eq value (codes "held") then on (with_strategy Held draft)
+    else if bytes_eq value (codes "at-once") then on (with_strategy AtOnce draft)
+    else is_wrong wrongs.UnknownValue
+
+abbrev pub color_by : List ℕ → Draft → Step
+color_by value draft =
+    if bytes_eq value (codes "auto") then on (with_color Auto draft)
+    else if bytes_eq value (codes "always") then on (with_color Always draft)
+    else if bytes_eq value (codes "never") then on (with_color Never draft)
+    else is_wrong wrongs.UnknownValue
+
+abbrev depth_as : Option ℕ → Draft → Step
+depth_as (Some depth) draft = on (with_depth depth draft)
+depth_as None draft = is_wrong wrongs.NotADepth
+
+-- a decimal number from 0 to 1000, without zeros in front
+abbrev pub depth_by : List ℕ → Draft → Step
+depth_by value draft = depth_as (depth_of value) draft
+
+-- an option with a value
+abbrev pub valued : Opt → List ℕ → Draft → Step
+valued opts.Untracked value draft = untracked_by value draft
+valued opts.Ignored value draft = ignored_by value draft
+valued opts.Collapsed value draft = collapsed_by value draft
+valued opts.Deletion value draft = deletion_by value draft
+valued opts.Permissions value draft = permissions_by value draft
+valued opts.Strategy value draft = strategy_by value draft
+valued opts.Depth value draft = depth_by value draft
+valued opts.Color value draft = color_by value draft
+valued other value draft = is_wrong wrongs.TakesNoValue
+
+-- ---- names
+
+abbrev if_taken : Verb → Option Opt → Option Opt
+if_taken verb None = None
+if_taken verb (Some opt) = if takes verb opt then Some opt else None
+
+-- the option of a name that a command has
+abbrev pub known : Verb → List ℕ → Option Opt
+known verb name = if_taken verb (opt_of name)
+
+abbrev bare_or_unknown : Option Opt → Draft → Step
+bare_or_unknown (Some opt) draft = bare opt draft
+bare_or_unknown None draft = is_wrong wrongs.UnknownOption
+
+abbrev pub named : Verb → List ℕ → Draft → Step
+named verb name draft = bare_or_unknown (known verb name) draft
+
+abbrev valued_or_unknown : Option Opt → List ℕ → Draft → Step
+valued_or_unknown (Some opt) value draft = valued opt value draft
+valued_or_unknown None value draft = is_wrong wrongs.UnknownOption
+
+abbrev pub named_with : Verb → List ℕ → List ℕ → Draft → Step
+named_with verb name value draft = valued_or_unknown (known verb name) value draft
+
+abbrev long_at : Verb → List ℕ → Option ℕ → Draft → Step
+long_at verb text None draft = named verb text draft
+long_at verb text (Some place) draft = named_with verb (take place text) (drop (place + 1) text) draft
+
+-- what stands behind `--`: a name, and a value behind the first `=`
+abbrev pub long : Verb → List ℕ → Draft → Step
+long verb text draft = long_at verb text (position (λ b. b == 61) text) draft
+
+-- ---- letters
+
+-- the option of a letter that a command has
+abbrev pub known_letter : Verb → ℕ → Option Opt
+known_letter verb letter = if_taken verb (opt_of_letter letter)
+
+-- `u` and a value behind it in its word, or nothing
+abbrev pub untracked_letter : List ℕ → Draft → Step
+untracked_letter [] draft = bare opts.Untracked draft
+untracked_letter (b ∷ value) draft = untracked_by (b ∷ value) draft
+
+abbrev said_or : Draft → Step → Draft
+said_or draft (Said now next) = now
+said_or draft other = draft
+
+abbrev pub lettered : Opt → Draft → Draft
+lettered opt draft = said_or draft (bare opt draft)
+
+abbrev pub is_untracked : Opt → Bool
+is_untracked opts.Untracked = true
+is_untracked other = false
+
+abbrev pub by_letter : Option Opt → ℕ → List ℕ → (Draft → Step) → Draft → Step
+by_letter None letter text onward draft = is_wrong (wrongs.UnknownSwitch letter)
+by_letter (Some opt) letter text onward draft = if is_untracked opt then untracked_letter text draft else onward (lettered opt draft)
+
+-- letters, each an option; `u` takes what is behind it as its value
+unfoldable pub letters : Verb → List ℕ → Draft → Step
+letters verb [] draft = on draft
+letters verb (letter ∷ text) draft = by_letter (known_letter verb letter) letter text (λ d. letters verb text d) draft
+
+-- ---- words
+
+-- a path, where the command takes paths
+abbrev pub path : Verb → Step
+path verb = if takes_paths verb then Path else is_wrong wrongs.Paths
+
+abbrev twice_dashed : Verb → List ℕ → Draft → Step
+twice_dashed verb [] draft = Said draft nexts.Paths
+twice_dashed verb (b ∷ text) draft = long verb (b ∷ text) draft
+
+abbrev dashed : Verb → List ℕ → Draft → Step
+dashed verb [] draft = path verb
+dashed verb (b ∷ text) draft = if b == 45 then twice_dashed verb text draft else letters verb (b ∷ text) draft
+
+-- A word that may be an option: `--` ends the options, `--NAME` and `--NAME=VALUE` are one, `-LETTERS` some; a `-` alone, and what does
+-- not begin with one, is a path.
+abbrev pub any : Verb → List ℕ → Draft → Step
+any verb [] draft = path verb
+any verb (b ∷ text) draft = if b == 45 then dashed verb text draft else path verb
+
+-- what a word says, by what was said before it
+abbrev pub step_of : Verb → Next → List ℕ → Draft → Step
+step_of verb nexts.Any word draft = any verb word draft
+step_of verb nexts.Depth word draft = depth_by word draft
+step_of verb nexts.Paths word draft = path verb

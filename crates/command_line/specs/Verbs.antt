@@ -1,0 +1,21 @@
+-- The commands by their names.
+use Rattle.std.specs.Prelude.{ℕ, List, Bool, true, false, codes, Option, Some, None, if◌then◌else◌}
+use Rattle.std.specs.Str.{bytes_eq}
+use Rattle.command_line.specs.declared.verb.Verb.{Verb}
+use Rattle.command_line.specs.declared.verb.Verb.TheVariants.{Report, Plan, Modules, State}
+
+-- the command of this name
+abbrev pub verb_of : List ℕ → Option Verb
+verb_of word =
+    if bytes_eq word (codes "report") then Some Report
+    else if bytes_eq word (codes "plan") then Some Plan
+    else if bytes_eq word (codes "modules") then Some Modules
+    else if bytes_eq word (codes "state") then Some State
+    else None
+
+-- `modules` and `state` look at the whole of the work tree
+abbrev pub takes_paths : Verb → Bool
+takes_paths Report = true
+takes_paths Plan = true
+takes_paths Modules = false
+takes_paths State = false

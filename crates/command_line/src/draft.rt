@@ -1,0 +1,239 @@
+//! What the options of a command say together.
+ghost use Rattle.std.specs.Prelude.{◌≡◌, Option};
+ghost use Rattle.command_line.specs.Drafts as drafts;
+
+use crate::form::{Color, Form, LineEnd, Wording};
+use crate::opt::Switch;
+use clean_plan::{Finding, What};
+use dir_classify::{CollapsedEntriesEmissionMode, EmissionMode, ForDeletionMode};
+use worktree_report::{Permissions, SetupOptions, Strategy};
+use worktree_stack::ignore_source;
+
+/// How many components a directory that is entered may have, where no option says that.
+const DEPTH: usize = 256;
+
+/// What the options so far say, those that no word gave at their defaults.
+#[derive(Clone, Copy, Debug)]
+pub struct Draft {
+    /// The options of the report.
+    pub options: SetupOptions,
+    /// What may be removed.
+    pub what: What,
+    /// How repositories are looked for.
+    pub finding: Finding,
+    /// How many components a directory that is entered may have.
+    pub depth: usize,
+    /// How the answer is written.
+    pub form: Form,
+    /// Whether the help text is asked for.
+    pub is_help: bool,
+}
+
+/// The options of a report where no word says any.
+fn default_options() -> SetupOptions
+    ensures { result ≡ drafts.default_options }
+{
+    SetupOptions {
+        ignore_case: false,
+        recurse_repositories: false,
+        emit_pruned: false,
+        emit_tracked: false,
+        emit_untracked: EmissionMode::Matching,
+        emit_ignored: None,
+        emit_collapsed: None,
+        emit_empty_directories: false,
+        for_deletion: None,
+        classify_untracked_bare_repositories: false,
+        symlinks_to_directories_are_ignored_like_directories: false,
+        excludes: true,
+        precious: false,
+        strict_parents: true,
+        origins: false,
+        print_outcome: false,
+        submodules: false,
+        ignore_source: ignore_source::Source::WorktreeThenIdMappingIfNotSkipped,
+        permissions: Permissions::secure(),
+        strategy: Strategy::Held,
+    }
+}
+
+/// What no words say.
+pub fn default_draft() -> Draft
+    ensures { result ≡ drafts.default_draft }
+{
+    Draft {
+        options: default_options(),
+        what: What::Untracked,
+        finding: Finding::All,
+        depth: DEPTH,
+        form: Form {
+            wording: Wording::Words,
+            end: LineEnd::Feed,
+            color: Color::Auto,
+        },
+        is_help: false,
+    }
+}
+
+/// The options with one of what is reported turned on or off; all others of it stay.
+fn turned(options: SetupOptions, switch: Switch, on: bool) -> SetupOptions
+    ensures { result ≡ drafts.turned switch on options }
+{
+    let mut options = options;
+    match switch {
+        Switch::Tracked => options.emit_tracked = on,
+        Switch::Pruned => options.emit_pruned = on,
+        Switch::EmptyDirectories => options.emit_empty_directories = on,
+        Switch::Origins => options.origins = on,
+        Switch::Submodules => options.submodules = on,
+        Switch::Outcome => options.print_outcome = on,
+        Switch::Excludes => options.excludes = on,
+        Switch::Precious => options.precious = on,
+        Switch::StrictParents => options.strict_parents = on,
+        Switch::RecurseRepositories => options.recurse_repositories = on,
+        Switch::BareRepositories => options.classify_untracked_bare_repositories = on,
+        Switch::LinksAsDirectories => {
+            options.symlinks_to_directories_are_ignored_like_directories = on
+        }
+    }
+    options
+}
+
+/// The configurations that may be read.
+fn permissions_of(is_isolated: bool) -> Permissions
+    ensures { result ≡ drafts.permissions_of is_isolated }
+{
+    if is_isolated {
+        Permissions::isolated()
+    } else {
+        Permissions::all()
+    }
+}
+
+impl Draft {
+    fn with_options(self, options: SetupOptions) -> Draft
+        ensures { result ≡ drafts.with_options options self }
+    {
+        let mut draft = self;
+        draft.options = options;
+        draft
+    }
+
+    fn with_form(self, form: Form) -> Draft
+        ensures { result ≡ drafts.with_form form self }
+    {
+        let mut draft = self;
+        draft.form = form;
+        draft
+    }
+
+    pub fn with_switch(self, switch: Switch, on: bool) -> Draft
+        ensures { result ≡ drafts.with_switch switch on self }
+    {
+        self.with_options(turned(self.options, switch, on))
+    }
+
+    pub fn with_untracked(self, mode: EmissionMode) -> Draft
+        ensures { result ≡ drafts.with_untracked mode self }
+    {
+        let mut options = self.options;
+        options.emit_untracked = mode;
+        self.with_options(options)
+    }
+
+    pub fn with_ignored(self, mode: Option<EmissionMode>) -> Draft
+        ensures { result ≡ drafts.with_ignored mode self }
+    {
+        let mut options = self.options;
+        options.emit_ignored = mode;
+        self.with_options(options)
+    }
+
+    pub fn with_collapsed(self, mode: Option<CollapsedEntriesEmissionMode>) -> Draft
+        ensures { result ≡ drafts.with_collapsed mode self }
+    {
+        let mut options = self.options;
+        options.emit_collapsed = mode;
+        self.with_options(options)
+    }
+
+    pub fn with_deletion(self, mode: Option<ForDeletionMode>) -> Draft
+        ensures { result ≡ drafts.with_deletion mode self }
+    {
+        let mut options = self.options;
+        options.for_deletion = mode;
+        self.with_options(options)
+    }
+
+    pub fn with_permissions(self, is_isolated: bool) -> Draft
+        ensures { result ≡ drafts.with_permissions is_isolated self }
+    {
+        let mut options = self.options;
+        options.permissions = permissions_of(is_isolated);
+        self.with_options(options)
+    }
+
+    pub fn with_strategy(self, strategy: Strategy) -> Draft
+        ensures { result ≡ drafts.with_strategy strategy self }
+    {
+        let mut options = self.options;
+        options.strategy = strategy;
+        self.with_options(options)
+    }
+
+    pub fn with_wording(self, wording: Wording) -> Draft
+        ensures { result ≡ drafts.with_wording wording self }
+    {
+        let mut form = self.form;
+        form.wording = wording;
+        self.with_form(form)
+    }
+
+    pub fn with_end(self, end: LineEnd) -> Draft
+        ensures { result ≡ drafts.with_end end self }
+    {
+        let mut form = self.form;
+        form.end = end;
+        self.with_form(form)
+    }
+
+    pub fn with_color(self, color: Color) -> Draft
+        ensures { result ≡ drafts.with_color color self }
+    {
+        let mut form = self.form;
+        form.color = color;
+        self.with_form(form)
+    }
+
+    pub fn with_what(self, what: What) -> Draft
+        ensures { result ≡ drafts.with_what what self }
+    {
+        let mut draft = self;
+        draft.what = what;
+        draft
+    }
+
+    pub fn with_finding(self, finding: Finding) -> Draft
+        ensures { result ≡ drafts.with_finding finding self }
+    {
+        let mut draft = self;
+        draft.finding = finding;
+        draft
+    }
+
+    pub fn with_depth(self, depth: usize) -> Draft
+        ensures { result ≡ drafts.with_depth depth self }
+    {
+        let mut draft = self;
+        draft.depth = depth;
+        draft
+    }
+
+    pub fn with_help(self) -> Draft
+        ensures { result ≡ drafts.with_help self }
+    {
+        let mut draft = self;
+        draft.is_help = true;
+        draft
+    }
+}

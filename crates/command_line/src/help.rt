@@ -1,0 +1,204 @@
+//! The help texts, and the version.
+ghost use Rattle.std.specs.Prelude.{◌≡◌};
+ghost use Rattle.command_line.specs.Helps as helps;
+
+use crate::verb::{Topic, Verb};
+
+const WHOLE: &[u8] = b"usage: tizhagor [-C DIR] report|plan|modules|state [OPTION..] [--] [PATH..]
+
+Says what lies in the git work tree around the current directory. Nothing is run,
+changed or removed, and git is not needed.
+
+  report    the untracked paths, and others that options ask for, with their class
+  plan      what may be removed, as git clean -n -d names it
+  modules   what git submodule update would do
+  state     the paths of the index that are not as it has them, and the report
+
+  -C DIR        works in DIR
+  -h, --help    this text; behind a command, that of the command
+  --version     the version
+
+For example: tizhagor -C linux report --ignored=collapse
+";
+
+const REPORT: &[u8] = b"usage: tizhagor [-C DIR] report [OPTION..] [--] [PATH..]
+
+Writes a line a path: its words, a tab, and the path from the top of the work tree.
+A PATH is a path spec from the current directory, as git has them.
+
+What is shown
+  -u[MODE], --untracked-files[=MODE]
+                        untracked paths each by itself (matching, the default),
+                        or directories in place of what they hold (collapse)
+  --ignored[=MODE]      ignored paths too: matching, or collapse; or no
+  --collapsed=WHICH     besides a directory that stands for what it holds: what
+                        has another status (mismatch), or all; or no
+  --tracked, --pruned, --empty-directories
+                        tracked paths; those named .git, left out of a sparse
+                        work tree or meant by no PATH; empty directories
+  --origins             a word more: the ignore rule that decided
+  --submodules          a word more: the submodule at the path
+  --permissions=WHICH   the configurations that tell of submodules: secure, all,
+                        or isolated, which is that of the repository alone
+  --outcome             a last line with the counts of the walk
+How it is looked at
+  --no-excludes         no ignore rules
+  --precious            an ignore rule that begins with $ keeps what it matches
+  --no-strict-parents   rules may take up again what lies in an excluded directory
+  --recurse-repositories
+                        nested repositories are directories like any other
+  --bare-repositories   untracked bare repositories are told as repositories
+  --links-as-directories
+                        ignore rules see a link as what it leads to
+  --for-deletion=MODE   as what is to be deleted: hide, nonbare or all says how
+                        repositories are looked for in ignored directories; or no
+  --strategy=HOW        held, or at-once: a job for each directory at the top
+  --depth=N             directories are entered down to N components, at most 1000
+How it is written
+  -z, --null            a NUL behind each line, and paths as they are
+  --plain               two letters in place of words: ?? untracked, !! ignored,
+                        $$ precious, two blanks tracked, -- pruned
+  --color[=WHEN], --no-color
+                        lines in the colour of their status: auto, always, never
+  -h, --help            this text
+
+Of options that say the same the last counts; --no- before the name of one without
+a value turns it off. For example: tizhagor report --ignored -z src
+";
+
+const PLAN: &[u8] = b"usage: tizhagor [-C DIR] plan [OPTION..] [--] [PATH..]
+
+Writes the paths that may be removed, as git clean -n -d names them, one a line. It is
+called at the top of the work tree, from where the paths lead. Nothing is removed. No
+path of the index goes, no repository whose git directory is whole (bare ones go with
+--nonbare), and not the current directory. A PATH is a path spec, as git has them.
+
+  -x                    ignored paths too
+  -X                    ignored paths alone
+  --nonbare             bare repositories are directories like any other
+  --no-excludes         no ignore rules
+  --precious            an ignore rule that begins with $ keeps what it matches
+  --no-strict-parents   rules may take up again what lies in an excluded directory
+  --links-as-directories
+                        ignore rules see a link as what it leads to
+  --strategy=HOW        held, or at-once: a job for each directory at the top
+  --depth=N             directories are entered down to N components, at most 1000
+  -z, --null            a NUL behind each path, which stands as it is
+  -h, --help            this text
+
+Of options that say the same the last counts; --no- before the name of one without
+a value turns it off. For example: tizhagor plan -xz | xargs -0 -r ls -d --
+";
+
+const MODULES: &[u8] = b"usage: tizhagor [-C DIR] modules [OPTION..]
+
+Writes the steps that git submodule update would take for the active submodules, and
+the submodules that it would leave out, one a line. Nothing is run.
+
+  --permissions=WHICH   the configurations that are read: secure, all, or isolated,
+                        which is that of the repository alone
+  -h, --help            this text
+
+For example: tizhagor modules --permissions=isolated
+";
+
+const STATE: &[u8] = b"usage: tizhagor [-C DIR] state [OPTION..]
+
+Writes a line for each path of the index that differs from it or is not looked at: its
+state, a tab, and the path from the top of the work tree; then the lines of report.
+
+What is shown
+  -u[MODE], --untracked-files[=MODE]
+                        untracked paths each by itself (matching, the default),
+                        or directories in place of what they hold (collapse)
+  --ignored[=MODE]      ignored paths too: matching, or collapse; or no
+  --collapsed=WHICH     besides a directory that stands for what it holds: what
+                        has another status (mismatch), or all; or no
+  --tracked, --pruned, --empty-directories
+                        tracked paths; those named .git, left out of a sparse
+                        work tree or meant by no PATH; empty directories
+  --origins             a word more: the ignore rule that decided
+  --submodules          a word more: the submodule at the path
+  --permissions=WHICH   the configurations that tell of submodules: secure, all,
+                        or isolated, which is that of the repository alone
+  --outcome             a last line with the counts of the walk
+How it is looked at
+  --no-excludes         no ignore rules
+  --precious            an ignore rule that begins with $ keeps what it matches
+  --no-strict-parents   rules may take up again what lies in an excluded directory
+  --recurse-repositories
+                        nested repositories are directories like any other
+  --bare-repositories   untracked bare repositories are told as repositories
+  --links-as-directories
+                        ignore rules see a link as what it leads to
+  --for-deletion=MODE   as what is to be deleted: hide, nonbare or all says how
+                        repositories are looked for in ignored directories; or no
+  --strategy=HOW        held, or at-once: a job for each directory at the top
+  --depth=N             directories are entered down to N components, at most 1000
+How it is written
+  -z, --null            a NUL behind each line, and paths as they are
+  --color[=WHEN], --no-color
+                        lines in the colour of their status: auto, always, never
+  -h, --help            this text
+
+Of options that say the same the last counts; --no- before the name of one without
+a value turns it off. For example: tizhagor state --ignored
+";
+
+/// The help text of `report`.
+#[tactic(auto, unfolding(crate::specs::Helps::report))]
+fn report_help() -> &'static [u8]
+    ensures { result.now ≡ helps.report }
+{
+    REPORT
+}
+
+/// The help text of `plan`.
+#[tactic(auto, unfolding(crate::specs::Helps::plan))]
+fn plan_help() -> &'static [u8]
+    ensures { result.now ≡ helps.plan }
+{
+    PLAN
+}
+
+/// The help text of `state`.
+#[tactic(auto, unfolding(crate::specs::Helps::state))]
+fn state_help() -> &'static [u8]
+    ensures { result.now ≡ helps.state }
+{
+    STATE
+}
+
+/// How a command is called.
+pub fn usage_of(topic: Topic) -> &'static [u8]
+    ensures { result.now ≡ helps.usage_of topic }
+{
+    match topic {
+        Topic::Whole =>
+            b"usage: tizhagor [-C DIR] report|plan|modules|state [OPTION..] [--] [PATH..]\n",
+        Topic::Of(Verb::Report) => b"usage: tizhagor [-C DIR] report [OPTION..] [--] [PATH..]\n",
+        Topic::Of(Verb::Plan) => b"usage: tizhagor [-C DIR] plan [OPTION..] [--] [PATH..]\n",
+        Topic::Of(Verb::Modules) => b"usage: tizhagor [-C DIR] modules [OPTION..]\n",
+        Topic::Of(Verb::State) => b"usage: tizhagor [-C DIR] state [OPTION..]\n",
+    }
+}
+
+/// The help text of a command, or of the whole program.
+pub fn help_of(topic: Topic) -> &'static [u8]
+    ensures { result.now ≡ helps.help_of topic }
+{
+    match topic {
+        Topic::Whole => WHOLE,
+        Topic::Of(Verb::Report) => report_help(),
+        Topic::Of(Verb::Plan) => plan_help(),
+        Topic::Of(Verb::Modules) => MODULES,
+        Topic::Of(Verb::State) => state_help(),
+    }
+}
+
+/// The version of the program.
+pub fn version() -> &'static [u8]
+    ensures { result.now ≡ helps.version }
+{
+    b"tizhagor, unreleased\n"
+}

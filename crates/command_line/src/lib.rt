@@ -1,0 +1,25 @@
+//! The command line of `tizhagor`: what its words ask for, how answers are written, and what is said of words that ask for nothing.
+#![tactic(auto)]
+
+mod command;
+mod depth;
+mod draft;
+mod form;
+mod help;
+mod misuse;
+mod opt;
+mod read;
+mod render;
+mod request;
+mod row;
+mod step;
+mod unspelled;
+mod verb;
+
+pub use command::{Command, Request};
+pub use form::{Color, Form, LineEnd, Style, Wording, styled};
+pub use help::{help_of, version};
+pub use misuse::{Misuse, Wrong, said};
+pub use render::{rendered, rendered_paths};
+pub use request::request_of;
+pub use verb::{Topic, Verb};

@@ -1,0 +1,54 @@
+//! The words of a command, one after the other.
+ghost use Rattle.std.specs.Prelude.{◌≡◌, IfOk};
+ghost use Rattle.command_line.specs.Readings as readings;
+
+use crate::draft::{Draft, default_draft};
+use crate::misuse::Wrong;
+use crate::step::{Next, Step, step_of};
+use crate::verb::Verb;
+use gitbase_core::{Bytes, OutOfMemory};
+use std::alloc::Global;
+
+/// What the words of a command say together.
+#[derive(Debug, Drop)]
+pub enum Read {
+    /// What the options say, and the paths as they are written.
+    Said(Draft, Vec<Bytes>),
+    /// The first word that is wrong, and how.
+    Wrong(Wrong, Bytes),
+}
+
+/// What the words say where there are no more: an option may want a value still.
+fn ended(alloc: Global, draft: Draft, next: Next, paths: Vec<Bytes>) -> Result<Read, OutOfMemory>
+    ensures { IfOk result (λ read. readings.seen read ≡ readings.ended draft next paths.items) }
+{
+    match next {
+        Next::Any | Next::Paths => Ok(Read::Said(draft, paths)),
+        Next::Depth => Ok(Read::Wrong(Wrong::NoValue, Bytes::from_slice(alloc, b"--depth")?)),
+    }
+}
+
+/// What the words of a command say together.
+#[tactic(auto, unfolding(crate::specs::Readings::read_on))]
+pub fn read_words(alloc: Global, verb: Verb, words: &[Bytes]) -> Result<Read, OutOfMemory>
+    ensures { IfOk result (λ read. readings.seen read ≡ readings.read_words verb words.now) }
+{
+    let mut draft = default_draft();
+    let mut next = Next::Any;
+    let mut paths = Vec::new(alloc);
+    let mut rest = words;
+    while let Some((word, after)) = rest.split_first() {
+        match step_of(verb, next, word.as_bytes(), draft) {
+            Step::Said(now, then) => {
+                draft = now;
+                next = then;
+            }
+            Step::Path => paths.push(Bytes::from_slice(alloc, word.as_bytes())?)?,
+            Step::Wrong(wrong) => {
+                return Ok(Read::Wrong(wrong, Bytes::from_slice(alloc, word.as_bytes())?));
+            }
+        }
+        rest = after;
+    }
+    ended(alloc, draft, next, paths)
+}

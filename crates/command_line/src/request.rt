@@ -1,0 +1,162 @@
+//! What the words of a command line ask for.
+ghost use Rattle.std.specs.Prelude.{◌≡◌};
+ghost use Rattle.command_line.specs.Requests as requests;
+
+use crate::command::{Command, Request};
+use crate::draft::Draft;
+use crate::misuse::{Misuse, Wrong};
+use crate::read::{Read, read_words};
+use crate::verb::{Topic, Verb, verb_of};
+use git_setup::Asked;
+use gitbase_core::Bytes;
+use std::alloc::Global;
+
+/// What a command is to do, by what its words say.
+fn told(verb: Verb, draft: Draft, paths: Vec<Bytes>) -> Command
+    ensures { requests.seen result ≡ requests.told verb draft paths.items }
+{
+    if draft.is_help {
+        return Command::Help(Topic::Of(verb));
+    }
+    let form = draft.form;
+    let asked = Asked {
+        options: draft.options,
+        paths,
+        depth: draft.depth,
+    };
+    match verb {
+        Verb::Report => Command::Report { asked, form },
+        Verb::Plan => Command::Plan {
+            asked,
+            what: draft.what,
+            finding: draft.finding,
+            form,
+        },
+        Verb::Modules => Command::Modules { asked },
+        Verb::State => Command::State { asked, form },
+    }
+}
+
+/// What the words behind a command ask for.
+fn of_verb(alloc: Global, verb: Verb, words: &[Bytes]) -> Result<Command, Misuse>
+    ensures { requests.Commands result (requests.of_verb verb words.now) }
+{
+    match read_words(alloc, verb, words)? {
+        Read::Said(draft, paths) => Ok(told(verb, draft, paths)),
+        Read::Wrong(wrong, word) => Err(Misuse::Word {
+            topic: Topic::Of(verb),
+            wrong,
+            word,
+        }),
+    }
+}
+
+/// That a word before any command is wrong.
+fn misused(alloc: Global, wrong: Wrong, word: &[u8]) -> Result<Command, Misuse>
+    ensures { requests.Commands result (requests.misused wrong word.now) }
+{
+    let word = Bytes::from_slice(alloc, word)?;
+    Err(Misuse::Word {
+        topic: Topic::Whole,
+        wrong,
+        word,
+    })
+}
+
+/// Whether a word asks for help.
+fn is_help(word: &[u8]) -> bool
+    ensures { result ≡ requests.is_help word.now }
+{
+    word == b"-h".as_slice() || word == b"--help".as_slice()
+}
+
+/// What is wrong with a first word that is no command.
+fn wrong_first(word: &[u8]) -> Wrong
+    ensures { result ≡ requests.wrong_first word.now }
+{
+    if word == b"-C".as_slice() {
+        Wrong::SecondDirectory
+    } else if word.starts_with(b"-") {
+        Wrong::UnknownOption
+    } else {
+        Wrong::UnknownCommand
+    }
+}
+
+/// What the words that begin with this one ask for.
+fn first(alloc: Global, word: &[u8], words: &[Bytes]) -> Result<Command, Misuse>
+    ensures { requests.Commands result (requests.first word.now words.now) }
+{
+    if is_help(word) {
+        return Ok(Command::Help(Topic::Whole));
+    }
+    if word == b"--version".as_slice() {
+        return Ok(Command::Version);
+    }
+    match verb_of(word) {
+        Some(verb) => of_verb(alloc, verb, words),
+        None => misused(alloc, wrong_first(word), word),
+    }
+}
+
+/// What the words from the command on ask for.
+fn command_of(alloc: Global, words: &[Bytes]) -> Result<Command, Misuse>
+    ensures { requests.Commands result (requests.command_in words.now) }
+{
+    match words {
+        [] => misused(alloc, Wrong::NoCommand, b""),
+        [word, rest @ ..] => first(alloc, word.as_bytes(), rest),
+    }
+}
+
+/// The directory that is said, where it is not empty.
+fn directory_of(alloc: Global, word: &[u8]) -> Result<Option<Bytes>, Misuse>
+    ensures { requests.Directories result (requests.directory_of word.now) }
+{
+    if word.is_empty() {
+        return Ok(None);
+    }
+    Ok(Some(Bytes::from_slice(alloc, word)?))
+}
+
+/// What words ask for in the directory that `-C` says.
+fn elsewhere(alloc: Global, words: &[Bytes]) -> Result<Request, Misuse>
+    ensures { requests.Answers result (requests.elsewhere words.now) }
+{
+    match words {
+        [] => {
+            let command = misused(alloc, Wrong::NoValue, b"-C")?;
+            Ok(Request {
+                directory: None,
+                command,
+            })
+        }
+        [word, rest @ ..] => {
+            let directory = directory_of(alloc, word.as_bytes())?;
+            let command = command_of(alloc, rest)?;
+            Ok(Request { directory, command })
+        }
+    }
+}
+
+/// What the words of a command line ask for: `[-C DIR] report|plan|modules|state [OPTION..] [--] [PATH..]`, or a help text, or the
+/// version.
+///
+/// # Errors
+///
+/// - `Word` names the first word that is wrong, and says how.
+/// - `OutOfMemory` for want of memory.
+pub fn request_of(alloc: Global, words: &[Bytes]) -> Result<Request, Misuse>
+    ensures { requests.Answers result (requests.request_in words.now) }
+{
+    match words {
+        [word, rest @ ..] if word.as_bytes() == b"-C".as_slice() => elsewhere(alloc, rest),
+        _ => {
+            let command = command_of(alloc, words)?;
+            Ok(Request {
+                directory: None,
+                command,
+            })
+        }
+    }
+}

@@ -1,0 +1,194 @@
+//! One line in the form that is asked for.
+ghost use Rattle.std.specs.Prelude.{◌≡◌, ◌==◌, ◌<◌, ◌++◌, length, position, IfSome, OnOk};
+ghost use Rattle.command_line.specs.Rows as rows;
+
+use crate::form::{LineEnd, Style, Wording};
+use crate::unspelled::add_unspelled;
+use gitbase_core::OutOfMemory;
+
+/// The place of the first byte of a value.
+fn first_place(value: u8, bytes: &[u8]) -> Option<usize>
+    ensures place { result ≡ position (λ b. b == value) bytes.now }
+    ensures within { IfSome result (λ place. place < length bytes.now) }
+{
+    bytes.iter().position(|b| *b == value)
+}
+
+/// What stands before the first space, or all where there is none.
+fn first_word(words: &[u8]) -> &[u8]
+    ensures { result.now ≡ rows.first_word words.now }
+{
+    match first_place(b' ', words) {
+        Some(place) => {
+            let (word, _) = words.split_at(place);
+            word
+        }
+        None => words,
+    }
+}
+
+/// What stands behind the first space, or nothing where there is none.
+fn behind_space(words: &[u8]) -> &[u8]
+    ensures { result.now ≡ rows.behind_space words.now }
+{
+    match first_place(b' ', words) {
+        Some(place) => {
+            let (_, rest) = words.split_at(place + 1);
+            rest
+        }
+        None => b"",
+    }
+}
+
+/// The two letters of a status; another word stands for itself.
+fn letters_of(status: &[u8]) -> &[u8]
+    ensures { result.now ≡ rows.letters_of status.now }
+{
+    if status == b"untracked".as_slice() {
+        b"??"
+    } else if status == b"ignored".as_slice() {
+        b"!!"
+    } else if status == b"precious".as_slice() {
+        b"$$"
+    } else if status == b"tracked".as_slice() {
+        b"  "
+    } else if status == b"pruned".as_slice() {
+        b"--"
+    } else {
+        status
+    }
+}
+
+/// What a terminal is sent before a line of a status; nothing for another word.
+fn opening_of(status: &[u8]) -> &'static [u8]
+    ensures { result.now ≡ rows.opening_of status.now }
+{
+    if status == b"untracked".as_slice() {
+        b"\x1b[31m"
+    } else if status == b"ignored".as_slice() {
+        b"\x1b[33m"
+    } else if status == b"precious".as_slice() {
+        b"\x1b[35m"
+    } else if status == b"tracked".as_slice() {
+        b"\x1b[32m"
+    } else if status == b"pruned".as_slice() {
+        b"\x1b[90m"
+    } else {
+        b""
+    }
+}
+
+/// What it is sent before a line where lines are coloured.
+fn opening(is_colored: bool, status: &[u8]) -> &'static [u8]
+    ensures { result.now ≡ rows.opening is_colored status.now }
+{
+    if is_colored { opening_of(status) } else { b"" }
+}
+
+/// What it is sent behind a line that it was sent something before.
+fn closing(opening: &[u8]) -> &'static [u8]
+    ensures { result.now ≡ rows.closing opening.now }
+{
+    if opening.is_empty() { b"" } else { b"\x1b[0m" }
+}
+
+/// The slash behind what holds other paths.
+fn slash_of(disk: &[u8]) -> &'static [u8]
+    ensures { result.now ≡ rows.slash_of disk.now }
+{
+    if disk == b"directory".as_slice() || disk == b"repository".as_slice() {
+        b"/"
+    } else {
+        b""
+    }
+}
+
+/// Adds a path: escaped as it is in the text, or as it is on disk.
+pub fn add_path(text: &mut Vec<u8>, end: LineEnd, path: &[u8]) -> Result<(), OutOfMemory>
+    ensures { OnOk result (text.new.items ≡ text.old.items ++ rows.path_text end path.now) }
+{
+    match end {
+        LineEnd::Feed => text.extend_from_slice(path)?,
+        LineEnd::Nul => add_unspelled(text, path)?,
+    }
+    Ok(())
+}
+
+/// Adds the words of a line and its path.
+fn add_words(text: &mut Vec<u8>, end: LineEnd, words: &[u8], path: &[u8]) -> Result<(), OutOfMemory>
+    ensures { OnOk result (text.new.items ≡ text.old.items ++ rows.in_words end words.now
+        path.now) }
+{
+    text.extend_from_slice(words)?;
+    text.push(b'\t')?;
+    add_path(text, end, path)?;
+    Ok(())
+}
+
+/// Adds the letters of a line and its path.
+fn add_letters(
+    text: &mut Vec<u8>,
+    end: LineEnd,
+    words: &[u8],
+    path: &[u8],
+) -> Result<(), OutOfMemory>
+    ensures { OnOk result (text.new.items ≡ text.old.items ++ rows.in_letters end words.now
+        path.now) }
+{
+    text.extend_from_slice(letters_of(first_word(words)))?;
+    text.push(b' ')?;
+    add_path(text, end, path)?;
+    text.extend_from_slice(slash_of(first_word(behind_space(words))))?;
+    Ok(())
+}
+
+fn add_body(text: &mut Vec<u8>, style: Style, words: &[u8], path: &[u8]) -> Result<(), OutOfMemory>
+    ensures { OnOk result (text.new.items ≡ text.old.items ++ rows.body style words.now path.now) }
+{
+    match style.wording {
+        Wording::Words => add_words(text, style.end, words, path)?,
+        Wording::Letters => add_letters(text, style.end, words, path)?,
+    }
+    Ok(())
+}
+
+/// Adds a line of words and a path, in its colour.
+fn add_row(text: &mut Vec<u8>, style: Style, words: &[u8], path: &[u8]) -> Result<(), OutOfMemory>
+    ensures { OnOk result (text.new.items ≡ text.old.items ++ rows.row style words.now path.now) }
+{
+    let opening = opening(style.is_colored, first_word(words));
+    text.extend_from_slice(opening)?;
+    add_body(text, style, words, path)?;
+    text.extend_from_slice(closing(opening))?;
+    Ok(())
+}
+
+/// Adds a line of a report without its end: one that begins with `# ` stays, and so does one without a tab.
+pub fn add_line(text: &mut Vec<u8>, style: Style, line: &[u8]) -> Result<(), OutOfMemory>
+    ensures { OnOk result (text.new.items ≡ text.old.items ++ rows.line style line.now) }
+{
+    if line.starts_with(b"# ") {
+        text.extend_from_slice(line)?;
+        return Ok(());
+    }
+    match first_place(b'\t', line) {
+        Some(place) => {
+            let (words, _) = line.split_at(place);
+            let (_, path) = line.split_at(place + 1);
+            add_row(text, style, words, path)?;
+        }
+        None => text.extend_from_slice(line)?,
+    }
+    Ok(())
+}
+
+/// Adds the end of a line.
+pub fn add_end(text: &mut Vec<u8>, end: LineEnd) -> Result<(), OutOfMemory>
+    ensures { OnOk result (text.new.items ≡ text.old.items ++ rows.end_of end) }
+{
+    match end {
+        LineEnd::Feed => text.push(b'\n')?,
+        LineEnd::Nul => text.push(0)?,
+    }
+    Ok(())
+}

@@ -1,0 +1,312 @@
+//! How one word of a command is read.
+ghost use Rattle.std.specs.Prelude.{◌≡◌, ◌<◌, ◌==◌, length, position, IfSome};
+ghost use Rattle.command_line.specs.Steps as steps;
+
+use crate::depth::depth_of;
+use crate::draft::Draft;
+use crate::form::{Color, LineEnd, Wording};
+use crate::misuse::Wrong;
+use crate::opt::{Opt, collapsed_of, deletion_of, emission_of, opt_of, opt_of_letter, takes};
+use crate::verb::{Verb, takes_paths};
+use clean_plan::{Finding, What};
+use dir_classify::EmissionMode;
+use worktree_report::Strategy;
+
+/// How the next word is read.
+#[derive(Clone, Copy, Debug)]
+pub enum Next {
+    /// As an option where it begins with `-`, else as a path.
+    Any,
+    /// As a depth.
+    Depth,
+    /// As a path, whatever it is.
+    Paths,
+}
+
+/// What a word says.
+#[derive(Clone, Copy, Debug)]
+pub enum Step {
+    /// An option: what is said now, and how the next word is read.
+    Said(Draft, Next),
+    /// It is a path.
+    Path,
+    /// It is wrong.
+    Wrong(Wrong),
+}
+
+fn on(draft: Draft) -> Step
+    ensures { result ≡ steps.on draft }
+{
+    Step::Said(draft, Next::Any)
+}
+
+/// An option without a value.
+fn bare(opt: Opt, draft: Draft) -> Step
+    ensures { result ≡ steps.bare opt draft }
+{
+    match opt {
+        Opt::With(switch) => on(draft.with_switch(switch, true)),
+        Opt::Without(switch) => on(draft.with_switch(switch, false)),
+        Opt::Untracked => on(draft.with_untracked(EmissionMode::Matching)),
+        Opt::Ignored => on(draft.with_ignored(Some(EmissionMode::Matching))),
+        Opt::Collapsed | Opt::Deletion | Opt::Permissions | Opt::Strategy => {
+            Step::Wrong(Wrong::NoValue)
+        }
+        Opt::Depth => Step::Said(draft, Next::Depth),
+        Opt::IgnoredToo => on(draft.with_what(What::UntrackedAndIgnored)),
+        Opt::IgnoredAlone => on(draft.with_what(What::IgnoredOnly)),
+        Opt::NonBare => on(draft.with_finding(Finding::NonBare)),
+        Opt::Nul => on(draft.with_end(LineEnd::Nul)),
+        Opt::Plain => on(draft.with_wording(Wording::Letters)),
+        Opt::Color => on(draft.with_color(Color::Always)),
+        Opt::NoColor => on(draft.with_color(Color::Never)),
+        Opt::Help => on(draft.with_help()),
+    }
+}
+
+fn untracked_by(value: &[u8], draft: Draft) -> Step
+    ensures { result ≡ steps.untracked_by value.now draft }
+{
+    match emission_of(value) {
+        Some(mode) => on(draft.with_untracked(mode)),
+        None => Step::Wrong(Wrong::UnknownValue),
+    }
+}
+
+fn ignored_by(value: &[u8], draft: Draft) -> Step
+    ensures { result ≡ steps.ignored_by value.now draft }
+{
+    if value == b"no".as_slice() {
+        return on(draft.with_ignored(None));
+    }
+    match emission_of(value) {
+        Some(mode) => on(draft.with_ignored(Some(mode))),
+        None => Step::Wrong(Wrong::UnknownValue),
+    }
+}
+
+fn collapsed_by(value: &[u8], draft: Draft) -> Step
+    ensures { result ≡ steps.collapsed_by value.now draft }
+{
+    if value == b"no".as_slice() {
+        return on(draft.with_collapsed(None));
+    }
+    match collapsed_of(value) {
+        Some(mode) => on(draft.with_collapsed(Some(mode))),
+        None => Step::Wrong(Wrong::UnknownValue),
+    }
+}
+
+fn deletion_by(value: &[u8], draft: Draft) -> Step
+    ensures { result ≡ steps.deletion_by value.now draft }
+{
+    if value == b"no".as_slice() {
+        return on(draft.with_deletion(None));
+    }
+    match deletion_of(value) {
+        Some(mode) => on(draft.with_deletion(Some(mode))),
+        None => Step::Wrong(Wrong::UnknownValue),
+    }
+}
+
+fn permissions_by(value: &[u8], draft: Draft) -> Step
+    ensures { result ≡ steps.permissions_by value.now draft }
+{
+    if value == b"isolated".as_slice() {
+        on(draft.with_permissions(true))
+    } else if value == b"secure".as_slice() || value == b"all".as_slice() {
+        on(draft.with_permissions(false))
+    } else {
+        Step::Wrong(Wrong::UnknownValue)
+    }
+}
+
+fn strategy_by(value: &[u8], draft: Draft) -> Step
+    ensures { result ≡ steps.strategy_by value.now draft }
+{
+    if value == b"held".as_slice() {
+        on(draft.with_strategy(Strategy::Held))
+    } else if value == b"at-once".as_slice() {
+        on(draft.with_strategy(Strategy::AtOnce))
+    } else {
+        Step::Wrong(Wrong::UnknownValue)
+    }
+}
+
+fn color_by(value: &[u8], draft: Draft) -> Step
+    ensures { result ≡ steps.color_by value.now draft }
+{
+    if value == b"auto".as_slice() {
+        on(draft.with_color(Color::Auto))
+    } else if value == b"always".as_slice() {
+        on(draft.with_color(Color::Always))
+    } else if value == b"never".as_slice() {
+        on(draft.with_color(Color::Never))
+    } else {
+        Step::Wrong(Wrong::UnknownValue)
+    }
+}
+
+/// A word that is to be a depth.
+fn depth_by(value: &[u8], draft: Draft) -> Step
+    ensures { result ≡ steps.depth_by value.now draft }
+{
+    match depth_of(value) {
+        Some(depth) => on(draft.with_depth(depth)),
+        None => Step::Wrong(Wrong::NotADepth),
+    }
+}
+
+/// An option with a value.
+fn valued(opt: Opt, value: &[u8], draft: Draft) -> Step
+    ensures { result ≡ steps.valued opt value.now draft }
+{
+    match opt {
+        Opt::Untracked => untracked_by(value, draft),
+        Opt::Ignored => ignored_by(value, draft),
+        Opt::Collapsed => collapsed_by(value, draft),
+        Opt::Deletion => deletion_by(value, draft),
+        Opt::Permissions => permissions_by(value, draft),
+        Opt::Strategy => strategy_by(value, draft),
+        Opt::Depth => depth_by(value, draft),
+        Opt::Color => color_by(value, draft),
+        _ => Step::Wrong(Wrong::TakesNoValue),
+    }
+}
+
+/// The option of a name that a command has. None where it has none.
+fn known(verb: Verb, name: &[u8]) -> Option<Opt>
+    ensures { result ≡ steps.known verb name.now }
+{
+    match opt_of(name) {
+        Some(opt) => { if takes(verb, opt) { Some(opt) } else { None } }
+        None => None,
+    }
+}
+
+/// The place of the first `=`.
+fn first_equals(text: &[u8]) -> Option<usize>
+    ensures place { result ≡ position (λ b. b == 61) text.now }
+    ensures within { IfSome result (λ place. place < length text.now) }
+{
+    text.iter().position(|b| *b == b'=')
+}
+
+/// An option by its name alone.
+fn named(verb: Verb, name: &[u8], draft: Draft) -> Step
+    ensures { result ≡ steps.named verb name.now draft }
+{
+    match known(verb, name) {
+        Some(opt) => bare(opt, draft),
+        None => Step::Wrong(Wrong::UnknownOption),
+    }
+}
+
+/// An option by its name, with a value.
+fn named_with(verb: Verb, name: &[u8], value: &[u8], draft: Draft) -> Step
+    ensures { result ≡ steps.named_with verb name.now value.now draft }
+{
+    match known(verb, name) {
+        Some(opt) => valued(opt, value, draft),
+        None => Step::Wrong(Wrong::UnknownOption),
+    }
+}
+
+/// What stands behind `--`: a name, and a value behind the first `=`, if there is one.
+fn long(verb: Verb, text: &[u8], draft: Draft) -> Step
+    ensures { result ≡ steps.long verb text.now draft }
+{
+    match first_equals(text) {
+        None => named(verb, text, draft),
+        Some(place) => {
+            let (name, _) = text.split_at(place);
+            let (_, value) = text.split_at(place + 1);
+            named_with(verb, name, value, draft)
+        }
+    }
+}
+
+/// The option of a letter that a command has. None where it has none.
+fn known_letter(verb: Verb, letter: u8) -> Option<Opt>
+    ensures { result ≡ steps.known_letter verb letter }
+{
+    match opt_of_letter(letter) {
+        Some(opt) => { if takes(verb, opt) { Some(opt) } else { None } }
+        None => None,
+    }
+}
+
+/// `u` and what stands behind it in its word: a value, or nothing.
+fn untracked_letter(value: &[u8], draft: Draft) -> Step
+    ensures { result ≡ steps.untracked_letter value.now draft }
+{
+    match value {
+        [] => bare(Opt::Untracked, draft),
+        _ => untracked_by(value, draft),
+    }
+}
+
+/// What an option of a letter says, by what was said before it. Each of these but `u` has no value.
+fn lettered(opt: Opt, draft: Draft) -> Draft
+    ensures { result ≡ steps.lettered opt draft }
+{
+    match bare(opt, draft) {
+        Step::Said(draft, _) => draft,
+        _ => draft,
+    }
+}
+
+/// What stands behind one `-`: letters, each an option.
+#[tactic(auto, unfolding(crate::specs::Steps::letters))]
+fn letters(verb: Verb, text: &[u8], draft: Draft) -> Step
+    ensures { result ≡ steps.letters verb text.now draft }
+{
+    let mut said = draft;
+    let mut rest = text;
+    while let Some((letter, after)) = rest.split_first() {
+        let Some(opt) = known_letter(verb, *letter) else {
+            return Step::Wrong(Wrong::UnknownSwitch { letter: *letter });
+        };
+        if matches!(opt, Opt::Untracked) {
+            return untracked_letter(after, said);
+        }
+        said = lettered(opt, said);
+        rest = after;
+    }
+    on(said)
+}
+
+/// A path, where the command takes paths.
+fn path(verb: Verb) -> Step
+    ensures { result ≡ steps.path verb }
+{
+    if takes_paths(verb) {
+        Step::Path
+    } else {
+        Step::Wrong(Wrong::Paths)
+    }
+}
+
+/// A word that may be an option.
+fn any(verb: Verb, word: &[u8], draft: Draft) -> Step
+    ensures { result ≡ steps.any verb word.now draft }
+{
+    match word {
+        [b'-', b'-'] => Step::Said(draft, Next::Paths),
+        [b'-', b'-', text @ ..] => long(verb, text, draft),
+        [b'-'] => path(verb),
+        [b'-', text @ ..] => letters(verb, text, draft),
+        _ => path(verb),
+    }
+}
+
+/// What a word says, by what was said before it.
+pub fn step_of(verb: Verb, next: Next, word: &[u8], draft: Draft) -> Step
+    ensures { result ≡ steps.step_of verb next word.now draft }
+{
+    match next {
+        Next::Any => any(verb, word, draft),
+        Next::Depth => depth_by(word, draft),
+        Next::Paths => path(verb),
+    }
+}

@@ -1,0 +1,34 @@
+//! The help texts.
+use bstr::ByteSlice;
+use command_line::{Topic, Verb, help_of, version};
+
+/// The options that each help text names, beside those that a switch of the same name turns off.
+const REPORT: &[u8] =
+    b"-u[MODE],--untracked-files,--ignored,--collapsed,--tracked,--pruned,--empty-directories,--origins,\
+--submodules,--permissions,--outcome,--no-excludes,--precious,--no-strict-parents,--recurse-repositories,--bare-repositories,\
+--links-as-directories,--for-deletion,--strategy,--depth,-z, --null,--plain,--color,--no-color,-h, --help";
+
+fn names_all(topic: Topic, names: &[u8]) -> bool {
+    let text = help_of(topic);
+    names
+        .split(|byte| *byte == b',')
+        .all(|name| text.contains_str(name))
+}
+
+#[test]
+fn help_texts_name_the_options(rt: HostRuntime) {
+    let report = names_all(Topic::Of(Verb::Report), REPORT);
+    let plan = names_all(
+        Topic::Of(Verb::Plan),
+        b"  -x , -X , --nonbare ,--depth=,-z, --null",
+    );
+    let modules = names_all(Topic::Of(Verb::Modules), b"--permissions=,-h, --help");
+    let state = names_all(Topic::Of(Verb::State), b"--ignored,-z, --null,--color");
+    let whole = names_all(Topic::Whole, b"-C DIR,report,plan,modules,state,--version");
+    assert!(rt; report & plan & modules & state & whole);
+}
+
+#[test]
+fn the_version_is_a_line(rt: HostRuntime) {
+    assert!(rt; version().starts_with(b"tizhagor") && version().ends_with(b"\n"));
+}
