@@ -1,0 +1,359 @@
+-- What follows of how the top call ends.
+use Rattle.std.proofs.Common.{◌≡◌, ◌⊎◌, inl, inr, ℕ, List, Bool, Option, Some, Result, Ok, Err, sym, ap, ◌∙◌, subst, refl, arith}
+use Rattle.worktree_fs.specs.declared.interrupt.Interrupt.{Ghosts as InterruptOf}
+use Rattle.worktree_fs.specs.declared.sink.Sink.{Ghosts as SinkOf}
+use Rattle.worktree_fs.specs.declared.worktree.Worktree.{Ghosts as WorktreeOf}
+use Rattle.worktree_fs.specs.Causes.{Increased, NotIncreased}
+use Rattle.worktree_fs.specs.Tree.{Names}
+use Rattle.worktree_report.specs.declared.refusal.Refusal.{Refusal}
+use Rattle.worktree_report.specs.declared.refusal.Refusal.TheVariants as refusals
+use Rattle.worktree_report.specs.Written.{Appends}
+use Rattle.command_line.specs.Requests.{Asking, Command as Commands, asks, is_misuse, request_in}
+use Rattle.command_line.specs.declared.misuse.Wrong.{Wrong}
+use Rattle.command_line.specs.declared.verb.Topic.{Topic}
+use Rattle.git_setup.specs.Outcomes.{GivesBy}
+use Rattle.git_setup.specs.declared.found.Found.{Found}
+use Rattle.tizhagor.specs.declared.call.Call.{Call}
+use Rattle.tizhagor.specs.declared.refusal.HereRefusal.{HereRefusal}
+use Rattle.tizhagor.specs.declared.refusal.HereRefusal.TheVariants as errors
+use Rattle.tizhagor.specs.declared.writing.Writing.{Writing}
+use Rattle.tizhagor.specs.Answers as answers
+use Rattle.tizhagor.specs.Answers.{AnswersCall, AnswersHere, AnswersTask, IsMisuse, Place, Task, Writes, call_of, found_at, offer_of, task_of}
+use Rattle.tizhagor.specs.Ends.{EndsHere, IsFatal, IsTold, IsToldOf}
+use Rattle.tizhagor.specs.Output as output
+use Rattle.tizhagor.specs.Parts.{memory_line}
+use Rattle.tizhagor.specs.ProgramLines.{program_status}
+use Rattle.tizhagor.specs.Refusals.{IsOfFinding, fault, line_of, memory, status_of}
+use Rattle.tizhagor.specs.Texts.{IsQuietFor, IsReadyFor, IsTextOf, IsUnfaultedBy}
+use Rattle.tizhagor.proofs.ByCall as calls
+
+-- ---- statuses
+
+program_no_zero : (r : Refusal) → program_status r ≡ 0 → ⊥
+program_no_zero refusals.Interrupted is = omega arith
+program_no_zero refusals.Usage is = omega arith
+program_no_zero (refusals.Setup line) is = omega arith
+program_no_zero (refusals.Walk word path) is = omega arith
+program_no_zero (refusals.Misread which) is = omega arith
+program_no_zero refusals.Fault is = omega arith
+program_no_zero refusals.Output is = omega arith
+program_no_zero refusals.OutOfMemory is = omega arith
+
+no_zero : (e : HereRefusal) → status_of e ≡ 0 → ⊥
+no_zero (errors.Words misuse) is = omega arith
+no_zero (errors.Absent directory) is = omega arith
+no_zero (errors.NotADirectory directory) is = omega arith
+no_zero (errors.NotAtTop root) is = omega arith
+no_zero (errors.Git refusal) is = omega arith
+no_zero (errors.Program r) is = program_no_zero r is
+
+program_not_misuse : (r : Refusal) → program_status r ≡ 129 → ⊥
+program_not_misuse refusals.Interrupted is = omega arith
+program_not_misuse refusals.Usage is = omega arith
+program_not_misuse (refusals.Setup line) is = omega arith
+program_not_misuse (refusals.Walk word path) is = omega arith
+program_not_misuse (refusals.Misread which) is = omega arith
+program_not_misuse refusals.Fault is = omega arith
+program_not_misuse refusals.Output is = omega arith
+program_not_misuse refusals.OutOfMemory is = omega arith
+
+-- while a work tree is looked for no word is found wrong, and no interrupt is asked
+finding_not_misuse : (e : HereRefusal) → IsOfFinding e → status_of e ≡ 129 → ⊥
+finding_not_misuse (errors.Words misuse) of is = absurd of
+finding_not_misuse (errors.Absent directory) of is = omega arith
+finding_not_misuse (errors.NotADirectory directory) of is = omega arith
+finding_not_misuse (errors.NotAtTop root) of is = omega arith
+finding_not_misuse (errors.Git refusal) of is = omega arith
+finding_not_misuse (errors.Program r) of is = program_not_misuse r is
+
+interrupted_is : (r : Refusal) → program_status r ≡ 130 → r ≡ refusals.Interrupted
+interrupted_is refusals.Interrupted is = refl
+interrupted_is refusals.Usage is = absurd (omega arith)
+interrupted_is (refusals.Setup line) is = absurd (omega arith)
+interrupted_is (refusals.Walk word path) is = absurd (omega arith)
+interrupted_is (refusals.Misread which) is = absurd (omega arith)
+interrupted_is refusals.Fault is = absurd (omega arith)
+interrupted_is refusals.Output is = absurd (omega arith)
+interrupted_is refusals.OutOfMemory is = absurd (omega arith)
+
+finding_not_interrupted : (e : HereRefusal) → IsOfFinding e → status_of e ≡ 130 → ⊥
+finding_not_interrupted (errors.Words misuse) of is = absurd of
+finding_not_interrupted (errors.Absent directory) of is = omega arith
+finding_not_interrupted (errors.NotADirectory directory) of is = omega arith
+finding_not_interrupted (errors.NotAtTop root) of is = omega arith
+finding_not_interrupted (errors.Git refusal) of is = omega arith
+finding_not_interrupted (errors.Program refusals.Interrupted) of is = absurd of
+finding_not_interrupted (errors.Program refusals.Usage) of is = absurd of
+finding_not_interrupted (errors.Program (refusals.Setup line)) of is = absurd of
+finding_not_interrupted (errors.Program (refusals.Walk word path)) of is = absurd of
+finding_not_interrupted (errors.Program (refusals.Misread which)) of is = absurd of
+finding_not_interrupted (errors.Program refusals.Fault) of is = omega arith
+finding_not_interrupted (errors.Program refusals.Output) of is = absurd of
+finding_not_interrupted (errors.Program refusals.OutOfMemory) of is = omega arith
+
+memory_not : (e : HereRefusal) (n : ℕ) → e ≡ memory → status_of e ≡ n → n ≡ 128
+memory_not e n is status = sym status ∙ ap status_of is
+
+-- ---- terms
+
+no_text : {a : List ℕ} {b : HereRefusal} → ◌≡◌ {A = Result (List ℕ) HereRefusal} (Ok a) (Err b) → ⊥
+no_text is = absurd cc
+
+same_error : {a b : HereRefusal} → ◌≡◌ {A = Result (List ℕ) HereRefusal} (Err a) (Err b) → a ≡ b
+same_error e = cc
+
+same_found : {a b : Found} → ◌≡◌ {A = Result Found HereRefusal} (Ok a) (Ok b) → a ≡ b
+same_found e = cc
+
+not_found : {a : Found} {b : HereRefusal} → ◌≡◌ {A = Result Found HereRefusal} (Ok a) (Err b) → ⊥
+not_found is = absurd cc
+
+no_asking : {directory : Option (List ℕ)} {command : Commands} {topic : Topic} {wrong : Wrong} {word : List ℕ} → ◌≡◌ {A = Asking} (asks directory command) (is_misuse topic wrong word) → ⊥
+no_asking is = absurd cc
+
+-- ---- how it ends
+
+module _ {S E : Type 0} (s : SinkOf S) (e : SinkOf E) (s0 s1 : S) (e0 e1 : E) (status : ℕ) where
+  -- with 0 there are bytes, and they are written
+  pub ends_in_zero : (answer : Result (List ℕ) HereRefusal) → EndsHere s e s0 s1 e0 e1 answer status → status ≡ 0
+      → (bytes : List ℕ) × (answer ≡ Ok bytes) × Appends (s.written s0) (s.written s1) bytes
+  ends_in_zero (Ok bytes) ends zero = elim ends.by [ inl whole ↦ (bytes, refl, whole.written) | inr cut ↦ absurd (let is = cut.status_is in omega (arith, is, zero)) ]
+  ends_in_zero (Err refusal) ends zero =
+      elim ends.by.1 [
+        | inl told ↦ absurd (no_zero refusal (sym told.status_is ∙ zero))
+        | inr untold ↦ absurd (let is = untold.status_is in omega (arith, is, zero))
+      ]
+
+  -- a status above 128 is that of a refusal
+  pub ends_above : (answer : Result (List ℕ) HereRefusal) → EndsHere s e s0 s1 e0 e1 answer status → (n : ℕ) → status ≡ n → (n ≡ 0 → ⊥) → (n ≡ 128 → ⊥)
+      → (refusal : HereRefusal) × (answer ≡ Err refusal) × (status_of refusal ≡ n)
+  ends_above (Ok bytes) ends n is not_zero not_fatal =
+      elim ends.by [ inl whole ↦ absurd (not_zero (sym is ∙ whole.status_is)) | inr cut ↦ absurd (not_fatal (sym is ∙ cut.status_is)) ]
+  ends_above (Err refusal) ends n is not_zero not_fatal =
+      elim ends.by.1 [ inl told ↦ (refusal, refl, sym told.status_is ∙ is) | inr untold ↦ absurd (not_fatal (sym is ∙ untold.status_is)) ]
+
+  -- want of memory is told
+  pub wants_memory : (refusal : HereRefusal) → refusal ≡ memory → IsTold e e0 e1 refusal status → IsToldOf e e0 e1 memory_line 128 status
+  wants_memory refusal is told = elim (subst (λ (x : HereRefusal). IsTold e e0 e1 x status) is told) [ inl known ↦ record { status_is = known.status_is; said = known.said } | inr untold ↦ untold ]
+
+-- ---- a task
+
+module _ {W I : Type 0} (w : WorktreeOf W) (i : InterruptOf I) (w0 w1 : W) (i0 i1 : I) where
+  call_unfaulted : (found : Names → Result Found HereRefusal) (call : Call) (writing : Writing) (bytes : List ℕ) → Writes w i w0 w1 i0 i1 found call writing bytes
+      → IsUnfaultedBy call (w.faults w0) (w.faults w1)
+  call_unfaulted found call writing bytes a =
+      subst (λ (n : ℕ). IsUnfaultedBy call n (w.faults w1)) a.by.unfaulted (calls.unfaulted w i a.by.loaded w1 i0 i1 a.by.here.root a.by.here.setup call a.text a.by.made)
+
+  call_bytes : (found : Names → Result Found HereRefusal) (call : Call) (writing : Writing) (bytes : List ℕ) → Writes w i w0 w1 i0 i1 found call writing bytes
+      → (t : Names) → w.told w0 ≡ Some t → IsQuietFor call (w.faults w0) (w.faults w1) → output.IsBytesOf (w.precomposes w0) t found call writing bytes
+  call_bytes found call writing bytes a t told quiet =
+      let text_is : IsTextOf call (w.precomposes w0) t a.by.here.root a.by.here.setup a.text =
+      subst (λ (b : Bool). IsTextOf call b t a.by.here.root a.by.here.setup a.text) a.by.asks.precomposes
+      (calls.text_is w i a.by.loaded w1 i0 i1 a.by.here.root a.by.here.setup call a.text a.by.made t (a.by.asks.tree ∙ told)
+      (subst (λ (n : ℕ). IsQuietFor call n (w.faults w1)) (sym a.by.unfaulted) quiet)) in
+      record {
+        here = a.by.here;
+        found_is = a.by.is t told;
+        text = a.text;
+        text_is = text_is;
+        bytes_is = a.bytes_is;
+        same = λ path read. calls.joins call (w.precomposes w0) t a.by.here.root path a.by.here.setup a.text read text_is;
+      }
+
+  task_unfaulted : (place : Place) (directory : Option (List ℕ)) (task : Task) (bytes : List ℕ) → AnswersTask w i w0 w1 i0 i1 place directory (Ok bytes) task → output.IsUnfaultedFor (w.faults w0) (w.faults w1) task
+  task_unfaulted place directory (call_of call asked writing) bytes a = call_unfaulted (found_at place directory asked) call writing bytes a
+  task_unfaulted place directory (offer_of text) bytes a = ap w.faults a.worktree
+
+  task_bytes : (place : Place) (directory : Option (List ℕ)) (task : Task) (bytes : List ℕ) → AnswersTask w i w0 w1 i0 i1 place directory (Ok bytes) task
+      → (t : Names) → w.told w0 ≡ Some t → output.IsQuietWith (w.faults w0) (w.faults w1) task → output.IsBytesFor (w.precomposes w0) t place directory bytes task
+  task_bytes place directory (call_of call asked writing) bytes a t told quiet = call_bytes (found_at place directory asked) call writing bytes a t told quiet
+  task_bytes place directory (offer_of text) bytes a t told quiet = a.gives
+
+  -- a refusal is not one of the words
+  call_not_misuse : (found : Names → Result Found HereRefusal) (call : Call) (writing : Writing) (e : HereRefusal) → AnswersCall w i w0 w1 i0 i1 found call writing (Err e) → status_of e ≡ 129 → ⊥
+  call_not_misuse found call writing e a is =
+      elim a [
+        | inl (inl none) ↦ finding_not_misuse e none.of is
+        | inl (inr refused) ↦ program_not_misuse refused.refusal (sym (ap status_of refused.e_is) ∙ is)
+        | inr unwritten ↦ absurd (let same = memory_not e 129 unwritten.e_is is in omega (arith, same))
+      ]
+
+  task_not_misuse : (place : Place) (directory : Option (List ℕ)) (task : Task) (e : HereRefusal) → AnswersTask w i w0 w1 i0 i1 place directory (Err e) task → status_of e ≡ 129 → ⊥
+  task_not_misuse place directory (call_of call asked writing) e a is = call_not_misuse (found_at place directory asked) call writing e a is
+  task_not_misuse place directory (offer_of text) e a is = absurd (let same = memory_not e 129 a.refused is in omega (arith, same))
+
+  -- an interrupt was raised
+  call_interrupted : (found : Names → Result Found HereRefusal) (call : Call) (writing : Writing) (e : HereRefusal) → AnswersCall w i w0 w1 i0 i1 found call writing (Err e) → status_of e ≡ 130 → Increased (i.raised i0) (i.raised i1)
+  call_interrupted found call writing e a is =
+      elim a [
+        | inl (inl none) ↦ absurd (finding_not_interrupted e none.of is)
+        | inl (inr refused) ↦ calls.interrupt_cause w i refused.by.loaded w1 i0 i1 refused.by.here.root refused.by.here.setup call refused.refusal refused.by.made
+            (interrupted_is refused.refusal (sym (ap status_of refused.e_is) ∙ is))
+        | inr unwritten ↦ absurd (let same = memory_not e 130 unwritten.e_is is in omega (arith, same))
+      ]
+
+  task_interrupted : (place : Place) (directory : Option (List ℕ)) (task : Task) (e : HereRefusal) → AnswersTask w i w0 w1 i0 i1 place directory (Err e) task → status_of e ≡ 130 → Increased (i.raised i0) (i.raised i1)
+  task_interrupted place directory (call_of call asked writing) e a is = call_interrupted (found_at place directory asked) call writing e a is
+  task_interrupted place directory (offer_of text) e a is = absurd (let same = memory_not e 130 a.refused is in omega (arith, same))
+
+  -- what is refused over a tree
+  call_refused : (found : Names → Result Found HereRefusal) (call : Call) (writing : Writing) (e : HereRefusal) → AnswersCall w i w0 w1 i0 i1 found call writing (Err e)
+      → (t : Names) → w.told w0 ≡ Some t → NotIncreased (w.faults w0) (w.faults w1) → (e ≡ memory) ⊎ output.RefusesCall t found e
+  call_refused found call writing e a t told quiet =
+      elim a [
+        | inl (inl none) ↦ elim (none.is t told) [
+          | inl is ↦ inr (inl is)
+          | inr (inl is) ↦ absurd (let rose = none.cause is in omega (arith, rose, quiet))
+          | inr (inr is) ↦ inl is
+        ]
+        | inl (inr refused) ↦ inr (inr (refused.by.here, refused.by.is t told, refused.refusal, refused.e_is))
+        | inr unwritten ↦ inl unwritten.e_is
+      ]
+
+  task_refused : (place : Place) (directory : Option (List ℕ)) (task : Task) (e : HereRefusal) → AnswersTask w i w0 w1 i0 i1 place directory (Err e) task
+      → (t : Names) → w.told w0 ≡ Some t → NotIncreased (w.faults w0) (w.faults w1) → (e ≡ memory) ⊎ output.RefusesFor t place directory e task
+  task_refused place directory (call_of call asked writing) e a t told quiet = call_refused (found_at place directory asked) call writing e a t told quiet
+  task_refused place directory (offer_of text) e a t told quiet = inl a.refused
+
+  -- for what can be had only memory may be wanted
+  call_complete : (found : Names → Result Found HereRefusal) (call : Call) (writing : Writing) (e : HereRefusal) → AnswersCall w i w0 w1 i0 i1 found call writing (Err e)
+      → (t : Names) → w.told w0 ≡ Some t → NotIncreased (w.faults w0) (w.faults w1) → NotIncreased (i.raised i0) (i.raised i1)
+      → output.IsReadyAt (w.precomposes w0) t found call → e ≡ memory
+  call_complete found call writing e a t told quiet calm ready =
+      elim a [
+        | inl (inl none) ↦ elim (none.is t told) [
+          | inl is ↦ absurd (not_found (sym ready.found_is ∙ is))
+          | inr (inl is) ↦ absurd (let rose = none.cause is in omega (arith, rose, quiet))
+          | inr (inr is) ↦ is
+        ]
+        | inl (inr refused) ↦
+            let by = refused.by in
+            let same : ready.here ≡ by.here = same_found (sym ready.found_is ∙ by.is t told) in
+            refused.e_is ∙ ap errors.Program
+            (calls.complete w i by.loaded w1 i0 i1 by.here.root by.here.setup call refused.refusal by.made t (by.asks.tree ∙ told)
+            (subst (λ (n : ℕ). NotIncreased n (w.faults w1)) (sym by.unfaulted) quiet) calm
+            (subst (λ (b : Bool). IsReadyFor call b t by.here.root by.here.setup) (sym by.asks.precomposes)
+            (subst (λ (x : Found). IsReadyFor call (w.precomposes w0) t x.root x.setup) same ready.ready)))
+        | inr unwritten ↦ unwritten.e_is
+      ]
+
+  task_complete : (place : Place) (directory : Option (List ℕ)) (task : Task) (e : HereRefusal) → AnswersTask w i w0 w1 i0 i1 place directory (Err e) task
+      → (t : Names) → w.told w0 ≡ Some t → NotIncreased (w.faults w0) (w.faults w1) → NotIncreased (i.raised i0) (i.raised i1)
+      → output.IsReadyWith (w.precomposes w0) t place directory task → e ≡ memory
+  task_complete place directory (call_of call asked writing) e a t told quiet calm ready = call_complete (found_at place directory asked) call writing e a t told quiet calm ready
+  task_complete place directory (offer_of text) e a t told quiet calm ready = a.refused
+
+-- ---- the call
+
+module _ {W I S E : Type 0} (w : WorktreeOf W) (i : InterruptOf I) (s : SinkOf S) (e : SinkOf E) (w0 w1 : W) (i0 i1 : I) (s0 s1 : S) (e0 e1 : E) (place : Place) (words : List (List ℕ)) (status : ℕ) where
+  bytes_unfaulted : (bytes : List ℕ) → AnswersHere w i w0 w1 i0 i1 place words (Ok bytes) → output.IsUnfaultedHere place words (w.faults w0) (w.faults w1)
+  bytes_unfaulted bytes a =
+      elim a [
+        | inl of ↦ record { request = of.request; asked = of.asked; unfaulted = task_unfaulted w i w0 w1 i0 i1 place of.request.directory (task_of place.takes_colors of.request.command) bytes of.answers }
+        | inr (inl wrong) ↦ absurd (no_text wrong.answer_is)
+        | inr (inr unread) ↦ absurd (no_text unread.answer_is)
+      ]
+
+  bytes_output : (bytes : List ℕ) → AnswersHere w i w0 w1 i0 i1 place words (Ok bytes) → (t : Names) → w.told w0 ≡ Some t
+      → output.IsOutputHere (w.precomposes w0) t place words (w.faults w0) (w.faults w1) bytes
+  bytes_output bytes a t told =
+      elim a [
+        | inl of ↦ record { request = of.request; asked = of.asked; bytes_is = λ quiet. task_bytes w i w0 w1 i0 i1 place of.request.directory (task_of place.takes_colors of.request.command) bytes of.answers t told quiet }
+        | inr (inl wrong) ↦ absurd (no_text wrong.answer_is)
+        | inr (inr unread) ↦ absurd (no_text unread.answer_is)
+      ]
+
+  pub unfaulted : (answer : Result (List ℕ) HereRefusal) → AnswersHere w i w0 w1 i0 i1 place words answer → EndsHere s e s0 s1 e0 e1 answer status
+      → status ≡ 0 → output.IsUnfaultedHere place words (w.faults w0) (w.faults w1)
+  unfaulted answer a ends zero =
+      let wrote = ends_in_zero s e s0 s1 e0 e1 status answer ends zero in
+      bytes_unfaulted wrote.0 (subst (λ (x : Result (List ℕ) HereRefusal). AnswersHere w i w0 w1 i0 i1 place words x) wrote.1 a)
+
+  pub gives : (answer : Result (List ℕ) HereRefusal) → AnswersHere w i w0 w1 i0 i1 place words answer → EndsHere s e s0 s1 e0 e1 answer status
+      → (t : Names) → w.told w0 ≡ Some t → status ≡ 0
+      → (bytes : List ℕ) × output.IsOutputHere (w.precomposes w0) t place words (w.faults w0) (w.faults w1) bytes × Appends (s.written s0) (s.written s1) bytes
+  gives answer a ends t told zero =
+      let wrote = ends_in_zero s e s0 s1 e0 e1 status answer ends zero in
+      (wrote.0, bytes_output wrote.0 (subst (λ (x : Result (List ℕ) HereRefusal). AnswersHere w i w0 w1 i0 i1 place words x) wrote.1 a) t told, wrote.2)
+
+  error_misuse : (refusal : HereRefusal) → AnswersHere w i w0 w1 i0 i1 place words (Err refusal) → status_of refusal ≡ 129 → IsMisuse words
+  error_misuse refusal a is =
+      elim a [
+        | inl of ↦ absurd (task_not_misuse w i w0 w1 i0 i1 place of.request.directory (task_of place.takes_colors of.request.command) refusal of.answers is)
+        | inr (inl wrong) ↦ wrong.misuse
+        | inr (inr unread) ↦ absurd (let same = memory_not refusal 129 (same_error unread.answer_is) is in omega (arith, same))
+      ]
+
+  pub misuse : (answer : Result (List ℕ) HereRefusal) → AnswersHere w i w0 w1 i0 i1 place words answer → EndsHere s e s0 s1 e0 e1 answer status → status ≡ 129 → IsMisuse words
+  misuse answer a ends is =
+      let refused = ends_above s e s0 s1 e0 e1 status answer ends 129 is (λ no. omega (arith, no)) (λ no. omega (arith, no)) in
+      error_misuse refused.0 (subst (λ (x : Result (List ℕ) HereRefusal). AnswersHere w i w0 w1 i0 i1 place words x) refused.1 a) refused.2
+
+  pub usage : (answer : Result (List ℕ) HereRefusal) → AnswersHere w i w0 w1 i0 i1 place words answer → EndsHere s e s0 s1 e0 e1 answer status → IsMisuse words
+      → (status ≡ 129) ⊎ IsToldOf e e0 e1 memory_line 128 status
+  usage answer a ends known =
+      elim a [
+        | inl of ↦ absurd (no_asking (sym of.asked ∙ known.is))
+        | inr (inl wrong) ↦ elim (subst (λ (x : Result (List ℕ) HereRefusal). EndsHere s e s0 s1 e0 e1 x status) wrong.answer_is ends).by.1 [ inl told ↦ inl told.status_is | inr untold ↦ inr untold ]
+        | inr (inr unread) ↦ inr (wants_memory s e s0 s1 e0 e1 status memory refl (subst (λ (x : Result (List ℕ) HereRefusal). EndsHere s e s0 s1 e0 e1 x status) unread.answer_is ends).by.1)
+      ]
+
+  error_refused : (refusal : HereRefusal) → AnswersHere w i w0 w1 i0 i1 place words (Err refusal) → (t : Names) → w.told w0 ≡ Some t → NotIncreased (w.faults w0) (w.faults w1)
+      → status_of refusal ≡ 128 → (refusal ≡ memory) ⊎ output.RefusesHere t place words refusal
+  error_refused refusal a t told quiet is =
+      elim a [
+        | inl of ↦ elim (task_refused w i w0 w1 i0 i1 place of.request.directory (task_of place.takes_colors of.request.command) refusal of.answers t told quiet) [
+          | inl wants ↦ inl wants
+          | inr refused ↦ inr (record { request = of.request; asked = of.asked; refused = refused })
+        ]
+        | inr (inl wrong) ↦ absurd (let same = sym is ∙ ap status_of (same_error wrong.answer_is) in omega (arith, same))
+        | inr (inr unread) ↦ inl (same_error unread.answer_is)
+      ]
+
+  pub fatal : (answer : Result (List ℕ) HereRefusal) → AnswersHere w i w0 w1 i0 i1 place words answer → EndsHere s e s0 s1 e0 e1 answer status
+      → (t : Names) → w.told w0 ≡ Some t → status ≡ 128 → NotIncreased (w.faults w0) (w.faults w1) → NotIncreased (s.refusals s0) (s.refusals s1)
+      → IsToldOf e e0 e1 memory_line 128 status ⊎ IsFatal e e0 e1 (output.RefusesHere t place words)
+  fatal (Ok bytes) a ends t told is quiet taken =
+      elim ends.by [
+        | inl whole ↦ absurd (let zero = whole.status_is in omega (arith, zero, is))
+        | inr cut ↦ absurd (let cause = cut.cause in omega (arith, cause, taken))
+      ]
+  fatal (Err refusal) a ends t told is quiet taken =
+      elim ends.by.1 [
+        | inl told_of ↦ elim (error_refused refusal a t told quiet (sym told_of.status_is ∙ is)) [
+          | inl wants ↦ inl (wants_memory s e s0 s1 e0 e1 status refusal wants ends.by.1)
+          | inr refused ↦ inr (record { refusal = refusal; refused = refused; said = told_of.said })
+        ]
+        | inr untold ↦ inl untold
+      ]
+
+  error_interrupted : (refusal : HereRefusal) → AnswersHere w i w0 w1 i0 i1 place words (Err refusal) → status_of refusal ≡ 130 → Increased (i.raised i0) (i.raised i1)
+  error_interrupted refusal a is =
+      elim a [
+        | inl of ↦ task_interrupted w i w0 w1 i0 i1 place of.request.directory (task_of place.takes_colors of.request.command) refusal of.answers is
+        | inr (inl wrong) ↦ absurd (let same = sym is ∙ ap status_of (same_error wrong.answer_is) in omega (arith, same))
+        | inr (inr unread) ↦ absurd (let same = memory_not refusal 130 (same_error unread.answer_is) is in omega (arith, same))
+      ]
+
+  pub interrupted : (answer : Result (List ℕ) HereRefusal) → AnswersHere w i w0 w1 i0 i1 place words answer → EndsHere s e s0 s1 e0 e1 answer status → status ≡ 130
+      → Increased (i.raised i0) (i.raised i1)
+  interrupted answer a ends is =
+      let refused = ends_above s e s0 s1 e0 e1 status answer ends 130 is (λ no. omega (arith, no)) (λ no. omega (arith, no)) in
+      error_interrupted refused.0 (subst (λ (x : Result (List ℕ) HereRefusal). AnswersHere w i w0 w1 i0 i1 place words x) refused.1 a) refused.2
+
+  error_complete : (refusal : HereRefusal) → AnswersHere w i w0 w1 i0 i1 place words (Err refusal) → (t : Names) → w.told w0 ≡ Some t → output.IsValidHere (w.precomposes w0) t place words
+      → NotIncreased (w.faults w0) (w.faults w1) → NotIncreased (i.raised i0) (i.raised i1) → refusal ≡ memory
+  error_complete refusal a t told valid quiet calm =
+      elim a [
+        | inl of ↦ task_complete w i w0 w1 i0 i1 place of.request.directory (task_of place.takes_colors of.request.command) refusal of.answers t told quiet calm (valid.ready of.request of.asked)
+        | inr (inl wrong) ↦ absurd (no_asking (sym valid.words_are ∙ wrong.misuse.is))
+        | inr (inr unread) ↦ same_error unread.answer_is
+      ]
+
+  pub complete : (answer : Result (List ℕ) HereRefusal) → AnswersHere w i w0 w1 i0 i1 place words answer → EndsHere s e s0 s1 e0 e1 answer status
+      → (t : Names) → w.told w0 ≡ Some t → output.IsValidHere (w.precomposes w0) t place words → NotIncreased (w.faults w0) (w.faults w1)
+      → NotIncreased (i.raised i0) (i.raised i1) → NotIncreased (s.refusals s0) (s.refusals s1) → (status ≡ 0) ⊎ IsToldOf e e0 e1 memory_line 128 status
+  complete (Ok bytes) a ends t told valid quiet calm taken =
+      elim ends.by [ inl whole ↦ inl whole.status_is | inr cut ↦ absurd (let cause = cut.cause in omega (arith, cause, taken)) ]
+  complete (Err refusal) a ends t told valid quiet calm taken =
+      inr (wants_memory s e s0 s1 e0 e1 status refusal (error_complete refusal a t told valid quiet calm) ends.by.1)

@@ -1,0 +1,4 @@
+pub mod ByCall
+pub mod Finding
+pub mod Here
+pub mod Ended

@@ -1,0 +1,15 @@
+pub mod Parts
+pub mod PlacesLines
+pub mod FilesLines
+pub mod IndexLines
+pub mod ProgramLines
+pub mod Refusals
+pub mod Finds
+pub mod Directory
+pub mod Asking
+pub mod Texts
+pub mod Writing
+pub mod Written
+pub mod Answers
+pub mod Output
+pub mod Ends

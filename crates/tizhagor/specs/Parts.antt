@@ -1,0 +1,35 @@
+-- The lines on standard error, for a person: what cannot be had, and where.
+use Rattle.std.specs.Prelude.{ℕ, List, [], ◌∷◌, ◌++◌, codes, decimal}
+use Rattle.worktree_fs.specs.Causes.{next}
+use Rattle.worktree_report.specs.Escapes.{escaped}
+
+-- a text with a path in it, escaped
+abbrev pub with_path : List ℕ → List ℕ → List ℕ → List ℕ
+with_path before path after = before ++ escaped path ++ after
+
+-- a text with a number in it
+abbrev pub with_number : List ℕ → ℕ → List ℕ → List ℕ
+with_number before n after = before ++ decimal n ++ after
+
+-- the same of a place that is counted from 0, and is told from 1
+abbrev pub with_place : List ℕ → ℕ → List ℕ → List ℕ
+with_place before at after = with_number before (next at) after
+
+-- a line of a configuration outside its grammar, in git's words
+abbrev pub config_line : List ℕ → ℕ → List ℕ
+config_line path line = codes "fatal: bad config line " ++ decimal line ++ (codes " in file " ++ escaped path ++ 10 ∷ [])
+
+-- the value of a key or of a variable cannot be read
+abbrev pub value_line : List ℕ → List ℕ
+value_line key = with_path (codes "fatal: bad config value for '") key (codes "'\n")
+
+-- the worktree failed; which call did is not told
+abbrev pub fault_line : List ℕ
+fault_line = codes "fatal: a file or directory could not be read\n"
+
+-- the report's bytes were refused
+abbrev pub output_line : List ℕ
+output_line = codes "fatal: write failure on standard output\n"
+
+abbrev pub memory_line : List ℕ
+memory_line = codes "fatal: out of memory\n"

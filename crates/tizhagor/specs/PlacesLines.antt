@@ -1,0 +1,18 @@
+-- Why no work tree is found, or why its repository is not read: the line.
+use Rattle.std.specs.Prelude.{ℕ, List, codes}
+use Rattle.git_places.specs.declared.error.PlacesError.{PlacesError}
+use Rattle.git_places.specs.declared.error.PlacesError.TheVariants as errors
+use Rattle.tizhagor.specs.Parts.{config_line, fault_line, memory_line, value_line, with_path}
+
+abbrev pub places_line : PlacesError → List ℕ
+places_line errors.NoRepository = codes "fatal: not a git repository (or any of the parent directories): .git\n"
+places_line (errors.Bare path) = codes "fatal: this operation must be run in a work tree\n"
+places_line (errors.GitFile path) = with_path (codes "fatal: invalid gitfile format: ") path (codes "\n")
+places_line (errors.Version value) = with_path (codes "fatal: Expected git repo version <= 1, found ") value (codes "\n")
+places_line (errors.Extension key) = with_path (codes "fatal: unknown repository extension found: ") key (codes "\n")
+places_line errors.Sha256 = codes "fatal: a repository with ids of SHA-256 is not read\n"
+places_line (errors.Value key) = value_line key
+places_line (errors.Config path line) = config_line path line
+places_line (errors.NoWorkTree path) = with_path (codes "fatal: core.worktree names no directory: '") path (codes "'\n")
+places_line errors.Fault = fault_line
+places_line errors.OutOfMemory = memory_line

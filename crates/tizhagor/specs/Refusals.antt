@@ -1,0 +1,123 @@
+-- Why there is no text: the status and the line of each refusal.
+use Rattle.std.specs.Prelude.{ℕ, List, codes, ◌++◌, Result, Ok, Err}
+use Rattle.git_setup.specs.declared.error.GitRefusal.{GitRefusal}
+use Rattle.git_setup.specs.declared.error.GitRefusal.TheVariants as git
+use Rattle.worktree_fs.specs.declared.answers.ReadError.{ReadError}
+use Rattle.worktree_fs.specs.declared.answers.ReadError.TheVariants as read
+use Rattle.worktree_report.specs.Escapes.{escaped}
+use Rattle.worktree_report.specs.declared.refusal.Refusal.{Refusal}
+use Rattle.worktree_report.specs.declared.refusal.Refusal.TheVariants as refusals
+use Rattle.command_line.specs.Misuses.{said}
+use Rattle.command_line.specs.declared.misuse.Misuse.{Misuse}
+use Rattle.command_line.specs.declared.misuse.Misuse.TheVariants as misuses
+use Rattle.tizhagor.specs.declared.refusal.HereRefusal.{HereRefusal}
+use Rattle.tizhagor.specs.declared.refusal.HereRefusal.TheVariants as errors
+use Rattle.tizhagor.specs.FilesLines.{files_line}
+use Rattle.tizhagor.specs.IndexLines.{entry_reason, file_reason}
+use Rattle.tizhagor.specs.Parts.{fault_line, memory_line, value_line, with_path}
+use Rattle.tizhagor.specs.PlacesLines.{places_line}
+use Rattle.tizhagor.specs.ProgramLines.{program_line, program_status}
+
+-- the worktree failed, and counted it
+abbrev pub fault : HereRefusal
+fault = errors.Program refusals.Fault
+
+-- want of memory
+abbrev pub memory : HereRefusal
+memory = errors.Program refusals.OutOfMemory
+
+-- ---- the refusal that stands for one of a part
+
+abbrev pub of_read : ReadError → HereRefusal
+of_read read.Fault = fault
+of_read read.OutOfMemory = memory
+
+-- that words ask for nothing
+abbrev pub of_misuse : Misuse → HereRefusal
+of_misuse (misuses.Word topic wrong word) = errors.Words (misuses.Word topic wrong word)
+of_misuse misuses.OutOfMemory = memory
+
+-- that no setup is found
+abbrev pub of_git : GitRefusal → HereRefusal
+of_git (git.Elsewhere name) = errors.Git (git.Elsewhere name)
+of_git (git.Places e) = errors.Git (git.Places e)
+of_git (git.IndexNode path) = errors.Git (git.IndexNode path)
+of_git (git.IndexFile path e) = errors.Git (git.IndexFile path e)
+of_git (git.IndexEntry path e) = errors.Git (git.IndexEntry path e)
+of_git (git.Files e) = errors.Git (git.Files e)
+of_git (git.Boolean key) = errors.Git (git.Boolean key)
+of_git (git.SparseDirectory path) = errors.Git (git.SparseDirectory path)
+of_git (git.OutsideRoot directory root) = errors.Git (git.OutsideRoot directory root)
+of_git (git.PathSpec text) = errors.Git (git.PathSpec text)
+of_git (git.OutsidePath text) = errors.Git (git.OutsidePath text)
+of_git (git.Prefix text prefix) = errors.Git (git.Prefix text prefix)
+of_git (git.SubmoduleCase path) = errors.Git (git.SubmoduleCase path)
+of_git git.Fault = fault
+of_git git.OutOfMemory = memory
+
+abbrev pub as_git : {A : Type 0} → Result A GitRefusal → Result A HereRefusal
+as_git (Ok found) = Ok found
+as_git (Err e) = Err (of_git e)
+
+-- that there is no text by a setup
+abbrev pub as_program : {A : Type 0} → Result A Refusal → Result A HereRefusal
+as_program (Ok text) = Ok text
+as_program (Err e) = Err (errors.Program e)
+
+-- a refusal that may come while a work tree and its setup are looked for
+abbrev pub IsOfFinding : HereRefusal → Type 0
+IsOfFinding (errors.Words misuse) = ⊥
+IsOfFinding (errors.Absent directory) = Unit {0}
+IsOfFinding (errors.NotADirectory directory) = Unit {0}
+IsOfFinding (errors.NotAtTop root) = Unit {0}
+IsOfFinding (errors.Git refusal) = Unit {0}
+IsOfFinding (errors.Program refusals.Interrupted) = ⊥
+IsOfFinding (errors.Program refusals.Usage) = ⊥
+IsOfFinding (errors.Program (refusals.Setup line)) = ⊥
+IsOfFinding (errors.Program (refusals.Walk word path)) = ⊥
+IsOfFinding (errors.Program (refusals.Misread which)) = ⊥
+IsOfFinding (errors.Program refusals.Fault) = Unit {0}
+IsOfFinding (errors.Program refusals.Output) = ⊥
+IsOfFinding (errors.Program refusals.OutOfMemory) = Unit {0}
+
+-- ---- statuses
+
+abbrev pub status_of : HereRefusal → ℕ
+status_of (errors.Words misuse) = 129
+status_of (errors.Absent directory) = 128
+status_of (errors.NotADirectory directory) = 128
+status_of (errors.NotAtTop root) = 128
+status_of (errors.Git refusal) = 128
+status_of (errors.Program refusal) = program_status refusal
+
+-- ---- lines
+
+abbrev pub git_line : GitRefusal → List ℕ
+git_line (git.Elsewhere name) = with_path (codes "fatal: ") name (codes " is set, which is not heeded; unset it\n")
+git_line (git.Places e) = places_line e
+git_line (git.IndexNode path) = with_path (codes "fatal: '") path (codes "' is no file\n")
+git_line (git.IndexFile path e) = with_path (codes "fatal: ") path (file_reason e)
+git_line (git.IndexEntry path e) = with_path (codes "fatal: ") path (entry_reason e)
+git_line (git.Files e) = files_line e
+git_line (git.Boolean key) = value_line key
+git_line (git.SparseDirectory path) =
+    with_path (codes "fatal: the index leaves out directory '") path (codes "', and something is there; undo it with 'git sparse-checkout reapply --no-sparse-index'\n")
+git_line (git.OutsideRoot directory root) =
+    with_path (codes "fatal: '") directory (with_path (codes "' is outside repository at '") root (codes "'\n"))
+git_line (git.PathSpec text) = with_path (codes "fatal: bad pathspec '") text (codes "'\n")
+git_line (git.OutsidePath text) = with_path (codes "fatal: '") text (codes "' is outside repository\n")
+git_line (git.Prefix text prefix) =
+    with_path (codes "fatal: pathspec '") text (with_path (codes "' is not read from directory '") prefix (codes "'; write it from the top, with ':/'\n"))
+git_line (git.SubmoduleCase path) =
+    with_path (codes "fatal: no plan with core.ignoreCase and a submodule: '") path (codes "'\n")
+git_line git.Fault = fault_line
+git_line git.OutOfMemory = memory_line
+
+-- the line on standard error, its line feed included
+abbrev pub line_of : HereRefusal → List ℕ
+line_of (errors.Words misuse) = said misuse
+line_of (errors.Absent directory) = with_path (codes "fatal: cannot change to '") directory (codes "': No such file or directory\n")
+line_of (errors.NotADirectory directory) = with_path (codes "fatal: cannot change to '") directory (codes "': Not a directory\n")
+line_of (errors.NotAtTop root) = with_path (codes "fatal: a plan is made at the top of the work tree; call it there: '") root (codes "'\n")
+line_of (errors.Git refusal) = git_line refusal
+line_of (errors.Program refusal) = program_line refusal

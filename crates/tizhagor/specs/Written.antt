@@ -1,0 +1,11 @@
+-- An answer with its text as it is written.
+use Rattle.std.specs.Prelude.{◌≡◌, ◌⊎◌, ℕ, List, Result, Ok, Err}
+use Rattle.tizhagor.specs.declared.refusal.HereRefusal.{HereRefusal}
+use Rattle.tizhagor.specs.declared.writing.Writing.{Writing}
+use Rattle.tizhagor.specs.Refusals.{memory}
+use Rattle.tizhagor.specs.Writing.{written}
+
+-- the same refusal, or the bytes of the text, or want of memory for these
+abbrev pub IsWrittenAs : Writing → Result (List ℕ) HereRefusal → Result (List ℕ) HereRefusal → Type 0
+IsWrittenAs writing (Ok text) result = (result ≡ Ok (written writing text)) ⊎ (result ≡ Err memory)
+IsWrittenAs writing (Err e) result = result ≡ Err e

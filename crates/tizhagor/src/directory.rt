@@ -1,0 +1,76 @@
+//! The directory in which a command works.
+ghost use Rattle.std.specs.Prelude.{◌≡◌, true, IfOk, IfErr};
+ghost use Rattle.worktree_fs.specs.Answers.{kind_of};
+ghost use Rattle.worktree_fs.specs.Changes.{real_path};
+ghost use Rattle.worktree_fs.specs.Tree.{look};
+ghost use Rattle.tizhagor.specs.Directory as words;
+ghost use Rattle.tizhagor.specs.Finds.{FindsHere};
+ghost use Rattle.tizhagor.specs.Refusals.{IsOfFinding};
+
+use crate::refusal::HereRefusal;
+use gitbase_core::{Bytes, OutOfMemory, PathText};
+use std::alloc::Global;
+use worktree_fs::{NodeKind, Worktree};
+
+/// That nothing is at the directory that is named.
+fn absent(alloc: Global, name: &[u8]) -> Result<HereRefusal, OutOfMemory>
+    ensures { IfOk result (λ e. e ≡ HereRefusal.Absent name.now) }
+{
+    Ok(HereRefusal::Absent {
+        directory: Bytes::from_slice(alloc, name)?,
+    })
+}
+
+/// That what is named is no directory.
+fn not_a_directory(alloc: Global, name: &[u8]) -> Result<HereRefusal, OutOfMemory>
+    ensures { IfOk result (λ e. e ≡ HereRefusal.NotADirectory name.now) }
+{
+    Ok(HereRefusal::NotADirectory {
+        directory: Bytes::from_slice(alloc, name)?,
+    })
+}
+
+/// A path without links, where a directory is at it.
+fn directory_at<W: Worktree>(
+    alloc: Global,
+    worktree: &mut W,
+    name: &[u8],
+    real: PathText,
+) -> Result<PathText, HereRefusal>
+    ensures finds { FindsHere W.Worktree worktree.old worktree.new
+        (λ t. words.directory_by name.now real (kind_of (look t real true))) result }
+    ensures of { IfErr result IsOfFinding }
+{
+    match worktree.kind_following(alloc, real.as_bytes())? {
+        Some(NodeKind::Directory) => Ok(real),
+        Some(_) => Err(not_a_directory(alloc, name)?),
+        None => Err(absent(alloc, name)?),
+    }
+}
+
+/// The directory that a name leads to from the current one, without links; an empty name leads nowhere else.
+///
+/// # Errors
+///
+/// - `Absent`: nothing is there.
+/// - `NotADirectory`: what is there is no directory.
+/// - `Program(Fault)`: the worktree failed, which it counted.
+/// - `Program(OutOfMemory)` for want of memory.
+pub fn directory_named<W: Worktree>(
+    alloc: Global,
+    worktree: &mut W,
+    current: &[u8],
+    name: &[u8],
+) -> Result<PathText, HereRefusal>
+    ensures finds { FindsHere W.Worktree worktree.old worktree.new
+        (λ t. words.directory_named t current.now name.now) result }
+    ensures of { IfErr result IsOfFinding }
+{
+    if name.is_empty() {
+        return Ok(PathText::from_bytes(alloc, current)?);
+    }
+    match worktree.real_path(alloc, name, current)? {
+        Some(real) => directory_at(alloc, worktree, name, real),
+        None => Err(absent(alloc, name)?),
+    }
+}

@@ -1,0 +1,123 @@
+//! What the system hands to the program: words, variables of the environment, and the current directory.
+use bstr::ByteSlice;
+use git_places::Variable;
+use gitbase_core::{Bytes, OutOfMemory};
+use std::alloc::Global;
+use std::env::{Env, FillError};
+
+/// The most bytes that Linux hands on in one word or variable.
+const LIMIT: usize = 131_072;
+
+/// The most bytes of a path that Linux hands on.
+const PATH_LIMIT: usize = 4_096;
+
+/// What the system hands to the program.
+#[derive(Drop)]
+pub struct Handed {
+    /// The words behind the program's name.
+    pub words: Vec<Bytes>,
+    /// The variables of the environment.
+    pub variables: Vec<Variable>,
+    /// The current directory: an absolute path without links.
+    pub current: Bytes,
+}
+
+/// Why the program cannot begin.
+#[derive(Clone, Copy, Debug, PartialEq, Eq)]
+pub enum NotGiven {
+    /// A word or a variable is longer than the system hands on.
+    TooLong,
+    /// There is no current directory.
+    Directory,
+    /// Want of memory.
+    OutOfMemory,
+}
+
+impl From<OutOfMemory> for NotGiven {
+    ghost use Rattle.std.specs.Prelude.{◌≡◌};
+    ghost use Rattle.tizhagor.specs.declared.environment.NotGiven.TheVariants as errors;
+
+    ghost from_gives = { λ _ e. e ≡ errors.OutOfMemory };
+
+    fn from(_refused: OutOfMemory) -> NotGiven {
+        NotGiven::OutOfMemory
+    }
+}
+
+/// The words behind the program's name.
+fn words<R: Env>(rt: &R, alloc: Global, buffer: &mut [u8]) -> Result<Vec<Bytes>, NotGiven> {
+    let mut words = Vec::new(alloc);
+    for i in 1..usize::MAX {
+        match rt.arg(i, buffer) {
+            Ok(length) => add(alloc, &mut words, &buffer[..length])?,
+            Err(FillError::NotPresent) => break,
+            Err(FillError::TooLong) => return Err(NotGiven::TooLong),
+        }
+    }
+    Ok(words)
+}
+
+fn add(alloc: Global, words: &mut Vec<Bytes>, word: &[u8]) -> Result<(), OutOfMemory> {
+    words.push(Bytes::from_slice(alloc, word)?)?;
+    Ok(())
+}
+
+/// Adds the variable of an entry `NAME=value`; any other entry is none.
+fn add_variable(
+    alloc: Global,
+    variables: &mut Vec<Variable>,
+    entry: &[u8],
+) -> Result<(), OutOfMemory> {
+    if let Some((name, value)) = entry.split_once_str(b"=") {
+        let name = Bytes::from_slice(alloc, name)?;
+        let value = Bytes::from_slice(alloc, value)?;
+        variables.push(Variable { name, value })?;
+    }
+    Ok(())
+}
+
+/// The variables of the environment, in its order.
+fn variables<R: Env>(rt: &R, alloc: Global, buffer: &mut [u8]) -> Result<Vec<Variable>, NotGiven> {
+    let mut variables = Vec::new(alloc);
+    for i in 0..usize::MAX {
+        match rt.var_at(i, buffer) {
+            Ok(length) => add_variable(alloc, &mut variables, &buffer[..length])?,
+            Err(FillError::NotPresent) => break,
+            Err(FillError::TooLong) => return Err(NotGiven::TooLong),
+        }
+    }
+    Ok(variables)
+}
+
+/// The current directory.
+fn current<R: Env>(rt: &R, alloc: Global) -> Result<Bytes, NotGiven> {
+    let mut buffer = [0u8; PATH_LIMIT];
+    match rt.current_dir(&mut buffer) {
+        Ok(length) => Ok(Bytes::from_slice(alloc, &buffer[..length])?),
+        Err(_) => Err(NotGiven::Directory),
+    }
+}
+
+/// All that the system hands to the program.
+///
+/// # Errors
+///
+/// - `TooLong`: a word or a variable is longer than the system hands on.
+/// - `Directory`: there is no current directory, or its path is longer.
+/// - `OutOfMemory` for want of memory.
+pub fn given<R: Env>(rt: &R, alloc: Global) -> Result<Handed, NotGiven> {
+    let mut buffer = room(alloc)?;
+    let words = words(rt, alloc, &mut buffer)?;
+    let variables = variables(rt, alloc, &mut buffer)?;
+    let current = current(rt, alloc)?;
+    Ok(Handed {
+        words,
+        variables,
+        current,
+    })
+}
+
+/// Room for a word.
+fn room(alloc: Global) -> Result<Vec<u8>, OutOfMemory> {
+    Ok(vec![in alloc; 0u8; LIMIT]?)
+}

@@ -1,0 +1,92 @@
+//! The lines on standard error, for a person.
+ghost use Rattle.std.specs.Prelude.{◌≡◌, ◌++◌, IfOk};
+ghost use Rattle.tizhagor.specs.Parts as words;
+
+pub mod files;
+pub mod git;
+pub mod here;
+pub mod index;
+pub mod places;
+pub mod program;
+
+use gitbase_core::{Bytes, OutOfMemory};
+use std::alloc::Global;
+use worktree_report::add_escaped;
+
+/// The line of want of memory, which takes none.
+pub const MEMORY: &[u8] = b"fatal: out of memory\n";
+
+/// The line of an output that was refused.
+pub const OUTPUT: &[u8] = b"fatal: write failure on standard output\n";
+
+/// The line of a worktree that failed.
+pub const FAULT: &[u8] = b"fatal: a file or directory could not be read\n";
+
+/// A line that is always the same.
+pub fn fixed(alloc: Global, line: &[u8]) -> Result<Bytes, OutOfMemory>
+    ensures { IfOk result (λ made. made ≡ line.now) }
+{
+    Bytes::from_slice(alloc, line)
+}
+
+/// A text with a path in it, escaped.
+pub fn with_path(
+    alloc: Global,
+    before: &[u8],
+    path: &[u8],
+    after: &[u8],
+) -> Result<Bytes, OutOfMemory>
+    ensures { IfOk result (λ line. line ≡ words.with_path before.now path.now after.now) }
+{
+    let mut text = before.to_vec(alloc)?;
+    add_escaped(&mut text, path)?;
+    text.extend_from_slice(after)?;
+    Ok(Bytes::from_vec(text))
+}
+
+/// A text with a number in it.
+pub fn with_number(
+    alloc: Global,
+    before: &[u8],
+    number: usize,
+    after: &[u8],
+) -> Result<Bytes, OutOfMemory>
+    ensures { IfOk result (λ line. line ≡ words.with_number before.now number after.now) }
+{
+    let digits = format!(in alloc; "{number}")?;
+    let mut text = before.to_vec(alloc)?;
+    text.extend_from_slice(digits.as_bytes())?;
+    text.extend_from_slice(after)?;
+    Ok(Bytes::from_vec(text))
+}
+
+/// The same of a place that is counted from 0, and is told from 1.
+pub fn with_place(
+    alloc: Global,
+    before: &[u8],
+    at: usize,
+    after: &[u8],
+) -> Result<Bytes, OutOfMemory>
+    ensures { IfOk result (λ line. line ≡ words.with_place before.now at after.now) }
+{
+    with_number(alloc, before, at.saturating_add(1), after)
+}
+
+/// A line of a configuration outside its grammar.
+pub fn config_line(alloc: Global, path: &[u8], line: usize) -> Result<Bytes, OutOfMemory>
+    ensures { IfOk result (λ text. text ≡ words.config_line path.now line) }
+{
+    let numbered = with_number(alloc, b"fatal: bad config line ", line, b"")?;
+    let mut text = numbered.as_bytes().to_vec(alloc)?;
+    text.extend_from_slice(b" in file ")?;
+    add_escaped(&mut text, path)?;
+    text.extend_from_slice(b"\n")?;
+    Ok(Bytes::from_vec(text))
+}
+
+/// The value of a key or of a variable cannot be read.
+pub fn value_line(alloc: Global, key: &[u8]) -> Result<Bytes, OutOfMemory>
+    ensures { IfOk result (λ text. text ≡ words.value_line key.now) }
+{
+    with_path(alloc, b"fatal: bad config value for '", key, b"'\n")
+}

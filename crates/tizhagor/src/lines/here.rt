@@ -1,0 +1,58 @@
+//! Why there is no text: the status and the line of each refusal.
+ghost use Rattle.std.specs.Prelude.{◌≡◌, IfOk};
+ghost use Rattle.tizhagor.specs.Refusals as words;
+
+use crate::lines::git::git_line;
+use crate::lines::program::{program_line, program_status};
+use crate::lines::with_path;
+use crate::refusal::HereRefusal;
+use command_line::said;
+use gitbase_core::{Bytes, OutOfMemory};
+use std::alloc::Global;
+
+/// The status that the program ends with.
+pub fn status_of(refusal: &HereRefusal) -> u8
+    ensures { result ≡ words.status_of refusal.now }
+{
+    match refusal {
+        HereRefusal::Words(_) => 129,
+        HereRefusal::Absent { directory: _ }
+        | HereRefusal::NotADirectory { directory: _ }
+        | HereRefusal::NotAtTop { root: _ }
+        | HereRefusal::Git(_) => 128,
+        HereRefusal::Program(refusal) => program_status(refusal),
+    }
+}
+
+/// The line on standard error, its line feed included.
+///
+/// # Errors
+///
+/// Memory was refused.
+pub fn line_of(alloc: Global, refusal: &HereRefusal) -> Result<Bytes, OutOfMemory>
+    ensures { IfOk result (λ line. line ≡ words.line_of refusal.now) }
+{
+    match refusal {
+        HereRefusal::Words(misuse) => said(alloc, misuse),
+        HereRefusal::Absent { directory } => with_path(
+            alloc,
+            b"fatal: cannot change to '",
+            directory.as_bytes(),
+            b"': No such file or directory\n",
+        ),
+        HereRefusal::NotADirectory { directory } => with_path(
+            alloc,
+            b"fatal: cannot change to '",
+            directory.as_bytes(),
+            b"': Not a directory\n",
+        ),
+        HereRefusal::NotAtTop { root } => with_path(
+            alloc,
+            b"fatal: a plan is made at the top of the work tree; call it there: '",
+            root.as_bytes(),
+            b"'\n",
+        ),
+        HereRefusal::Git(refusal) => git_line(alloc, refusal),
+        HereRefusal::Program(refusal) => program_line(alloc, refusal),
+    }
+}

@@ -1,0 +1,56 @@
+//! Why no work tree is found, or why its repository is not read.
+ghost use Rattle.std.specs.Prelude.{◌≡◌, IfOk};
+ghost use Rattle.tizhagor.specs.PlacesLines as words;
+
+use crate::lines::{FAULT, MEMORY, config_line, fixed, value_line, with_path};
+use git_places::PlacesError;
+use gitbase_core::{Bytes, OutOfMemory};
+use std::alloc::Global;
+
+/// The line of a work tree that is not found, or of a repository that is not read.
+pub fn places_line(alloc: Global, error: &PlacesError) -> Result<Bytes, OutOfMemory>
+    ensures { IfOk result (λ line. line ≡ words.places_line error.now) }
+{
+    match error {
+        PlacesError::NoRepository => fixed(
+            alloc,
+            b"fatal: not a git repository (or any of the parent directories): .git\n",
+        ),
+        PlacesError::Bare { path: _ } => fixed(
+            alloc,
+            b"fatal: this operation must be run in a work tree\n",
+        ),
+        PlacesError::GitFile { path } => with_path(
+            alloc,
+            b"fatal: invalid gitfile format: ",
+            path.as_bytes(),
+            b"\n",
+        ),
+        PlacesError::Version { value } => with_path(
+            alloc,
+            b"fatal: Expected git repo version <= 1, found ",
+            value.as_bytes(),
+            b"\n",
+        ),
+        PlacesError::Extension { key } => with_path(
+            alloc,
+            b"fatal: unknown repository extension found: ",
+            key.as_bytes(),
+            b"\n",
+        ),
+        PlacesError::Sha256 => fixed(
+            alloc,
+            b"fatal: a repository with ids of SHA-256 is not read\n",
+        ),
+        PlacesError::Value { key } => value_line(alloc, key.as_bytes()),
+        PlacesError::Config { path, line } => config_line(alloc, path.as_bytes(), *line),
+        PlacesError::NoWorkTree { path } => with_path(
+            alloc,
+            b"fatal: core.worktree names no directory: '",
+            path.as_bytes(),
+            b"'\n",
+        ),
+        PlacesError::Fault => fixed(alloc, FAULT),
+        PlacesError::OutOfMemory => fixed(alloc, MEMORY),
+    }
+}

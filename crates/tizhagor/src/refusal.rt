@@ -1,0 +1,77 @@
+//! Why there is no text.
+use command_line::Misuse;
+use git_setup::GitRefusal;
+use gitbase_core::{Bytes, OutOfMemory};
+use worktree_fs::ReadError;
+use worktree_report::Refusal;
+
+/// Why there is no text of a work tree.
+#[derive(Debug, Drop)]
+pub enum HereRefusal {
+    /// The words ask for nothing.
+    Words(Misuse),
+    /// Nothing is at the directory that `-C` names.
+    Absent { directory: Bytes },
+    /// What is at the directory that `-C` names is none.
+    NotADirectory { directory: Bytes },
+    /// What may be deleted is asked for elsewhere than at the top of the work tree, which is at `root`.
+    NotAtTop { root: Bytes },
+    /// No setup is found; never as the worktree failed, nor for want of memory.
+    Git(GitRefusal),
+    /// There is no text by the setup that was found, or the worktree failed, or memory was wanted.
+    Program(Refusal),
+}
+
+impl From<OutOfMemory> for HereRefusal {
+    ghost use Rattle.std.specs.Prelude.{◌≡◌};
+    ghost use Rattle.tizhagor.specs.Refusals.{memory};
+
+    ghost from_gives = { λ _ e. e ≡ memory };
+
+    fn from(_refused: OutOfMemory) -> HereRefusal {
+        HereRefusal::Program(Refusal::OutOfMemory)
+    }
+}
+
+impl From<ReadError> for HereRefusal {
+    ghost use Rattle.std.specs.Prelude.{◌≡◌};
+    ghost use Rattle.tizhagor.specs.Refusals.{of_read};
+
+    ghost from_gives = { λ refused e. e ≡ of_read refused };
+
+    fn from(refused: ReadError) -> HereRefusal {
+        match refused {
+            ReadError::Fault => HereRefusal::Program(Refusal::Fault),
+            ReadError::OutOfMemory => HereRefusal::Program(Refusal::OutOfMemory),
+        }
+    }
+}
+
+impl From<GitRefusal> for HereRefusal {
+    ghost use Rattle.std.specs.Prelude.{◌≡◌};
+    ghost use Rattle.tizhagor.specs.Refusals.{of_git};
+
+    ghost from_gives = { λ refused e. e ≡ of_git refused };
+
+    fn from(refused: GitRefusal) -> HereRefusal {
+        match refused {
+            GitRefusal::Fault => HereRefusal::Program(Refusal::Fault),
+            GitRefusal::OutOfMemory => HereRefusal::Program(Refusal::OutOfMemory),
+            refused => HereRefusal::Git(refused),
+        }
+    }
+}
+
+impl From<Misuse> for HereRefusal {
+    ghost use Rattle.std.specs.Prelude.{◌≡◌};
+    ghost use Rattle.tizhagor.specs.Refusals.{of_misuse};
+
+    ghost from_gives = { λ refused e. e ≡ of_misuse refused };
+
+    fn from(refused: Misuse) -> HereRefusal {
+        match refused {
+            Misuse::OutOfMemory => HereRefusal::Program(Refusal::OutOfMemory),
+            refused => HereRefusal::Words(refused),
+        }
+    }
+}

@@ -1,0 +1,46 @@
+#compdef tizhagor
+# Completions of tizhagor for zsh; scripts/install puts them in place, and scripts/check-install compares them with the help texts.
+
+_tizhagor() {
+    local -a shown looked written colour help
+    shown=(
+        '(-u --untracked-files)'{-u,--untracked-files=-}'[untracked paths]::mode:(matching collapse)'
+        '--ignored=-[ignored paths too]::mode:(matching collapse no)'
+        '--collapsed=[what a directory stands for, too]:which:(mismatch all no)'
+        '(--tracked --no-tracked)'{--tracked,--no-tracked}'[tracked paths]'
+        '(--pruned --no-pruned)'{--pruned,--no-pruned}'[what is left out]'
+        '(--empty-directories --no-empty-directories)'{--empty-directories,--no-empty-directories}'[directories without names]'
+        '(--origins --no-origins)'{--origins,--no-origins}'[the rule that decided]'
+        '(--submodules --no-submodules)'{--submodules,--no-submodules}'[the submodule at the path]'
+        '--permissions=[the configurations that are read]:which:(secure all isolated)'
+        '(--outcome --no-outcome)'{--outcome,--no-outcome}'[a last line with the counts of the walk]'
+        '(--recurse-repositories --no-recurse-repositories)'{--recurse-repositories,--no-recurse-repositories}'[nested repositories as directories]'
+        '(--bare-repositories --no-bare-repositories)'{--bare-repositories,--no-bare-repositories}'[bare repositories as repositories]'
+        '--for-deletion=[as what is to be deleted]:mode:(hide nonbare all no)'
+    )
+    looked=(
+        '(--excludes --no-excludes)'{--excludes,--no-excludes}'[ignore rules are asked]'
+        '(--precious --no-precious)'{--precious,--no-precious}'[rules that begin with $ keep what they match]'
+        '(--strict-parents --no-strict-parents)'{--strict-parents,--no-strict-parents}'[what lies in an excluded directory stays excluded]'
+        '(--links-as-directories --no-links-as-directories)'{--links-as-directories,--no-links-as-directories}'[rules see a link as what it leads to]'
+        '--strategy=[how the walk goes]:how:(held at-once)'
+        '--depth=[how deep directories are entered]:number:'
+    )
+    written=('(-z --null)'{-z,--null}'[a NUL behind each line]')
+    colour=('(--no-color)--color=-[lines in the colour of their status]::when:(auto always never)' '(--color)--no-color[no colours]')
+    help=('(- *)'{-h,--help}'[the help text]')
+    local context state line
+    typeset -A opt_args
+    _arguments -C '-C[the directory to work in]:directory:_files -/' $help '(- *)--version[the version]' \
+        '1:command:((report\:"the untracked paths, and others" plan\:"what may be removed" modules\:"what an update of the submodules would do" state\:"the paths of the index, and the report"))' \
+        '*::word:->words'
+    [[ $state == words ]] || return
+    case $line[1] in
+    report) _arguments -s $shown $looked $written '--plain[two letters in place of words]' $colour $help '*:path:_files' ;;
+    plan) _arguments -s '-x[ignored paths too]' '-X[ignored paths alone]' '--nonbare[bare repositories as directories]' $looked $written $help '*:path:_files' ;;
+    modules) _arguments '--permissions=[the configurations that are read]:which:(secure all isolated)' $help ;;
+    state) _arguments -s $shown $looked $written $colour $help ;;
+    esac
+}
+
+_tizhagor "$@"
