@@ -20,7 +20,7 @@ use Rattle.clean_plan.specs.Kept.{has_dot_git, holds_current, is_indexed, is_kep
 use Rattle.clean_plan.specs.Paths.{is_among}
 use Rattle.clean_plan.specs.Plans.{IsPlan, is_planned, removable_paths}
 use Rattle.clean_plan.specs.Removable.{is_plain, is_removable, is_taken, may_go}
-use Rattle.clean_plan.specs.Safe.{AreApart, AreSafe, AreSpared, IsCovered, IsSafe, IsSpared, is_guarded}
+use Rattle.clean_plan.specs.Safe.{AreApart, AreSafe, AreSpared, IsCovered, IsSafe, IsSpared, must_stay}
 use Rattle.clean_plan.specs.Whole.{is_whole, lies_in}
 use Rattle.clean_plan.proofs.Directories.{above-then, and_both, none-above}
 use Rattle.clean_plan.proofs.Planning.{FoundEntry, IsIn, RemovableAt, found-entry, removable-at, target-only, whole-removes, whole-says}
@@ -51,7 +51,7 @@ taken-unguarded what (Ignored Expendable) (Some k) e f = not_true (is_repository
 taken-unguarded what Untracked None e f = refl
 taken-unguarded what Untracked (Some k) e f = not_true (is_repository (Some k)) f
 
-pub removable-unguarded : (asked : Asked) (e : Entry) → is_removable asked e ≡ true → is_guarded e ≡ false
+pub removable-unguarded : (asked : Asked) (e : Entry) → is_removable asked e ≡ true → must_stay e ≡ false
 removable-unguarded asked e h =
     let one = and_both (may_go asked e) (not (is_kept asked e.rela_path)) h in
     let two = and_both (is_taken asked.what e.status) _ one.0 in
@@ -141,8 +141,8 @@ module _ (asked : Asked) (entries : List Entry) (flat : AreFlat entries) where
       record {
         spared = left.spared;
         elsewhere = left.elsewhere;
-        unguarded = none-any (λ (e : Entry). is_path_prefix path e.rela_path && is_guarded e) entries
-            (λ e here. by (is_path_prefix path e.rela_path) (is_guarded e) (λ over. removable-unguarded asked e (planned-takes path e left.spared.below planned.which here over)));
+        unguarded = none-any (λ (e : Entry). is_path_prefix path e.rela_path && must_stay e) entries
+            (λ e here. by (is_path_prefix path e.rela_path) (must_stay e) (λ over. removable-unguarded asked e (planned-takes path e left.spared.below planned.which here over)));
       }
     where
       by : (a b : Bool) → (a ≡ true → b ≡ false) → (a && b) ≡ false

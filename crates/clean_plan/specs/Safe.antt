@@ -12,12 +12,12 @@ use Rattle.clean_plan.specs.Kept.{has_dot_git, holds_current, is_indexed}
 use Rattle.clean_plan.specs.Paths.{Ascends, is_among}
 
 -- an entry that no plan may take: it is pruned, precious, tracked or a repository
-abbrev pub is_guarded : Entry → Bool
-is_guarded e = is_pruned e || (is_precious e || (is_tracked_status e.status || is_repository e.disk_kind))
+abbrev pub must_stay : Entry → Bool
+must_stay e = is_pruned e || (is_precious e || (is_tracked_status e.status || is_repository e.disk_kind))
 
 -- at a path or beneath it stands an entry that no plan may take
-abbrev pub takes_guarded : List Entry → List ℕ → Bool
-takes_guarded entries path = list_any (λ (e : Entry). is_path_prefix path e.rela_path && is_guarded e) entries
+abbrev pub takes_what_must_stay : List Entry → List ℕ → Bool
+takes_what_must_stay entries path = list_any (λ (e : Entry). is_path_prefix path e.rela_path && must_stay e) entries
 
 -- ---- over any worktree
 
@@ -38,7 +38,7 @@ pub record AreSpared (fold : Bool) (index : List IndexEntry) (paths : List (List
 pub record IsSafe (asked : Asked) (entries : List Entry) (path : List ℕ) : Type 0 where
   pub spared : IsSpared asked.fold asked.index path
   pub elsewhere : holds_current asked.current path ≡ false
-  pub unguarded : takes_guarded entries path ≡ false
+  pub unguarded : takes_what_must_stay entries path ≡ false
 
 -- a path lies at or beneath exactly one of some paths
 pub record IsCovered (paths : List (List ℕ)) (path : List ℕ) : Type 0 where

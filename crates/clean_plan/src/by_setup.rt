@@ -42,16 +42,19 @@ fn plan_by(
     Ok(Plan { paths })
 }
 
-/// What may be removed from the work tree at `worktree_root`, by a report that was made of it: what [`plan`] does behind the one that it
-/// makes. The worktree is asked for one real path, that of its root; nothing is listed, and no file is read. By whatever report, no
-/// planned path is that of the root, has a component `.git`, or has an index entry at it or beneath it. Whether a plan is safe to act on
-/// depends on the report: it is by one that the same setup asks for, its options [prepared](crate::prepare).
+/// What may be removed from the work tree at `worktree_root`, by a report that was made of it: what
+/// [`plan`] does behind the one that it makes. The worktree is asked for one real path, that of its
+/// root; nothing is listed, and no file is read. By whatever report, no planned path is that of the
+/// root, has a component `.git`, or has an index entry at it or beneath it. Whether a plan is safe
+/// to act on depends on the report: it is by one that the same setup asks for, its options
+/// [prepared](crate::prepare).
 ///
 /// # Errors
 ///
 /// The count of the worktree's faults rises for `Fault` alone.
 ///
-/// - `Fault`: the worktree failed when it was asked for the real path of its root, which it counted. It is not asked again.
+/// - `Fault`: the worktree failed when it was asked for the real path of its root, which it
+///   counted. It is not asked again.
 /// - `OutOfMemory`: memory was refused.
 ///
 /// See docs/DECISIONS.md#plan-by-report.
@@ -71,26 +74,30 @@ pub fn plan_by_report<W: Worktree>(
     Ok(plan_by(alloc, worktree_root, setup, what, report, &current)?)
 }
 
-/// What may be removed from the work tree at `worktree_root`, as `git clean` removes it: whole directories where all in them
-/// may go, and single entries of the report where not. Nothing is removed here.
+/// What may be removed from the work tree at `worktree_root`, as `git clean` removes it: whole
+/// directories where all in them may go, and single entries of the report where not. Nothing is
+/// removed here.
 ///
-/// The setup's options have to be prepared, which [`is_prepared`](crate::is_prepared) tests. An entry may go if its status is
-/// asked for, something that is no repository stands there, the path specs match it, and its path is not kept. Kept is the root,
-/// what has a component `.git`, and what has an index entry or the current directory at it or beneath it. A directory may go as a
-/// whole if it lies at or beneath the traversal root, is not kept, some entry lies beneath it, all of these may go, and the
-/// path specs take out neither it nor a directory between it and such an entry. Planned is what may go and lies beneath no
-/// directory that does.
+/// The setup's options have to be prepared, which [`is_prepared`](crate::is_prepared) tests. An
+/// entry may go if its status is asked for, something that is no repository stands there, the path
+/// specs match it, and its path is not kept. Kept is the root, what has a component `.git`, and
+/// what has an index entry or the current directory at it or beneath it. A directory may go as a
+/// whole if it lies at or beneath the traversal root, is not kept, some entry lies beneath it, all
+/// of these may go, and the path specs take out neither it nor a directory between it and such an
+/// entry. Planned is what may go and lies beneath no directory that does.
 ///
-/// One report is made, and the plan is that of [`plan_by_report`]. Blobs that ignore rules are mapped to are looked up in `objects`.
-/// The report's entries are gone over once. The path specs are asked about each entry that is a directory, and about each directory
-/// above one that may go, but not again about those that are above the entry before it too. The index is searched for each entry
-/// that may go but for its path, and for each directory above one that may go which no entry is in the way of, until one goes as a
-/// whole.
+/// One report is made, and the plan is that of [`plan_by_report`]. Blobs that ignore rules are
+/// mapped to are looked up in `objects`. The report's entries are gone over once. The path specs
+/// are asked about each entry that is a directory, and about each directory above one that may go,
+/// but not again about those that are above the entry before it too. The index is searched for each
+/// entry that may go but for its path, and for each directory above one that may go which no entry
+/// is in the way of, until one goes as a whole.
 ///
 /// # Errors
 ///
 /// - `Report` has the error of [`worktree_report`], for the same causes.
-/// - `Fault`: the worktree failed when it was asked for the real path of its root, which it counted.
+/// - `Fault`: the worktree failed when it was asked for the real path of its root, which it
+///   counted.
 /// - `OutOfMemory`: memory was refused.
 ///
 /// See docs/DECISIONS.md#plan-real-path.

@@ -3,9 +3,9 @@ use crate::what::What;
 use gitbase_core::{AccelerateLookup, PathText, State};
 use glob_rules::pathspec::Search;
 
-/// What may go, and by what it is decided what may not: an index, with a look-up where letters compare without regard to
-/// their case, the path specs, the traversal root, and the current directory where it lies in the work tree. Both are relative
-/// to the root of the work tree.
+/// What may go, and by what it is decided what may not: an index, with a look-up where letters
+/// compare without regard to their case, the path specs, the traversal root, and the current
+/// directory where it lies in the work tree. Both are relative to the root of the work tree.
 #[derive(Drop)]
 pub struct Cleaning<'a> {
     pub what: What,

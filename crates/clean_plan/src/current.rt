@@ -36,7 +36,8 @@ fn below(alloc: Global, directory: &[u8], path: &[u8]) -> Result<Option<PathText
     }
 }
 
-/// The current directory as it reads from the root of a work tree, where it is that or lies beneath.
+/// The current directory as it reads from the root of a work tree, where it is that or lies
+/// beneath.
 pub(crate) fn current_below<W: Worktree>(
     alloc: Global,
     worktree: &mut W,

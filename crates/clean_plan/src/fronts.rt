@@ -27,8 +27,8 @@ fn add_front<'a>(path: &'a [u8], at: usize, others: &mut Paths<'a>) -> Result<()
     Ok(())
 }
 
-/// Puts the directories above a path that have fewer bytes than so many among others; those with fewer than `begin` are among
-/// them.
+/// Puts the directories above a path that have fewer bytes than so many among others; those with
+/// fewer than `begin` are among them.
 pub(crate) fn add_above<'a>(
     path: &'a [u8],
     begin: usize,

@@ -36,7 +36,8 @@ fn holds_current(current: &Option<PathText>, path: &[u8]) -> bool
     }
 }
 
-/// Whether the index has an entry at a path or beneath it, letters compared as they stand; `prefix` is the path and a slash.
+/// Whether the index has an entry at a path or beneath it, letters compared as they stand; `prefix`
+/// is the path and a slash.
 fn is_there(index: &State, path: &[u8], prefix: &[u8]) -> bool
     requires prefix { prefix.now ≡ path.now ++ 47 ∷ [] }
     requires below { is_top path.now ≡ false }

@@ -23,5 +23,5 @@ pub use by_setup::{plan, plan_by_report};
 pub use error::CleanError;
 pub use outcome::Plan;
 pub use prepared::{is_prepared, prepare};
-pub use program::run_clean;
+pub use program::{run_clean, text_of_plan};
 pub use what::{Finding, What};

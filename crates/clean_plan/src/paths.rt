@@ -7,7 +7,8 @@ use std::alloc::Global;
 use std::collections::BTreeSet;
 use std::marker::Model;
 
-/// Paths of others, each once and in their order, among which one is found without passing over all.
+/// Paths of others, each once and in their order, among which one is found without passing over
+/// all.
 ///
 /// Contracts see their list.
 #[derive(Drop)]

@@ -15,8 +15,8 @@ use gitbase_core::{OutOfMemory, PathText};
 use std::alloc::Global;
 use worktree_report::ReportEntry;
 
-/// The paths that are planned for those of entries that may go; `spoiled` are the directories that have an entry in their way. Where
-/// the paths ascend each directory above them is judged once.
+/// The paths that are planned for those of entries that may go; `spoiled` are the directories that
+/// have an entry in their way. Where the paths ascend each directory above them is judged once.
 fn targets<'a>(
     alloc: Global,
     cleaning: &Cleaning<'_>,

@@ -16,8 +16,9 @@ fn deletion_of(finding: Finding) -> ForDeletionMode
     }
 }
 
-/// Sets the options that a plan needs: paths are to be deleted, with repositories found as asked; nothing is folded or hidden;
-/// neither submodules nor origins are told. All others stay as they are.
+/// Sets the options that a plan needs: paths are to be deleted, with repositories found as asked;
+/// nothing is folded or hidden; neither submodules nor origins are told. All others stay as they
+/// are.
 ///
 /// See docs/DECISIONS.md#prepared-options.
 pub fn prepare(options: &mut SetupOptions, finding: Finding)

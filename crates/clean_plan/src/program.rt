@@ -55,9 +55,17 @@ fn of_clean(alloc: Global, error: CleanError) -> Result<Refusal, OutOfMemory>
     }
 }
 
-/// The text of the plan for the work tree at `root`, by a prepared setup; none where the worktree failed while the plan was made.
-/// Blobs that ignore rules are mapped to are those of the setup.
-fn text_of_plan<W: CountsFaults, I: Interrupt>(
+/// The text of the plan for the work tree at `root`, by a setup that [`prepare`](crate::prepare)
+/// made: a line for each path. Blobs that ignore rules are mapped to are those of the setup.
+///
+/// # Errors
+///
+/// - `Walk` has the cause that the walk names.
+/// - `Fault`: the worktree failed, and counted it, also where the walk goes on with such a fault;
+///   or its count stands at its last value.
+/// - `Interrupted`: the interrupt was raised, and counted it.
+/// - `OutOfMemory`: memory was refused.
+pub fn text_of_plan<W: CountsFaults, I: Interrupt>(
     alloc: Global,
     worktree: &mut W,
     interrupt: &mut I,
@@ -136,12 +144,14 @@ fn text_asked<W: CountsFaults, I: Interrupt>(
     }
 }
 
-/// Answers the words of a command line: writes to `out` what may be removed from a work tree, one path a line, or says to `err`
-/// in one line why there is nothing of that, and answers the status that the program is to end with. Nothing is removed.
+/// Answers the words of a command line: writes to `out` what may be removed from a work tree, one
+/// path a line, or says to `err` in one line why there is nothing of that, and answers the status
+/// that the program is to end with. Nothing is removed.
 ///
-/// `clean WHAT FIND ROOT SETUP` asks for the plan of the work tree at ROOT by the setup text at SETUP, with the options that
-/// [`prepare`](crate::prepare) sets: WHAT is `untracked`, `all` or `ignored`, FIND is `nonbare` or `all`. The word `composed` stands
-/// before it exactly where the worktree composes names.
+/// `clean WHAT FIND ROOT SETUP` asks for the plan of the work tree at ROOT by the setup text at
+/// SETUP, with the options that [`prepare`](crate::prepare) sets: WHAT is `untracked`, `all` or
+/// `ignored`, FIND is `nonbare` or `all`. The word `composed` stands before it exactly where the
+/// worktree composes names.
 ///
 /// | status | where |
 /// |---|---|
@@ -154,8 +164,9 @@ fn text_asked<W: CountsFaults, I: Interrupt>(
 /// | 7 | `out` refused bytes, and counted it |
 /// | 8 | want of memory |
 ///
-/// With a status other than 0 and 7 nothing goes to `out`. With each status other than 0 one line goes to `err`, with 0
-/// none; a refusal of `err` changes no byte of `out`, and no status but to 8. The interrupt is asked before each directory is read.
+/// With a status other than 0 and 7 nothing goes to `out`. With each status other than 0 one line
+/// goes to `err`, with 0 none; a refusal of `err` changes no byte of `out`, and no status but to 8.
+/// The interrupt is asked before each directory is read.
 pub fn run_clean<W: CountsFaults, I: Interrupt, S: Sink, E: Sink>(
     alloc: Global,
     words: &[Bytes],

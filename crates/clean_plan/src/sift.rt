@@ -20,23 +20,24 @@ use gitbase_core::OutOfMemory;
 use std::alloc::Global;
 use worktree_report::ReportEntry;
 
-/// The paths of the entries that may go by themselves, and the directories that have an entry in their way.
+/// The paths of the entries that may go by themselves, and the directories that have an entry in
+/// their way.
 #[derive(Drop)]
 pub struct Sifted<'a> {
     pub removable: Vec<&'a [u8]>,
     pub spoiled: Paths<'a>,
 }
 
-/// The path that was looked at last. Of the directories above it those with fewer bytes than `added` have an entry in their way,
-/// and the path specs take out none of the others.
+/// The path that was looked at last. Of the directories above it those with fewer bytes than
+/// `added` have an entry in their way, and the path specs take out none of the others.
 #[derive(Drop)]
 struct Looked<'a> {
     path: &'a [u8],
     added: usize,
 }
 
-/// Puts the directories above a path that have fewer bytes than `reach` among those with an entry in their way; those with fewer
-/// than `begin` are among them.
+/// Puts the directories above a path that have fewer bytes than `reach` among those with an entry
+/// in their way; those with fewer than `begin` are among them.
 fn spoil_above<'a>(
     path: &'a [u8],
     begin: usize,

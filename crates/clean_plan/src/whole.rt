@@ -15,8 +15,8 @@ use crate::shared::shared_length;
 use gitbase_core::{is_path_prefix, is_top};
 use glob_rules::pathspec::Search;
 
-/// Whether the directory that is the front of a path of so many bytes may go as a whole; `spoiled` are those that have an
-/// entry in their way.
+/// Whether the directory that is the front of a path of so many bytes may go as a whole; `spoiled`
+/// are those that have an entry in their way.
 fn is_whole(cleaning: &Cleaning<'_>, spoiled: &Paths<'_>, path: &[u8], at: usize) -> bool
     requires lookup { IsLookupIf cleaning.now.index.now cleaning.now.lookup.now }
     requires front { at < length path.now }
@@ -56,7 +56,8 @@ pub struct Known<'a> {
     pub is_whole: bool,
 }
 
-/// Whether a path lies beneath a known one that may go as a whole, which has as many bytes as the two have in common.
+/// Whether a path lies beneath a known one that may go as a whole, which has as many bytes as the
+/// two have in common.
 fn is_in_whole(known: &Known<'_>, path: &[u8], shared: usize) -> bool
     requires { shared ≤ length path.now }
     ensures { result ≡ true → (known.now.is_whole ≡ true) × (shared ≡ length known.now.path.now)
@@ -68,8 +69,8 @@ fn is_in_whole(known: &Known<'_>, path: &[u8], shared: usize) -> bool
     shared < path.len() && is_above(path, shared)
 }
 
-/// The first of the directories above a path, from the top on, that may go as a whole; the path itself where there is none. Those
-/// that it has in common with a known path are not judged again.
+/// The first of the directories above a path, from the top on, that may go as a whole; the path
+/// itself where there is none. Those that it has in common with a known path are not judged again.
 pub(crate) fn target<'a>(
     cleaning: &Cleaning<'_>,
     spoiled: &Paths<'_>,
@@ -102,7 +103,8 @@ fn is_out(specs: &Search, path: &[u8], at: usize) -> bool
     is_above(path, at) && takes_out(specs, &path[..at])
 }
 
-/// The bytes of a front of a path and one more, if the path specs take that out; else what there was.
+/// The bytes of a front of a path and one more, if the path specs take that out; else what there
+/// was.
 fn longer(specs: &Search, path: &[u8], at: usize, reach: usize) -> usize
     requires { at < length path.now }
     ensures { result ≡ (if lies_beneath (take at path.now) path.now
@@ -114,8 +116,8 @@ fn longer(specs: &Search, path: &[u8], at: usize, reach: usize) -> usize
     reach
 }
 
-/// One more than the bytes of the longest directory above a path that path specs take out, and `begin` at least. None that has at
-/// least so many bytes, and fewer than `shared`, is taken out.
+/// One more than the bytes of the longest directory above a path that path specs take out, and
+/// `begin` at least. None that has at least so many bytes, and fewer than `shared`, is taken out.
 pub(crate) fn reach_of(specs: &Search, path: &[u8], begin: usize, shared: usize) -> usize
     requires begin { begin ≤ shared }
     requires shared { shared ≤ length path.now }

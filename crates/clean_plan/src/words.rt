@@ -58,8 +58,8 @@ fn request_of(words: &[Bytes]) -> Option<Request<'_>>
     }
 }
 
-/// What words ask for, over a worktree that composes names or not: `clean WHAT FIND ROOT SETUP`, with `composed` before it
-/// exactly where the worktree composes names. None for any other words.
+/// What words ask for, over a worktree that composes names or not: `clean WHAT FIND ROOT SETUP`,
+/// with `composed` before it exactly where the worktree composes names. None for any other words.
 #[tactic(auto, unfolding(crate::specs::Words::asked))]
 pub(crate) fn asked(composes: bool, words: &[Bytes]) -> Option<Request<'_>>
     ensures { option_map requested_by result ≡ asked composes words.now }

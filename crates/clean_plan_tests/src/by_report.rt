@@ -14,7 +14,8 @@ const NODES: &[u8] = b"file`/w/a;file`/w/d/i;file`/w/d/x";
 /// The setup of the plan; that of the report has no lines.
 const LINES: &[u8] = b"index 100644 0 - - d/i\n";
 
-/// Rows, parted by `|`: the steps of the tree that is asked for the real path, and what is wanted, parted by `^`.
+/// Rows, parted by `|`: the steps of the tree that is asked for the real path, and what is wanted,
+/// parted by `^`.
 const ROWS: &[u8] = b"\
 file`/w/a^a;d/x|\
 directory`/w^a;d/x|\
@@ -37,7 +38,8 @@ fn report_of(alloc: Global) -> Option<Report> {
     report.ok()
 }
 
-/// Whether the plan by the report is the one that is wanted, and a fault was counted where it is one and nowhere else.
+/// Whether the plan by the report is the one that is wanted, and a fault was counted where it is
+/// one and nowhere else.
 fn holds(alloc: Global, report: &Report, row: &[u8]) -> bool {
     let (steps, want) = row.split_once_str(b"^").unwrap_or((row, b""));
     let Some(mut tree) = tree_of(alloc, steps, false) else {

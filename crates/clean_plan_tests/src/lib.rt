@@ -1,5 +1,5 @@
-//! What a plan of a cleaning answers: cases worked out by hand, each call that takes memory with enough of it, and the
-//! texts of errors.
+//! What a plan of a cleaning answers: cases worked out by hand, each call that takes memory with
+//! enough of it, and the texts of errors.
 #![tactic(auto)]
 
 #[cfg(test)]

@@ -7,7 +7,8 @@ use std::alloc::Global;
 use worktree_fs::{MemoryWorktree, PlannedInterrupt};
 use worktree_report::Setup;
 
-/// Cases, parted by `|`: nodes, the lines of a setup, what is asked for, and the paths that are wanted, parted by `^`.
+/// Cases, parted by `|`: nodes, the lines of a setup, what is asked for, and the paths that are
+/// wanted, parted by `^`.
 const ROWS: &[u8] = b"\
 file`/w/.git/HEAD`ref: refs/heads/main\n;directory`/w/.git/objects;directory`/w/.git/refs;file`/w/.gitignore`target/\n;\
 file`/w/.gitmodules;file`/w/src/main.c;file`/w/lib/.git`gitdir: ../.git/modules/lib;\

@@ -8,7 +8,8 @@ fn options_of(alloc: Global, lines: &[u8]) -> Option<SetupOptions> {
     Some(setup.options)
 }
 
-/// Whether options are prepared as asked just after they are, and neither before nor for what else may be asked.
+/// Whether options are prepared as asked just after they are, and neither before nor for what else
+/// may be asked.
 fn is_done(alloc: Global, lines: &[u8], finding: Finding, other: Finding) -> bool {
     let Some(mut options) = options_of(alloc, lines) else {
         return false;

@@ -8,7 +8,8 @@ pub fn parted(row: &[u8]) -> (&[u8], &[u8]) {
     row.split_once_str(b"`").unwrap_or((row, b""))
 }
 
-/// Whether a step was taken: a node put at a path, or the real path of the root planned not to be told.
+/// Whether a step was taken: a node put at a path, or the real path of the root planned not to be
+/// told.
 fn is_taken(alloc: Global, tree: &mut MemoryWorktree, step: &[u8]) -> bool {
     let (what, rest) = parted(step);
     let (path, text) = parted(rest);

@@ -1,17 +1,17 @@
 -- What a stack says of the path that it stands at.
-use Rattle.std.proofs.Common.{◌≡◌, ℕ, List, [], ◌++◌, append_assoc, inl, inr, Bool, true, false, not, Option, Some, refl, sym, ap, ◌∙◌}
+use Rattle.std.proofs.Common.{◌≡◌, ℕ, List, [], ◌++◌, append_assoc, inl, inr, Bool, true, false, not, Option, Some, refl, sym, subst, ap, ◌∙◌}
 use Rattle.std.specs.List.{list_all}
 use Rattle.gitbase_core.specs.Objects.{Objects}
 use Rattle.gitbase_core.specs.Path.{components}
-use Rattle.glob_rules.specs.declared.ignore.Kind.{Kind as IgnoredAs}
-use Rattle.glob_rules.specs.declared.ignore.Origin.{Origin}
 use Rattle.worktree_fs.specs.Tree.{Names}
 use Rattle.worktree_fs.specs.Paths.{spelled, fronts, all_but_last}
-use Rattle.worktree_stack.specs.Setup.{Made, has_excludes, excluded_kind}
-use Rattle.worktree_stack.specs.Excludes.{exclude, rule_of, origin_of}
+use Rattle.worktree_stack.specs.Setup.{Made, has_excludes}
+use Rattle.worktree_stack.specs.Excludes.{exclude}
+use Rattle.worktree_stack.specs.Exclusions.{exclusion_by}
+use Rattle.worktree_stack.specs.declared.platform.Exclusion.{Exclusion}
 use Rattle.worktree_stack.specs.Reading.{Sources, Tells, reading, is_read, rulebook}
 use Rattle.worktree_stack.specs.Stacked.{Stacked, made_of, pushed, IsInStep}
-use Rattle.worktree_fs.specs.PathStack.{Call, lookup_calls}
+use Rattle.worktree_fs.specs.PathStack.{Call, IsOnTheWay, IsOnWay, lookup_calls}
 use Rattle.std.proofs.lemmas.List.{append-nil}
 use Rattle.worktree_stack.specs.declared.error.AtPathError.{AtPathError}
 use Rattle.worktree_stack.specs.declared.error.AtPathError.TheVariants as errors
@@ -26,19 +26,17 @@ use Rattle.dir_classify.specs.Layers.{ruling_in, ruling_by, is_unread_in}
 pub tells-given : (told : Option Names) (holds : Option Objects) (made : Made) (s : Sources) → TellsIf told holds (Some made) s → Tells told holds s
 tells-given told holds made s told_so = record { tree_is = told_so.tree_is; objects_are = told_so.objects_are refl }
 
-abbrev ruling-from : Option IgnoredAs → Option Origin → Ruling
-ruling-from kind origin = record { kind = kind; origin = origin }
+abbrev ruling-of : Exclusion → Ruling
+ruling-of found = record { kind = found.kind; origin = found.origin }
 
 -- both parts of a ruling are of one decision
-pub ruling-looked : (sources : Sources) (made : Made) (s : Stacked) (path : List ℕ) (is_dir : Option Bool) (kind : Option IgnoredAs) (origin : Option Origin)
+pub ruling-looked : (sources : Sources) (made : Made) (s : Stacked) (path : List ℕ) (is_dir : Option Bool) (found : Exclusion)
     → made_of s ≡ made → s.is_dir ≡ is_dir
-    → kind ≡ excluded_kind (rule_of (exclude (rulebook (made_of s) sources) (components path) s.is_dir))
-    → origin ≡ origin_of (exclude (rulebook (made_of s) sources) (components path) s.is_dir)
-    → ruling-from kind origin ≡ ruling_in (Some made) sources path is_dir
+    → found ≡ exclusion_by (exclude (rulebook (made_of s) sources) (components path) s.is_dir)
+    → ruling-of found ≡ ruling_in (Some made) sources path is_dir
 unfolding ruling_in
-ruling-looked sources made s path is_dir kind origin made_is dir_is kind_is origin_is =
-    ap (λ (k : Option IgnoredAs). ruling-from k origin) kind_is
-    ∙ ap (λ (o : Option Origin). ruling-from (excluded_kind (rule_of (exclude (rulebook (made_of s) sources) (components path) s.is_dir))) o) origin_is
+ruling-looked sources made s path is_dir found made_is dir_is found_is =
+    ap ruling-of found_is
     ∙ ap (λ (m : Made). ruling_by (exclude (rulebook m sources) (components path) s.is_dir)) made_is
     ∙ ap (λ (d : Option Bool). ruling_by (exclude (rulebook made sources) (components path) d)) dir_is
 
@@ -50,6 +48,13 @@ read-looked sources made s path some made_is step at =
     let now : read (made_of s) (pushed s.at) ≡ true = step.are_read in
     let all : read (made_of s) (fronts (all_but_last (components path))) ≡ true = ap (λ (a : Option (List (List ℕ))). read (made_of s) (pushed a)) (sym at.at) ∙ now in
     ap (λ (m : Made). not (read m (fronts (all_but_last (components path))))) (sym made_is) ∙ ap not all
+
+-- what is pushed then lies on the way to it
+pub on-way-looked : (s : Stacked) (path : List ℕ) → IsLookedUp s (components path) → IsOnWay s.at (components path)
+on-way-looked s path looked =
+    let above : List (List ℕ) = all_but_last (components path) in
+    let way : IsOnTheWay (components path) above = record { rest = []; joined = sym (append-nil above) } in
+    subst (λ (at : Option (List (List ℕ))). IsOnWay at (components path)) (sym looked.at) way
 
 -- ---- what it leaves pushed
 

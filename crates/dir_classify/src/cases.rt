@@ -16,7 +16,8 @@ use gitbase_core::{basename, eq_ignore_case, split_component};
 use glob_rules::ignore;
 use glob_rules::pathspec::Matcher;
 
-/// Whether the last component is `.git`, in whatever case of letters where case makes no difference.
+/// Whether the last component is `.git`, in whatever case of letters where case makes no
+/// difference.
 fn is_dot_git(ignore_case: bool, path: &[u8]) -> bool
     ensures { result ≡ is_dot_git ignore_case path.now }
 {
@@ -45,7 +46,8 @@ fn is_nested(path: &[u8]) -> bool
     }
 }
 
-/// Whether the index has a path: it is left out of a sparse worktree, or index and disk agree on whether it holds names.
+/// Whether the index has a path: it is left out of a sparse worktree, or index and disk agree on
+/// whether it holds names.
 ///
 /// See docs/DIFFERENCES.md#excluded-replaced-file.
 /// See docs/DIFFERENCES.md#replaced-file.
@@ -279,8 +281,8 @@ pub(crate) fn is_submodule(entry: InIndex, kind: Option<Kind>) -> bool
     )
 }
 
-/// The match of an ignored path: a directory that no spec names is one above what is looked for, and so is in deletion one
-/// above a path of the worktree set.
+/// The match of an ignored path: a directory that no spec names is one above what is looked for,
+/// and so is in deletion one above a path of the worktree set.
 #[tactic(auto, unfolding(crate::specs::Chosen::chosen))]
 fn ignored_match(
     options: &Options<'_>,

@@ -33,19 +33,20 @@ pub struct Outcome {
     pub status: Status,
     /// What sets the path apart, where something does.
     pub property: Option<Property>,
-    /// The kind of the node on disk, by an up-to-date entry of the index, by the caller, or by the worktree; a repository for a
-    /// path of the worktree set, and where one was looked for and found. None where none of them tells one: where nothing is
-    /// there, it could not be learnt, or nobody was asked.
+    /// The kind of the node on disk, by an up-to-date entry of the index, by the caller, or by the
+    /// worktree; a repository for a path of the worktree set, and where one was looked for and
+    /// found. None where none of them tells one: where nothing is there, it could not be learnt, or
+    /// nobody was asked.
     pub disk_kind: Option<Kind>,
-    /// The kind that the index has at the path; none where it has nothing there, or at the path itself an entry whose mode is no
-    /// file, link or submodule, and for a path named `.git`, for one that no path spec can match, and for one of the worktree
-    /// set.
+    /// The kind that the index has at the path; none where it has nothing there, or at the path
+    /// itself an entry whose mode is no file, link or submodule, and for a path named `.git`, for
+    /// one that no path spec can match, and for one of the worktree set.
     pub index_kind: Option<Kind>,
-    /// How the path specs match, or `Prefix` for an ignored directory that may lie above what is looked for; none where they
-    /// tell no match, and for a path that none of them can match.
+    /// How the path specs match, or `Prefix` for an ignored directory that may lie above what is
+    /// looked for; none where they tell no match, and for a path that none of them can match.
     pub pathspec_match: Option<PathspecMatch>,
-    /// The ignore rule that decided about the path, which may be a negative one; none where none was asked or none did, and for a
-    /// path named `.git` that is not ignored.
+    /// The ignore rule that decided about the path, which may be a negative one; none where none
+    /// was asked or none did, and for a path named `.git` that is not ignored.
     ///
     /// See docs/DECISIONS.md#deciding-rule.
     pub origin: Option<Origin>,
@@ -84,37 +85,43 @@ pub struct RootOutcome {
 
 /// The class of `rela_path`, which is relative to `worktree_root`, as gitoxide's `classify::path`.
 ///
-/// `disk_kind` is the kind of its node where the caller knows it. Where neither that nor an up-to-date entry of the
-/// index tells the kind, the worktree is asked, if `ask_disk` allows it; of a path named `.git`, or that no path spec can
-/// match, it is not asked. A fault of that question reads as no kind, and is counted by the worktree. So are faults of the other
-/// questions about the node: whether it leads to a repository, and what a link leads to. Of which question a fault is the
-/// contract does not say, but how many were misread at most.
+/// `disk_kind` is the kind of its node where the caller knows it. Where neither that nor an
+/// up-to-date entry of the index tells the kind, the worktree is asked, if `ask_disk` allows it; of
+/// a path named `.git`, or that no path spec can match, it is not asked. A fault of that question
+/// reads as no kind, and is counted by the worktree. So are faults of the other questions about the
+/// node: whether it leads to a repository, and what a link leads to. Of which question a fault is
+/// the contract does not say, but how many were misread at most.
 ///
-/// The worktree is read for rules, and where a repository is looked for: at a directory that is a submodule in the index, at one
-/// that neither the index nor the rules have, and at what the rules exclude, where deletion looks for repositories there. For
-/// ignore rules one file is read for each directory at most, and for a repository three files, or six where bare ones are looked for.
+/// The worktree is read for rules, and where a repository is looked for: at a directory that is a
+/// submodule in the index, at one that neither the index nor the rules have, and at what the rules
+/// exclude, where deletion looks for repositories there. For ignore rules one file is read for each
+/// directory at most, and for a repository three files, or six where bare ones are looked for.
 ///
-/// The ignore rules are asked for a path below the worktree root that a path spec can match, that is not of the worktree set, and
-/// that the index does not have, or has in another shape (a directory in a file's place, or the other way round, but for what a
-/// sparse checkout leaves out), and in deletion for one named `.git`: they are read as they are needed, and kept for the next path. They are to tell which paths are
-/// excluded. The store is asked for the blobs that rules files are mapped to, and for nothing where none is.
+/// The ignore rules are asked for a path below the worktree root that a path spec can match, that
+/// is not of the worktree set, and that the index does not have, or has in another shape (a
+/// directory in a file's place, or the other way round, but for what a sparse checkout leaves out),
+/// and in deletion for one named `.git`: they are read as they are needed, and kept for the next
+/// path. They are to tell which paths are excluded. The store is asked for the blobs that rules
+/// files are mapped to, and for nothing where none is.
 ///
 /// See docs/DECISIONS.md#when-rules-are-asked.
 /// See docs/DECISIONS.md#swallowed-faults.
 /// See docs/DECISIONS.md#class-under-faults.
 ///
-/// `worktree_root` is absolute, without `.` and `..`. `rela_path` is relative and normalised, as `PathText::normalize` leaves a
-/// path: no component is `.` or `..`, one slash stands between each two, and none at the end.
+/// `worktree_root` is absolute, without `.` and `..`. `rela_path` is relative and normalised, as
+/// `PathText::normalize` leaves a path: no component is `.` or `..`, one slash stands between each
+/// two, and none at the end.
 ///
 /// # Errors
 ///
-/// - `ExcludesAccess`: the rules of a directory above the path were asked, and the rules file is a link without an end, a link
-///   that is not followed as the file is mapped to a blob, or neither file nor directory, or could not be read; or its blob is
-///   missing, is no blob, or could not be had. See docs/DECISIONS.md#rules-file-fault.
+/// - `ExcludesAccess`: the rules of a directory above the path were asked, and the rules file is a
+///   link without an end, a link that is not followed as the file is mapped to a blob, or neither
+///   file nor directory, or could not be read; or its blob is missing, is no blob, or could not be
+///   had. See docs/DECISIONS.md#rules-file-fault.
 /// - `OutOfMemory`: memory was refused.
 ///
-/// After a refusal rules that were in step are in step, and what they have pushed is what it was or lies on the way to the path; see
-/// docs/DECISIONS.md#rules-serve-on.
+/// After a refusal rules that were in step are in step, and what they have pushed is what it was or
+/// lies on the way to the path; see docs/DECISIONS.md#rules-serve-on.
 ///
 /// See docs/DIFFERENCES.md#gix-on-demand-kind.
 /// See docs/DIFFERENCES.md#gix-public-classify.
@@ -163,18 +170,19 @@ pub fn path<W: Worktree, F: Find, I: Interrupt, M: Matcher>(
     )
 }
 
-/// The classes from the worktree root to `worktree_relative_root`, one component after another, as gitoxide's
-/// `classify::root`: on as long as the class of a component is one that a walk looks into by default. That is not asked of the
-/// worktree root itself.
+/// The classes from the worktree root to `worktree_relative_root`, one component after another, as
+/// gitoxide's `classify::root`: on as long as the class of a component is one that a walk looks
+/// into by default. That is not asked of the worktree root itself.
 ///
-/// The kind of each path is asked first, its last link not followed; a fault of that question reads as no kind.
-/// `worktree_relative_root` is relative and normalised as `rela_path` of [`path`] is.
+/// The kind of each path is asked first, its last link not followed; a fault of that question reads
+/// as no kind. `worktree_relative_root` is relative and normalised as `rela_path` of [`path`] is.
 ///
 /// See docs/DECISIONS.md#way-to-root.
 ///
 /// # Errors
 ///
-/// - `ExcludesAccess`: the rules of a directory above a path on the way were asked, and were not read, as [`path`] says it.
+/// - `ExcludesAccess`: the rules of a directory above a path on the way were asked, and were not
+///   read, as [`path`] says it.
 /// - `OutOfMemory`: memory was refused.
 pub fn root<W: Worktree, F: Find, I: Interrupt, M: Matcher>(
     alloc: Global,
@@ -213,11 +221,13 @@ pub fn root<W: Worktree, F: Find, I: Interrupt, M: Matcher>(
     )
 }
 
-/// The classes on the way to a traversal root as [`root`] says them, for a caller that has the parts of a context.
+/// The classes on the way to a traversal root as [`root`] says them, for a caller that has the
+/// parts of a context.
 ///
 /// # Errors
 ///
-/// - `ExcludesAccess`: the rules of a directory above a path on the way were asked, and were not read, as [`path`] says it.
+/// - `ExcludesAccess`: the rules of a directory above a path on the way were asked, and were not
+///   read, as [`path`] says it.
 /// - `OutOfMemory`: memory was refused.
 pub fn root_at<W: Worktree, F: Find, M: Matcher>(
     alloc: Global,

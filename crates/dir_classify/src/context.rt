@@ -16,18 +16,21 @@ pub struct Context<'a, W, F, I, M> {
     pub interrupt: &'a mut I,
     /// The path specs, or what else says which paths are meant.
     pub pathspec: &'a M,
-    /// The ignore rules of the same worktree root, where paths are to be ignored by them; they tell which paths are excluded.
+    /// The ignore rules of the same worktree root, where paths are to be ignored by them; they tell
+    /// which paths are excluded.
     pub excludes: &'a mut Option<Stack>,
     /// The index.
     pub index: &'a State,
-    /// A look-up made from `index`, by which paths are found there without regard to the case of ASCII letters where the options
-    /// ask for that.
+    /// A look-up made from `index`, by which paths are found there without regard to the case of
+    /// ASCII letters where the options ask for that.
     pub ignore_case_index_lookup: &'a Option<AccelerateLookup>,
-    /// The real path of the git directory of the worktree, by which it is told from other repositories.
+    /// The real path of the git directory of the worktree, by which it is told from other
+    /// repositories.
     pub git_dir_realpath: &'a [u8],
     /// The real path of the current directory, which deletion leaves in place.
     pub current_dir: &'a [u8],
-    /// The directory or file to walk, relative to the worktree root; without one it follows from the path specs.
+    /// The directory or file to walk, relative to the worktree root; without one it follows from
+    /// the path specs.
     pub explicit_traversal_root: &'a Option<Bytes>,
     /// How many components a directory that is entered may have below the worktree root.
     pub depth_limit: usize,

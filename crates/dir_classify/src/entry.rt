@@ -21,8 +21,9 @@ pub enum Property {
     EmptyDirectory,
     /// The same, where it must not go, as it is the current directory.
     EmptyDirectoryAndCWD,
-    /// The path is a directory that a sparse checkout leaves out as a whole, by the index: one sparse entry stands for it, or two
-    /// or more entries do lie beneath and all are skipped; and none of them is up to date.
+    /// The path is a directory that a sparse checkout leaves out as a whole, by the index: one
+    /// sparse entry stands for it, or two or more entries do lie beneath and all are skipped; and
+    /// none of them is up to date.
     TrackedExcluded,
 }
 
@@ -35,10 +36,12 @@ pub enum Kind {
     File,
     /// A symbolic link.
     Symlink,
-    /// A directory in which no repository was looked for, or none was found; in the index one that has entries, or a sparse one.
+    /// A directory in which no repository was looked for, or none was found; in the index one that
+    /// has entries, or a sparse one.
     Directory,
-    /// A repository of its own: in the index a submodule; on disk what was found to lead to one, mostly a directory with `.git`
-    /// in it, and with no look what an up-to-date entry of the index or the caller says is one, or the worktree set names.
+    /// A repository of its own: in the index a submodule; on disk what was found to lead to one,
+    /// mostly a directory with `.git` in it, and with no look what an up-to-date entry of the index
+    /// or the caller says is one, or the worktree set names.
     Repository,
 }
 
@@ -86,14 +89,15 @@ impl From<EntryKind> for Kind {
 /// How a path stands to the index and the rules.
 #[derive(Clone, Copy, Debug, PartialEq, Eq, PartialOrd, Ord, Hash)]
 pub enum Status {
-    /// Left out: it is named `.git`, no path spec can match it or what lies beneath it, it is left out of a sparse
-    /// worktree, or it is no directory, neither tracked nor ignored, and no path spec matches it.
+    /// Left out: it is named `.git`, no path spec can match it or what lies beneath it, it is left
+    /// out of a sparse worktree, or it is no directory, neither tracked nor ignored, and no path
+    /// spec matches it.
     Pruned,
-    /// The index has it, and agrees with the disk on whether it holds names; also what neither of them has. Or it is one of the
-    /// worktree set.
+    /// The index has it, and agrees with the disk on whether it holds names; also what neither of
+    /// them has. Or it is one of the worktree set.
     Tracked,
-    /// It is not tracked, and an ignore rule excludes it, which says what may become of it. In deletion so is a path named `.git`
-    /// that lies in a directory.
+    /// It is not tracked, and an ignore rule excludes it, which says what may become of it. In
+    /// deletion so is a path named `.git` that lies in a directory.
     Ignored(ignore::Kind),
     /// It is neither tracked nor ignored: a directory, or what a path spec matches.
     Untracked,
@@ -114,11 +118,13 @@ impl Status {
         matches!(self, Status::Ignored(_))
     }
 
-    /// Whether a walk looks into a path of this status by default, as gitoxide's `Status::can_recurse`: into directories, and
-    /// into repositories only where the worktree root itself is seen as one; not where the path is pruned, and where it is
-    /// ignored only if deletion looks for repositories there or a path spec names it.
+    /// Whether a walk looks into a path of this status by default, as gitoxide's
+    /// `Status::can_recurse`: into directories, and into repositories only where the worktree root
+    /// itself is seen as one; not where the path is pruned, and where it is ignored only if
+    /// deletion looks for repositories there or a path spec names it.
     ///
-    /// `file_type` is the kind of the path on disk, and `pathspec_match` how the path specs match it.
+    /// `file_type` is the kind of the path on disk, and `pathspec_match` how the path specs match
+    /// it.
     ///
     /// See docs/DECISIONS.md#ignored-directory.
     pub fn can_recurse(
@@ -180,7 +186,8 @@ fn is_named(found: Option<PathspecMatch>) -> bool
     }
 }
 
-/// Whether a kind, if there is one, is that of a node that holds names; nothing is known without one.
+/// Whether a kind, if there is one, is that of a node that holds names; nothing is known without
+/// one.
 pub(crate) fn is_dir(kind: Option<Kind>) -> Option<bool>
     ensures { result ≡ is_dir kind }
 {
@@ -207,7 +214,8 @@ pub enum PathspecMatch {
     Always,
     /// A spec takes the path out.
     Excluded,
-    /// A spec names a directory above the path; or the path is an ignored directory that may lie above what is looked for.
+    /// A spec names a directory above the path; or the path is an ignored directory that may lie
+    /// above what is looked for.
     Prefix,
     /// A spec matches by its wildcards.
     WildcardMatch,
@@ -251,52 +259,58 @@ impl From<Match> for PathspecMatch {
 /// Entries stand in the order of their paths, byte by byte, and then of the other fields.
 #[derive(Debug, Drop, PartialEq, Eq, PartialOrd, Ord, Hash)]
 pub struct Entry {
-    /// The path relative to the worktree root, its components parted by `/`; empty for the root itself.
+    /// The path relative to the worktree root, its components parted by `/`; empty for the root
+    /// itself.
     pub rela_path: PathText,
     /// How the path stands to the index and the rules.
     pub status: Status,
     /// What sets the path apart, where something does.
     pub property: Option<Property>,
-    /// The kind of the node on disk, by an up-to-date entry of the index, by the caller, or by the worktree; a repository for a
-    /// path of the worktree set, and where one was looked for and found. None where none of them tells one: where nothing is
-    /// there, it could not be learnt, or nobody was asked.
+    /// The kind of the node on disk, by an up-to-date entry of the index, by the caller, or by the
+    /// worktree; a repository for a path of the worktree set, and where one was looked for and
+    /// found. None where none of them tells one: where nothing is there, it could not be learnt, or
+    /// nobody was asked.
     pub disk_kind: Option<Kind>,
-    /// The kind that the index has at the path; none where it has nothing there, or at the path itself an entry whose mode is no
-    /// file, link or submodule, and for a path named `.git`, for one that no path spec can match, and for one of the worktree
-    /// set.
+    /// The kind that the index has at the path; none where it has nothing there, or at the path
+    /// itself an entry whose mode is no file, link or submodule, and for a path named `.git`, for
+    /// one that no path spec can match, and for one of the worktree set.
     pub index_kind: Option<Kind>,
-    /// How the path specs match, or `Prefix` for an ignored directory that may lie above what is looked for; none where they
-    /// tell no match, and for a path that none of them can match. Of a folded directory it is the greatest match of what that
-    /// holds, and of one without names the kind of the spec that decides, also where that takes it out.
+    /// How the path specs match, or `Prefix` for an ignored directory that may lie above what is
+    /// looked for; none where they tell no match, and for a path that none of them can match. Of a
+    /// folded directory it is the greatest match of what that holds, and of one without names the
+    /// kind of the spec that decides, also where that takes it out.
     pub pathspec_match: Option<PathspecMatch>,
-    /// The ignore rule that decided about the path, which may be a negative one; none where none was asked or none did, and for a
-    /// path named `.git` that is not ignored.
+    /// The ignore rule that decided about the path, which may be a negative one; none where none
+    /// was asked or none did, and for a path named `.git` that is not ignored.
     pub origin: Option<ignore::Origin>,
 }
 
 /// An entry over a borrowed path, in the order of entries.
 #[derive(Clone, Copy, Debug, PartialEq, Eq, PartialOrd, Ord, Hash)]
 pub struct EntryRef<'a> {
-    /// The path relative to the worktree root, its components parted by `/`; empty for the root itself.
+    /// The path relative to the worktree root, its components parted by `/`; empty for the root
+    /// itself.
     pub rela_path: &'a [u8],
     /// How the path stands to the index and the rules.
     pub status: Status,
     /// What sets the path apart, where something does.
     pub property: Option<Property>,
-    /// The kind of the node on disk, by an up-to-date entry of the index, by the caller, or by the worktree; a repository for a
-    /// path of the worktree set, and where one was looked for and found. None where none of them tells one: where nothing is
-    /// there, it could not be learnt, or nobody was asked.
+    /// The kind of the node on disk, by an up-to-date entry of the index, by the caller, or by the
+    /// worktree; a repository for a path of the worktree set, and where one was looked for and
+    /// found. None where none of them tells one: where nothing is there, it could not be learnt, or
+    /// nobody was asked.
     pub disk_kind: Option<Kind>,
-    /// The kind that the index has at the path; none where it has nothing there, or at the path itself an entry whose mode is no
-    /// file, link or submodule, and for a path named `.git`, for one that no path spec can match, and for one of the worktree
-    /// set.
+    /// The kind that the index has at the path; none where it has nothing there, or at the path
+    /// itself an entry whose mode is no file, link or submodule, and for a path named `.git`, for
+    /// one that no path spec can match, and for one of the worktree set.
     pub index_kind: Option<Kind>,
-    /// How the path specs match, or `Prefix` for an ignored directory that may lie above what is looked for; none where they
-    /// tell no match, and for a path that none of them can match. Of a folded directory it is the greatest match of what that
-    /// holds, and of one without names the kind of the spec that decides, also where that takes it out.
+    /// How the path specs match, or `Prefix` for an ignored directory that may lie above what is
+    /// looked for; none where they tell no match, and for a path that none of them can match. Of a
+    /// folded directory it is the greatest match of what that holds, and of one without names the
+    /// kind of the spec that decides, also where that takes it out.
     pub pathspec_match: Option<PathspecMatch>,
-    /// The ignore rule that decided about the path, which may be a negative one; none where none was asked or none did, and for a
-    /// path named `.git` that is not ignored.
+    /// The ignore rule that decided about the path, which may be a negative one; none where none
+    /// was asked or none did, and for a path named `.git` that is not ignored.
     pub origin: Option<ignore::Origin>,
 }
 

@@ -23,8 +23,8 @@ pub enum MetadataWhy {
     Fault,
 }
 
-/// Why a walk or the class of a path was refused, as gitoxide's `gix_dir::walk::Error`. Paths are whole: the
-/// worktree root and what lies below it.
+/// Why a walk or the class of a path was refused, as gitoxide's `gix_dir::walk::Error`. Paths are
+/// whole: the worktree root and what lies below it.
 #[derive(Debug, Drop, Error)]
 pub enum Error {
     /// The interrupt was raised.
@@ -35,26 +35,30 @@ pub enum Error {
     WorktreeRootIsFile {
         root: PathText,
     },
-    /// The traversal root is absolute, or leads out of the worktree; `root` is as it was handed in, or as the path specs give it.
+    /// The traversal root is absolute, or leads out of the worktree; `root` is as it was handed in,
+    /// or as the path specs give it.
     #[error("Traversal root '{root}' contains relative path components and could not be normalized")]
     NormalizeRoot {
         root: PathText,
     },
-    /// The component of the traversal root with this number, from 0, is a link, and no earlier one is.
+    /// The component of the traversal root with this number, from 0, is a link, and no earlier one
+    /// is.
     #[error("A symlink was found at component {component_index} of traversal root '{root}' as seen from worktree root '{worktree_root}'")]
     SymlinkInRoot {
         root: PathText,
         worktree_root: PathText,
         component_index: usize,
     },
-    /// The rules of a directory above a path were asked, and were not read: the rules file is a link without an end, a link
-    /// that is not followed as the file is mapped to a blob, neither file nor directory, or could not be read; or its blob is
-    /// missing, is no blob, or could not be had.
+    /// The rules of a directory above a path were asked, and were not read: the rules file is a
+    /// link without an end, a link that is not followed as the file is mapped to a blob, neither
+    /// file nor directory, or could not be read; or its blob is missing, is no blob, or could not
+    /// be had.
     #[error("Failed to update the excludes stack to see if a path is excluded")]
     ExcludesAccess(AtPathError),
-    /// The directory at `path` was to be entered, and its names could not be listed: nothing is there, no directory is, or the
-    /// worktree failed. Where it did not fail, the path was taken for a directory by what the index calls up to date, as one of
-    /// the worktree set, or as an ignored path that leads to a repository.
+    /// The directory at `path` was to be entered, and its names could not be listed: nothing is
+    /// there, no directory is, or the worktree failed. Where it did not fail, the path was taken
+    /// for a directory by what the index calls up to date, as one of the worktree set, or as an
+    /// ignored path that leads to a repository.
     #[error("Failed to read the directory at '{path}'")]
     ReadDir {
         path: PathText,
@@ -71,8 +75,8 @@ pub enum Error {
         path: PathText,
         why: MetadataWhy,
     },
-    /// The directory at `path` was to be entered, and has more components below the worktree root than the
-    /// depth limit.
+    /// The directory at `path` was to be entered, and has more components below the worktree root
+    /// than the depth limit.
     #[error("TooDeep")]
     TooDeep {
         path: PathText,

@@ -38,7 +38,8 @@ impl Ruling {
     };
 }
 
-/// Whether ignore rules, where they are given, tell which paths are excluded. Only such may be handed to a class or a walk.
+/// Whether ignore rules, where they are given, tell which paths are excluded. Only such may be
+/// handed to a class or a walk.
 ///
 /// See docs/DECISIONS.md#clauses-without-rules.
 pub fn tells_excludes(excludes: &Option<Stack>) -> bool
@@ -139,9 +140,10 @@ fn ruling_by<W: Worktree, F: Find>(
 {
     look_up(alloc, rela_path, mode_of(is_dir), stack, worktree, objects)?;
     let platform = stack.platform();
+    let found = platform.exclusion();
     Ok(Ruling {
-        kind: platform.excluded_kind(),
-        origin: platform.matching_origin(),
+        kind: found.kind,
+        origin: found.origin,
     })
 }
 

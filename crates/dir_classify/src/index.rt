@@ -10,8 +10,8 @@ use gitbase_core::{AccelerateLookup, Beneath, IndexKinds, State};
 pub struct InIndex {
     /// The kind of an entry that is known to be as on disk; none where no entry is.
     pub up_to_date: Option<Kind>,
-    /// The kind that the index has at the path; none where it has nothing there, or an entry whose mode is no
-    /// file, link or submodule.
+    /// The kind that the index has at the path; none where it has nothing there, or an entry whose
+    /// mode is no file, link or submodule.
     pub kind: Option<Kind>,
     /// `TrackedExcluded` for a directory that a sparse checkout leaves out as a whole.
     pub sparse: Option<Property>,
@@ -23,8 +23,8 @@ const NOT_INDEXED: InIndex = InIndex {
     sparse: None,
 };
 
-/// What an index says of a path below the worktree root, without regard to the case of letters where a look-up for that is
-/// given and asked for; it says nothing of the root itself.
+/// What an index says of a path below the worktree root, without regard to the case of letters
+/// where a look-up for that is given and asked for; it says nothing of the root itself.
 ///
 /// With regard to case it is searched as a name in a directory, among the entries beneath that.
 #[tactic(auto, unfolding(crate::specs::Layers::in_index))]

@@ -1,5 +1,5 @@
-//! What a walk says of a path: whether it is tracked, ignored or untracked, what kind of node it is on disk and in the
-//! index, and whether a walk looks into it.
+//! What a walk says of a path: whether it is tracked, ignored or untracked, what kind of node it is
+//! on disk and in the index, and whether a walk looks into it.
 #![tactic(auto)]
 
 mod cases;

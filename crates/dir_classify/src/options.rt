@@ -1,4 +1,5 @@
-//! What a walk is asked to emit, and how it looks at paths; after gitoxide's `gix_dir::walk::Options`.
+//! What a walk is asked to emit, and how it looks at paths; after gitoxide's
+//! `gix_dir::walk::Options`.
 ghost use Rattle.std.specs.Prelude.{◌≡◌, is_some};
 ghost use Rattle.std.specs.List.{list_any};
 ghost use Rattle.std.specs.Str.{bytes_eq};
@@ -31,8 +32,8 @@ pub enum CollapsedEntriesEmissionMode {
     All,
 }
 
-/// That the entries are to be deleted, and how far ignored directories are looked into for repositories, which must stay;
-/// as gitoxide's `gix_dir::walk::ForDeletionMode`.
+/// That the entries are to be deleted, and how far ignored directories are looked into for
+/// repositories, which must stay; as gitoxide's `gix_dir::walk::ForDeletionMode`.
 #[derive(Clone, Copy, Debug, PartialEq, Eq, PartialOrd, Ord, Hash, Default)]
 pub enum ForDeletionMode {
     /// Not at all, so that a repository in one may be missed.
@@ -40,7 +41,8 @@ pub enum ForDeletionMode {
     IgnoredDirectoriesCanHideNestedRepositories,
     /// They are walked, and where ignored paths are emitted repositories with a `.git` are found.
     FindNonBareRepositoriesInIgnoredDirectories,
-    /// They are walked, and where ignored paths are emitted bare repositories are found too. This costs a look at each of them.
+    /// They are walked, and where ignored paths are emitted bare repositories are found too. This
+    /// costs a look at each of them.
     FindRepositoriesInIgnoredDirectories,
 }
 
@@ -50,22 +52,27 @@ pub enum ForDeletionMode {
 /// See docs/DECISIONS.md#options-as-values.
 #[derive(Clone, Copy, Debug, PartialEq, Eq, Default)]
 pub struct Options<'a> {
-    /// Whether names are composed, as `core.precomposeUnicode` says; as the worktree composes them, or not.
+    /// Whether names are composed, as `core.precomposeUnicode` says; as the worktree composes them,
+    /// or not.
     pub precompose_unicode: bool,
     /// Whether ASCII letters compare without regard to their case, as `core.ignoreCase` says.
     pub ignore_case: bool,
-    /// Whether a class looks for no repository on disk, so that repositories are walked like other directories; what an
-    /// up-to-date entry of the index or the worktree set says is one stays one, and is not walked. In deletion that may hide
-    /// repositories a walk looks at an ignored directory even so.
+    /// Whether a class looks for no repository on disk, so that repositories are walked like other
+    /// directories; what an up-to-date entry of the index or the worktree set says is one stays
+    /// one, and is not walked. In deletion that may hide repositories a walk looks at an ignored
+    /// directory even so.
     pub recurse_repositories: bool,
-    /// Whether pruned paths are emitted too, and of the other paths those that no path spec matches or that one takes out.
+    /// Whether pruned paths are emitted too, and of the other paths those that no path spec matches
+    /// or that one takes out.
     pub emit_pruned: bool,
-    /// Whether ignored paths are emitted too, and how. Classes of ignored directories depend on it: only where ignored paths are
-    /// emitted is one above what is looked for matched as `Prefix`, and does deletion look for repositories in one.
+    /// Whether ignored paths are emitted too, and how. Classes of ignored directories depend on it:
+    /// only where ignored paths are emitted is one above what is looked for matched as `Prefix`,
+    /// and does deletion look for repositories in one.
     pub emit_ignored: Option<EmissionMode>,
     /// Whether the entries are to be deleted.
     pub for_deletion: Option<ForDeletionMode>,
-    /// Whether untracked directories are tested for being bare repositories. This costs a look at each of them.
+    /// Whether untracked directories are tested for being bare repositories. This costs a look at
+    /// each of them.
     pub classify_untracked_bare_repositories: bool,
     /// Whether tracked paths are emitted too.
     pub emit_tracked: bool,
@@ -77,9 +84,9 @@ pub struct Options<'a> {
     pub emit_collapsed: Option<CollapsedEntriesEmissionMode>,
     /// Whether the ignore rules see a link as what it leads to.
     pub symlinks_to_directories_are_ignored_like_directories: bool,
-    /// The directories that are worktrees of their own, relative to the worktree root: they are tracked as repositories. In
-    /// deletion an ignored directory above one of them is matched as `Prefix`, where ignored paths are emitted and it is not
-    /// seen as a repository.
+    /// The directories that are worktrees of their own, relative to the worktree root: they are
+    /// tracked as repositories. In deletion an ignored directory above one of them is matched as
+    /// `Prefix`, where ignored paths are emitted and it is not seen as a repository.
     pub worktree_relative_worktree_dirs: Option<&'a BTreeSet<PathText>>,
 }
 
@@ -105,8 +112,8 @@ pub(crate) fn has_worktree_beneath(options: &Options<'_>, path: &[u8]) -> bool
     }
 }
 
-/// Whether a path is one of a set: by one search, for a copy of the path, and by none where the set is empty. Where memory for
-/// the copy is refused the set is passed over.
+/// Whether a path is one of a set: by one search, for a copy of the path, and by none where the set
+/// is empty. Where memory for the copy is refused the set is passed over.
 ///
 /// See docs/DECISIONS.md#slower-without-memory.
 /// See docs/DIFFERENCES.md#gix-worktree-set.

@@ -5,8 +5,8 @@ ghost use Rattle.dir_classify.specs.Paths.{full_path};
 use gitbase_core::{OutOfMemory, PathText};
 use std::alloc::Global;
 
-/// The whole path of one that is relative to the worktree root: the root itself for the empty path. A slash stands between
-/// the two, unless the root ends in one.
+/// The whole path of one that is relative to the worktree root: the root itself for the empty path.
+/// A slash stands between the two, unless the root ends in one.
 ///
 /// # Errors
 ///

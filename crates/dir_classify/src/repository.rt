@@ -15,14 +15,16 @@ use gitbase_core::{OutOfMemory, PathText};
 use std::alloc::Global;
 use worktree_fs::{Worktree, is_git, real_path_is};
 
-/// The kind of a path, or that of a repository where one is found there: where `.git` in it leads to a repository other than
-/// that of the worktree, and with `find_harder` also where the path itself does, as a bare one. Nothing is looked at where
-/// repositories are walked into. As gitoxide's `maybe_upgrade_to_repository`.
+/// The kind of a path, or that of a repository where one is found there: where `.git` in it leads
+/// to a repository other than that of the worktree, and with `find_harder` also where the path
+/// itself does, as a bare one. Nothing is looked at where repositories are walked into. As
+/// gitoxide's `maybe_upgrade_to_repository`.
 ///
-/// `path` is whole; `current_dir` and `git_dir_realpath` are the real paths of the current directory and of the git directory
-/// of the worktree. A fault of a question reads as no repository, or as one that is not the worktree's own, and is counted. Of
-/// which question a fault is the contract does not say, but how many were misread at most. At most three files are read to tell
-/// whether a path leads to a repository, so three in all, and six with `find_harder`.
+/// `path` is whole; `current_dir` and `git_dir_realpath` are the real paths of the current
+/// directory and of the git directory of the worktree. A fault of a question reads as no
+/// repository, or as one that is not the worktree's own, and is counted. Of which question a fault
+/// is the contract does not say, but how many were misread at most. At most three files are read to
+/// tell whether a path leads to a repository, so three in all, and six with `find_harder`.
 ///
 /// See docs/DECISIONS.md#class-under-faults.
 /// See docs/DECISIONS.md#whole-git-directory.
@@ -88,7 +90,8 @@ pub fn maybe_upgrade_to_repository<W: Worktree>(
     Ok(current_kind)
 }
 
-/// Whether a path leads to a repository other than that of the worktree, if that is asked; false if it is not.
+/// Whether a path leads to a repository other than that of the worktree, if that is asked; false if
+/// it is not.
 fn is_foreign_if<W: Worktree>(
     alloc: Global,
     asked: bool,

@@ -114,9 +114,9 @@ fn indexed_kind<W: Worktree, M: Matcher>(
     Ok(seen)
 }
 
-/// The kind of an ignored path: where ignored paths are shown, deletion that looks for repositories looks at it.
-/// See docs/DECISIONS.md#upgrade-by-dot-git.
-/// See docs/DIFFERENCES.md#ignored-repository-link.
+/// The kind of an ignored path: where ignored paths are shown, deletion that looks for repositories
+/// looks at it. See docs/DECISIONS.md#upgrade-by-dot-git. See
+/// docs/DIFFERENCES.md#ignored-repository-link.
 #[tactic(auto, unfolding(crate::specs::Chosen::chosen))]
 fn ignored_kind<W: Worktree, M: Matcher>(
     alloc: Global,

@@ -33,17 +33,19 @@ use std::alloc::Global;
 use worktree_fs::{ReadError, Worktree};
 use worktree_stack::Stack;
 
-/// The class of `rela_path` as [`crate::classify::path`] says it, for a caller that has the parts of a context and the whole
-/// path.
+/// The class of `rela_path` as [`crate::classify::path`] says it, for a caller that has the parts
+/// of a context and the whole path.
 ///
-/// The path is `name` in a directory, and `beneath` the entries of the index beneath that, as [`gitbase_core::State::beneath`] gives
-/// them: where the case of letters is regarded, the name is searched among these alone. So a walk narrows the index once a directory;
-/// for a single path the directory may be the worktree root, and the name the path.
-/// See docs/DECISIONS.md#index-by-directory.
+/// The path is `name` in a directory, and `beneath` the entries of the index beneath that, as
+/// [`gitbase_core::State::beneath`] gives them: where the case of letters is regarded, the name is
+/// searched among these alone. So a walk narrows the index once a directory; for a single path the
+/// directory may be the worktree root, and the name the path. See
+/// docs/DECISIONS.md#index-by-directory.
 ///
 /// # Errors
 ///
-/// - `ExcludesAccess`: the rules of a directory above the path were asked, and were not read, as [`crate::classify::path`] says it.
+/// - `ExcludesAccess`: the rules of a directory above the path were asked, and were not read, as
+///   [`crate::classify::path`] says it.
 /// - `OutOfMemory`: memory was refused.
 #[tactic(auto, unfolding(crate::specs::Class::class, crate::specs::Class::asks, crate::specs::Class::seeks, crate::specs::Class::asks_nothing, crate::specs::Layers::evidence))]
 pub fn at<W: Worktree, F: Find, M: Matcher>(
@@ -214,8 +216,8 @@ fn ruling_at<W: Worktree, F: Find, M: Matcher>(
     Ok(ruling)
 }
 
-/// As what the rules are asked about a path: a link may count as what it leads to. A fault reads as nothing.
-/// See docs/DECISIONS.md#directory-for-rules.
+/// As what the rules are asked about a path: a link may count as what it leads to. A fault reads as
+/// nothing. See docs/DECISIONS.md#directory-for-rules.
 #[tactic(auto, unfolding(crate::specs::Chosen::chosen))]
 fn ruled_as<W: Worktree, M: Matcher>(
     alloc: Global,
@@ -247,8 +249,8 @@ fn ruled_as<W: Worktree, M: Matcher>(
     }
 }
 
-/// The kind of a path: of an up-to-date entry, else the one that is known, else that of the node at the whole path
-/// where the disk may be asked. A fault reads as no kind.
+/// The kind of a path: of an up-to-date entry, else the one that is known, else that of the node at
+/// the whole path where the disk may be asked. A fault reads as no kind.
 pub(crate) fn settled_kind<W: Worktree>(
     alloc: Global,
     full: &[u8],

@@ -25,7 +25,8 @@ pub struct Asked {
 }
 
 impl Asked {
-    /// No option is on, all paths are meant, and a walk goes nine directories deep from the worktree root.
+    /// No option is on, all paths are meant, and a walk goes nine directories deep from the
+    /// worktree root.
     pub fn plainly(alloc: Global) -> Asked {
         Asked {
             options: Bytes::new(alloc),
@@ -153,8 +154,9 @@ fn has_root(alloc: Global, asked: &mut Asked, root: &[u8]) -> bool {
     }
 }
 
-/// Whether what follows is asked with what a step says: with these options alone, with these specs alone, with one more
-/// worktree, or with this traversal root, current directory, depth limit or interrupt.
+/// Whether what follows is asked with what a step says: with these options alone, with these specs
+/// alone, with one more worktree, or with this traversal root, current directory, depth limit or
+/// interrupt.
 pub fn is_asked(alloc: Global, asked: &mut Asked, what: &[u8], words: &[u8]) -> bool {
     match what {
         b"options" => asked.options.set(alloc, words).is_ok(),

@@ -1,7 +1,9 @@
-//! Cases: scripts of steps that make a worktree, its index and its rules, and that say what must be answered of them.
+//! Cases: scripts of steps that make a worktree, its index and its rules, and that say what must be
+//! answered of them.
 //!
-//! A case begins with its name, its global rules (`-`: no rules at all) and, where they are so, `strict` for strict parents; its
-//! steps are parted by bars, and the words of a step by backquotes.
+//! A case begins with its name, its global rules (`-`: no rules at all) and, where they are so,
+//! `strict` for strict parents; its steps are parted by bars, and the words of a step by
+//! backquotes.
 use crate::asked::{Asked, is_asked};
 use crate::classes::{is_class, is_root, is_upgraded};
 use crate::walks::{is_given, is_walk};

@@ -19,10 +19,11 @@ use std::alloc::Global;
 use worktree_fs::{MemoryWorktree, PlannedInterrupt};
 use worktree_stack::{AtPathError, RulesWhy, Stack};
 
-/// Cases, parted by `@`. A step `class` names a path, what is known of its kind (`ask`: nothing, and the worktree may be
-/// asked; `none`: nothing, and it may not), and the class: status, property, the kind on disk, that in the index, and how
-/// path specs match where they do not mean all paths; or it names a rules file and why it was refused. A step `ask` says with
-/// which options, path specs and worktrees of their own the classes that follow are asked.
+/// Cases, parted by `@`. A step `class` names a path, what is known of its kind (`ask`: nothing,
+/// and the worktree may be asked; `none`: nothing, and it may not), and the class: status,
+/// property, the kind on disk, that in the index, and how path specs match where they do not mean
+/// all paths; or it names a rules file and why it was refused. A step `ask` says with which
+/// options, path specs and worktrees of their own the classes that follow are asked.
 const CASES: &[u8] = b"\
 nodes that the index does not have`-|file`/w/plain|link`/w/link`plain|other`/w/pipe|directory`/w/dir/.git|file`/w/dir/in|\
 class`plain`ask`untracked`-`file`-|class`link`ask`untracked`-`symlink`-|class`pipe`ask`untracked`-`untrackable`-|\
@@ -77,7 +78,8 @@ class`n`ask`untracked`-`symlink`-|class`f`ask`untracked`-`symlink`-|class`l`file
 a link whose target could not be learnt`l/\n|file`/w/dir/g|link`/w/l`dir|ask`options`followed|fail`kind following`1|\
 class`l`ask`untracked`-`symlink`-|class`l`ask`ignored`-`symlink`-|faults`1";
 
-/// The same, on repositories. A step `git` makes a git directory, and a step `upgrade` says as what a directory is then seen.
+/// The same, on repositories. A step `git` makes a git directory, and a step `upgrade` says as what
+/// a directory is then seen.
 const REPOSITORIES: &[u8] = b"\
 directories with a git directory`-|git`/w/.git|git`/w/d/r/.git|file`/w/d/r/f|git`/w/m/.git|directory`/w/e/.git|\
 index`m`commit|class``ask`untracked`-`directory`-|class`d`ask`untracked`-`directory`-|\
@@ -118,8 +120,9 @@ class`build/x`ask`ignored`-`directory`-`verbatim|class`build/x/y`ask`ignored`-`f
 class`build`ask`ignored`-`directory`-`-|ask`specs`:|ask`worktree`build/wt|ask`options`shown hide|\
 class`build`ask`ignored`-`directory`-`prefix|ask`options`shown|class`build`ask`ignored`-`directory`-";
 
-/// Cases of ways. A step `root` names a worktree root, a path below it, and where the way to it ends, with the class there; a step
-/// `rules asked` says about how many paths the rules were asked so far.
+/// Cases of ways. A step `root` names a worktree root, a path below it, and where the way to it
+/// ends, with the class there; a step `rules asked` says about how many paths the rules were asked
+/// so far.
 const WAYS: &[u8] = b"\
 ways through directories`-|git`/w/.git|git`/w/d/r/.git|file`/w/d/r/x/f|file`/w/a|link`/w/l`d|\
 root`/w`d/r/x`part d/r`untracked`-`repository`-|root`/w`d`whole d`untracked`-`directory`-|\
@@ -201,7 +204,8 @@ fn has_match(found: Option<PathspecMatch>, word: &[u8]) -> bool {
     found == word || (word.is_empty() && found == b"always".as_slice())
 }
 
-/// Whether a class has these words: status, property, the kind on disk, that in the index and the match.
+/// Whether a class has these words: status, property, the kind on disk, that in the index and the
+/// match.
 fn has_words(class: &Outcome, words: &[u8]) -> bool {
     let (status, rest) = parted(words);
     let (property, rest) = parted(rest);

@@ -1,4 +1,5 @@
-//! How deep a walk goes: which directory is refused as it lies too deep, and what was listed before.
+//! How deep a walk goes: which directory is refused as it lies too deep, and what was listed
+//! before.
 ghost use Rattle.std.specs.Prelude.{◌≡◌, true};
 ghost use Rattle.dir_classify.specs.Excludes.{made_with, tells_excludes};
 
@@ -14,8 +15,9 @@ use std::collections::BTreeSet;
 use worktree_fs::{MemoryWorktree, NewNode, PlannedInterrupt};
 use worktree_stack::Stack;
 
-/// Cases of depths, in the words of walks. A directory that is to be entered and has more components below the worktree root than the
-/// limit is refused itself, whatever lies beneath it: no path below it is named.
+/// Cases of depths, in the words of walks. A directory that is to be entered and has more
+/// components below the worktree root than the limit is refused itself, whatever lies beneath it:
+/// no path below it is named.
 const DEPTHS: &[u8] = b"\
 what the index has below a directory`-|file`/w/a/b/c/f|index`a/b/c/f`file|ask`options`tracked|\
 ask`depth`3|walk`/w`/w`4`1`tracked file file always - - - a/b/c/f|ask`depth`2|walk`/w`too deep`/w/a/b/c|\
@@ -47,7 +49,8 @@ fn depths(rt: HostRuntime) {
     assert_eq!(rt; first_lie(rt.alloc()), None);
 }
 
-/// A work tree at `/w` where `a` has a directory and `z` has none; the names of a directory are listed in order.
+/// A work tree at `/w` where `a` has a directory and `z` has none; the names of a directory are
+/// listed in order.
 fn root(alloc: Global) -> MemoryWorktree {
     let mut tree = MemoryWorktree::new(alloc, false);
     let paths: [&[u8]; 2] = [b"/w/a/b/f", b"/w/z/f"];
@@ -86,7 +89,8 @@ fn walked<'a>(
     walk_by_path(alloc, b"/w", ctx, options, Strategy::Held)
 }
 
-/// Whether a directory that lies too deep is refused and not listed, nor what comes after the one that it lies in.
+/// Whether a directory that lies too deep is refused and not listed, nor what comes after the one
+/// that it lies in.
 fn is_unlisted(alloc: Global) -> bool {
     let mut worktree = Noted::new(alloc, root(alloc));
     let walked = walked(

@@ -78,7 +78,8 @@ fn is_looked_into(found: PathspecMatch) -> bool {
     )
 }
 
-/// Which directories are looked into: ignored ones that a spec names, and repositories where the root is one.
+/// Which directories are looked into: ignored ones that a spec names, and repositories where the
+/// root is one.
 fn are_looked_into() -> bool {
     !is_looked_into(PathspecMatch::Always)
         && is_looked_into(PathspecMatch::Prefix)
@@ -86,7 +87,8 @@ fn are_looked_into() -> bool {
         && Status::Tracked.can_recurse(Some(Kind::Repository), None, None, true)
 }
 
-/// Whether a match of this kind is this one where its spec does not exclude, and is excluded where it does.
+/// Whether a match of this kind is this one where its spec does not exclude, and is excluded where
+/// it does.
 fn becomes(kind: MatchKind, want: PathspecMatch) -> bool {
     let found = |excluded| Match {
         kind,

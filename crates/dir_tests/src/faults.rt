@@ -1,9 +1,9 @@
 //! Walks that are refused, and walks that meet a fault, case by case.
 use crate::cases::lie_of;
 
-/// Cases of rules that cannot be read, of an interrupt, of the depth limit and of faults, as those of walks are written. The
-/// interrupt is asked before the depth is tested, and both come before a directory is listed. Repositories are not looked for where
-/// a fault is planned.
+/// Cases of rules that cannot be read, of an interrupt, of the depth limit and of faults, as those
+/// of walks are written. The interrupt is asked before the depth is tested, and both come before a
+/// directory is listed. Repositories are not looked for where a fault is planned.
 const FAULTS: &[u8] = b"\
 a rules file that is a link to itself``|file`/w/d/f|link`/w/d/.gitignore`.gitignore|walk`/w`link limit`/w/d/.gitignore@\
 a rules file that is no file``|file`/w/d/f|other`/w/d/.gitignore|walk`/w`special`/w/d/.gitignore@\

@@ -57,8 +57,8 @@ fn walked<'a, F: Find>(
     walk_at_once(alloc, b"/w", ctx, options)
 }
 
-/// Whether a walk of two directories reads three, where each interrupt would say to stop at its second question: each job asks one of
-/// its own.
+/// Whether a walk of two directories reads three, where each interrupt would say to stop at its
+/// second question: each job asks one of its own.
 fn reads_three(alloc: Global, worktree: &mut Noted) -> bool {
     let walked = walked(
         alloc,
@@ -80,7 +80,8 @@ fn reads_three(alloc: Global, worktree: &mut Noted) -> bool {
     }
 }
 
-/// Whether the root is listed over the worktree handed in, and each directory over a fork of its own, which is absorbed.
+/// Whether the root is listed over the worktree handed in, and each directory over a fork of its
+/// own, which is absorbed.
 fn is_apart(alloc: Global) -> bool {
     let mut worktree = Noted::new(alloc, root(alloc));
     reads_three(alloc, &mut worktree)
@@ -178,8 +179,9 @@ fn is_asked_by_index(alloc: Global, index: &State) -> bool {
     }
 }
 
-/// Whether the store handed in is asked for the rules of the root alone, and each of the forks that it absorbs, one a job, for them
-/// anew, the first for those of its directory too: each job has rules of its own.
+/// Whether the store handed in is asked for the rules of the root alone, and each of the forks that
+/// it absorbs, one a job, for them anew, the first for those of its directory too: each job has
+/// rules of its own.
 fn is_asked_by_forks(alloc: Global) -> bool {
     match index(alloc) {
         Ok(index) => is_asked_by_index(alloc, &index),

@@ -1,5 +1,5 @@
-//! What the calls of dir_classify and dir_walk answer: cases worked out by hand, each call that takes memory with enough
-//! of it, and the texts of errors.
+//! What the calls of dir_classify and dir_walk answer: cases worked out by hand, each call that
+//! takes memory with enough of it, and the texts of errors.
 #![tactic(auto)]
 
 #[cfg(test)]

@@ -1,4 +1,5 @@
-//! A worktree that notes what is listed over it and over its forks, and a store that notes how often it and its forks are asked.
+//! A worktree that notes what is listed over it and over its forks, and a store that notes how
+//! often it and its forks are asked.
 ghost use Rattle.std.specs.Prelude.{◌≡◌, ◌≤◌, false, Ok, IsErrOf};
 ghost use Rattle.worktree_fs.specs.Answers.{UnlessRead, UnlessFault};
 ghost use Rattle.worktree_fs.specs.Causes.{Incremented, Increased};
@@ -10,8 +11,9 @@ use worktree_fs::{
     Worktree,
 };
 
-/// A worktree that tells nothing, and hands each call on to one in memory. It notes the paths that it listed, each with a
-/// `;` behind it, and of each fork that it absorbed those that the fork noted, with a `|` behind them.
+/// A worktree that tells nothing, and hands each call on to one in memory. It notes the paths that
+/// it listed, each with a `;` behind it, and of each fork that it absorbed those that the fork
+/// noted, with a `|` behind them.
 #[derive(Drop)]
 pub struct Noted {
     pub tree: MemoryWorktree,
@@ -147,8 +149,8 @@ impl Worktree for Noted {
     }
 }
 
-/// A store that tells nothing, and hands each call on to one in memory. It counts how often it was asked, and notes that number of each
-/// fork that it absorbed.
+/// A store that tells nothing, and hands each call on to one in memory. It counts how often it was
+/// asked, and notes that number of each fork that it absorbed.
 #[derive(Drop)]
 pub struct NotedStore {
     pub objects: MemoryStore,

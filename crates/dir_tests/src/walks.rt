@@ -17,11 +17,12 @@ use std::alloc::Global;
 use worktree_fs::{MemoryWorktree, PlannedInterrupt};
 use worktree_stack::Stack;
 
-/// Cases, parted by `@`. A step `walk` names a worktree root and the answer: the path where the walk began, how many directories
-/// were read, how many entries were met, and the entries by path; or why there is none, where, and for a link in the traversal
-/// root at which component. An entry is its status, its kind on disk, that in the index, how path specs match, its property, the
-/// status of what was folded over it, the rule that decided about excludes, and its path. A rule is `globals` or how many
-/// components the directory of its list has, then its line and its sign.
+/// Cases, parted by `@`. A step `walk` names a worktree root and the answer: the path where the
+/// walk began, how many directories were read, how many entries were met, and the entries by path;
+/// or why there is none, where, and for a link in the traversal root at which component. An entry
+/// is its status, its kind on disk, that in the index, how path specs match, its property, the
+/// status of what was folded over it, the rule that decided about excludes, and its path. A rule is
+/// `globals` or how many components the directory of its list has, then its line and its sign.
 const WALKS: &[u8] = b"\
 an empty directory`-|directory`/w/e|walk`/w`/w`2`1|ask`options`empty|\
 walk`/w`/w`2`1`untracked directory - always empty - - e@\
@@ -102,14 +103,17 @@ file`/w/build/y|ask`options`nonbare shown|\
 walk`/w`/w`3`4`untracked file - always - - - .gitignore`ignored file - always - - 0:1:+ build/.gitignore`\
 ignored file - always - - 0:1:+ build/sub/x`ignored file - always - - 0:1:+ build/y";
 
-/// Cases of delegates. A step `give` names a delegate that looks into directories `always`, `never` or `in turn`, that looks into the
-/// worktree root and `only d` below it, or that answers Break at an entry, as at `break 2`; where there are fewer it answers none.
+/// Cases of delegates. A step `give` names a delegate that looks into directories `always`, `never`
+/// or `in turn`, that looks into the worktree root and `only d` below it, or that answers Break at
+/// an entry, as at `break 2`; where there are fewer it answers none.
 ///
-/// What is broken off has met what came before: within a fold what was merged, and for what is handed up at the end all.
+/// What is broken off has met what came before: within a fold what was merged, and for what is
+/// handed up at the end all.
 ///
-/// Of the delegate that looks `only d`: from the worktree root on, two directories are read, that and `d`; what is met is the file in
-/// `d`, and by themselves `d/d` and `e`, which have other paths. From `e/d` on nothing is read, and that directory is all that is met.
-/// Were it asked about another path than that of the entry, about none or the last name alone, it would look into more.
+/// Of the delegate that looks `only d`: from the worktree root on, two directories are read, that
+/// and `d`; what is met is the file in `d`, and by themselves `d/d` and `e`, which have other
+/// paths. From `e/d` on nothing is read, and that directory is all that is met. Were it asked about
+/// another path than that of the entry, about none or the last name alone, it would look into more.
 const DELEGATES: &[u8] = b"\
 a usual checkout``|git`/w/.git|git`/w/.git/modules/lib|file`/w/.gitignore`target/|file`/w/.gitmodules|file`/w/src/main.c|\
 file`/w/lib/.git`gitdir: ../.git/modules/lib|file`/w/target/x.o|file`/w/notes/a|file`/w/notes/b|index`.gitignore`file|\

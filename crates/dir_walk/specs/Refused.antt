@@ -1,7 +1,5 @@
 -- Why a walk is refused in what it enters.
 use Rattle.std.specs.Prelude.{◌≡◌, ◌⊎◌, ◌<◌, ◌≤◌, ◌+◌, ℕ, Bool, true, false, ◌||◌, List, Option, Some, Err, IsSomeAnd}
-use Rattle.std.specs.List.{list_any}
-use Rattle.std.specs.Str.{bytes_eq}
 use Rattle.gitbase_core.specs.Path.{components, is_empty}
 use Rattle.gitbase_core.specs.Objects.{Objects}
 use Rattle.worktree_fs.specs.declared.answers.ListError.{ListError}
@@ -22,12 +20,10 @@ use Rattle.dir_classify.specs.declared.error.ReadWhy.TheVariants as reads
 use Rattle.dir_classify.specs.Evidence.{Evidence}
 use Rattle.dir_classify.specs.Layers.{Setting, evidence}
 use Rattle.dir_classify.specs.Refused.{IsAccess}
+pub use Rattle.gitbase_core.specs.Among.{is_among}
 use Rattle.dir_walk.specs.Report.{depth_of}
 use Rattle.dir_walk.specs.Told.{directory_told, look_directory}
 use Rattle.dir_walk.specs.Walked.{Walked}
-
-abbrev pub is_among : List ℕ → List (List ℕ) → Bool
-is_among path paths = list_any (bytes_eq path) paths
 
 -- the class of a path that is walked says that it is to be entered, whether or not it is a directory
 abbrev pub is_to_enter : List ℕ → Walked → Bool

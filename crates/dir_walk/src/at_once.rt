@@ -16,14 +16,17 @@ use glob_rules::pathspec::Matcher;
 use std::alloc::Global;
 use worktree_fs::{Interrupt, Worktree};
 
-/// Walks a worktree as [`walk`](crate::walk) does with a delegate that recurses by default and keeps what it is given,
-/// and gives that too. Each subtree of the traversal root that is entered is a job of its own.
+/// Walks a worktree as [`walk`](crate::walk) does with a delegate that recurses by default and
+/// keeps what it is given, and gives that too. Each subtree of the traversal root that is entered
+/// is a job of its own.
 ///
-/// The traversal root is found, classed and listed over the worktree that is handed in, and so are the names in it classed.
-/// A job has a fork of the worktree, of the store and of the interrupt, and rules of which nothing is pushed; it is all
-/// that a thread would need, but the jobs run one after another on the caller. Each fork is absorbed, also where its job is
-/// refused, so the counts of what is handed in rise by those of the forks, but for that of listings: it rises by one at
-/// most. After a refusal no further job is begun. Of this the clauses have what becomes of the count of listings alone.
+/// The traversal root is found, classed and listed over the worktree that is handed in, and so are
+/// the names in it classed. A job has a fork of the worktree, of the store and of the interrupt,
+/// and rules of which nothing is pushed; it is all that a thread would need, but the jobs run one
+/// after another on the caller. Each fork is absorbed, also where its job is refused, so the counts
+/// of what is handed in rise by those of the forks, but for that of listings: it rises by one at
+/// most. After a refusal no further job is begun. Of this the clauses have what becomes of the
+/// count of listings alone.
 ///
 /// See docs/DECISIONS.md#jobs-one-after-another.
 /// See docs/DECISIONS.md#refused-job.
@@ -31,7 +34,8 @@ use worktree_fs::{Interrupt, Worktree};
 ///
 /// # Errors
 ///
-/// Those of [`walk`](crate::walk), each for the same causes; `OutOfMemory` also where none is left for a fork or its rules.
+/// Those of [`walk`](crate::walk), each for the same causes; `OutOfMemory` also where none is left
+/// for a fork or its rules.
 pub fn walk_at_once<W: Worktree, F: Find, I: Interrupt, M: Matcher>(
     alloc: Global,
     worktree_root: &[u8],

@@ -38,8 +38,9 @@ use std::alloc::Global;
 use worktree_fs::{Interrupt, Worktree};
 use worktree_stack::Stack;
 
-/// Walks a name in the traversal root, at `place`; so many more levels of directories may be entered below that. What is entered is
-/// a job. `beneath` are the entries of the index beneath the traversal root. The place is the root's again when the name is done.
+/// Walks a name in the traversal root, at `place`; so many more levels of directories may be
+/// entered below that. What is entered is a job. `beneath` are the entries of the index beneath the
+/// traversal root. The place is the root's again when the name is done.
 fn walk_child<W: Worktree, F: Find, I: Interrupt, M: Matcher, D: Delegate>(
     alloc: Global,
     shared: &Shared<'_, M>,
@@ -174,7 +175,8 @@ fn walk_child<W: Worktree, F: Find, I: Interrupt, M: Matcher, D: Delegate>(
 }
 
 /// Walks a directory that is entered as the traversal root, at `place` and of the class `class`, as
-/// [`walk_tree`](crate::directory::walk_tree) does; but each name that is entered is a job over forks.
+/// [`walk_tree`](crate::directory::walk_tree) does; but each name that is entered is a job over
+/// forks.
 pub(crate) fn walk_children<W: Worktree, F: Find, I: Interrupt, M: Matcher, D: Delegate>(
     alloc: Global,
     shared: &Shared<'_, M>,

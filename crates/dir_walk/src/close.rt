@@ -32,10 +32,11 @@ use glob_rules::pathspec::Matcher;
 use std::alloc::Global;
 use worktree_fs::Worktree;
 
-/// The class of a path that is not entered. In deletion that does not look into ignored directories, one is looked at for being a
-/// repository, also where repositories are walked into.
+/// The class of a path that is not entered. In deletion that does not look into ignored
+/// directories, one is looked at for being a repository, also where repositories are walked into.
 ///
-/// A fault of that look is counted, and reads as no repository, or as one that is not the worktree's own.
+/// A fault of that look is counted, and reads as no repository, or as one that is not the
+/// worktree's own.
 ///
 /// See docs/DECISIONS.md#swallowed-faults.
 #[tactic(auto, unfolding(dir_classify::specs::Class::leaf_class, dir_classify::specs::Layers::evidence))]
@@ -75,7 +76,8 @@ pub(crate) fn leaf_class<W: Worktree, M: Matcher>(
     })
 }
 
-/// Whether a path of a class that is not entered may hide repositories that deletion would take along.
+/// Whether a path of a class that is not entered may hide repositories that deletion would take
+/// along.
 fn is_hiding(options: &Options<'_>, class: &classify::Outcome) -> bool
     ensures { result ≡ is_hiding (chosen options.now) class.now }
 {
@@ -181,7 +183,8 @@ fn match_kind_of<M: Matcher>(pathspec: &M, path: &[u8]) -> Option<PathspecMatch>
     }
 }
 
-/// A directory with names, when these are done: it is folded over what they handed up, or that is put out.
+/// A directory with names, when these are done: it is folded over what they handed up, or that is
+/// put out.
 #[tactic(auto, unfolding(crate::specs::Walked::closed))]
 #[inline(never)]
 pub(crate) fn close<M: Matcher, D: Delegate>(
@@ -241,8 +244,8 @@ pub(crate) fn close<M: Matcher, D: Delegate>(
     }
 }
 
-/// The class of the entry that stands for all that a directory holds, or none where it is not folded. Where nothing is held,
-/// nothing is counted and no path spec is asked.
+/// The class of the entry that stands for all that a directory holds, or none where it is not
+/// folded. Where nothing is held, nothing is counted and no path spec is asked.
 fn folded<M: Matcher>(
     shared: &Shared<'_, M>,
     blocked: &Option<PathText>,

@@ -9,7 +9,8 @@ use gitbase_core::OutOfMemory;
 use std::alloc::Global;
 use std::marker::Model;
 
-/// Entries as they were emitted, each with the status of the directory that was folded over it, if one was.
+/// Entries as they were emitted, each with the status of the directory that was folded over it, if
+/// one was.
 ///
 /// Contracts see the list of the pairs.
 ///
@@ -82,7 +83,8 @@ impl EmittedEntries {
 /// A delegate of a walk that keeps what it is given, in the order in which it is given.
 #[derive(Debug, Drop)]
 pub struct Collect {
-    /// The entries in the order in which they were emitted; the name is spelled as gitoxide spells it.
+    /// The entries in the order in which they were emitted; the name is spelled as gitoxide spells
+    /// it.
     pub unorded_entries: EmittedEntries,
 }
 
@@ -96,9 +98,9 @@ impl Collect {
         }
     }
 
-    /// The entries in ascending order of their paths, byte by byte; those of one path stand in the order in which they were
-    /// kept. Where no path stands twice, as in what a walk gives, each path stands before the next one. The room comes from
-    /// the allocator that made the list.
+    /// The entries in ascending order of their paths, byte by byte; those of one path stand in the
+    /// order in which they were kept. Where no path stands twice, as in what a walk gives, each
+    /// path stands before the next one. The room comes from the allocator that made the list.
     ///
     /// # Errors
     ///

@@ -21,8 +21,8 @@ pub enum Action {
 
 /// What a walk gives its entries to, after gitoxide's `gix_dir::walk::Delegate`.
 ///
-/// Contracts speak of what it was given where it tells that, and of the counts of its Breaks and of its refusals always. A count is
-/// of 64 bits, and stands at its last value.
+/// Contracts speak of what it was given where it tells that, and of the counts of its Breaks and of
+/// its refusals always. A count is of 64 bits, and stands at its last value.
 pub trait Delegate {
     /// What it was given so far, in that order, where it tells that.
     ghost given: { Self → Option (List Emission) };
@@ -36,7 +36,8 @@ pub trait Delegate {
     /// How often it kept the walk out of what its status would have it look into; it never falls.
     ghost refusals: { Self → ℕ };
 
-    /// Whether it answered Break when it was last given an entry; nothing is said of it where it refused one.
+    /// Whether it answered Break when it was last given an entry; nothing is said of it where it
+    /// refused one.
     ghost is_stopped: { Self → Bool };
 
     /// Takes an entry, with the status of the directory that was folded over it, if one was.
@@ -63,8 +64,9 @@ pub trait Delegate {
         ensures refusals { refusals self.new ≡ refusals self.old }
         ensures default { is_default self.new ≡ is_default self.old };
 
-    /// Whether the walk looks into a directory or a repository. By default it does as its status says. An answer of no to what
-    /// its status would have it look into is counted as a refusal, and nothing else is.
+    /// Whether the walk looks into a directory or a repository. By default it does as its status
+    /// says. An answer of no to what its status would have it look into is counted as a refusal,
+    /// and nothing else is.
     ///
     /// See docs/DECISIONS.md#root-not-entered.
     fn can_recurse(

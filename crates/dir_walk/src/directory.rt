@@ -40,8 +40,9 @@ use std::alloc::Global;
 use worktree_fs::{Interrupt, Worktree};
 use worktree_stack::Stack;
 
-/// The class of the path of a name, of which nothing is known; `beneath` are the entries of the index beneath its directory. It
-/// stands apart, as [`walk_directory`] calls itself: what a class takes of the stack is given back before the walk goes deeper.
+/// The class of the path of a name, of which nothing is known; `beneath` are the entries of the
+/// index beneath its directory. It stands apart, as [`walk_directory`] calls itself: what a class
+/// takes of the stack is given back before the walk goes deeper.
 #[inline(never)]
 pub(crate) fn class_of<W: Worktree, F: Find, M: Matcher>(
     alloc: Global,
@@ -68,8 +69,9 @@ pub(crate) fn class_of<W: Worktree, F: Find, M: Matcher>(
     )
 }
 
-/// Walks a name in a directory that is entered, at `place`; so many more levels of directories may be entered below that. `beneath`
-/// are the entries of the index beneath the directory. The place is the directory's again when the name is done.
+/// Walks a name in a directory that is entered, at `place`; so many more levels of directories may
+/// be entered below that. `beneath` are the entries of the index beneath the directory. The place
+/// is the directory's again when the name is done.
 #[cycle(walk)]
 fn walk_name<W: Worktree, F: Find, I: Interrupt, M: Matcher, D: Delegate>(
     alloc: Global,
@@ -145,20 +147,24 @@ fn walk_name<W: Worktree, F: Find, I: Interrupt, M: Matcher, D: Delegate>(
     handed
 }
 
-/// Walks a directory that is entered, at `place` and of the class `class`; so many more levels of directories may be
-/// entered below it. `blocked` is the directory that must not go, if there is one.
+/// Walks a directory that is entered, at `place` and of the class `class`; so many more levels of
+/// directories may be entered below it. `blocked` is the directory that must not go, if there is
+/// one.
 ///
-/// The place is the same when the directory is done: the names in it are put behind its path one after the other, and cut off again.
+/// The place is the same when the directory is done: the names in it are put behind its path one
+/// after the other, and cut off again.
 ///
-/// What its names hand up is put out or merged here, or the directory's own entry, folded over it, is handed up in its place.
-/// Contracts speak of what the delegate was given by counts, since the order of the names is the worktree's.
+/// What its names hand up is put out or merged here, or the directory's own entry, folded over it,
+/// is handed up in its place. Contracts speak of what the delegate was given by counts, since the
+/// order of the names is the worktree's.
 ///
 /// # Errors
 ///
 /// - `Stop::Broken`: the delegate answered Break, which it counted.
 /// - `Stop::Refused` with `Interrupted`: the interrupt was raised, which it counted.
 /// - with `ExcludesAccess`: a lookup in the rules was refused.
-/// - with `ReadDir`: a directory is not there, is none, or could not be opened, which the worktree counted.
+/// - with `ReadDir`: a directory is not there, is none, or could not be opened, which the worktree
+///   counted.
 /// - with `DirEntry`: a name of a directory could not be had, which the worktree counted.
 /// - with `TooDeep`: a directory that is to be entered lies deeper than the levels allow.
 /// - with `OutOfMemory`: memory was refused.

@@ -83,7 +83,8 @@ pub(crate) fn emit_all<D: Delegate>(
     Ok(())
 }
 
-/// Puts out what is to be seen of what a directory holds besides the directory, which was folded over it with a status.
+/// Puts out what is to be seen of what a directory holds besides the directory, which was folded
+/// over it with a status.
 ///
 /// See docs/DIFFERENCES.md#gix-break-while-folding.
 pub(crate) fn emit_collapsed<D: Delegate>(

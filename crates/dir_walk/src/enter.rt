@@ -61,8 +61,8 @@ fn rest_behind<'a>(directory: &[u8], path: &'a [u8]) -> Option<&'a [u8]>
     relative_to(path, directory)
 }
 
-/// In deletion, the directory that must not go: the current one, where it is the worktree root or lies beneath. A fault
-/// of the question for the real path of the worktree root reads as none.
+/// In deletion, the directory that must not go: the current one, where it is the worktree root or
+/// lies beneath. A fault of the question for the real path of the worktree root reads as none.
 ///
 /// See docs/DECISIONS.md#swallowed-faults.
 fn blocked_directory<W: Worktree, M: Matcher>(
@@ -120,7 +120,8 @@ fn put_handed<D: Delegate>(
     }
 }
 
-/// Walks a directory that is entered as the traversal root, as a strategy says, unless it lies too deep.
+/// Walks a directory that is entered as the traversal root, as a strategy says, unless it lies too
+/// deep.
 fn walk_deep<W: Worktree, F: Find, I: Interrupt, M: Matcher, D: Delegate>(
     alloc: Global,
     shared: &Shared<'_, M>,

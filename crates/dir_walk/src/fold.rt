@@ -15,9 +15,11 @@ use dir_classify::{
 };
 use glob_rules::ignore;
 
-/// The class of the entry that stands for all that a directory of a class holds, or none where it is not folded.
+/// The class of the entry that stands for all that a directory of a class holds, or none where it
+/// is not folded.
 ///
-/// `blocked` says that the directory must not go, and `covered` that the path specs match all that lies beneath it.
+/// `blocked` says that the directory must not go, and `covered` that the path specs match all that
+/// lies beneath it.
 #[tactic(auto, unfolding(crate::specs::Fold::fold))]
 pub(crate) fn fold(
     options: &Options<'_>,
@@ -170,7 +172,8 @@ fn has_no_names(entry: &Entry) -> bool
     matches!(entry.property, Some(Property::EmptyDirectory))
 }
 
-/// Whether no directory folds over an entry: a repository, or what a spec names in full or takes out.
+/// Whether no directory folds over an entry: a repository, or what a spec names in full or takes
+/// out.
 ///
 /// See docs/DIFFERENCES.md#folded-over-repository.
 /// See docs/DIFFERENCES.md#folded-over-spec.
@@ -252,7 +255,8 @@ fn are_loose(counts: &Tally) -> bool
     counts.untracked + counts.expendable + counts.precious == counts.all
 }
 
-/// Whether deletion may take all that is held at once: nothing precious, and what is ignored only where that is asked for.
+/// Whether deletion may take all that is held at once: nothing precious, and what is ignored only
+/// where that is asked for.
 #[tactic(auto, unfolding(dir_classify::specs::Chosen::chosen))]
 fn may_delete_all(options: &Options<'_>, counts: &Tally) -> bool
     ensures { result ≡ may_delete_all (chosen options.now) counts.now }
@@ -322,7 +326,8 @@ fn folded_class(options: &Options<'_>, class: &Outcome, counts: &Tally, status: 
     }
 }
 
-/// Its property: its own, else that it has no names where nothing that it holds has, outside deletion.
+/// Its property: its own, else that it has no names where nothing that it holds has, outside
+/// deletion.
 ///
 /// See docs/DIFFERENCES.md#gone-tracked-files.
 #[tactic(auto, unfolding(dir_classify::specs::Chosen::chosen))]
@@ -348,7 +353,8 @@ fn property_over(
     }
 }
 
-/// Its match: the greatest of what it holds, else its own where no spec was needed for it or one names it.
+/// Its match: the greatest of what it holds, else its own where no spec was needed for it or one
+/// names it.
 ///
 /// See docs/DIFFERENCES.md#folded-by-spec.
 fn match_over(counts: &Tally, class: &Outcome) -> Option<PathspecMatch>

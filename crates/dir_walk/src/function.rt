@@ -18,29 +18,34 @@ use std::alloc::Global;
 use worktree_fs::{Interrupt, Worktree};
 use worktree_stack::Stack;
 
-/// Walks a worktree and gives `delegate` each entry that the options do not hide, in an order of the worktree's own, as
-/// gitoxide's `gix_dir::walk`. The answer's path is the worktree root and the traversal root below it.
+/// Walks a worktree and gives `delegate` each entry that the options do not hide, in an order of
+/// the worktree's own, as gitoxide's `gix_dir::walk`. The answer's path is the worktree root and
+/// the traversal root below it.
 ///
-/// `worktree_root` is absolute and has no component `.` or `..`. The walk begins at the traversal root: the one that the
-/// context has, else the common directory of what the path specs match where that is a directory, else the worktree root,
-/// which may be a link to a directory. It is classed component by component; where the way ends before it, or its status
-/// has it not looked into and the delegate goes by that, nothing is entered, and at most one entry is given: that of the
-/// path where the way ended.
+/// `worktree_root` is absolute and has no component `.` or `..`. The walk begins at the traversal
+/// root: the one that the context has, else the common directory of what the path specs match where
+/// that is a directory, else the worktree root, which may be a link to a directory. It is classed
+/// component by component; where the way ends before it, or its status has it not looked into and
+/// the delegate goes by that, nothing is entered, and at most one entry is given: that of the path
+/// where the way ended.
 ///
-/// A directory is folded over what lies in it as the options ask for it; in deletion neither a directory that holds
-/// precious paths among others is folded nor the current one.
+/// A directory is folded over what lies in it as the options ask for it; in deletion neither a
+/// directory that holds precious paths among others is folded nor the current one.
 ///
-/// Each directory that is entered is listed once where no fault was counted and the delegate recurses by default; where files are read for their rules alone, and these are ignore rules
-/// alone, the worktree is read at most once for each of them and for each component of the traversal root, and once more
-/// where the walk is refused. Each level below the traversal root takes room on the stack, up to `depth_limit` of the
-/// context.
+/// Each directory that is entered is listed once where no fault was counted and the delegate
+/// recurses by default; where files are read for their rules alone, and these are ignore rules
+/// alone, the worktree is read at most once for each of them and for each component of the
+/// traversal root, and once more where the walk is refused. Each level below the traversal root
+/// takes room on the stack, up to `depth_limit` of the context.
 ///
-/// Four faults of the worktree are no refusal, but are counted: of the question for the kind of a name, of what a link leads to,
-/// of a look for a repository, and of the real path of the worktree root. The name has no kind then, stays a link to nothing, is
-/// seen as no repository or as another one, or no directory is the current one. So is the fault of the question whether the common directory is one,
-/// which is then not begun at; and that of the question where a link at the worktree root leads, which then counts as no
-/// directory, so that a walk from there is refused with `WorktreeRootIsFile`. After a refusal the delegate has what it was
-/// given before, and where there is no traversal root, or the worktree root is refused, that is nothing. Where it answers
+/// Four faults of the worktree are no refusal, but are counted: of the question for the kind of a
+/// name, of what a link leads to, of a look for a repository, and of the real path of the worktree
+/// root. The name has no kind then, stays a link to nothing, is seen as no repository or as another
+/// one, or no directory is the current one. So is the fault of the question whether the common
+/// directory is one, which is then not begun at; and that of the question where a link at the
+/// worktree root leads, which then counts as no directory, so that a walk from there is refused
+/// with `WorktreeRootIsFile`. After a refusal the delegate has what it was given before, and where
+/// there is no traversal root, or the worktree root is refused, that is nothing. Where it answers
 /// Break the walk ends with what was counted so far.
 ///
 /// See docs/DECISIONS.md#traversal-root.
@@ -53,19 +58,22 @@ use worktree_stack::Stack;
 ///
 /// - `NormalizeRoot`: the traversal root is absolute, or leads out of the worktree.
 /// - `SymlinkInRoot`: one of its components is a link, and no earlier one is.
-/// - `SymlinkMetadata`: one of its components is not there, or its kind could not be had, for a fault.
-/// - `WorktreeRootIsFile`: the traversal root is the worktree root, which is not entered, by its status or as the delegate
-///   refuses, and is no directory, a link not followed.
+/// - `SymlinkMetadata`: one of its components is not there, or its kind could not be had, for a
+///   fault.
+/// - `WorktreeRootIsFile`: the traversal root is the worktree root, which is not entered, by its
+///   status or as the delegate refuses, and is no directory, a link not followed.
 /// - `Interrupted`: the interrupt was raised, which is asked before each directory is read.
-/// - `TooDeep`: a directory is to be entered and has more components below the worktree root than the limit, one more where it is
-///   not the traversal root; the interrupt was asked before, and the directory is not listed.
-/// - `ReadDir`: what is to be entered could not be listed, for a fault, or is no directory on disk: as the index calls it
-///   an up-to-date directory; at the traversal root also as it is an up-to-date repository, of the worktree set or
-///   excluded; and anything that a delegate of its own recursion looks into.
+/// - `TooDeep`: a directory is to be entered and has more components below the worktree root than
+///   the limit, one more where it is not the traversal root; the interrupt was asked before, and
+///   the directory is not listed.
+/// - `ReadDir`: what is to be entered could not be listed, for a fault, or is no directory on disk:
+///   as the index calls it an up-to-date directory; at the traversal root also as it is an
+///   up-to-date repository, of the worktree set or excluded; and anything that a delegate of its
+///   own recursion looks into.
 /// - `DirEntry`: a name in a directory could not be had, for a fault.
-/// - `ExcludesAccess`: for a path whose class asks the rules, the rules file of a directory above it is a link that is
-///   not followed or without an end, or neither file nor directory, or could not be read, or is mapped to a blob that
-///   could not be had.
+/// - `ExcludesAccess`: for a path whose class asks the rules, the rules file of a directory above
+///   it is a link that is not followed or without an end, or neither file nor directory, or could
+///   not be read, or is mapped to a blob that could not be had.
 /// - `OutOfMemory`: memory was refused.
 ///
 /// See docs/DECISIONS.md#root-may-be-link.

@@ -5,8 +5,8 @@ use dir_classify::{Entry, Error};
 use gitbase_core::OutOfMemory;
 use std::alloc::Global;
 
-/// What a path hands up to the directory above it when it is done. It is public for the contracts, which name it; no public call
-/// takes or gives one.
+/// What a path hands up to the directory above it when it is done. It is public for the contracts,
+/// which name it; no public call takes or gives one.
 #[derive(Debug, Drop)]
 pub struct Handed {
     /// The entry that may go into that directory's own, if there is one.
@@ -15,7 +15,8 @@ pub struct Handed {
     pub blocks: bool,
 }
 
-/// Why a walk ends before it is done. It is public for the contracts, which name it; no public call takes or gives one.
+/// Why a walk ends before it is done. It is public for the contracts, which name it; no public call
+/// takes or gives one.
 #[derive(Debug, Drop)]
 pub enum Stop {
     /// It was refused.

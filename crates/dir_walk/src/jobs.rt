@@ -17,9 +17,10 @@ use std::alloc::Global;
 use worktree_fs::{Interrupt, Worktree};
 use worktree_stack::Stack;
 
-/// Walks a directory that is entered, at `place` and of the class `class`, as a job: over a fork of the worktree, the store
-/// and the interrupt, and with rules that are made as `excludes` were and of which nothing is pushed. Each fork is
-/// absorbed when the job is done, and where it is refused too.
+/// Walks a directory that is entered, at `place` and of the class `class`, as a job: over a fork of
+/// the worktree, the store and the interrupt, and with rules that are made as `excludes` were and
+/// of which nothing is pushed. Each fork is absorbed when the job is done, and where it is refused
+/// too.
 pub(crate) fn walk_job<W: Worktree, F: Find, I: Interrupt, M: Matcher, D: Delegate>(
     alloc: Global,
     shared: &Shared<'_, M>,

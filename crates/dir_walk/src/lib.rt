@@ -1,8 +1,9 @@
-//! The walk of a worktree: every path below its traversal root with its class, directory by directory. What a name hands up is
-//! held until the directory's names are done; then the directory is folded over it, or it is put out.
+//! The walk of a worktree: every path below its traversal root with its class, directory by
+//! directory. What a name hands up is held until the directory's names are done; then the directory
+//! is folded over it, or it is put out.
 //!
-//! [`walk`] gives what it finds to a [`Delegate`]; [`walk_by_path`] keeps it in the order of paths; [`walk_at_once`] walks
-//! each subtree of the traversal root as a job of its own.
+//! [`walk`] gives what it finds to a [`Delegate`]; [`walk_by_path`] keeps it in the order of paths;
+//! [`walk_at_once`] walks each subtree of the traversal root as a job of its own.
 #![tactic(auto)]
 
 pub mod at_once;

@@ -29,8 +29,8 @@ use gitbase_core::{OutOfMemory, PathText};
 use std::alloc::Global;
 use worktree_fs::{Interrupt, ListError, NameList, Worktree};
 
-/// Lists the names of a directory that is entered, unless the interrupt is raised. A last link is followed for the worktree root
-/// alone.
+/// Lists the names of a directory that is entered, unless the interrupt is raised. A last link is
+/// followed for the worktree root alone.
 ///
 /// See docs/DECISIONS.md#when-interrupt-is-asked.
 /// See docs/DIFFERENCES.md#gix-link-as-directory.

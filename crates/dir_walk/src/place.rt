@@ -11,11 +11,12 @@ use gitbase_core::{OutOfMemory, PathText, needs_slash};
 use std::alloc::Global;
 use std::marker::Model;
 
-/// A path of a worktree, relative to its root, in one text with the root: the relative path is the tail of the whole one.
-/// A walk goes on to a name by putting it behind the path of its directory, and back by cutting it off.
+/// A path of a worktree, relative to its root, in one text with the root: the relative path is the
+/// tail of the whole one. A walk goes on to a name by putting it behind the path of its directory,
+/// and back by cutting it off.
 ///
-/// Contracts see the root and the relative path, which is normal: one slash parts each two components, and none stands at
-/// the end.
+/// Contracts see the root and the relative path, which is normal: one slash parts each two
+/// components, and none stands at the end.
 #[derive(Drop)]
 pub(crate) struct Place {
     whole: PathText,
@@ -34,7 +35,8 @@ impl Model for Place {
 }
 
 impl Place {
-    /// The path `path` of a worktree; it is normal: one slash parts each two components, and none stands at the end.
+    /// The path `path` of a worktree; it is normal: one slash parts each two components, and none
+    /// stands at the end.
     pub fn at(alloc: Global, worktree_root: &[u8], path: &[u8]) -> Result<Place, OutOfMemory>
         requires normal { is_normal path.now ≡ true }
         requires plain { ends_in_slash path.now ≡ false }
@@ -72,7 +74,8 @@ impl Place {
         &whole[self.start..]
     }
 
-    /// Goes on to a name in the directory that stands here, and answers how long the directory's whole path is.
+    /// Goes on to a name in the directory that stands here, and answers how long the directory's
+    /// whole path is.
     #[inline(never)]
     pub fn push(&mut self, alloc: Global, name: &[u8]) -> Result<usize, OutOfMemory>
         requires { IsName name.now }
@@ -85,8 +88,8 @@ impl Place {
         Ok(length)
     }
 
-    /// Goes back to the directory whose whole path has so many bytes, where the walk of a name in it ended well. A walk that is
-    /// refused or broken ends wherever it stands.
+    /// Goes back to the directory whose whole path has so many bytes, where the walk of a name in
+    /// it ended well. A walk that is refused or broken ends wherever it stands.
     #[inline(never)]
     pub fn leave(&mut self, cut: usize, handed: &Result<Handed, Stop>)
         requires { (directory : Standing)

@@ -28,18 +28,21 @@ pub struct Report {
     pub outcome: Outcome,
     /// The whole path of the traversal root.
     pub root: PathText,
-    /// The entries that were not hidden, in ascending order of their paths, of which none stands twice.
+    /// The entries that were not hidden, in ascending order of their paths, of which none stands
+    /// twice.
     pub entries: EmittedEntries,
 }
 
-/// Walks a worktree as [`walk`](crate::walk) does with a delegate that recurses by default and keeps what it is given,
-/// or its subtrees at once, as [`walk_at_once`](crate::walk_at_once) does, and gives the entries in the order of their paths.
+/// Walks a worktree as [`walk`](crate::walk) does with a delegate that recurses by default and
+/// keeps what it is given, or its subtrees at once, as [`walk_at_once`](crate::walk_at_once) does,
+/// and gives the entries in the order of their paths.
 ///
 /// See docs/DECISIONS.md#walk-by-path.
 ///
 /// # Errors
 ///
-/// Those of [`walk`](crate::walk), each for the same causes; `OutOfMemory` also where none is left to sort the entries.
+/// Those of [`walk`](crate::walk), each for the same causes; `OutOfMemory` also where none is left
+/// to sort the entries.
 pub fn walk_by_path<W: Worktree, F: Find, I: Interrupt, M: Matcher>(
     alloc: Global,
     worktree_root: &[u8],

@@ -16,14 +16,15 @@ use glob_rules::pathspec::Matcher;
 use std::alloc::Global;
 use worktree_fs::{NodeKind, ReadError, Worktree, next_component};
 
-/// The traversal root, relative to the worktree root and normal: the one that is handed in, else the common directory of
-/// what the path specs match, where that is a directory, else the worktree root. A fault of the question whether the
-/// common directory is one leaves the worktree root.
+/// The traversal root, relative to the worktree root and normal: the one that is handed in, else
+/// the common directory of what the path specs match, where that is a directory, else the worktree
+/// root. A fault of the question whether the common directory is one leaves the worktree root.
 ///
 /// # Errors
 ///
 /// - `NormalizeRoot`: it is absolute, or leads out of the worktree.
-/// - `SymlinkMetadata`: one of its components is not there, or its kind could not be had, which the worktree counted.
+/// - `SymlinkMetadata`: one of its components is not there, or its kind could not be had, which the
+///   worktree counted.
 /// - `SymlinkInRoot`: one of its components is a link, and no earlier one is.
 /// - `OutOfMemory`: memory was refused.
 ///
@@ -87,8 +88,8 @@ fn root_asked<W: Worktree, M: Matcher>(
     }
 }
 
-/// The common directory of what the path specs match, where it is a directory, its last link followed; else the worktree root. A
-/// fault of that question reads as no directory.
+/// The common directory of what the path specs match, where it is a directory, its last link
+/// followed; else the worktree root. A fault of that question reads as no directory.
 ///
 /// See docs/DECISIONS.md#common-link.
 /// See docs/DECISIONS.md#swallowed-faults.

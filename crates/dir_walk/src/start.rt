@@ -42,8 +42,8 @@ use std::alloc::Global;
 use worktree_fs::{Interrupt, Worktree};
 use worktree_stack::Stack;
 
-/// The kind by which a traversal root is entered or not: for the worktree root a link to a directory counts as one. A
-/// fault of the question where it leads reads as no directory.
+/// The kind by which a traversal root is entered or not: for the worktree root a link to a
+/// directory counts as one. A fault of the question where it leads reads as no directory.
 fn root_kind<W: Worktree, M: Matcher>(
     alloc: Global,
     shared: &Shared<'_, M>,
@@ -76,7 +76,8 @@ fn is_link_at_top(reached: &RootOutcome) -> bool
     reached.path.as_bytes().is_empty() & link
 }
 
-/// Whether the walk enters the traversal root: where the way led there, and the delegate looks into it.
+/// Whether the walk enters the traversal root: where the way led there, and the delegate looks into
+/// it.
 fn is_root_entered<W: Worktree, M: Matcher, D: Delegate>(
     alloc: Global,
     shared: &Shared<'_, M>,
@@ -130,8 +131,8 @@ fn seen_as(class: &classify::Outcome, disk_kind: Option<Kind>) -> classify::Outc
     }
 }
 
-/// Puts out the one entry of a walk that enters nothing; `root` is the traversal root. A worktree root that is no directory is
-/// refused.
+/// Puts out the one entry of a walk that enters nothing; `root` is the traversal root. A worktree
+/// root that is no directory is refused.
 ///
 /// See docs/DECISIONS.md#nothing-entered.
 fn put_root<D: Delegate, M: Matcher>(

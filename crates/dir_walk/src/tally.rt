@@ -1,7 +1,7 @@
 //! What the entries that a directory holds have in common.
 
-/// How many of the held entries pass each test that a fold asks for. It is public for the definitions, which name it; no public
-/// call takes or gives one.
+/// How many of the held entries pass each test that a fold asks for. It is public for the
+/// definitions, which name it; no public call takes or gives one.
 #[derive(Clone, Copy, Debug, PartialEq, Eq)]
 pub struct Tally {
     /// All of them.

@@ -1,10 +1,8 @@
 -- What all configurations of a work tree say.
 use Rattle.std.specs.Prelude.{ℕ, Bool, true, codes, bytes_eq, List, [], ◌∷◌, ◌++◌, Option, Some, None, option_and_then, unwrap_or, Result, Ok, Err, if◌then◌else◌}
 use Rattle.std.specs.List.{list_any}
-use Rattle.git_config_lite.specs.declared.metadata.Metadata.{Metadata}
 use Rattle.git_config_lite.specs.declared.metadata.Source.{Source}
-use Rattle.git_config_lite.specs.declared.metadata.Source.TheVariants.{Api}
-use Rattle.git_config_lite.specs.Sections.{Section, Configuration}
+use Rattle.git_config_lite.specs.Sections.{Section, Configuration, joint_meta}
 use Rattle.git_places.specs.GitDirectory.{dot_git}
 use Rattle.git_places.specs.Places.{Layout}
 use Rattle.git_places.specs.Surroundings.{Surroundings}
@@ -70,10 +68,6 @@ appearing files (key ∷ keys) = appearing (with_file files key.meta.source key.
 pub record Stack : Type 0 where
   pub file : Configuration  -- what all the files say, each key by itself, with what is included in place
   pub files : List Configured  -- the files in which these keys stand, in the order in which they first appear
-
--- where several files are read together: in no file
-abbrev pub joint_meta : Metadata
-joint_meta = record { source = Api; path = None }
 
 abbrev pub stack_of : List Section → Stack
 stack_of keys = record { file = record { meta = joint_meta; sections = keys }; files = appearing [] keys }

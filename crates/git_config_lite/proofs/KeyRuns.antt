@@ -54,23 +54,23 @@ ties-beyond true b h = refl
 
 module _ {X : Type 0} (is_before : X → X → Bool) (order : IsStrictWeakOrder is_before) (xs : List X) (up : IsSortedBy is_before xs) (one : X) where
   -- an element stands before one, or not behind it
-  abbrev pub is_under : X → Bool
-  is_under p = is_before p one
+  abbrev pub is_less : X → Bool
+  is_less p = is_before p one
 
-  abbrev pub is_within : X → Bool
-  is_within p = not (is_before one p)
+  abbrev pub is_at_most : X → Bool
+  is_at_most p = not (is_before one p)
 
-  pub parted-under : IsPartitionedBy is_under xs
-  parted-under i j d low high h = go (is_under (get_or xs i d)) refl
+  pub parted-under : IsPartitionedBy is_less xs
+  parted-under i j d low high h = go (is_less (get_or xs i d)) refl
     where
-      go : (t : Bool) → is_under (get_or xs i d) ≡ t → t ≡ true
+      go : (t : Bool) → is_less (get_or xs i d) ≡ t → t ≡ true
       go true e = refl
       go false e =
           let far = sorted_far is_before order xs up i j d low high in
           let under = order.chain (get_or xs j d) (get_or xs i d) one far e in
-          absurd (not_both (is_under (get_or xs j d)) under h)
+          absurd (not_both (is_less (get_or xs j d)) under h)
 
-  pub parted-within : (start : ℕ) → IsPartitionedBy is_within (drop start xs)
+  pub parted-within : (start : ℕ) → IsPartitionedBy is_at_most (drop start xs)
   parted-within start i j d low high h =
       let size = length-drop start xs in
       let far = sorted_far is_before order xs up (start + i) (start + j) d (omega arith) (omega arith) in
@@ -79,16 +79,16 @@ module _ {X : Type 0} (is_before : X → X → Bool) (order : IsStrictWeakOrder 
       rw (get_or-drop start xs i d, at_i) refl
 
   pub run_is : (start more : ℕ) → start ≤ length xs → more ≤ length (drop start xs)
-      → IsPartitionPoint (λ p. is_under p ≡ true) (λ p. is_under p ≡ false) xs start
-      → IsPartitionPoint (λ p. is_within p ≡ true) (λ p. is_within p ≡ false) (drop start xs) more
+      → IsPartitionPoint (λ p. is_less p ≡ true) (λ p. is_less p ≡ false) xs start
+      → IsPartitionPoint (λ p. is_at_most p ≡ true) (λ p. is_at_most p ≡ false) (drop start xs) more
       → take more (drop start xs) ≡ filter (ties is_before one) xs
   run_is start more low fits first second =
       let size = length-drop start xs in
       sym (filter-run (ties is_before one) xs start more
-      (λ k d below high. ties-under (is_before one (get_or xs k d)) (is_under (get_or xs k d)) (first.0 k d (omega arith) (omega arith)))
-      (λ k d below high. ties-both (is_before one (get_or (drop start xs) k d)) (is_under (get_or (drop start xs) k d))
+      (λ k d below high. ties-under (is_before one (get_or xs k d)) (is_less (get_or xs k d)) (first.0 k d (omega arith) (omega arith)))
+      (λ k d below high. ties-both (is_before one (get_or (drop start xs) k d)) (is_less (get_or (drop start xs) k d))
       (second.0 k d (omega arith) (omega arith)) (rw (get_or-drop start xs k d) (first.1 (start + k) d (omega arith) (omega arith))))
-      (λ k d from high. ties-beyond (is_before one (get_or (drop start xs) k d)) (is_under (get_or (drop start xs) k d))
+      (λ k d from high. ties-beyond (is_before one (get_or (drop start xs) k d)) (is_less (get_or (drop start xs) k d))
       (second.1 k d (omega arith) (omega arith))))
 
 -- what `get` answers, as an element

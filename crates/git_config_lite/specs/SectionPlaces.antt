@@ -28,12 +28,12 @@ abbrev pub is_before : SectionPlace → SectionPlace → Bool
 is_before a b = is_lt (slice_cmp nat_cmp a.key b.key)
 
 -- the text of a place is less than this one
-abbrev pub is_under : List ℕ → SectionPlace → Bool
-is_under key p = is_before p (section_place key 0)
+abbrev pub is_less : List ℕ → SectionPlace → Bool
+is_less key p = is_before p (section_place key 0)
 
 -- the text of a place is not greater than this one
-abbrev pub is_within : List ℕ → SectionPlace → Bool
-is_within key p = not (is_before (section_place key 0) p)
+abbrev pub is_at_most : List ℕ → SectionPlace → Bool
+is_at_most key p = not (is_before (section_place key 0) p)
 
 -- a place has this text
 abbrev pub has_key : List ℕ → SectionPlace → Bool

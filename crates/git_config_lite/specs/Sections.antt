@@ -1,6 +1,7 @@
 -- The sections of a configuration.
-use Rattle.std.specs.Prelude.{ℕ, List, [], ◌∷◌, ◌++◌, Option}
+use Rattle.std.specs.Prelude.{ℕ, List, [], ◌∷◌, ◌++◌, Option, None}
 use Rattle.git_config_lite.specs.declared.metadata.Metadata.{Metadata}
+use Rattle.git_config_lite.specs.declared.metadata.Source.TheVariants.{Api}
 use Rattle.git_config_lite.specs.declared.entry.Entry.{Entry}
 
 -- a section: its name, its subsection where it has one, where it was read, and its keys in order
@@ -14,6 +15,10 @@ pub record Section : Type 0 where
 pub record Configuration : Type 0 where
   pub meta : Metadata
   pub sections : List Section
+
+-- where several files are read together: in no file, and put together by the calling program
+abbrev pub joint_meta : Metadata
+joint_meta = record { source = Api; path = None }
 
 -- a section without keys
 abbrev pub empty_section : List ℕ → Option (List ℕ) → Metadata → Section

@@ -2,31 +2,18 @@
 --
 -- A byte order mark of UTF-8 at the start is skipped. A line ends at an LF, and a CR before that is none of it. Spaces and
 -- tabs at the start of a line are skipped. A comment begins with `#` or `;`.
-use Rattle.std.specs.Prelude.{ℕ, List, [], ◌∷◌, Bool, true, false, not, nat_eq, nat_le, ◌==◌, ◌&&◌, ◌||◌, drop, length, map, position, unwrap_or, if◌then◌else◌}
-use Rattle.std.specs.List.{starts_with}
+use Rattle.std.specs.Prelude.{ℕ, List, [], ◌∷◌, Bool, true, false, not, ◌==◌, ◌||◌, length, map, position, unwrap_or, if◌then◌else◌}
 use Rattle.bstr.specs.Text.{lines_of, without_terminator}
-
--- the text without a byte order mark at its start
-abbrev pub without_mark : List ℕ → List ℕ
-without_mark text = if starts_with nat_eq text (239 ∷ 187 ∷ 191 ∷ []) then drop 3 text else text
+pub use Rattle.gitbase_core.specs.Letters.{is_blank, is_letter, is_digit}
+pub use Rattle.gitbase_core.specs.Text.{without_mark}
 
 -- the lines of a text, without their ends
 abbrev pub text_lines : List ℕ → List (List ℕ)
 text_lines text = map without_terminator (lines_of (without_mark text))
 
--- a space or a tab
-abbrev pub is_blank : ℕ → Bool
-is_blank b = b == 32 || b == 9
-
 -- `#` or `;`
 abbrev pub begins_comment : ℕ → Bool
 begins_comment b = b == 35 || b == 59
-
-abbrev pub is_letter : ℕ → Bool
-is_letter b = (nat_le 65 b && nat_le b 90) || (nat_le 97 b && nat_le b 122)
-
-abbrev pub is_digit : ℕ → Bool
-is_digit b = nat_le 48 b && nat_le b 57
 
 -- a byte of a key: a letter, a digit or a hyphen
 abbrev pub is_key_byte : ℕ → Bool

@@ -27,8 +27,8 @@ use std::mem;
 pub struct File {
     meta: Metadata,
     sections: Vec<Section>,
-    /// By which sections are found; none where they were not read, where some were pushed since, or where memory for them
-    /// was refused.
+    /// By which sections are found; none where they were not read, where some were pushed since, or
+    /// where memory for them was refused.
     runs: Vec<Run>,
 }
 
@@ -61,8 +61,8 @@ impl File {
     ///
     /// # Errors
     ///
-    /// - `Syntax` names the first line outside the grammar, counted from 1. A fault in a value that goes on over several
-    ///   lines is named by the line on which it stands.
+    /// - `Syntax` names the first line outside the grammar, counted from 1. A fault in a value that
+    ///   goes on over several lines is named by the line on which it stands.
     /// - `OutOfMemory` for want of memory.
     pub fn from_bytes(alloc: Global, bytes: &[u8], meta: Metadata) -> Result<File, ParseError>
         ensures { ParseGives result meta bytes.now }
@@ -71,8 +71,8 @@ impl File {
         Ok(File::from_sections(alloc, meta, draft.sections))
     }
 
-    /// A configuration of these sections, in their order. It takes memory for an index, and goes without where that is refused.
-    /// See docs/DECISIONS.md#slower-without-memory.
+    /// A configuration of these sections, in their order. It takes memory for an index, and goes
+    /// without where that is refused. See docs/DECISIONS.md#slower-without-memory.
     pub fn from_sections(alloc: Global, meta: Metadata, sections: Vec<Section>) -> File
         ensures sections { result.sections ≡ sections.items }
         ensures meta { result.meta ≡ meta }
@@ -107,8 +107,8 @@ impl File {
         &self.meta
     }
 
-    /// The sections of a name, in order, whatever their subsections. The name is compared without regard to the case of
-    /// ASCII letters.
+    /// The sections of a name, in order, whatever their subsections. The name is compared without
+    /// regard to the case of ASCII letters.
     pub fn sections_by_name<'a>(&'a self, name: &'a [u8]) -> Sections<'a>
         ensures { result ≡ lookups.sections_named (Some name.now) self.now.sections }
     {
@@ -122,10 +122,11 @@ impl File {
         Sections::all(&self.sections)
     }
 
-    /// The last value of a key in the sections of a name and subsection; empty where that key has no value.
+    /// The last value of a key in the sections of a name and subsection; empty where that key has
+    /// no value.
     ///
-    /// Names and keys are compared without regard to the case of ASCII letters, subsections by their bytes; without a
-    /// subsection only sections without one are asked.
+    /// Names and keys are compared without regard to the case of ASCII letters, subsections by
+    /// their bytes; without a subsection only sections without one are asked.
     pub fn string(&self, section: &[u8], subsection: Option<&[u8]>, key: &[u8]) -> Option<&[u8]>
         ensures { option_copied result ≡ lookups.string section.now
             (option_copied subsection.entry) key.now self.now.sections }
@@ -153,7 +154,8 @@ impl File {
         }
     }
 
-    /// All values of a key in the sections of a name and subsection, in order, compared as `string` does.
+    /// All values of a key in the sections of a name and subsection, in order, compared as `string`
+    /// does.
     pub fn strings<'a>(
         &'a self,
         section: &'a [u8],
@@ -168,9 +170,9 @@ impl File {
 
     /// What the last value of a key says as a boolean. A key without a value says true.
     ///
-    /// Whatever the case of letters, `yes`, `on` and `true` are true, and `no`, `off`, `false` and the empty text false.
-    /// So is a number with an optional sign and an optional suffix `k`, `m` or `g`, which is true unless it is 0. The
-    /// error has any other text.
+    /// Whatever the case of letters, `yes`, `on` and `true` are true, and `no`, `off`, `false` and
+    /// the empty text false. So is a number with an optional sign and an optional suffix `k`, `m`
+    /// or `g`, which is true unless it is 0. The error has any other text.
     pub fn boolean(
         &self,
         section: &[u8],
@@ -183,11 +185,12 @@ impl File {
         truth_found(self.found(section, subsection, key))
     }
 
-    /// Adds the sections of another configuration behind these. They keep where they were read, and this configuration
-    /// keeps where it was read; it stays as it was where memory is refused. The room for the sections comes from the
-    /// allocator that made this configuration, and that for finding them from `alloc`: where only the latter is refused,
-    /// look-ups are slower. Of configurations that are appended one after another each section is sorted anew only where
-    /// no fewer stand behind it, so a logarithm of their number of times.
+    /// Adds the sections of another configuration behind these. They keep where they were read, and
+    /// this configuration keeps where it was read; it stays as it was where memory is refused. The
+    /// room for the sections comes from the allocator that made this configuration, and that for
+    /// finding them from `alloc`: where only the latter is refused, look-ups are slower. Of
+    /// configurations that are appended one after another each section is sorted anew only where no
+    /// fewer stand behind it, so a logarithm of their number of times.
     pub fn append(&mut self, alloc: Global, other: File) -> Result<(), OutOfMemory>
         ensures appended { OnOk result (self.new ≡ writers.appended self.old other) }
         ensures refused { OnErr result (self.new ≡ self.old) }
@@ -212,8 +215,9 @@ impl File {
 
     /// Adds an empty section with a subsection at the end, read where this configuration was read.
     ///
-    /// A name has letters, digits, hyphens and dots, and is not empty. A subsection is any bytes; one that is read has no
-    /// LF and no NUL. The configuration stays as it was where memory is refused.
+    /// A name has letters, digits, hyphens and dots, and is not empty. A subsection is any bytes;
+    /// one that is read has no LF and no NUL. The configuration stays as it was where memory is
+    /// refused.
     ///
     /// See docs/DECISIONS.md#any-subsection.
     pub fn push_section(
@@ -236,8 +240,8 @@ impl File {
 
     /// Adds a key with a value at the end of the last section, which has to be there.
     ///
-    /// A key begins with a letter, and has letters, digits and hyphens; a value is any bytes. The configuration stays as
-    /// it was where memory is refused.
+    /// A key begins with a letter, and has letters, digits and hyphens; a value is any bytes. The
+    /// configuration stays as it was where memory is refused.
     pub fn push_value(&mut self, alloc: Global, key: &[u8], value: &[u8]) -> Result<(), OutOfMemory>
         requires section { 0 < length self.old.sections }
         requires key { IsTrue (writers.is_key_name key.now) }

@@ -65,9 +65,9 @@ fn header_behind<'a>(
     Ok(with_subsection(name, found))
 }
 
-/// The header at the start of some bytes, behind its opening bracket. None where it is outside the grammar.
-/// See docs/DIFFERENCES.md#config-second-header.
-/// See docs/DIFFERENCES.md#config-open-header.
+/// The header at the start of some bytes, behind its opening bracket. None where it is outside the
+/// grammar. See docs/DIFFERENCES.md#config-second-header. See
+/// docs/DIFFERENCES.md#config-open-header.
 pub fn header_at(alloc: Global, bytes: &[u8]) -> Result<Option<HeadedLine<'_>>, OutOfMemory>
     ensures { IfOk result (λ found. option_map seen.headed found ≡ headers.header_at bytes.now) }
 {

@@ -1,5 +1,5 @@
-//! How sections are found while a configuration grows: they are indexed run by run, so that an index is made of those that
-//! are added, and of those before them only where these are no more.
+//! How sections are found while a configuration grows: they are indexed run by run, so that an
+//! index is made of those that are added, and of those before them only where these are no more.
 ghost use Rattle.std.specs.Prelude.{◌≡◌, ◌≤◌, ◌++◌, ◌∷◌, [], length, take, drop, option_copied, option_map, reverse, IfSome};
 ghost use Rattle.git_config_lite.specs.Lookups as lookups;
 ghost use Rattle.git_config_lite.specs.declared.run.Run as declared;
@@ -63,8 +63,8 @@ fn short_last(runs: &[Run], start: usize, total: usize) -> Option<usize>
     Some(run.start)
 }
 
-/// Takes off the last runs as long as they have no more sections than stand behind them, and says how many sections the runs
-/// that are left have.
+/// Takes off the last runs as long as they have no more sections than stand behind them, and says
+/// how many sections the runs that are left have.
 fn without_short(runs: &mut Vec<Run>, sections: &[Section], start: usize) -> usize
     requires start { start ≤ length sections.now }
     requires runs { AreRunsOf (reverse runs.old.items) (take start sections.now) }
@@ -79,7 +79,8 @@ fn without_short(runs: &mut Vec<Run>, sections: &[Section], start: usize) -> usi
     end
 }
 
-/// Runs with one more behind them, of all sections that they don't have; no runs where memory is refused.
+/// Runs with one more behind them, of all sections that they don't have; no runs where memory is
+/// refused.
 fn with_rest(alloc: Global, runs: Vec<Run>, sections: &[Section], start: usize) -> Vec<Run>
     requires start { start ≤ length sections.now }
     requires runs { AreRunsOf (reverse runs.items) (take start sections.now) }
@@ -95,7 +96,8 @@ fn with_rest(alloc: Global, runs: Vec<Run>, sections: &[Section], start: usize) 
     }
 }
 
-/// The runs of sections of which the first have these runs, if any; no runs where memory is refused.
+/// The runs of sections of which the first have these runs, if any; no runs where memory is
+/// refused.
 pub fn runs_of(alloc: Global, runs: Vec<Run>, sections: &[Section], start: usize) -> Vec<Run>
     requires start { start ≤ length sections.now }
     requires runs { AreRunsOf (reverse runs.items) (take start sections.now) }

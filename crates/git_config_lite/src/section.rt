@@ -34,7 +34,8 @@ impl Model for Section {
 }
 
 impl Section {
-    /// A section without keys. The name is taken as it is: [`is_section_name`](crate::is_section_name) tells what a header can have.
+    /// A section without keys. The name is taken as it is:
+    /// [`is_section_name`](crate::is_section_name) tells what a header can have.
     pub fn new(
         alloc: Global,
         name: &[u8],
@@ -65,7 +66,8 @@ impl Section {
         &self.entries
     }
 
-    /// The subsection, if there is one. A header `[name ""]` has an empty one, and `[name]` has none.
+    /// The subsection, if there is one. A header `[name ""]` has an empty one, and `[name]` has
+    /// none.
     pub fn subsection_name(&self) -> Option<&[u8]>
         ensures { option_copied result ≡ self.now.subsection }
     {
@@ -75,8 +77,8 @@ impl Section {
         }
     }
 
-    /// The last value of a key, whose name is compared without regard to the case of ASCII letters; empty where that
-    /// key has no value, and None where the section has no such key.
+    /// The last value of a key, whose name is compared without regard to the case of ASCII letters;
+    /// empty where that key has no value, and None where the section has no such key.
     pub fn value(&self, key: &[u8]) -> Option<&[u8]>
         ensures { option_copied result ≡ lookups.section_value key.now self.now }
     {
@@ -143,8 +145,8 @@ impl Section {
     }
 }
 
-/// Adds a key at the end of the last section; without a section it is dropped. The sections stay as they were where
-/// memory is refused.
+/// Adds a key at the end of the last section; without a section it is dropped. The sections stay as
+/// they were where memory is refused.
 pub fn add_entry(sections: &mut Vec<Section>, entry: Entry) -> Result<(), OutOfMemory>
     ensures added { OnOk result (sections.new.items ≡ words.adding_entry entry sections.old.items) }
     ensures refused { OnErr result (sections.new.items ≡ sections.old.items) }

@@ -44,8 +44,8 @@ fn subsection_byte(is_escaped: bool, byte: u8) -> SubsectionByte
     }
 }
 
-/// The subsection at the start of some bytes, behind its opening quote. None where it is not closed, or has a NUL.
-/// See docs/DIFFERENCES.md#config-nul-subsection.
+/// The subsection at the start of some bytes, behind its opening quote. None where it is not
+/// closed, or has a NUL. See docs/DIFFERENCES.md#config-nul-subsection.
 pub fn quoted(alloc: Global, bytes: &[u8]) -> Result<Option<QuotedText<'_>>, OutOfMemory>
     ensures { IfOk result (λ found. option_map seen.quoted found ≡ quoted_from false bytes.now) }
 {

@@ -47,7 +47,8 @@ pub fn is_name_byte(byte: u8) -> bool
     is_key_byte(byte) || byte == b'.'
 }
 
-/// Whether a text is the name of a section: letters, digits, hyphens and dots, and at least one of them.
+/// Whether a text is the name of a section: letters, digits, hyphens and dots, and at least one of
+/// them.
 pub fn is_section_name(name: &[u8]) -> bool
     ensures { result ≡ writers.is_name name.now }
 {

@@ -38,9 +38,9 @@ fn piece_end(elements: Vec<Element>, place: Place) -> Option<Piece>
     })
 }
 
-/// A value with one more line, behind the elements of its earlier ones. None where the line is outside the grammar.
-/// See docs/DIFFERENCES.md#config-open-quote.
-/// See docs/DIFFERENCES.md#config-open-end.
+/// A value with one more line, behind the elements of its earlier ones. None where the line is
+/// outside the grammar. See docs/DIFFERENCES.md#config-open-quote. See
+/// docs/DIFFERENCES.md#config-open-end.
 pub fn read_piece(mut elements: Vec<Element>, line: &[u8]) -> Result<Option<Piece>, OutOfMemory>
     ensures { IfOk result
         (λ piece. piece ≡ option_map (before_piece elements.items) (piece_of line.now)) }

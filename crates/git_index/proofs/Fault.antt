@@ -5,7 +5,7 @@ use Rattle.std.specs.Cmp.Lexicographic.{bytes_decides}
 use Rattle.std.specs.List.{list_any}
 use Rattle.byteorder.specs.Endian.{big_number, big_bytes}
 use Rattle.gitbase_core.specs.declared.entry.IndexEntry.{IndexEntry}
-use Rattle.git_index.specs.Steps.{and_then}
+use Rattle.gitbase_core.specs.Steps.{and_then}
 use Rattle.git_index.specs.Parts.{is_nul, word}
 use Rattle.git_index.specs.Entries.{Entries, Listed, Read, entries_after, entry_at, last_path, none_listed, path_or, with_entry}
 use Rattle.git_index.specs.Extensions.{Extension, extension_at, extensions_after, is_optional, named_extension}

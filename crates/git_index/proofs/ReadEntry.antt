@@ -3,7 +3,7 @@ use Rattle.std.proofs.Common.{◌≡◌, refl, sym, ap, ◌∙◌, subst, arith,
 use Rattle.std.specs.List.{list_any, list_all}
 use Rattle.byteorder.specs.Endian.{big_number, big_bytes}
 use Rattle.gitbase_core.specs.declared.entry.Mode.{Mode}
-use Rattle.git_index.specs.Steps.{◌>>=◌}
+use Rattle.gitbase_core.specs.Steps.{◌>>=◌}
 use Rattle.git_index.specs.Parts.{Parted, front, is_nul, text, word}
 use Rattle.git_index.specs.Varint.{Number, leading_bytes, number, number_text}
 use Rattle.git_index.specs.Head.{Fixed, fixed_of, is_assumed, is_extended, mode_of, mode_with, stage_of, stat_of}

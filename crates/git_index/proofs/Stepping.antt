@@ -1,6 +1,6 @@
 -- Entries that are read, one after another.
 use Rattle.std.proofs.Common.{◌≡◌, ap, ◌∙◌, arith, ℕ, suc, ◌-◌, ◌<◌, List, length, Option, Some, None, Err, ok_or}
-use Rattle.git_index.specs.Steps.{and_then}
+use Rattle.gitbase_core.specs.Steps.{and_then}
 use Rattle.git_index.specs.Entries.{Listed, Read, entry_at, entries_after, last_path, with_entry}
 use Rattle.git_index.specs.declared.error.IndexFileError.TheVariants.{Entry}
 

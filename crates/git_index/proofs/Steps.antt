@@ -1,6 +1,6 @@
 -- Steps that gave something, read backwards: what each step before gave.
 use Rattle.std.proofs.Common.{◌≡◌, refl, ap, not, Bool, true, false, ◌&&◌, Option, Some, None, option_map, Result, Ok, Err, ok_or, if◌then◌else◌}
-use Rattle.git_index.specs.Steps.{◌>>=◌, and_then}
+use Rattle.gitbase_core.specs.Steps.{◌>>=◌, and_then}
 
 pub some_is : {X : Type 0} {x y : X} → Some x ≡ Some y → x ≡ y
 some_is e = cc

@@ -5,7 +5,7 @@ use Rattle.std.specs.List.{list_any, list_all}
 use Rattle.byteorder.specs.Endian.{big_number, big_bytes}
 use Rattle.byteorder.specs.Numbers.{big_number-reads_back, length-bytes_high_first}
 use Rattle.gitbase_core.specs.declared.entry.Mode.{Mode}
-use Rattle.git_index.specs.Steps.{◌>>=◌}
+use Rattle.gitbase_core.specs.Steps.{◌>>=◌}
 use Rattle.git_index.specs.Parts.{Parted, is_nul, text, word}
 use Rattle.git_index.specs.Varint.{Number, number_text}
 use Rattle.git_index.specs.Head.{Fixed, fixed_of, flags_of, mode_of, mode_with, stage_of, stat_of}

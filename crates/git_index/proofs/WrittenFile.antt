@@ -10,7 +10,7 @@ use Rattle.byteorder.specs.Endian.{big_number, big_bytes}
 use Rattle.byteorder.specs.Numbers.{big_number-reads_back, length-bytes_high_first}
 use Rattle.sha1.specs.Sha1.{sha1}
 use Rattle.gitbase_core.specs.declared.entry.IndexEntry.{IndexEntry}
-use Rattle.git_index.specs.Steps.{and_then}
+use Rattle.gitbase_core.specs.Steps.{and_then}
 use Rattle.git_index.specs.Parts.{is_nul, word}
 use Rattle.git_index.specs.Entries.{Listed, Read, entries_after, entry_at, last_path, none_listed, path_or, with_entry}
 use Rattle.git_index.specs.Extensions.{extension_at, extensions_after, is_optional, named_extension}

@@ -1,7 +1,7 @@
 -- The entries of an index file, one behind another: each is a head of 62 bytes, maybe a second pair of flags, and a path.
 use Rattle.std.specs.Prelude.{ℕ, zero, suc, ◌+◌, ◌-◌, List, [], ◌∷◌, ◌++◌, length, slice_get, Option, Some, None, Result, Ok, ok_or}
 use Rattle.gitbase_core.specs.declared.entry.IndexEntry.{IndexEntry}
-use Rattle.git_index.specs.Steps.{◌>>=◌, and_then}
+use Rattle.gitbase_core.specs.Steps.{◌>>=◌, and_then}
 use Rattle.git_index.specs.Parts.{front}
 use Rattle.git_index.specs.Head.{Fixed, fixed_of, flags_of, is_assumed, is_extended, stage_of}
 use Rattle.git_index.specs.More.{More, more_at}

@@ -6,7 +6,7 @@ use Rattle.std.specs.List.{list_all}
 use Rattle.sha1.specs.Sha1.{sha1}
 use Rattle.gitbase_core.specs.Entry.{mode_bits, dir_mode}
 use Rattle.gitbase_core.specs.declared.entry.IndexEntry.{IndexEntry}
-use Rattle.git_index.specs.Steps.{and_then}
+use Rattle.gitbase_core.specs.Steps.{and_then}
 use Rattle.git_index.specs.Parts.{is_nul, word}
 use Rattle.git_index.specs.Entries.{Entries, Listed, entries_after, none_listed}
 use Rattle.git_index.specs.Extensions.{extensions_after}

@@ -2,7 +2,7 @@
 -- out of a sparse worktree, to be added, and thirteen that are 0.
 use Rattle.std.specs.Prelude.{ℕ, ◌/◌, ◌%◌, Bool, false, not, ◌==◌, ◌&&◌, List, Option, Some, None, if◌then◌else◌}
 use Rattle.byteorder.specs.Endian.{big_number}
-use Rattle.git_index.specs.Steps.{◌>>=◌}
+use Rattle.gitbase_core.specs.Steps.{◌>>=◌}
 use Rattle.git_index.specs.Parts.{front}
 
 -- how many bytes it takes, what it says, and what is behind it

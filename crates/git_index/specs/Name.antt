@@ -2,7 +2,7 @@
 -- entry. In version 4 a number says how many bytes at its end the path before loses, and the rest of this one follows, with a NUL.
 use Rattle.std.specs.Prelude.{ℕ, ◌+◌, ◌-◌, ◌%◌, min, Bool, nat_le, ◌==◌, List, ◌++◌, length, take, Option, Some, None, option_map, if◌then◌else◌}
 use Rattle.std.specs.List.{list_all}
-use Rattle.git_index.specs.Steps.{◌>>=◌}
+use Rattle.gitbase_core.specs.Steps.{◌>>=◌}
 use Rattle.git_index.specs.Parts.{Parted, front, is_nul, text}
 use Rattle.git_index.specs.Varint.{number}
 use Rattle.git_index.specs.Head.{length_of}

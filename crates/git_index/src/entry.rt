@@ -19,7 +19,8 @@ pub struct Read<'a> {
     pub rest: &'a [u8],
 }
 
-/// The entry at the front of some bytes, behind an entry with the path `previous`; none where they begin with none.
+/// The entry at the front of some bytes, behind an entry with the path `previous`; none where they
+/// begin with none.
 pub fn entry_at<'a>(
     alloc: Global,
     version: u32,

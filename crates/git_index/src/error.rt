@@ -3,8 +3,9 @@ use gitbase_core::OutOfMemory;
 
 /// Why some bytes are no index file that is read here.
 ///
-/// Of several faults the first in this order is told: the length, the head, the sum, the first entry that is outside the
-/// grammar, the first such extension, and the first entry that stands for a directory.
+/// Of several faults the first in this order is told: the length, the head, the sum, the first
+/// entry that is outside the grammar, the first such extension, and the first entry that stands for
+/// a directory.
 #[derive(Clone, Copy, Debug, PartialEq, Eq, thiserror::Error)]
 pub enum IndexFileError {
     /// There are fewer bytes than those of a head and a sum, which are 32.
@@ -39,7 +40,8 @@ pub enum IndexFileError {
     /// The name of an extension that has to be understood, and is not.
     #[error("Unknown")]
     Unknown { name: [u8; 4] },
-    /// The first entry that stands for a directory, counted from 0, where no extension says that the index is sparse.
+    /// The first entry that stands for a directory, counted from 0, where no extension says that
+    /// the index is sparse.
     ///
     /// See docs/DIFFERENCES.md#git-index-directory.
     #[error("Directory")]

@@ -6,14 +6,16 @@ ghost use Rattle.git_index.specs.Seen.{extension_seen};
 use crate::error::IndexFileError;
 use crate::parts::word;
 
-/// What the head of an extension says: how many bytes are behind it, and whether it marks a sparse index.
+/// What the head of an extension says: how many bytes are behind it, and whether it marks a sparse
+/// index.
 #[derive(Clone, Copy)]
 struct Extension {
     size: u32,
     is_sparse: bool,
 }
 
-/// Whether one of the extensions marks a sparse index; or the first that is cut, or has to be understood and is not.
+/// Whether one of the extensions marks a sparse index; or the first that is cut, or has to be
+/// understood and is not.
 pub fn is_sparse_by(bytes: &[u8]) -> Result<bool, IndexFileError>
     ensures { result ≡ extensions.extensions_after 0 false bytes.now }
 {

@@ -26,8 +26,8 @@ const SUM_LENGTH: usize = 20;
 
 /// What an index file says.
 ///
-/// Contracts see a record: its entries as they stand, beside each what else the file says of it, and whether it is a
-/// sparse index.
+/// Contracts see a record: its entries as they stand, beside each what else the file says of it,
+/// and whether it is a sparse index.
 #[derive(Debug, Drop)]
 pub struct IndexFile {
     listed: Listed,
@@ -61,7 +61,8 @@ impl IndexFile {
         &self.listed.details
     }
 
-    /// Whether the index is a sparse one, in which an entry may stand for all that is beneath a directory.
+    /// Whether the index is a sparse one, in which an entry may stand for all that is beneath a
+    /// directory.
     pub fn is_sparse(&self) -> bool
         ensures { result ≡ self.now.is_sparse }
     {
@@ -79,8 +80,8 @@ impl IndexFile {
 
 /// The index of a file of git, in version 2, 3 or 4.
 ///
-/// The entries are those that the file says, as they stand: whether they may be an index is asked by
-/// `State::from_entries`, whose refusals have an entry's number too.
+/// The entries are those that the file says, as they stand: whether they may be an index is asked
+/// by `State::from_entries`, whose refusals have an entry's number too.
 ///
 /// # Errors
 ///
@@ -90,11 +91,12 @@ impl IndexFile {
 /// - `Signature`, `Version`: the first twelve are no head of a version that is read here.
 /// - `Sum`: the last twenty are neither the SHA-1 of those before nor all NUL.
 /// - `Entry`: the first entry outside the grammar, from 0.
-/// - `Extensions`, `Split`, `Unknown`: behind the entries, the first extension that is cut, that says that the index is
-///   split, or that has to be understood and is not.
-/// - `Directory`: the first entry that stands for a directory, from 0, where no extension marks a sparse index.
-/// - `OutOfMemory` for want of memory. The count in the head is not believed: room is made for no more entries than the
-///   bytes can hold.
+/// - `Extensions`, `Split`, `Unknown`: behind the entries, the first extension that is cut, that
+///   says that the index is split, or that has to be understood and is not.
+/// - `Directory`: the first entry that stands for a directory, from 0, where no extension marks a
+///   sparse index.
+/// - `OutOfMemory` for want of memory. The count in the head is not believed: room is made for no
+///   more entries than the bytes can hold.
 pub fn read_index(alloc: Global, bytes: &[u8]) -> Result<IndexFile, IndexFileError>
     // It answers what the bytes say, or what is wrong with them first; want of memory alone is free.
     ensures gives { GivesIndex result (files.index_of_bytes bytes.now) }
@@ -209,7 +211,8 @@ fn index_behind(read: Entries<'_>) -> Result<IndexFile, IndexFileError>
     marked_index(read.listed, is_sparse)
 }
 
-/// The index of these entries; refused where one stands for a directory, and the index is not sparse.
+/// The index of these entries; refused where one stands for a directory, and the index is not
+/// sparse.
 fn marked_index(listed: Listed, is_sparse: bool) -> Result<IndexFile, IndexFileError>
     ensures { result ≡ files.marked_index (listed_seen listed) is_sparse }
 {

@@ -1,7 +1,8 @@
 //! git's index file, read from its bytes: versions 2, 3 and 4.
 //!
-//! `read_index` answers the entries as they stand, beside each what else the file says of it, and whether the index is a
-//! sparse one. Whether the entries may be an index, in their order, stages and paths, is asked by `State::from_entries`.
+//! `read_index` answers the entries as they stand, beside each what else the file says of it, and
+//! whether the index is a sparse one. Whether the entries may be an index, in their order, stages
+//! and paths, is asked by `State::from_entries`.
 #![tactic(auto)]
 
 mod entries;

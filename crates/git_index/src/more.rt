@@ -14,7 +14,8 @@ pub struct More<'a> {
     pub rest: &'a [u8],
 }
 
-/// The second pair of flags, where the first says that it is there; none where it is outside the grammar.
+/// The second pair of flags, where the first says that it is there; none where it is outside the
+/// grammar.
 pub fn more_at(version: u32, extended: bool, bytes: &[u8]) -> Option<More<'_>>
     ensures value { option_map more_seen result ≡ mores.more_at version extended bytes.now }
     ensures small { IfSome result (λ more. more.size ≤ 2) }

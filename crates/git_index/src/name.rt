@@ -16,8 +16,8 @@ pub struct Named<'a> {
     pub rest: &'a [u8],
 }
 
-/// The path of an entry behind another, where `before` bytes of the entry are before it; none where it is outside the
-/// grammar. It is copied once.
+/// The path of an entry behind another, where `before` bytes of the entry are before it; none where
+/// it is outside the grammar. It is copied once.
 pub fn path_at<'a>(
     alloc: Global,
     version: u32,

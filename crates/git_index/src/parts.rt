@@ -53,7 +53,8 @@ pub fn are_nuls(bytes: &[u8]) -> bool
     bytes.iter().all(|byte| *byte == 0)
 }
 
-/// The number of four bytes at `place`, where such numbers follow one another and the first has place 0.
+/// The number of four bytes at `place`, where such numbers follow one another and the first has
+/// place 0.
 pub fn word(bytes: &[u8], place: usize) -> u32
     requires { 4 * place + 4 ≤ length bytes.now }
     ensures { result ≡ word place bytes.now }

@@ -9,10 +9,11 @@ pub struct Time {
     pub nanoseconds: u32,
 }
 
-/// What git saw of a file when it last took it for the entry's own, by the names of git's manual (gitformat-index(5)).
+/// What git saw of a file when it last took it for the entry's own, by the names of git's manual
+/// (gitformat-index(5)).
 ///
-/// Each number but the size is the lowest 32 bits of what stat(2) answered. All are 0 where git wrote an entry without
-/// looking.
+/// Each number but the size is the lowest 32 bits of what stat(2) answered. All are 0 where git
+/// wrote an entry without looking.
 #[derive(Clone, Copy, Debug, PartialEq, Eq)]
 pub struct Stat {
     /// When the file's own data last changed.
@@ -27,8 +28,8 @@ pub struct Stat {
     pub uid: u32,
     /// The group that owns the file.
     pub gid: u32,
-    /// The size in bytes, modulo 2^32; 0 also where git has to look at the file again, since it may have changed at the
-    /// moment at which the index was written.
+    /// The size in bytes, modulo 2^32; 0 also where git has to look at the file again, since it may
+    /// have changed at the moment at which the index was written.
     ///
     /// Where the size is a multiple of 2^32 and not 0, newer gits (from 2.43 on) write 2^31.
     pub size: u32,

@@ -15,8 +15,9 @@ use std::alloc::Global;
 use std::cmp::Ordering;
 use std::marker::Model;
 
-/// The numbers of the entries of an index in the order of their paths without regard to the case of ASCII letters, as
-/// gitoxide's `AccelerateLookup`: with it an entry is found by binary search where `ignore_case` holds.
+/// The numbers of the entries of an index in the order of their paths without regard to the case of
+/// ASCII letters, as gitoxide's `AccelerateLookup`: with it an entry is found by binary search
+/// where `ignore_case` holds.
 ///
 /// Contracts see the list of all numbers, ascending by folded path, then by number.
 ///
@@ -47,9 +48,11 @@ impl AccelerateLookup {
 }
 
 impl State {
-    /// The first entry, in the order of the index, whose path is `path` without regard to the case of ASCII letters.
+    /// The first entry, in the order of the index, whose path is `path` without regard to the case
+    /// of ASCII letters.
     ///
-    /// The lookup is one made from this index. A binary search finds the entry; no clause speaks of the cost.
+    /// The lookup is one made from this index. A binary search finds the entry; no clause speaks of
+    /// the cost.
     ///
     /// See docs/DECISIONS.md#first-without-case.
     pub fn entry_by_path_icase(&self, path: &[u8], lookup: &AccelerateLookup) -> Option<&IndexEntry>
@@ -59,11 +62,11 @@ impl State {
         entry_at(self.entries(), &lookup.numbers, path)
     }
 
-    /// The first entry, in the order of the index, whose path begins with `dir` and a slash without regard to the case of
-    /// ASCII letters.
+    /// The first entry, in the order of the index, whose path begins with `dir` and a slash without
+    /// regard to the case of ASCII letters.
     ///
-    /// The lookup is one made from this index. The entries beneath `dir` are found by binary search, and all their
-    /// numbers are looked at for the least; no clause speaks of this cost.
+    /// The lookup is one made from this index. The entries beneath `dir` are found by binary
+    /// search, and all their numbers are looked at for the least; no clause speaks of this cost.
     pub fn entry_closest_to_directory_or_directory_icase(
         &self,
         dir: &[u8],
@@ -75,7 +78,8 @@ impl State {
         entry_beneath(self.entries(), &lookup.numbers, dir)
     }
 
-    /// Whether the index has an entry whose path is `path` without regard to the case of ASCII letters.
+    /// Whether the index has an entry whose path is `path` without regard to the case of ASCII
+    /// letters.
     ///
     /// The lookup is one made from this index. A binary search tells; no clause speaks of the cost.
     pub fn has_entry_icase(&self, path: &[u8], lookup: &AccelerateLookup) -> bool
@@ -85,10 +89,11 @@ impl State {
         self.entry_by_path_icase(path, lookup).is_some()
     }
 
-    /// Whether the index has an entry whose path begins with `dir` and a slash without regard to the case of ASCII letters.
+    /// Whether the index has an entry whose path begins with `dir` and a slash without regard to
+    /// the case of ASCII letters.
     ///
-    /// The lookup is one made from this index. Two binary searches tell, and no pass over these entries is made; no clause
-    /// speaks of the cost.
+    /// The lookup is one made from this index. Two binary searches tell, and no pass over these
+    /// entries is made; no clause speaks of the cost.
     pub fn has_entry_beneath_icase(&self, dir: &[u8], lookup: &AccelerateLookup) -> bool
         requires { IsLookupOf self.now lookup.now }
         ensures { result ≡ is_some (entry_beneath_icase dir.now self.now) }
@@ -96,13 +101,15 @@ impl State {
         has_beneath(self.entries(), &lookup.numbers, dir)
     }
 
-    /// What the index says of `path` without regard to the case of ASCII letters; a sparse directory is not told so.
+    /// What the index says of `path` without regard to the case of ASCII letters; a sparse
+    /// directory is not told so.
     ///
-    /// Let the entry at the path, and the first one beneath it, be those that the two look-ups above find. Without an
-    /// entry at the path the one beneath shows a directory, which is vouched for where that one is. An entry at the path
-    /// that is a submodule or a sparse directory tells its kind by its mode. Beside another one at the path the entry
-    /// beneath shows a directory where it stands right in the directory of just this spelling; else the entry at the
-    /// path tells its kind. The lookup is one made from this index.
+    /// Let the entry at the path, and the first one beneath it, be those that the two look-ups
+    /// above find. Without an entry at the path the one beneath shows a directory, which is vouched
+    /// for where that one is. An entry at the path that is a submodule or a sparse directory tells
+    /// its kind by its mode. Beside another one at the path the entry beneath shows a directory
+    /// where it stands right in the directory of just this spelling; else the entry at the path
+    /// tells its kind. The lookup is one made from this index.
     pub fn kinds_icase(&self, path: &[u8], lookup: &AccelerateLookup) -> IndexKinds
         requires { IsLookupOf self.now lookup.now }
         ensures { result ≡ kinds_icase self.now path.now }
@@ -170,8 +177,8 @@ fn has_beneath(entries: &[IndexEntry], numbers: &[usize], dir: &[u8]) -> bool
 
 /// What an entry beneath a path says of it.
 ///
-/// `ASSUME_VALID` vouches for a directory here, though not where case counts: gitoxide asks the entry as it asks one at
-/// the path.
+/// `ASSUME_VALID` vouches for a directory here, though not where case counts: gitoxide asks the
+/// entry as it asks one at the path.
 fn directory_kinds(beneath: Option<&IndexEntry>) -> IndexKinds
     ensures { result ≡ directory_kinds_icase (option_copied beneath.entry) }
 {
@@ -276,7 +283,8 @@ fn run(entries: &[IndexEntry], numbers: &[usize], front: &[u8], back: &[u8]) -> 
     (start, start + length)
 }
 
-/// Whether the path of the entry of a number, folded, stands before those that begin with `front` and `back` behind it.
+/// Whether the path of the entry of a number, folded, stands before those that begin with `front`
+/// and `back` behind it.
 fn stands_before(entries: &[IndexEntry], number: usize, front: &[u8], back: &[u8]) -> bool
     ensures { result
         ≡ is_lt (prefix_cmp (fold_case (front.now ++ back.now))
@@ -285,7 +293,8 @@ fn stands_before(entries: &[IndexEntry], number: usize, front: &[u8], back: &[u8
     prefix_cmp(path_of(entries, number), front, back).is_lt()
 }
 
-/// Whether the path of the entry of a number, folded, begins with `front` and `back` behind it, folded.
+/// Whether the path of the entry of a number, folded, begins with `front` and `back` behind it,
+/// folded.
 fn stands_among(entries: &[IndexEntry], number: usize, front: &[u8], back: &[u8]) -> bool
     ensures { result
         ≡ is_eq (prefix_cmp (fold_case (front.now ++ back.now))

@@ -52,15 +52,16 @@ impl Find for FailingStore {
     }
 }
 
-/// Looks for a blob in a fork of a store, and hands the fork back, also where the look-up was refused.
+/// Looks for a blob in a fork of a store, and hands the fork back, also where the look-up was
+/// refused.
 ///
 /// # Errors
 ///
 /// - `Fault`: the fork failed, and the store has counted it.
 /// - `OutOfMemory`: there is no room for the fork or for the bytes.
 ///
-/// Where the question was answered the count rises by nothing. By how much it rises where the question failed is told by no
-/// clause: the fork, which counted it, is gone when the call returns.
+/// Where the question was answered the count rises by nothing. By how much it rises where the
+/// question failed is told by no clause: the fork, which counted it, is gone when the call returns.
 pub fn find_in_fork<F: Find>(
     alloc: Global,
     store: &mut F,

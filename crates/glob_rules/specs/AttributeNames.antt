@@ -1,20 +1,13 @@
 -- The names of attributes, each once, in the order in which they are first seen: line by line, and in a line the name of a macro
 -- before those of the words.
-use Rattle.std.specs.Prelude.{◌≡◌, ◌⊎◌, ℕ, Bool, List, [], ◌∷◌, ◌++◌, map, bytes_eq, Result, OnOk, OnErr, if◌then◌else◌}
-use Rattle.std.specs.List.{list_any, flat_map}
+use Rattle.std.specs.Prelude.{◌≡◌, ◌⊎◌, ℕ, List, [], ◌∷◌, ◌++◌, map, Result, OnOk, OnErr, if◌then◌else◌}
+use Rattle.std.specs.List.{flat_map}
 use Rattle.gitbase_core.specs.declared.out_of_memory.OutOfMemory.{OutOfMemory}
+pub use Rattle.gitbase_core.specs.Among.{is_among, AreSame}
 use Rattle.glob_rules.specs.declared.attributes.line.Head.{Head}
 use Rattle.glob_rules.specs.declared.attributes.line.Head.TheVariants.{Paths, Macro}
 use Rattle.glob_rules.specs.declared.attributes.line.Line.{Line}
 use Rattle.glob_rules.specs.declared.attributes.word.Assigned.{Assigned}
-
--- a name is one of these
-abbrev pub is_among : List ℕ → List (List ℕ) → Bool
-is_among name names = list_any (bytes_eq name) names
-
--- two lists have the same names
-abbrev pub AreSame : List (List ℕ) → List (List ℕ) → Type 0
-AreSame names others = (name : List ℕ) → is_among name names ≡ is_among name others
 
 -- the names with one more, unless it is among them
 abbrev pub with_name : List (List ℕ) → List ℕ → List (List ℕ)

@@ -7,25 +7,13 @@
 --
 -- A name is made of letters, digits, `-`, `.` and `_`, at least one of them, and does not begin with `-`. A word of any other
 -- form, as `-a=v` or one with another byte in its name, says nothing. Spaces and tabs part the words.
-use Rattle.std.specs.Prelude.{ℕ, Bool, false, ◌&&◌, ◌||◌, List, [], ◌∷◌, drop, Option, Some, None, ◌==◌, if◌then◌else◌}
+use Rattle.std.specs.Prelude.{ℕ, Bool, false, ◌||◌, List, [], ◌∷◌, drop, Option, Some, None, ◌==◌, if◌then◌else◌}
 use Rattle.std.specs.List.{list_all, before_first, position_or_len, filter_map, slice_split}
-use Rattle.std.specs.Bool.{nat_le}
+pub use Rattle.gitbase_core.specs.Letters.{is_blank, is_letter, is_digit}
 use Rattle.glob_rules.specs.declared.attributes.Assignment.{Assignment}
 use Rattle.glob_rules.specs.declared.attributes.Assignment.TheVariants.{Set, Unset, Unspecified, Value}
 use Rattle.glob_rules.specs.declared.attributes.word.Assigned.{Assigned}
-use Rattle.glob_rules.specs.Marks.{space, tab, dash, dot, underscore, exclamation_mark, equals_sign}
-
--- a space or a tab
-abbrev pub is_blank : ℕ → Bool
-is_blank b = (b == space) || (b == tab)
-
--- an ASCII letter
-abbrev pub is_letter : ℕ → Bool
-is_letter b = (nat_le 65 b && nat_le b 90) || (nat_le 97 b && nat_le b 122)
-
--- a decimal digit
-abbrev pub is_digit : ℕ → Bool
-is_digit b = nat_le 48 b && nat_le b 57
+use Rattle.glob_rules.specs.Marks.{dash, dot, underscore, exclamation_mark, equals_sign}
 
 -- a letter, a digit, `-`, `.` or `_`
 abbrev pub is_name_byte : ℕ → Bool

@@ -1,5 +1,5 @@
-//! The attributes of paths, after gitattributes(5) and gitoxide's `gix_attributes`, whose `Search`, `Outcome` and
-//! `MetadataCollection` they are.
+//! The attributes of paths, after gitattributes(5) and gitoxide's `gix_attributes`, whose `Search`,
+//! `Outcome` and `MetadataCollection` they are.
 ghost use Rattle.std.specs.Prelude.{◌≡◌};
 
 use gitbase_core::Bytes;

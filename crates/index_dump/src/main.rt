@@ -1,9 +1,9 @@
 //! Prints what the index file on standard input says, for `scripts/compare-index`.
 //!
-//! First the number of entries, and ` sparse` where the index is; then for each entry what `git ls-files -s -v -z` prints,
-//! and its stat fields on a line, with `N` behind them where it is to be added and `S` where it is skipped. Or why the bytes
-//! are no index, with status 1. With a word of at most eight bytes after its name it reads the file alone, and prints the
-//! number.
+//! First the number of entries, and ` sparse` where the index is; then for each entry what
+//! `git ls-files -s -v -z` prints, and its stat fields on a line, with `N` behind them where it is
+//! to be added and `S` where it is skipped. Or why the bytes are no index, with status 1. With a
+//! word of at most eight bytes after its name it reads the file alone, and prints the number.
 #![tactic(auto)]
 
 use git_index::{Detail, IndexFile, IndexFileError, read_index};

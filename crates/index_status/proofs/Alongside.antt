@@ -129,8 +129,8 @@ module _ {W : Type 0} (w : WorktreeOf W) (w0 w1 w2 : W) (root : List ℕ) (entri
   contained : (before : List IndexEntry) → Contains (before ++ e ∷ rest) e
   contained before = Contains-append_right before (e ∷ rest) e (0, omega arith, refl)
 
-  pub along-stops : (Rose Rose' : Type 0) (error : StatesError) → (Rose → Rose') → StopsLook (IsAskedBy (w.told w1) root e) Rose error → Refuses (w.told w0) root entries Rose' error
-  along-stops Rose Rose' (errors.Fault path) more h = (
+  pub along-stops : (Failed Failed' : Type 0) (error : StatesError) → (Failed → Failed') → StopsLook (IsAskedBy (w.told w1) root e) Failed error → Refuses (w.told w0) root entries Failed' error
+  along-stops Failed Failed' (errors.Fault path) more h = (
     more h.0,
     record {
       entry = e;
@@ -138,7 +138,7 @@ module _ {W : Type 0} (w : WorktreeOf W) (w0 w1 w2 : W) (root : List ℕ) (entri
       asks = subst (λ (told : Option Names). IsAskedBy told root e path) at.keeps.tree h.1;
     },
   )
-  along-stops Rose Rose' errors.OutOfMemory more h = tt
+  along-stops Failed Failed' errors.OutOfMemory more h = tt
 
 -- what want of memory says, it says later too
 pub unless-later : (Then Later : Type 0) (error : StatesError) → (Then → Later) → UnlessFault {T = ℕ} (Err error) Then → UnlessFault {T = ℕ} (Err error) Later

@@ -48,9 +48,9 @@ always (Err e) p = tt
 
 -- ---- the states beside a report
 
-refused-states : (told : Option Names) (root : List ℕ) (entries : List IndexEntry) (Rose : Type 0) (e : StatesError) → Refuses told root entries Rose e → RefusesStates told root entries Rose (of_states e)
-refused-states told root entries Rose (states.Fault path) h = h
-refused-states told root entries Rose states.OutOfMemory h = tt
+refused-states : (told : Option Names) (root : List ℕ) (entries : List IndexEntry) (Failed : Type 0) (e : StatesError) → Refuses told root entries Failed e → RefusesStates told root entries Failed (of_states e)
+refused-states told root entries Failed (states.Fault path) h = h
+refused-states told root entries Failed states.OutOfMemory h = tt
 
 pub Compares-refused : {W : Type 0} {w : WorktreeOf W} {w0 w1 : W} {root : List ℕ} {entries : List IndexEntry} {report : Report} (e : StatesError)
     → Refuses (w.told w0) root entries (Increased (w.faults w0) (w.faults w1)) e → Asks w w0 w1 → w.reads w1 ≤ w.reads w0 + files_in entries → Compares w w0 w1 root entries report (Err (of_states e))

@@ -97,5 +97,5 @@ pub record IsAskedFor (told : Option Names) (root : List ℕ) (entries : List In
 
 -- why there are no states: the worktree failed at a path that is looked at
 abbrev pub Refuses : Option Names → List ℕ → List IndexEntry → Type 0 → StatesError → Type 0
-Refuses told root entries Rose (errors.Fault path) = Rose × IsAskedFor told root entries path
-Refuses told root entries Rose errors.OutOfMemory = Unit {0}
+Refuses told root entries Failed (errors.Fault path) = Failed × IsAskedFor told root entries path
+Refuses told root entries Failed errors.OutOfMemory = Unit {0}

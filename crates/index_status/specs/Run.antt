@@ -16,7 +16,7 @@ use Rattle.worktree_report.specs.Converted as converted
 use Rattle.worktree_report.specs.Orderly.{IsOrderlyText}
 use Rattle.worktree_report.specs.Run.{as_read, AnswersIf, HasCauses, IsReadyAt, IsSafeReport, Keeps, ListsOnce, ListsReport}
 use Rattle.worktree_report.specs.SetupAt.{setup_at}
-use Rattle.worktree_report.specs.Steps.{◌>>=◌}
+use Rattle.gitbase_core.specs.Steps.{◌>>=◌}
 use Rattle.worktree_report.specs.Words.{Places, places_behind}
 use Rattle.index_status.specs.declared.error.StatusError.{StatusError}
 use Rattle.index_status.specs.declared.error.StatusError.TheVariants as errors

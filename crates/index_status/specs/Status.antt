@@ -43,9 +43,9 @@ of_states states.OutOfMemory = errors.OutOfMemory
 
 -- the worktree failed at a path that is looked at for a state
 abbrev pub RefusesStates : Option Names → List ℕ → List IndexEntry → Type 0 → StatusError → Type 0
-RefusesStates told root entries Rose (errors.Report e) = ⊥
-RefusesStates told root entries Rose (errors.Fault path) = Rose × IsAskedFor told root entries path
-RefusesStates told root entries Rose errors.OutOfMemory = Unit {0}
+RefusesStates told root entries Failed (errors.Report e) = ⊥
+RefusesStates told root entries Failed (errors.Fault path) = Failed × IsAskedFor told root entries path
+RefusesStates told root entries Failed errors.OutOfMemory = Unit {0}
 
 -- The states beside a report that is made, where a worktree was `w0` and is `w1`.
 pub record Compares {W : Type 0} (w : WorktreeOf W) (w0 w1 : W) (root : List ℕ) (entries : List IndexEntry) (report : Report) (result : Result IndexStatus StatusError) : Type 0 where

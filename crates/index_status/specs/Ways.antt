@@ -60,13 +60,13 @@ IsBehind names name left = (left ≡ []) ⊎ (names ≡ name ∷ left)
 
 -- why what stands at a path was not learnt: the worktree failed there
 abbrev pub StopsLookAt : List ℕ → Type 0 → StatesError → Type 0
-StopsLookAt full Rose (errors.Fault path) = Rose × (path ≡ full)
-StopsLookAt full Rose errors.OutOfMemory = Unit {0}
+StopsLookAt full Failed (errors.Fault path) = Failed × (path ≡ full)
+StopsLookAt full Failed errors.OutOfMemory = Unit {0}
 
 -- the worktree failed at one of some paths
 abbrev pub StopsLook : (List ℕ → Type 0) → Type 0 → StatesError → Type 0
-StopsLook IsOne Rose (errors.Fault path) = Rose × IsOne path
-StopsLook IsOne Rose errors.OutOfMemory = Unit {0}
+StopsLook IsOne Failed (errors.Fault path) = Failed × IsOne path
+StopsLook IsOne Failed errors.OutOfMemory = Unit {0}
 
 -- it holds, unless the worktree is said to have failed
 abbrev pub UnlessFault : {T : Type 0} → Result T StatesError → Type 0 → Type 0

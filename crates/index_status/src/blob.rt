@@ -7,8 +7,8 @@ use gitbase_core::{Bytes, ObjectId, OutOfMemory};
 use sha1::Sha1;
 use std::alloc::Global;
 
-/// The id of the blob with these bytes, as `git hash-object` gives it without filters: the SHA-1 of `blob `, how many bytes
-/// there are, a zero byte and the bytes.
+/// The id of the blob with these bytes, as `git hash-object` gives it without filters: the SHA-1 of
+/// `blob `, how many bytes there are, a zero byte and the bytes.
 ///
 /// # Errors
 ///

@@ -16,24 +16,30 @@ use gitbase_core::{Flags, IndexEntry, OutOfMemory, PathText, State};
 use std::alloc::Global;
 use worktree_fs::Worktree;
 
-/// Each path of an index, once and in ascending order, with its state against the worktree, as `git diff-files` compares:
-/// the first of these that fits.
+/// Each path of an index, once and in ascending order, with its state against the worktree, as
+/// `git diff-files` compares: the first of these that fits.
 ///
 /// - `Conflicted`: the index has an entry of the path at another stage than 0.
-/// - `Skipped`: its entry is to be skipped or taken as unchanged, or is the directory of a sparse index.
-/// - `Deleted`: nothing is there, or what leads there from the root is not all directories; a link is none.
-/// - `Unchecked` and `TypeChanged`: for a submodule, whether there is a directory; for a link, whether there is one.
-/// - `TypeChanged`, `Same` and `Modified`: for a file, no file; one whose bytes have the id of the entry; any other.
+/// - `Skipped`: its entry is to be skipped or taken as unchanged, or is the directory of a sparse
+///   index.
+/// - `Deleted`: nothing is there, or what leads there from the root is not all directories; a link
+///   is none.
+/// - `Unchecked` and `TypeChanged`: for a submodule, whether there is a directory; for a link,
+///   whether there is one.
+/// - `TypeChanged`, `Same` and `Modified`: for a file, no file; one whose bytes have the id of the
+///   entry; any other.
 ///
-/// Bytes are compared as they are on disk, without filters. Each file is read once, and what leads to several paths beside one
-/// another is looked at once, whether it is there or not; a mark that an entry was up to date saves no reading.
+/// Bytes are compared as they are on disk, without filters. Each file is read once, and what leads
+/// to several paths beside one another is looked at once, whether it is there or not; a mark that
+/// an entry was up to date saves no reading.
 ///
 /// # Errors
 ///
 /// The count of the worktree's faults rises for `Fault` alone.
 ///
-/// - `Fault`: the worktree failed at this path, which it counted. It is on the way to that of an entry whose state is neither
-///   `Conflicted` nor `Skipped`, or there, and over a told tree everything before it on that way is a directory.
+/// - `Fault`: the worktree failed at this path, which it counted. It is on the way to that of an
+///   entry whose state is neither `Conflicted` nor `Skipped`, or there, and over a told tree
+///   everything before it on that way is a directory.
 /// - `OutOfMemory`: memory was refused.
 ///
 /// See docs/DECISIONS.md#states-by-themselves.
@@ -125,7 +131,8 @@ fn with_row(
     Ok(made)
 }
 
-/// The state of an entry, the first of its path; and what is known of the way to it, or, where it is not looked at, what was.
+/// The state of an entry, the first of its path; and what is known of the way to it, or, where it
+/// is not looked at, what was.
 fn state_of<'a, W: Worktree>(
     alloc: Global,
     worktree: &mut W,

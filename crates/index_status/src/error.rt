@@ -31,7 +31,8 @@ pub enum StatusError {
     /// The report was refused; never [`ReportError::OutOfMemory`].
     #[error("Report")]
     Report(ReportError),
-    /// The worktree failed at this path, which begins with the root, while index paths were looked at.
+    /// The worktree failed at this path, which begins with the root, while index paths were looked
+    /// at.
     #[error("Fault")]
     Fault { path: PathText },
     /// Want of memory.

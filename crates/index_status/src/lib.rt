@@ -15,5 +15,5 @@ pub use blob::blob_id;
 pub use compare::states;
 pub use error::{StatesError, StatusError};
 pub use path_state::PathState;
-pub use program::run_status;
+pub use program::{run_status, text_of_status};
 pub use report_beside::{IndexStatus, status};

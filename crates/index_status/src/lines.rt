@@ -49,7 +49,8 @@ fn add_rows(text: &mut Vec<u8>, rows: &[(PathText, PathState)]) -> Result<(), Ou
     Ok(())
 }
 
-/// The text of a status: a line for each path whose state is told, and behind them the text of the report.
+/// The text of a status: a line for each path whose state is told, and behind them the text of the
+/// report.
 pub fn status_bytes(
     alloc: Global,
     status: &IndexStatus,

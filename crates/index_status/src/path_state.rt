@@ -13,9 +13,10 @@ pub enum PathState {
     TypeChanged,
     /// The path is not merged.
     Conflicted,
-    /// The index says not to look: the path is left out of a sparse worktree, taken as unchanged, or a directory that a
-    /// sparse index holds as one entry.
+    /// The index says not to look: the path is left out of a sparse worktree, taken as unchanged,
+    /// or a directory that a sparse index holds as one entry.
     Skipped,
-    /// A link or the directory of a submodule, as the index has it; what it leads to or holds is not compared.
+    /// A link or the directory of a submodule, as the index has it; what it leads to or holds is
+    /// not compared.
     Unchecked,
 }

@@ -32,9 +32,18 @@ fn of_status(alloc: Global, error: StatusError) -> Result<Refusal, OutOfMemory>
     }
 }
 
-/// The lines of the states and of the report of the work tree at `root`; none where the worktree failed while they were made. Blobs
-/// that ignore rules are mapped to are those of the setup.
-fn text_of_status<W: CountsFaults, I: Interrupt>(
+/// The lines of the states and of the report of the work tree at `root`. Blobs that ignore rules
+/// are mapped to are those of the setup. The report is made first.
+///
+/// # Errors
+///
+/// - `Misread` names what tells of submodules and is outside its grammar; it comes before the walk.
+/// - `Walk` has the cause that the walk names.
+/// - `Fault`: the worktree failed, and counted it, also where the walk goes on with such a fault;
+///   or its count stands at its last value.
+/// - `Interrupted`: the interrupt was raised, and counted it.
+/// - `OutOfMemory`: memory was refused.
+pub fn text_of_status<W: CountsFaults, I: Interrupt>(
     alloc: Global,
     worktree: &mut W,
     interrupt: &mut I,
@@ -87,11 +96,12 @@ fn text_asked<W: CountsFaults, I: Interrupt>(
     }
 }
 
-/// Answers the words of a command line: writes to `out` what became of the index paths of a work tree, and its report, or says to
-/// `err` in one line why there is nothing of that, and answers the status that the program is to end with.
+/// Answers the words of a command line: writes to `out` what became of the index paths of a work
+/// tree, and its report, or says to `err` in one line why there is nothing of that, and answers the
+/// status that the program is to end with.
 ///
-/// `status ROOT SETUP` asks for that of the work tree at ROOT by the setup text at SETUP; the word `composed` stands before it
-/// exactly where the worktree composes names. The report is made first.
+/// `status ROOT SETUP` asks for that of the work tree at ROOT by the setup text at SETUP; the word
+/// `composed` stands before it exactly where the worktree composes names. The report is made first.
 ///
 /// | status | where |
 /// |---|---|
@@ -105,8 +115,9 @@ fn text_asked<W: CountsFaults, I: Interrupt>(
 /// | 7 | `out` refused bytes, and counted it |
 /// | 8 | want of memory |
 ///
-/// With a status other than 0 and 7 nothing goes to `out`. With each status other than 0 one line goes to `err`, with 0
-/// none; a refusal of `err` changes no byte of `out`, and no status but to 8. The interrupt is asked before each directory is read.
+/// With a status other than 0 and 7 nothing goes to `out`. With each status other than 0 one line
+/// goes to `err`, with 0 none; a refusal of `err` changes no byte of `out`, and no status but to 8.
+/// The interrupt is asked before each directory is read.
 pub fn run_status<W: CountsFaults, I: Interrupt, S: Sink, E: Sink>(
     alloc: Global,
     words: &[Bytes],

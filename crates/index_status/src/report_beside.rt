@@ -32,13 +32,15 @@ fn beside<W: Worktree>(
     Ok(IndexStatus { paths, report })
 }
 
-/// The report of the work tree at `worktree_root`, which is absolute and has no component `.` or `..`, as a setup asks for it, and
-/// the state of each path of its index. The report is made first, as [`worktree_report`](worktree_report::worktree_report)
-/// does; then each path is looked at as [`states`](crate::states) does.
+/// The report of the work tree at `worktree_root`, which is absolute and has no component `.` or
+/// `..`, as a setup asks for it, and the state of each path of its index. The report is made first,
+/// as [`worktree_report`](worktree_report::worktree_report) does; then each path is looked at as
+/// [`states`](crate::states) does.
 ///
 /// # Errors
 ///
-/// - `Report` has the error of [`worktree_report`](worktree_report::worktree_report), for the same causes; nothing is listed after it.
+/// - `Report` has the error of [`worktree_report`](worktree_report::worktree_report), for the same
+///   causes; nothing is listed after it.
 /// - `Fault`: the worktree failed at this path, which it counted, after the report was made.
 /// - `OutOfMemory`: memory was refused.
 pub fn status<W: Worktree, F: Find, I: Interrupt>(

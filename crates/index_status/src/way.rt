@@ -13,8 +13,8 @@ use gitbase_core::{PathText, split_component};
 use std::alloc::Global;
 use worktree_fs::{NodeKind, ReadError, Worktree};
 
-/// What was learnt of the ways from a root: directories alone lead to a path, or to the node that bars the way to it, by its
-/// whole path; that is no directory.
+/// What was learnt of the ways from a root: directories alone lead to a path, or to the node that
+/// bars the way to it, by its whole path; that is no directory.
 #[derive(Drop)]
 pub struct Known<'a> {
     pub path: &'a [u8],
@@ -30,7 +30,8 @@ pub enum Way {
     Barred(PathText),
 }
 
-/// Whether directories alone lead to the node at a path below a root. What is known of another way is not looked at again.
+/// Whether directories alone lead to the node at a path below a root. What is known of another way
+/// is not looked at again.
 ///
 /// See docs/DIFFERENCES.md#status-behind-link.
 pub(crate) fn way_to<W: Worktree>(
@@ -103,8 +104,8 @@ fn is_bar(barred: &Option<PathText>, full: &PathText) -> bool
     }
 }
 
-/// Whether the node at a whole path is a directory. It is not looked at where it bars a way, and where a known path goes on behind
-/// it.
+/// Whether the node at a whole path is a directory. It is not looked at where it bars a way, and
+/// where a known path goes on behind it.
 fn is_led<W: Worktree>(
     alloc: Global,
     worktree: &mut W,

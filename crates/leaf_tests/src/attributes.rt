@@ -7,7 +7,8 @@ use glob_rules::Case;
 use glob_rules::attributes::{Assignment, MetadataCollection, Outcome, Search, fill};
 use std::alloc::Global;
 
-/// Whether a search took a list of a file, where a bar stands for each LF; a file without text is no file.
+/// Whether a search took a list of a file, where a bar stands for each LF; a file without text is
+/// no file.
 fn is_added(
     alloc: Global,
     search: &mut Search,
@@ -64,7 +65,8 @@ fn printed_count(out: &Outcome) -> usize {
     count
 }
 
-/// Whether what was found is what the words say, each a name, `=` and a state, and no more of it is printed.
+/// Whether what was found is what the words say, each a name, `=` and a state, and no more of it is
+/// printed.
 fn are_found(out: &Outcome, words: &[u8]) -> bool {
     let mut count: usize = 0;
     for word in words.split(|byte| *byte == b',') {
@@ -82,8 +84,8 @@ fn are_found(out: &Outcome, words: &[u8]) -> bool {
     count == printed_count(out)
 }
 
-/// A row: what is found, the path, and the texts of the user's file, that of the root, the information file, and that of the
-/// directory `d`.
+/// A row: what is found, the path, and the texts of the user's file, that of the root, the
+/// information file, and that of the directory `d`.
 #[derive(Clone, Copy)]
 struct Row<'a> {
     found: &'a [u8],
@@ -119,7 +121,8 @@ fn is_beneath(path: &[u8]) -> bool {
     path.len() > 2 && path.starts_with(b"d/")
 }
 
-/// The lists of a row, those of the user and those of the repository; that of `d` is one for paths beneath it.
+/// The lists of a row, those of the user and those of the repository; that of `d` is one for paths
+/// beneath it.
 fn searches_of(
     alloc: Global,
     row: Row<'_>,
@@ -164,8 +167,8 @@ fn is_answered(
     fill(alloc, globals, stack, path, case, is_dir, out).is_ok() && are_found(out, row.found)
 }
 
-/// Whether copies of the lists and of the collection answer as a row says, asked for all names as a selection, and once
-/// more after that was forgotten.
+/// Whether copies of the lists and of the collection answer as a row says, asked for all names as a
+/// selection, and once more after that was forgotten.
 fn is_answered_by_copies(alloc: Global, row: Row<'_>) -> bool {
     let mut collection = MetadataCollection::new(alloc);
     let Some((globals, stack)) = searches_of(alloc, row, &mut collection) else {

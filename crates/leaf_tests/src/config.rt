@@ -80,7 +80,8 @@ fn subsection_of(word: &[u8]) -> Option<&[u8]> {
     word.strip_prefix(b"\"")
 }
 
-/// Whether a row of git's answers holds: the answer, the section, the subsection, the key and the text.
+/// Whether a row of git's answers holds: the answer, the section, the subsection, the key and the
+/// text.
 fn is_answered(alloc: Global, row: &[u8], asks_boolean: bool) -> bool {
     let (answer, rest) = parted_by_caret(row);
     let (section, rest) = parted_by_caret(rest);

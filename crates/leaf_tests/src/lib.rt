@@ -1,8 +1,8 @@
 //! What the crates below the walk answer: `glob_rules`, `git_config_lite` and `submodule`.
 //!
-//! Their contracts say what each call answers. Here is what no contract says: that git answers the same, where it does, how
-//! errors read, and that each call answers where there is memory. They stand apart from those crates so that these
-//! are proved once.
+//! Their contracts say what each call answers. Here is what no contract says: that git answers the
+//! same, where it does, how errors read, and that each call answers where there is memory. They
+//! stand apart from those crates so that these are proved once.
 #![tactic(auto)]
 
 #[cfg(test)]

@@ -21,7 +21,8 @@ fn specs_of(alloc: Global, specs: &[u8], defaults: Defaults) -> Result<Vec<Spec>
     Ok(all)
 }
 
-/// `y` where the path is matched and not excluded, `n` where it is not, `e` where a spec is refused.
+/// `y` where the path is matched and not excluded, `n` where it is not, `e` where a spec is
+/// refused.
 fn answer(
     alloc: Global,
     specs: &[u8],
@@ -47,7 +48,8 @@ fn parted_by_semicolon(row: &[u8]) -> (&[u8], &[u8]) {
     row.split_once_str(b";").unwrap_or((row, b""))
 }
 
-/// Whether a row of git's answers holds: the answers, of which the last is ours, the kind, the path and the specs.
+/// Whether a row of git's answers holds: the answers, of which the last is ours, the kind, the path
+/// and the specs.
 fn is_answered(alloc: Global, row: &[u8], defaults: Defaults) -> bool {
     let (answers, rest) = parted_by_semicolon(row);
     let (kind, rest) = parted_by_semicolon(rest);
@@ -79,10 +81,12 @@ fn path_specs_as_git_has_them(rt: HostRuntime) {
     assert_eq!(rt; first_lie(alloc, git::DIFFERENCES, AS_WRITTEN), None);
 }
 
-/// Rows, parted by LFs: what is asked, the specs, the path, its kind, and what is wanted, parted by backquotes.
+/// Rows, parted by LFs: what is asked, the specs, the path, its kind, and what is wanted, parted by
+/// backquotes.
 ///
-/// `read` is where a text is refused, or that it leads out of the worktree; `match` the first letter of the match's kind, `!` where it excludes, and its number; `where`
-/// whether the path can match, and whether it covers without and with what leads to it, and the directory in front of
+/// `read` is where a text is refused, or that it leads out of the worktree; `match` the first
+/// letter of the match's kind, `!` where it excludes, and its number; `where` whether the path can
+/// match, and whether it covers without and with what leads to it, and the directory in front of
 /// all matches, or a dot.
 const ROWS: &[u8] = b"\
 read`:(glob,icase)a/**```\n\
@@ -173,7 +177,8 @@ fn is_letter(said: bool, letter: u8) -> bool {
     said == (letter == b'y')
 }
 
-/// Whether a matcher of any kind has this directory in front of all matches, and none in front of all specs.
+/// Whether a matcher of any kind has this directory in front of all matches, and none in front of
+/// all specs.
 fn has_front<M: Matcher>(matcher: &M, want: &[u8]) -> bool {
     let is_front = match matcher.longest_common_directory() {
         Some(directory) => directory == want,

@@ -51,7 +51,8 @@ fn is_digit(text: &[u8], number: usize) -> bool {
     }
 }
 
-/// Whether the line of a row decides about its path, by its rules with an LF in the place of each bar.
+/// Whether the line of a row decides about its path, by its rules with an LF in the place of each
+/// bar.
 fn is_decided(alloc: Global, row: Row<'_>, base: &[u8], case: Case) -> bool {
     let mut search = Search::new(alloc);
     match replaced(alloc, row.rules, b'|', b'\n') {
@@ -137,8 +138,8 @@ fn rules_as_git_has_them_otherwise(rt: HostRuntime) {
 /// A list with a rule of each form.
 const LIST: &[u8] = b"*.o\n!k.o\n# c\n\\#x\n/a/b\ndoc/\nt\\ \n$p\n";
 
-/// Paths, `d` where it is a directory and `?` where no kind is told, and the line that decides, with `!` where it is negative and `$`
-/// where it is precious.
+/// Paths, `d` where it is a directory and `?` where no kind is told, and the line that decides,
+/// with `!` where it is negative and `$` where it is precious.
 const ASKED: &[u8] = b"\
 x.o;?;1|k.o;?;!2|#x;?;4|a/b;?;5|c/a/b;?;0|q/doc;d;6|q/doc;?;0|t ;?;7|p;?;$8";
 
@@ -185,7 +186,8 @@ fn a_rule_of_each_form(rt: HostRuntime) {
     }
 }
 
-/// Whether the rule that holds for a path is precious, of this line, and in the list of this number.
+/// Whether the rule that holds for a path is precious, of this line, and in the list of this
+/// number.
 fn is_in_list(search: &Search, path: &[u8], number: usize, line: usize) -> bool {
     match search.place_matching_relative_path(path, None, Case::Sensitive) {
         Some((found, rule)) => {

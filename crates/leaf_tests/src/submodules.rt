@@ -11,9 +11,11 @@ use submodule::{
     Branch, FetchRecurse, File, Ignore, NamesAndActive, Update, init, is_active_platform,
 };
 
-/// Rows, parted by bars: what is asked, about what, what is wanted, the overrides and the text, parted by backquotes.
+/// Rows, parted by bars: what is asked, about what, what is wanted, the overrides and the text,
+/// parted by backquotes.
 ///
-/// Where a refusal is wanted, it is wanted as it reads; of a text that is refused the line is wanted.
+/// Where a refusal is wanted, it is wanted as it reads; of a text that is refused the line is
+/// wanted.
 const ROWS: &[u8] = b"\
 path`m`The submodule 'm' was missing its 'path' field or it was empty``[submodule \"m\"]\n|\
 path`m`The submodule 'm' was missing its 'path' field or it was empty``[submodule \"m\"]\npath =\n|\
@@ -150,7 +152,8 @@ fn has_names(file: &File, first: &[u8], second: &[u8]) -> bool {
     names.next() == Some(first) && names.next() == Some(second) && names.next().is_none()
 }
 
-/// Whether a configuration has two sections of these names and no more, the first not ignored and of a local source.
+/// Whether a configuration has two sections of these names and no more, the first not ignored and
+/// of a local source.
 fn has_overrides(config: &config::File, first: &[u8], second: &[u8]) -> bool {
     let mut sections = config.sections();
     let is_first = match sections.next() {
@@ -213,7 +216,8 @@ fn what_is_said_of_submodules(rt: HostRuntime) {
     }
 }
 
-/// Rows, parted by bars: the names that are active and not, whether letters fold, and the configuration.
+/// Rows, parted by bars: the names that are active and not, whether letters fold, and the
+/// configuration.
 ///
 /// The submodules are `m` at the path `lib`, and `n`.
 const ACTIVE: &[u8] = b"\
@@ -359,7 +363,8 @@ fn many_submodules_take_no_long_time(rt: HostRuntime) {
     assert!(rt; are_many(rt.alloc(), 10_000));
 }
 
-/// Whether an override that was read as `.gitmodules` belongs to the program, and names no submodule.
+/// Whether an override that was read as `.gitmodules` belongs to the program, and names no
+/// submodule.
 fn is_overridden(alloc: Global, file: &mut File) -> bool {
     match from_source(
         alloc,

@@ -1,4 +1,5 @@
-//! The texts of the errors for which gitoxide has none: the names of their variants, or of their types.
+//! The texts of the errors for which gitoxide has none: the names of their variants, or of their
+//! types.
 use crate::rows::is_shown;
 use git_config_lite::{ParseError, ValueError};
 use glob_rules::pathspec;

@@ -20,7 +20,8 @@ current`.\n\
 |HEAD`\n\
 refused`a..b\n";
 
-/// Urls with their scheme, user, password, host, port and path, `-` where there is none; or why they are refused.
+/// Urls with their scheme, user, password, host, port and path, `-` where there is none; or why
+/// they are refused.
 const URLS: &[u8] = b"\
 https://u:p@h:8443/x`https`u`p`h`8443`/x|\
 git@h:x/y`ssh`git`-`h`-`x/y|\

@@ -111,10 +111,10 @@ module _ {W : Type 0} (w : WorktreeOf W) (w0 w1 w2 : W) (root : List ℕ) (asked
             ∙ sym (list_any-append (λ n. wants path (wanted asked n)) at.done (name ∷ []));
       }
 
-  pub judging-stops : (Rose Rose' : Type 0) (e : ModuleError) → (Rose → Rose')
-      → StopsModule (w.told w1) root (wanted seen name) (λ path. is_among path taken) Rose e → StopsPlan (w.told w0) root asked Rose' e
-  judging-stops Rose Rose' (errors.ActiveSpec value) more h = absurd h
-  judging-stops Rose Rose' (errors.Fault path) more h = (
+  pub judging-stops : (Failed Failed' : Type 0) (e : ModuleError) → (Failed → Failed')
+      → StopsModule (w.told w1) root (wanted seen name) (λ path. is_among path taken) Failed e → StopsPlan (w.told w0) root asked Failed' e
+  judging-stops Failed Failed' (errors.ActiveSpec value) more h = absurd h
+  judging-stops Failed Failed' (errors.Fault path) more h = (
     more h.0,
     record {
       earlier = at.done;
@@ -128,7 +128,7 @@ module _ {W : Type 0} (w : WorktreeOf W) (w0 w1 w2 : W) (root : List ℕ) (asked
           (subst (λ (b : Bool). IsLookedFor (w.told w1) root h.1.0 b path) (at.taken_is h.1.0.path) h.1.2);
     },
   )
-  judging-stops Rose Rose' errors.OutOfMemory more h = tt
+  judging-stops Failed Failed' errors.OutOfMemory more h = tt
 
 pub judging-done : {W : Type 0} (w : WorktreeOf W) (w0 w1 : W) (root : List ℕ) (asked : Asked) (left taken : List (List ℕ)) (plan : ModulePlan)
     → IsJudging w w0 w1 root asked left taken plan → left ≡ [] → AreJudged (w.told w0) root asked plan

@@ -61,11 +61,11 @@ known-by modules (Err (active_errors.NormalizePattern value)) none = absurd cc
 known-by modules (Err active_errors.OutOfMemory) none = (None, refl)
 
 -- a fault that ends a plan comes where no value is refused
-pub known-late : (told : Option Names) (root : List ℕ) (asked : Asked) (Rose : Type 0) (fold : Bool) (modules : Modules) (e : ModuleError)
-    → Refuses told root asked (refused_value (platform fold modules.config.sections)) Rose e → of_module e ≡ refusals.Fault → IsKnown (with_specs fold modules)
-known-late told root asked Rose fold modules (errors.ActiveSpec value) refused is = absurd cc
-known-late told root asked Rose fold modules (errors.Fault path) refused is = known-by modules (platform fold modules.config.sections) refused.0
-known-late told root asked Rose fold modules errors.OutOfMemory refused is = absurd cc
+pub known-late : (told : Option Names) (root : List ℕ) (asked : Asked) (Failed : Type 0) (fold : Bool) (modules : Modules) (e : ModuleError)
+    → Refuses told root asked (refused_value (platform fold modules.config.sections)) Failed e → of_module e ≡ refusals.Fault → IsKnown (with_specs fold modules)
+known-late told root asked Failed fold modules (errors.ActiveSpec value) refused is = absurd cc
+known-late told root asked Failed fold modules (errors.Fault path) refused is = known-by modules (platform fold modules.config.sections) refused.0
+known-late told root asked Failed fold modules errors.OutOfMemory refused is = absurd cc
 
 -- the same of a file that was not read, where submodules are asked for
 pub stops-asking : (t : Names) (setup : Setup) (reads0 reads1 : ℕ) → StopsAt t setup reads0 reads1 → StopsAt t (asking setup) reads0 reads1

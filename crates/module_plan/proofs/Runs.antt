@@ -18,7 +18,7 @@ use Rattle.worktree_report.specs.Outside.{files_to, IsOutside, StopsAt}
 use Rattle.worktree_report.specs.Run.{SetupRefuses}
 use Rattle.worktree_report.specs.SetupAt.{setup_at}
 use Rattle.worktree_report.specs.Words.{Places}
-use Rattle.worktree_report.proofs.Runs.{Rose-before}
+use Rattle.worktree_report.proofs.Runs.{Increased-before}
 use Rattle.module_plan.specs.Run as top
 use Rattle.module_plan.proofs.Loaded.{files-asking, known-loaded, known-misread, known-refused, outside-asking, outside-specs, reads-specs, stops-asking, which}
 
@@ -107,7 +107,7 @@ module _ {W : Type 0} {w : WorktreeOf W} {w0 w1 w2 : W} {root : List ℕ} {setup
         misread = λ t told m is. known-refused t root setup modules m (read t told) (outside m is);
         about = λ m is. record { asked = refl; outside = outside-specs root setup modules m (outside m is) };
         misread_reads = λ m is. reads-specs setup modules m (w.reads w0) (w.reads w2) (outside m is) (omega (arith, loads.reads, unread));
-        refused = refused-later answer _ _ (Rose-before _ _ _ loads.faults) of;
+        refused = refused-later answer _ _ (Increased-before _ _ _ loads.faults) of;
         fault_late = λ is t told. inr (known-loaded t root setup modules (read t told) (late is));
         unfaulted = unfaulted-later answer _ _ _ unfaulted later;
         reads = omega (arith, loads.reads, unread);
@@ -244,7 +244,7 @@ module _ {W : Type 0} {w : WorktreeOf W} {w0 w1 w2 : W} {places : Places} (setup
         gives = λ t told. output-planned t places setup answer (read t told) (plans.gives t (tree ∙ told));
         safe = λ t told. safe-planned t places setup answer (read t told) (plans.safe t (tree ∙ told));
         orderly = orderly-planned (w.told w0) (w.told w1) places setup answer read tree plans.orderly;
-        refused = call-planned _ _ (Rose-before _ _ _ faults) answer plans.refused;
+        refused = call-planned _ _ (Increased-before _ _ _ faults) answer plans.refused;
         fault_late = λ is t told. on-time t places setup _ _ _ (read t told) once (plans.fault_late is t (tree ∙ told));
         unfaulted = unfaulted-later answer _ _ _ unfaulted plans.unfaulted;
         reads = λ t told. inr (setup, read t told, subst (λ (n : ℕ). w.reads w2 ≤ n + files_of setup) once plans.reads);

@@ -30,10 +30,10 @@ pub record AreJudged (told : Option Names) (root : List ℕ) (asked : Asked) (pl
 
 -- why a submodule has no verdict: the worktree failed at a path that is looked at for its step
 abbrev pub StopsModule : Option Names → List ℕ → Result Wanted Why → (List ℕ → Bool) → Type 0 → ModuleError → Type 0
-StopsModule told root given is_taken Rose (errors.ActiveSpec value) = ⊥
-StopsModule told root given is_taken Rose (errors.Fault path) =
-    Rose × ((w : Wanted) × (given ≡ Ok w) × IsLookedFor told root w (is_taken w.path) path)
-StopsModule told root given is_taken Rose errors.OutOfMemory = Unit {0}
+StopsModule told root given is_taken Failed (errors.ActiveSpec value) = ⊥
+StopsModule told root given is_taken Failed (errors.Fault path) =
+    Failed × ((w : Wanted) × (given ≡ Ok w) × IsLookedFor told root w (is_taken w.path) path)
+StopsModule told root given is_taken Failed errors.OutOfMemory = Unit {0}
 
 -- A path that is looked at for the step that a submodule asks for: on the way to its path, where no submodule of an
 -- earlier name asks for a step there too.
@@ -48,6 +48,6 @@ pub record IsAskedFor (told : Option Names) (root : List ℕ) (asked : Asked) (p
 
 -- why some module has none
 abbrev pub StopsPlan : Option Names → List ℕ → Asked → Type 0 → ModuleError → Type 0
-StopsPlan told root asked Rose (errors.ActiveSpec value) = ⊥
-StopsPlan told root asked Rose (errors.Fault path) = Rose × IsAskedFor told root asked path
-StopsPlan told root asked Rose errors.OutOfMemory = Unit {0}
+StopsPlan told root asked Failed (errors.ActiveSpec value) = ⊥
+StopsPlan told root asked Failed (errors.Fault path) = Failed × IsAskedFor told root asked path
+StopsPlan told root asked Failed errors.OutOfMemory = Unit {0}

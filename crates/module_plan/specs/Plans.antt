@@ -90,9 +90,9 @@ refused_value (Err active_errors.OutOfMemory) = None
 -- why there is no plan: a value of `submodule.active` is refused; or none is, and the worktree failed at a path that is
 -- looked at
 abbrev pub Refuses : Option Names → List ℕ → Asked → Option ℕ → Type 0 → ModuleError → Type 0
-Refuses told root asked refused Rose (errors.ActiveSpec value) = refused ≡ Some value
-Refuses told root asked refused Rose (errors.Fault path) = (refused ≡ None) × Rose × IsAskedFor told root asked path
-Refuses told root asked refused Rose errors.OutOfMemory = Unit {0}
+Refuses told root asked refused Failed (errors.ActiveSpec value) = refused ≡ Some value
+Refuses told root asked refused Failed (errors.Fault path) = (refused ≡ None) × Failed × IsAskedFor told root asked path
+Refuses told root asked refused Failed errors.OutOfMemory = Unit {0}
 
 abbrev pub RefusesValue : Option ℕ → ModuleError → Type 0
 RefusesValue refused (errors.ActiveSpec value) = refused ≡ Some value

@@ -26,7 +26,7 @@ use Rattle.worktree_report.specs.Loading.{files_of, known_in, modules_in, AreMod
 use Rattle.worktree_report.specs.Outside.{files_to, IsAboutMisreadAt, StopsAt}
 use Rattle.worktree_report.specs.Run.{AnswersIf, IsAboutMisread, IsKnownReport, MisreadsReport, ReadsToMisread, SetupRefuses, StopsReport}
 use Rattle.worktree_report.specs.SetupAt.{setup_at}
-use Rattle.worktree_report.specs.Steps.{◌>>=◌}
+use Rattle.gitbase_core.specs.Steps.{◌>>=◌}
 use Rattle.worktree_report.specs.Words.{Places, places_behind}
 
 -- the line for words that ask for nothing

@@ -44,9 +44,9 @@ AreSeen told seen =
 
 -- the worktree failed at one of some paths
 abbrev pub StopsLook : (List ℕ → Type 0) → Type 0 → ModuleError → Type 0
-StopsLook IsOne Rose (errors.ActiveSpec value) = ⊥
-StopsLook IsOne Rose (errors.Fault path) = Rose × IsOne path
-StopsLook IsOne Rose errors.OutOfMemory = Unit {0}
+StopsLook IsOne Failed (errors.ActiveSpec value) = ⊥
+StopsLook IsOne Failed (errors.Fault path) = Failed × IsOne path
+StopsLook IsOne Failed errors.OutOfMemory = Unit {0}
 
 -- it holds, unless the worktree is said to have failed
 abbrev pub UnlessFault : {T : Type 0} → Result T ModuleError → Type 0 → Type 0

@@ -5,7 +5,8 @@ use thiserror::Error;
 /// Why there is no plan.
 #[derive(Debug, Drop, PartialEq, Eq, Error)]
 pub enum ModuleError {
-    /// This value of `submodule.active`, counted from 1, is no path spec, or its path is absolute or leads out of the top.
+    /// This value of `submodule.active`, counted from 1, is no path spec, or its path is absolute
+    /// or leads out of the top.
     #[error("ActiveSpec")]
     ActiveSpec { value: usize },
     /// The worktree failed when it was asked for the node at this path, which begins with the root.

@@ -1,4 +1,5 @@
-//! The steps that an update of the active submodules of a work tree would take; it takes none of them.
+//! The steps that an update of the active submodules of a work tree would take; it takes none of
+//! them.
 #![tactic(auto)]
 
 mod asking;
@@ -15,5 +16,5 @@ mod way;
 
 pub use error::ModuleError;
 pub use planned::plan;
-pub use program::run_modules;
+pub use program::{planned_text, run_modules};
 pub use step::{ModulePlan, Skipped, Step, StepKind, Why};

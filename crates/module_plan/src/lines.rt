@@ -112,7 +112,8 @@ fn add_all_skipped(text: &mut Vec<u8>, skipped: &[Skipped]) -> Result<(), OutOfM
     Ok(())
 }
 
-/// The text of a plan: a line for each step, and behind them one for each submodule that is left out.
+/// The text of a plan: a line for each step, and behind them one for each submodule that is left
+/// out.
 pub fn plan_bytes(alloc: Global, plan: &ModulePlan) -> Result<Bytes, OutOfMemory>
     ensures { IfOk result (λ text. text
         ≡ plan_text plan.now.steps.items plan.now.skipped.items) }

@@ -21,21 +21,23 @@ use std::alloc::Global;
 use submodule::{IsActivePlatform, is_active_platform};
 use worktree_fs::Worktree;
 
-/// The steps that an update of the active submodules would take, as `git submodule update`; it takes none of them.
+/// The steps that an update of the active submodules would take, as `git submodule update`; it
+/// takes none of them.
 ///
-/// Each submodule that `.gitmodules` names is updated, or left out for the first reason of `Why` that holds. Which are active
-/// says the configuration, by `IsActivePlatform::is_active`; in the path specs of `submodule.active` letters fold if
-/// `defaults` says so. The worktree is asked for the nodes on the way to each path that no earlier submodule asks for, links
-/// not followed; for one that is on several ways once. A real disk fails at a path that is not UTF-8.
+/// Each submodule that `.gitmodules` names is updated, or left out for the first reason of `Why`
+/// that holds. Which are active says the configuration, by `IsActivePlatform::is_active`; in the
+/// path specs of `submodule.active` letters fold if `defaults` says so. The worktree is asked for
+/// the nodes on the way to each path that no earlier submodule asks for, links not followed; for
+/// one that is on several ways once. A real disk fails at a path that is not UTF-8.
 ///
 /// # Errors
 ///
 /// The count of the worktree's faults rises for `Fault` alone.
 ///
 /// - `ActiveSpec`: `modules.is_active_platform` refuses this value.
-/// - `Fault`: the worktree failed at this path, which it counted; no value is refused. It is on the way to that of a submodule
-///   that is left out for none of the reasons before `Link`, or there, and over a told tree everything before it on that way is a
-///   directory.
+/// - `Fault`: the worktree failed at this path, which it counted; no value is refused. It is on the
+///   way to that of a submodule that is left out for none of the reasons before `Link`, or there,
+///   and over a told tree everything before it on that way is a directory.
 /// - `OutOfMemory`: memory was refused.
 ///
 /// See docs/DIFFERENCES.md#modules-utf8.

@@ -110,8 +110,14 @@ fn text_of_modules<W: Worktree>(
     }
 }
 
-/// The text of the plan for the work tree at `root`, by a setup.
-fn planned_text<W: Worktree>(
+/// The text of the plan for the work tree at `root`, by a setup: a line for each submodule.
+///
+/// # Errors
+///
+/// - `Misread` names what tells of submodules and is outside its grammar.
+/// - `Fault`: the worktree failed, and counted it.
+/// - `OutOfMemory`: memory was refused.
+pub fn planned_text<W: Worktree>(
     alloc: Global,
     worktree: &mut W,
     root: &[u8],
@@ -150,12 +156,14 @@ fn text_asked<W: Worktree>(
     }
 }
 
-/// Answers the words of a command line: writes to `out` what an update of the submodules would do, or says to `err` in one
-/// line why there is no such plan, and answers the status that the program is to end with. It carries out nothing.
+/// Answers the words of a command line: writes to `out` what an update of the submodules would do,
+/// or says to `err` in one line why there is no such plan, and answers the status that the program
+/// is to end with. It carries out nothing.
 ///
-/// `modules ROOT SETUP` asks for the plan of the work tree at ROOT by the setup text at SETUP; the word `composed` stands before
-/// it exactly where the worktree composes names. Configurations and `.gitmodules` are read as for a report that tells of
-/// submodules, whatever the setup says of them.
+/// `modules ROOT SETUP` asks for the plan of the work tree at ROOT by the setup text at SETUP; the
+/// word `composed` stands before it exactly where the worktree composes names. Configurations and
+/// `.gitmodules` are read as for a report that tells of submodules, whatever the setup says of
+/// them.
 ///
 /// | status | where |
 /// |---|---|
@@ -167,8 +175,9 @@ fn text_asked<W: Worktree>(
 /// | 7 | `out` refused bytes, and counted it |
 /// | 8 | want of memory |
 ///
-/// With a status other than 0 and 7 nothing goes to `out`. With each status other than 0 one line goes to `err`, with 0
-/// none; a refusal of `err` changes no byte of `out`, and no status but to 8. The interrupt is not asked.
+/// With a status other than 0 and 7 nothing goes to `out`. With each status other than 0 one line
+/// goes to `err`, with 0 none; a refusal of `err` changes no byte of `out`, and no status but to 8.
+/// The interrupt is not asked.
 pub fn run_modules<W: Worktree, I: Interrupt, S: Sink, E: Sink>(
     alloc: Global,
     words: &[Bytes],

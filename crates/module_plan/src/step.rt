@@ -1,7 +1,8 @@
 //! The steps of an update, and what is left out of it.
 use gitbase_core::{Bytes, PathText};
 
-/// How a submodule is brought to the commit that the superproject records, as `submodule.NAME.update` of gitmodules(5) says.
+/// How a submodule is brought to the commit that the superproject records, as
+/// `submodule.NAME.update` of gitmodules(5) says.
 #[derive(Debug, Drop, PartialEq, Eq)]
 pub enum StepKind {
     /// The commit is checked out.
@@ -21,7 +22,8 @@ pub enum StepKind {
 pub struct Step {
     /// Its name.
     pub name: Bytes,
-    /// Where it stands below the root of the work tree: a path without empty components, `.` and `..`.
+    /// Where it stands below the root of the work tree: a path without empty components, `.` and
+    /// `..`.
     pub path: PathText,
     /// How it is updated.
     pub kind: StepKind,
@@ -68,7 +70,8 @@ pub struct Skipped {
 /// The plan of an update.
 #[derive(Debug, Drop, PartialEq, Eq)]
 pub struct ModulePlan {
-    /// The steps, in ascending order of their paths, byte by byte: a submodule within another one comes after it.
+    /// The steps, in ascending order of their paths, byte by byte: a submodule within another one
+    /// comes after it.
     pub steps: Vec<Step>,
     /// What is left out, in the order in which `.gitmodules` first tells the names.
     pub skipped: Vec<Skipped>,

@@ -15,8 +15,8 @@ use gitbase_core::PathText;
 use std::alloc::Global;
 use worktree_fs::{NodeKind, ReadError, Worktree};
 
-/// The first node that is no directory on the way from a root to a path below it, or there. Nodes that were looked at before are
-/// not looked at again.
+/// The first node that is no directory on the way from a root to a path below it, or there. Nodes
+/// that were looked at before are not looked at again.
 ///
 /// See docs/DECISIONS.md#absent-bars-nothing.
 /// See docs/DECISIONS.md#way-to-first-gap.

@@ -1,4 +1,5 @@
-//! What the planners answer: cases worked out by hand, each call that takes memory with enough of it, and the texts of errors.
+//! What the planners answer: cases worked out by hand, each call that takes memory with enough of
+//! it, and the texts of errors.
 #![tactic(auto)]
 
 #[cfg(test)]

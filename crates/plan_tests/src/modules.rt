@@ -11,7 +11,8 @@ use worktree_fs::MemoryWorktree;
 
 /// Cases, parted by `|`: nodes, `.gitmodules`, the configuration and what is wanted, parted by `^`.
 ///
-/// What is wanted are the steps by path and then what is left out by name, or the refusal, parted by `;`.
+/// What is wanted are the steps by path and then what is left out by name, or the refusal, parted
+/// by `;`.
 const ROWS: &[u8] = b"\
 file`/w/lib/.git`gitdir: /g/m^[submodule \"m\"]\npath = lib\nurl = u\n^[submodule \"m\"]\nurl = u\n^checkout`lib`m|\
 file`/w/lib/.git`gitdir: /g/m^[submodule \"m\"]\npath = lib\nurl = u\n^^skip inactive`m|\

@@ -12,8 +12,9 @@ const IDS: &[u8] = b"\
 x`c1b0730e0133447badcfd47fd144e254807b06e1|\
 hello\n`ce013625030ba8dba906f756967f9e9ca394464a";
 
-/// Cases, parted by `|`: nodes, the entries of the index and what is wanted, parted by `^`. An entry is its path, its mode, its
-/// stage, its flag and the id of its blob, where `E` is that of the empty one.
+/// Cases, parted by `|`: nodes, the entries of the index and what is wanted, parted by `^`. An
+/// entry is its path, its mode, its stage, its flag and the id of its blob, where `E` is that of
+/// the empty one.
 const ROWS: &[u8] = b"\
 file`/w/a`;file`/w/b`x;file`/w/u`^a`file`0``E;b`file`0``E;c`file`0``E^same`a;modified`b;deleted`c|\
 directory`/w/a;link`/w/d`/x;file`/x/t`^a`file`0``E;d/t`file`0``E^typechanged`a;deleted`d/t|\

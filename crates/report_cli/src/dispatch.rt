@@ -82,8 +82,9 @@ fn call_of(words: &[Bytes]) -> Call
     }
 }
 
-/// Answers the words of a command line, by the first of them behind an optional `composed`: `clean` as [`run_clean`] does,
-/// `modules` as [`run_modules`], `status` as [`run_status`], and any other as [`run`]. The statuses are those of [`run`].
+/// Answers the words of a command line, by the first of them behind an optional `composed`: `clean`
+/// as [`run_clean`] does, `modules` as [`run_modules`], `status` as [`run_status`], and any other
+/// as [`run`]. The statuses are those of [`run`].
 pub fn dispatch<W: CountsFaults, I: Interrupt, S: Sink, E: Sink>(
     alloc: Global,
     words: &[Bytes],

@@ -130,7 +130,8 @@ fn at_once(alloc: Global, setup: &[u8]) -> Result<Vec<u8>, OutOfMemory> {
     Ok(text)
 }
 
-/// Whether a row's worktree, listed in this order, is answered as the row says where subtrees are walked at once.
+/// Whether a row's worktree, listed in this order, is answered as the row says where subtrees are
+/// walked at once.
 fn holds_at_once(alloc: Global, row: &Row, reversed: bool) -> bool {
     let Ok(setup) = at_once(alloc, row.setup) else {
         return false;
@@ -144,7 +145,8 @@ fn holds_at_once(alloc: Global, row: &Row, reversed: bool) -> bool {
     }
 }
 
-/// The name of the first row that is answered otherwise where subtrees are walked at once, in one order of listing or the other.
+/// The name of the first row that is answered otherwise where subtrees are walked at once, in one
+/// order of listing or the other.
 fn first_lie_at_once(alloc: Global, rows: &[Row]) -> Option<&'static str> {
     for row in rows {
         if !holds_at_once(alloc, row, false) || !holds_at_once(alloc, row, true) {
@@ -338,7 +340,8 @@ fn enters_a_thousand_directories_in_one_another(rt: HostRuntime) {
     assert_eq!(rt; is_walked(rt.alloc(), 1000, DEEPEST), Some(true));
 }
 
-/// A run for these words with what fails in it planned; with no words where the sink of messages fails.
+/// A run for these words with what fails in it planned; with no words where the sink of messages
+/// fails.
 fn run_where_it_fails(
     alloc: Global,
     texts: &[&[u8]],
@@ -451,8 +454,8 @@ fn looks_for_a_repository_in_vain_where_a_call_fails(rt: HostRuntime) {
     }
 }
 
-/// Whether a report of one file, over a sink with this room that refuses from this write on, leaves these bytes there and
-/// says that its output was refused.
+/// Whether a report of one file, over a sink with this room that refuses from this write on, leaves
+/// these bytes there and says that its output was refused.
 fn is_cut(alloc: Global, setup: &[u8], room: usize, nth: u64, written: &[u8]) -> bool {
     let Ok(mut tree) = tree(alloc, &[(b"/w/a", A_FILE)], setup) else {
         return false;

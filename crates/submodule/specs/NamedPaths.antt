@@ -25,12 +25,12 @@ abbrev pub is_before : NamedPath → NamedPath → Bool
 is_before a b = is_lt (slice_cmp nat_cmp a.path b.path)
 
 -- one has a path that is less than this one
-abbrev pub is_under : List ℕ → NamedPath → Bool
-is_under path p = is_before p (named_path path [])
+abbrev pub is_less : List ℕ → NamedPath → Bool
+is_less path p = is_before p (named_path path [])
 
 -- one has a path that is not greater than this one
-abbrev pub is_within : List ℕ → NamedPath → Bool
-is_within path p = not (is_before (named_path path []) p)
+abbrev pub is_at_most : List ℕ → NamedPath → Bool
+is_at_most path p = not (is_before (named_path path []) p)
 
 -- one has this path
 abbrev pub is_at_path : List ℕ → NamedPath → Bool

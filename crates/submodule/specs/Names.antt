@@ -1,6 +1,6 @@
 -- The submodules that `.gitmodules` names.
-use Rattle.std.specs.Prelude.{ℕ, List, [], ◌∷◌, ◌++◌, ◌≡◌, codes, Bool, true, false, bytes_eq, Option, Some, None, if◌then◌else◌}
-use Rattle.std.specs.List.{list_any}
+use Rattle.std.specs.Prelude.{ℕ, List, [], ◌∷◌, ◌++◌, codes, Bool, true, false, Option, Some, None, if◌then◌else◌}
+pub use Rattle.gitbase_core.specs.Among.{is_among, AreSame}
 use Rattle.git_config_lite.specs.declared.metadata.Source.{Source}
 use Rattle.git_config_lite.specs.declared.metadata.Source.TheVariants.{GitInstallation, System, Git, User, Local, Env, Api, Modules}
 use Rattle.git_config_lite.specs.Sections.{Section}
@@ -24,14 +24,6 @@ submodule_sections sections = sections_named (Some (codes "submodule")) sections
 -- the name that a section tells, if it is one of `.gitmodules`
 abbrev pub told : Section → Option (List ℕ)
 told section = if is_modules section.meta.source then section.subsection else None
-
--- a name is one of these
-abbrev pub is_among : List ℕ → List (List ℕ) → Bool
-is_among name names = list_any (bytes_eq name) names
-
--- two lists have the same names
-abbrev pub AreSame : List (List ℕ) → List (List ℕ) → Type 0
-AreSame names others = (name : List ℕ) → is_among name names ≡ is_among name others
 
 -- the names with one more, unless it is among them
 abbrev pub with_name : List (List ℕ) → Option (List ℕ) → List (List ℕ)

@@ -16,8 +16,8 @@ use crate::{branch, field, path, update, url};
 use git_config_lite::ValueError;
 use std::alloc::Global;
 
-/// Every value is the last one that there is for a name, overrides included, also for a name that stands in an override alone.
-/// Names are compared by their bytes.
+/// Every value is the last one that there is for a name, overrides included, also for a name that
+/// stands in an override alone. Names are compared by their bytes.
 impl File {
     /// The last value of a key of a submodule.
     /// See docs/DECISIONS.md#last-value.
@@ -59,13 +59,14 @@ impl File {
         url::url_of(alloc, name, self.value(name, b"url"))
     }
 
-    /// How the submodule is brought up to date: its `update`, if it is set. A command is given only if a configuration asks
-    /// for it.
+    /// How the submodule is brought up to date: its `update`, if it is set. A command is given only
+    /// if a configuration asks for it.
     ///
     /// # Errors
     ///
     /// - `Invalid` exactly where it is none of the words and no command.
-    /// - `CommandForbiddenInModulesConfiguration` exactly where it is a command and stands in `.gitmodules`.
+    /// - `CommandForbiddenInModulesConfiguration` exactly where it is a command and stands in
+    ///   `.gitmodules`.
     /// - `OutOfMemory` for want of memory.
     pub fn update(&self, alloc: Global, name: &[u8]) -> Result<Option<Update>, update::Error>
         ensures value { answers.UpdateOfGives result (access.update name.now self.now.sections) }
@@ -126,8 +127,8 @@ impl File {
         field::ignore_of(alloc, name, self.value(name, b"ignore"))
     }
 
-    /// Whether only the newest commit of the submodule is fetched: its `shallow`, if it is set. The error has the text of a
-    /// value that is no boolean.
+    /// Whether only the newest commit of the submodule is fetched: its `shallow`, if it is set. The
+    /// error has the text of a value that is no boolean.
     pub fn shallow(&self, name: &[u8]) -> Result<Option<bool>, ValueError<'_>>
         ensures { truth_seen result ≡ access.shallow name.now self.now.sections }
     {

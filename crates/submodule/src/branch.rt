@@ -85,13 +85,14 @@ impl Branch {
 
     /// The branch that a text names. `.` is the one that is checked out in the superproject.
     ///
-    /// Any other text is read as what is fetched: behind one optional `+`, what stands before the first `:` is the name,
-    /// and no name is `HEAD`.
+    /// Any other text is read as what is fetched: behind one optional `+`, what stands before the
+    /// first `:` is the name, and no name is `HEAD`.
     ///
     /// # Errors
     ///
-    /// - `Invalid` exactly where the name has a control byte, a blank, one of `~^?[\`, `..`, `@{`, `//`, a slash at either
-    ///   end, a `.` or `.lock` at its end, a component that begins with a `.`, or two `*`.
+    /// - `Invalid` exactly where the name has a control byte, a blank, one of `~^?[\`, `..`, `@{`,
+    ///   `//`, a slash at either end, a `.` or `.lock` at its end, a component that begins with a
+    ///   `.`, or two `*`.
     /// - `OutOfMemory` for want of memory.
     ///
     /// See docs/DIFFERENCES.md#gix-branch.

@@ -5,7 +5,8 @@ ghost use Rattle.submodule.specs.Recursions as recursions;
 
 use git_config_lite::ValueError;
 
-/// Whether a fetch goes on into a submodule, as `submodule.NAME.fetchRecurseSubmodules` of gitmodules(5).
+/// Whether a fetch goes on into a submodule, as `submodule.NAME.fetchRecurseSubmodules` of
+/// gitmodules(5).
 #[derive(Clone, Copy, Debug, Default, PartialEq, Eq, PartialOrd, Ord, Hash)]
 pub enum FetchRecurse {
     /// Where its commit changed.
@@ -18,8 +19,9 @@ pub enum FetchRecurse {
 }
 
 impl FetchRecurse {
-    /// What a value says, by what it is as a boolean: true is `Always` and false `Never`, and the text `on-demand`, byte
-    /// for byte, is `OnDemand`. No value says nothing, and any other text is the error.
+    /// What a value says, by what it is as a boolean: true is `Always` and false `Never`, and the
+    /// text `on-demand`, byte for byte, is `OnDemand`. No value says nothing, and any other text is
+    /// the error.
     pub fn new<'a>(
         boolean: Result<Option<bool>, ValueError<'a>>,
     ) -> Result<Option<FetchRecurse>, &'a [u8]>

@@ -48,14 +48,15 @@ impl Model for File {
 }
 
 impl File {
-    /// What the text of `.gitmodules` says, read from the file `path` if it is one, with the overrides of a configuration
-    /// behind it.
+    /// What the text of `.gitmodules` says, read from the file `path` if it is one, with the
+    /// overrides of a configuration behind it.
     ///
     /// The values are not looked at before they are asked for.
     ///
     /// # Errors
     ///
-    /// - `Parse` names the first line that is outside the grammar of configurations, counted from 1.
+    /// - `Parse` names the first line that is outside the grammar of configurations, counted from
+    ///   1.
     /// - `OutOfMemory` for want of memory.
     pub fn from_bytes(
         alloc: Global,
@@ -93,10 +94,11 @@ impl File {
 
     /// Adds what a configuration says in place of `.gitmodules`, behind all that is there.
     ///
-    /// For each name that has a value of `branch`, `fetchRecurseSubmodules`, `ignore`, `update` or `url` there, in the order
-    /// of their bytes, this is one section with the last value of each of these keys; a key without value counts as the
-    /// empty text. The section has the configuration's path and source, or `Api` where that is `Modules`. The file stays as it
-    /// was where memory is refused.
+    /// For each name that has a value of `branch`, `fetchRecurseSubmodules`, `ignore`, `update` or
+    /// `url` there, in the order of their bytes, this is one section with the last value of each of
+    /// these keys; a key without value counts as the empty text. The section has the
+    /// configuration's path and source, or `Api` where that is `Modules`. The file stays as it was
+    /// where memory is refused.
     ///
     /// See docs/DIFFERENCES.md#gix-append-answer.
     pub fn append_submodule_overrides(
@@ -126,14 +128,16 @@ impl File {
         config
     }
 
-    /// All of it as one configuration: the sections of `.gitmodules`, tagged as such, and the overrides behind them.
+    /// All of it as one configuration: the sections of `.gitmodules`, tagged as such, and the
+    /// overrides behind them.
     pub fn config(&self) -> &config::File
         ensures { result.now ≡ self.now }
     {
         &self.config
     }
 
-    /// The path of the first section that has one, an override of a configuration among them; none without such a section.
+    /// The path of the first section that has one, an override of a configuration among them; none
+    /// without such a section.
     pub fn config_path(&self) -> Option<&[u8]>
         ensures { option_copied result ≡ access.config_path self.now.sections }
     {
@@ -145,8 +149,9 @@ impl File {
         None
     }
 
-    /// The names of the submodules: the subsections of the sections `submodule` of `.gitmodules`, each once, in the order
-    /// in which they first come. A submodule that only the configuration names is none.
+    /// The names of the submodules: the subsections of the sections `submodule` of `.gitmodules`,
+    /// each once, in the order in which they first come. A submodule that only the configuration
+    /// names is none.
     pub fn names(&self) -> Names<'_>
         ensures names { result ≡ module_names self.now.sections }
         ensures distinct { IsDistinct bytes_eq result }
@@ -188,14 +193,15 @@ impl File {
         Ok(None)
     }
 
-    /// What decides which submodules are active by a configuration: the path specs of `submodule.active`. Letters fold in
-    /// them if `defaults` says so.
+    /// What decides which submodules are active by a configuration: the path specs of
+    /// `submodule.active`. Letters fold in them if `defaults` says so.
     ///
     /// # Errors
     ///
-    /// - `ParsePattern` exactly where `Spec::parse` refuses the first value that it refuses by `Parse`: its number, counted
-    ///   from 1, and the place in it.
-    /// - `NormalizePattern` exactly where it refuses that value by `Normalize`: its number, counted from 1.
+    /// - `ParsePattern` exactly where `Spec::parse` refuses the first value that it refuses by
+    ///   `Parse`: its number, counted from 1, and the place in it.
+    /// - `NormalizePattern` exactly where it refuses that value by `Normalize`: its number, counted
+    ///   from 1.
     /// - `OutOfMemory` for want of memory.
     ///
     /// See docs/DIFFERENCES.md#module-active-unread.
@@ -210,8 +216,8 @@ impl File {
         IsActivePlatform::new(alloc, config, defaults)
     }
 
-    /// The names of the submodules in their order, each with whether it is active by a configuration, or with the text of
-    /// its `submodule.NAME.active` where that is no boolean.
+    /// The names of the submodules in their order, each with whether it is active by a
+    /// configuration, or with the text of its `submodule.NAME.active` where that is no boolean.
     ///
     /// # Errors
     ///

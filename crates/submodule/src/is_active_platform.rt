@@ -127,12 +127,13 @@ impl IsActivePlatform {
         }
     }
 
-    /// Whether the submodule of a name is active: the rule of gitsubmodules(7) under "Active submodules", for the name in place
-    /// of the path.
+    /// Whether the submodule of a name is active: the rule of gitsubmodules(7) under "Active
+    /// submodules", for the name in place of the path.
     ///
-    /// `submodule.NAME.active` of the configuration decides, if it is set; the error has its text where it is no boolean.
-    /// Else, where `submodule.active` has values, they decide: the submodule is active if the name, as that of a directory,
-    /// is matched and not excluded. Else it is active if the configuration has a `submodule.NAME.url`.
+    /// `submodule.NAME.active` of the configuration decides, if it is set; the error has its text
+    /// where it is no boolean. Else, where `submodule.active` has values, they decide: the
+    /// submodule is active if the name, as that of a directory, is matched and not excluded. Else
+    /// it is active if the configuration has a `submodule.NAME.url`.
     ///
     /// See docs/DIFFERENCES.md#module-url-without-value.
     pub fn is_active<'c>(

@@ -84,8 +84,8 @@ fn is_inside(alloc: Global, path: &[u8]) -> Result<bool, OutOfMemory>
     Ok(path.normalize(alloc)?.is_some())
 }
 
-/// Whether a path may be that of a submodule: it is not empty, not absolute, and leads to a place inside the work tree.
-/// See docs/DIFFERENCES.md#module-bad-path.
+/// Whether a path may be that of a submodule: it is not empty, not absolute, and leads to a place
+/// inside the work tree. See docs/DIFFERENCES.md#module-bad-path.
 pub(crate) fn is_path(alloc: Global, path: &[u8]) -> Result<bool, OutOfMemory>
     ensures { IfOk result (λ is. is ≡ access.is_path path.now) }
 {

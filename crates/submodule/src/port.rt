@@ -21,8 +21,8 @@ fn with_digit(number: u16, byte: u8) -> Option<u16>
     Some(more as u16)
 }
 
-/// The number that a text writes in decimal digits; none where it has another byte, or the number is above 65535.
-/// See docs/DIFFERENCES.md#url-port-zeros.
+/// The number that a text writes in decimal digits; none where it has another byte, or the number
+/// is above 65535. See docs/DIFFERENCES.md#url-port-zeros.
 fn number(text: &[u8]) -> Option<u16>
     ensures { result ≡ urls.port_number text.now }
 {

@@ -13,7 +13,8 @@ use git_config_lite::Source;
 use gitbase_core::{Bytes, OutOfMemory};
 use std::alloc::Global;
 
-/// How a submodule is brought to the commit that the superproject records, as `submodule.NAME.update` of gitmodules(5).
+/// How a submodule is brought to the commit that the superproject records, as
+/// `submodule.NAME.update` of gitmodules(5).
 #[derive(Debug, Default, Drop, PartialEq, Eq, PartialOrd, Ord, Hash)]
 pub enum Update {
     /// The commit is checked out.
@@ -87,7 +88,8 @@ impl From<OutOfMemory> for Error {
 }
 
 impl Update {
-    /// What a text says: `checkout`, `rebase`, `merge` or `none`, byte for byte, or a command behind a `!`.
+    /// What a text says: `checkout`, `rebase`, `merge` or `none`, byte for byte, or a command
+    /// behind a `!`.
     ///
     /// # Errors
     ///

@@ -92,9 +92,10 @@ impl From<OutOfMemory> for Error {
 impl Url {
     /// The parts of a url.
     ///
-    /// A scheme, which is a letter and then letters, digits, `+`, `.` and `-`, is followed by `://`, the authority up to
-    /// the first `/`, and the path. Else a text whose first `:` has some byte before it and no `/` is `[user@]host:path`
-    /// over ssh, and any other one a path on this machine.
+    /// A scheme, which is a letter and then letters, digits, `+`, `.` and `-`, is followed by
+    /// `://`, the authority up to the first `/`, and the path. Else a text whose first `:` has some
+    /// byte before it and no `/` is `[user@]host:path` over ssh, and any other one a path on this
+    /// machine.
     ///
     /// # Errors
     ///

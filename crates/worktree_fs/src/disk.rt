@@ -1,4 +1,5 @@
-//! The files of the system as a worktree: the edge of which the counts, the names and the sizes are proved, and not what it holds.
+//! The files of the system as a worktree: the edge of which the counts, the names and the sizes are
+//! proved, and not what it holds.
 ghost use Rattle.std.specs.Prelude.{◌≡◌, ◌≤◌, ◌^◌, ◌&&◌, length, None, Ok, IfOk, IsErrOf, MatchResult, false, All, IsTrue};
 ghost use Rattle.worktree_fs.specs.Causes.{Increased, next};
 ghost use Rattle.worktree_fs.specs.Disk.{is_fault, is_listing_fault, has_nul, is_unaskable, more_if, counted_call, counted_read, counted_listing, uncounted, IsGiven};
@@ -24,18 +25,20 @@ use std::rt::HostRuntime;
 
 /// A worktree over the files of the system, which resolves paths.
 ///
-/// It tells nothing of what it finds. It counts every failed call, but not its own want of memory: what the system
-/// refuses, its limit on links too; a name that cannot stand in a directory, two equal names and more than 1,000,000
-/// names in one listing; and a file of more than 1 GiB. A path that is not UTF-8 is such a failure of every call, since
-/// std has none for it; one with a NUL leads nowhere, UTF-8 or not. Slashes at
-/// the end of a path mean nothing, and the empty path is `/`, but for `real_path`, which takes it from `cwd`. A path
-/// that does not begin with `/` is taken as the system takes it, from the current directory.
+/// It tells nothing of what it finds. It counts every failed call, but not its own want of memory:
+/// what the system refuses, its limit on links too; a name that cannot stand in a directory, two
+/// equal names and more than 1,000,000 names in one listing; and a file of more than 1 GiB. A path
+/// that is not UTF-8 is such a failure of every call, since std has none for it; one with a NUL
+/// leads nowhere, UTF-8 or not. Slashes at the end of a path mean nothing, and the empty path is
+/// `/`, but for `real_path`, which takes it from `cwd`. A path that does not begin with `/` is
+/// taken as the system takes it, from the current directory.
 ///
 /// Contracts see its counts.
 #[derive(Drop)]
 pub struct DiskWorktree<'a> {
     rt: &'a HostRuntime,
     composes: bool,
+    current: &'a str,
     buffer: Vec<u8>,
     faults: u64,
     list_faults: u64,
@@ -64,9 +67,23 @@ impl<'a> DiskWorktree<'a> {
         ensures { result
             ≡ record { composes = composes; faults = 0; list_faults = 0; reads = 0; lists = 0 } }
     {
+        DiskWorktree::beside(rt, composes, "")
+    }
+
+    /// The same, which asks the system for a path beneath the current directory as it leads from there,
+    /// so that the system walks fewer components. `current` is the path of the current directory as the
+    /// system tells it, absolute and without links, with a slash at its end; any other text is not heeded.
+    ///
+    /// What is asked for is the same node as long as no directory on the way to the current one is renamed
+    /// or removed meanwhile; then it is one in the directory that was the current one from the start.
+    pub fn beside(rt: &'a HostRuntime, composes: bool, current: &'a str) -> DiskWorktree<'a>
+        ensures { result
+            ≡ record { composes = composes; faults = 0; list_faults = 0; reads = 0; lists = 0 } }
+    {
         DiskWorktree {
             rt,
             composes,
+            current: if current.ends_with('/') { current } else { "" },
             buffer: Vec::new(rt.alloc()),
             faults: 0,
             list_faults: 0,
@@ -138,7 +155,7 @@ impl<'a> Worktree for DiskWorktree<'a> {
         ensures unaskable { IsTrue (is_unaskable path.now) → IsErrOf result ReadError.Fault }
         ensures nowhere { IsTrue (has_nul path.now) → result ≡ Ok None }
     {
-        let found = look(self.rt, path, false);
+        let found = look(self.rt, self.current, path, false);
         self.count(is_fault(&found), false);
         found
     }
@@ -154,13 +171,13 @@ impl<'a> Worktree for DiskWorktree<'a> {
         ensures unaskable { IsTrue (is_unaskable path.now) → IsErrOf result ReadError.Fault }
         ensures nowhere { IsTrue (has_nul path.now) → result ≡ Ok None }
     {
-        let found = look(self.rt, path, true);
+        let found = look(self.rt, self.current, path, true);
         self.count(is_fault(&found), false);
         found
     }
 
-    /// Sorted by bytes. The directory is opened once; where the system says that it is absent or no directory its path is
-    /// looked at once more.
+    /// Sorted by bytes. The directory is opened once; where the system says that it is absent or no
+    /// directory its path is looked at once more.
     fn list(&mut self, alloc: Global, path: &[u8], follow: bool) -> Result<NameList, ListError>
         ensures state { self.new ≡ counted_listing (is_listing_fault result) self.old }
         ensures names { IfOk result AreNames }
@@ -186,6 +203,7 @@ impl<'a> Worktree for DiskWorktree<'a> {
             alloc,
             self.composes,
             &mut self.buffer,
+            self.current,
             path,
             follow,
         );
@@ -193,8 +211,8 @@ impl<'a> Worktree for DiskWorktree<'a> {
         names
     }
 
-    /// The node is looked at before it is opened, so that no pipe or device is, unless another program puts one there
-    /// meanwhile.
+    /// The node is looked at before it is opened, so that no pipe or device is, unless another
+    /// program puts one there meanwhile.
     fn read(
         &mut self,
         alloc: Global,
@@ -215,7 +233,7 @@ impl<'a> Worktree for DiskWorktree<'a> {
         ensures reads_later { self.old.reads ≤ self.new.reads }
     {
         self.reads = self.reads.saturating_add(1);
-        let answer = read_into(self.rt, alloc, path, follow, into);
+        let answer = read_into(self.rt, alloc, self.current, path, follow, into);
         self.count(is_fault(&answer), false);
         answer
     }
@@ -268,7 +286,7 @@ impl<'a> Worktree for DiskWorktree<'a> {
         ensures unaskable { IsTrue (is_unaskable path.now) → IsErrOf result ReadError.Fault }
         ensures nowhere { IsTrue (has_nul path.now) → result ≡ Ok RemoveAnswer.Absent }
     {
-        let answer = remove_node(self.rt, path);
+        let answer = remove_node(self.rt, self.current, path);
         self.count(is_fault(&answer), false);
         answer
     }
@@ -280,6 +298,7 @@ impl<'a> Worktree for DiskWorktree<'a> {
         Ok(DiskWorktree {
             rt: self.rt,
             composes: self.composes,
+            current: self.current,
             buffer: Vec::new(self.rt.alloc()),
             faults: 0,
             list_faults: 0,

@@ -10,7 +10,8 @@ use std::cell::Cell;
 use std::marker::Model;
 use std::rc::Rc;
 
-/// Something that may ask a long call to stop, and counts how often it was asked and how often it said so.
+/// Something that may ask a long call to stop, and counts how often it was asked and how often it
+/// said so.
 ///
 /// Both counts are of 64 bits, stand at their last value, and never fall.
 pub trait Interrupt {
@@ -28,7 +29,8 @@ pub trait Interrupt {
         ensures kept { OnFalse result (raised self.new ≡ raised self.old) }
         ensures later { raised self.old ≤ raised self.new };
 
-    /// Another one, which was not asked yet; whether and when it is raised is each implementation's own affair.
+    /// Another one, which was not asked yet; whether and when it is raised is each implementation's
+    /// own affair.
     ///
     /// Who takes a fork hands it back by `absorb`: it cannot be let go in generic code.
     ///
@@ -137,8 +139,8 @@ impl Interrupt for PlannedInterrupt {
     }
 }
 
-/// An interrupt that is raised once its flag is, which it shares with its forks. Something that is called on the way,
-/// as a worktree of the caller's own, raises it through a fork.
+/// An interrupt that is raised once its flag is, which it shares with its forks. Something that is
+/// called on the way, as a worktree of the caller's own, raises it through a fork.
 ///
 /// Contracts see both counts, and not the flag.
 #[derive(Drop)]

@@ -1,5 +1,5 @@
-//! A tree of files as the layers above see it: asked call by call, with each failure counted; beside it the question
-//! whether to stop, and where bytes are written to.
+//! A tree of files as the layers above see it: asked call by call, with each failure counted;
+//! beside it the question whether to stop, and where bytes are written to.
 #![tactic(auto)]
 
 mod answers;

@@ -41,8 +41,8 @@ use std::marker::Model;
 
 /// A tree in memory, whose names are sorted in each directory and found by binary search.
 ///
-/// Paths are followed by a loop, however deep the tree is. Adding, making and removing a node, forking, and letting the
-/// tree go take frames of the stack for each directory on the way.
+/// Paths are followed by a loop, however deep the tree is. Adding, making and removing a node,
+/// forking, and letting the tree go take frames of the stack for each directory on the way.
 ///
 /// Contracts see all that it holds, the planned faults, and the counts.
 ///
@@ -123,7 +123,8 @@ impl MemoryWorktree {
     ///
     /// The tree stays for each; the first that fits is the answer.
     ///
-    /// - `NotNormal` exactly where the path is not a slash and names with one slash between each two.
+    /// - `NotNormal` exactly where the path is not a slash and names with one slash between each
+    ///   two.
     /// - `NoParent` exactly where a node on the way is no directory.
     /// - `Exists` exactly where there is a node already.
     /// - `OutOfMemory` for want of memory.
@@ -299,8 +300,8 @@ impl Worktree for MemoryWorktree {
         Ok(self.root.kind(path, true))
     }
 
-    /// In the order of the tree, or from last to first where that was asked for. `add` and `make_dir` put each name before
-    /// the first greater one.
+    /// In the order of the tree, or from last to first where that was asked for. `add` and
+    /// `make_dir` put each name before the first greater one.
     fn list(&mut self, alloc: Global, path: &[u8], follow: bool) -> Result<NameList, ListError>
         ensures opened { IsErrOf result ListError.OpenFault ↔ IsTrue
             (fails self.old CallKind.ListOpen) }

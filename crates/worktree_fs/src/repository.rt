@@ -14,8 +14,8 @@ use crate::{NodeKind, ReadAnswer, ReadError, Worktree};
 use gitbase_core::{Bytes, OutOfMemory, PathText};
 use std::alloc::Global;
 
-/// Whether the path without links of what a path leads to is `own`; false where it leads to nothing, and where the
-/// question failed, which is counted.
+/// Whether the path without links of what a path leads to is `own`; false where it leads to
+/// nothing, and where the question failed, which is counted.
 ///
 /// # Errors
 ///
@@ -43,9 +43,10 @@ pub fn real_path_is<W: Worktree>(
     }
 }
 
-/// Whether a path, links followed, leads to a repository: to a git directory, or to a file that names one; false too
-/// where a question failed, which is counted. Nothing is read where the path leads nowhere; else at most three files
-/// are: the one at the path, and `commondir` and `HEAD` of the git directory.
+/// Whether a path, links followed, leads to a repository: to a git directory, or to a file that
+/// names one; false too where a question failed, which is counted. Nothing is read where the path
+/// leads nowhere; else at most three files are: the one at the path, and `commondir` and `HEAD` of
+/// the git directory.
 ///
 /// # Errors
 ///
@@ -77,7 +78,8 @@ pub fn is_git<W: Worktree>(
     }
 }
 
-/// Whether a path leads to a repository, as [`is_git`] says, for callers that may not read a fault as no.
+/// Whether a path leads to a repository, as [`is_git`] says, for callers that may not read a fault
+/// as no.
 ///
 /// # Errors
 ///
@@ -154,7 +156,8 @@ pub fn is_git_below<W: Worktree>(
     is_git_directory(alloc, worktree, git, common.as_bytes())
 }
 
-/// The common directory of a git directory: what its file `commondir` names, from the git directory on; itself where there is none.
+/// The common directory of a git directory: what its file `commondir` names, from the git directory
+/// on; itself where there is none.
 ///
 /// # Errors
 ///
@@ -249,8 +252,8 @@ fn is_directory<W: Worktree>(
     Ok(kind == Some(NodeKind::Directory))
 }
 
-/// Reads the bytes of a file into `into`, where a path leads to one, links followed; false where it leads to another node or to
-/// nothing.
+/// Reads the bytes of a file into `into`, where a path leads to one, links followed; false where it
+/// leads to another node or to nothing.
 ///
 /// # Errors
 ///

@@ -14,11 +14,12 @@ use std::alloc::Global;
 
 /// A tree of files, asked call by call.
 ///
-/// In a told tree paths begin at `/`, whether or not they are written so; what a relative path means to a worktree that
-/// tells nothing is its own affair. Links on the way are followed, in a told tree at most 32 of them in one call, and a
-/// last one only where the call says so. Absence, a wrong kind and a link are answers; whatever else a device may say is
-/// a fault, and is counted. Counts are of 64 bits, and stand at their last value. Only `make_dir` and `remove_node`
-/// change the tree.
+/// In a told tree paths begin at `/`, whether or not they are written so; what a relative path
+/// means to a worktree that tells nothing is its own affair. Links on the way are followed, in a
+/// told tree at most 32 of them in one call, and a last one only where the call says so. Absence, a
+/// wrong kind and a link are answers; whatever else a device may say is a fault, and is counted.
+/// Counts are of 64 bits, and stand at their last value. Only `make_dir` and `remove_node` change
+/// the tree.
 ///
 /// Contracts speak of the tree where the worktree tells it, and of the counts always.
 ///
@@ -27,7 +28,8 @@ pub trait Worktree {
     /// What is in `/`, where the worktree tells it.
     ghost told: { Self → Option Names };
 
-    /// At most so many calls failed, since one that fails raises it by one or more, and it stands at its type's end; it never falls.
+    /// At most so many calls failed, since one that fails raises it by one or more, and it stands
+    /// at its type's end; it never falls.
     ghost faults: { Self → ℕ };
 
     /// The same of listings that failed, at opening or while names were read; it never falls.
@@ -67,8 +69,8 @@ pub trait Worktree {
         ensures lists { lists self.new ≡ lists self.old }
         ensures precomposes { precomposes self.new ≡ precomposes self.old };
 
-    /// The kind of the node that a path leads to, a last link followed; none where nothing is there, so too for a
-    /// dangling or an endless link.
+    /// The kind of the node that a path leads to, a last link followed; none where nothing is
+    /// there, so too for a dangling or an endless link.
     ///
     /// # Errors
     ///
@@ -87,15 +89,16 @@ pub trait Worktree {
         ensures lists { lists self.new ≡ lists self.old }
         ensures precomposes { precomposes self.new ≡ precomposes self.old };
 
-    /// The names of a directory, each once, in an order of the worktree's own, and as they are kept: with their characters
-    /// composed where the worktree composes names. With `follow` a last link is followed.
+    /// The names of a directory, each once, in an order of the worktree's own, and as they are
+    /// kept: with their characters composed where the worktree composes names. With `follow` a last
+    /// link is followed.
     ///
     /// # Errors
     ///
     /// - `Absent` where the path leads nowhere, so too along a dangling or an endless link.
     /// - `NotADirectory` where it leads to another node, so too to a link that is not followed.
-    /// - `OpenFault` where the directory could not be opened, only where it was counted, as a fault and as a fault of a
-    ///   listing.
+    /// - `OpenFault` where the directory could not be opened, only where it was counted, as a fault
+    ///   and as a fault of a listing.
     /// - `EntryFault` where its names could not be read, counted so too.
     /// - `OutOfMemory` for want of memory.
     ///
@@ -121,8 +124,8 @@ pub trait Worktree {
         ensures lists_later { lists self.old ≤ lists self.new }
         ensures precomposes { precomposes self.new ≡ precomposes self.old };
 
-    /// Reads the bytes of a file in the place of those in `into`, which stay for any other answer. With `follow` a
-    /// last link is followed, and a dangling one is absent.
+    /// Reads the bytes of a file in the place of those in `into`, which stay for any other answer.
+    /// With `follow` a last link is followed, and a dangling one is absent.
     ///
     /// # Errors
     ///
@@ -152,8 +155,8 @@ pub trait Worktree {
         ensures lists { lists self.new ≡ lists self.old }
         ensures precomposes { precomposes self.new ≡ precomposes self.old };
 
-    /// The path of the node that a path leads to, without links; none where it leads to none. A path that does not
-    /// begin at `/` is taken from `cwd`.
+    /// The path of the node that a path leads to, without links; none where it leads to none. A
+    /// path that does not begin at `/` is taken from `cwd`.
     ///
     /// # Errors
     ///
@@ -177,9 +180,9 @@ pub trait Worktree {
         ensures lists { lists self.new ≡ lists self.old }
         ensures precomposes { precomposes self.new ≡ precomposes self.old };
 
-    /// Makes a directory, whose parent has to be there. A last link is not followed: it is a node. Where names are listed
-    /// composed, the name of the new directory is composed too. A name in a directory that is there, which is kept as
-    /// it is, is never refused as `NoParent`.
+    /// Makes a directory, whose parent has to be there. A last link is not followed: it is a node.
+    /// Where names are listed composed, the name of the new directory is composed too. A name in a
+    /// directory that is there, which is kept as it is, is never refused as `NoParent`.
     ///
     /// # Errors
     ///
@@ -209,8 +212,9 @@ pub trait Worktree {
         ensures lists { lists self.new ≡ lists self.old }
         ensures precomposes { precomposes self.new ≡ precomposes self.old };
 
-    /// Removes a node that is no directory. A last link is not followed: it is removed itself. Where a node was removed nothing
-    /// is at its path, and every other path leads where it led, unless it came to that node.
+    /// Removes a node that is no directory. A last link is not followed: it is removed itself.
+    /// Where a node was removed nothing is at its path, and every other path leads where it led,
+    /// unless it came to that node.
     ///
     /// # Errors
     ///

@@ -1,4 +1,5 @@
-//! Jobs over forks of a worktree, a store and an interrupt, one after another; every fork is absorbed.
+//! Jobs over forks of a worktree, a store and an interrupt, one after another; every fork is
+//! absorbed.
 ghost use Rattle.std.specs.Prelude.{◌≡◌, ◌≤◌, IsErrOf};
 ghost use Rattle.gitbase_core.specs.Causes.{next, Increased};
 ghost use Rattle.worktree_fs.specs.Kept.{Lists, AsksStore};
@@ -32,7 +33,8 @@ impl From<OutOfMemory> for WalkError {
 
 /// Lists a directory on the worktree handed in, and each name in it on a fork.
 ///
-/// That counts rise by those of the forks is told by no clause here: the forks are gone when the call returns.
+/// That counts rise by those of the forks is told by no clause here: the forks are gone when the
+/// call returns.
 pub fn walk_at_once<W: Worktree, F: Find, I: Interrupt>(
     alloc: Global,
     worktree: &mut W,

@@ -5,8 +5,8 @@ use worktree_fs::{
     AddError, CallKind, MakeAnswer, MemoryWorktree, NewNode, ReadError, RemoveAnswer, Worktree,
 };
 
-/// Scripts, parted by bars: steps in a row, parted by semicolons, each of a call, a path and the answer. A tree of a
-/// script that begins with `composed` composes names.
+/// Scripts, parted by bars: steps in a row, parted by semicolons, each of a call, a path and the
+/// answer. A tree of a script that begins with `composed` composes names.
 const ROWS: &[u8] = b"\
 add``abnormal;add`/`abnormal;add`w/x`abnormal;add`/w//x`abnormal;add`/w/x/`abnormal;add`/w/./x`abnormal|\
 add`/w/f/..`abnormal;add`/w/x\0`abnormal;add`/w/\xff`abnormal;add`/w/f/x`orphan;add`/w/a/x`orphan|\

@@ -1,5 +1,6 @@
-//! The files of the system. Root may open every directory, so none that may not be opened is among them, and no name that
-//! is not UTF-8 can be made through the paths of the standard library: such a path is asked for, and refused.
+//! The files of the system. Root may open every directory, so none that may not be opened is among
+//! them, and no name that is not UTF-8 can be made through the paths of the standard library: such
+//! a path is asked for, and refused.
 use crate::rows::{kind_word, parted};
 use gitbase_core::Bytes;
 use std::alloc::Global;
@@ -10,8 +11,8 @@ use worktree_fs::{
     DiskWorktree, ListError, MakeAnswer, NameList, ReadAnswer, ReadError, RemoveAnswer, Worktree,
 };
 
-/// Questions, parted by bars: what is asked, about which name in the folder, the answer, and how many faults were
-/// counted.
+/// Questions, parted by bars: what is asked, about which name in the folder, the answer, and how
+/// many faults were counted.
 const ROWS: &[u8] = b"\
 kind`f`file`|follow`f`file`|kind`f/`file`|kind`l`link`|follow`l`file`|kind`d`directory`|kind`a/`link`|\
 follow`a/`directory`|kind`a/b`file`|kind`f/x`none`|kind`z`none`|kind`p`link`|follow`p`fault`1|\
@@ -159,12 +160,12 @@ fn listing_faults(want: &[u8], faults: &[u8]) -> u64 {
     }
 }
 
-fn holds(rt: &HostRuntime, folder: &[u8], row: &[u8]) -> bool {
+fn holds(rt: &HostRuntime, current: &str, folder: &[u8], row: &[u8]) -> bool {
     let (question, rest) = parted(row);
     let (name, rest) = parted(rest);
     let (want, faults) = parted(rest);
     let composes = matches!(question, b"composed" | b"make composed");
-    let mut disk = DiskWorktree::new(rt, composes);
+    let mut disk = DiskWorktree::beside(rt, composes, current);
     match inside(rt.alloc(), folder, name) {
         Some(path) => {
             answers(rt.alloc(), &mut disk, question, &path, want)
@@ -175,8 +176,8 @@ fn holds(rt: &HostRuntime, folder: &[u8], row: &[u8]) -> bool {
     }
 }
 
-/// A path that is longer than the system takes is a fault, and so is a name that is too long, in each call but a listing,
-/// which is asked below.
+/// A path that is longer than the system takes is a fault, and so is a name that is too long, in
+/// each call but a listing, which is asked below.
 fn refuses_long(rt: &HostRuntime) -> bool {
     let alloc = rt.alloc();
     let mut disk = DiskWorktree::new(rt, false);
@@ -193,7 +194,8 @@ fn refuses_long(rt: &HostRuntime) -> bool {
         && disk.list_fault_count() == 0
 }
 
-/// A listing of a path that is too long fails at opening; a fork's counts are added to those of the worktree.
+/// A listing of a path that is too long fails at opening; a fork's counts are added to those of the
+/// worktree.
 fn counts_long_listing(rt: &HostRuntime) -> bool {
     let alloc = rt.alloc();
     let mut disk = DiskWorktree::new(rt, false);
@@ -221,7 +223,8 @@ fn refuses_odd_directory(rt: &HostRuntime) -> bool {
     }
 }
 
-/// A relative path is taken from the current directory, and one without links from the directory that is given.
+/// A relative path is taken from the current directory, and one without links from the directory
+/// that is given.
 fn takes_relative(rt: &HostRuntime, folder: &[u8]) -> bool {
     let alloc = rt.alloc();
     let mut disk = DiskWorktree::new(rt, false);
@@ -235,10 +238,10 @@ fn takes_relative(rt: &HostRuntime, folder: &[u8]) -> bool {
 }
 
 /// A folder of this process among the temporary files.
-fn folder(rt: &HostRuntime) -> io::Result<String> {
+fn folder(rt: &HostRuntime, name: &str) -> io::Result<String> {
     let temporary = env::temp_dir(rt)?;
     let id = process::id(rt.process());
-    Ok(format!(in rt.alloc(); "{}/worktree_fs_{id}", temporary.display())?)
+    Ok(format!(in rt.alloc(); "{}/worktree_fs_{name}_{id}", temporary.display())?)
 }
 
 fn make_node(rt: &HostRuntime, folder: &str, what: u8, name: &str) -> io::Result<()> {
@@ -276,12 +279,30 @@ fn make_nodes(rt: &HostRuntime, folder: &str) -> io::Result<()> {
 
 #[test]
 fn the_disk_answers_as_a_tree(rt: HostRuntime) -> Result<(), Fail> {
-    let folder = folder(&rt)?;
+    let folder = folder(&rt, "whole")?;
     make_nodes(&rt, folder.as_str())?;
     for row in ROWS.split(|byte| *byte == b'|') {
-        assert!(rt; holds(&rt, folder.as_bytes(), row), "{row:?}");
+        assert!(rt; holds(&rt, "", folder.as_bytes(), row), "{row:?}");
     }
     assert!(rt; takes_relative(&rt, folder.as_bytes()));
+    fs::remove_dir_all(&rt, folder.as_str())?;
+    Ok(())
+}
+
+/// Beneath the current directory the answers are the same.
+#[test]
+fn the_disk_answers_from_the_current_directory(rt: HostRuntime) -> Result<(), Fail> {
+    let folder = folder(&rt, "here")?;
+    make_nodes(&rt, folder.as_str())?;
+    let current = format!(in rt.alloc(); "{folder}/")?;
+    env::set_current_dir(&rt, folder.as_str())?;
+    for row in ROWS.split(|byte| *byte == b'|') {
+        assert!(rt;
+            holds(&rt, current.as_str(), folder.as_bytes(), row),
+            "{row:?}"
+        );
+    }
+    env::set_current_dir(&rt, "/")?;
     fs::remove_dir_all(&rt, folder.as_str())?;
     Ok(())
 }

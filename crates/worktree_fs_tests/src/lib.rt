@@ -1,5 +1,5 @@
-//! What trees of files, interrupts, sinks and stacks of paths answer in cases worked out by hand; beside it a caller
-//! that works on forks.
+//! What trees of files, interrupts, sinks and stacks of paths answer in cases worked out by hand;
+//! beside it a caller that works on forks.
 #![tactic(auto)]
 
 pub mod at_once;

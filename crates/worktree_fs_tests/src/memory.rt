@@ -148,7 +148,8 @@ fn a_resolution_follows_32_links(rt: HostRuntime) {
     assert!(rt; follows(rt.alloc(), 32, b"file") && follows(rt.alloc(), 33, b"none"));
 }
 
-/// Asks for a kind twice, where the second question is planned to fail, on a fork and on the tree itself.
+/// Asks for a kind twice, where the second question is planned to fail, on a fork and on the tree
+/// itself.
 fn counts_faults(alloc: Global) -> bool {
     let mut tree = sample(alloc, false);
     let is_planned = tree.fail(alloc, CallKind::Kind, 2).is_ok();

@@ -83,7 +83,8 @@ impl<'a, A: Abort> Recorder<'a, A> {
         }
     }
 
-    /// The calls as a text: `d` a directory, `p` a path on the way, `l` the last one, `^` a pop, `!` a refusal.
+    /// The calls as a text: `d` a directory, `p` a path on the way, `l` the last one, `^` a pop,
+    /// `!` a refusal.
     fn text(&self) -> Result<Vec<u8>, OutOfMemory> {
         let mut text = Vec::new(self.alloc);
         for told in &self.calls {
@@ -151,7 +152,8 @@ impl<'a, A: Abort> PathDelegate for Recorder<'a, A> {
     }
 }
 
-/// What a lookup answered: `+`, `n` for a path that is not normal, `!` for a delegate's refusal, `m` for want of memory.
+/// What a lookup answered: `+`, `n` for a path that is not normal, `!` for a delegate's refusal,
+/// `m` for want of memory.
 fn answer(looked: Result<(), PathStackError<Planned>>) -> u8 {
     match looked {
         Ok(()) => b'+',
@@ -161,8 +163,9 @@ fn answer(looked: Result<(), PathStackError<Planned>>) -> u8 {
     }
 }
 
-/// One lookup after another, parted by bars: the path, a stroke for each call up to the one that is refused, the answer,
-/// the calls, a stroke for each directory that is pushed then, and the current path.
+/// One lookup after another, parted by bars: the path, a stroke for each call up to the one that is
+/// refused, the answer, the calls, a stroke for each directory that is pushed then, and the current
+/// path.
 const ROWS: &[u8] = b"\
 a/b`i`!`!d ``/w|a/b/c``+`d pa da pa/b da/b la/b/c `iii`/w/a/b/c|a/b``+`^ la/b `ii`/w/a/b|\
 a/x//y``+`pa/x da/x la/x/y `iii`/w/a/x/y|../x``n``iii`/w/a/x/y|/a``n``iii`/w/a/x/y|./a``n``iii`/w/a/x/y|\

@@ -3,7 +3,8 @@ use bstr::ByteSlice;
 use std::alloc::Global;
 use worktree_fs::{MemoryWorktree, NewNode, NodeKind};
 
-/// The nodes of the sample, parted by bars: what each is, its path, and its bytes or its target, parted by backquotes.
+/// The nodes of the sample, parted by bars: what each is, its path, and its bytes or its target,
+/// parted by backquotes.
 const NODES: &[u8] = b"\
 file`/w/f`x|link`/w/l`f|link`/w/p`p|other`/w/o`|file`/w/d/g`y|directory`/w/d/B`|link`/w/a`/w/d|\
 link`/w/u`../w/./d//g|link`/w/e`|link`/w/n`f\0|link`/w/t`\xff|\

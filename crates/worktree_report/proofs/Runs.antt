@@ -27,8 +27,8 @@ use Rattle.worktree_report.specs.Run as top
 use Rattle.worktree_report.proofs.Refusing.{InOrder-made, InOrder-unread}
 
 -- a count that rose from later on rose from before
-pub Rose-before : (before later now : ℕ) → before ≤ later → Increased later now → Increased before now
-Rose-before before later now older rose = omega arith
+pub Increased-before : (before later now : ℕ) → before ≤ later → Increased later now → Increased before now
+Increased-before before later now older rose = omega arith
 
 pub Quiet-later : (before later now : ℕ) → before ≤ later → NotIncreased before now → NotIncreased later now
 Quiet-later before later now older quiet = omega arith
@@ -171,7 +171,7 @@ module _ {W I : Type 0} (w : WorktreeOf W) (i : InterruptOf I) (w0 w1 w2 : W) (i
             };
         walk = λ t told quiet word p is. record { setup = setup; read = read t told; refused = texts.refused t (tree ∙ told) (Quiet-later _ _ _ faults quiet) word p is };
         about = λ word p is. record { setup = setup; read = read; about = subst (λ (told : Option Names). IsAboutWalkAt (w.precomposes w0) told places.root (made setup) word p) tree (texts.about word p is) };
-        cause = λ is. Rose-before _ _ _ faults (texts.cause is);
+        cause = λ is. Increased-before _ _ _ faults (texts.cause is);
         fault_late = λ is.
             elim (texts.fault_late is) [
               | inl early ↦ inl (record {
@@ -206,7 +206,7 @@ module _ {W I : Type 0} (w : WorktreeOf W) (i : InterruptOf I) (w0 w1 w2 : W) (i
         | inr other ↦ elim other [
           | inl failed ↦ subst (λ (r : Refusal). top.HasCauses w i w0 w2 i0 i1 made places (Err r)) (sym failed.0)
               (let known = failed.1.first.made.orderly.orderly in
-              HasCauses-fault w i w0 w2 i0 i1 made places (Rose-before _ _ _ faults failed.1.rose)
+              HasCauses-fault w i w0 w2 i0 i1 made places (Increased-before _ _ _ faults failed.1.rose)
               (inr (λ t told. record { setup = setup; read = read t told; known = (known.known, known.known_is t (tree ∙ told)) })))
           | inr none ↦ HasCauses-walked setup (Err refusal) read tree faults once listed none
         ]

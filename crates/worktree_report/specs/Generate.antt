@@ -17,7 +17,7 @@ use Rattle.worktree_report.specs.declared.setup.Setup.{Setup}
 use Rattle.worktree_report.specs.Asked.{read_in, walked_of}
 use Rattle.worktree_report.specs.Lines.{outcome_line}
 use Rattle.worktree_report.specs.SetupText.{setup_of}
-use Rattle.worktree_report.specs.Steps.{◌>>=◌}
+use Rattle.gitbase_core.specs.Steps.{◌>>=◌}
 
 -- ---- the files
 

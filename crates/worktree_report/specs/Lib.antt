@@ -27,7 +27,6 @@ pub mod Loads
 pub mod Outside
 pub mod Submodules
 pub mod Excluding
-pub mod Steps
 pub mod SetupIndex
 pub mod Asked
 pub mod Orderly

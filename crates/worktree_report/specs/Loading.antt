@@ -2,9 +2,8 @@
 use Rattle.std.specs.Prelude.{◌≡◌, ◌+◌, ℕ, List, [], ◌∷◌, ◌++◌, Bool, true, false, codes, count_by, Option, Some, None, Result, Ok, Err, if◌then◌else◌}
 use Rattle.gitbase_core.specs.Path.{joined}
 use Rattle.git_config_lite.specs.declared.metadata.Metadata.{Metadata}
-use Rattle.git_config_lite.specs.declared.metadata.Source.TheVariants.{Api}
 use Rattle.git_config_lite.specs.Grammar.{said}
-use Rattle.git_config_lite.specs.Sections.{Section, Configuration}
+use Rattle.git_config_lite.specs.Sections.{Section, Configuration, joint_meta}
 use Rattle.git_config_lite.specs.Writers.{with_sections}
 use Rattle.glob_rules.specs.PathSpec.{PathSpec}
 use Rattle.submodule.specs.declared.is_active_platform.Error.{Error as ActiveError}
@@ -40,10 +39,6 @@ bytes_at too_many_links = []
 -- where a configuration is read
 abbrev pub meta_of : ConfigFile → Metadata
 meta_of named = record { source = named.0; path = Some named.1 }
-
--- where several are read together: they are of no file, and the calling program puts them together
-abbrev pub joint_meta : Metadata
-joint_meta = record { source = Api; path = None }
 
 abbrev pub no_config : Configuration
 no_config = record { meta = joint_meta; sections = [] }

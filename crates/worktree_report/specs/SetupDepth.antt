@@ -1,7 +1,7 @@
 -- The depth limit of a setup.
 use Rattle.std.specs.Prelude.{ℕ, ◌+◌, ◌-◌, ◌*◌, List, [], ◌∷◌, nat_le, ◌==◌, ◌&&◌, if◌then◌else◌, codes, Option, Some, None}
 use Rattle.std.specs.Str.{bytes_eq}
-use Rattle.worktree_report.specs.Steps.{◌>>=◌}
+use Rattle.gitbase_core.specs.Steps.{◌>>=◌}
 
 -- a decimal digit
 abbrev pub digit_of : ℕ → Option ℕ

@@ -10,7 +10,7 @@ use Rattle.worktree_report.specs.ConfigFiles.{ConfigFile}
 use Rattle.worktree_report.specs.Escapes.{unescaped}
 use Rattle.worktree_report.specs.SetupFields.{parted}
 use Rattle.worktree_report.specs.SetupIndex.{id_of}
-use Rattle.worktree_report.specs.Steps.{◌>>=◌}
+use Rattle.gitbase_core.specs.Steps.{◌>>=◌}
 
 -- ---- blobs
 

@@ -7,7 +7,7 @@ use Rattle.gitbase_core.specs.Id.{id_of_hex}
 use Rattle.gitbase_core.specs.declared.entry.Mode.{Mode}
 use Rattle.gitbase_core.specs.declared.entry.Flags.{Flags}
 use Rattle.gitbase_core.specs.declared.entry.IndexEntry.{IndexEntry}
-use Rattle.worktree_report.specs.Steps.{◌>>=◌}
+use Rattle.gitbase_core.specs.Steps.{◌>>=◌}
 use Rattle.worktree_report.specs.Escapes.{unescaped}
 use Rattle.worktree_report.specs.SetupFields.{parted}
 

@@ -25,8 +25,8 @@ impl CountsFaults for MemoryWorktree {
     }
 }
 
-/// Whether a worktree failed since its count of faults was `before`, as far as that can be told: the
-/// count rose, or stands at its last value.
+/// Whether a worktree failed since its count of faults was `before`, as far as that can be told:
+/// the count rose, or stands at its last value.
 pub fn has_failed_since<W: CountsFaults>(worktree: &W, before: u64) -> bool
     ensures failed { result ≡ true → Increased before (W.faults worktree.now) }
     ensures unfailed { result ≡ false → NotIncreased before (W.faults worktree.now) }

@@ -90,8 +90,8 @@ fn current_dir_of<'a>(root: &'a [u8], setup: &'a Setup) -> &'a [u8]
     }
 }
 
-/// Walks the work tree at `root` as the setup asks for it, with these ignore rules, this look-up of the
-/// index and this git directory.
+/// Walks the work tree at `root` as the setup asks for it, with these ignore rules, this look-up of
+/// the index and this git directory.
 fn walk_with<'a, W: Worktree, F: Find, I: Interrupt>(
     alloc: Global,
     worktree: &'a mut W,

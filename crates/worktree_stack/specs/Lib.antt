@@ -1,6 +1,7 @@
 pub mod Excludes
 pub mod Setup
 pub mod Decided
+pub mod Exclusions
 pub mod Reading
 pub mod Stacked
 pub mod Refused

@@ -1,4 +1,5 @@
-//! What is said of attributes: by the lists of a caller, and by those of the directories on the way to a path.
+//! What is said of attributes: by the lists of a caller, and by those of the directories on the way
+//! to a path.
 ghost use Rattle.std.specs.Prelude.{◌≡◌, ◌++◌, [], ◌∷◌, true, Some, IfOk, OnOk, OnErr};
 ghost use Rattle.glob_rules.specs.AttributeLines as texts;
 ghost use Rattle.glob_rules.specs.AttributeNames.{SeesPart, names_in};
@@ -15,7 +16,8 @@ use std::marker::Model;
 
 /// What is said of attributes; gitoxide's `gix_worktree::stack::state::Attributes`.
 ///
-/// Contracts see a record: what it was made with, the names that were seen, and the lists of the directories that are pushed.
+/// Contracts see a record: what it was made with, the names that were seen, and the lists of the
+/// directories that are pushed.
 ///
 /// See docs/DECISIONS.md#attribute-names.
 #[derive(Drop)]
@@ -24,7 +26,8 @@ pub struct Attributes {
     info_attributes: Option<PathText>,
     source: Source,
     collection: MetadataCollection,
-    /// The lists of the pushed directories, the root's first; above the root's own that of the info file.
+    /// The lists of the pushed directories, the root's first; above the root's own that of the info
+    /// file.
     stack: Search,
 }
 
@@ -41,9 +44,10 @@ impl Model for Attributes {
 }
 
 impl Attributes {
-    /// Attributes with the lists of a caller, `globals`, below those of all directories. The file at `info_attributes`, a whole path,
-    /// comes above the root's own; it is followed where it is a link, and read with the root. `source` says where the `.gitattributes`
-    /// of directories are read. `collection` holds the names that `globals` speak of; those of all files that are read
+    /// Attributes with the lists of a caller, `globals`, below those of all directories. The file
+    /// at `info_attributes`, a whole path, comes above the root's own; it is followed where it is a
+    /// link, and read with the root. `source` says where the `.gitattributes` of directories are
+    /// read. `collection` holds the names that `globals` speak of; those of all files that are read
     /// are added. Takes no memory.
     pub fn new(
         alloc: Global,
@@ -67,7 +71,8 @@ impl Attributes {
         }
     }
 
-    /// The same with no directory pushed; fails only where memory is refused. Names that were seen stay seen.
+    /// The same with no directory pushed; fails only where memory is refused. Names that were seen
+    /// stay seen.
     pub(crate) fn fresh(&self, alloc: Global) -> Result<Attributes, OutOfMemory>
         ensures { IfOk result (λ attributes. Some attributes ≡ bare_attributes (Some self.now)) }
     {
@@ -105,8 +110,8 @@ impl Attributes {
         &self.collection
     }
 
-    /// Pushes the list of bytes that were read at `source`, for the paths beneath the directory `base`. Where memory is refused nothing
-    /// is pushed, and the first of the names may be seen.
+    /// Pushes the list of bytes that were read at `source`, for the paths beneath the directory
+    /// `base`. Where memory is refused nothing is pushed, and the first of the names may be seen.
     ///
     /// See docs/DECISIONS.md#attribute-missing.
     pub(crate) fn push_list(
@@ -167,9 +172,9 @@ impl Attributes {
         }
     }
 
-    /// Finds which attributes a path has beneath the directories that are pushed, among those that `out` asks for, which asks for all
-    /// names that were seen, where it has no selection; and tells whether the path has one. Where memory is refused, `out` has lost
-    /// what it asks for.
+    /// Finds which attributes a path has beneath the directories that are pushed, among those that
+    /// `out` asks for, which asks for all names that were seen, where it has no selection; and
+    /// tells whether the path has one. Where memory is refused, `out` has lost what it asks for.
     ///
     /// See docs/DECISIONS.md#attribute-root.
     pub(crate) fn matching(

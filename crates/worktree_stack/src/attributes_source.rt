@@ -2,7 +2,8 @@
 ghost use Rattle.std.specs.Prelude.{◌≡◌, ℕ, List, if◌then◌else◌};
 ghost use Rattle.worktree_stack.specs.declared.attributes_source.Source.TheVariants as sources;
 
-/// Where the `.gitattributes` of directories are read; gitoxide's `gix_worktree::stack::state::attributes::Source`.
+/// Where the `.gitattributes` of directories are read; gitoxide's
+/// `gix_worktree::stack::state::attributes::Source`.
 #[derive(Clone, Copy, Debug, PartialEq, Eq, Default)]
 pub enum Source {
     /// From the blobs that an index maps them to, and from nowhere else.

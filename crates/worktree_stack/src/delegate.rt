@@ -1,4 +1,5 @@
-//! Directories that a checkout makes on the way to a path; gitoxide's `gix_worktree::stack::delegate`.
+//! Directories that a checkout makes on the way to a path; gitoxide's
+//! `gix_worktree::stack::delegate`.
 ghost use Rattle.std.specs.Prelude.{◌≡◌, ◌⊎◌, ◌+◌, false};
 ghost use Rattle.worktree_fs.specs.Answers.{kind_of};
 ghost use Rattle.worktree_fs.specs.Tree.{look};
@@ -12,19 +13,20 @@ use worktree_fs::{MakeAnswer, NodeKind, ReadError, Worktree};
 
 /// Sees to it that a directory is at a path, in a checkout; gitoxide's `create_leading_directory`.
 ///
-/// A directory that is there is kept. Another node, a link among them, is a collision, or with `unlink_on_collision` it is removed.
-/// The directory above is to be there. `mkdir_calls` counts how often the worktree is asked to make a directory: once or twice.
+/// A directory that is there is kept. Another node, a link among them, is a collision, or with
+/// `unlink_on_collision` it is removed. The directory above is to be there. `mkdir_calls` counts
+/// how often the worktree is asked to make a directory: once or twice.
 ///
 /// # Errors
 ///
-/// - `Collision`: a node that is no directory is there, and may not be removed; or one came there meanwhile; or the worktree
-///   composes names, and the composed one is taken.
+/// - `Collision`: a node that is no directory is there, and may not be removed; or one came there
+///   meanwhile; or the worktree composes names, and the composed one is taken.
 /// - `Directory` with `NoParent`: there is no directory above the path.
 /// - `Directory` with `Fault`: the worktree failed, which it counted.
 /// - `OutOfMemory`: memory is refused.
 ///
-/// After the last two what was in the way may be gone, where it was to be removed and a directory was asked for twice. An answer
-/// hides no fault: where a directory is there, none was counted.
+/// After the last two what was in the way may be gone, where it was to be removed and a directory
+/// was asked for twice. An answer hides no fault: where a directory is there, none was counted.
 ///
 /// See docs/DECISIONS.md#checkout-delegate.
 pub(crate) fn create_leading_directory<W: Worktree>(
@@ -67,7 +69,8 @@ fn no_directory(alloc: Global, path: &[u8], why: DirectoryWhy) -> AtPathError
     }
 }
 
-/// Makes a directory at a path, unless one is there: what came of it. `Exists` says that something else is there.
+/// Makes a directory at a path, unless one is there: what came of it. `Exists` says that something
+/// else is there.
 fn prepare<W: Worktree>(
     alloc: Global,
     path: &[u8],

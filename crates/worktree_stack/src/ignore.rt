@@ -1,4 +1,5 @@
-//! The rules that exclude paths: those of a caller, and those of the directories on the way to a path.
+//! The rules that exclude paths: those of a caller, and those of the directories on the way to a
+//! path.
 ghost use Rattle.std.specs.Prelude.{◌≡◌, ◌≤◌, ◌+◌, ◌-◌, ◌++◌, [], ◌∷◌, true, false, Some, IfOk, IfErr, OnOk, OnErr, option_map, is_some, reverse, length, take};
 ghost use Rattle.glob_rules.specs.Ignore.{search_hit, search_place};
 ghost use Rattle.worktree_stack.specs.Excludes.{by_group, first_decision, first_positive, decisive, is_positive};
@@ -15,7 +16,8 @@ use std::marker::Model;
 
 /// The rules that exclude paths; gitoxide's `gix_worktree::stack::state::Ignore`.
 ///
-/// Contracts see a record: what it was made with, and the rules and matches of the directories that are pushed.
+/// Contracts see a record: what it was made with, and the rules and matches of the directories that
+/// are pushed.
 #[derive(Drop)]
 pub struct Ignore {
     overrides: Search,
@@ -28,7 +30,8 @@ pub struct Ignore {
     stack: Search,
     /// The own match of each pushed directory, the root's first.
     matched_directories: Vec<Option<Matched>>,
-    /// Which of these decides about the paths beneath all of them; kept, so that it is searched only where a directory is popped.
+    /// Which of these decides about the paths beneath all of them; kept, so that it is searched
+    /// only where a directory is popped.
     deciding_directory: Option<usize>,
 }
 
@@ -51,9 +54,9 @@ impl Model for Ignore {
 }
 
 impl Ignore {
-    /// Rules of a caller: `overrides` come before those of any directory, `globals` after them. Each directory's own rules
-    /// are read from the file of the given name in it, `.gitignore` where none is given; `source` says from where, and
-    /// `parse` how.
+    /// Rules of a caller: `overrides` come before those of any directory, `globals` after them.
+    /// Each directory's own rules are read from the file of the given name in it, `.gitignore`
+    /// where none is given; `source` says from where, and `parse` how.
     ///
     /// Fails only where memory is refused, and then drops what it was handed.
     pub fn new(
@@ -91,7 +94,8 @@ impl Ignore {
         })
     }
 
-    /// The same rules, with strict parents or without: with them all beneath an excluded directory is excluded. Takes no memory.
+    /// The same rules, with strict parents or without: with them all beneath an excluded directory
+    /// is excluded. Takes no memory.
     pub fn with_strict_parents(self, on: bool) -> Ignore
         ensures { result ≡ record self { setup = record self.setup { strict = on } } }
     {
@@ -140,7 +144,8 @@ impl Ignore {
         self.exclude_file_name_for_directories.as_bytes()
     }
 
-    /// Pushes the rules of a directory and its own match. Where memory is refused nothing is pushed.
+    /// Pushes the rules of a directory and its own match. Where memory is refused nothing is
+    /// pushed.
     pub(crate) fn push_directory(
         &mut self,
         alloc: Global,
@@ -177,8 +182,8 @@ impl Ignore {
         self.stack.pop_list();
     }
 
-    /// The own match of a path: in the overrides, else in the lists of the pushed directories from the last up, else in the
-    /// globals.
+    /// The own match of a path: in the overrides, else in the lists of the pushed directories from
+    /// the last up, else in the globals.
     pub(crate) fn own_match(
         &self,
         path: &[u8],
@@ -278,9 +283,9 @@ impl Ignore {
         }
     }
 
-    /// What decides about a path: the own match of a pushed directory where that excludes it, else the match of the path
-    /// itself, else what such a directory has.
-    /// See docs/DIFFERENCES.md#lifted-beneath-excluded.
+    /// What decides about a path: the own match of a pushed directory where that excludes it, else
+    /// the match of the path itself, else what such a directory has. See
+    /// docs/DIFFERENCES.md#lifted-beneath-excluded.
     pub(crate) fn deciding(
         &self,
         path: &[u8],

@@ -1,5 +1,5 @@
-//! Ignore rules and attributes below a worktree root: which rule excludes a path, and which attributes it has, read directory by
-//! directory as paths are looked up.
+//! Ignore rules and attributes below a worktree root: which rule excludes a path, and which
+//! attributes it has, read directory by directory as paths are looked up.
 #![tactic(auto)]
 
 pub mod attributes;
@@ -21,7 +21,7 @@ pub use attributes::Attributes;
 pub use error::{AtPathError, BlobWhy, DirectoryWhy, RulesWhy};
 pub use ignore::Ignore;
 pub use mappings::{PathIdMapping, PathIdMappings};
-pub use platform::Platform;
+pub use platform::{Exclusion, Platform};
 pub use stack::Stack;
 pub use state::{Checkout, State};
 pub use statistics::{DelegateStatistics, RulesStatistics, Statistics};

@@ -59,7 +59,8 @@ impl PathIdMappings {
     }
 }
 
-/// The blobs of rules files, in the order of their paths, among which one is found without passing over all.
+/// The blobs of rules files, in the order of their paths, among which one is found without passing
+/// over all.
 ///
 /// Contracts see the list.
 #[derive(Drop)]
@@ -89,7 +90,8 @@ impl Mappings {
         Mappings { items }
     }
 
-    /// The blob that a path is mapped to. It is found by binary search; no clause speaks of the cost.
+    /// The blob that a path is mapped to. It is found by binary search; no clause speaks of the
+    /// cost.
     pub fn id_of(&self, path: &[u8]) -> Option<ObjectId>
         ensures { result ≡ mapped_to self.now path.now }
     {

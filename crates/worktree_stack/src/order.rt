@@ -14,11 +14,13 @@ pub enum Order {
     Worktree { follow: bool },
     /// The blob under an id.
     Store(ObjectId),
-    /// The file in the worktree, which is not followed, and where that has no list, the blob under an id.
+    /// The file in the worktree, which is not followed, and where that has no list, the blob under
+    /// an id.
     WorktreeThenStore(ObjectId),
 }
 
-/// Where ignore rules are looked for, by their source and the blob that the rules file is mapped to.
+/// Where ignore rules are looked for, by their source and the blob that the rules file is mapped
+/// to.
 pub(crate) fn of_ignore(source: ignore_source::Source, mapped: Option<ObjectId>) -> Order
     ensures { (whole path : List ℕ) → places_by result whole path ≡ ignore_places source whole path
         mapped }
@@ -35,7 +37,8 @@ pub(crate) fn of_ignore(source: ignore_source::Source, mapped: Option<ObjectId>)
     }
 }
 
-/// Where the attributes of a directory are looked for, by their source and the blob that the file is mapped to.
+/// Where the attributes of a directory are looked for, by their source and the blob that the file
+/// is mapped to.
 pub(crate) fn of_attributes(source: attributes_source::Source, mapped: Option<ObjectId>) -> Order
     ensures { (whole path : List ℕ) → places_by result whole path ≡ attribute_places source whole
         path mapped }

@@ -38,10 +38,12 @@ use std::alloc::Global;
 use std::marker::Model;
 use worktree_fs::{PathStack, Worktree, is_normal};
 
-/// The directories above the path that was looked up last, with the rules of each; gitoxide's `gix_worktree::Stack`.
+/// The directories above the path that was looked up last, with the rules of each; gitoxide's
+/// `gix_worktree::Stack`.
 ///
-/// A lookup pops the directories that are not above its path and pushes those that are, and so reads the rules of a directory
-/// once for all paths in it, as long as paths are looked up directory by directory.
+/// A lookup pops the directories that are not above its path and pushes those that are, and so
+/// reads the rules of a directory once for all paths in it, as long as paths are looked up
+/// directory by directory.
 ///
 /// Contracts see a record.
 #[derive(Drop)]
@@ -51,7 +53,8 @@ pub struct Stack {
     case: Case,
     buf: Bytes,
     id_mappings: Mappings,
-    /// The path of the rules file that was looked for last, and its whole path; kept for their room.
+    /// The path of the rules file that was looked for last, and its whole path; kept for their
+    /// room.
     rules_path: PathText,
     whole_path: PathText,
     is_dir: Option<bool>,
@@ -84,9 +87,10 @@ impl Model for Stack {
 impl Stack {
     /// A stack below a worktree root, on which nothing is pushed; takes no memory.
     ///
-    /// `worktree_root` is to be absolute, without `.` and `..`, as paths in the worktree begin with it. `case` says how
-    /// letters compare in all rules. `buf` is used when files are read. `id_mappings` are the blobs of rules files, by their
-    /// paths below the root, which ascend strictly by their bytes.
+    /// `worktree_root` is to be absolute, without `.` and `..`, as paths in the worktree begin with
+    /// it. `case` says how letters compare in all rules. `buf` is used when files are read.
+    /// `id_mappings` are the blobs of rules files, by their paths below the root, which ascend
+    /// strictly by their bytes.
     ///
     /// See docs/DECISIONS.md#mappings-ascend.
     pub fn new(
@@ -116,9 +120,10 @@ impl Stack {
         }
     }
 
-    /// A stack below a worktree root, on which nothing is pushed, with the blobs that an index has for the rules files of its
-    /// state; gitoxide's `Stack::from_state_and_ignore_case`. `ignore_case` folds ASCII letters, in rules and in the names of
-    /// rules files. Fails only where memory is refused.
+    /// A stack below a worktree root, on which nothing is pushed, with the blobs that an index has
+    /// for the rules files of its state; gitoxide's `Stack::from_state_and_ignore_case`.
+    /// `ignore_case` folds ASCII letters, in rules and in the names of rules files. Fails only
+    /// where memory is refused.
     pub fn from_state_and_ignore_case(
         alloc: Global,
         root: PathText,
@@ -147,8 +152,8 @@ impl Stack {
         ))
     }
 
-    /// A stack that is made as this one was, with nothing pushed and nothing counted. It is in step with whatever is told. Fails
-    /// only where memory is refused.
+    /// A stack that is made as this one was, with nothing pushed and nothing counted. It is in step
+    /// with whatever is told. Fails only where memory is refused.
     pub fn fresh(&self, alloc: Global) -> Result<Stack, OutOfMemory>
         ensures fresh { IfOk result (λ stack. stack ≡ fresh self.now) }
         ensures made { IfOk result (λ stack. made_of stack ≡ made_of self.now) }
@@ -232,7 +237,8 @@ impl Stack {
         Platform::new(self)
     }
 
-    /// The names of attributes that were seen, in the lists of the caller and in those that were read.
+    /// The names of attributes that were seen, in the lists of the caller and in those that were
+    /// read.
     pub fn attributes_collection(&self) -> &MetadataCollection
         requires { has_attributes (made_of self.now) ≡ true }
         ensures { result.now ≡ names_of self.now.attributes }
@@ -261,7 +267,8 @@ impl Stack {
         }
     }
 
-    /// Finds which attributes the path has that was looked up last, among those that `out` asks for.
+    /// Finds which attributes the path has that was looked up last, among those that `out` asks
+    /// for.
     pub(crate) fn matching_attributes(
         &self,
         alloc: Global,
@@ -286,8 +293,8 @@ impl Stack {
         }
     }
 
-    /// An outcome that asks for the attributes that were seen so far, of which nothing is found yet. Fails only where memory is
-    /// refused.
+    /// An outcome that asks for the attributes that were seen so far, of which nothing is found
+    /// yet. Fails only where memory is refused.
     pub fn attribute_matches(&self, alloc: Global) -> Result<Outcome, OutOfMemory>
         requires { has_attributes (made_of self.now) ≡ true }
         ensures { IfOk result (λ outcome. outcome ≡ asking_anew nothing_asked
@@ -296,7 +303,8 @@ impl Stack {
         asking_for_all(alloc, self.attributes_collection())
     }
 
-    /// An outcome that asks for these attributes, in this order, of which nothing is found yet. Fails only where memory is refused.
+    /// An outcome that asks for these attributes, in this order, of which nothing is found yet.
+    /// Fails only where memory is refused.
     pub fn selected_attribute_matches(
         &self,
         alloc: Global,
@@ -308,7 +316,8 @@ impl Stack {
         asking_for_these(alloc, given)
     }
 
-    /// What the stack keeps for its directories, to be changed. Nothing is promised of directories that are pushed already.
+    /// What the stack keeps for its directories, to be changed. Nothing is promised of directories
+    /// that are pushed already.
     pub fn state_mut(&mut self) -> &mut State
         ensures* lends { sem 𝓛 (LendsState self.entry result) }
         ensures checkout { checkout_of result.now ≡ self.old.checkout }
@@ -329,47 +338,59 @@ impl Stack {
         self
     }
 
-    /// Looks up a path, relative to the worktree root: pops the directories that are not above it and pushes those that are,
-    /// reading the rules of each. [`Stack::platform`] then says what holds for it.
+    /// Looks up a path, relative to the worktree root: pops the directories that are not above it
+    /// and pushes those that are, reading the rules of each. [`Stack::platform`] then says what
+    /// holds for it.
     ///
-    /// Empty components mean nothing. `mode` is that of the path in an index, where it is known, and says whether the path is a
-    /// directory. Whether anything is at the path makes no difference, but in checkout where the mode is that of a directory.
+    /// Empty components mean nothing. `mode` is that of the path in an index, where it is known,
+    /// and says whether the path is a directory. Whether anything is at the path makes no
+    /// difference, but in checkout where the mode is that of a directory.
     ///
-    /// Attributes are read before ignore rules, and the information file with the root, behind its own `.gitattributes`. The names of
-    /// attributes are seen file by file and line by line, and stay seen, also after a refusal. `objects` are asked for the blobs that
-    /// rules files are mapped to. The worktree is read at most as often as the readings of the directories ask it that are pushed, or
-    /// were to be: not at all where rules come from mappings alone, but for the information file, and where the stack tells no
-    /// attributes at most once for each. In the directory that is pushed already a lookup begins at the last name; no clause
-    /// speaks of that.
+    /// Attributes are read before ignore rules, and the information file with the root, behind its
+    /// own `.gitattributes`. The names of attributes are seen file by file and line by line, and
+    /// stay seen, also after a refusal. `objects` are asked for the blobs that rules files are
+    /// mapped to. The worktree is read at most as often as the readings of the directories ask it
+    /// that are pushed, or were to be: not at all where rules come from mappings alone, but for the
+    /// information file, and where the stack tells no attributes at most once for each. In the
+    /// directory that is pushed already a lookup begins at the last name; no clause speaks of that.
     ///
     /// # Errors
     ///
-    /// - `NotNormal`: exactly where the path begins with `/` or has a component `.` or `..`. Nothing changes then but the count of
-    ///   lookups, and that `platform` may not be asked.
-    /// - `RulesFile`: a rules file of a directory above the path, or of the root where the path is empty, or the information file, is
-    ///   a link that is not followed, since it is mapped to a blob or speaks of attributes (`Link`), leads along too many links
-    ///   (`LinkLimit`), is neither file nor directory (`Special`), or could not be read, which the worktree counted (`Fault`).
-    /// - `Blob`: the blob that such a file is mapped to is not in the store (`Missing`), is no blob (`NotABlob`), or could not be
-    ///   read, which the store counted (`Fault`).
-    /// - `Component`: the next component to be pushed may not be checked out; those before it may. This and the next two come in
-    ///   checkout alone.
-    /// - `Collision`: a node that is no directory is where a directory is to be, and is not to be removed; where names are composed
-    ///   also where the composed name is taken. See docs/DECISIONS.md#checkout-composes.
-    /// - `Directory`: there is no directory for another to be in (`NoParent`), or the worktree failed, which it counted (`Fault`).
+    /// - `NotNormal`: exactly where the path begins with `/` or has a component `.` or `..`.
+    ///   Nothing changes then but the count of lookups, and that `platform` may not be asked.
+    /// - `RulesFile`: a rules file of a directory above the path, or of the root where the path is
+    ///   empty, or the information file, is a link that is not followed, since it is mapped to a
+    ///   blob or speaks of attributes (`Link`), leads along too many links (`LinkLimit`), is
+    ///   neither file nor directory (`Special`), or could not be read, which the worktree counted
+    ///   (`Fault`).
+    /// - `Blob`: the blob that such a file is mapped to is not in the store (`Missing`), is no blob
+    ///   (`NotABlob`), or could not be read, which the store counted (`Fault`).
+    /// - `Component`: the next component to be pushed may not be checked out; those before it may.
+    ///   This and the next two come in checkout alone.
+    /// - `Collision`: a node that is no directory is where a directory is to be, and is not to be
+    ///   removed; where names are composed also where the composed name is taken. See
+    ///   docs/DECISIONS.md#checkout-composes.
+    /// - `Directory`: there is no directory for another to be in (`NoParent`), or the worktree
+    ///   failed, which it counted (`Fault`).
     /// - `OutOfMemory`: memory is refused.
     ///
-    /// In checkout each component that is pushed is tested by [`crate::validate::component`], and then a directory is made there, unless it
-    /// is the last one and the path is no directory by its mode: one that is there is kept, and another node, a link among them, is a
-    /// collision, or is removed where the stack unlinks on collision. So the directories that are pushed below the root are there,
-    /// and no link is among them, as long as nothing else changes the tree: one that stays pushed is not looked at again. In a worktree that composes names this holds of names that are composed already.
-    /// The rules of a directory are read once it is made, in the tree as it is then.
-    /// See docs/DECISIONS.md#checkout-rules-made.
+    /// In checkout each component that is pushed is tested by [`crate::validate::component`], and
+    /// then a directory is made there, unless it is the last one and the path is no directory by
+    /// its mode: one that is there is kept, and another node, a link among them, is a collision, or
+    /// is removed where the stack unlinks on collision. So the directories that are pushed below
+    /// the root are there, and no link is among them, as long as nothing else changes the tree: one
+    /// that stays pushed is not looked at again. In a worktree that composes names this holds of
+    /// names that are composed already. The rules of a directory are read once it is made, in the
+    /// tree as it is then. See docs/DECISIONS.md#checkout-rules-made.
     ///
-    /// After `Component`, `Collision` and `Directory` the directories above that component are pushed; it is itself counted as pushed. After
-    /// `Directory` with `Fault`, and after `OutOfMemory`, what was in the way may be gone.
+    /// After `Component`, `Collision` and `Directory` the directories above that component are
+    /// pushed; it is itself counted as pushed. After `Directory` with `Fault`, and after
+    /// `OutOfMemory`, what was in the way may be gone.
     ///
-    /// After `RulesFile` and `Blob` the directories above that one are pushed, and after `OutOfMemory` those up to some directory on
-    /// the way; the next lookup goes on from there, and reads the information file where the root is still to be pushed. After any of these `platform` may not be asked until a lookup is answered.
+    /// After `RulesFile` and `Blob` the directories above that one are pushed, and after
+    /// `OutOfMemory` those up to some directory on the way; the next lookup goes on from there, and
+    /// reads the information file where the root is still to be pushed. After any of these
+    /// `platform` may not be asked until a lookup is answered.
     ///
     /// An answered lookup hides no fault: the worktree and the store have counted none.
     ///
@@ -417,11 +438,13 @@ impl Stack {
         Ok(())
     }
 
-    /// Looks up an entry of an index, as [`Stack::at_path`] does. Without a mode, a path that ends in a slash is a directory.
+    /// Looks up an entry of an index, as [`Stack::at_path`] does. Without a mode, a path that ends
+    /// in a slash is a directory.
     ///
     /// # Errors
     ///
-    /// Those of [`Stack::at_path`], each where it has them, and with what it says of the stack and the worktree then.
+    /// Those of [`Stack::at_path`], each where it has them, and with what it says of the stack and
+    /// the worktree then.
     pub fn at_entry<W: Worktree, F: Find>(
         &mut self,
         alloc: Global,

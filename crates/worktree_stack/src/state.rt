@@ -46,10 +46,12 @@ pub enum State {
 }
 
 impl State {
-    /// A state for checking files out: its lookups make the directories on the way to a path, and it tells the attributes of paths.
+    /// A state for checking files out: its lookups make the directories on the way to a path, and
+    /// it tells the attributes of paths.
     ///
-    /// With `unlink_on_collision` a node that is no directory is removed where a directory is to be, a link among them; else it is a
-    /// collision. `validate` says what else each component is tested for. Takes no memory.
+    /// With `unlink_on_collision` a node that is no directory is removed where a directory is to
+    /// be, a link among them; else it is a collision. `validate` says what else each component is
+    /// tested for. Takes no memory.
     pub fn for_checkout(
         unlink_on_collision: bool,
         validate: Options,
@@ -69,7 +71,8 @@ impl State {
         }
     }
 
-    /// A state for adding files to an index: it tells the attributes of paths, and which paths are excluded. Takes no memory.
+    /// A state for adding files to an index: it tells the attributes of paths, and which paths are
+    /// excluded. Takes no memory.
     pub fn for_add(attributes: Attributes, ignore: Ignore) -> State
         ensures checkout { checkout_of result ≡ None }
         ensures attributes { attributes_of result ≡ Some attributes }
@@ -78,14 +81,15 @@ impl State {
         State::AttributesAndIgnoreStack { attributes, ignore }
     }
 
-    /// The blobs that an index has for the rules files of this state, in the order of their paths; gitoxide's
-    /// `State::id_mappings_from_index`.
+    /// The blobs that an index has for the rules files of this state, in the order of their paths;
+    /// gitoxide's `State::id_mappings_from_index`.
     ///
-    /// An entry counts that is a plain file, merged or ours, and whose last component is the name of rules files, as letters
-    /// compare: that of ignore rules, or `.gitattributes`, by what the state tells. Where ignore rules are looked for in the
-    /// worktree first, one of that name is also to be marked as left out of the worktree. A path that is named in other letters is
-    /// kept, and is used for no directory, as a rules file is looked for under its name alone. Fails only where memory is
-    /// refused.
+    /// An entry counts that is a plain file, merged or ours, and whose last component is the name
+    /// of rules files, as letters compare: that of ignore rules, or `.gitattributes`, by what the
+    /// state tells. Where ignore rules are looked for in the worktree first, one of that name is
+    /// also to be marked as left out of the worktree. A path that is named in other letters is
+    /// kept, and is used for no directory, as a rules file is looked for under its name alone.
+    /// Fails only where memory is refused.
     pub fn id_mappings_from_index(
         &self,
         alloc: Global,
@@ -139,7 +143,8 @@ impl State {
         }
     }
 
-    /// How directories are made on the way to a path, where they are. Such a state has no rules that exclude paths.
+    /// How directories are made on the way to a path, where they are. Such a state has no rules
+    /// that exclude paths.
     pub(crate) fn checkout(&self) -> Option<Checkout>
         ensures checkout { result ≡ checkout_of self.now }
         ensures alone { is_some result ≡ true → ignore_of self.now ≡ None }
@@ -192,7 +197,8 @@ impl State {
         }
     }
 
-    /// Pushes the ignore rules of a directory and its own match. Where memory is refused nothing is pushed.
+    /// Pushes the ignore rules of a directory and its own match. Where memory is refused nothing is
+    /// pushed.
     pub(crate) fn push_directory(
         &mut self,
         alloc: Global,
@@ -220,8 +226,9 @@ impl State {
         }
     }
 
-    /// Pushes the list of bytes that were read at `source`, for the paths beneath the directory `base`, which speaks of attributes.
-    /// Where memory is refused nothing is pushed, and the first of its names may be seen.
+    /// Pushes the list of bytes that were read at `source`, for the paths beneath the directory
+    /// `base`, which speaks of attributes. Where memory is refused nothing is pushed, and the first
+    /// of its names may be seen.
     pub(crate) fn push_attributes(
         &mut self,
         alloc: Global,

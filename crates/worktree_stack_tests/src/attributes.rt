@@ -15,9 +15,10 @@ use worktree_fs::MemoryWorktree;
 use worktree_stack::attributes_source::Source;
 use worktree_stack::{Attributes, Platform, Stack, State};
 
-/// Cases, parted by `@`. Each begins with `a` for a state of attributes alone or `b` for one with ignore rules too; with the source
-/// of attributes, `m` for mappings alone, `i` for mappings first, `w` for the worktree first; with the path of the information file,
-/// if there is one; and with the lines of the caller. `a/.gitattributes` is mapped to the blob 1 where the source has an `x`
+/// Cases, parted by `@`. Each begins with `a` for a state of attributes alone or `b` for one with
+/// ignore rules too; with the source of attributes, `m` for mappings alone, `i` for mappings first,
+/// `w` for the worktree first; with the path of the information file, if there is one; and with the
+/// lines of the caller. `a/.gitattributes` is mapped to the blob 1 where the source has an `x`
 /// behind it. `has` has a path, an attribute and its state, `-` where nothing is said.
 const CASES: &[u8] = b"\
 the nearest file comes first`a`w```|file`/w/.gitattributes`*.c text diff=c\n|file`/w/d/.gitattributes`x.c -text\n|\
@@ -58,7 +59,8 @@ fn is_state(found: Option<&Assignment>, want: &[u8]) -> bool {
     }
 }
 
-/// Whether an attribute of the path of a platform reads so, and the platform says that one was found where this one was.
+/// Whether an attribute of the path of a platform reads so, and the platform says that one was
+/// found where this one was.
 fn is_found(
     alloc: Global,
     platform: &Platform<'_>,

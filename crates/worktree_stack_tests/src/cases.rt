@@ -9,8 +9,8 @@ use worktree_fs::MemoryWorktree;
 use worktree_stack::ignore_source::Source;
 use worktree_stack::{Ignore, Stack, State};
 
-/// Cases, parted by `@`. Each begins with its overrides and globals; its steps are parted by bars. `hit` and `miss` have a path,
-/// and the rule that decides: its text, line, group and file.
+/// Cases, parted by `@`. Each begins with its overrides and globals; its steps are parted by bars.
+/// `hit` and `miss` have a path, and the rule that decides: its text, line, group and file.
 const CASES: &[u8] = b"\
 an excluded directory of the globals``/a/|directory`/w|hit`a/f`a`1`g`/globals|shown`a/f`/w/a/f`\"/w/a/f\"@\
 a rule of the overrides`b`!b|directory`/w|hit`b`b`1`o`/overrides@\

@@ -5,7 +5,8 @@ use std::alloc::Global;
 use worktree_fs::{AddError, CallKind, MemoryWorktree, NewNode, NodeKind};
 use worktree_stack::validate::{ComponentError, Options, component};
 
-/// Names, whether each is to be a link (`l`), whether names are refused that mean more on Windows (`w`), and what is answered.
+/// Names, whether each is to be a link (`l`), whether names are refused that mean more on Windows
+/// (`w`), and what is answered.
 const NAMES: &[u8] = b"\
 `-`-`empty\n\
 a/b`-`-`slash\n\
@@ -55,8 +56,8 @@ fn components(rt: HostRuntime) {
     }
 }
 
-/// The tree of a row: what stands at `/w/a`, and a directory `/w/d`; or a rules file of the root (`r`), or names that are composed (`c`),
-/// or a link to a directory that has a rules file (`t`).
+/// The tree of a row: what stands at `/w/a`, and a directory `/w/d`; or a rules file of the root
+/// (`r`), or names that are composed (`c`), or a link to a directory that has a rules file (`t`).
 pub fn tree_of(alloc: Global, node: &[u8]) -> Result<MemoryWorktree, AddError> {
     let mut tree = MemoryWorktree::new(alloc, node == b"c".as_slice());
     tree.add(alloc, b"/w", NewNode::Directory)?;

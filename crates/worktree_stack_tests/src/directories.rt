@@ -12,12 +12,15 @@ use worktree_fs::{MemoryWorktree, Worktree};
 use worktree_stack::validate::Options;
 use worktree_stack::{AtPathError, Attributes, DirectoryWhy, Stack, State, attributes_source};
 
-/// What stands at `/w/a` (`l` a link to a directory, `f` a file, `o` another node, `d` a directory, `-` nothing), or what else the tree is; whether what is in the way is
-/// removed (`u`), and the call that fails with its number. Then for each lookup the path, the mode (`m` a submodule, `l` a link, `e` none, for
-/// an entry), what is answered, how often a directory was asked for and pushed in all, and a path with the node that is there then; where
-/// it stands, the state of the attribute `x` of the path that was looked up.
+/// What stands at `/w/a` (`l` a link to a directory, `f` a file, `o` another node, `d` a directory,
+/// `-` nothing), or what else the tree is; whether what is in the way is removed (`u`), and the
+/// call that fails with its number. Then for each lookup the path, the mode (`m` a submodule, `l` a
+/// link, `e` none, for an entry), what is answered, how often a directory was asked for and pushed
+/// in all, and a path with the node that is there then; where it stands, the state of the attribute
+/// `x` of the path that was looked up.
 ///
-/// See docs/DECISIONS.md#checkout-removes-rules, docs/DECISIONS.md#checkout-rules-made and docs/DIFFERENCES.md#gix-checkout-gone.
+/// See docs/DECISIONS.md#checkout-removes-rules, docs/DECISIONS.md#checkout-rules-made and
+/// docs/DIFFERENCES.md#gix-checkout-gone.
 const LOOKUPS: &[u8] = b"\
 l`-`-`a/f`-`collision`1`1`/w/a`l\n\
 l`u`-`a/f`-`ok`2`2`/w/a`d\n\

@@ -1,5 +1,5 @@
-//! What stacks of directories answer, in cases that were worked out by hand or asked of git; beside it lookups whose contract is the same
-//! for each state.
+//! What stacks of directories answer, in cases that were worked out by hand or asked of git; beside
+//! it lookups whose contract is the same for each state.
 #![tactic(auto)]
 
 #[cfg(test)]

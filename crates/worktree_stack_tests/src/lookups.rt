@@ -1,4 +1,5 @@
-//! Lookups after which a platform may be asked where they are answered, in whatever state the stack is.
+//! Lookups after which a platform may be asked where they are answered, in whatever state the stack
+//! is.
 ghost use Rattle.std.specs.Prelude.{◌≡◌, true, OnOk};
 
 use gitbase_core::{Find, Mode};

@@ -11,10 +11,10 @@ use worktree_fs::MemoryWorktree;
 use worktree_stack::ignore_source::Source;
 use worktree_stack::{AtPathError, BlobWhy, Ignore, PathIdMapping, Stack, State};
 
-/// Cases, parted by `@`. Each begins with `m` for rules from mappings alone or `w` for the worktree first, with `f` where
-/// letters are folded, and with the entries of the index, parted by `;`: `f` for a file, `o` and `t` for ours and theirs in a
-/// conflict, `x` for a file that may be executed; `s` where it is left out of the worktree; its id; its path. The steps are
-/// parted by bars.
+/// Cases, parted by `@`. Each begins with `m` for rules from mappings alone or `w` for the worktree
+/// first, with `f` where letters are folded, and with the entries of the index, parted by `;`: `f`
+/// for a file, `o` and `t` for ours and theirs in a conflict, `x` for a file that may be executed;
+/// `s` where it is left out of the worktree; its id; its path. The steps are parted by bars.
 const CASES: &[u8] = b"\
 the rules of a blob`m``f-1.gitignore|file`/w/.gitignore`*.c\n|blob`1`*.o\n|hit`a.o`*.o`1`0`.gitignore|miss`a.c``0``|\
 tried_pattern_files`0|patterns_buffers`1@\
@@ -125,12 +125,13 @@ fn cases(rt: HostRuntime) {
     }
 }
 
-/// An index of which one rules file is mapped by the worktree's source, and three by mappings alone: not one that may be
-/// executed, one of another name, or theirs in a conflict.
+/// An index of which one rules file is mapped by the worktree's source, and three by mappings
+/// alone: not one that may be executed, one of another name, or theirs in a conflict.
 const MAPPED: &[u8] =
     b"fs1.gitignore;f-2a/.gitignore;x-3b/.gitignore;f-4c/.gitattributes;o-5d/.gitignore;t-6d/.gitignore";
 
-/// An index of a file of attributes, and of two rules files of which one is left out of the worktree.
+/// An index of a file of attributes, and of two rules files of which one is left out of the
+/// worktree.
 pub const LEFT_OUT: &[u8] = b"x-3.gitattributes;fs1.gitignore;f-2a/.gitignore";
 
 /// What stands behind a mapping, which is written as the digit of its id, its path and a `;`.

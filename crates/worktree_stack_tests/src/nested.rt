@@ -1,4 +1,5 @@
-//! Paths in work trees with several rules files, with strict parents, beside what git answers of them.
+//! Paths in work trees with several rules files, with strict parents, beside what git answers of
+//! them.
 ghost use Rattle.std.specs.Prelude.{◌≡◌, true};
 ghost use Rattle.worktree_stack.specs.Setup.{has_excludes};
 ghost use Rattle.worktree_stack.specs.Stacked.{made_of};
@@ -62,7 +63,8 @@ fn are_put(alloc: Global, tree: &mut MemoryWorktree, files: &[u8]) -> bool {
     true
 }
 
-/// Whether the rule that decides stands in this line of this file, and has this sign; line 0 says that there is none.
+/// Whether the rule that decides stands in this line of this file, and has this sign; line 0 says
+/// that there is none.
 fn is_decided(platform: &Platform<'_>, line: &[u8], sign: &[u8], file: &[u8]) -> bool
     requires { has_excludes (made_of platform.now) ≡ true }
 {

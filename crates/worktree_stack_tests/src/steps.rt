@@ -1,6 +1,7 @@
 //! The steps of a case: what is put into a tree or a store, and what a stack is to say of a path.
 //!
-//! A step is a word and what it speaks of, parted by backquotes. Each says whether it went as it is written.
+//! A step is a word and what it speaks of, parted by backquotes. Each says whether it went as it is
+//! written.
 ghost use Rattle.std.specs.Prelude.{◌≡◌, true};
 ghost use Rattle.worktree_stack.specs.Setup.{has_excludes};
 ghost use Rattle.worktree_stack.specs.Stacked.{made_of};
@@ -86,7 +87,8 @@ fn is_rule(platform: &Platform<'_>, text: &[u8], source: &[u8]) -> bool
     }
 }
 
-/// Whether a path is decided so: by the rule `text` of the file `source`, in this line of this group, and with this kind.
+/// Whether a path is decided so: by the rule `text` of the file `source`, in this line of this
+/// group, and with this kind.
 pub fn is_decided(
     platform: &Platform<'_>,
     kind: Option<Kind>,

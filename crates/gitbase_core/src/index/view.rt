@@ -16,9 +16,9 @@ use std::marker::Model;
 
 /// The entries of an index beneath one of its directories.
 ///
-/// What is asked for a name in the directory is searched among these entries alone, and their paths are compared
-/// behind the directory's; where there are none nothing is searched. Contracts see the entries and how many bytes are
-/// skipped; that they are those beneath a directory is `IsBeneath`.
+/// What is asked for a name in the directory is searched among these entries alone, and their paths
+/// are compared behind the directory's; where there are none nothing is searched. Contracts see the
+/// entries and how many bytes are skipped; that they are those beneath a directory is `IsBeneath`.
 ///
 /// See docs/DECISIONS.md#index-by-directory.
 #[derive(Drop)]
@@ -47,18 +47,19 @@ impl<'a> Model for Beneath<'a> {
 impl State {
     /// What the index says of `path`.
     ///
-    /// An entry at the path, the one of the lowest stage, tells its kind by its mode, and vouches for it with
-    /// `UPTODATE` or `ASSUME_VALID`. Without one, entries beneath the path show a directory, which is vouched for
-    /// where one of them has `UPTODATE`; it is left out of the sparse worktree where none has that flag, and there is
-    /// a single entry of mode `DIR`, or several that all have `SKIP_WORKTREE`. Nothing is looked for beneath the
-    /// empty path.
+    /// An entry at the path, the one of the lowest stage, tells its kind by its mode, and vouches
+    /// for it with `UPTODATE` or `ASSUME_VALID`. Without one, entries beneath the path show a
+    /// directory, which is vouched for where one of them has `UPTODATE`; it is left out of the
+    /// sparse worktree where none has that flag, and there is a single entry of mode `DIR`, or
+    /// several that all have `SKIP_WORKTREE`. Nothing is looked for beneath the empty path.
     pub fn kinds(&self, path: &[u8]) -> IndexKinds
         ensures { result ≡ kinds self.now path.now }
     {
         self.all().kinds(path)
     }
 
-    /// The entries beneath a directory; all of them where it is the empty path. A slash at its end makes no difference.
+    /// The entries beneath a directory; all of them where it is the empty path. A slash at its end
+    /// makes no difference.
     pub fn beneath(&self, directory: &[u8]) -> Beneath<'_>
         ensures { IsBeneath self.now directory.now result }
     {
@@ -142,7 +143,8 @@ fn is_top(skip: usize, name: &[u8]) -> bool
     skip == 0 && name.is_empty()
 }
 
-/// How many bytes are skipped, and those of `front` and `back` behind them, which the entry's path has.
+/// How many bytes are skipped, and those of `front` and `back` behind them, which the entry's path
+/// has.
 fn longer(entry: &IndexEntry, skip: usize, front: &[u8], back: &[u8]) -> usize
     requires { key_begins (path_after skip) (front.now ++ back.now) entry.now ≡ true }
     ensures { result ≡ skip + length (front.now ++ back.now) }

@@ -8,9 +8,10 @@ use gitbase_core::{
 };
 use std::alloc::Global;
 
-/// Rows, parted by bars: what is asked, of what, and what is wanted, parted by backquotes. An entry is its path, then
-/// behind a colon a digit for its stage, a letter for its mode and letters for its flags. What an index says of a path is
-/// a letter for the kind that it vouches for, one for the kind, and whether the sparse worktree leaves it out.
+/// Rows, parted by bars: what is asked, of what, and what is wanted, parted by backquotes. An entry
+/// is its path, then behind a colon a digit for its stage, a letter for its mode and letters for
+/// its flags. What an index says of a path is a letter for the kind that it vouches for, one for
+/// the kind, and whether the sparse worktree leaves it out.
 const ROWS: &[u8] = b"\
 refused`b:0f,a:0f`not ascending 1|\
 refused`a:0f,a:2f`stage 1|\

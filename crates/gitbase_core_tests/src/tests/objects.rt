@@ -4,8 +4,9 @@ use crate::forks::{FailingStore, find_in_fork};
 use gitbase_core::{Bytes, Find, FindError, Found, MemoryStore, ObjectId};
 use std::alloc::Global;
 
-/// Steps over one store, parted by bars: what is done or asked, an id and bytes, parted by backquotes. The ids are those
-/// of a blob of the line `hello`, of the empty blob and of the empty tree, as git prints them.
+/// Steps over one store, parted by bars: what is done or asked, an id and bytes, parted by
+/// backquotes. The ids are those of a blob of the line `hello`, of the empty blob and of the empty
+/// tree, as git prints them.
 const STEPS: &[u8] = b"\
 blob`ce013625030ba8dba906f756967f9e9ca394464a`bye|\
 blob`ce013625030ba8dba906f756967f9e9ca394464a`hello\n|\

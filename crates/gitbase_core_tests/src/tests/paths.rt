@@ -5,8 +5,8 @@ use std::alloc::Global;
 use std::collections::BTreeSet;
 use std::hash::{DefaultHasher, Hash, Hasher};
 
-/// Rows, parted by bars: what is asked, of what, and what is wanted, parted by backquotes. The id is that of the empty
-/// blob, as git prints it.
+/// Rows, parted by bars: what is asked, of what, and what is wanted, parted by backquotes. The id
+/// is that of the empty blob, as git prints it.
 const ROWS: &[u8] = b"\
 normal`a/../b`b|\
 leads out`../a`|\

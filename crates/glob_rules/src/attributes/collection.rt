@@ -116,7 +116,8 @@ impl MetadataCollection {
         self.see_words(alloc, line.assignments.as_slice())
     }
 
-    /// Sees the names of which lines speak. Where memory is refused, the first of them may have been seen.
+    /// Sees the names of which lines speak. Where memory is refused, the first of them may have
+    /// been seen.
     pub(super) fn see_lines(&mut self, alloc: Global, lines: &[Line]) -> Result<(), OutOfMemory>
         ensures seen { OnOk result (self.new
             ≡ names.with_names self.old (names.names_in lines.now)) }

@@ -6,7 +6,8 @@ use gitbase_core::OutOfMemory;
 use std::alloc::Global;
 use std::marker::Model;
 
-/// What is left to be said: of each line or macro that was begun, the words before the one that was said last.
+/// What is left to be said: of each line or macro that was begun, the words before the one that was
+/// said last.
 ///
 /// Contracts see the list, in the order in which it will be heard.
 #[derive(Drop)]

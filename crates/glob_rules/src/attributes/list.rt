@@ -21,8 +21,8 @@ pub struct PathLine {
 
 /// What one file says.
 ///
-/// Contracts see a record: the lines that speak of paths, the macros in the order of their names, where it was read, and the
-/// directory that it is for.
+/// Contracts see a record: the lines that speak of paths, the macros in the order of their names,
+/// where it was read, and the directory that it is for.
 #[derive(Debug, Drop)]
 pub struct List {
     lines: Vec<PathLine>,

@@ -23,8 +23,8 @@ pub struct Row {
 
 /// Which attributes are asked for, all or a selection, and what `fill` found of each.
 ///
-/// Contracts see a record: the names in the order in which they are asked for, each with what was found, and whether they are a
-/// selection.
+/// Contracts see a record: the names in the order in which they are asked for, each with what was
+/// found, and whether they are a selection.
 #[derive(Debug, Drop)]
 pub struct Outcome {
     rows: Vec<Row>,
@@ -124,9 +124,11 @@ impl Outcome {
         (is_selection, mem::replace(&mut self.rows, Vec::new(alloc)))
     }
 
-    /// Asks for the selection again, where there is one, and else for all names of a collection, and forgets what was found.
+    /// Asks for the selection again, where there is one, and else for all names of a collection,
+    /// and forgets what was found.
     ///
-    /// Where memory is refused, the selection is lost, and nothing is asked for until this or the next call succeeds.
+    /// Where memory is refused, the selection is lost, and nothing is asked for until this or the
+    /// next call succeeds.
     pub fn initialize(
         &mut self,
         alloc: Global,
@@ -145,8 +147,8 @@ impl Outcome {
         Ok(())
     }
 
-    /// Asks for these names, in this order, and forgets what was found. Where memory is refused, nothing is asked for.
-    /// See docs/DECISIONS.md#attribute-names-twice.
+    /// Asks for these names, in this order, and forgets what was found. Where memory is refused,
+    /// nothing is asked for. See docs/DECISIONS.md#attribute-names-twice.
     pub fn initialize_with_selection(
         &mut self,
         alloc: Global,
@@ -161,8 +163,9 @@ impl Outcome {
         Ok(())
     }
 
-    /// What was found of a name. None where nothing was, and where the name is not asked for. All names that were asked for are gone
-    /// over for it: [`Outcome::iter_selected`] gives them in one pass.
+    /// What was found of a name. None where nothing was, and where the name is not asked for. All
+    /// names that were asked for are gone over for it: [`Outcome::iter_selected`] gives them in one
+    /// pass.
     pub fn value_of(&self, name: &[u8]) -> Option<&Assignment>
         ensures { option_copied result ≡ found_of name.now self.now.rows }
     {
@@ -197,12 +200,13 @@ impl Outcome {
     }
 }
 
-/// Finds which attributes a path has, among those that `out` asks for, and tells whether it has one; what was found before
-/// is forgotten.
+/// Finds which attributes a path has, among those that `out` asks for, and tells whether it has
+/// one; what was found before is forgotten.
 ///
-/// Lists of `stack` are above those of `globals`. `path` is relative to the root that the lists' directories are relative to,
-/// `is_dir` says what is known of its kind, and `case` how letters of patterns and paths compare. A state `Unspecified` is one
-/// that was found. Where memory is refused, `out` has lost what it asks for, its selection too.
+/// Lists of `stack` are above those of `globals`. `path` is relative to the root that the lists'
+/// directories are relative to, `is_dir` says what is known of its kind, and `case` how letters of
+/// patterns and paths compare. A state `Unspecified` is one that was found. Where memory is
+/// refused, `out` has lost what it asks for, its selection too.
 pub fn fill(
     alloc: Global,
     globals: &Search,

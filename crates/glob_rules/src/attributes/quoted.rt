@@ -32,9 +32,9 @@ fn byte_in_quotes(escaped: bool, byte: u8) -> Quoted
     }
 }
 
-/// The text up to the closing quote, and what follows that; none where there is no such quote, or a `\` stands before
-/// another byte than a quote or a `\`.
-/// See docs/DIFFERENCES.md#attributes-escapes.
+/// The text up to the closing quote, and what follows that; none where there is no such quote, or a
+/// `\` stands before another byte than a quote or a `\`. See
+/// docs/DIFFERENCES.md#attributes-escapes.
 pub fn unquoted(alloc: Global, bytes: &[u8]) -> Result<Option<(Bytes, &[u8])>, OutOfMemory>
     ensures { IfOk result (λ read. MatchOption read (lines.unquoted false bytes.now ≡ None)
         (λ parts. lines.unquoted false bytes.now ≡ Some (parts.0, parts.1.now))) }

@@ -43,8 +43,9 @@ impl Search {
         }
     }
 
-    /// A search with the one list that git knows without any file, `[attr]binary -diff -merge -text`. Its names go to the
-    /// collection, and where memory is refused, the first of them may have gone there.
+    /// A search with the one list that git knows without any file,
+    /// `[attr]binary -diff -merge -text`. Its names go to the collection, and where memory is
+    /// refused, the first of them may have gone there.
     #[tactic(auto, using(crate::proofs::SeenNames::part_none))]
     pub fn with_builtin(
         alloc: Global,
@@ -66,11 +67,13 @@ impl Search {
         Ok(search)
     }
 
-    /// Adds what a file says above the other lists: `bytes` that were read at `source`, for the paths beneath the directory `base`.
-    /// The format is that of gitattributes(5); `allow_macros` says whether the file may define macros.
+    /// Adds what a file says above the other lists: `bytes` that were read at `source`, for the
+    /// paths beneath the directory `base`. The format is that of gitattributes(5); `allow_macros`
+    /// says whether the file may define macros.
     ///
-    /// The names of attributes go to the collection. Where memory is refused, the search is as before, `source` and `base` are
-    /// dropped, and the first of the names may have gone to the collection.
+    /// The names of attributes go to the collection. Where memory is refused, the search is as
+    /// before, `source` and `base` are dropped, and the first of the names may have gone to the
+    /// collection.
     #[tactic(auto, using(crate::proofs::SeenNames::part_none, crate::proofs::SeenNames::part_all))]
     pub fn add_patterns_buffer(
         &mut self,

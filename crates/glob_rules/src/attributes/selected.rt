@@ -7,7 +7,8 @@ use super::Assignment;
 use super::outcome::Row;
 use std::marker::Model;
 
-/// The names that are asked for, each with what was found of it, in the order in which they are asked for.
+/// The names that are asked for, each with what was found of it, in the order in which they are
+/// asked for.
 ///
 /// Contracts see the list of those that are left.
 #[derive(Drop)]

@@ -9,7 +9,8 @@ const DECOMPOSED: &[u8] = b"/w/a\xcc\x88";
 
 const COMPOSED: &[u8] = b"/w/\xc3\xa4";
 
-/// Each call over names that were composed, as the word `composed` asks for it, and what it says of one file.
+/// Each call over names that were composed, as the word `composed` asks for it, and what it says of
+/// one file.
 static COMPOSED_CALLS: [(&[&[u8]], &[u8]); 4] = [
     (
         &[b"composed", b"report", b"/w", b"/s"],

@@ -7,7 +7,8 @@ use worktree_fs::NewNode;
 /// A limit that is the one of a setup without it.
 pub const LIMITED: &[u8] = b"depth 256\n";
 
-/// The deepest tree that a setup can ask for, in which each directory is entered without a look for rules or repositories.
+/// The deepest tree that a setup can ask for, in which each directory is entered without a look for
+/// rules or repositories.
 pub const DEEPEST: &[u8] = b"depth 1000\noption recurse_repositories yes\noption excludes no\n";
 
 /// `/w/d/d/..`, so many directories one in another below `/w`.
@@ -27,7 +28,8 @@ fn is_too_deep(said: &[u8], path: &[u8]) -> bool {
     }
 }
 
-/// Whether a chain of this depth is walked to its end, or else its last directory is said to be too deep.
+/// Whether a chain of this depth is walked to its end, or else its last directory is said to be too
+/// deep.
 pub fn is_walked(alloc: Global, depth: usize, setup: &[u8]) -> Option<bool> {
     let path = chain(alloc, depth).ok()?;
     let mut tree = tree(alloc, &[(&path, NewNode::Directory)], setup).ok()?;

@@ -1,4 +1,5 @@
-//! How each planner ends where it is refused, or something fails in it: with which status, and with what it says.
+//! How each planner ends where it is refused, or something fails in it: with which status, and with
+//! what it says.
 use crate::tests::ends_so;
 use crate::tests::faults::{Ending, Failing};
 use std::alloc::Global;

@@ -36,7 +36,8 @@ pub enum Failing {
     Interrupt(u64),
 }
 
-/// How a run ends: with a status, with a text on the one sink or the other, and with so many failures of the worktree.
+/// How a run ends: with a status, with a text on the one sink or the other, and with so many
+/// failures of the worktree.
 pub type Ending = (u8, &'static [u8], u64);
 
 /// What a report of [`IGNORING`] has where nothing fails.
@@ -49,8 +50,9 @@ const THE_SECOND: &[u8] = b"untracked file - always - -\td/a\n";
 /// Subtrees are walked at once.
 pub const AT_ONCE: &[u8] = b"option strategy at_once\noption recurse_repositories yes\n";
 
-/// With [`IGNORING`]: how a run ends over the worktree itself, and where subtrees are walked at once. A job asks a fork of the
-/// worktree and of the interrupt, which in memory plans no failure and counts its own questions.
+/// With [`IGNORING`]: how a run ends over the worktree itself, and where subtrees are walked at
+/// once. A job asks a fork of the worktree and of the interrupt, which in memory plans no failure
+/// and counts its own questions.
 pub static EACH_IN_TURN: [(Failing, Ending, Ending); 17] = [
     (
         Failing::Call(CallKind::Kind, 1),
@@ -176,9 +178,10 @@ pub const COLLAPSE_AT_ONCE: &[u8] = b"option emit_untracked collapse\noption str
 /// What a report of [`NESTED`] has where nothing fails.
 const FOUND: &[u8] = b"untracked file - always - -\td/a\nuntracked repository - always - -\td/r\n";
 
-/// With [`NESTED`], over the worktree itself and where subtrees are walked at once. Where `refs` or `HEAD` cannot be looked at there is no
-/// repository, and a directory in which every path is pruned keeps the one above it from being folded; where the real path of what
-/// `.git` leads to is not known, it is another repository than the worktree's own. A job meets no failure.
+/// With [`NESTED`], over the worktree itself and where subtrees are walked at once. Where `refs` or
+/// `HEAD` cannot be looked at there is no repository, and a directory in which every path is pruned
+/// keeps the one above it from being folded; where the real path of what `.git` leads to is not
+/// known, it is another repository than the worktree's own. A job meets no failure.
 pub static EACH_LOOK: [(Failing, Ending, Ending); 3] = [
     (
         Failing::Call(CallKind::KindFollowing, 3),

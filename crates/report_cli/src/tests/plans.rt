@@ -1,5 +1,5 @@
-//! Work trees of which it is asked what may be removed, what an update of the submodules would do, and what became of the
-//! index paths.
+//! Work trees of which it is asked what may be removed, what an update of the submodules would do,
+//! and what became of the index paths.
 use crate::tests::{answers, tree};
 use std::alloc::Global;
 use worktree_fs::{MemoryWorktree, NewNode};
@@ -18,7 +18,8 @@ const HEAD: NewNode<'static> = NewNode::File(b"ref: refs/heads/main\n");
 
 const FILE: NewNode<'static> = NewNode::File(b"");
 
-/// A checkout with a repository of its own, rules, a submodule, and files that the index does not have.
+/// A checkout with a repository of its own, rules, a submodule, and files that the index does not
+/// have.
 const CHECKOUT: &[(&[u8], NewNode<'static>)] = &[
     (b"/w/.git/HEAD", HEAD),
     (b"/w/.git/objects", NewNode::Directory),
@@ -38,7 +39,8 @@ const CHECKOUT: &[(&[u8], NewNode<'static>)] = &[
     (b"/w/target/x.o", FILE),
 ];
 
-/// It asks for what a plan does not: for directories that are folded, and for what there is of them.
+/// It asks for what a plan does not: for directories that are folded, and for what there is of
+/// them.
 const CHECKED_OUT: &[u8] =
     b"index 100644 0 - - .gitignore\nindex 100644 0 - - .gitmodules\nindex 160000 0 - - lib\nindex 100644 0 - - src/main.c\noption emit_untracked collapse\noption emit_ignored collapse\noption print_outcome yes\n";
 

@@ -10,8 +10,9 @@ const STATUS: &[&[u8]] = &[b"status", b"/w", b"/s"];
 
 const FAULT: Ending = (6, b"worktree fault\n", 1);
 
-/// Which call fails over [`NESTED`]: the look at a name, at what makes its repository one, the reading of its `HEAD`, and the
-/// question where its git directory is. With one of the first three the repository would be a directory like any other.
+/// Which call fails over [`NESTED`]: the look at a name, at what makes its repository one, the
+/// reading of its `HEAD`, and the question where its git directory is. With one of the first three
+/// the repository would be a directory like any other.
 static SWALLOWED: [Failing; 5] = [
     Failing::Call(CallKind::Kind, 2),
     Failing::Call(CallKind::KindFollowing, 2),

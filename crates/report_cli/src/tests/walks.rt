@@ -1,4 +1,5 @@
-//! More worktrees with their setups: folding, deletion, traversal roots, path specs, and the rules that decide.
+//! More worktrees with their setups: folding, deletion, traversal roots, path specs, and the rules
+//! that decide.
 use crate::tests::rows::{A_FILE, Row};
 use worktree_fs::NewNode;
 

@@ -9,7 +9,7 @@ ghost use Rattle.worktree_fs.specs.Disk.{has_nul, is_unaskable, IsGiven, AreList
 ghost use Rattle.worktree_fs.specs.Naming.{AreNames, is_name};
 ghost use Rattle.worktree_fs.specs.Order.{path_cmp};
 
-use super::node::{is_absent, look, text_of};
+use super::node::{asked_text, is_absent, look};
 use crate::composed::as_kept;
 use crate::names::{cut_once, is_dot, is_dot_dot, is_name};
 use crate::{ListError, NameList, NodeKind};
@@ -32,6 +32,7 @@ pub fn listed(
     alloc: Global,
     composes: bool,
     buffer: &mut Vec<u8>,
+    current: &str,
     path: &[u8],
     follow: bool,
 ) -> Result<NameList, ListError>
@@ -42,7 +43,7 @@ pub fn listed(
     ensures unaskable { IsTrue (is_unaskable path.now) → IsErrOf result ListError.OpenFault }
     ensures nowhere { IsTrue (has_nul path.now) → IsErrOf result ListError.Absent }
 {
-    let Ok(text) = text_of(path) else {
+    let Ok(text) = asked_text(path, current) else {
         return Err(ListError::OpenFault);
     };
     let Some(text) = text else {
@@ -57,11 +58,12 @@ pub fn listed(
             let mut dir = dir;
             names_from(alloc, composes, &mut dir, buffer)
         }
-        Err(error) => Err(open_error(rt, path, follow, &error)),
+        Err(error) => Err(open_error(rt, current, path, follow, &error)),
     }
 }
 
-/// The path of a directory, with the slash that makes the system follow a last link where that is asked for.
+/// The path of a directory, with the slash that makes the system follow a last link where that is
+/// asked for.
 fn with_slash(alloc: Global, path: &str, follow: bool) -> Result<String, OutOfMemory>
     ensures { IfOk result (λ text. string_bytes text ≡ opened_path path.now follow) }
 {
@@ -73,13 +75,19 @@ fn with_slash(alloc: Global, path: &str, follow: bool) -> Result<String, OutOfMe
 }
 
 /// Why a directory was not opened.
-fn open_error(rt: &HostRuntime, path: &[u8], follow: bool, error: &io::Error) -> ListError
+fn open_error(
+    rt: &HostRuntime,
+    current: &str,
+    path: &[u8],
+    follow: bool,
+    error: &io::Error,
+) -> ListError
     ensures { (IsAbsence error.now → ⊥) → result ≡ ListError.OpenFault }
 {
     if !is_absent(error) {
         return ListError::OpenFault;
     }
-    match look(rt, path, follow) {
+    match look(rt, current, path, follow) {
         Ok(Some(NodeKind::Symlink)) | Ok(Some(NodeKind::File)) | Ok(Some(NodeKind::Untrackable)) =>
             { ListError::NotADirectory }
         Ok(Some(NodeKind::Directory)) => ListError::OpenFault,

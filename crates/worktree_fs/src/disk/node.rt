@@ -1,12 +1,13 @@
 //! The calls of the system on one node, with its answers as those of a worktree.
-ghost use Rattle.std.specs.Prelude.{◌≡◌, ◌↔◌, ◌≤◌, ◌<◌, ◌^◌, length, None, Ok, IfOk, IfErr, IfSome, IsErrOf, MatchResult, IsTrue, false};
+ghost use Rattle.std.specs.Prelude.{◌≡◌, ◌↔◌, ◌≤◌, ◌<◌, ◌^◌, length, None, Ok, IfOk, IfErr, IfSome, IsErrOf, MatchOption, MatchResult, IsTrue, true, false};
+ghost use Rattle.std.specs.Str.{is_utf8};
 ghost use Rattle.worktree_fs.specs.Answers.{UnlessRead};
 ghost use Rattle.worktree_fs.specs.Changes.{from_directory};
-ghost use Rattle.worktree_fs.specs.Disk.{has_nul, is_unaskable, asked_path, made_path, IsAbsence, IsOwnWant};
+ghost use Rattle.worktree_fs.specs.Disk.{has_nul, is_unaskable, asked_path, is_relative, made_path, IsAbsence, IsOwnWant, LeadsFrom};
 ghost use Rattle.std.specs.Fs.{file_type, IsFile, IsDir, IsSymlink};
 
 use crate::composed::as_kept;
-use crate::names::{from_directory, is_utf8};
+use crate::names::from_directory;
 use crate::{MakeAnswer, NodeKind, ReadAnswer, ReadError, RemoveAnswer};
 use gitbase_core::{Bytes, OutOfMemory, PathText, basename};
 use std::alloc::Global;
@@ -18,19 +19,24 @@ use std::{io, str};
 /// How many bytes a file may have.
 const BYTE_LIMIT: u64 = 1 << 30;
 
-/// Whether std cannot ask the system for a path of these bytes: they are not UTF-8, and have no NUL.
-fn is_unaskable(path: &[u8]) -> bool
-    ensures { result ≡ is_unaskable path.now }
+/// The text of bytes that are UTF-8.
+#[tactic(auto, using(crate::proofs::Texts::is_utf8_not))]
+fn utf8_of(bytes: &[u8]) -> Option<&str>
+    ensures { MatchOption result (is_utf8 bytes.now ≡ false)
+        (λ text. (text.now ≡ bytes.now) × (is_utf8 bytes.now ≡ true)) }
 {
-    !is_utf8(path) && !path.contains(&0)
+    match str::from_utf8(bytes) {
+        Ok(text) => Some(text),
+        Err(_) => None,
+    }
 }
 
-/// The path as the system takes it, without slashes at its end; none exactly where it has a NUL, and so leads nowhere.
+/// The path as the system takes it, without slashes at its end; none exactly where it has a NUL,
+/// and so leads nowhere.
 ///
 /// # Errors
 ///
 /// - `Fault` exactly where std cannot ask the system for it.
-#[tactic(auto, using(crate::proofs::Texts::is_utf8_not))]
 pub fn text_of(path: &[u8]) -> Result<Option<&str>, ReadError>
     ensures refused { IsTrue (is_unaskable path.now) → IsErrOf result ReadError.Fault }
     ensures wants_none { IsErrOf result ReadError.OutOfMemory → ⊥ }
@@ -41,17 +47,56 @@ pub fn text_of(path: &[u8]) -> Result<Option<&str>, ReadError>
     ensures text { IfOk result (λ text. IfSome text
         (λ t. t.now ≡ asked_path path.now)) }
 {
-    if is_unaskable(path) {
-        return Err(ReadError::Fault);
-    }
     if path.contains(&0) {
         return Ok(None);
     }
-    let Ok(text) = str::from_utf8(path) else {
-        return Ok(None);
+    let Some(text) = utf8_of(path) else {
+        return Err(ReadError::Fault);
     };
     let text = text.trim_end_matches('/');
     Ok(Some(if text.is_empty() { "/" } else { text }))
+}
+
+/// A path as it leads from the current directory, of which `current` is the path with a slash at its
+/// end, where it lies beneath that; else as it is. The system walks fewer components then.
+fn from_current<'t>(path: &'t str, current: &str) -> &'t str
+    ensures { LeadsFrom current.now path.now result.now }
+{
+    match path.strip_prefix(current) {
+        Some(rest) if is_relative(rest) => rest,
+        _ => path,
+    }
+}
+
+/// Whether a path leads from the current directory.
+fn is_relative(path: &str) -> bool
+    ensures { result ≡ is_relative path.now }
+{
+    match path.as_bytes() {
+        [] => false,
+        [first, ..] => *first != b'/',
+    }
+}
+
+/// The path that the system is asked for, from the current directory where it lies beneath that; none
+/// exactly where it has a NUL.
+///
+/// # Errors
+///
+/// - `Fault` exactly where std cannot ask the system for it.
+pub fn asked_text<'p>(path: &'p [u8], current: &str) -> Result<Option<&'p str>, ReadError>
+    ensures refused { IsTrue (is_unaskable path.now) → IsErrOf result ReadError.Fault }
+    ensures wants_none { IsErrOf result ReadError.OutOfMemory → ⊥ }
+    ensures askable { is_unaskable path.now ≡ false → IfErr result (λ _. ⊥) }
+    ensures nowhere { IsTrue (has_nul path.now) → result ≡ Ok None }
+    ensures somewhere { result ≡ Ok None → IsTrue (has_nul path.now) }
+    ensures text { IfOk result (λ text. IfSome text
+        (λ t. LeadsFrom current.now (asked_path path.now) t.now)) }
+{
+    match text_of(path)? {
+        Some(text) => Ok(Some(from_current(text, current))),
+        None => Ok(None),
+    }
 }
 
 /// The kind that the system's word on a node tells.
@@ -80,12 +125,17 @@ pub fn is_absent(error: &io::Error) -> bool
 
 /// The kind of the node at a path, where there is one.
 /// See docs/DIFFERENCES.md#gix-link-limit.
-pub fn look(rt: &HostRuntime, path: &[u8], follow: bool) -> Result<Option<NodeKind>, ReadError>
+pub fn look(
+    rt: &HostRuntime,
+    current: &str,
+    path: &[u8],
+    follow: bool,
+) -> Result<Option<NodeKind>, ReadError>
     ensures wants_none { IsErrOf result ReadError.OutOfMemory → ⊥ }
     ensures unaskable { IsTrue (is_unaskable path.now) → IsErrOf result ReadError.Fault }
     ensures nowhere { IsTrue (has_nul path.now) → result ≡ Ok None }
 {
-    let Some(text) = text_of(path)? else {
+    let Some(text) = asked_text(path, current)? else {
         return Ok(None);
     };
     let metadata = if follow {
@@ -104,6 +154,7 @@ pub fn look(rt: &HostRuntime, path: &[u8], follow: bool) -> Result<Option<NodeKi
 pub fn read_into(
     rt: &HostRuntime,
     alloc: Global,
+    current: &str,
     path: &[u8],
     follow: bool,
     into: &mut Bytes,
@@ -114,14 +165,14 @@ pub fn read_into(
     ensures unaskable { IsTrue (is_unaskable path.now) → IsErrOf result ReadError.Fault }
     ensures nowhere { IsTrue (has_nul path.now) → result ≡ Ok ReadAnswer.Absent }
 {
-    match look(rt, path, follow)? {
+    match look(rt, current, path, follow)? {
         None => Ok(ReadAnswer::Absent),
         Some(NodeKind::Directory) => Ok(ReadAnswer::IsDirectory),
         Some(NodeKind::Symlink) if follow => Err(ReadError::Fault),
         Some(NodeKind::Symlink) => Ok(ReadAnswer::IsLink),
         Some(NodeKind::Untrackable) => Ok(ReadAnswer::Special),
         Some(NodeKind::File) => {
-            let bytes = bytes_of(rt, alloc, path)?;
+            let bytes = bytes_of(rt, alloc, current, path)?;
             *into = Bytes::from_vec(bytes);
             Ok(ReadAnswer::Read)
         }
@@ -129,10 +180,15 @@ pub fn read_into(
 }
 
 /// The bytes of a file.
-fn bytes_of(rt: &HostRuntime, alloc: Global, path: &[u8]) -> Result<Vec<u8>, ReadError>
+fn bytes_of(
+    rt: &HostRuntime,
+    alloc: Global,
+    current: &str,
+    path: &[u8],
+) -> Result<Vec<u8>, ReadError>
     ensures { IfOk result (λ bytes. length bytes.items ≤ 2 ^ 30) }
 {
-    let Some(text) = text_of(path)? else {
+    let Some(text) = asked_text(path, current)? else {
         return Err(ReadError::Fault);
     };
     let Ok(file) = File::open(rt, text) else {
@@ -237,16 +293,16 @@ pub fn make_dir(
 }
 
 /// Removes a node that is no directory.
-pub fn remove_node(rt: &HostRuntime, path: &[u8]) -> Result<RemoveAnswer, ReadError>
+pub fn remove_node(rt: &HostRuntime, current: &str, path: &[u8]) -> Result<RemoveAnswer, ReadError>
     ensures wants_none { IsErrOf result ReadError.OutOfMemory → ⊥ }
     ensures unaskable { IsTrue (is_unaskable path.now) → IsErrOf result ReadError.Fault }
     ensures nowhere { IsTrue (has_nul path.now) → result ≡ Ok RemoveAnswer.Absent }
 {
-    match look(rt, path, false)? {
+    match look(rt, current, path, false)? {
         None => Ok(RemoveAnswer::Absent),
         Some(NodeKind::Directory) => Ok(RemoveAnswer::IsDirectory),
         Some(_) => {
-            let Some(text) = text_of(path)? else {
+            let Some(text) = asked_text(path, current)? else {
                 return Ok(RemoveAnswer::Absent);
             };
             match rt.remove_file(text) {

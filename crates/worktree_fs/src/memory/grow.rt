@@ -31,10 +31,12 @@ pub enum NewNode<'a> {
     Other,
 }
 
-/// Why a node was not added to a tree in memory. Where several reasons stand, the first of this order is told.
+/// Why a node was not added to a tree in memory. Where several reasons stand, the first of this
+/// order is told.
 #[derive(Clone, Copy, Debug, PartialEq, Eq, Error)]
 pub enum AddError {
-    /// The path does not begin with `/`, or one of its components is empty, `.` or `..`, holds a NUL, or is not UTF-8.
+    /// The path does not begin with `/`, or one of its components is empty, `.` or `..`, holds a
+    /// NUL, or is not UTF-8.
     #[error("NotNormal")]
     NotNormal,
     /// Before its end the path leads to a node that is no directory; links are not followed.

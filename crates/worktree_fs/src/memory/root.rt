@@ -24,7 +24,8 @@ use gitbase_core::{Bytes, OutOfMemory, PathText};
 use std::alloc::Global;
 use std::marker::Model;
 
-/// The entries of `/`, and room for the way to each node below it, so that one is removed without more memory.
+/// The entries of `/`, and room for the way to each node below it, so that one is removed without
+/// more memory.
 ///
 /// Contracts see the names with their nodes.
 #[derive(Drop)]
@@ -108,7 +109,8 @@ impl Root {
         list_of(alloc, &found, is_reversed)
     }
 
-    /// Puts the bytes of the file that a path leads to into `into`, or answers what it leads to in its place.
+    /// Puts the bytes of the file that a path leads to into `into`, or answers what it leads to in
+    /// its place.
     pub fn read(
         &mut self,
         alloc: Global,
@@ -154,8 +156,8 @@ impl Root {
         add_in(&mut self.entries, alloc, path, node)
     }
 
-    /// Makes a directory where a path leads to a name that its directory does not have. Where the tree composes, the
-    /// name is composed.
+    /// Makes a directory where a path leads to a name that its directory does not have. Where the
+    /// tree composes, the name is composed.
     pub fn make_dir(
         &mut self,
         alloc: Global,

@@ -1,4 +1,5 @@
-//! The resolution of a path, which keeps the way down to what it leads to, without memory of its own.
+//! The resolution of a path, which keeps the way down to what it leads to, without memory of its
+//! own.
 ghost use Rattle.std.specs.Prelude.{◌≡◌, [], ◌∷◌, ◌++◌, Bool, Some, not, ◌&&◌, ◌*◌, ◌+◌, ◌^◌, ◌≤◌, ◌<◌, length, vec_len, vec_capacity, if◌then◌else◌};
 ghost use Rattle.worktree_fs.specs.Tree.{resolve, spot, parent_place, onward, walking, behind, is_nil};
 ghost use Rattle.worktree_fs.specs.Stored.{names_in, AreSorted};
@@ -40,10 +41,12 @@ pub enum Turn<'a> {
     Endless,
 }
 
-/// Where a path leads from the root, through at most 32 links. A last link is followed where `follow` says so. The way
-/// is a position for each directory on it, and there is room for the longest one.
+/// Where a path leads from the root, through at most 32 links. A last link is followed where
+/// `follow` says so. The way is a position for each directory on it, and there is room for the
+/// longest one.
 ///
-/// A `..` goes down the way anew, so a path that has many of them far below the root costs their number times that depth.
+/// A `..` goes down the way anew, so a path that has many of them far below the root costs their
+/// number times that depth.
 ///
 /// See docs/DECISIONS.md#step-needs-directory.
 pub fn trace<'a>(root: &'a [Entry], path: &'a [u8], follow: bool, way: &mut Vec<usize>) -> End<'a>

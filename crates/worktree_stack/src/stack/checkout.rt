@@ -30,7 +30,8 @@ impl Stack {
         self.state.checkout()
     }
 
-    /// Tests the component that is the last one of the current path, and sees to it that a directory is there, where one is to be.
+    /// Tests the component that is the last one of the current path, and sees to it that a
+    /// directory is there, where one is to be.
     fn ready<W: Worktree>(
         &mut self,
         alloc: Global,
@@ -60,9 +61,9 @@ impl Stack {
         )
     }
 
-    /// Makes the path current that lies one component below the deepest directory, where it may be checked out. Where that is refused
-    /// the deepest directory is the current path.
-    /// See docs/DECISIONS.md#checkout-refused-push.
+    /// Makes the path current that lies one component below the deepest directory, where it may be
+    /// checked out. Where that is refused the deepest directory is the current path. See
+    /// docs/DECISIONS.md#checkout-refused-push.
     fn push_out<W: Worktree>(
         &mut self,
         alloc: Global,
@@ -86,7 +87,8 @@ impl Stack {
         Ok(())
     }
 
-    /// Pushes the component below the deepest directory as a directory that is there, with its rules.
+    /// Pushes the component below the deepest directory as a directory that is there, with its
+    /// rules.
     fn step_out<W: Worktree, F: Find>(
         &mut self,
         alloc: Global,
@@ -120,8 +122,8 @@ impl Stack {
         self.push_directory(alloc, worktree, objects)
     }
 
-    /// Pushes the components that are left of a path below the deepest directory, all but the last one as directories that are there, with
-    /// their rules.
+    /// Pushes the components that are left of a path below the deepest directory, all but the last
+    /// one as directories that are there, with their rules.
     fn rest_out<W: Worktree, F: Find>(
         &mut self,
         alloc: Global,

@@ -1,4 +1,5 @@
-//! What is pushed for a directory: what is said of attributes, and then the rules that exclude paths.
+//! What is pushed for a directory: what is said of attributes, and then the rules that exclude
+//! paths.
 ghost use Rattle.std.specs.Prelude.{◌≡◌, ◌++◌, IfOk, OnOk, OnErr};
 ghost use Rattle.glob_rules.specs.AttributeNames.{SeesPart};
 ghost use Rattle.gitbase_core.specs.Path.{is_empty};
@@ -171,7 +172,8 @@ impl Stack {
         Ok(())
     }
 
-    /// Pushes the list of the info file, where the current path is the root and there is such a file.
+    /// Pushes the list of the info file, where the current path is the root and there is such a
+    /// file.
     fn push_info<W: Worktree, F: Find>(
         &mut self,
         alloc: Global,
@@ -226,7 +228,8 @@ impl Stack {
         Ok(())
     }
 
-    /// Pushes what is said of attributes in the current path, without the path; at the root also what the info file says.
+    /// Pushes what is said of attributes in the current path, without the path; at the root also
+    /// what the info file says.
     fn push_attributes<W: Worktree, F: Find>(
         &mut self,
         alloc: Global,
@@ -347,9 +350,9 @@ fn list_of(
     List::from_bytes(alloc, bytes.as_bytes(), Some(source), base, parse)
 }
 
-/// Pushes the list of a text that was read, which speaks of attributes. Where memory is refused nothing is pushed, and the first of its
-/// names may be seen.
-/// See docs/DECISIONS.md#attribute-bases.
+/// Pushes the list of a text that was read, which speaks of attributes. Where memory is refused
+/// nothing is pushed, and the first of its names may be seen. See
+/// docs/DECISIONS.md#attribute-bases.
 fn push_text(
     state: &mut State,
     alloc: Global,

@@ -17,8 +17,9 @@ use gitbase_core::{Bytes, Find, FindError, Found, ObjectId, OutOfMemory, PathTex
 use std::alloc::Global;
 use worktree_fs::{ReadAnswer, ReadError, Worktree};
 
-/// The path that the first list comes from of those that are asked in an order, with its bytes in `buffer`; none where none has
-/// a list. `whole` is the path in the worktree, and `path` that which is mapped to a blob.
+/// The path that the first list comes from of those that are asked in an order, with its bytes in
+/// `buffer`; none where none has a list. `whole` is the path in the worktree, and `path` that which
+/// is mapped to a blob.
 pub(super) fn read_text<W: Worktree, F: Find>(
     alloc: Global,
     worktree: &mut W,
@@ -209,7 +210,8 @@ fn set_whole_path(
     whole.push_component(alloc, path)
 }
 
-/// Sets the path of the rules file of a directory below a root, and its whole path, in the room of others.
+/// Sets the path of the rules file of a directory below a root, and its whole path, in the room of
+/// others.
 pub(super) fn set_paths(
     alloc: Global,
     path: &mut PathText,

@@ -92,9 +92,9 @@ impl Stack {
         }
     }
 
-    /// Pushes the current path as a directory, with its rules. Where that is refused nothing is pushed, and the deepest
-    /// directory is the current path.
-    /// See docs/DECISIONS.md#refused-directory-counted.
+    /// Pushes the current path as a directory, with its rules. Where that is refused nothing is
+    /// pushed, and the deepest directory is the current path. See
+    /// docs/DECISIONS.md#refused-directory-counted.
     pub(super) fn push_directory<W: Worktree, F: Find>(
         &mut self,
         alloc: Global,
@@ -277,7 +277,8 @@ impl Stack {
         self.push_directory(alloc, worktree, objects)
     }
 
-    /// Pushes the components that are left of a path below the deepest directory, all but the last one with its rules.
+    /// Pushes the components that are left of a path below the deepest directory, all but the last
+    /// one with its rules.
     fn push_rest<W: Worktree, F: Find>(
         &mut self,
         alloc: Global,
@@ -421,7 +422,8 @@ impl Stack {
     }
 }
 
-/// Whether a path of this mode is a directory: submodules and the directories of a sparse index are.
+/// Whether a path of this mode is a directory: submodules and the directories of a sparse index
+/// are.
 pub(super) fn mode_is_dir(mode: Option<Mode>) -> Option<bool>
     ensures { result ≡ is_dir_of mode }
 {
@@ -431,8 +433,8 @@ pub(super) fn mode_is_dir(mode: Option<Mode>) -> Option<bool>
     }
 }
 
-/// What a path has behind a directory, where that is one component: in the directory that is pushed already, a lookup begins
-/// with it.
+/// What a path has behind a directory, where that is one component: in the directory that is pushed
+/// already, a lookup begins with it.
 fn name_in<'p>(directory: &[u8], path: &'p [u8]) -> Option<&'p [u8]>
     ensures { IfSome result (λ name. IsIn (components directory.now) (components path.now)
         (components name.now)) }

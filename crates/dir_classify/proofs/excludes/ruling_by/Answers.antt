@@ -1,8 +1,8 @@
 use Rattle.std.proofs.Common.{rules, ◌≡◌, ◌∙◌, sym, subst, refl, inr, Some, arith}
 use Rattle.std.proofs.lemmas.Result.{err_from_is_err_and}
 use Rattle.gitbase_core.specs.Path.{components}
-use Rattle.worktree_stack.specs.Setup.{excluded_kind}
-use Rattle.worktree_stack.specs.Excludes.{exclude, rule_of, origin_of}
+use Rattle.worktree_stack.specs.Excludes.{exclude}
+use Rattle.worktree_stack.specs.Exclusions.{exclusion_by}
 use Rattle.worktree_stack.specs.Reading.{rulebook}
 use Rattle.worktree_stack.specs.Lookups.{IsLookedUp}
 use Rattle.worktree_stack.specs.Stacked.{Stacked, made_of, IsInStep}
@@ -10,7 +10,7 @@ use Rattle.worktree_fs.specs.Causes.{Increased}
 use Rattle.dir_classify.specs.Refused.{StopsIf}
 use Rattle.dir_classify.proofs.Keeping.{nothing-mapped}
 use Rattle.dir_classify.proofs.Stopped.{stopped-access}
-use Rattle.dir_classify.proofs.Looked.{tells-given, ruling-looked, read-looked, leaves-refused}
+use Rattle.dir_classify.proofs.Looked.{tells-given, ruling-looked, read-looked, on-way-looked, leaves-answered, leaves-refused}
 use Rattle.dir_classify.proofs.excludes.ruling_by.Goals as goal
 
 pub returns-clause-ruling : goal.returns-clause-ruling
@@ -21,11 +21,9 @@ returns-clause-ruling g c = λ s told step.
     let path = c.args.rela_path.now in
     let in_step = subst (IsInStep s) (sym c.platform-platform.ensures) (looks.in_step s tells step) in
     let looked_up = subst (λ (p : Stacked). IsLookedUp p (components path)) (sym c.platform-platform.ensures) looks.looked_up in
-    ruling-looked s (made_of c.args.stack.now) now path c.args.is_dir c.excluded_kind.result c.matching_origin.result looks.made (looks.is_dir ∙ c.mode_of.ensures)
-    (subst (λ (p : Stacked). c.excluded_kind.result ≡ excluded_kind (rule_of (exclude (rulebook (made_of p) s) (components path) p.is_dir))) c.platform-platform.ensures
-    (c.excluded_kind.ensures.exclude s in_step path looked_up))
-    (subst (λ (p : Stacked). c.matching_origin.result ≡ origin_of (exclude (rulebook (made_of p) s) (components path) p.is_dir)) c.platform-platform.ensures
-    (c.matching_origin.ensures.exclude s in_step path looked_up))
+    ruling-looked s (made_of c.args.stack.now) now path c.args.is_dir c.exclusion-found.result looks.made (looks.is_dir ∙ c.mode_of.ensures)
+    (subst (λ (p : Stacked). c.exclusion-found.result ≡ exclusion_by (exclude (rulebook (made_of p) s) (components path) p.is_dir)) c.platform-platform.ensures
+    (c.exclusion-found.ensures.exclude s in_step path looked_up))
 
 pub returns-clause-read : goal.returns-clause-read
 returns-clause-read g c = λ s told step.
@@ -82,4 +80,11 @@ returns-in_err-look_up-clause-refused g c = λ s told.
 pub returns-clause-reads : goal.returns-clause-reads
 returns-clause-reads g c =
     let looks = c.in_ok-look_up.ensures.looks_up in
-    search rules
+    inr (record {
+      given = refl;
+      once = looks.platforms;
+      looked_up = looks.looked_up;
+      on_way = on-way-looked c.look_up.new.stack c.args.rela_path.now looks.looked_up;
+      leaves = leaves-answered _ _ c.args.rela_path.now c.args.stack.now c.look_up.new.stack looks.carried;
+      reads = λ alone. omega (arith, looks.reads alone);
+    })

@@ -1,6 +1,6 @@
 use Rattle.std.proofs.Common.{rules, ◌∙◌}
 use Rattle.std.proofs.lemmas.List.Sorted.{IsPartitionPoint-from_clause}
-use Rattle.git_config_lite.specs.SectionPlaces.{section_place, is_before, is_under, is_within}
+use Rattle.git_config_lite.specs.SectionPlaces.{section_place, is_before, is_less, is_at_most}
 use Rattle.git_config_lite.proofs.KeyRuns.{parted-under, parted-within, run_is}
 use Rattle.git_config_lite.proofs.Placed.{by_keys}
 use Rattle.git_config_lite.proofs.index.run_of.Goals as goal
@@ -11,11 +11,11 @@ returns c =
     let places = c.args.places.now in
     let one = section_place key 0 in
     let first =
-    IsPartitionPoint-from_clause (is_under key) _ _ c.partition_point-start.ensures.partitioned
+    IsPartitionPoint-from_clause (is_less key) _ _ c.partition_point-start.ensures.partitioned
     (parted-under is_before by_keys places c.requires one) (λ a r f k. search rules) in
     let rest = c.split_at.ensures.back in
     let second =
-    IsPartitionPoint-from_clause (is_within key) _ _ c.partition_point-length.ensures.partitioned
+    IsPartitionPoint-from_clause (is_at_most key) _ _ c.partition_point-length.ensures.partitioned
     (rw rest (parted-within is_before by_keys places c.requires one _)) (λ a r f k. search rules) in
     c.split_at-2.ensures.front
     ∙ rw rest (run_is is_before by_keys places c.requires one _ _ c.partition_point-start.ensures.bound

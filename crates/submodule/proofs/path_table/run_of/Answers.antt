@@ -1,7 +1,7 @@
 use Rattle.std.proofs.Common.{rules, ◌∙◌, []}
 use Rattle.std.proofs.lemmas.List.Sorted.{IsPartitionPoint-from_clause}
 use Rattle.git_config_lite.proofs.KeyRuns.{parted-under, parted-within, run_is}
-use Rattle.submodule.specs.NamedPaths.{named_path, is_before, is_under, is_within}
+use Rattle.submodule.specs.NamedPaths.{named_path, is_before, is_less, is_at_most}
 use Rattle.submodule.proofs.Tabled.{by_paths}
 use Rattle.submodule.proofs.path_table.run_of.Goals as goal
 
@@ -11,11 +11,11 @@ returns c =
     let rows = c.args.rows.now in
     let one = named_path path [] in
     let first =
-    IsPartitionPoint-from_clause (is_under path) _ _ c.partition_point-start.ensures.partitioned
+    IsPartitionPoint-from_clause (is_less path) _ _ c.partition_point-start.ensures.partitioned
     (parted-under is_before by_paths rows c.requires one) (λ a r f k. search rules) in
     let rest = c.split_at.ensures.back in
     let second =
-    IsPartitionPoint-from_clause (is_within path) _ _ c.partition_point-length.ensures.partitioned
+    IsPartitionPoint-from_clause (is_at_most path) _ _ c.partition_point-length.ensures.partitioned
     (rw rest (parted-within is_before by_paths rows c.requires one _)) (λ a r f k. search rules) in
     c.split_at-2.ensures.front
     ∙ rw rest (run_is is_before by_paths rows c.requires one _ _ c.partition_point-start.ensures.bound

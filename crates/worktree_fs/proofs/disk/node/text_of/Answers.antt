@@ -7,8 +7,8 @@ use Rattle.worktree_fs.proofs.disk.node.text_of.Goals.{then-is_empty, else-is_em
 pub returns-clause-text : goal.returns-clause-text
 returns-clause-text c =
     let rest = c.trim_end_matches-text.result.now in
-    let text : c.in-Ok.text.now ≡ c.args.path.now = search rules in
-    let is : rest ≡ without_slashes c.args.path.now = trimmed_slashes c.in-Ok.text.now rest c.trim_end_matches-text.ensures.matches ∙ ap without_slashes text in
+    let text : c.in-Some.text.now ≡ c.args.path.now = search rules in
+    let is : rest ≡ without_slashes c.args.path.now = trimmed_slashes c.in-Some.text.now rest c.trim_end_matches-text.ensures.matches ∙ ap without_slashes text in
     elim c.if-is_empty.branch [
       | then-is_empty w ↦ ap (λ r. r.now) w.result-is ∙ sym (no_path rest (sym c.is_empty.ensures ∙ w.if-is_empty.true)) ∙ ap or_root is
       | else-is_empty w ↦ ap (λ r. r.now) w.result-is ∙ sym (a_path rest (sym c.is_empty.ensures ∙ w.if-is_empty.false)) ∙ ap or_root is
