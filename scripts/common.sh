@@ -103,70 +103,10 @@ without_user() {
     unset XDG_CONFIG_HOME
 }
 
-# Sets $root, $program and $work, with the setup of the work tree at $1 and the options behind it in $work/setup. What lies in an
-# excluded directory stays excluded there, as git has it, unless an option says otherwise.
-make_setup() {
-    root=$(work_tree "$1")
-    # The program's file system takes paths as text.
-    ! LC_ALL=C.UTF-8 grep -qavx '.*' <<< "$root" || fail "the path of ${1@Q} is not UTF-8"
+# What the program `tizhagor` at $program says in the directory at $1, with the words behind it. It refuses variables that give git
+# a configuration, as they are set above.
+tizhagor_in() {
+    local from=$1
     shift
-    program=$("$here/scripts/program")
-    own_folder
-    case $work/ in
-    "${root%/}"/*) fail "TMPDIR lies in $root, so the report would name what is made there; set another" ;;
-    esac
-    has_option strict_parents "$@" || set -- strict_parents=yes "$@"
-    "$here/scripts/setup-of" "$root" "$@" > "$work/setup"
-    # Each entry of the index has its line, or what is tracked would be untracked.
-    [ "$(grep -c '^index ' "$work/setup" || true)" -eq "$(git -C "$root" ls-files -s -z | tr -dc '\0' | wc -c)" ] ||
-        fail "the setup lacks entries of the index"
-}
-
-# Runs the program at $program with these words; $status is its status. Where it names a line of the setup at $work/setup, which is
-# gone when the script ends, this says what stands there.
-answer() {
-    local line
-    status=0
-    "$program" "$@" 2> "$work/said" || status=$?
-    cat -- "$work/said" >&2
-    line=$(sed -n 's/^setup: line \([0-9]*\)$/\1/p' "$work/said")
-    case $status in
-    3) tell_line "$(sed -n "${line}p" "$work/setup")" ;;
-    6) tell_faults ;;
-    esac
-}
-
-# Says which word gave a line of the setup that is refused, and why.
-tell_line() {
-    case $1 in
-    'spec '*) echo "$script: spec=${1#spec } is no path spec that is read here: docs/FORMATS.md says what a path spec is" >&2 ;;
-    'worktree '*) echo "$script: worktree=${1#worktree } has a backslash, which is written as \\5c" >&2 ;;
-    *) echo "$script: that line is: $1" >&2 ;;
-    esac
-}
-
-# Names what in the work tree can make the file system fail, as far as it can be found from here.
-tell_faults() {
-    echo "$script: the file system failed somewhere; what is named here, if anything, can be why." \
-        "worktree=PATH leaves the directory out that holds it:" >&2
-    {
-        cd -- "$root"
-        find . -name .git -prune -o -type d \( ! -readable -o ! -executable \) -printf 'a directory that may not be read: %P\n' -prune
-        find . \( -name .gitignore -o -name .git -o -path '*/.git/HEAD' -o -path '*/.git/commondir' \) ! -readable \
-            -printf 'not to be read: %P\n'
-        find . -name .git -prune -o -type l -printf '%Y %P\n' | sed -n 's/^[L?] /a link that cannot be followed: /p'
-        find . -name .git -type d ! -executable -printf 'not to be searched: %P\n'
-        find . -name .git -type f -exec env LC_ALL=C.UTF-8 grep -lavx '.*' {} + | sed 's|^\./|names a path that is not UTF-8: |'
-        find . -name .git -prune -o -print | LC_ALL=C.UTF-8 grep -avx '.*' | sed 's|^\./|a name that is not UTF-8: |'
-    } 2>/dev/null | head -n 5 | cat -v >&2 || true
-}
-
-# Whether one of the words behind $1 gives the option $1 a value.
-has_option() {
-    local option=$1 word
-    shift
-    for word in "$@"; do
-        [ "${word%%=*}" != "$option" ] || return 0
-    done
-    return 1
+    (cd -- "$from" && env -u GIT_CONFIG_COUNT "$program" "$@") || fail "tizhagor $* ended with $? in $from"
 }
