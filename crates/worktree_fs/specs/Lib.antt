@@ -9,12 +9,14 @@ pub mod Ends
 pub mod Found
 pub mod Grow
 pub mod Kept
+pub mod KeptOwners
 pub mod Last
 pub mod MadeAndRemoved
 pub mod Memory
 pub mod Naming
 pub mod Order
 pub mod Outlines
+pub mod Owners
 pub mod PathStack
 pub mod Paths
 pub mod Placed

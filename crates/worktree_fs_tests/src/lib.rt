@@ -14,6 +14,8 @@ mod jobs;
 #[cfg(test)]
 mod memory;
 #[cfg(test)]
+mod owners;
+#[cfg(test)]
 mod path_stack;
 #[cfg(test)]
 mod rows;

@@ -1,0 +1,21 @@
+-- Who owns the nodes of a file system, and on which file system they lie.
+use Rattle.std.specs.Prelude.{ℕ, Bool, List, Option, bytes_eq, find, option_map}
+use Rattle.worktree_fs.specs.declared.owners.ownership.Ownership.{Ownership}
+
+-- what is told of the node at a path, by whether a last link is followed; none where nothing is there
+abbrev pub Owned : Type 0
+Owned = List ℕ → Bool → Option Ownership
+
+-- the count of one that asks the system
+pub record Asked : Type 0 where
+  pub faults : ℕ
+
+-- ---- in memory
+
+pub record OwnedNode : Type 0 where
+  pub path : List ℕ
+  pub ownership : Ownership
+
+-- what nodes tell: each of the path at which it is listed, a last link followed or not, and the first of those at one path
+abbrev pub owned_in : List OwnedNode → Owned
+owned_in nodes path follow = option_map (λ (node : OwnedNode). node.ownership) (find (λ (node : OwnedNode). bytes_eq node.path path) nodes)

@@ -1,0 +1,92 @@
+//! The owners of the files of the system, of which nothing is told.
+ghost use Rattle.std.specs.Prelude.{◌≡◌, None};
+
+use super::Owners;
+use super::ownership::Ownership;
+use crate::ReadError;
+use crate::faults::is_fault;
+use std::fs::Metadata;
+use std::io::ErrorKind;
+use std::marker::Model;
+use std::os::unix::fs::MetadataExt;
+use std::rt::{Files, HostRuntime};
+use std::{io, str};
+
+/// The owners of the files of the system. They tell nothing, and count every call that the system refuses; a path that is not UTF-8 is
+/// such a failure, since std has none for it.
+///
+/// Contracts see the count.
+#[derive(Drop)]
+pub struct DiskOwners<'a> {
+    rt: &'a HostRuntime,
+    faults: u64,
+}
+
+impl<'a> Model for DiskOwners<'a> {
+    ghost use Rattle.worktree_fs.specs.Owners as words;
+
+    ghost Value = { words.Asked };
+
+    ghost view = { λ owners. record { faults = owners.faults } };
+}
+
+impl<'a> DiskOwners<'a> {
+    /// Owners of all files of the system; takes no memory.
+    pub fn new(rt: &'a HostRuntime) -> DiskOwners<'a>
+        ensures { result ≡ record { faults = 0 } }
+    {
+        DiskOwners { rt, faults: 0 }
+    }
+
+    /// How many calls failed.
+    pub fn fault_count(&self) -> u64
+        ensures { result ≡ self.now.faults }
+    {
+        self.faults
+    }
+}
+
+/// What the system's word on a node tells.
+fn ownership_of(metadata: &Metadata) -> Ownership {
+    Ownership {
+        owner: metadata.uid(),
+        device: metadata.dev(),
+    }
+}
+
+/// Whether the system says that the path leads nowhere.
+fn is_absent(error: &io::Error) -> bool {
+    error.kind() == ErrorKind::NotFound || error.kind() == ErrorKind::NotADirectory
+}
+
+/// Who owns the node at a path, where there is one. Never answers `OutOfMemory`.
+fn asked(rt: &HostRuntime, path: &[u8], follow: bool) -> Result<Option<Ownership>, ReadError> {
+    let Ok(text) = str::from_utf8(path) else {
+        return Err(ReadError::Fault);
+    };
+    let metadata = if follow {
+        rt.metadata(text)
+    } else {
+        rt.symlink_metadata(text)
+    };
+    match metadata {
+        Ok(metadata) => Ok(Some(ownership_of(&metadata))),
+        Err(error) if is_absent(&error) => Ok(None),
+        Err(_) => Err(ReadError::Fault),
+    }
+}
+
+impl<'a> Owners for DiskOwners<'a> {
+    ghost told = { λ _. None };
+
+    ghost faults = { λ owners. owners.faults };
+
+    /// One call of the system.
+    fn ownership(&mut self, path: &[u8], follow: bool) -> Result<Option<Ownership>, ReadError> {
+        let found = asked(self.rt, path, follow);
+        if is_fault(&found) {
+            self.faults = self.faults.saturating_add(1);
+        }
+        found
+    }
+}

@@ -1,0 +1,70 @@
+//! Owners in memory, as they were put there.
+ghost use Rattle.std.specs.Prelude.{◌≡◌, Some, bytes_eq, find, option_copied};
+ghost use Rattle.worktree_fs.specs.Owners as words;
+
+use super::Owners;
+use super::ownership::Ownership;
+use crate::ReadError;
+use gitbase_core::Bytes;
+use std::marker::Model;
+
+/// A path, and what is told of it. Contracts see a record of both.
+#[derive(Debug, Drop)]
+pub struct OwnedNode {
+    pub path: Bytes,
+    pub ownership: Ownership,
+}
+
+impl Model for OwnedNode {
+    ghost use Rattle.worktree_fs.specs.Owners as words;
+
+    ghost Value = { words.OwnedNode };
+
+    ghost view = { λ node. record { path = node.path; ownership = node.ownership } };
+}
+
+/// Owners in memory: what is told of a path is that of the first node there, a last link followed or not. They never fail.
+///
+/// Contracts see the list of nodes.
+#[derive(Debug, Drop)]
+pub struct MemoryOwners {
+    nodes: Vec<OwnedNode>,
+}
+
+impl Model for MemoryOwners {
+    ghost use Rattle.std.specs.Prelude.{List};
+    ghost use Rattle.worktree_fs.specs.Owners as words;
+
+    ghost Value = { List words.OwnedNode };
+
+    ghost view = { λ owners. owners.nodes.items };
+}
+
+impl MemoryOwners {
+    /// Owners of these nodes; takes no memory.
+    pub fn new(nodes: Vec<OwnedNode>) -> MemoryOwners
+        ensures { result ≡ nodes.items }
+    {
+        MemoryOwners { nodes }
+    }
+
+    /// The first node at a path.
+    fn node_at(&self, path: &[u8]) -> Option<&OwnedNode>
+        ensures { option_copied result ≡ find (λ node. bytes_eq node.path path.now) self.now }
+    {
+        self.nodes.iter().find(|node| node.path.as_bytes() == path)
+    }
+}
+
+impl Owners for MemoryOwners {
+    ghost told = { λ owners. Some (words.owned_in owners) };
+
+    ghost faults = { λ _. 0 };
+
+    fn ownership(&mut self, path: &[u8], _follow: bool) -> Result<Option<Ownership>, ReadError> {
+        match self.node_at(path) {
+            Some(node) => Ok(Some(node.ownership)),
+            None => Ok(None),
+        }
+    }
+}
