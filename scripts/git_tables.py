@@ -89,15 +89,15 @@ def table(words, path, heading, make):
     if not words.write and not words.check:
         print(made(heading, make), end="")
         return
+    if words.write:
+        write_whole(path, made(heading, make))
+        return
     with open(path) as file:
         old = file.read()
-    if words.check and git_version() not in old.split("\n", 1)[0]:
+    if git_version() not in old.split("\n", 1)[0]:
         print("%s: not compared, since it was made by another version than %s" % (name, git_version()))
         return
-    new = made(heading, make)
-    if words.write:
-        write_whole(path, new)
-    elif new != old:
+    if made(heading, make) != old:
         sys.exit("%s: git answers otherwise than the table says" % name)
     else:
         print("%s: as git answers" % name)

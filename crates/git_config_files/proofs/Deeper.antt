@@ -1,16 +1,17 @@
 -- A file that is not too deep.
-use Rattle.std.proofs.Common.{◌≡◌, ◌⊎◌, inl, inr, ℕ, List, [], zero, suc, Option, Some, None, Result, Ok, Err, true, refl, ap, subst, sym}
+use Rattle.std.proofs.Common.{◌≡◌, ℕ, List, [], zero, suc, Option, Some, None, Result, Ok, Err, true, refl, ap, subst, sym}
 use Rattle.git_config_lite.specs.declared.metadata.Source.{Source}
 use Rattle.git_config_lite.specs.Sections.{Section}
 use Rattle.worktree_fs.specs.declared.worktree.Worktree.{Ghosts as WorktreeOf}
 use Rattle.worktree_fs.specs.Tree.{Names, look}
 use Rattle.git_config_files.specs.Conditions.{Known}
-use Rattle.git_config_files.specs.Answers.{Gives}
+use Rattle.git_places.specs.Answers.{GivesBy}
 use Rattle.git_config_files.specs.Finds.{Finds}
 use Rattle.git_config_files.specs.Includes.{Follow, after, placed, in_place, keys_in, expanded, text_at, too_deep}
 use Rattle.git_config_files.proofs.Laws.{placed_is}
-use Rattle.git_config_files.specs.Steps.{and_then}
+use Rattle.gitbase_core.specs.Steps.{and_then}
 use Rattle.git_config_files.specs.declared.error.FilesError.{FilesError}
+use Rattle.git_config_files.specs.declared.error.FilesError.TheVariants as errors
 
 -- what a file says, where its keys are gone through one by one
 abbrev pub in_order : Names → Known → Follow → Source → List ℕ → Option (List ℕ) → Result (List Section) FilesError
@@ -33,7 +34,7 @@ pub found_as : {W A : Type 0} (w : WorktreeOf W) (before now : W) (found other :
     → ((t : Names) → found t ≡ other t) → Finds w before now found result → Finds w before now other result
 found_as {A = A} w before now found other result same finds =
     record {
-      gives = λ t told. subst (λ (r : Result A FilesError). Gives result r) (same t) (finds.gives t told);
+      gives = λ t told. subst (λ (r : Result A FilesError). GivesBy errors.Fault errors.OutOfMemory result r) (same t) (finds.gives t told);
       cause = finds.cause;
       unfaulted = finds.unfaulted;
       keeps = finds.keeps;
@@ -58,9 +59,3 @@ pub refused : (t : Names) (known : Known) (source : Source) (levels : ℕ) (path
 unfolding expanded
 refused t known source zero path e is = ap (and_then (too_deep path)) is
 refused t known source (suc levels) path e is = ap (and_then (in_place t known (expanded t known source levels) source path)) is
-
--- a refusal is that of the whole where one of a part is
-pub passes : {A B : Type 0} (e : FilesError) (given : Result A FilesError) (found : Result B FilesError)
-    → Gives {A = A} (Err e) given → (given ≡ Err e → found ≡ Err e) → Gives {A = B} (Err e) found
-passes e given found (inl h) to = inl (to h)
-passes e given found (inr h) to = inr h

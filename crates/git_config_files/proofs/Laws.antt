@@ -6,7 +6,7 @@ use Rattle.worktree_fs.specs.Tree.{Names}
 use Rattle.git_config_files.specs.Conditions.{Known}
 use Rattle.git_config_files.specs.Files.{Configured, stacked, stack_in}
 use Rattle.git_config_files.specs.Includes.{Follow, after, behind, expanded, placed}
-use Rattle.git_config_files.specs.Steps.{and_then}
+use Rattle.gitbase_core.specs.Steps.{and_then}
 use Rattle.git_config_files.specs.declared.error.FilesError.{FilesError}
 
 abbrev good : List Section → Result (List Section) FilesError

@@ -1,24 +1,13 @@
 -- What an answer says of what is to be read.
-use Rattle.std.specs.Prelude.{◌≡◌, ◌⊎◌, Result, Ok, Err}
+use Rattle.std.specs.Prelude.{Result}
 use Rattle.worktree_fs.specs.declared.answers.ReadError.{ReadError}
 use Rattle.worktree_fs.specs.declared.answers.ReadError.TheVariants as read
+use Rattle.git_places.specs.Answers.{DecidesBy}
 use Rattle.git_config_files.specs.declared.error.FilesError.{FilesError}
 use Rattle.git_config_files.specs.declared.error.FilesError.TheVariants as errors
 
--- an answer is what is to be found, a refusal of it too; the worktree may fail instead, and memory may be wanted
-abbrev pub Gives : {A : Type 0} → Result A FilesError → Result A FilesError → Type 0
-Gives (Ok answer) found = found ≡ Ok answer
-Gives (Err e) found = (found ≡ Err e) ⊎ ((e ≡ errors.Fault) ⊎ (e ≡ errors.OutOfMemory))
-
--- the same of a call that asks no worktree, which never answers that it failed
 abbrev pub Decides : {A : Type 0} → Result A FilesError → Result A FilesError → Type 0
-Decides (Ok answer) found = found ≡ Ok answer
-Decides (Err e) found = ((found ≡ Err e) ⊎ (e ≡ errors.OutOfMemory)) × (e ≡ errors.Fault → ⊥)
-
--- what holds unless the worktree failed
-abbrev pub UnlessFault : {A : Type 0} → Result A FilesError → Type 0 → Type 0
-UnlessFault (Ok answer) Holds = Holds
-UnlessFault (Err e) Holds = (e ≡ errors.Fault) ⊎ Holds
+Decides result found = DecidesBy errors.Fault errors.OutOfMemory result found
 
 -- the refusal that a refused look at the worktree is
 abbrev pub of_read : ReadError → FilesError

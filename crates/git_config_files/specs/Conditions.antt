@@ -13,12 +13,15 @@ use Rattle.worktree_fs.specs.Tree.{Names, is_empty}
 use Rattle.git_config_files.specs.declared.error.FilesError.{FilesError}
 use Rattle.git_config_files.specs.declared.error.FilesError.TheVariants as errors
 
--- by what includes are judged: the git directory without links and as it is spelled, the branch, if there is one, and the home, as it is
--- spelled and without links
-pub record Known : Type 0 where
+-- a repository: its git directory without links and as it is spelled, and the branch, if there is one
+pub record Repository : Type 0 where
   pub git : List ℕ
   pub spelled : List ℕ
   pub branch : Option (List ℕ)
+
+-- by what includes are judged: the repository, where one is known, and the home, as it is spelled and without links
+pub record Known : Type 0 where
+  pub repository : Option Repository
   pub home : Option (List ℕ)
   pub real_home : Option (List ℕ)
 
@@ -38,8 +41,8 @@ at_home (Some home) (Some rest) pattern = home ++ rest
 abbrev pub anywhere : List ℕ → List ℕ
 anywhere pattern = if is_absolute pattern then pattern else codes "**/" ++ pattern
 
-abbrev pub whole_pattern : Known → List ℕ → List ℕ
-whole_pattern known pattern = with_stars (anywhere (at_home known.real_home (behind_front (codes "~") pattern) pattern))
+abbrev pub whole_pattern : Option (List ℕ) → List ℕ → List ℕ
+whole_pattern home pattern = with_stars (anywhere (at_home home (behind_front (codes "~") pattern) pattern))
 
 abbrev pub matches_path : Case → List ℕ → List ℕ → Bool
 matches_path case pattern text = matches (mode_of case) pattern text
@@ -66,14 +69,14 @@ abbrev pub beneath_pattern : List ℕ → List ℕ
 beneath_pattern rest = if is_empty rest || ends_with nat_eq rest (47 ∷ []) then rest ++ codes "**" else rest
 
 -- either spelling of the git directory may match
-abbrev pub either : Known → (List ℕ → Bool) → Bool
-either known test = test known.git || test known.spelled
+abbrev pub either : Repository → (List ℕ → Bool) → Bool
+either here test = test here.git || test here.spelled
 
 -- a pattern beneath a directory matches the git directory without links, which has to lie there, or as it is spelled
-abbrev pub matches_beneath : Known → Case → List ℕ → List ℕ → Option (List ℕ) → Bool
-matches_beneath known case front pattern None = false
-matches_beneath known case front pattern (Some real) =
-    matches_path case pattern real || matches_some case pattern (behind_same case front known.spelled)
+abbrev pub matches_beneath : Repository → Case → List ℕ → List ℕ → Option (List ℕ) → Bool
+matches_beneath here case front pattern None = false
+matches_beneath here case front pattern (Some real) =
+    matches_path case pattern real || matches_some case pattern (behind_same case front here.spelled)
 
 -- the directory of a file, with a slash behind it
 abbrev pub directory_of : List ℕ → List ℕ
@@ -81,9 +84,9 @@ directory_of file = unwrap_or (parent file) [] ++ 47 ∷ []
 
 -- a pattern that begins with `./` is one beneath the directory of the file, whose path without links this is; the directory itself is no
 -- pattern
-abbrev pub matches_from : Known → Case → List ℕ → List ℕ → Bool
-matches_from known case file rest =
-    matches_beneath known case (directory_of file) (beneath_pattern rest) (behind_same case (directory_of file) known.git)
+abbrev pub matches_from : Repository → Case → List ℕ → List ℕ → Bool
+matches_from here case file rest =
+    matches_beneath here case (directory_of file) (beneath_pattern rest) (behind_same case (directory_of file) here.git)
 
 -- whether what stands behind a `~` is the name of a user
 abbrev pub is_user : Option (List ℕ) → Bool
@@ -96,20 +99,29 @@ abbrev pub is_unknown_home : List ℕ → Bool
 is_unknown_home path = is_user (behind_front (codes "~") path) || is_some (behind_front (codes "%(prefix)/") path)
 
 -- whether the git directory is where a pattern of the file `from` says
-abbrev pub is_at : Names → Known → List ℕ → Case → Option (List ℕ) → List ℕ → Bool
-is_at t known from case (Some rest) pattern = matches_from known case (unwrap_or (real_path t from (47 ∷ [])) from) rest
-is_at t known from case None pattern = either known (matches_path case (whole_pattern known pattern))
+abbrev pub is_at : Names → Repository → Option (List ℕ) → List ℕ → Case → Option (List ℕ) → List ℕ → Bool
+is_at t here home from case (Some rest) pattern = matches_from here case (unwrap_or (real_path t from (47 ∷ [])) from) rest
+is_at t here home from case None pattern = either here (matches_path case (whole_pattern home pattern))
+
+-- where no repository is known, no such condition holds
+abbrev pub repository_holds : Names → Option (List ℕ) → List ℕ → Case → List ℕ → Option Repository → Result Bool FilesError
+repository_holds t home from case pattern None = Ok false
+repository_holds t home from case pattern (Some here) =
+    if is_unknown_home pattern then Err (errors.Home from)
+    else Ok (is_at t here home from case (behind_front (codes "./") pattern) pattern)
 
 abbrev pub directory_holds : Names → Known → List ℕ → Case → List ℕ → Result Bool FilesError
-directory_holds t known from case pattern =
-    if is_unknown_home pattern then Err (errors.Home from)
-    else Ok (is_at t known from case (behind_front (codes "./") pattern) pattern)
+directory_holds t known from case pattern = repository_holds t known.real_home from case pattern known.repository
 
 -- ---- `onbranch:`
 
 abbrev pub on_branch : Option (List ℕ) → List ℕ → Bool
 on_branch None pattern = false
 on_branch (Some branch) pattern = matches_path cases.Sensitive (with_stars pattern) branch
+
+abbrev pub branch_of : Option Repository → Option (List ℕ)
+branch_of None = None
+branch_of (Some here) = here.branch
 
 -- ---- all of them
 
@@ -121,7 +133,7 @@ by_mark (Some text) said rest = said text
 -- a condition on the branch; one that asks for the configuration is not read, and one that is not known does not hold
 abbrev pub other_holds : Known → List ℕ → List ℕ → Result Bool FilesError
 other_holds known from condition =
-    by_mark (behind_front (codes "onbranch:") condition) (λ pattern. Ok (on_branch known.branch pattern))
+    by_mark (behind_front (codes "onbranch:") condition) (λ pattern. Ok (on_branch (branch_of known.repository) pattern))
     (by_mark (behind_front (codes "hasconfig:remote.*.url:") condition) (λ text. Err (errors.Condition from)) (Ok false))
 
 -- whether a condition of the file `from` holds

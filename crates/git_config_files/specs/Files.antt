@@ -6,7 +6,7 @@ use Rattle.git_config_lite.specs.Sections.{Section}
 use Rattle.worktree_fs.specs.Tree.{Names}
 use Rattle.git_config_files.specs.Conditions.{Known}
 use Rattle.git_config_files.specs.Includes.{expanded}
-use Rattle.git_config_files.specs.Steps.{and_then}
+use Rattle.gitbase_core.specs.Steps.{and_then}
 use Rattle.git_config_files.specs.declared.error.FilesError.{FilesError}
 
 -- a file of the stack: what it belongs to, and its path

@@ -7,7 +7,7 @@ use Rattle.git_config_lite.specs.Grammar.{said}
 use Rattle.git_config_lite.specs.Sections.{Section}
 use Rattle.worktree_fs.specs.Tree.{Names, Look, found, absent, too_many_links, file, link, directory, other, look}
 use Rattle.git_config_files.specs.Conditions.{Known}
-use Rattle.git_config_files.specs.Steps.{and_then}
+use Rattle.gitbase_core.specs.Steps.{and_then}
 use Rattle.git_config_files.specs.Targets.{target}
 use Rattle.git_config_files.specs.declared.error.FilesError.{FilesError}
 use Rattle.git_config_files.specs.declared.error.FilesError.TheVariants as errors

@@ -4,7 +4,7 @@ pub mod Files
 pub mod Finds
 pub mod Includes
 pub mod Rules
+pub mod Safe
 pub mod Stack
-pub mod Steps
 pub mod Targets
 pub mod Which

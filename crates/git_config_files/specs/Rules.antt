@@ -10,7 +10,7 @@ use Rattle.git_places.specs.Surroundings.{Surroundings}
 use Rattle.worktree_fs.specs.Changes.{from_directory}
 use Rattle.worktree_fs.specs.Tree.{Names, is_empty, look}
 use Rattle.git_config_files.specs.Includes.{text_at}
-use Rattle.git_config_files.specs.Steps.{and_then}
+use Rattle.gitbase_core.specs.Steps.{and_then}
 use Rattle.git_config_files.specs.Targets.{expanded_path}
 use Rattle.git_config_files.specs.Which.{in_config_home}
 use Rattle.git_config_files.specs.declared.error.FilesError.{FilesError}

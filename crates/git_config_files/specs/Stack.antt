@@ -9,9 +9,9 @@ use Rattle.git_places.specs.Surroundings.{Surroundings}
 use Rattle.worktree_fs.specs.Changes.{from_directory, real_path}
 use Rattle.worktree_fs.specs.Repository.{behind_front, file_at, not_empty, trimmed}
 use Rattle.worktree_fs.specs.Tree.{Names, look}
-use Rattle.git_config_files.specs.Conditions.{Known}
+use Rattle.git_config_files.specs.Conditions.{Known, Repository}
 use Rattle.git_config_files.specs.Files.{Configured, stack_in}
-use Rattle.git_config_files.specs.Steps.{and_then}
+use Rattle.gitbase_core.specs.Steps.{and_then}
 use Rattle.git_config_files.specs.Which.{files_of}
 use Rattle.git_config_files.specs.declared.error.FilesError.{FilesError}
 use Rattle.git_config_files.specs.declared.error.FilesError.TheVariants as errors
@@ -38,15 +38,20 @@ abbrev pub real_home : Names → List ℕ → Option (List ℕ) → Option (List
 real_home t root None = None
 real_home t root (Some home) = Some (real_or_same t home root)
 
-abbrev pub known_of : Names → Layout → Surroundings → Known
-known_of t layout around =
+abbrev pub repository_of : Names → Layout → Repository
+repository_of t layout =
     record {
       git = real_or_same t layout.git (47 ∷ []);
       spelled = spelled_of layout.root layout.git (real_or_same t layout.git (47 ∷ []));
       branch = branch_in t layout.git;
-      home = around.home;
-      real_home = real_home t layout.root around.home;
     }
+
+-- relative homes are taken from a directory
+abbrev pub known_with : Names → Option Repository → List ℕ → Option (List ℕ) → Known
+known_with t repository directory home = record { repository = repository; home = home; real_home = real_home t directory home }
+
+abbrev pub known_of : Names → Layout → Surroundings → Known
+known_of t layout around = known_with t (Some (repository_of t layout)) layout.root around.home
 
 -- ---- the files in which keys stand
 
@@ -76,9 +81,9 @@ abbrev pub stack_by : Names → Known → List Configured → Result Stack Files
 stack_by t known files = and_then (λ keys. Ok (stack_of keys)) (stack_in t known files)
 
 -- a variable that points git elsewhere is refused
-abbrev pub unless_elsewhere : Option (List ℕ) → Result Stack FilesError → Result Stack FilesError
-unless_elsewhere None stack = stack
-unless_elsewhere (Some name) stack = Err (errors.Elsewhere name)
+abbrev pub unless_elsewhere : {A : Type 0} → Option (List ℕ) → Result A FilesError → Result A FilesError
+unless_elsewhere None answer = answer
+unless_elsewhere (Some name) answer = Err (errors.Elsewhere name)
 
 abbrev pub stack_at : Names → Layout → Surroundings → Result Stack FilesError
 stack_at t layout around =

@@ -8,7 +8,7 @@ use Rattle.worktree_fs.specs.Changes.{from_directory}
 use Rattle.worktree_fs.specs.Repository.{behind_front}
 use Rattle.worktree_fs.specs.Tree.{Names}
 use Rattle.git_config_files.specs.Conditions.{Known, is_unknown_home, holds}
-use Rattle.git_config_files.specs.Steps.{and_then}
+use Rattle.gitbase_core.specs.Steps.{and_then}
 use Rattle.git_config_files.specs.declared.error.FilesError.{FilesError}
 use Rattle.git_config_files.specs.declared.error.FilesError.TheVariants as errors
 

@@ -1,7 +1,6 @@
 -- Which configurations git reads, and where a user's files lie: git-config(1), "FILES" and "ENVIRONMENT".
 use Rattle.std.specs.Prelude.{ℕ, Bool, true, false, ◌++◌, codes, List, [], ◌∷◌, Option, Some, None, option_and_then, option_map, unwrap_or, Result, Ok, Err, if◌then◌else◌}
 use Rattle.git_config_lite.specs.Booleans.{truth}
-use Rattle.git_config_lite.specs.Sections.{Section}
 use Rattle.git_config_lite.specs.declared.metadata.Source.{Source}
 use Rattle.git_config_lite.specs.declared.metadata.Source.TheVariants as sources
 use Rattle.git_places.specs.Places.{Layout, own_config, shared_config}
@@ -10,7 +9,7 @@ use Rattle.worktree_fs.specs.Changes.{from_directory}
 use Rattle.worktree_fs.specs.Repository.{not_empty}
 use Rattle.worktree_fs.specs.Tree.{is_empty}
 use Rattle.git_config_files.specs.Files.{Configured}
-use Rattle.git_config_files.specs.Steps.{and_then}
+use Rattle.gitbase_core.specs.Steps.{and_then}
 use Rattle.git_config_files.specs.declared.error.FilesError.{FilesError}
 use Rattle.git_config_files.specs.declared.error.FilesError.TheVariants as errors
 
@@ -27,16 +26,6 @@ maybe_file root source (Some path) = named_file root source path
 abbrev pub truth_by : Option Bool → Result Bool FilesError
 truth_by None = Err (errors.Value (codes "GIT_CONFIG_NOSYSTEM"))
 truth_by (Some b) = Ok b
-
--- a text as the value of a key by itself
-abbrev pub one_key : List ℕ → List Section
-one_key text =
-    record {
-      name = codes "a";
-      subsection = None;
-      meta = record { source = sources.Env; path = None };
-      entries = record { key = codes "k"; value = Some text } ∷ [];
-    } ∷ []
 
 -- whether `GIT_CONFIG_NOSYSTEM` says, as a boolean, that it is not read
 abbrev pub skips_system : Option (List ℕ) → Result Bool FilesError
@@ -89,9 +78,16 @@ local_files layout = local_file (shared_config layout.common) ∷ own_files layo
 
 -- ---- all of them, in the order in which they are read
 
+-- those that no repository has; a relative path is taken from a directory
+abbrev pub outer_without : List ℕ → Surroundings → Bool → List Configured
+outer_without directory around skips = system_files directory around.config_system skips ++ user_files directory around
+
+-- those that have a say in what is safe
+abbrev pub outer_files : Surroundings → Result (List Configured) FilesError
+outer_files around = and_then (λ skips. Ok (outer_without around.directory around skips)) (skips_system around.no_system)
+
 abbrev pub files_without : Layout → Surroundings → Bool → List Configured
-files_without layout around skips =
-    system_files layout.root around.config_system skips ++ (user_files layout.root around ++ local_files layout)
+files_without layout around skips = outer_without layout.root around skips ++ local_files layout
 
 abbrev pub files_of : Layout → Surroundings → Result (List Configured) FilesError
 files_of layout around = and_then (λ skips. Ok (files_without layout around skips)) (skips_system around.no_system)

@@ -1,5 +1,5 @@
 //! Which conditions of an include hold.
-ghost use Rattle.std.specs.Prelude.{◌≡◌, ◌∷◌, [], ◌++◌, ◌||◌, codes, nat_eq, Ok, IfOk, option_copied, option_map, unwrap_or};
+ghost use Rattle.std.specs.Prelude.{◌≡◌, ◌∷◌, [], ◌++◌, ◌||◌, codes, nat_eq, Ok, Some, IfOk, option_copied, option_map, unwrap_or};
 ghost use Rattle.std.specs.List.{ends_with};
 ghost use Rattle.gitbase_core.specs.Path.{parent};
 ghost use Rattle.worktree_fs.specs.Changes.{real_path};
@@ -10,7 +10,7 @@ ghost use Rattle.git_config_files.specs.Conditions as words;
 ghost use Rattle.git_config_files.specs.Finds.{Finds};
 
 use crate::error::FilesError;
-use crate::known::Known;
+use crate::known::{Known, Repository};
 use gitbase_core::{Bytes, OutOfMemory, PathText, eq_ignore_case, is_absolute};
 use glob_rules::{Case, WildMode, wildmatch};
 use std::alloc::Global;
@@ -45,8 +45,8 @@ pub fn joined(alloc: Global, front: &[u8], rest: &[u8]) -> Result<Bytes, OutOfMe
 
 /// A pattern that begins with a `~` begins with the home, if there is one.
 fn at_home(alloc: Global, home: Option<&[u8]>, pattern: &[u8]) -> Result<Bytes, OutOfMemory>
-    ensures { IfOk result (λ made. made
-        ≡ words.at_home (option_copied home.entry) (behind_front (codes "~") pattern.now) pattern.now) }
+    ensures { IfOk result (λ made. made ≡ words.at_home (option_copied home.entry)
+        (behind_front (codes "~") pattern.now) pattern.now) }
 {
     match (home, behind(pattern, b"~".as_slice())) {
         (Some(home), Some(rest)) => joined(alloc, home, rest),
@@ -76,10 +76,11 @@ pub fn bytes_of(text: &Option<Bytes>) -> Option<&[u8]>
     }
 }
 
-fn whole_pattern(alloc: Global, known: &Known, pattern: &[u8]) -> Result<Bytes, OutOfMemory>
-    ensures { IfOk result (λ made. made ≡ words.whole_pattern known.now pattern.now) }
+fn whole_pattern(alloc: Global, home: Option<&[u8]>, pattern: &[u8]) -> Result<Bytes, OutOfMemory>
+    ensures { IfOk result
+        (λ made. made ≡ words.whole_pattern (option_copied home.entry) pattern.now) }
 {
-    let pattern = at_home(alloc, bytes_of(&known.real_home), pattern)?;
+    let pattern = at_home(alloc, home, pattern)?;
     let pattern = anywhere(alloc, pattern.as_bytes())?;
     with_stars(alloc, pattern.as_bytes())
 }
@@ -156,13 +157,13 @@ fn directory_of(alloc: Global, file: &PathText) -> Result<Bytes, OutOfMemory>
 
 /// Whether a pattern beneath a directory matches the git directory, by what this has without links behind that directory.
 fn matches_beneath(
-    known: &Known,
+    here: &Repository,
     case: Case,
     front: &[u8],
     pattern: &[u8],
     real: Option<&[u8]>,
 ) -> bool
-    ensures { result ≡ words.matches_beneath known.now case front.now pattern.now
+    ensures { result ≡ words.matches_beneath here.now case front.now pattern.now
         (option_copied real.entry) }
 {
     let Some(real) = real else {
@@ -174,42 +175,43 @@ fn matches_beneath(
     matches_some(
         case,
         pattern,
-        behind_same(case, front, known.spelled.as_bytes()),
+        behind_same(case, front, here.spelled.as_bytes()),
     )
 }
 
 /// Whether the git directory matches a pattern that begins with `./`.
 fn matches_from(
     alloc: Global,
-    known: &Known,
+    here: &Repository,
     case: Case,
     file: &PathText,
     rest: &[u8],
 ) -> Result<bool, OutOfMemory>
-    ensures { IfOk result (λ is. is ≡ words.matches_from known.now case file.now rest.now) }
+    ensures { IfOk result (λ is. is ≡ words.matches_from here.now case file.now rest.now) }
 {
     let front = directory_of(alloc, file)?;
     let pattern = beneath_pattern(alloc, rest)?;
     let front = front.as_bytes();
-    let real = behind_same(case, front, known.git.as_bytes());
-    Ok(matches_beneath(known, case, front, pattern.as_bytes(), real))
+    let real = behind_same(case, front, here.git.as_bytes());
+    Ok(matches_beneath(here, case, front, pattern.as_bytes(), real))
 }
 
 /// Whether the git directory matches a whole pattern, by either spelling.
 fn matches_whole(
     alloc: Global,
-    known: &Known,
+    here: &Repository,
+    home: Option<&[u8]>,
     case: Case,
     pattern: &[u8],
 ) -> Result<bool, OutOfMemory>
-    ensures { IfOk result (λ is. is ≡ words.either known.now
-        (words.matches_path case (words.whole_pattern known.now pattern.now))) }
+    ensures { IfOk result (λ is. is ≡ words.either here.now (words.matches_path case
+        (words.whole_pattern (option_copied home.entry) pattern.now))) }
 {
-    let pattern = whole_pattern(alloc, known, pattern)?;
-    if matches_path(case, pattern.as_bytes(), known.git.as_bytes()) {
+    let pattern = whole_pattern(alloc, home, pattern)?;
+    if matches_path(case, pattern.as_bytes(), here.git.as_bytes()) {
         return Ok(true);
     }
-    Ok(matches_path(case, pattern.as_bytes(), known.spelled.as_bytes()))
+    Ok(matches_path(case, pattern.as_bytes(), here.spelled.as_bytes()))
 }
 
 /// The path of a file without its links.
@@ -249,20 +251,62 @@ pub fn is_unknown_home(path: &[u8]) -> bool
 fn is_at<W: Worktree>(
     alloc: Global,
     worktree: &mut W,
-    known: &Known,
+    here: &Repository,
+    home: Option<&[u8]>,
     from: &[u8],
     case: Case,
     pattern: &[u8],
 ) -> Result<bool, FilesError>
-    ensures { Finds W.Worktree worktree.old worktree.new (λ t. Ok (words.is_at t known.now from.now
-        case (behind_front (codes "./") pattern.now) pattern.now)) result }
+    ensures { Finds W.Worktree worktree.old worktree.new
+        (λ t. Ok (words.is_at t here.now (option_copied home.entry) from.now case
+        (behind_front (codes "./") pattern.now) pattern.now)) result }
 {
     match behind(pattern, b"./".as_slice()) {
         Some(rest) => {
             let file = real_file(alloc, worktree, from)?;
-            Ok(matches_from(alloc, known, case, &file, rest)?)
+            Ok(matches_from(alloc, here, case, &file, rest)?)
         }
-        None => Ok(matches_whole(alloc, known, case, pattern)?),
+        None => Ok(matches_whole(alloc, here, home, case, pattern)?),
+    }
+}
+
+/// Whether a condition on the git directory of a repository holds.
+fn inside_holds<W: Worktree>(
+    alloc: Global,
+    worktree: &mut W,
+    here: &Repository,
+    home: &Option<Bytes>,
+    from: &[u8],
+    case: Case,
+    pattern: &[u8],
+) -> Result<bool, FilesError>
+    ensures { Finds W.Worktree worktree.old worktree.new (λ t. words.repository_holds t home.now
+        from.now case pattern.now (Some here.now)) result }
+{
+    if is_unknown_home(pattern) {
+        return Err(FilesError::Home {
+            path: PathText::from_bytes(alloc, from)?,
+        });
+    }
+    is_at(alloc, worktree, here, bytes_of(home), from, case, pattern)
+}
+
+/// The same where no repository may be known: there it does not.
+fn repository_holds<W: Worktree>(
+    alloc: Global,
+    worktree: &mut W,
+    repository: &Option<Repository>,
+    home: &Option<Bytes>,
+    from: &[u8],
+    case: Case,
+    pattern: &[u8],
+) -> Result<bool, FilesError>
+    ensures { Finds W.Worktree worktree.old worktree.new (λ t. words.repository_holds t home.now
+        from.now case pattern.now repository.now) result }
+{
+    match repository {
+        Some(here) => inside_holds(alloc, worktree, here, home, from, case, pattern),
+        None => Ok(false),
     }
 }
 
@@ -278,12 +322,26 @@ fn directory_holds<W: Worktree>(
     ensures { Finds W.Worktree worktree.old worktree.new (λ t. words.directory_holds t known.now
         from.now case pattern.now) result }
 {
-    if is_unknown_home(pattern) {
-        return Err(FilesError::Home {
-            path: PathText::from_bytes(alloc, from)?,
-        });
+    let home = &known.real_home;
+    repository_holds(
+        alloc,
+        worktree,
+        &known.repository,
+        home,
+        from,
+        case,
+        pattern,
+    )
+}
+
+/// The branch of a repository, if one is known, and has one.
+fn branch_of(repository: &Option<Repository>) -> Option<&[u8]>
+    ensures { option_copied result ≡ words.branch_of repository.now }
+{
+    match repository {
+        Some(here) => bytes_of(&here.branch),
+        None => None,
     }
-    is_at(alloc, worktree, known, from, case, pattern)
 }
 
 /// Whether a condition on the branch holds.
@@ -307,7 +365,7 @@ fn other_holds(
     ensures { Decides result (words.other_holds known.now from.now condition.now) }
 {
     if let Some(pattern) = behind(condition, b"onbranch:".as_slice()) {
-        return Ok(on_branch(alloc, bytes_of(&known.branch), pattern)?);
+        return Ok(on_branch(alloc, branch_of(&known.repository), pattern)?);
     }
     if behind(condition, b"hasconfig:remote.*.url:".as_slice()).is_some() {
         return Err(FilesError::Condition {

@@ -3,7 +3,7 @@ use gitbase_core::{Bytes, OutOfMemory, PathText};
 use thiserror::Error;
 use worktree_fs::ReadError;
 
-/// Why the configurations, or the rules files that they name, are not read. `path` is the file in which the fault is.
+/// Why the repository, its configurations, or the rules files that they name, are not read. `path` is the file in which the fault is.
 #[derive(Debug, Drop, PartialEq, Eq, Error)]
 pub enum FilesError {
     /// A line of the file is outside the grammar of git-config(1).
@@ -30,7 +30,10 @@ pub enum FilesError {
     /// This variable of the environment points git elsewhere.
     #[error("Elsewhere")]
     Elsewhere { name: Bytes },
-    /// The worktree failed, and counted that.
+    /// The repository of the work tree at `path` belongs to another user, and no `safe.directory` names it.
+    #[error("Foreign")]
+    Foreign { path: PathText },
+    /// The worktree failed, or the owners, and counted that.
     #[error("Fault")]
     Fault,
     /// Want of memory.

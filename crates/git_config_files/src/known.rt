@@ -12,15 +12,30 @@ use std::alloc::Global;
 use std::marker::Model;
 use worktree_fs::{Worktree, from_directory, read_file, trimmed};
 
-/// By what the conditions of includes are judged, and what stands for a `~`. Contracts see a record of these.
+/// A repository by which conditions are judged. Contracts see a record of these.
 #[derive(Debug, Drop)]
-pub struct Known {
+pub struct Repository {
     /// The git directory, without links.
     pub git: PathText,
     /// The git directory as it is spelled, absolute.
     pub spelled: PathText,
     /// The branch that is checked out, without `refs/heads/`, if there is one.
     pub branch: Option<Bytes>,
+}
+
+impl Model for Repository {
+    ghost use Rattle.git_config_files.specs.Conditions as words;
+
+    ghost Value = { words.Repository };
+
+    ghost view = { λ here. record { git = here.git; spelled = here.spelled; branch = here.branch } };
+}
+
+/// By what the conditions of includes are judged, and what stands for a `~`. Contracts see a record of these.
+#[derive(Debug, Drop)]
+pub struct Known {
+    /// The repository, where one is known.
+    pub repository: Option<Repository>,
     /// The home, as `HOME` has it, if it is set.
     pub home: Option<Bytes>,
     /// The home without links, if it is there.
@@ -32,7 +47,7 @@ impl Model for Known {
 
     ghost Value = { words.Known };
 
-    ghost view = { λ known. record { git = known.git; spelled = known.spelled; branch = known.branch; home = known.home; real_home = known.real_home } };
+    ghost view = { λ known. record { repository = known.repository; home = known.home; real_home = known.real_home } };
 }
 
 /// A path without its links, or as it is where nothing is there.
@@ -117,6 +132,46 @@ fn real_home<W: Worktree>(
     Ok(Some(Bytes::from_slice(alloc, real.as_bytes())?))
 }
 
+/// The repository of a work tree, as conditions see it.
+fn repository_of<W: Worktree>(
+    alloc: Global,
+    worktree: &mut W,
+    places: &Places,
+) -> Result<Repository, FilesError>
+    ensures { Finds W.Worktree worktree.old worktree.new
+        (λ t. Ok (words.repository_of t places.now)) result }
+{
+    let git_dir = places.git_dir.as_bytes();
+    let git = real_or_same(alloc, worktree, git_dir, b"/")?;
+    let branch = branch_in(alloc, worktree, git_dir)?;
+    let spelled = spelled_of(alloc, places.root.as_bytes(), git_dir, git.as_bytes())?;
+    Ok(Repository {
+        git,
+        spelled,
+        branch,
+    })
+}
+
+/// By what includes are judged; a relative home is taken from `directory`.
+pub fn known_with<W: Worktree>(
+    alloc: Global,
+    worktree: &mut W,
+    repository: Option<Repository>,
+    directory: &[u8],
+    home: &Option<Bytes>,
+) -> Result<Known, FilesError>
+    ensures { Finds W.Worktree worktree.old worktree.new
+        (λ t. Ok (words.known_with t repository directory.now home.now)) result }
+{
+    let real_home = real_home(alloc, worktree, directory, bytes_of(home))?;
+    let home = copied(alloc, bytes_of(home))?;
+    Ok(Known {
+        repository,
+        home,
+        real_home,
+    })
+}
+
 /// By what the includes of a work tree are judged.
 pub fn known_of<W: Worktree>(
     alloc: Global,
@@ -127,17 +182,12 @@ pub fn known_of<W: Worktree>(
     ensures { Finds W.Worktree worktree.old worktree.new
         (λ t. Ok (words.known_of t places.now around.now)) result }
 {
-    let root = places.root.as_bytes();
-    let git = real_or_same(alloc, worktree, places.git_dir.as_bytes(), b"/")?;
-    let branch = branch_in(alloc, worktree, places.git_dir.as_bytes())?;
-    let real_home = real_home(alloc, worktree, root, bytes_of(&around.home))?;
-    let spelled = spelled_of(alloc, root, places.git_dir.as_bytes(), git.as_bytes())?;
-    let home = copied(alloc, bytes_of(&around.home))?;
-    Ok(Known {
-        git,
-        spelled,
-        branch,
-        home,
-        real_home,
-    })
+    let repository = repository_of(alloc, worktree, places)?;
+    known_with(
+        alloc,
+        worktree,
+        Some(repository),
+        places.root.as_bytes(),
+        &around.home,
+    )
 }

@@ -91,7 +91,7 @@ fn stack_of(alloc: Global, keys: Keys) -> Result<Stack, OutOfMemory>
 }
 
 /// What the configurations say that are read, by what their includes are judged by.
-fn stack_by<W: Worktree>(
+pub fn stack_by<W: Worktree>(
     alloc: Global,
     worktree: &mut W,
     known: &Known,
@@ -105,7 +105,7 @@ fn stack_by<W: Worktree>(
 }
 
 /// The refusal of a variable that points git elsewhere.
-fn elsewhere(alloc: Global, name: &[u8]) -> Result<FilesError, OutOfMemory>
+pub fn elsewhere(alloc: Global, name: &[u8]) -> Result<FilesError, OutOfMemory>
     ensures { IfOk result (λ e. e ≡ FilesError.Elsewhere name.now) }
 {
     Ok(FilesError::Elsewhere {

@@ -8,8 +8,8 @@ ghost use Rattle.worktree_fs.specs.Repository.{not_empty};
 use crate::conditions::{bytes_of, joined};
 use crate::config_files::{ConfigFiles, Configured};
 use crate::error::FilesError;
-use git_config_lite::{Entry, File, Metadata, Section, Source};
-use git_places::{Places, Surroundings};
+use git_config_lite::Source;
+use git_places::{Places, Surroundings, truth_of_text};
 use gitbase_core::{Bytes, OutOfMemory, PathText};
 use std::alloc::Global;
 use worktree_fs::from_directory;
@@ -59,32 +59,13 @@ pub fn value_error(alloc: Global, key: &[u8]) -> Result<FilesError, OutOfMemory>
     })
 }
 
-/// A configuration with one key `a.k`.
-fn with_value(alloc: Global, text: &[u8]) -> Result<File, OutOfMemory>
-    ensures { IfOk result (λ file. file.sections ≡ words.one_key text.now) }
-{
-    let meta = Metadata {
-        source: Source::Env,
-        path: None,
-    };
-    let mut section = Section::new(alloc, b"a", None, &meta)?;
-    section.push(Entry {
-        key: Bytes::from_slice(alloc, b"k")?,
-        value: Some(Bytes::from_slice(alloc, text)?),
-    })?;
-    let mut sections = Vec::new(alloc);
-    sections.push(section)?;
-    Ok(File::from_sections(alloc, meta, sections))
-}
-
 /// What a text says as a boolean, as the value of a key does.
 fn truth_of(alloc: Global, text: &[u8]) -> Result<bool, FilesError>
     ensures { Decides result (words.skips_system (Some text.now)) }
 {
-    let file = with_value(alloc, text)?;
-    match file.boolean(b"a", None, b"k") {
-        Ok(Some(truth)) => Ok(truth),
-        _ => Err(value_error(alloc, b"GIT_CONFIG_NOSYSTEM")?),
+    match truth_of_text(alloc, text)? {
+        Some(truth) => Ok(truth),
+        None => Err(value_error(alloc, b"GIT_CONFIG_NOSYSTEM")?),
     }
 }
 
@@ -246,6 +227,38 @@ fn add_local(alloc: Global, files: &mut ConfigFiles, places: &Places) -> Result<
     )
 }
 
+/// Adds those that no repository has.
+fn add_outer(
+    alloc: Global,
+    files: &mut ConfigFiles,
+    directory: &[u8],
+    around: &Surroundings,
+    skips: bool,
+) -> Result<(), OutOfMemory>
+    ensures { OnOk result (files.new
+        ≡ files.old ++ words.outer_without directory.now around.now skips) }
+{
+    let system = bytes_of(&around.config_system);
+    add_system(alloc, files, directory, system, skips)?;
+    add_user(alloc, files, directory, around)
+}
+
+/// The configurations that have a say in what is safe: those that no repository has, in their order.
+pub fn outer_files(alloc: Global, around: &Surroundings) -> Result<ConfigFiles, FilesError>
+    ensures { Decides result (words.outer_files around.now) }
+{
+    let skips = skips_system(alloc, bytes_of(&around.no_system))?;
+    let mut files = ConfigFiles::new(alloc);
+    add_outer(
+        alloc,
+        &mut files,
+        around.directory.as_bytes(),
+        around,
+        skips,
+    )?;
+    Ok(files)
+}
+
 /// The configurations that git reads, in its order.
 pub fn files_of(
     alloc: Global,
@@ -255,16 +268,8 @@ pub fn files_of(
     ensures { Decides result (words.files_of places.now around.now) }
 {
     let skips = skips_system(alloc, bytes_of(&around.no_system))?;
-    let root = places.root.as_bytes();
     let mut files = ConfigFiles::new(alloc);
-    add_system(
-        alloc,
-        &mut files,
-        root,
-        bytes_of(&around.config_system),
-        skips,
-    )?;
-    add_user(alloc, &mut files, root, around)?;
+    add_outer(alloc, &mut files, places.root.as_bytes(), around, skips)?;
     add_local(alloc, &mut files, places)?;
     Ok(files)
 }

@@ -4,6 +4,10 @@
 #[cfg(test)]
 mod answers;
 #[cfg(test)]
+mod owned;
+#[cfg(test)]
+mod owned_answers;
+#[cfg(test)]
 mod rules;
 #[cfg(test)]
 mod stacks;

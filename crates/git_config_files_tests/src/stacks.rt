@@ -108,6 +108,7 @@ fn word_of(error: &FilesError) -> &'static [u8] {
         FilesError::Depth { .. } => b"!depth",
         FilesError::Value { .. } => b"!value",
         FilesError::Elsewhere { .. } => b"!elsewhere",
+        FilesError::Foreign { .. } => b"!foreign",
         FilesError::Fault => b"!fault",
         FilesError::OutOfMemory => b"!memory",
     }

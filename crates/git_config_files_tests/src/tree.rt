@@ -1,9 +1,9 @@
 //! Trees in memory and what is set in the environment, from the words of a row.
 use bstr::ByteSlice;
-use git_places::{Places, PlacesError, Surroundings, find_places};
+use git_places::{Ceilings, Limits, Places, PlacesError, Surroundings, find_top, places_of};
 use gitbase_core::{Bytes, PathText};
 use std::alloc::Global;
-use worktree_fs::{MemoryWorktree, NewNode};
+use worktree_fs::{MemoryOwners, MemoryWorktree, NewNode};
 
 /// What stands before the first byte of this kind, and behind it.
 pub fn parted(row: &[u8], byte: u8) -> (&[u8], &[u8]) {
@@ -108,23 +108,39 @@ fn told(alloc: Global, words: &[u8], name: &[u8]) -> Option<Bytes> {
     None
 }
 
+/// The current directory: `/w/r`, unless another one is set.
+fn directory_of(alloc: Global, words: &[u8]) -> Option<PathText> {
+    match told(alloc, words, b"dir") {
+        Some(path) => PathText::from_bytes(alloc, path.as_bytes()).ok(),
+        None => PathText::from_bytes(alloc, b"/w/r").ok(),
+    }
+}
+
 /// What is set in the environment, parted by `;`.
 pub fn surroundings_of(alloc: Global, words: &[u8]) -> Option<Surroundings> {
     Some(Surroundings {
-        directory: PathText::from_bytes(alloc, b"/w/r").ok()?,
+        directory: directory_of(alloc, words)?,
         home: told(alloc, words, b"home"),
         config_home: told(alloc, words, b"xdg"),
         config_global: told(alloc, words, b"global"),
         config_system: told(alloc, words, b"system"),
         no_system: told(alloc, words, b"nosystem"),
-        ceilings: None,
+        ceilings: told(alloc, words, b"ceilings"),
+        across: told(alloc, words, b"across"),
+        sudo_user: told(alloc, words, b"sudo"),
         elsewhere: told(alloc, words, b"elsewhere"),
     })
 }
 
 /// Where the work tree lies.
 pub fn places_in(alloc: Global, tree: &mut MemoryWorktree) -> Result<Places, PlacesError> {
-    find_places(alloc, tree, b"/w/r", &[])
+    let limits = Limits {
+        ceilings: Ceilings::new(alloc),
+        device: None,
+    };
+    let mut owners = MemoryOwners::new(Vec::new(alloc));
+    let top = find_top(alloc, tree, &mut owners, b"/w/r", &limits)?;
+    places_of(alloc, tree, top)
 }
 
 /// The answer that is wanted: of two that differ, the one of the definitions.

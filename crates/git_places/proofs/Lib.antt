@@ -1,2 +1,4 @@
 mod UpwardLemmas
 mod Nearest
+pub mod Passes
+pub mod Carried

@@ -1,9 +1,12 @@
 -- The work tree that is found is the nearest one.
-use Rattle.std.proofs.Common.{◌≡◌, ℕ, Bool, true, false, List, [], ◌∷◌, ◌++◌, if◌then◌else◌, Option, Some, None, Result, Ok, Err, refl, sym, ap, ◌∙◌}
+use Rattle.std.proofs.Common.{◌≡◌, ℕ, List, [], ◌∷◌, ◌++◌, Option, Some, None, Result, Ok, Err, refl, sym, ap, ◌∙◌}
 use Rattle.gitbase_core.specs.Path.{path_of}
 use Rattle.worktree_fs.specs.Tree.{Names}
 use Rattle.git_places.specs.GitDirectory.{git_at}
-use Rattle.git_places.specs.Upward.{Top, top, below, absolute, is_ceiling, here_or, top_from, top_in, ArePassed, IsNearest}
+use Rattle.worktree_fs.specs.Owners.{Owned}
+use Rattle.git_places.specs.Limits.{Limits, absolute, stop_at}
+use Rattle.git_places.specs.Upward.{Top, top, below, here_or, or_stop, top_from, top_by, top_in, ArePassed, IsNearest}
+use Rattle.git_places.proofs.UpwardLemmas.{Stop}
 use Rattle.git_places.specs.declared.error.PlacesError.{PlacesError}
 use Rattle.git_places.specs.declared.error.PlacesError.TheVariants as errors
 
@@ -28,17 +31,17 @@ split directory above (Ok None) found e = further refl e
 split directory above (Err e) found is = absurd (cc is)
 
 -- the nearest one, by the components of the directory
-record NearestOf (ceilings : List (List ℕ)) (t : Names) (start : List (List ℕ)) (found : Top) : Type 0 where
+record NearestOf (stop : Stop) (t : Names) (start : List (List ℕ)) (found : Top) : Type 0 where
   passed : List (List ℕ)
   rest : List (List ℕ)
   way : passed ++ rest ≡ start
   is_here : found.directory ≡ absolute (path_of rest)
   git : git_at t found.directory ≡ Ok (Some found.git)
-  without : ArePassed ceilings t passed rest
+  without : ArePassed stop t passed rest
 
-at_hand : (ceilings : List (List ℕ)) (t : Names) (rest : List (List ℕ)) (git : List ℕ) (found : Top)
-    → git_at t (absolute (path_of rest)) ≡ Ok (Some git) → found ≡ top (absolute (path_of rest)) git → NearestOf ceilings t rest found
-at_hand ceilings t rest git found at is =
+at_hand : (stop : Stop) (t : Names) (rest : List (List ℕ)) (git : List ℕ) (found : Top)
+    → git_at t (absolute (path_of rest)) ≡ Ok (Some git) → found ≡ top (absolute (path_of rest)) git → NearestOf stop t rest found
+at_hand stop t rest git found at is =
     record {
       passed = [];
       rest = rest;
@@ -48,16 +51,16 @@ at_hand ceilings t rest git found at is =
       without = record {};
     }
 
-nearest_of : (ceilings : List (List ℕ)) (t : Names) (start : List (List ℕ)) (found : Top) → top_from ceilings t start ≡ Ok found → NearestOf ceilings t start found
+nearest_of : (stop : Stop) (t : Names) (start : List (List ℕ)) (found : Top) → top_from stop t start ≡ Ok found → NearestOf stop t start found
 unfolding top_from
-nearest_of ceilings t [] found e = go (split _ _ _ found e)
+nearest_of stop t [] found e = go (split _ _ _ found e)
   where
-    go : Split (absolute []) (Err errors.NoRepository) (git_at t (absolute [])) found → NearestOf ceilings t [] found
-    go (here git at is) = at_hand ceilings t [] git found at is
+    go : Split (absolute []) (Err errors.NoRepository) (git_at t (absolute [])) found → NearestOf stop t [] found
+    go (here git at is) = at_hand stop t [] git found at is
     go (further at above) = absurd (cc above)
-nearest_of ceilings t (name ∷ below) found e = go (λ up. nearest_of ceilings t below found up) (split _ _ _ found e)
+nearest_of stop t (name ∷ below) found e = go (λ up. nearest_of stop t below found up) (split _ _ _ found e)
   where
-    further_on : NearestOf ceilings t below found → git_at t (absolute (path_of (name ∷ below))) ≡ Ok None → is_ceiling ceilings (path_of below) ≡ false → NearestOf ceilings t (name ∷ below) found
+    further_on : NearestOf stop t below found → git_at t (absolute (path_of (name ∷ below))) ≡ Ok None → stop (path_of below) ≡ None → NearestOf stop t (name ∷ below) found
     further_on up at clear =
         record {
           passed = name ∷ up.passed;
@@ -67,23 +70,23 @@ nearest_of ceilings t (name ∷ below) found e = go (λ up. nearest_of ceilings 
           git = up.git;
           without = (
             ap (λ (l : List (List ℕ)). git_at t (absolute (path_of (name ∷ l)))) up.way ∙ at,
-            ap (λ (l : List (List ℕ)). is_ceiling ceilings (path_of l)) up.way ∙ clear,
+            ap (λ (l : List (List ℕ)). stop (path_of l)) up.way ∙ clear,
             up.without,
           );
         }
 
-    by_ceiling : (b : Bool) → is_ceiling ceilings (path_of below) ≡ b → (top_from ceilings t below ≡ Ok found → NearestOf ceilings t below found)
-        → git_at t (absolute (path_of (name ∷ below))) ≡ Ok None → (if b then Err errors.NoRepository else top_from ceilings t below) ≡ Ok found → NearestOf ceilings t (name ∷ below) found
-    by_ceiling true is hyp at above = absurd (cc above)
-    by_ceiling false is hyp at above = further_on (hyp above) at is
+    by_stop : (s : Option PlacesError) → stop (path_of below) ≡ s → (top_from stop t below ≡ Ok found → NearestOf stop t below found)
+        → git_at t (absolute (path_of (name ∷ below))) ≡ Ok None → or_stop s (top_from stop t below) ≡ Ok found → NearestOf stop t (name ∷ below) found
+    by_stop (Some e) is hyp at above = absurd (cc above)
+    by_stop None is hyp at above = further_on (hyp above) at is
 
-    go : (top_from ceilings t below ≡ Ok found → NearestOf ceilings t below found)
-        → Split (absolute (path_of (name ∷ below))) (if is_ceiling ceilings (path_of below) then Err errors.NoRepository else top_from ceilings t below) (git_at t (absolute (path_of (name ∷ below)))) found
-        → NearestOf ceilings t (name ∷ below) found
-    go hyp (here git at is) = at_hand ceilings t (name ∷ below) git found at is
-    go hyp (further at above) = by_ceiling (is_ceiling ceilings (path_of below)) refl hyp at above
+    go : (top_from stop t below ≡ Ok found → NearestOf stop t below found)
+        → Split (absolute (path_of (name ∷ below))) (or_stop (stop (path_of below)) (top_from stop t below)) (git_at t (absolute (path_of (name ∷ below)))) found
+        → NearestOf stop t (name ∷ below) found
+    go hyp (here git at is) = at_hand stop t (name ∷ below) git found at is
+    go hyp (further at above) = by_stop (stop (path_of below)) refl hyp at above
 
-pub nearest : (ceilings : List (List ℕ)) (t : Names) (current : List ℕ) (found : Top) → top_in ceilings t current ≡ Ok found → IsNearest ceilings t current found
-nearest ceilings t current found e =
-    let of = nearest_of ceilings t (below current) found e in
+pub nearest : (limits : Limits) (t : Names) (owned : Owned) (current : List ℕ) (found : Top) → top_in limits t owned current ≡ Ok found → IsNearest (stop_at owned limits) t current found
+nearest limits t owned current found e =
+    let of = nearest_of (stop_at owned limits) t (below current) found e in
     record { passed = of.passed; rest = of.rest; way = of.way; here = of.is_here; git = of.git; without = of.without }

@@ -1,4 +1,4 @@
--- What an answer says of what is to be found.
+-- What an answer says of what is to be found: over any refusals, by that of a fault and that of want of memory; then over those of this crate.
 use Rattle.std.specs.Prelude.{◌≡◌, ◌⊎◌, Result, Ok, Err}
 use Rattle.worktree_fs.specs.declared.answers.ReadError.{ReadError}
 use Rattle.worktree_fs.specs.declared.answers.ReadError.TheVariants as read
@@ -6,19 +6,29 @@ use Rattle.git_places.specs.declared.error.PlacesError.{PlacesError}
 use Rattle.git_places.specs.declared.error.PlacesError.TheVariants as errors
 
 -- an answer is what is to be found, a refusal of it too; the worktree may fail instead, and memory may be wanted
-abbrev pub Gives : {A : Type 0} → Result A PlacesError → Result A PlacesError → Type 0
-Gives (Ok answer) found = found ≡ Ok answer
-Gives (Err e) found = (found ≡ Err e) ⊎ ((e ≡ errors.Fault) ⊎ (e ≡ errors.OutOfMemory))
+abbrev pub GivesBy : {A E : Type 0} → E → E → Result A E → Result A E → Type 0
+GivesBy fault memory (Ok answer) found = found ≡ Ok answer
+GivesBy fault memory (Err e) found = (found ≡ Err e) ⊎ ((e ≡ fault) ⊎ (e ≡ memory))
 
 -- the same of a call that asks no worktree, which never answers that it failed
-abbrev pub Decides : {A : Type 0} → Result A PlacesError → Result A PlacesError → Type 0
-Decides (Ok answer) found = found ≡ Ok answer
-Decides (Err e) found = ((found ≡ Err e) ⊎ (e ≡ errors.OutOfMemory)) × (e ≡ errors.Fault → ⊥)
+abbrev pub DecidesBy : {A E : Type 0} → E → E → Result A E → Result A E → Type 0
+DecidesBy fault memory (Ok answer) found = found ≡ Ok answer
+DecidesBy fault memory (Err e) found = ((found ≡ Err e) ⊎ (e ≡ memory)) × (e ≡ fault → ⊥)
 
 -- what holds unless the worktree failed
-abbrev pub UnlessFault : {A : Type 0} → Result A PlacesError → Type 0 → Type 0
-UnlessFault (Ok answer) Holds = Holds
-UnlessFault (Err e) Holds = (e ≡ errors.Fault) ⊎ Holds
+abbrev pub UnlessBy : {A E : Type 0} → E → Result A E → Type 0 → Type 0
+UnlessBy fault (Ok answer) Holds = Holds
+UnlessBy fault (Err e) Holds = (e ≡ fault) ⊎ Holds
+
+-- an answer, in the place of a refusal the one that stands for it
+abbrev pub refused_as : {A E F : Type 0} → (E → F) → Result A E → Result A F
+refused_as of (Ok answer) = Ok answer
+refused_as of (Err e) = Err (of e)
+
+-- ---- the refusals of this crate
+
+abbrev pub Decides : {A : Type 0} → Result A PlacesError → Result A PlacesError → Type 0
+Decides result found = DecidesBy errors.Fault errors.OutOfMemory result found
 
 -- the refusal that a refused look at the worktree is
 abbrev pub of_read : ReadError → PlacesError

@@ -1,5 +1,5 @@
 -- What the configuration of a repository says of its format.
-use Rattle.std.specs.Prelude.{ℕ, Bool, true, false, not, ◌||◌, ◌&&◌, codes, bytes_eq, find, List, [], ◌∷◌, Option, Some, None, option_map, Result, Ok, Err, if◌then◌else◌}
+use Rattle.std.specs.Prelude.{ℕ, Bool, true, false, not, ◌++◌, ◌||◌, ◌&&◌, codes, bytes_eq, find, List, [], ◌∷◌, Option, Some, None, option_map, Result, Ok, Err, if◌then◌else◌}
 use Rattle.git_config_lite.specs.declared.entry.Entry.{Entry}
 use Rattle.gitbase_core.specs.Text.{eq_ignore_case}
 use Rattle.git_config_lite.specs.Lookups.{boolean, sections_named, string, text_of}
@@ -81,6 +81,10 @@ readable_in version sections = readable version (sections_named (Some (codes "ex
 
 -- ---- truths
 
+-- a key as a person names it, with its section
+abbrev pub whole_key : List ℕ → List ℕ → List ℕ
+whole_key section key = section ++ codes "." ++ key
+
 -- the truth of a key, no where nothing is said; a value that is none is refused
 abbrev pub truth_by : List ℕ → Result (Option Bool) (List ℕ) → Result Bool PlacesError
 truth_by key (Ok None) = Ok false
@@ -88,4 +92,4 @@ truth_by key (Ok (Some b)) = Ok b
 truth_by key (Err text) = Err (errors.Value key)
 
 abbrev pub truth_of : List ℕ → List ℕ → List Section → Result Bool PlacesError
-truth_of section key sections = truth_by key (boolean section None key sections)
+truth_of section key sections = truth_by (whole_key section key) (boolean section None key sections)

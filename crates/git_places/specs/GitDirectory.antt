@@ -11,14 +11,14 @@ use Rattle.git_places.specs.declared.error.PlacesError.TheVariants as errors
 abbrev pub dot_git : List ℕ → List ℕ
 dot_git directory = joined directory (codes ".git")
 
--- the path that a file `.git` has to be that of a git directory, and else the file is refused
-abbrev pub named_git : Names → List ℕ → List ℕ → Result (Option (List ℕ)) PlacesError
-named_git t file git = if is_git_below t git then Ok (Some git) else Err (errors.GitFile file)
+-- the path that a file `.git` has to be that of a git directory, and else it is refused
+abbrev pub named_git : Names → List ℕ → Result (Option (List ℕ)) PlacesError
+named_git t git = if is_git_below t git then Ok (Some git) else Err (errors.GitFileTarget git)
 
--- the git directory that a file names; it is refused where it names none
+-- the git directory that a file names; the file is refused where it names none
 abbrev pub git_of_text : Names → List ℕ → Option (List ℕ) → Result (Option (List ℕ)) PlacesError
-git_of_text t file None = Err (errors.GitFile file)
-git_of_text t file (Some path) = named_git t file (from_directory path (unwrap_or (parent file) []))
+git_of_text t file None = Err (errors.GitFileForm file)
+git_of_text t file (Some path) = named_git t (from_directory path (unwrap_or (parent file) []))
 
 -- the git directory by a file that is there, none where none is
 abbrev pub git_of_file : Names → List ℕ → Option (List ℕ) → Result (Option (List ℕ)) PlacesError

@@ -3,8 +3,9 @@ pub mod Ceilings
 pub mod Finds
 pub mod Format
 pub mod GitDirectory
+pub mod Limits
 pub mod Places
-pub mod Steps
 pub mod Surroundings
+pub mod Truths
 pub mod Upward
 pub mod Variables

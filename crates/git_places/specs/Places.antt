@@ -11,8 +11,8 @@ use Rattle.worktree_fs.specs.Repository.{common_of, file_at, is_directory_at}
 use Rattle.worktree_fs.specs.Tree.{Names, is_empty, look}
 use Rattle.git_places.specs.Format.{readable_in, truth_of, version_in}
 use Rattle.git_places.specs.GitDirectory.{dot_git}
-use Rattle.git_places.specs.Steps.{and_then}
-use Rattle.git_places.specs.Upward.{Top, top_in}
+use Rattle.gitbase_core.specs.Steps.{and_then}
+use Rattle.git_places.specs.Upward.{Top}
 use Rattle.git_places.specs.declared.error.PlacesError.{PlacesError}
 use Rattle.git_places.specs.declared.error.PlacesError.TheVariants as errors
 use Rattle.git_places.specs.declared.format.Version.{Version}
@@ -64,7 +64,7 @@ work_tree_at path (Some real) = Ok real
 
 abbrev pub work_tree_from : Names → List ℕ → List ℕ → Result (List ℕ) PlacesError
 work_tree_from t git path =
-    if is_empty path then Err (errors.Value (codes "worktree"))
+    if is_empty path then Err (errors.Value (codes "core.worktree"))
     else if is_directory_at (look t (from_directory path git) true)
     then work_tree_at (from_directory path git) (real_path t (from_directory path git) (47 ∷ []))
     else Err (errors.NoWorkTree (from_directory path git))
@@ -130,6 +130,3 @@ layout_said t top common config = and_then (layout_by t top common config) (vers
 
 abbrev pub layout_of : Names → Top → Result Layout PlacesError
 layout_of t top = and_then (layout_said t top (common_of t top.git)) (config_at t (shared_config (common_of t top.git)))
-
-abbrev pub layout_in : List (List ℕ) → Names → List ℕ → Result Layout PlacesError
-layout_in ceilings t current = and_then (layout_of t) (top_in ceilings t current)

@@ -10,4 +10,6 @@ pub record Surroundings : Type 0 where
   pub config_system : Option (List ℕ)  -- `GIT_CONFIG_SYSTEM`
   pub no_system : Option (List ℕ)  -- `GIT_CONFIG_NOSYSTEM`
   pub ceilings : Option (List ℕ)  -- `GIT_CEILING_DIRECTORIES`
+  pub across : Option (List ℕ)  -- `GIT_DISCOVERY_ACROSS_FILESYSTEM`
+  pub sudo_user : Option (List ℕ)  -- `SUDO_UID`
   pub elsewhere : Option (List ℕ)  -- the name of the first variable that points git elsewhere

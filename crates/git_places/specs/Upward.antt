@@ -1,10 +1,10 @@
 -- From a directory upward: the nearest work tree.
-use Rattle.std.specs.Prelude.{ℕ, Bool, false, List, [], ◌∷◌, ◌++◌, ◌≡◌, reverse, Option, Some, None, Result, Ok, Err, if◌then◌else◌}
-use Rattle.std.specs.List.{list_any}
-use Rattle.std.specs.Str.{bytes_eq}
+use Rattle.std.specs.Prelude.{ℕ, List, [], ◌∷◌, ◌++◌, ◌≡◌, reverse, Option, Some, None, Result, Ok, Err}
 use Rattle.gitbase_core.specs.Path.{components, joined, path_of}
+use Rattle.worktree_fs.specs.Owners.{Owned}
 use Rattle.worktree_fs.specs.Tree.{Names}
 use Rattle.git_places.specs.GitDirectory.{git_at}
+use Rattle.git_places.specs.Limits.{Limits, absolute, stop_at}
 use Rattle.git_places.specs.declared.error.PlacesError.{PlacesError}
 use Rattle.git_places.specs.declared.error.PlacesError.TheVariants as errors
 
@@ -25,45 +25,42 @@ added path (name ∷ names) = added (joined path name) names
 abbrev pub below : List ℕ → List (List ℕ)
 below path = reverse (components path)
 
--- a path without a slash in front, as the absolute path that it is
-abbrev pub absolute : List ℕ → List ℕ
-absolute path = joined (47 ∷ []) path
-
--- whether a path, without a slash in front, is one of the ceilings
-abbrev pub is_ceiling : List (List ℕ) → List ℕ → Bool
-is_ceiling ceilings path = list_any (λ ceiling. bytes_eq ceiling path) ceilings
-
 -- a directory, where it is the top of a work tree, and else what is found above
 abbrev pub here_or : List ℕ → Result Top PlacesError → Result (Option (List ℕ)) PlacesError → Result Top PlacesError
 here_or directory above (Ok (Some git)) = Ok (top directory git)
 here_or directory above (Ok None) = above
 here_or directory above (Err e) = Err e
 
--- the nearest work tree, by the components of the directory, the last one first: the search ends at the top, and goes up into no ceiling
-unfoldable pub top_from : List (List ℕ) → Names → List (List ℕ) → Result Top PlacesError
-top_from ceilings t [] = here_or (absolute []) (Err errors.NoRepository) (git_at t (absolute []))
-top_from ceilings t (name ∷ below) =
-    here_or (absolute (path_of (name ∷ below)))
-    (if is_ceiling ceilings (path_of below) then Err errors.NoRepository else top_from ceilings t below)
+-- what is found above, unless the search stops
+abbrev pub or_stop : Option PlacesError → Result Top PlacesError → Result Top PlacesError
+or_stop None above = above
+or_stop (Some e) above = Err e
+
+-- the nearest work tree, by the components of the directory, the last one first: the search ends at the top, and where it stops
+unfoldable pub top_from : (List ℕ → Option PlacesError) → Names → List (List ℕ) → Result Top PlacesError
+top_from stop t [] = here_or (absolute []) (Err errors.NoRepository) (git_at t (absolute []))
+top_from stop t (name ∷ below) =
+    here_or (absolute (path_of (name ∷ below))) (or_stop (stop (path_of below)) (top_from stop t below))
     (git_at t (absolute (path_of (name ∷ below))))
 
-abbrev pub top_in : List (List ℕ) → Names → List ℕ → Result Top PlacesError
-top_in ceilings t current = top_from ceilings t (below current)
+abbrev pub top_by : (List ℕ → Option PlacesError) → Names → List ℕ → Result Top PlacesError
+top_by stop t current = top_from stop t (below current)
+
+abbrev pub top_in : Limits → Names → Owned → List ℕ → Result Top PlacesError
+top_in limits t owned current = top_by (stop_at owned limits) t current
 
 -- no directory of these, the deepest first, is the top of a work tree, and the search goes up from each
-abbrev pub ArePassed : List (List ℕ) → Names → List (List ℕ) → List (List ℕ) → Type 0
-ArePassed ceilings t [] rest = Unit {0}
-ArePassed ceilings t (name ∷ passed) rest =
-    (git_at t (absolute (path_of (name ∷ passed ++ rest))) ≡ Ok None)
-    × (is_ceiling ceilings (path_of (passed ++ rest)) ≡ false)
-    × ArePassed ceilings t passed rest
+abbrev pub ArePassed : (List ℕ → Option PlacesError) → Names → List (List ℕ) → List (List ℕ) → Type 0
+ArePassed stop t [] rest = Unit {0}
+ArePassed stop t (name ∷ passed) rest =
+    (git_at t (absolute (path_of (name ∷ passed ++ rest))) ≡ Ok None) × (stop (path_of (passed ++ rest)) ≡ None) × ArePassed stop t passed rest
 
 -- a work tree is the nearest one: the directory itself or one above it, and none of the directories passed on the way is one, is broken,
--- is a bare repository, or lies right below a ceiling
-pub record IsNearest (ceilings : List (List ℕ)) (t : Names) (current : List ℕ) (found : Top) : Type 0 where
+-- is a bare repository, or is one at which the search stops
+pub record IsNearest (stop : List ℕ → Option PlacesError) (t : Names) (current : List ℕ) (found : Top) : Type 0 where
   pub passed : List (List ℕ)
   pub rest : List (List ℕ)
   pub way : passed ++ rest ≡ below current
   pub here : found.directory ≡ absolute (path_of rest)
   pub git : git_at t found.directory ≡ Ok (Some found.git)
-  pub without : ArePassed ceilings t passed rest
+  pub without : ArePassed stop t passed rest

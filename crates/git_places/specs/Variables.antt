@@ -49,5 +49,7 @@ surroundings_of directory variables =
       config_system = value_of (codes "GIT_CONFIG_SYSTEM") variables;
       no_system = value_of (codes "GIT_CONFIG_NOSYSTEM") variables;
       ceilings = value_of (codes "GIT_CEILING_DIRECTORIES") variables;
+      across = value_of (codes "GIT_DISCOVERY_ACROSS_FILESYSTEM") variables;
+      sudo_user = value_of (codes "SUDO_UID") variables;
       elsewhere = elsewhere variables;
     }

@@ -35,7 +35,7 @@ impl Ceilings {
         }
     }
 
-    /// Their paths without their first slash, as [`crate::find_places`] takes them.
+    /// Their paths without their first slash, as [`crate::Limits`] has them.
     pub fn as_slice(&self) -> &[Bytes]
         ensures { result.now ≡ self.now }
     {

@@ -9,12 +9,21 @@ pub enum PlacesError {
     /// Neither the directory nor one above it, up to a ceiling, is the top of a work tree.
     #[error("NoRepository")]
     NoRepository,
+    /// The same, up to the border of the file system: the directory at `path`, above those that were looked at, lies on another one.
+    #[error("Border")]
+    Border { path: PathText },
+    /// Nothing is at `path`, the directory in which the search begins.
+    #[error("NoDirectory")]
+    NoDirectory { path: PathText },
     /// The directory at `path` is a git directory itself, and has no work tree here.
     #[error("Bare")]
     Bare { path: PathText },
-    /// The file `.git` at `path` names no git directory.
-    #[error("GitFile")]
-    GitFile { path: PathText },
+    /// The file `.git` at `path` has no line `gitdir: PATH`.
+    #[error("GitFileForm")]
+    GitFileForm { path: PathText },
+    /// A file `.git` names `path`, and that is no git directory.
+    #[error("GitFileTarget")]
+    GitFileTarget { path: PathText },
     /// `core.repositoryFormatVersion` has this value, which is neither 0 nor 1.
     #[error("Version")]
     Version { value: Bytes },
@@ -24,7 +33,8 @@ pub enum PlacesError {
     /// The ids of the repository are of SHA-256.
     #[error("Sha256")]
     Sha256,
-    /// The value of this key of the repository's configuration cannot be read.
+    /// The value of this key of the repository's configuration, as `core.bare` is one, or of this variable of the environment, cannot be
+    /// read.
     #[error("Value")]
     Value { key: Bytes },
     /// The configuration at `path` has a line outside the grammar of git-config(1).
@@ -33,7 +43,7 @@ pub enum PlacesError {
     /// No directory is at this path, which `core.worktree` names.
     #[error("NoWorkTree")]
     NoWorkTree { path: PathText },
-    /// The worktree failed, and counted that.
+    /// The worktree failed, or the owners, and counted that.
     #[error("Fault")]
     Fault,
     /// Want of memory.

@@ -163,6 +163,17 @@ pub fn readable_in(alloc: Global, version: Version, config: &File) -> Result<boo
     Ok(true)
 }
 
+/// The refusal of the value of a key.
+pub fn value_error(alloc: Global, section: &[u8], key: &[u8]) -> Result<PlacesError, OutOfMemory>
+    ensures { IfOk result
+        (λ e. e ≡ PlacesError.Value (words.whole_key section.now key.now)) }
+{
+    let mut whole = Bytes::from_slice(alloc, section)?;
+    whole.extend(alloc, b".")?;
+    whole.extend(alloc, key)?;
+    Ok(PlacesError::Value { key: whole })
+}
+
 /// What a key says as a boolean, no where it does not stand there.
 pub fn truth_of(
     alloc: Global,
@@ -175,8 +186,6 @@ pub fn truth_of(
     match config.boolean(section, None, key) {
         Ok(None) => Ok(false),
         Ok(Some(truth)) => Ok(truth),
-        Err(_) => Err(PlacesError::Value {
-            key: Bytes::from_slice(alloc, key)?,
-        }),
+        Err(_) => Err(value_error(alloc, section, key)?),
     }
 }

@@ -20,10 +20,20 @@ pub fn dot_git(alloc: Global, directory: &[u8]) -> Result<PathText, OutOfMemory>
     Ok(path)
 }
 
+/// The refusal of a file that has no line `gitdir: PATH`.
 fn git_file(alloc: Global, path: &[u8]) -> Result<PlacesError, OutOfMemory>
-    ensures { IfOk result (λ e. e ≡ PlacesError.GitFile path.now) }
+    ensures { IfOk result (λ e. e ≡ PlacesError.GitFileForm path.now) }
 {
-    Ok(PlacesError::GitFile {
+    Ok(PlacesError::GitFileForm {
+        path: PathText::from_bytes(alloc, path)?,
+    })
+}
+
+/// The refusal of a path in such a line.
+fn git_target(alloc: Global, path: &[u8]) -> Result<PlacesError, OutOfMemory>
+    ensures { IfOk result (λ e. e ≡ PlacesError.GitFileTarget path.now) }
+{
+    Ok(PlacesError::GitFileTarget {
         path: PathText::from_bytes(alloc, path)?,
     })
 }
@@ -47,14 +57,12 @@ fn git_directory<W: Worktree>(
 fn named_git<W: Worktree>(
     alloc: Global,
     worktree: &mut W,
-    file: &[u8],
     git: &[u8],
 ) -> Result<Option<PathText>, PlacesError>
-    ensures { Finds W.Worktree worktree.old worktree.new
-        (λ t. words.named_git t file.now git.now) result }
+    ensures { Finds W.Worktree worktree.old worktree.new (λ t. words.named_git t git.now) result }
 {
     if !is_git_below(alloc, worktree, git)? {
-        return Err(git_file(alloc, file)?);
+        return Err(git_target(alloc, git)?);
     }
     Ok(Some(PathText::from_bytes(alloc, git)?))
 }
@@ -72,7 +80,7 @@ fn git_of_text<W: Worktree>(
     match gitdir_path(text) {
         Some(path) => {
             let git = beside(alloc, path, file)?;
-            named_git(alloc, worktree, file, git.as_bytes())
+            named_git(alloc, worktree, git.as_bytes())
         }
         None => Err(git_file(alloc, file)?),
     }
@@ -145,7 +153,8 @@ pub fn git_at<W: Worktree>(
     worktree: &mut W,
     directory: &[u8],
 ) -> Result<Option<PathText>, PlacesError>
-    ensures { Finds W.Worktree worktree.old worktree.new (λ t. words.git_at t directory.now) result }
+    ensures { Finds W.Worktree worktree.old worktree.new
+        (λ t. words.git_at t directory.now) result }
 {
     let path = dot_git(alloc, directory)?;
     if let Some(git) = git_of_look(alloc, worktree, path.as_bytes())? {

@@ -9,7 +9,7 @@ ghost use Rattle.git_places.specs.Places as words;
 use crate::error::PlacesError;
 use crate::format::{Version, readable_in, truth_of, version_in};
 use crate::git_directory::{dot_git, is_directory};
-use crate::upward::{Top, find_top};
+use crate::upward::Top;
 use git_config_lite::{File, Metadata, ParseError, Source};
 use gitbase_core::{Bytes, OutOfMemory, PathText};
 use std::alloc::Global;
@@ -94,7 +94,8 @@ fn config_at<W: Worktree>(alloc: Global, worktree: &mut W, path: &[u8]) -> Resul
 
 /// Whether a git directory says that its common directory is elsewhere.
 fn is_shared<W: Worktree>(alloc: Global, worktree: &mut W, git: &[u8]) -> Result<bool, PlacesError>
-    ensures { Finds W.Worktree worktree.old worktree.new (λ t. Ok (words.is_shared t git.now)) result }
+    ensures { Finds W.Worktree worktree.old worktree.new
+        (λ t. Ok (words.is_shared t git.now)) result }
 {
     let path = from_directory(alloc, b"commondir", git)?;
     let mut bytes = Bytes::new(alloc);
@@ -195,7 +196,7 @@ fn work_tree_from<W: Worktree>(
 {
     if path.is_empty() {
         return Err(PlacesError::Value {
-            key: Bytes::from_slice(alloc, b"worktree")?,
+            key: Bytes::from_slice(alloc, b"core.worktree")?,
         });
     }
     let full = from_directory(alloc, path, git)?;
@@ -360,27 +361,18 @@ fn layout_said<W: Worktree>(
     layout(alloc, worktree, top, common, own, root)
 }
 
-/// The places of the repository of a work tree.
-fn layout_of<W: Worktree>(alloc: Global, worktree: &mut W, top: Top) -> Result<Places, PlacesError>
-    ensures { Finds W.Worktree worktree.old worktree.new (λ t. words.layout_of t top) result }
-{
-    let common = common_of(alloc, worktree, top.git.as_bytes())?;
-    let path = from_directory(alloc, b"config", common.as_bytes())?;
-    let config = config_at(alloc, worktree, path.as_bytes())?;
-    layout_said(alloc, worktree, top, common.as_bytes(), config)
-}
-
-/// Where the work tree of the directory `current`, an absolute path without links, and its repository lie, as git(1) finds them.
+/// Where the repository of a work tree lies, as git(1) finds it: `top` is what [`find_top`](crate::find_top) answers.
 ///
-/// The nearest work tree upward is taken, as [`find_top`] finds it; `ceilings` are paths without their first slash. The repository's
-/// format is read from its own configuration alone, in which no include is followed: `config` of the common directory, and
-/// `config.worktree` of the git directory behind it where `extensions.worktreeConfig` is set. Where
+/// The repository's format is read from its own configuration alone, in which no include is followed: `config` of the common directory,
+/// and `config.worktree` of the git directory behind it where `extensions.worktreeConfig` is set. Where
 /// `core.repositoryFormatVersion` says nothing, that configuration has no say; `core.bare` and `core.worktree` have none where the
 /// git directory shares another one's, and has no configuration of its own.
 ///
+/// Nothing here looks at the owner: a program asks for that before this call.
+///
 /// # Errors
 ///
-/// - `NoRepository`, `GitFile`, `Bare`: those of [`find_top`]; `Bare` also where `core.bare` says so.
+/// - `Bare`: `core.bare` says so.
 /// - `Config`: a line of a configuration is outside its grammar.
 /// - `Version`: the format has a version that is neither 0 nor 1.
 /// - `Extension`, `Sha256`: the format asks for what is not known; `objectFormat` in version 0 is such a key, too.
@@ -390,15 +382,15 @@ fn layout_of<W: Worktree>(alloc: Global, worktree: &mut W, top: Top) -> Result<P
 /// - `OutOfMemory` for want of memory.
 ///
 /// See docs/DIFFERENCES.md#repository-format.
-pub fn find_places<W: Worktree>(
+pub fn places_of<W: Worktree>(
     alloc: Global,
     worktree: &mut W,
-    current: &[u8],
-    ceilings: &[Bytes],
+    top: Top,
 ) -> Result<Places, PlacesError>
-    ensures { Finds W.Worktree worktree.old worktree.new
-        (λ t. words.layout_in ceilings.now t current.now) result }
+    ensures { Finds W.Worktree worktree.old worktree.new (λ t. words.layout_of t top) result }
 {
-    let top = find_top(alloc, worktree, current, ceilings)?;
-    layout_of(alloc, worktree, top)
+    let common = common_of(alloc, worktree, top.git.as_bytes())?;
+    let path = from_directory(alloc, b"config", common.as_bytes())?;
+    let config = config_at(alloc, worktree, path.as_bytes())?;
+    layout_said(alloc, worktree, top, common.as_bytes(), config)
 }

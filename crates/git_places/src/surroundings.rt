@@ -20,6 +20,10 @@ pub struct Surroundings {
     pub no_system: Option<Bytes>,
     /// `GIT_CEILING_DIRECTORIES`.
     pub ceilings: Option<Bytes>,
+    /// `GIT_DISCOVERY_ACROSS_FILESYSTEM`.
+    pub across: Option<Bytes>,
+    /// `SUDO_UID`.
+    pub sudo_user: Option<Bytes>,
     /// The name of the first variable that points git elsewhere, if one is set. No answer is given then.
     pub elsewhere: Option<Bytes>,
 }
@@ -29,5 +33,5 @@ impl Model for Surroundings {
 
     ghost Value = { words.Surroundings };
 
-    ghost view = { λ around. record { directory = around.directory; home = around.home; config_home = around.config_home; config_global = around.config_global; config_system = around.config_system; no_system = around.no_system; ceilings = around.ceilings; elsewhere = around.elsewhere } };
+    ghost view = { λ around. record { directory = around.directory; home = around.home; config_home = around.config_home; config_global = around.config_global; config_system = around.config_system; no_system = around.no_system; ceilings = around.ceilings; across = around.across; sudo_user = around.sudo_user; elsewhere = around.elsewhere } };
 }

@@ -2,15 +2,18 @@
 ghost use Rattle.std.specs.Prelude.{◌≡◌, [], Some, IfOk};
 ghost use Rattle.gitbase_core.specs.Path.{components};
 ghost use Rattle.worktree_fs.specs.Tree.{Names};
-ghost use Rattle.git_places.specs.Finds.{Finds};
+ghost use Rattle.worktree_fs.specs.Owners.{Owned};
+ghost use Rattle.git_places.specs.Finds.{FindsWith};
+ghost use Rattle.git_places.specs.Limits as bounds;
 ghost use Rattle.git_places.specs.Upward as words;
 
 use crate::error::PlacesError;
 use crate::git_directory::git_at;
-use gitbase_core::{Bytes, OutOfMemory, PathText};
+use crate::limits::{Limits, absolute, goes_up};
+use gitbase_core::{OutOfMemory, PathText};
 use std::alloc::Global;
 use std::marker::Model;
-use worktree_fs::Worktree;
+use worktree_fs::{Owners, Worktree};
 
 /// A work tree as it is found, by its directory and its git directory.
 ///
@@ -43,31 +46,16 @@ fn relative(alloc: Global, path: &[u8]) -> Result<PathText, OutOfMemory>
     Ok(made)
 }
 
-/// A path without a slash in front, as the absolute path that it is.
-fn absolute(alloc: Global, path: &[u8]) -> Result<PathText, OutOfMemory>
-    ensures { IfOk result (λ made. made ≡ words.absolute path.now) }
-{
-    let mut made = PathText::from_bytes(alloc, b"/".as_slice())?;
-    made.push_component(alloc, path)?;
-    Ok(made)
-}
-
-/// Whether a path is one of the ceilings.
-fn is_ceiling(ceilings: &[Bytes], path: &[u8]) -> bool
-    ensures { result ≡ words.is_ceiling ceilings.now path.now }
-{
-    ceilings.iter().any(|ceiling| ceiling.as_bytes() == path)
-}
-
 /// The nearest work tree at or above a directory.
-fn top_above<W: Worktree>(
+fn top_above<W: Worktree, O: Owners>(
     alloc: Global,
     worktree: &mut W,
+    owners: &mut O,
     current: &[u8],
-    ceilings: &[Bytes],
+    limits: &Limits,
 ) -> Result<Top, PlacesError>
-    ensures { Finds W.Worktree worktree.old worktree.new
-        (λ t. words.top_in ceilings.now t current.now) result }
+    ensures { FindsWith W.Worktree O.Owners worktree.old worktree.new owners.old owners.new
+        (λ t owned. words.top_in limits.now t owned current.now) result }
 {
     let mut path = relative(alloc, current)?;
     loop {
@@ -80,34 +68,35 @@ fn top_above<W: Worktree>(
         if !path.pop_component() {
             return Err(PlacesError::NoRepository);
         }
-        if is_ceiling(ceilings, path.as_bytes()) {
-            return Err(PlacesError::NoRepository);
-        }
+        goes_up(alloc, owners, limits, path.as_bytes())?;
     }
 }
 
 /// The nearest work tree at or above `current`, an absolute path, as git(1) finds it: the first directory, from `current` upward,
-/// whose `.git` is a git directory, a link to one, or a file that names one. `ceilings` are paths without their first slash; the
-/// search goes up into none of them.
+/// whose `.git` is a git directory, a link to one, or a file that names one. The search goes up into no ceiling, and into no directory
+/// on another file system than the one that is not left.
 ///
 /// # Errors
 ///
-/// - `GitFile`: a file `.git` on the way names no git directory. No work tree further up is taken in its place.
+/// - `GitFileForm`, `GitFileTarget`: a file `.git` on the way names no git directory. No work tree further up is taken in its place.
 /// - `Bare`: a directory on the way is itself a git directory.
 /// - `NoRepository`: no directory up to the top, or up to a ceiling, is the top of a work tree.
-/// - `Fault`: the worktree failed, which it counted. No fault reads as "none".
+/// - `Border`: none up to the border of the file system is, above which the directory at `path` lies.
+/// - `Fault`: the worktree failed, or the owners, which counted it. No fault reads as "none".
 /// - `OutOfMemory` for want of memory.
 #[tactic(auto, using(crate::proofs::Nearest::nearest))]
-pub fn find_top<W: Worktree>(
+pub fn find_top<W: Worktree, O: Owners>(
     alloc: Global,
     worktree: &mut W,
+    owners: &mut O,
     current: &[u8],
-    ceilings: &[Bytes],
+    limits: &Limits,
 ) -> Result<Top, PlacesError>
-    ensures finds { Finds W.Worktree worktree.old worktree.new
-        (λ t. words.top_in ceilings.now t current.now) result }
-    ensures nearest { (t : Names) → W.told worktree.old ≡ Some t
-        → IfOk result (words.IsNearest ceilings.now t current.now) }
+    ensures finds { FindsWith W.Worktree O.Owners worktree.old worktree.new owners.old owners.new
+        (λ t owned. words.top_in limits.now t owned current.now) result }
+    ensures nearest { (t : Names) (owned : Owned)
+        → W.told worktree.old ≡ Some t → O.told owners.old ≡ Some owned
+        → IfOk result (words.IsNearest (bounds.stop_at owned limits.now) t current.now) }
 {
-    top_above(alloc, worktree, current, ceilings)
+    top_above(alloc, worktree, owners, current, limits)
 }

@@ -106,6 +106,8 @@ pub fn surroundings_of(
     let config_system = value_of(alloc, variables, b"GIT_CONFIG_SYSTEM")?;
     let no_system = value_of(alloc, variables, b"GIT_CONFIG_NOSYSTEM")?;
     let ceilings = value_of(alloc, variables, b"GIT_CEILING_DIRECTORIES")?;
+    let across = value_of(alloc, variables, b"GIT_DISCOVERY_ACROSS_FILESYSTEM")?;
+    let sudo_user = value_of(alloc, variables, b"SUDO_UID")?;
     let elsewhere = elsewhere(alloc, variables)?;
     Ok(Surroundings {
         directory,
@@ -115,6 +117,8 @@ pub fn surroundings_of(
         config_system,
         no_system,
         ceilings,
+        across,
+        sudo_user,
         elsewhere,
     })
 }

@@ -59,26 +59,26 @@ found - /w/r /w/r/g h /w/r/g h^/w/r/a/b^-^g /w/.git;d /w/r/a/b;g /w/r/g h;f /w/r
 found - /w/r /w/r/g  /w/r/g ^/w/r/a/b^-^g /w/.git;d /w/r/a/b;g /w/r/g ;f /w/r/.git=gitdir: g ~\n\
 found - /w/r /w/g /w/g^/w/r^-^g /w/g;f /w/r/.git=gitdir: ../g~\n\
 found - /w/r /w/g /w/g^/w/r^-^g /w/g;f /w/g/config=[core]~repositoryformatversion=0~;f /w/r/.git=gitdir: ../g~\n\
-git-file^/w/r/a/b^-^g /w/.git;d /w/r/a/b;f /w/r/.git=\n\
-git-file^/w/r/a/b^-^g /w/.git;d /w/r/a/b;f /w/r/.git=x~\n\
-git-file^/w/r/a/b^-^g /w/.git;d /w/r/a/b;f /w/r/.git=gitdir\n\
-git-file^/w/r/a/b^-^g /w/.git;d /w/r/a/b;f /w/r/.git=gitdir:~\n\
-git-file^/w/r/a/b^-^g /w/.git;d /w/r/a/b;f /w/r/.git=gitdir: ~\n\
-git-file^/w/r/a/b^-^g /w/.git;d /w/r/a/b;g /w/r/g;f /w/r/.git=gitdir:g~\n\
-git-file^/w/r/a/b^-^g /w/.git;d /w/r/a/b;g /w/r/g;f /w/r/.git=Gitdir: g~\n\
-git-file^/w/r/a/b^-^g /w/.git;d /w/r/a/b;g /w/r/g;f /w/r/.git= gitdir: g~\n\
-git-file^/w/r/a/b^-^g /w/.git;d /w/r/a/b;g /w/r/g;f /w/r/.git=gitdir:  g~\n\
-git-file^/w/r/a/b^-^g /w/.git;d /w/r/a/b;g /w/r/g;f /w/r/.git=gitdir: g ~\n\
-git-file^/w/r/a/b^-^g /w/.git;d /w/r/a/b;g /w/r/g;f /w/r/.git=gitdir: g~x~\n\
-git-file^/w/r/a/b^-^g /w/.git;d /w/r/a/b;f /w/r/.git=gitdir: nowhere~\n\
-git-file^/w/r/a/b^-^g /w/.git;d /w/r/a/b;f /w/r/.git=gitdir: /w/nowhere~\n\
-git-file^/w/r/a/b^-^g /w/.git;d /w/r/a/b;d /w/r/g;f /w/r/.git=gitdir: g~\n\
-git-file^/w/r/a/b^-^g /w/.git;d /w/r/a/b;g /w/r/h;f /w/r/g=gitdir: h~;f /w/r/.git=gitdir: g~\n\
-git-file^/w/r/a/b^-^g /w/.git;d /w/r/a/b;f /w/r/.git=gitdir: .git~\n\
-git-file^/w/r/a/b^-^g /w/.git;d /w/r/a/b;g /w/r/.git;f /w/r/a/.git=gitdir: nowhere~\n\
-git-file^/w/r^-^g /w/.git;d /w/r/a/b;f /w/r/.git=gitdir: nowhere~\n\
-git-file^/w/r^-^g /w/.git;d /w/r/a/b;f /w/x=gitdir: nowhere~;l /w/r/.git=../x\n\
-git-file^/w/r/a/b^-^d /w/r/a/b;f /w/r/.git=gitdir: nowhere~\n\
+git-file-form^/w/r/a/b^-^g /w/.git;d /w/r/a/b;f /w/r/.git=\n\
+git-file-form^/w/r/a/b^-^g /w/.git;d /w/r/a/b;f /w/r/.git=x~\n\
+git-file-form^/w/r/a/b^-^g /w/.git;d /w/r/a/b;f /w/r/.git=gitdir\n\
+git-file-form^/w/r/a/b^-^g /w/.git;d /w/r/a/b;f /w/r/.git=gitdir:~\n\
+git-file-form^/w/r/a/b^-^g /w/.git;d /w/r/a/b;f /w/r/.git=gitdir: ~\n\
+git-file-form^/w/r/a/b^-^g /w/.git;d /w/r/a/b;g /w/r/g;f /w/r/.git=gitdir:g~\n\
+git-file-form^/w/r/a/b^-^g /w/.git;d /w/r/a/b;g /w/r/g;f /w/r/.git=Gitdir: g~\n\
+git-file-form^/w/r/a/b^-^g /w/.git;d /w/r/a/b;g /w/r/g;f /w/r/.git= gitdir: g~\n\
+git-file-target^/w/r/a/b^-^g /w/.git;d /w/r/a/b;g /w/r/g;f /w/r/.git=gitdir:  g~\n\
+git-file-target^/w/r/a/b^-^g /w/.git;d /w/r/a/b;g /w/r/g;f /w/r/.git=gitdir: g ~\n\
+git-file-target^/w/r/a/b^-^g /w/.git;d /w/r/a/b;g /w/r/g;f /w/r/.git=gitdir: g~x~\n\
+git-file-target^/w/r/a/b^-^g /w/.git;d /w/r/a/b;f /w/r/.git=gitdir: nowhere~\n\
+git-file-target^/w/r/a/b^-^g /w/.git;d /w/r/a/b;f /w/r/.git=gitdir: /w/nowhere~\n\
+git-file-target^/w/r/a/b^-^g /w/.git;d /w/r/a/b;d /w/r/g;f /w/r/.git=gitdir: g~\n\
+git-file-target^/w/r/a/b^-^g /w/.git;d /w/r/a/b;g /w/r/h;f /w/r/g=gitdir: h~;f /w/r/.git=gitdir: g~\n\
+git-file-target^/w/r/a/b^-^g /w/.git;d /w/r/a/b;f /w/r/.git=gitdir: .git~\n\
+git-file-target^/w/r/a/b^-^g /w/.git;d /w/r/a/b;g /w/r/.git;f /w/r/a/.git=gitdir: nowhere~\n\
+git-file-target^/w/r^-^g /w/.git;d /w/r/a/b;f /w/r/.git=gitdir: nowhere~\n\
+git-file-target^/w/r^-^g /w/.git;d /w/r/a/b;f /w/x=gitdir: nowhere~;l /w/r/.git=../x\n\
+git-file-target^/w/r/a/b^-^d /w/r/a/b;f /w/r/.git=gitdir: nowhere~\n\
 found - /w/r/a /w/r/a/.git /w/r/a/.git^/w/r/a/b^-^g /w/.git;d /w/r/a/b;g /w/r/a/.git;f /w/r/.git=gitdir: nowhere~\n\
 found - /w/t /w/m/.git/worktrees/t /w/m/.git^/w/t/a^-^g /w/m/.git;d /w/t/a;f /w/t/.git=gitdir: /w/m/.git/worktrees/t~;f /w/m/.git/worktrees/t/HEAD=ref: refs/heads/x~;f /w/m/.git/worktrees/t/commondir=../..~;f /w/m/.git/worktrees/t/gitdir=/w/t/.git~\n\
 found - /w/t /w/m/.git/worktrees/t /w/m/.git^/w/t^-^g /w/m/.git;d /w/t/a;f /w/t/.git=gitdir: /w/m/.git/worktrees/t~;f /w/m/.git/worktrees/t/HEAD=ref: refs/heads/x~;f /w/m/.git/worktrees/t/commondir=../..~;f /w/m/.git/worktrees/t/gitdir=/w/t/.git~;f /w/m/.git/config=[core]~repositoryformatversion=0~\n\
@@ -90,8 +90,8 @@ found - /w/m /w/m/.git /w/m/.git^/w/m^-^g /w/m/.git;d /w/t/a;f /w/t/.git=gitdir:
 version 2^/w/t^-^g /w/m/.git;d /w/t/a;f /w/t/.git=gitdir: /w/m/.git/worktrees/t~;f /w/m/.git/worktrees/t/HEAD=ref: refs/heads/x~;f /w/m/.git/worktrees/t/commondir=../..~;f /w/m/.git/worktrees/t/gitdir=/w/t/.git~;f /w/m/.git/config=[core]~repositoryformatversion=2~\n\
 found - /w/t /w/m/.git/worktrees/t /w/m/.git^/w/t^-^g /w/m/.git;d /w/t/a;f /w/t/.git=gitdir: /w/m/.git/worktrees/t~;f /w/m/.git/worktrees/t/HEAD=ref: refs/heads/x~;f /w/m/.git/worktrees/t/commondir=../..;f /w/m/.git/worktrees/t/gitdir=/w/t/.git~;f /w/m/.git/config=[core]~repositoryformatversion=0~\n\
 found - /w/t /w/m/.git/worktrees/t /w/m/.git^/w/t^-^g /w/m/.git;d /w/t/a;f /w/t/.git=gitdir: /w/m/.git/worktrees/t~;f /w/m/.git/worktrees/t/HEAD=ref: refs/heads/x~;f /w/m/.git/worktrees/t/commondir=/w/m/.git~;f /w/m/.git/worktrees/t/gitdir=/w/t/.git~;f /w/m/.git/config=[core]~repositoryformatversion=0~\n\
-git-file^/w/t^-^g /w/m/.git;d /w/t/a;f /w/t/.git=gitdir: /w/m/.git/worktrees/t~;f /w/m/.git/worktrees/t/HEAD=ref: refs/heads/x~;f /w/m/.git/worktrees/t/commondir=nowhere~;f /w/m/.git/worktrees/t/gitdir=/w/t/.git~;f /w/m/.git/config=[core]~repositoryformatversion=0~\n\
-git-file^/w/t^-^g /w/m/.git;d /w/t/a;f /w/t/.git=gitdir: /w/m/.git/worktrees/t~;f /w/m/.git/worktrees/t/HEAD=ref: refs/heads/x~;f /w/m/.git/worktrees/t/gitdir=/w/t/.git~;f /w/m/.git/config=[core]~repositoryformatversion=0~\n\
+git-file-target^/w/t^-^g /w/m/.git;d /w/t/a;f /w/t/.git=gitdir: /w/m/.git/worktrees/t~;f /w/m/.git/worktrees/t/HEAD=ref: refs/heads/x~;f /w/m/.git/worktrees/t/commondir=nowhere~;f /w/m/.git/worktrees/t/gitdir=/w/t/.git~;f /w/m/.git/config=[core]~repositoryformatversion=0~\n\
+git-file-target^/w/t^-^g /w/m/.git;d /w/t/a;f /w/t/.git=gitdir: /w/m/.git/worktrees/t~;f /w/m/.git/worktrees/t/HEAD=ref: refs/heads/x~;f /w/m/.git/worktrees/t/gitdir=/w/t/.git~;f /w/m/.git/config=[core]~repositoryformatversion=0~\n\
 bare^/w/m/.git/worktrees/t^-^g /w/m/.git;d /w/t/a;f /w/t/.git=gitdir: /w/m/.git/worktrees/t~;f /w/m/.git/worktrees/t/HEAD=ref: refs/heads/x~;f /w/m/.git/worktrees/t/commondir=../..~;f /w/m/.git/worktrees/t/gitdir=/w/t/.git~;f /w/m/.git/config=[core]~repositoryformatversion=0~\n\
 found - /w/t /w/m.git/worktrees/t /w/m.git^/w/t/a^-^g /w/m.git;d /w/t/a;f /w/t/.git=gitdir: /w/m.git/worktrees/t~;f /w/m.git/worktrees/t/HEAD=ref: refs/heads/x~;f /w/m.git/worktrees/t/commondir=../..~;f /w/m.git/config=[core]~repositoryformatversion=0~bare=true~\n\
 found - /w/r /w/r/.git /w/r/.git^/w/r^-^g /w/r/.git;d /w/r/a/b;f /w/r/.git/commondir=/w/r/.git~;f /w/r/.git/config=[core]~repositoryformatversion=0~bare=true~\n\
@@ -101,9 +101,9 @@ found - /w/t /w/m/.git/worktrees/t /w/m/.git^/w/t^-^g /w/m/.git;d /w/t/a;f /w/t/
 found - /w/t /w/m/.git/worktrees/t /w/m/.git^/w/t^-^g /w/m/.git;d /w/t/a;f /w/t/.git=gitdir: /w/m/.git/worktrees/t~;f /w/m/.git/worktrees/t/HEAD=ref: refs/heads/x~;f /w/m/.git/worktrees/t/commondir=../..~~;f /w/m/.git/worktrees/t/gitdir=/w/t/.git~;f /w/m/.git/config=[core]~repositoryformatversion=0~\n\
 found - /w/t /w/m/.git/worktrees/t /w/m/.git^/w/t^-^g /w/m/.git;d /w/t/a;f /w/t/.git=gitdir: /w/m/.git/worktrees/t~;f /w/m/.git/worktrees/t/HEAD=ref: refs/heads/x~;f /w/m/.git/worktrees/t/commondir=../../~;f /w/m/.git/worktrees/t/gitdir=/w/t/.git~;f /w/m/.git/config=[core]~repositoryformatversion=0~\n\
 found - /w/t /w/m/.git/worktrees/t /w/m/.git^/w/t^-^g /w/m/.git;d /w/t/a;f /w/t/.git=gitdir: /w/m/.git/worktrees/t~;f /w/m/.git/worktrees/t/HEAD=ref: refs/heads/x~;f /w/m/.git/worktrees/t/commondir=./../..~;f /w/m/.git/worktrees/t/gitdir=/w/t/.git~;f /w/m/.git/config=[core]~repositoryformatversion=0~\n\
-git-file^/w/t^-^g /w/m/.git;d /w/t/a;f /w/t/.git=gitdir: /w/m/.git/worktrees/t~;f /w/m/.git/worktrees/t/HEAD=ref: refs/heads/x~;f /w/m/.git/worktrees/t/commondir=../.. ~;f /w/m/.git/worktrees/t/gitdir=/w/t/.git~;f /w/m/.git/config=[core]~repositoryformatversion=0~\n\
-git-file^/w/t^-^g /w/m/.git;d /w/t/a;f /w/t/.git=gitdir: /w/m/.git/worktrees/t~;f /w/m/.git/worktrees/t/HEAD=ref: refs/heads/x~;f /w/m/.git/worktrees/t/commondir=~;f /w/m/.git/worktrees/t/gitdir=/w/t/.git~;f /w/m/.git/config=[core]~repositoryformatversion=0~\n\
-git-file^/w/t^-^g /w/m/.git;d /w/t/a;f /w/t/.git=gitdir: /w/m/.git/worktrees/t~;f /w/m/.git/worktrees/t/HEAD=ref: refs/heads/x~;f /w/m/.git/worktrees/t/commondir=../..~x~;f /w/m/.git/worktrees/t/gitdir=/w/t/.git~;f /w/m/.git/config=[core]~repositoryformatversion=0~\n\
+git-file-target^/w/t^-^g /w/m/.git;d /w/t/a;f /w/t/.git=gitdir: /w/m/.git/worktrees/t~;f /w/m/.git/worktrees/t/HEAD=ref: refs/heads/x~;f /w/m/.git/worktrees/t/commondir=../.. ~;f /w/m/.git/worktrees/t/gitdir=/w/t/.git~;f /w/m/.git/config=[core]~repositoryformatversion=0~\n\
+git-file-target^/w/t^-^g /w/m/.git;d /w/t/a;f /w/t/.git=gitdir: /w/m/.git/worktrees/t~;f /w/m/.git/worktrees/t/HEAD=ref: refs/heads/x~;f /w/m/.git/worktrees/t/commondir=~;f /w/m/.git/worktrees/t/gitdir=/w/t/.git~;f /w/m/.git/config=[core]~repositoryformatversion=0~\n\
+git-file-target^/w/t^-^g /w/m/.git;d /w/t/a;f /w/t/.git=gitdir: /w/m/.git/worktrees/t~;f /w/m/.git/worktrees/t/HEAD=ref: refs/heads/x~;f /w/m/.git/worktrees/t/commondir=../..~x~;f /w/m/.git/worktrees/t/gitdir=/w/t/.git~;f /w/m/.git/config=[core]~repositoryformatversion=0~\n\
 found - /w/s/n /w/s/.git/modules/n /w/s/.git/modules/n^/w/s/n/a^-^g /w/s/.git;g /w/s/.git/modules/n;f /w/s/.git/modules/n/config=[core]~repositoryformatversion=0~bare=false~worktree=../../../n~;d /w/s/n/a;f /w/s/n/.git=gitdir: ../.git/modules/n~\n\
 found - /w/s/n /w/s/.git/modules/n /w/s/.git/modules/n^/w/s/n^-^g /w/s/.git;g /w/s/.git/modules/n;f /w/s/.git/modules/n/config=[core]~repositoryformatversion=0~bare=false~worktree=../../../n~;d /w/s/n/a;f /w/s/n/.git=gitdir: ../.git/modules/n~\n\
 found - /w/s /w/s/.git /w/s/.git^/w/s^-^g /w/s/.git;g /w/s/.git/modules/n;f /w/s/.git/modules/n/config=[core]~repositoryformatversion=0~bare=false~worktree=../../../n~;d /w/s/n/a;f /w/s/n/.git=gitdir: ../.git/modules/n~\n\
@@ -136,7 +136,7 @@ no-work-tree^/w/r/a^-^g /w/r/.git;d /w/r/a/b;f /w/r/.git/config=[core]~repositor
 no-work-tree^/w/r/a^-^g /w/r/.git;d /w/r/a/b;f /w/o=x;f /w/r/.git/config=[core]~repositoryformatversion=0~worktree=../../o~\n\
 no-work-tree^/w/r/a^-^g /w/r/.git;d /w/r/a/b;f /w/o=x;f /w/r/.git/config=[core]~repositoryformatversion=0~worktree=/w/o~\n\
 no-work-tree^/w/r/a^-^g /w/r/.git;d /w/r/a/b;l /w/o=o;f /w/r/.git/config=[core]~repositoryformatversion=0~worktree=/w/o~\n\
-value worktree^/w/r/a^-^g /w/r/.git;d /w/r/a/b;f /w/r/.git/config=[core]~repositoryformatversion=0~worktree~\n\
+value core.worktree^/w/r/a^-^g /w/r/.git;d /w/r/a/b;f /w/r/.git/config=[core]~repositoryformatversion=0~worktree~\n\
 bare^/w/b^-^g /w/b\n\
 bare^/w/b/x^-^g /w/b;d /w/b/x\n\
 bare^/w/b/objects^-^g /w/b\n\
@@ -157,7 +157,7 @@ bare^/w/r/a^-^g /w/r/.git;d /w/r/a/b;f /w/r/.git/config=[core]~repositoryformatv
 found - /w/r /w/r/.git /w/r/.git^/w/r/a^-^g /w/r/.git;d /w/r/a/b;f /w/r/.git/config=[core]~repositoryformatversion=0~[core \"x\"]~bare=true~\n\
 bare^/w/r/a^-^g /w/r/.git;d /w/r/a/b;f /w/r/.git/config=[core]~repositoryformatversion=0~[CORE]~BARE=on~\n\
 found - /w/r /w/r/.git /w/r/.git^/w/r/a^-^g /w/r/.git;d /w/r/a/b;f /w/r/.git/config=[core]~bare=true~\n\
-value bare^/w/r/a^-^g /w/r/.git;d /w/r/a/b;f /w/r/.git/config=[core]~repositoryformatversion=0~bare=maybe~\n\
+value core.bare^/w/r/a^-^g /w/r/.git;d /w/r/a/b;f /w/r/.git/config=[core]~repositoryformatversion=0~bare=maybe~\n\
 version 2^/w/r/a^-^g /w/r/.git;d /w/r/a/b;f /w/r/.git/config=[core]~repositoryformatversion=2~\n\
 version 99^/w/r/a^-^g /w/r/.git;d /w/r/a/b;f /w/r/.git/config=[core]~repositoryformatversion=99~\n\
 found - /w/r /w/r/.git /w/r/.git^/w/r/a^-^g /w/r/.git;d /w/r/a/b;f /w/r/.git/config=[core]~repositoryformatversion=2~repositoryformatversion=1~\n\
@@ -199,7 +199,7 @@ found own /w/r /w/r/.git /w/r/.git^/w/r/a^-^g /w/r/.git;d /w/r/a/b;f /w/r/.git/c
 found shared /w/r /w/r/.git /w/r/.git^/w/r/a^-^g /w/r/.git;d /w/r/a/b;f /w/r/.git/config=[core]~repositoryformatversion=0~;f /w/r/.git/config.worktree=[own]~here=yes~\n\
 found shared /w/r /w/r/.git /w/r/.git^/w/r/a^-^g /w/r/.git;d /w/r/a/b;f /w/r/.git/config=[core]~repositoryformatversion=0~[extensions]~worktreeconfig=off~;f /w/r/.git/config.worktree=[own]~here=yes~\n\
 found shared /w/r /w/r/.git /w/r/.git^/w/r/a^-^g /w/r/.git;d /w/r/a/b;f /w/r/.git/config=[extensions]~worktreeconfig=true~;f /w/r/.git/config.worktree=[own]~here=yes~[core]~bare=true~\n\
-value worktreeconfig^/w/r/a^-^g /w/r/.git;d /w/r/a/b;f /w/r/.git/config=[core]~repositoryformatversion=0~[extensions]~worktreeconfig=maybe~\n\
+value extensions.worktreeconfig^/w/r/a^-^g /w/r/.git;d /w/r/a/b;f /w/r/.git/config=[core]~repositoryformatversion=0~[extensions]~worktreeconfig=maybe~\n\
 found shared /w/r /w/r/.git /w/r/.git^/w/r/a^-^g /w/r/.git;d /w/r/a/b;f /w/r/.git/config=[core]~repositoryformatversion=0~[extensions]~worktreeconfig=true~worktreeconfig=false~;f /w/r/.git/config.worktree=[own]~here=yes~[core]~bare=true~\n\
 bare^/w/r/a^-^g /w/r/.git;d /w/r/a/b;f /w/r/.git/config=[core]~repositoryformatversion=0~[extensions]~worktreeconfig=true~;f /w/r/.git/config.worktree=[core]~bare=true~\n\
 found own /w/r /w/r/.git /w/r/.git^/w/r/a^-^g /w/r/.git;d /w/r/a/b;f /w/r/.git/config=[core]~repositoryformatversion=0~bare=true~[extensions]~worktreeconfig=true~;f /w/r/.git/config.worktree=[core]~bare=false~[own]~here=yes~\n\
@@ -209,7 +209,7 @@ found - /w/r /w/r/.git /w/r/.git^/w/r/a^-^g /w/r/.git;d /w/r/a/b;d /w/o;f /w/r/.
 found own /w/r /w/r/.git /w/r/.git^/w/r/a^-^g /w/r/.git;d /w/r/a/b;f /w/r/.git/config=[core]~repositoryformatversion=0~[extensions]~worktreeconfig=true~;f /w/r/.git/config.worktree=[core]~repositoryformatversion=2~[own]~here=yes~\n\
 found own /w/r /w/r/.git /w/r/.git^/w/r/a^-^g /w/r/.git;d /w/r/a/b;f /w/r/.git/config=[core]~repositoryformatversion=0~[extensions]~worktreeconfig=true~;f /w/r/.git/config.worktree=[extensions]~objectformat=md5~[own]~here=yes~\n\
 config^/w/r/a^-^g /w/r/.git;d /w/r/a/b;f /w/r/.git/config=[core]~repositoryformatversion=0~[extensions]~worktreeconfig=true~;f /w/r/.git/config.worktree=[core~\n\
-value bare^/w/r/a^-^g /w/r/.git;d /w/r/a/b;f /w/r/.git/config=[core]~repositoryformatversion=0~[extensions]~worktreeconfig=true~;f /w/r/.git/config.worktree=[core]~bare=maybe~\n\
+value core.bare^/w/r/a^-^g /w/r/.git;d /w/r/a/b;f /w/r/.git/config=[core]~repositoryformatversion=0~[extensions]~worktreeconfig=true~;f /w/r/.git/config.worktree=[core]~bare=maybe~\n\
 found - /w/t /w/m/.git/worktrees/t /w/m/.git^/w/t^-^g /w/m/.git;d /w/t/a;f /w/t/.git=gitdir: /w/m/.git/worktrees/t~;f /w/m/.git/worktrees/t/HEAD=ref: refs/heads/x~;f /w/m/.git/worktrees/t/commondir=../..~;f /w/m/.git/worktrees/t/gitdir=/w/t/.git~;f /w/m/.git/config=[core]~repositoryformatversion=0~[extensions]~worktreeconfig=true~\n\
 bare^/w/t^-^g /w/m/.git;d /w/t/a;f /w/t/.git=gitdir: /w/m/.git/worktrees/t~;f /w/m/.git/worktrees/t/HEAD=ref: refs/heads/x~;f /w/m/.git/worktrees/t/commondir=../..~;f /w/m/.git/worktrees/t/gitdir=/w/t/.git~;f /w/m/.git/config=[core]~repositoryformatversion=0~bare=true~[extensions]~worktreeconfig=true~\n\
 found own /w/t /w/m/.git/worktrees/t /w/m/.git^/w/t^-^g /w/m/.git;d /w/t/a;f /w/t/.git=gitdir: /w/m/.git/worktrees/t~;f /w/m/.git/worktrees/t/HEAD=ref: refs/heads/x~;f /w/m/.git/worktrees/t/commondir=../..~;f /w/m/.git/worktrees/t/gitdir=/w/t/.git~;f /w/m/.git/config=[core]~repositoryformatversion=0~bare=true~[extensions]~worktreeconfig=true~;f /w/m/.git/worktrees/t/config.worktree=[core]~bare=false~[own]~here=yes~\n\
@@ -295,34 +295,34 @@ found - /w/r /w/r/.git /w/r/.git=>version  1^/w/r/a^-^g /w/r/.git;d /w/r/a/b;f /
 version 2048=>version 2k^/w/r/a^-^g /w/r/.git;d /w/r/a/b;f /w/r/.git/config=[core]~repositoryformatversion=2k~\n\
 found - /w/r /w/r/.git /w/r/.git=>version -1^/w/r/a^-^g /w/r/.git;d /w/r/a/b;f /w/r/.git/config=[core]~repositoryformatversion=-1~\n\
 found - /w/r /w/r/.git /w/r/.git=>version -2^/w/r/a^-^g /w/r/.git;d /w/r/a/b;f /w/r/.git/config=[core]~repositoryformatversion=-2~\n\
-value bare=>found - /w/r /w/r/.git /w/r/.git^/w/r/a^-^g /w/r/.git;d /w/r/a/b;f /w/r/.git/config=[core]~repositoryformatversion=0~bare=maybe~bare=no~\n\
-value worktree=>found - /w/r /w/r/.git /w/r/.git^/w/r/a^-^g /w/r/.git;d /w/r/a/b;f /w/r/.git/config=[core]~repositoryformatversion=0~worktree~worktree=..~\n\
-value bare=>found - /w/r /w/r/.git /w/r/.git^/w/r/a^-^g /w/r/.git;d /w/r/a/b;f /w/r/.git/config=[core]~bare=maybe~\n\
-value worktree=>found - /w/r /w/r/.git /w/r/.git^/w/r/a^-^g /w/r/.git;d /w/r/a/b;f /w/r/.git/config=[core]~worktree~\n\
-value worktreeconfig=>found - /w/r /w/r/.git /w/r/.git^/w/r/a^-^g /w/r/.git;d /w/r/a/b;f /w/r/.git/config=[core]~repositoryformatversion=0~[extensions]~worktreeconfig=maybe~worktreeconfig=no~\n\
+value core.bare=>found - /w/r /w/r/.git /w/r/.git^/w/r/a^-^g /w/r/.git;d /w/r/a/b;f /w/r/.git/config=[core]~repositoryformatversion=0~bare=maybe~bare=no~\n\
+value core.worktree=>found - /w/r /w/r/.git /w/r/.git^/w/r/a^-^g /w/r/.git;d /w/r/a/b;f /w/r/.git/config=[core]~repositoryformatversion=0~worktree~worktree=..~\n\
+value core.bare=>found - /w/r /w/r/.git /w/r/.git^/w/r/a^-^g /w/r/.git;d /w/r/a/b;f /w/r/.git/config=[core]~bare=maybe~\n\
+value core.worktree=>found - /w/r /w/r/.git /w/r/.git^/w/r/a^-^g /w/r/.git;d /w/r/a/b;f /w/r/.git/config=[core]~worktree~\n\
+value extensions.worktreeconfig=>found - /w/r /w/r/.git /w/r/.git^/w/r/a^-^g /w/r/.git;d /w/r/a/b;f /w/r/.git/config=[core]~repositoryformatversion=0~[extensions]~worktreeconfig=maybe~worktreeconfig=no~\n\
 version x=>found - /w/r /w/r/.git /w/r/.git^/w/r/a^-^g /w/r/.git;d /w/r/a/b;f /w/r/.git/config=[core]~repositoryformatversion=x~repositoryformatversion=0~\n\
-value preciousobjects=>found - /w/r /w/r/.git /w/r/.git^/w/r/a^-^g /w/r/.git;d /w/r/a/b;f /w/r/.git/config=[core]~repositoryformatversion=0~[extensions]~preciousobjects=maybe~\n\
-value preciousobjects=>found - /w/r /w/r/.git /w/r/.git^/w/r/a^-^g /w/r/.git;d /w/r/a/b;f /w/r/.git/config=[core]~repositoryformatversion=1~[extensions]~preciousobjects=maybe~\n\
+value extensions.preciousobjects=>found - /w/r /w/r/.git /w/r/.git^/w/r/a^-^g /w/r/.git;d /w/r/a/b;f /w/r/.git/config=[core]~repositoryformatversion=0~[extensions]~preciousobjects=maybe~\n\
+value extensions.preciousobjects=>found - /w/r /w/r/.git /w/r/.git^/w/r/a^-^g /w/r/.git;d /w/r/a/b;f /w/r/.git/config=[core]~repositoryformatversion=1~[extensions]~preciousobjects=maybe~\n\
 extension objectformat=>found - /w/r /w/r/.git /w/r/.git^/w/r/a^-^g /w/r/.git;d /w/r/a/b;f /w/r/.git/config=[extensions]~objectformat=md5~\n\
-value worktreeconfig=>found - /w/r /w/r/.git /w/r/.git^/w/r/a^-^g /w/r/.git;d /w/r/a/b;f /w/r/.git/config=[extensions]~worktreeconfig=maybe~\n\
-value bare=>version 2^/w/r/a^-^g /w/r/.git;d /w/r/a/b;f /w/r/.git/config=[core]~repositoryformatversion=2~bare=maybe~\n\
-value bare=>extension x^/w/r/a^-^g /w/r/.git;d /w/r/a/b;f /w/r/.git/config=[core]~repositoryformatversion=1~bare=maybe~[extensions]~x~\n\
-value worktreeconfig=>extension x^/w/r/a^-^g /w/r/.git;d /w/r/a/b;f /w/r/.git/config=[core]~repositoryformatversion=1~[extensions]~x~worktreeconfig=maybe~\n\
+value extensions.worktreeconfig=>found - /w/r /w/r/.git /w/r/.git^/w/r/a^-^g /w/r/.git;d /w/r/a/b;f /w/r/.git/config=[extensions]~worktreeconfig=maybe~\n\
+value core.bare=>version 2^/w/r/a^-^g /w/r/.git;d /w/r/a/b;f /w/r/.git/config=[core]~repositoryformatversion=2~bare=maybe~\n\
+value core.bare=>extension x^/w/r/a^-^g /w/r/.git;d /w/r/a/b;f /w/r/.git/config=[core]~repositoryformatversion=1~bare=maybe~[extensions]~x~\n\
+value extensions.worktreeconfig=>extension x^/w/r/a^-^g /w/r/.git;d /w/r/a/b;f /w/r/.git/config=[core]~repositoryformatversion=1~[extensions]~x~worktreeconfig=maybe~\n\
 extension x=>sha256^/w/r/a^-^g /w/r/.git;d /w/r/a/b;f /w/r/.git/config=[core]~repositoryformatversion=1~[extensions]~objectformat=sha256~x~\n\
 extension refstorage=>found - /w/r /w/r/.git /w/r/.git^/w/r/a^-^g /w/r/.git;d /w/r/a/b;f /w/r/.git/config=[core]~repositoryformatversion=1~[extensions]~refstorage=files~\n\
 extension refstorage=>found - /w/r /w/r/.git /w/r/.git^/w/r/a^-^g /w/r/.git;d /w/r/a/b;f /w/r/.git/config=[core]~repositoryformatversion=1~[extensions]~refStorage=reftable~\n\
 extension relativeworktrees=>found - /w/r /w/r/.git /w/r/.git^/w/r/a^-^g /w/r/.git;d /w/r/a/b;f /w/r/.git/config=[core]~repositoryformatversion=1~[extensions]~relativeworktrees=true~\n\
-no-work-tree=>value worktree^/w/r/a^-^g /w/r/.git;d /w/r/a/b;f /w/r/.git/config=[core]~repositoryformatversion=0~worktree=~\n\
+no-work-tree=>value core.worktree^/w/r/a^-^g /w/r/.git;d /w/r/a/b;f /w/r/.git/config=[core]~repositoryformatversion=0~worktree=~\n\
 found - /w/o /w/r/.git /w/r/.git=>bare^/w/r/.git^-^g /w/r/.git;d /w/r/a/b;d /w/o;f /w/r/.git/config=[core]~repositoryformatversion=0~worktree=/w/o~\n\
 found - /w/o /w/r/.git /w/r/.git=>bare^/w/r/.git/refs^-^g /w/r/.git;d /w/r/a/b;d /w/o;f /w/r/.git/config=[core]~repositoryformatversion=0~worktree=/w/o~\n\
 found - /w/s/n /w/s/.git/modules/n /w/s/.git/modules/n=>bare^/w/s/.git/modules/n/refs^-^g /w/s/.git;g /w/s/.git/modules/n;f /w/s/.git/modules/n/config=[core]~repositoryformatversion=0~bare=false~worktree=../../../n~;d /w/s/n/a;f /w/s/n/.git=gitdir: ../.git/modules/n~\n\
 version 2=>bare^/w/b^-^g /w/b;f /w/b/config=[core]~repositoryformatversion=2~\n\
-value bare=>bare^/w/b^-^g /w/b;f /w/b/config=[core]~bare=maybe~\n\
+value core.bare=>bare^/w/b^-^g /w/b;f /w/b/config=[core]~bare=maybe~\n\
 extension x=>bare^/w/b^-^g /w/b;f /w/b/config=[core]~repositoryformatversion=1~[extensions]~x~\n\
 config=>bare^/w/b^-^g /w/b;f /w/b/config=[core]~x y~\n\
-common=>git-file^/w/t^-^g /w/m/.git;d /w/t/a;f /w/t/.git=gitdir: /w/m/.git/worktrees/t~;f /w/m/.git/worktrees/t/HEAD=ref: refs/heads/x~;f /w/m/.git/worktrees/t/commondir=;f /w/m/.git/worktrees/t/gitdir=/w/t/.git~;f /w/m/.git/config=[core]~repositoryformatversion=0~\n\
-common=>git-file^/w/t^-^g /w/m/.git;d /w/t/a;f /w/t/.git=gitdir: /w/m/.git/worktrees/t~;f /w/m/.git/worktrees/t/HEAD=ref: refs/heads/x~;f /w/m/.git/worktrees/t/commondir= ../..~;f /w/m/.git/worktrees/t/gitdir=/w/t/.git~;f /w/m/.git/config=[core]~repositoryformatversion=0~\n\
+common=>git-file-target^/w/t^-^g /w/m/.git;d /w/t/a;f /w/t/.git=gitdir: /w/m/.git/worktrees/t~;f /w/m/.git/worktrees/t/HEAD=ref: refs/heads/x~;f /w/m/.git/worktrees/t/commondir=;f /w/m/.git/worktrees/t/gitdir=/w/t/.git~;f /w/m/.git/config=[core]~repositoryformatversion=0~\n\
+common=>git-file-target^/w/t^-^g /w/m/.git;d /w/t/a;f /w/t/.git=gitdir: /w/m/.git/worktrees/t~;f /w/m/.git/worktrees/t/HEAD=ref: refs/heads/x~;f /w/m/.git/worktrees/t/commondir= ../..~;f /w/m/.git/worktrees/t/gitdir=/w/t/.git~;f /w/m/.git/config=[core]~repositoryformatversion=0~\n\
 found - /w/o /w/r/.git /w/r/.git=>no-work-tree^/w/r/a^-^g /w/r/.git;d /w/r/a/b;d /w/o;f /w/f=x;f /w/r/.git/config=[core]~repositoryformatversion=0~worktree=/w/f/../o~\n\
 no-repository=>found - /w/r /w/r/.git /w/r/.git^/w/r/a/b^/w/r/f/..^g /w/r/.git;d /w/r/a/b;f /w/r/f=x\n\
-found - /w/r /w/r/g /w/r/g=>git-file^/w/r^-^g /w/r/g;f /w/r/.git=gitdir: g\x00x~\n\
+found - /w/r /w/r/g /w/r/g=>git-file-target^/w/r^-^g /w/r/g;f /w/r/.git=gitdir: g\x00x~\n\
 ";

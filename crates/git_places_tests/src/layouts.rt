@@ -2,10 +2,10 @@
 use crate::answers as git;
 use crate::tree::{parted, tree_of};
 use bstr::ByteSlice;
-use git_places::{Ceilings, Places, PlacesError, ceilings_of, find_places};
+use git_places::{Ceilings, Limits, Places, PlacesError, ceilings_of, find_top, places_of};
 use gitbase_core::PathText;
 use std::alloc::Global;
-use worktree_fs::{MemoryWorktree, Worktree};
+use worktree_fs::{MemoryOwners, MemoryWorktree, Worktree};
 
 /// The same of trees at whose top a repository lies, which were asked of git by hand.
 const TOPS: &[u8] = b"\
@@ -55,11 +55,14 @@ fn parted_in_two(paths: &[u8]) -> (&[u8], &[u8]) {
     }
 }
 
-fn word_of(error: &PlacesError) -> &'static [u8] {
+pub fn word_of(error: &PlacesError) -> &'static [u8] {
     match error {
         PlacesError::NoRepository => b"no-repository",
+        PlacesError::Border { .. } => b"border",
+        PlacesError::NoDirectory { .. } => b"no-directory",
         PlacesError::Bare { .. } => b"bare",
-        PlacesError::GitFile { .. } => b"git-file",
+        PlacesError::GitFileForm { .. } => b"git-file-form",
+        PlacesError::GitFileTarget { .. } => b"git-file-target",
         PlacesError::Version { .. } => b"version",
         PlacesError::Extension { .. } => b"extension",
         PlacesError::Sha256 => b"sha256",
@@ -87,14 +90,26 @@ fn is_refused(error: &PlacesError, want: &[u8]) -> bool {
     word_of(error) == word && named_by(error).eq_ignore_ascii_case(named)
 }
 
+/// Where the work tree of a directory lies, whoever owns it.
+fn places_in(
+    alloc: Global,
+    tree: &mut MemoryWorktree,
+    current: &[u8],
+    limits: &Limits,
+) -> Result<Places, PlacesError> {
+    let mut owners = MemoryOwners::new(Vec::new(alloc));
+    let top = find_top(alloc, tree, &mut owners, current, limits)?;
+    places_of(alloc, tree, top)
+}
+
 fn answers(
     alloc: Global,
     tree: &mut MemoryWorktree,
     current: &[u8],
-    ceilings: &Ceilings,
+    limits: &Limits,
     want: &[u8],
 ) -> bool {
-    match find_places(alloc, tree, current, ceilings.as_slice()) {
+    match places_in(alloc, tree, current, limits) {
         Ok(found) => match want.strip_prefix(b"found ") {
             Some(places) => are_places(alloc, tree, &found, places),
             None => false,
@@ -110,6 +125,15 @@ fn ceilings_in(alloc: Global, tree: &mut MemoryWorktree, text: &[u8]) -> Option<
     ceilings_of(alloc, tree, text).ok()
 }
 
+/// Limits with these ceilings, and without a border.
+fn limits_in(alloc: Global, tree: &mut MemoryWorktree, text: &[u8]) -> Option<Limits> {
+    let ceilings = ceilings_in(alloc, tree, text)?;
+    Some(Limits {
+        ceilings,
+        device: None,
+    })
+}
+
 /// Whether the answer of a tree is the one that is wanted.
 fn is_answered(alloc: Global, want: &[u8], asked: &[u8]) -> bool {
     let (current, rest) = parted(asked, b'^');
@@ -118,8 +142,8 @@ fn is_answered(alloc: Global, want: &[u8], asked: &[u8]) -> bool {
         return false;
     };
     let mut tree = tree;
-    match ceilings_in(alloc, &mut tree, text) {
-        Some(ceilings) => answers(alloc, &mut tree, current, &ceilings, want),
+    match limits_in(alloc, &mut tree, text) {
+        Some(limits) => answers(alloc, &mut tree, current, &limits, want),
         None => false,
     }
 }

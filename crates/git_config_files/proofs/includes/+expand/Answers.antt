@@ -1,7 +1,9 @@
 use Rattle.std.proofs.Common.{rules, arith, ◌≡◌, ◌-◌, Some, true}
 use Rattle.worktree_fs.specs.Tree.{Names, look}
 use Rattle.git_config_files.specs.Includes.{expanded, text_at}
-use Rattle.git_config_files.proofs.Deeper.{passes, refused, stepped}
+use Rattle.git_config_files.specs.declared.error.FilesError.TheVariants as errors
+use Rattle.git_config_files.proofs.Deeper.{refused, stepped}
+use Rattle.git_places.proofs.Passes.{passes}
 use Rattle.git_config_files.proofs.includes.+expand.Goals as goal
 
 pub expand-returns : goal.expand-returns
@@ -12,7 +14,7 @@ expand-returns-in_err-bytes g t c =
     let e = c.in_err-bytes.field-0.0 in
     let a = c.args in
     let carry = λ (tree : Names) (told : g.W.Worktree.told a.worktree.now ≡ Some tree).
-    passes e (text_at a.path.now (look tree a.path.now true)) (expanded tree a.known.now a.source a.levels a.path.now)
+    passes errors.Fault errors.OutOfMemory e (text_at a.path.now (look tree a.path.now true)) (expanded tree a.known.now a.source a.levels a.path.now)
     (c.in_err-bytes.ensures.gives tree told) (refused tree a.known.now a.source a.levels a.path.now e)
     in
     search rules

@@ -1,8 +1,0 @@
--- One answer after another.
-use Rattle.std.specs.Prelude.{Result, Ok, Err}
-use Rattle.git_config_files.specs.declared.error.FilesError.{FilesError}
-
--- what comes of an answer, or the refusal that stands in its place
-abbrev pub and_then : {A B : Type 0} → (A → Result B FilesError) → Result A FilesError → Result B FilesError
-and_then next (Ok answer) = next answer
-and_then next (Err e) = Err e

@@ -1,0 +1,186 @@
+//! Whose repositories are read, and where the search for one ends.
+use crate::owned_answers as git;
+use crate::tree::{parted, surroundings_of, tree_of, wanted};
+use git_config_files::{FilesError, own_top};
+use git_places::{Limits, PlacesError, Surroundings, Top, find_top, limits_of};
+use gitbase_core::Bytes;
+use std::alloc::Global;
+use worktree_fs::{MemoryOwners, MemoryWorktree, OwnedNode, Ownership, Worktree};
+
+/// The number that digits spell.
+fn number(digits: &[u8]) -> u32 {
+    let mut value: u32 = 0;
+    for digit in digits {
+        value = value
+            .saturating_mul(10)
+            .saturating_add(u32::from(digit.wrapping_sub(b'0')));
+    }
+    value
+}
+
+/// A node, by `PATH=OWNER,DEVICE`.
+fn node_of(alloc: Global, word: &[u8]) -> Option<OwnedNode> {
+    let (path, numbers) = parted(word, b'=');
+    let (owner, device) = parted(numbers, b',');
+    Some(OwnedNode {
+        path: Bytes::from_slice(alloc, path).ok()?,
+        ownership: Ownership {
+            owner: number(owner),
+            device: u64::from(number(device)),
+        },
+    })
+}
+
+/// The owners of some nodes, parted by `;`.
+fn owners_of(alloc: Global, words: &[u8]) -> Option<MemoryOwners> {
+    let mut nodes = Vec::new(alloc);
+    for word in words.split(|byte| *byte == b';') {
+        let node = node_of(alloc, word)?;
+        nodes.push(node).ok()?;
+    }
+    Some(MemoryOwners::new(nodes))
+}
+
+/// Whether a path leads to this one, which has no links.
+fn leads_to(alloc: Global, tree: &mut MemoryWorktree, path: &[u8], want: &[u8]) -> bool {
+    match tree.real_path(alloc, path, b"/") {
+        Ok(Some(real)) => real.as_bytes() == want,
+        _ => false,
+    }
+}
+
+fn is_top(alloc: Global, tree: &mut MemoryWorktree, top: &Top, want: &[u8]) -> bool {
+    let (word, paths) = parted(want, b' ');
+    let (root, git) = parted(paths, b' ');
+    word == b"found".as_slice()
+        && top.directory.as_bytes() == root
+        && leads_to(alloc, tree, top.git.as_bytes(), git)
+}
+
+/// Whether a refusal is the one that is wanted, with the path or the key that it names.
+fn is_refused(error: &PlacesError, want: &[u8]) -> bool {
+    let (word, named) = parted(want, b' ');
+    match error {
+        PlacesError::NoRepository => word == b"no-repository".as_slice(),
+        PlacesError::Bare { .. } => word == b"bare".as_slice(),
+        PlacesError::GitFileForm { .. } => word == b"git-file-form".as_slice(),
+        PlacesError::Border { path } => word == b"border".as_slice() && path.as_bytes() == named,
+        PlacesError::Value { key } => word == b"value".as_slice() && key.as_bytes() == named,
+        _ => false,
+    }
+}
+
+/// The same of what configurations are refused with.
+fn is_not_read(error: &FilesError, want: &[u8]) -> bool {
+    let (word, named) = parted(want, b' ');
+    match error {
+        FilesError::Foreign { path } => word == b"foreign".as_slice() && path.as_bytes() == named,
+        FilesError::Value { key } => word == b"value".as_slice() && key.as_bytes() == named,
+        FilesError::Config { .. } => word == b"config".as_slice(),
+        FilesError::Condition { .. } => word == b"condition".as_slice(),
+        _ => false,
+    }
+}
+
+fn is_own(
+    alloc: Global,
+    tree: &mut MemoryWorktree,
+    owners: &mut MemoryOwners,
+    around: &Surroundings,
+    top: Top,
+    want: &[u8],
+) -> bool {
+    match own_top(alloc, tree, owners, around, top) {
+        Ok(top) => is_top(alloc, tree, &top, want),
+        Err(error) => is_not_read(&error, want),
+    }
+}
+
+fn is_found(
+    alloc: Global,
+    tree: &mut MemoryWorktree,
+    owners: &mut MemoryOwners,
+    around: &Surroundings,
+    limits: &Limits,
+    want: &[u8],
+) -> bool {
+    let current = around.directory.as_bytes();
+    match find_top(alloc, tree, owners, current, limits) {
+        Ok(top) => is_own(alloc, tree, owners, around, top, want),
+        Err(error) => is_refused(&error, want),
+    }
+}
+
+fn answers(
+    alloc: Global,
+    tree: &mut MemoryWorktree,
+    owners: &mut MemoryOwners,
+    around: &Surroundings,
+    want: &[u8],
+) -> bool {
+    match limits_of(alloc, tree, owners, around) {
+        Ok(limits) => is_found(alloc, tree, owners, around, &limits, want),
+        Err(error) => is_refused(&error, want),
+    }
+}
+
+/// The same in the tree of some steps.
+fn answers_in(
+    alloc: Global,
+    owners: &mut MemoryOwners,
+    around: &Surroundings,
+    steps: &[u8],
+    want: &[u8],
+) -> bool {
+    match tree_of(alloc, steps) {
+        Some(tree) => {
+            let mut tree = tree;
+            answers(alloc, &mut tree, owners, around, want)
+        }
+        None => false,
+    }
+}
+
+/// The same of some owners.
+fn answers_of(
+    alloc: Global,
+    owned: &[u8],
+    around: &Surroundings,
+    steps: &[u8],
+    want: &[u8],
+) -> bool {
+    match owners_of(alloc, owned) {
+        Some(owners) => {
+            let mut owners = owners;
+            answers_in(alloc, &mut owners, around, steps, want)
+        }
+        None => false,
+    }
+}
+
+/// Whether the answer of a row is the one that is wanted.
+fn is_answered(alloc: Global, want: &[u8], words: &[u8], owned: &[u8], steps: &[u8]) -> bool {
+    match surroundings_of(alloc, words) {
+        Some(around) => answers_of(alloc, owned, &around, steps, want),
+        None => false,
+    }
+}
+
+fn first_lie(alloc: Global, rows: &'static [u8]) -> Option<&'static [u8]> {
+    for row in rows.split(|byte| *byte == b'\n') {
+        let (answer, asked) = parted(row, b'^');
+        let (words, rest) = parted(asked, b'^');
+        let (owned, steps) = parted(rest, b'^');
+        if !row.is_empty() && !is_answered(alloc, wanted(answer), words, owned, steps) {
+            return Some(row);
+        }
+    }
+    None
+}
+
+#[test]
+fn repositories_of_others_are_refused_and_borders_are_not_crossed(rt: HostRuntime) {
+    let alloc = rt.alloc();
+    assert_eq!(rt; first_lie(alloc, git::ANSWERS), None);
+    assert_eq!(rt; first_lie(alloc, git::DIFFERENCES), None);
+}

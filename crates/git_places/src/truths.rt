@@ -1,0 +1,58 @@
+//! What a variable of the environment says as a boolean.
+ghost use Rattle.std.specs.Prelude.{◌≡◌, Some, IfOk};
+ghost use Rattle.git_config_lite.specs.Booleans as booleans;
+ghost use Rattle.git_places.specs.Answers.{Decides};
+ghost use Rattle.git_places.specs.Truths as words;
+
+use crate::error::PlacesError;
+use git_config_lite::{Entry, File, Metadata, Section, Source};
+use gitbase_core::{Bytes, OutOfMemory};
+use std::alloc::Global;
+
+/// A configuration with one key `a.k`.
+fn with_value(alloc: Global, text: &[u8]) -> Result<File, OutOfMemory>
+    ensures { IfOk result (λ file. file.sections ≡ words.one_key text.now) }
+{
+    let meta = Metadata {
+        source: Source::Env,
+        path: None,
+    };
+    let mut section = Section::new(alloc, b"a", None, &meta)?;
+    section.push(Entry {
+        key: Bytes::from_slice(alloc, b"k")?,
+        value: Some(Bytes::from_slice(alloc, text)?),
+    })?;
+    let mut sections = Vec::new(alloc);
+    sections.push(section)?;
+    Ok(File::from_sections(alloc, meta, sections))
+}
+
+/// What a text says as a boolean, as the value of a key of a configuration does; none where it is no boolean.
+///
+/// # Errors
+///
+/// `OutOfMemory` for want of memory.
+pub fn truth_of_text(alloc: Global, text: &[u8]) -> Result<Option<bool>, OutOfMemory>
+    ensures { IfOk result (λ truth. truth ≡ booleans.truth text.now) }
+{
+    let file = with_value(alloc, text)?;
+    match file.boolean(b"a", None, b"k") {
+        Ok(Some(truth)) => Ok(Some(truth)),
+        _ => Ok(None),
+    }
+}
+
+/// What a variable says as a boolean, no where it is not set.
+pub fn truth_in(alloc: Global, name: &[u8], text: &Option<Bytes>) -> Result<bool, PlacesError>
+    ensures { Decides result (words.truth_in name.now text.now) }
+{
+    let Some(text) = text else {
+        return Ok(false);
+    };
+    match truth_of_text(alloc, text.as_bytes())? {
+        Some(truth) => Ok(truth),
+        None => Err(PlacesError::Value {
+            key: Bytes::from_slice(alloc, name)?,
+        }),
+    }
+}
