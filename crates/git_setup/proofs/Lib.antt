@@ -1,1 +1,3 @@
 pub mod Same
+mod Stands
+mod Refused

@@ -5,7 +5,7 @@ use Rattle.glob_rules.specs.PathSpecText.{spec_of}
 use Rattle.glob_rules.specs.declared.pathspec.Error.{Error}
 use Rattle.glob_rules.specs.declared.pathspec.Error.TheVariants as faults
 use Rattle.git_setup.specs.Placed.{beneath, placed}
-use Rattle.git_setup.specs.Steps.{and_then}
+use Rattle.gitbase_core.specs.Steps.{and_then}
 use Rattle.git_setup.specs.declared.error.GitRefusal.{GitRefusal}
 use Rattle.git_setup.specs.declared.error.GitRefusal.TheVariants as errors
 

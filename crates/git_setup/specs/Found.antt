@@ -5,11 +5,14 @@ use Rattle.gitbase_core.specs.declared.entry.IndexEntry.{IndexEntry}
 use Rattle.git_config_files.specs.Files.{Configured}
 use Rattle.git_config_files.specs.Rules.{rules_in}
 use Rattle.git_config_files.specs.Stack.{Stack, stack_at}
-use Rattle.git_places.specs.Ceilings.{ceilings_of}
-use Rattle.git_places.specs.Places.{Layout, layout_in}
+use Rattle.git_config_files.specs.Safe.{own_top}
+use Rattle.git_places.specs.Limits.{Limits, limits_of}
+use Rattle.git_places.specs.Places.{Layout, layout_of}
 use Rattle.git_places.specs.Surroundings.{Surroundings}
+use Rattle.git_places.specs.Upward.{Top, top_in}
 use Rattle.glob_rules.specs.PathSpec.{PathSpec}
 use Rattle.worktree_fs.specs.Changes.{real_path}
+use Rattle.worktree_fs.specs.Owners.{Owned}
 use Rattle.worktree_fs.specs.Tree.{Names}
 use Rattle.worktree_report.specs.ConfigFiles.{ConfigFile}
 use Rattle.worktree_report.specs.declared.setup.Setup.{Setup}
@@ -20,7 +23,8 @@ use Rattle.git_setup.specs.IndexAt.{entries_here, index_path}
 use Rattle.git_setup.specs.Present.{index_seen}
 use Rattle.git_setup.specs.Protected.{protected_in}
 use Rattle.git_setup.specs.Refusals.{as_files, as_places}
-use Rattle.git_setup.specs.Steps.{◌>>=◌, and_then}
+use Rattle.gitbase_core.specs.Steps.{and_then}
+use Rattle.git_setup.specs.Steps.{◌>>=◌}
 use Rattle.git_setup.specs.Switches.{switches_in}
 use Rattle.git_setup.specs.declared.asked.Asked.{Asked}
 use Rattle.git_setup.specs.declared.error.GitRefusal.{GitRefusal}
@@ -32,24 +36,22 @@ use Rattle.git_setup.specs.declared.switches.Switches.{Switches}
 
 -- ---- where
 
--- a variable that points git elsewhere is refused, before anything is asked
-abbrev pub unless_elsewhere : Option (List ℕ) → Result (List (List ℕ)) GitRefusal → Result (List (List ℕ)) GitRefusal
+-- the nearest work tree, if it is the user's or safe
+abbrev pub top_by : Names → Owned → Surroundings → Limits → Result Top GitRefusal
+top_by t owned around limits = do
+  top ← as_places (top_in limits t owned around.directory)
+  as_files (own_top t owned around top)
+
+-- that of the current directory; a variable that points git elsewhere is refused, before anything is asked
+abbrev pub top_here : Names → Owned → Surroundings → Result Top GitRefusal
+top_here t owned around = and_then (top_by t owned around) (as_places (limits_of t owned around))
+
+abbrev pub unless_elsewhere : Option (List ℕ) → Result Top GitRefusal → Result Top GitRefusal
 unless_elsewhere None given = given
 unless_elsewhere (Some name) given = Err (errors.Elsewhere name)
 
-abbrev pub ceilings_told : Names → Option (List ℕ) → List (List ℕ)
-ceilings_told t None = []
-ceilings_told t (Some text) = ceilings_of t text
-
-abbrev pub ceilings_in : Names → Surroundings → Result (List (List ℕ)) GitRefusal
-ceilings_in t around = unless_elsewhere around.elsewhere (Ok (ceilings_told t around.ceilings))
-
-abbrev pub places_by : Names → Surroundings → List (List ℕ) → Result Layout GitRefusal
-places_by t around ceilings = as_places (layout_in ceilings t around.directory)
-
--- the work tree around the current directory
-abbrev pub places_in : Names → Surroundings → Result Layout GitRefusal
-places_in t around = and_then (places_by t around) (ceilings_in t around)
+abbrev pub top_found : Names → Owned → Surroundings → Result Top GitRefusal
+top_found t owned around = unless_elsewhere around.elsewhere (top_here t owned around)
 
 -- ---- what is asked
 
@@ -125,15 +127,16 @@ setup_with git directory asked parts =
 abbrev pub found_with : Layout → Surroundings → Asked → Parts → Found
 found_with places around asked parts = record { root = places.root; setup = setup_with places.own around.directory asked parts }
 
--- what is found in a work tree
-abbrev pub found_by : Names → Surroundings → Asked → Layout → Result Found GitRefusal
-found_by t around asked places = do
+-- what is found at the top of a work tree
+unfoldable pub found_at : Names → Surroundings → Asked → Top → Result Found GitRefusal
+found_at t around asked top = do
+  places ← as_places (layout_of t top)
   read ← read_in t places around
   parts ← parts_by t places around asked read
   Ok (found_with places around asked parts)
 
 -- the setup that is found from the current directory, or the first refusal
-unfoldable pub found_in : Names → Surroundings → Asked → Result Found GitRefusal
-found_in t around asked = do
-  places ← places_in t around
-  found_by t around asked places
+unfoldable pub found_in : Names → Owned → Surroundings → Asked → Result Found GitRefusal
+found_in t owned around asked = do
+  top ← top_found t owned around
+  found_at t around asked top

@@ -5,7 +5,7 @@ use Rattle.git_index.specs.IndexFile.{Index, index_of_bytes}
 use Rattle.worktree_fs.specs.Changes.{from_directory}
 use Rattle.worktree_fs.specs.Tree.{Names, Look, found, absent, too_many_links, file, link, directory, other, look}
 use Rattle.git_setup.specs.Refusals.{as_read}
-use Rattle.git_setup.specs.Steps.{and_then}
+use Rattle.gitbase_core.specs.Steps.{and_then}
 use Rattle.git_setup.specs.declared.error.GitRefusal.{GitRefusal}
 use Rattle.git_setup.specs.declared.error.GitRefusal.TheVariants as errors
 

@@ -1,4 +1,3 @@
-pub mod Outcomes
 pub mod Finds
 pub mod Steps
 pub mod Refusals

@@ -7,7 +7,7 @@ use Rattle.glob_rules.specs.Glob.{is_special}
 use Rattle.glob_rules.specs.Marks.{colon, open_parenthesis}
 use Rattle.glob_rules.specs.PathSpecText.{is_close, is_mark, words_in}
 use Rattle.glob_rules.specs.Rule.{without_front}
-use Rattle.git_setup.specs.Steps.{and_then}
+use Rattle.gitbase_core.specs.Steps.{and_then}
 use Rattle.git_setup.specs.declared.error.GitRefusal.{GitRefusal}
 use Rattle.git_setup.specs.declared.error.GitRefusal.TheVariants as errors
 use Rattle.git_setup.specs.declared.placed.SpecText.{SpecText}

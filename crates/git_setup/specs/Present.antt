@@ -9,7 +9,7 @@ use Rattle.git_index.specs.Head.{flags_of}
 use Rattle.worktree_fs.specs.Answers.{kind_of}
 use Rattle.worktree_fs.specs.Tree.{Names, look}
 use Rattle.git_setup.specs.Refusals.{as_ordered}
-use Rattle.git_setup.specs.Steps.{and_then}
+use Rattle.gitbase_core.specs.Steps.{and_then}
 use Rattle.git_setup.specs.declared.error.GitRefusal.{GitRefusal}
 use Rattle.git_setup.specs.declared.error.GitRefusal.TheVariants as errors
 

@@ -7,6 +7,7 @@ use Rattle.git_config_files.specs.declared.error.FilesError.TheVariants as files
 use Rattle.git_index.specs.IndexFile.{Index}
 use Rattle.git_index.specs.declared.error.IndexFileError.{IndexFileError}
 use Rattle.git_index.specs.declared.error.IndexFileError.TheVariants as index
+use Rattle.git_places.specs.Answers.{refused_as}
 use Rattle.git_places.specs.declared.error.PlacesError.{PlacesError}
 use Rattle.git_places.specs.declared.error.PlacesError.TheVariants as places
 use Rattle.worktree_fs.specs.declared.answers.ReadError.{ReadError}
@@ -22,8 +23,11 @@ of_read read.OutOfMemory = errors.OutOfMemory
 -- of the search for the work tree
 abbrev pub of_places : PlacesError → GitRefusal
 of_places places.NoRepository = errors.Places places.NoRepository
+of_places (places.Border path) = errors.Places (places.Border path)
+of_places (places.NoDirectory path) = errors.Places (places.NoDirectory path)
 of_places (places.Bare path) = errors.Places (places.Bare path)
-of_places (places.GitFile path) = errors.Places (places.GitFile path)
+of_places (places.GitFileForm path) = errors.Places (places.GitFileForm path)
+of_places (places.GitFileTarget path) = errors.Places (places.GitFileTarget path)
 of_places (places.Version value) = errors.Places (places.Version value)
 of_places (places.Extension key) = errors.Places (places.Extension key)
 of_places places.Sha256 = errors.Places places.Sha256
@@ -34,8 +38,7 @@ of_places places.Fault = errors.Fault
 of_places places.OutOfMemory = errors.OutOfMemory
 
 abbrev pub as_places : {A : Type 0} → Result A PlacesError → Result A GitRefusal
-as_places (Ok answer) = Ok answer
-as_places (Err e) = Err (of_places e)
+as_places answer = refused_as of_places answer
 
 -- of the configurations and the rules files that they name
 abbrev pub of_files : FilesError → GitRefusal
@@ -45,14 +48,14 @@ of_files (files.NoFile path) = errors.Files (files.NoFile path)
 of_files (files.Home path) = errors.Files (files.Home path)
 of_files (files.Condition path) = errors.Files (files.Condition path)
 of_files (files.Depth path) = errors.Files (files.Depth path)
+of_files (files.Foreign path) = errors.Foreign path
 of_files (files.Value key) = errors.Files (files.Value key)
 of_files (files.Elsewhere name) = errors.Elsewhere name
 of_files files.Fault = errors.Fault
 of_files files.OutOfMemory = errors.OutOfMemory
 
 abbrev pub as_files : {A : Type 0} → Result A FilesError → Result A GitRefusal
-as_files (Ok answer) = Ok answer
-as_files (Err e) = Err (of_files e)
+as_files answer = refused_as of_files answer
 
 -- of the bytes of the index file at a path
 abbrev pub of_index : List ℕ → IndexFileError → GitRefusal

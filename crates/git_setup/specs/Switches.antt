@@ -2,7 +2,8 @@
 use Rattle.std.specs.Prelude.{ℕ, Bool, true, false, not, ◌&&◌, ◌++◌, List, codes, Option, Some, None, Result, Ok, Err}
 use Rattle.git_config_lite.specs.Lookups.{boolean}
 use Rattle.git_config_lite.specs.Sections.{Section}
-use Rattle.git_setup.specs.Steps.{◌>>=◌, and_then}
+use Rattle.gitbase_core.specs.Steps.{and_then}
+use Rattle.git_setup.specs.Steps.{◌>>=◌}
 use Rattle.git_setup.specs.declared.error.GitRefusal.{GitRefusal}
 use Rattle.git_setup.specs.declared.error.GitRefusal.TheVariants as errors
 use Rattle.git_setup.specs.declared.switches.Switches.{Switches}

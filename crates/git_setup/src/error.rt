@@ -17,6 +17,11 @@ pub enum GitRefusal {
     /// There is no work tree, or its repository is not read here. Never a fault, and never want of memory.
     #[error("Places")]
     Places(PlacesError),
+    /// The repository of the work tree at `path` belongs to another user, and no `safe.directory` names it.
+    #[error("Foreign")]
+    Foreign {
+        path: PathText,
+    },
     /// What stands at `path`, in the place of the index, is no file.
     #[error("IndexNode")]
     IndexNode {
@@ -34,8 +39,8 @@ pub enum GitRefusal {
         path: PathText,
         error: IndexError,
     },
-    /// A configuration, or a rules file that one names, is not read. Never a fault, never want of memory and never a variable of the
-    /// environment.
+    /// A configuration, or a rules file that one names, is not read. Never a fault, never want of memory, and none of those that have
+    /// a variant here.
     #[error("Files")]
     Files(FilesError),
     /// The value of this key of the configuration is no boolean.
@@ -75,7 +80,7 @@ pub enum GitRefusal {
     SubmoduleCase {
         path: PathText,
     },
-    /// The worktree failed, and counted that.
+    /// The worktree failed, or the owners, and counted that.
     #[error("Fault")]
     Fault,
     /// Want of memory.
@@ -132,6 +137,7 @@ impl From<FilesError> for GitRefusal {
     fn from(refused: FilesError) -> GitRefusal {
         match refused {
             FilesError::Elsewhere { name } => GitRefusal::Elsewhere { name },
+            FilesError::Foreign { path } => GitRefusal::Foreign { path },
             FilesError::Fault => GitRefusal::Fault,
             FilesError::OutOfMemory => GitRefusal::OutOfMemory,
             refused => GitRefusal::Files(refused),

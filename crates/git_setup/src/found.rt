@@ -1,16 +1,21 @@
 //! The setup that is found from the current directory.
-ghost use Rattle.std.specs.Prelude.{◌≡◌, Ok, IfOk};
-ghost use Rattle.git_setup.specs.Finds.{Decides, Finds};
+ghost use Rattle.std.specs.Prelude.{◌≡◌, IfOk};
+ghost use Rattle.git_config_files.specs.Safe.{own_top};
+ghost use Rattle.git_places.specs.Limits as bounds;
+ghost use Rattle.git_places.specs.Upward.{top_in};
+ghost use Rattle.git_setup.specs.Finds.{Finds, FindsWith};
 ghost use Rattle.git_setup.specs.Found as words;
+ghost use Rattle.git_setup.specs.Refusals.{as_files, as_places};
 
 use crate::asked::Asked;
 use crate::error::GitRefusal;
 use crate::parts::{Parts, is_for_deletion, parts_here};
 use crate::reading::read_here;
-use git_places::{Ceilings, Places, Surroundings, ceilings_of, find_places};
+use git_config_files::{FilesError, own_top};
+use git_places::{Limits, Places, PlacesError, Surroundings, Top, find_top, limits_of, places_of};
 use gitbase_core::{Bytes, MemoryStore, OutOfMemory, PathText};
 use std::alloc::Global;
-use worktree_fs::Worktree;
+use worktree_fs::{Owners, Worktree};
 use worktree_report::{Setup, SetupOptions};
 
 /// A work tree, and the setup that its repository gives.
@@ -22,19 +27,98 @@ pub struct Found {
     pub setup: Setup,
 }
 
-/// The directories into which the search does not go up, if the surroundings tell some.
-fn ceilings_told<W: Worktree>(
+/// An answer of the search for a work tree, its refusal as one of the whole.
+fn of_places<T: Drop>(answer: Result<T, PlacesError>) -> Result<T, GitRefusal>
+    ensures { result ≡ as_places answer }
+{
+    match answer {
+        Ok(given) => Ok(given),
+        Err(refused) => Err(GitRefusal::from(refused)),
+    }
+}
+
+/// The same of an answer by configurations.
+fn of_files<T: Drop>(answer: Result<T, FilesError>) -> Result<T, GitRefusal>
+    ensures { result ≡ as_files answer }
+{
+    match answer {
+        Ok(given) => Ok(given),
+        Err(refused) => Err(GitRefusal::from(refused)),
+    }
+}
+
+/// Where the search for the work tree ends.
+fn limits_here<W: Worktree, O: Owners>(
     alloc: Global,
     worktree: &mut W,
-    told: &Option<Bytes>,
-) -> Result<Ceilings, GitRefusal>
-    ensures { Finds W.Worktree worktree.old worktree.new
-        (λ t. Ok (words.ceilings_told t told.now)) result }
+    owners: &mut O,
+    around: &Surroundings,
+) -> Result<Limits, GitRefusal>
+    ensures { FindsWith W.Worktree O.Owners worktree.old worktree.new owners.old owners.new
+        (λ t owned. as_places (bounds.limits_of t owned around.now)) result }
 {
-    match told {
-        Some(text) => Ok(ceilings_of(alloc, worktree, text.as_bytes())?),
-        None => Ok(Ceilings::new(alloc)),
-    }
+    let answer = limits_of(alloc, worktree, owners, around);
+    of_places(answer)
+}
+
+/// The nearest work tree, whoever owns it.
+fn nearest_here<W: Worktree, O: Owners>(
+    alloc: Global,
+    worktree: &mut W,
+    owners: &mut O,
+    directory: &[u8],
+    limits: &Limits,
+) -> Result<Top, GitRefusal>
+    ensures { FindsWith W.Worktree O.Owners worktree.old worktree.new owners.old owners.new
+        (λ t owned. as_places (top_in limits.now t owned directory.now)) result }
+{
+    let answer = find_top(alloc, worktree, owners, directory, limits);
+    of_places(answer)
+}
+
+/// A work tree, if it is the user's or safe.
+fn own_here<W: Worktree, O: Owners>(
+    alloc: Global,
+    worktree: &mut W,
+    owners: &mut O,
+    around: &Surroundings,
+    top: Top,
+) -> Result<Top, GitRefusal>
+    ensures { FindsWith W.Worktree O.Owners worktree.old worktree.new owners.old owners.new
+        (λ t owned. as_files (own_top t owned around.now top)) result }
+{
+    let answer = own_top(alloc, worktree, owners, around, top);
+    of_files(answer)
+}
+
+/// The nearest work tree, if it is the user's or safe.
+fn top_by<W: Worktree, O: Owners>(
+    alloc: Global,
+    worktree: &mut W,
+    owners: &mut O,
+    around: &Surroundings,
+    limits: &Limits,
+) -> Result<Top, GitRefusal>
+    ensures { FindsWith W.Worktree O.Owners worktree.old worktree.new owners.old owners.new
+        (λ t owned. words.top_by t owned around.now limits.now) result }
+{
+    let directory = around.directory.as_bytes();
+    let top = nearest_here(alloc, worktree, owners, directory, limits)?;
+    own_here(alloc, worktree, owners, around, top)
+}
+
+/// That of the current directory.
+fn top_here<W: Worktree, O: Owners>(
+    alloc: Global,
+    worktree: &mut W,
+    owners: &mut O,
+    around: &Surroundings,
+) -> Result<Top, GitRefusal>
+    ensures { FindsWith W.Worktree O.Owners worktree.old worktree.new owners.old owners.new
+        (λ t owned. words.top_here t owned around.now) result }
+{
+    let limits = limits_here(alloc, worktree, owners, around)?;
+    top_by(alloc, worktree, owners, around, &limits)
 }
 
 /// The refusal of a variable that points git elsewhere.
@@ -46,32 +130,20 @@ fn elsewhere(alloc: Global, name: &[u8]) -> Result<GitRefusal, OutOfMemory>
     })
 }
 
-/// The directories into which the search does not go up, unless a variable points git elsewhere.
-fn ceilings_in<W: Worktree>(
+/// The nearest work tree, unless a variable points git elsewhere.
+fn top_found<W: Worktree, O: Owners>(
     alloc: Global,
     worktree: &mut W,
+    owners: &mut O,
     around: &Surroundings,
-) -> Result<Ceilings, GitRefusal>
-    ensures { Finds W.Worktree worktree.old worktree.new
-        (λ t. words.ceilings_in t around.now) result }
+) -> Result<Top, GitRefusal>
+    ensures { FindsWith W.Worktree O.Owners worktree.old worktree.new owners.old owners.new
+        (λ t owned. words.top_found t owned around.now) result }
 {
     if let Some(name) = &around.elsewhere {
         return Err(elsewhere(alloc, name.as_bytes())?);
     }
-    ceilings_told(alloc, worktree, &around.ceilings)
-}
-
-/// The work tree around the current directory.
-fn places_in<W: Worktree>(
-    alloc: Global,
-    worktree: &mut W,
-    around: &Surroundings,
-) -> Result<Places, GitRefusal>
-    ensures { Finds W.Worktree worktree.old worktree.new (λ t. words.places_in t around.now) result }
-{
-    let ceilings = ceilings_in(alloc, worktree, around)?;
-    let directory = around.directory.as_bytes();
-    Ok(find_places(alloc, worktree, directory, ceilings.as_slice())?)
+    top_here(alloc, worktree, owners, around)
 }
 
 /// The options, with one of them from the configuration.
@@ -145,17 +217,19 @@ fn found_with(
     })
 }
 
-/// What is found in a work tree.
-fn found_by<W: Worktree>(
+/// What is found at the top of a work tree.
+#[tactic(auto, unfolding(crate::specs::Found::found_at))]
+fn found_at<W: Worktree>(
     alloc: Global,
     worktree: &mut W,
     around: &Surroundings,
     asked: &Asked,
-    places: Places,
+    top: Top,
 ) -> Result<Found, GitRefusal>
     ensures { Finds W.Worktree worktree.old worktree.new
-        (λ t. words.found_by t around.now asked.now places) result }
+        (λ t. words.found_at t around.now asked.now top) result }
 {
+    let places = places_of(alloc, worktree, top)?;
     let read = read_here(alloc, worktree, &places, around)?;
     let parts = parts_here(alloc, worktree, &places, around, asked, read)?;
     Ok(found_with(alloc, places, around, asked, parts)?)
@@ -174,7 +248,9 @@ fn found_by<W: Worktree>(
 /// The first refusal, in this order:
 ///
 /// - `Elsewhere`: a variable of the environment points git elsewhere.
-/// - `Places`: there is no work tree, or its repository is not read here, as [`find_places`] says.
+/// - `Places`: there is no work tree, as [`limits_of`] and [`find_top`] say.
+/// - `Foreign`, `Files`: it is another user's, or a configuration that would say so is not read, as [`own_top`] says.
+/// - `Places`: its repository is not read here, as [`places_of`] says.
 /// - `IndexNode`, `IndexFile`: what stands in the place of the index is no file, or is outside the grammar of one.
 /// - `Files`: a configuration is not read, as [`git_config_files::read_stack`] says.
 /// - `Boolean`: `core.ignoreCase`, `core.sparseCheckout` or `sparse.expectFilesOutsideOfPatterns` is no boolean.
@@ -188,20 +264,21 @@ fn found_by<W: Worktree>(
 ///
 /// Besides, wherever it comes:
 ///
-/// - `Fault`: the worktree failed, which it counted. No fault reads as "nothing is there".
+/// - `Fault`: the worktree failed, or the owners, which they counted. No fault reads as "nothing is there".
 /// - `OutOfMemory` for want of memory.
 ///
 /// See docs/DECISIONS.md#setup-of-git.
 #[tactic(auto, unfolding(crate::specs::Found::found_in))]
-pub fn setup_here<W: Worktree>(
+pub fn setup_here<W: Worktree, O: Owners>(
     alloc: Global,
     worktree: &mut W,
+    owners: &mut O,
     around: &Surroundings,
     asked: &Asked,
 ) -> Result<Found, GitRefusal>
-    ensures { Finds W.Worktree worktree.old worktree.new
-        (λ t. words.found_in t around.now asked.now) result }
+    ensures { FindsWith W.Worktree O.Owners worktree.old worktree.new owners.old owners.new
+        (λ t owned. words.found_in t owned around.now asked.now) result }
 {
-    let places = places_in(alloc, worktree, around)?;
-    found_by(alloc, worktree, around, asked, places)
+    let top = top_found(alloc, worktree, owners, around)?;
+    found_at(alloc, worktree, around, asked, top)
 }

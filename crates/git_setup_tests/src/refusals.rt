@@ -1,14 +1,16 @@
 //! Refusals, of trees that are made by hand: each row has the word, letters for what is asked, the directory, the path spec, if there is
 //! one, and the steps behind those of a repository without entries. The letter `d` is for deletion, `e` for a variable that points
 //! elsewhere.
-use crate::tree::{asked_alone, asked_for, parted, surroundings_in, tree_of, usual_options};
+use crate::tree::{
+    asked_alone, asked_for, owners_of, parted, surroundings_in, tree_of, usual_options,
+};
 use bstr::ByteSlice;
 use dir_classify::ForDeletionMode;
 use git_places::Surroundings;
 use git_setup::{Asked, Found, GitRefusal, setup_here};
 use gitbase_core::{Bytes, PathText};
 use std::alloc::Global;
-use worktree_fs::MemoryWorktree;
+use worktree_fs::{MemoryOwners, MemoryWorktree};
 use worktree_report::SetupOptions;
 
 /// A repository without entries, and directories `d` and `g[x]`.
@@ -19,6 +21,8 @@ const ROWS: &[u8] = b"\
 ok^^/w/r/d^^\n\
 elsewhere^e^/w/r^^f /w/r/.git/index=x\n\
 places^^/w/x^^\n\
+foreign /w/x^^/w/x^^d /w/x/.git/objects;d /w/x/.git/refs;f /w/x/.git/HEAD=ref: refs/heads/main$\n\
+ok^^/w/x^^f /w/h/.gitconfig=[safe]$directory=/w/x$;d /w/x/.git/objects;d /w/x/.git/refs;f /w/x/.git/HEAD=ref: refs/heads/main$\n\
 node^^/w/r^^d /w/r/.git/index\n\
 node^^/w/r^^l /w/r/.git/index=index\n\
 ok^^/w/r^^l /w/r/.git/index=nowhere\n\
@@ -74,6 +78,7 @@ fn is_refused(error: &GitRefusal, want: &[u8]) -> bool {
     match error {
         GitRefusal::Elsewhere { .. } => want == b"elsewhere".as_slice(),
         GitRefusal::Places(_) => want == b"places".as_slice(),
+        GitRefusal::Foreign { path } => is_text(want, b"foreign", path.as_bytes()),
         GitRefusal::IndexNode { .. } => want == b"node".as_slice(),
         GitRefusal::IndexFile { path, .. } => is_text(want, b"index", path.as_bytes()),
         GitRefusal::IndexEntry { error, .. } => is_entry(want, error),
@@ -98,11 +103,12 @@ fn is_refused_path(error: &GitRefusal, want: &[u8]) -> bool {
 fn answers(
     alloc: Global,
     tree: &mut MemoryWorktree,
+    owners: &mut MemoryOwners,
     around: &Surroundings,
     asked: &Asked,
     want: &[u8],
 ) -> bool {
-    match setup_here(alloc, tree, around, asked) {
+    match setup_here(alloc, tree, owners, around, asked) {
         Ok(_) => want == b"ok".as_slice(),
         Err(error) => is_refused(&error, want),
     }
@@ -150,9 +156,10 @@ fn is_answered(alloc: Global, want: &[u8], letters: &[u8], rest: &[u8]) -> Optio
     let (spec, steps) = parted(rest, b'^');
     let all = steps_of(alloc, steps)?;
     let mut tree = tree_of(alloc, &all)?;
+    let mut owners = owners_of(alloc).ok()?;
     let around = around_of(alloc, letters, directory)?;
     let asked = asked_of(alloc, letters, spec)?;
-    Some(answers(alloc, &mut tree, &around, &asked, want))
+    Some(answers(alloc, &mut tree, &mut owners, &around, &asked, want))
 }
 
 /// Whether a row is met.

@@ -5,7 +5,7 @@ use git_setup::{Asked, Found, GitRefusal, setup_here};
 use gitbase_core::{Bytes, OutOfMemory, PathText};
 use hex;
 use std::alloc::Global;
-use worktree_fs::{MemoryWorktree, NewNode};
+use worktree_fs::{MemoryOwners, MemoryWorktree, NewNode, OwnedNode, Ownership};
 use worktree_report::{Setup, SetupOptions};
 
 /// What stands before the first byte of this kind, and behind it.
@@ -81,6 +81,8 @@ pub fn surroundings_in(alloc: Global, directory: &[u8]) -> Option<Surroundings> 
         config_system: Bytes::from_slice(alloc, b"/w/etc").ok(),
         no_system: None,
         ceilings: None,
+        across: Bytes::from_slice(alloc, b"1").ok(),
+        sudo_user: None,
         elsewhere: None,
     })
 }
@@ -113,6 +115,25 @@ pub fn asked_alone(alloc: Global, options: SetupOptions) -> Asked {
     }
 }
 
+/// The nodes that are the user's.
+const OWNED: &[u8] =
+    b"/proc/self /w/r /w/r/.git /w/t /w/t/.git /w/r/.git/worktrees/t /w/r/s /w/r/s/.git /w/r/s/../.git/modules/s";
+
+/// Owners by whom each of these nodes is the user's.
+pub fn owners_of(alloc: Global) -> Result<MemoryOwners, OutOfMemory> {
+    let mut nodes = Vec::new(alloc);
+    for path in OWNED.split(|byte| *byte == b' ') {
+        nodes.push(OwnedNode {
+            path: Bytes::from_slice(alloc, path)?,
+            ownership: Ownership {
+                owner: 7,
+                device: 1,
+            },
+        })?;
+    }
+    Ok(MemoryOwners::new(nodes))
+}
+
 /// What is found in the tree of some steps, from a directory.
 pub fn found_in(
     alloc: Global,
@@ -121,6 +142,7 @@ pub fn found_in(
     asked: &Asked,
 ) -> Option<Result<Found, GitRefusal>> {
     let mut tree = tree_of(alloc, steps)?;
+    let mut owners = owners_of(alloc).ok()?;
     let around = surroundings_in(alloc, directory)?;
-    Some(setup_here(alloc, &mut tree, &around, asked))
+    Some(setup_here(alloc, &mut tree, &mut owners, &around, asked))
 }

@@ -1,9 +1,11 @@
 -- What follows of how the top call ends.
 use Rattle.std.proofs.Common.{◌≡◌, ◌⊎◌, inl, inr, ℕ, List, Bool, Option, Some, Result, Ok, Err, sym, ap, ◌∙◌, subst, refl, arith}
 use Rattle.worktree_fs.specs.declared.interrupt.Interrupt.{Ghosts as InterruptOf}
+use Rattle.worktree_fs.specs.declared.owners.Owners.{Ghosts as OwnersOf}
 use Rattle.worktree_fs.specs.declared.sink.Sink.{Ghosts as SinkOf}
 use Rattle.worktree_fs.specs.declared.worktree.Worktree.{Ghosts as WorktreeOf}
 use Rattle.worktree_fs.specs.Causes.{Increased, NotIncreased}
+use Rattle.worktree_fs.specs.Owners.{Owned}
 use Rattle.worktree_fs.specs.Tree.{Names}
 use Rattle.worktree_report.specs.declared.refusal.Refusal.{Refusal}
 use Rattle.worktree_report.specs.declared.refusal.Refusal.TheVariants as refusals
@@ -11,7 +13,7 @@ use Rattle.worktree_report.specs.Written.{Appends}
 use Rattle.command_line.specs.Requests.{Asking, Command as Commands, asks, is_misuse, request_in}
 use Rattle.command_line.specs.declared.misuse.Wrong.{Wrong}
 use Rattle.command_line.specs.declared.verb.Topic.{Topic}
-use Rattle.git_setup.specs.Outcomes.{GivesBy}
+use Rattle.git_places.specs.Answers.{GivesBy}
 use Rattle.git_setup.specs.declared.found.Found.{Found}
 use Rattle.tizhagor.specs.declared.call.Call.{Call}
 use Rattle.tizhagor.specs.declared.refusal.HereRefusal.{HereRefusal}
@@ -138,39 +140,48 @@ module _ {S E : Type 0} (s : SinkOf S) (e : SinkOf E) (s0 s1 : S) (e0 e1 : E) (s
 
 -- ---- a task
 
-module _ {W I : Type 0} (w : WorktreeOf W) (i : InterruptOf I) (w0 w1 : W) (i0 i1 : I) where
-  call_unfaulted : (found : Names → Result Found HereRefusal) (call : Call) (writing : Writing) (bytes : List ℕ) → Writes w i w0 w1 i0 i1 found call writing bytes
+module _ {W I O : Type 0} (w : WorktreeOf W) (i : InterruptOf I) (o : OwnersOf O) (w0 w1 : W) (i0 i1 : I) (o0 o1 : O) where
+  call_unfaulted : (found : Names → Owned → Result Found HereRefusal) (call : Call) (writing : Writing) (bytes : List ℕ) → Writes w i o w0 w1 i0 i1 o0 o1 found call writing bytes
       → IsUnfaultedBy call (w.faults w0) (w.faults w1)
   call_unfaulted found call writing bytes a =
       subst (λ (n : ℕ). IsUnfaultedBy call n (w.faults w1)) a.by.unfaulted (calls.unfaulted w i a.by.loaded w1 i0 i1 a.by.here.root a.by.here.setup call a.text a.by.made)
 
-  call_bytes : (found : Names → Result Found HereRefusal) (call : Call) (writing : Writing) (bytes : List ℕ) → Writes w i w0 w1 i0 i1 found call writing bytes
-      → (t : Names) → w.told w0 ≡ Some t → IsQuietFor call (w.faults w0) (w.faults w1) → output.IsBytesOf (w.precomposes w0) t found call writing bytes
-  call_bytes found call writing bytes a t told quiet =
+  call_bytes : (found : Names → Owned → Result Found HereRefusal) (call : Call) (writing : Writing) (bytes : List ℕ) → Writes w i o w0 w1 i0 i1 o0 o1 found call writing bytes
+      → (t : Names) (owned : Owned) → w.told w0 ≡ Some t → o.told o0 ≡ Some owned → IsQuietFor call (w.faults w0) (w.faults w1) → output.IsBytesOf (w.precomposes w0) t (found t owned) call writing bytes
+  call_bytes found call writing bytes a t owned told tells quiet =
       let text_is : IsTextOf call (w.precomposes w0) t a.by.here.root a.by.here.setup a.text =
       subst (λ (b : Bool). IsTextOf call b t a.by.here.root a.by.here.setup a.text) a.by.asks.precomposes
       (calls.text_is w i a.by.loaded w1 i0 i1 a.by.here.root a.by.here.setup call a.text a.by.made t (a.by.asks.tree ∙ told)
       (subst (λ (n : ℕ). IsQuietFor call n (w.faults w1)) (sym a.by.unfaulted) quiet)) in
       record {
         here = a.by.here;
-        found_is = a.by.is t told;
+        found_is = a.by.is t owned told tells;
         text = a.text;
         text_is = text_is;
         bytes_is = a.bytes_is;
         same = λ path read. calls.joins call (w.precomposes w0) t a.by.here.root path a.by.here.setup a.text read text_is;
       }
 
-  task_unfaulted : (place : Place) (directory : Option (List ℕ)) (task : Task) (bytes : List ℕ) → AnswersTask w i w0 w1 i0 i1 place directory (Ok bytes) task → output.IsUnfaultedFor (w.faults w0) (w.faults w1) task
+  task_unfaulted : (place : Place) (directory : Option (List ℕ)) (task : Task) (bytes : List ℕ) → AnswersTask w i o w0 w1 i0 i1 o0 o1 place directory (Ok bytes) task → output.IsUnfaultedFor (w.faults w0) (w.faults w1) task
   task_unfaulted place directory (call_of call asked writing) bytes a = call_unfaulted (found_at place directory asked) call writing bytes a
   task_unfaulted place directory (offer_of text) bytes a = ap w.faults a.worktree
 
-  task_bytes : (place : Place) (directory : Option (List ℕ)) (task : Task) (bytes : List ℕ) → AnswersTask w i w0 w1 i0 i1 place directory (Ok bytes) task
-      → (t : Names) → w.told w0 ≡ Some t → output.IsQuietWith (w.faults w0) (w.faults w1) task → output.IsBytesFor (w.precomposes w0) t place directory bytes task
-  task_bytes place directory (call_of call asked writing) bytes a t told quiet = call_bytes (found_at place directory asked) call writing bytes a t told quiet
-  task_bytes place directory (offer_of text) bytes a t told quiet = a.gives
+  -- and the owners failed at nothing
+  task_owners : (place : Place) (directory : Option (List ℕ)) (task : Task) (bytes : List ℕ) → AnswersTask w i o w0 w1 i0 i1 o0 o1 place directory (Ok bytes) task → o.faults o1 ≡ o.faults o0
+  task_owners place directory (call_of call asked writing) bytes a = a.by.owners_unfaulted
+  task_owners place directory (offer_of text) bytes a = ap o.faults a.owners
+
+  task_bytes : (place : Place) (directory : Option (List ℕ)) (task : Task) (bytes : List ℕ) → AnswersTask w i o w0 w1 i0 i1 o0 o1 place directory (Ok bytes) task
+      → (t : Names) (owned : Owned) → w.told w0 ≡ Some t → o.told o0 ≡ Some owned → output.IsQuietWith (w.faults w0) (w.faults w1) task → output.IsBytesFor (w.precomposes w0) t owned place directory bytes task
+  task_bytes place directory (call_of call asked writing) bytes a t owned told tells quiet = call_bytes (found_at place directory asked) call writing bytes a t owned told tells quiet
+  task_bytes place directory (offer_of text) bytes a t owned told tells quiet = a.gives
+
+  -- a fault was counted, and none was
+  no_fault : Increased (w.faults w0) (w.faults w1) ⊎ Increased (o.faults o0) (o.faults o1) → NotIncreased (w.faults w0) (w.faults w1) → NotIncreased (o.faults o0) (o.faults o1) → ⊥
+  no_fault failed quiet owners_quiet = elim failed [ inl rose ↦ omega (arith, rose, quiet) | inr rose ↦ omega (arith, rose, owners_quiet) ]
 
   -- a refusal is not one of the words
-  call_not_misuse : (found : Names → Result Found HereRefusal) (call : Call) (writing : Writing) (e : HereRefusal) → AnswersCall w i w0 w1 i0 i1 found call writing (Err e) → status_of e ≡ 129 → ⊥
+  call_not_misuse : (found : Names → Owned → Result Found HereRefusal) (call : Call) (writing : Writing) (e : HereRefusal) → AnswersCall w i o w0 w1 i0 i1 o0 o1 found call writing (Err e) → status_of e ≡ 129 → ⊥
   call_not_misuse found call writing e a is =
       elim a [
         | inl (inl none) ↦ finding_not_misuse e none.of is
@@ -178,12 +189,12 @@ module _ {W I : Type 0} (w : WorktreeOf W) (i : InterruptOf I) (w0 w1 : W) (i0 i
         | inr unwritten ↦ absurd (let same = memory_not e 129 unwritten.e_is is in omega (arith, same))
       ]
 
-  task_not_misuse : (place : Place) (directory : Option (List ℕ)) (task : Task) (e : HereRefusal) → AnswersTask w i w0 w1 i0 i1 place directory (Err e) task → status_of e ≡ 129 → ⊥
+  task_not_misuse : (place : Place) (directory : Option (List ℕ)) (task : Task) (e : HereRefusal) → AnswersTask w i o w0 w1 i0 i1 o0 o1 place directory (Err e) task → status_of e ≡ 129 → ⊥
   task_not_misuse place directory (call_of call asked writing) e a is = call_not_misuse (found_at place directory asked) call writing e a is
   task_not_misuse place directory (offer_of text) e a is = absurd (let same = memory_not e 129 a.refused is in omega (arith, same))
 
   -- an interrupt was raised
-  call_interrupted : (found : Names → Result Found HereRefusal) (call : Call) (writing : Writing) (e : HereRefusal) → AnswersCall w i w0 w1 i0 i1 found call writing (Err e) → status_of e ≡ 130 → Increased (i.raised i0) (i.raised i1)
+  call_interrupted : (found : Names → Owned → Result Found HereRefusal) (call : Call) (writing : Writing) (e : HereRefusal) → AnswersCall w i o w0 w1 i0 i1 o0 o1 found call writing (Err e) → status_of e ≡ 130 → Increased (i.raised i0) (i.raised i1)
   call_interrupted found call writing e a is =
       elim a [
         | inl (inl none) ↦ absurd (finding_not_interrupted e none.of is)
@@ -192,43 +203,43 @@ module _ {W I : Type 0} (w : WorktreeOf W) (i : InterruptOf I) (w0 w1 : W) (i0 i
         | inr unwritten ↦ absurd (let same = memory_not e 130 unwritten.e_is is in omega (arith, same))
       ]
 
-  task_interrupted : (place : Place) (directory : Option (List ℕ)) (task : Task) (e : HereRefusal) → AnswersTask w i w0 w1 i0 i1 place directory (Err e) task → status_of e ≡ 130 → Increased (i.raised i0) (i.raised i1)
+  task_interrupted : (place : Place) (directory : Option (List ℕ)) (task : Task) (e : HereRefusal) → AnswersTask w i o w0 w1 i0 i1 o0 o1 place directory (Err e) task → status_of e ≡ 130 → Increased (i.raised i0) (i.raised i1)
   task_interrupted place directory (call_of call asked writing) e a is = call_interrupted (found_at place directory asked) call writing e a is
   task_interrupted place directory (offer_of text) e a is = absurd (let same = memory_not e 130 a.refused is in omega (arith, same))
 
   -- what is refused over a tree
-  call_refused : (found : Names → Result Found HereRefusal) (call : Call) (writing : Writing) (e : HereRefusal) → AnswersCall w i w0 w1 i0 i1 found call writing (Err e)
-      → (t : Names) → w.told w0 ≡ Some t → NotIncreased (w.faults w0) (w.faults w1) → (e ≡ memory) ⊎ output.RefusesCall t found e
-  call_refused found call writing e a t told quiet =
+  call_refused : (found : Names → Owned → Result Found HereRefusal) (call : Call) (writing : Writing) (e : HereRefusal) → AnswersCall w i o w0 w1 i0 i1 o0 o1 found call writing (Err e)
+      → (t : Names) (owned : Owned) → w.told w0 ≡ Some t → o.told o0 ≡ Some owned → NotIncreased (w.faults w0) (w.faults w1) → NotIncreased (o.faults o0) (o.faults o1) → (e ≡ memory) ⊎ output.RefusesCall (found t owned) e
+  call_refused found call writing e a t owned told tells quiet owners_quiet =
       elim a [
-        | inl (inl none) ↦ elim (none.is t told) [
+        | inl (inl none) ↦ elim (none.is t owned told tells) [
           | inl is ↦ inr (inl is)
-          | inr (inl is) ↦ absurd (let rose = none.cause is in omega (arith, rose, quiet))
+          | inr (inl is) ↦ absurd (no_fault (none.cause is) quiet owners_quiet)
           | inr (inr is) ↦ inl is
         ]
-        | inl (inr refused) ↦ inr (inr (refused.by.here, refused.by.is t told, refused.refusal, refused.e_is))
+        | inl (inr refused) ↦ inr (inr (refused.by.here, refused.by.is t owned told tells, refused.refusal, refused.e_is))
         | inr unwritten ↦ inl unwritten.e_is
       ]
 
-  task_refused : (place : Place) (directory : Option (List ℕ)) (task : Task) (e : HereRefusal) → AnswersTask w i w0 w1 i0 i1 place directory (Err e) task
-      → (t : Names) → w.told w0 ≡ Some t → NotIncreased (w.faults w0) (w.faults w1) → (e ≡ memory) ⊎ output.RefusesFor t place directory e task
-  task_refused place directory (call_of call asked writing) e a t told quiet = call_refused (found_at place directory asked) call writing e a t told quiet
-  task_refused place directory (offer_of text) e a t told quiet = inl a.refused
+  task_refused : (place : Place) (directory : Option (List ℕ)) (task : Task) (e : HereRefusal) → AnswersTask w i o w0 w1 i0 i1 o0 o1 place directory (Err e) task
+      → (t : Names) (owned : Owned) → w.told w0 ≡ Some t → o.told o0 ≡ Some owned → NotIncreased (w.faults w0) (w.faults w1) → NotIncreased (o.faults o0) (o.faults o1) → (e ≡ memory) ⊎ output.RefusesFor t owned place directory e task
+  task_refused place directory (call_of call asked writing) e a t owned told tells quiet owners_quiet = call_refused (found_at place directory asked) call writing e a t owned told tells quiet owners_quiet
+  task_refused place directory (offer_of text) e a t owned told tells quiet owners_quiet = inl a.refused
 
   -- for what can be had only memory may be wanted
-  call_complete : (found : Names → Result Found HereRefusal) (call : Call) (writing : Writing) (e : HereRefusal) → AnswersCall w i w0 w1 i0 i1 found call writing (Err e)
-      → (t : Names) → w.told w0 ≡ Some t → NotIncreased (w.faults w0) (w.faults w1) → NotIncreased (i.raised i0) (i.raised i1)
-      → output.IsReadyAt (w.precomposes w0) t found call → e ≡ memory
-  call_complete found call writing e a t told quiet calm ready =
+  call_complete : (found : Names → Owned → Result Found HereRefusal) (call : Call) (writing : Writing) (e : HereRefusal) → AnswersCall w i o w0 w1 i0 i1 o0 o1 found call writing (Err e)
+      → (t : Names) (owned : Owned) → w.told w0 ≡ Some t → o.told o0 ≡ Some owned → NotIncreased (w.faults w0) (w.faults w1) → NotIncreased (o.faults o0) (o.faults o1) → NotIncreased (i.raised i0) (i.raised i1)
+      → output.IsReadyAt (w.precomposes w0) t (found t owned) call → e ≡ memory
+  call_complete found call writing e a t owned told tells quiet owners_quiet calm ready =
       elim a [
-        | inl (inl none) ↦ elim (none.is t told) [
+        | inl (inl none) ↦ elim (none.is t owned told tells) [
           | inl is ↦ absurd (not_found (sym ready.found_is ∙ is))
-          | inr (inl is) ↦ absurd (let rose = none.cause is in omega (arith, rose, quiet))
+          | inr (inl is) ↦ absurd (no_fault (none.cause is) quiet owners_quiet)
           | inr (inr is) ↦ is
         ]
         | inl (inr refused) ↦
             let by = refused.by in
-            let same : ready.here ≡ by.here = same_found (sym ready.found_is ∙ by.is t told) in
+            let same : ready.here ≡ by.here = same_found (sym ready.found_is ∙ by.is t owned told tells) in
             refused.e_is ∙ ap errors.Program
             (calls.complete w i by.loaded w1 i0 i1 by.here.root by.here.setup call refused.refusal by.made t (by.asks.tree ∙ told)
             (subst (λ (n : ℕ). NotIncreased n (w.faults w1)) (sym by.unfaulted) quiet) calm
@@ -237,59 +248,73 @@ module _ {W I : Type 0} (w : WorktreeOf W) (i : InterruptOf I) (w0 w1 : W) (i0 i
         | inr unwritten ↦ unwritten.e_is
       ]
 
-  task_complete : (place : Place) (directory : Option (List ℕ)) (task : Task) (e : HereRefusal) → AnswersTask w i w0 w1 i0 i1 place directory (Err e) task
-      → (t : Names) → w.told w0 ≡ Some t → NotIncreased (w.faults w0) (w.faults w1) → NotIncreased (i.raised i0) (i.raised i1)
-      → output.IsReadyWith (w.precomposes w0) t place directory task → e ≡ memory
-  task_complete place directory (call_of call asked writing) e a t told quiet calm ready = call_complete (found_at place directory asked) call writing e a t told quiet calm ready
-  task_complete place directory (offer_of text) e a t told quiet calm ready = a.refused
+  task_complete : (place : Place) (directory : Option (List ℕ)) (task : Task) (e : HereRefusal) → AnswersTask w i o w0 w1 i0 i1 o0 o1 place directory (Err e) task
+      → (t : Names) (owned : Owned) → w.told w0 ≡ Some t → o.told o0 ≡ Some owned → NotIncreased (w.faults w0) (w.faults w1) → NotIncreased (o.faults o0) (o.faults o1) → NotIncreased (i.raised i0) (i.raised i1)
+      → output.IsReadyWith (w.precomposes w0) t owned place directory task → e ≡ memory
+  task_complete place directory (call_of call asked writing) e a t owned told tells quiet owners_quiet calm ready = call_complete (found_at place directory asked) call writing e a t owned told tells quiet owners_quiet calm ready
+  task_complete place directory (offer_of text) e a t owned told tells quiet owners_quiet calm ready = a.refused
 
 -- ---- the call
 
-module _ {W I S E : Type 0} (w : WorktreeOf W) (i : InterruptOf I) (s : SinkOf S) (e : SinkOf E) (w0 w1 : W) (i0 i1 : I) (s0 s1 : S) (e0 e1 : E) (place : Place) (words : List (List ℕ)) (status : ℕ) where
-  bytes_unfaulted : (bytes : List ℕ) → AnswersHere w i w0 w1 i0 i1 place words (Ok bytes) → output.IsUnfaultedHere place words (w.faults w0) (w.faults w1)
+module _ {W I O S E : Type 0} (w : WorktreeOf W) (i : InterruptOf I) (o : OwnersOf O) (s : SinkOf S) (e : SinkOf E) (w0 w1 : W) (i0 i1 : I) (o0 o1 : O) (s0 s1 : S) (e0 e1 : E) (place : Place) (words : List (List ℕ)) (status : ℕ) where
+  bytes_unfaulted : (bytes : List ℕ) → AnswersHere w i o w0 w1 i0 i1 o0 o1 place words (Ok bytes) → output.IsUnfaultedHere place words (w.faults w0) (w.faults w1)
   bytes_unfaulted bytes a =
       elim a [
-        | inl of ↦ record { request = of.request; asked = of.asked; unfaulted = task_unfaulted w i w0 w1 i0 i1 place of.request.directory (task_of place.takes_colors of.request.command) bytes of.answers }
+        | inl of ↦ record { request = of.request; asked = of.asked; unfaulted = task_unfaulted w i o w0 w1 i0 i1 o0 o1 place of.request.directory (task_of place.takes_colors of.request.command) bytes of.answers }
         | inr (inl wrong) ↦ absurd (no_text wrong.answer_is)
         | inr (inr unread) ↦ absurd (no_text unread.answer_is)
       ]
 
-  bytes_output : (bytes : List ℕ) → AnswersHere w i w0 w1 i0 i1 place words (Ok bytes) → (t : Names) → w.told w0 ≡ Some t
-      → output.IsOutputHere (w.precomposes w0) t place words (w.faults w0) (w.faults w1) bytes
-  bytes_output bytes a t told =
+  bytes_owners : (bytes : List ℕ) → AnswersHere w i o w0 w1 i0 i1 o0 o1 place words (Ok bytes) → o.faults o1 ≡ o.faults o0
+  bytes_owners bytes a =
       elim a [
-        | inl of ↦ record { request = of.request; asked = of.asked; bytes_is = λ quiet. task_bytes w i w0 w1 i0 i1 place of.request.directory (task_of place.takes_colors of.request.command) bytes of.answers t told quiet }
+        | inl of ↦ task_owners w i o w0 w1 i0 i1 o0 o1 place of.request.directory (task_of place.takes_colors of.request.command) bytes of.answers
         | inr (inl wrong) ↦ absurd (no_text wrong.answer_is)
         | inr (inr unread) ↦ absurd (no_text unread.answer_is)
       ]
 
-  pub unfaulted : (answer : Result (List ℕ) HereRefusal) → AnswersHere w i w0 w1 i0 i1 place words answer → EndsHere s e s0 s1 e0 e1 answer status
+  bytes_output : (bytes : List ℕ) → AnswersHere w i o w0 w1 i0 i1 o0 o1 place words (Ok bytes) → (t : Names) (owned : Owned) → w.told w0 ≡ Some t → o.told o0 ≡ Some owned
+      → output.IsOutputHere (w.precomposes w0) t owned place words (w.faults w0) (w.faults w1) bytes
+  bytes_output bytes a t owned told tells =
+      elim a [
+        | inl of ↦ record { request = of.request; asked = of.asked; bytes_is = λ quiet. task_bytes w i o w0 w1 i0 i1 o0 o1 place of.request.directory (task_of place.takes_colors of.request.command) bytes of.answers t owned told tells quiet }
+        | inr (inl wrong) ↦ absurd (no_text wrong.answer_is)
+        | inr (inr unread) ↦ absurd (no_text unread.answer_is)
+      ]
+
+  pub unfaulted : (answer : Result (List ℕ) HereRefusal) → AnswersHere w i o w0 w1 i0 i1 o0 o1 place words answer → EndsHere s e s0 s1 e0 e1 answer status
       → status ≡ 0 → output.IsUnfaultedHere place words (w.faults w0) (w.faults w1)
   unfaulted answer a ends zero =
       let wrote = ends_in_zero s e s0 s1 e0 e1 status answer ends zero in
-      bytes_unfaulted wrote.0 (subst (λ (x : Result (List ℕ) HereRefusal). AnswersHere w i w0 w1 i0 i1 place words x) wrote.1 a)
+      bytes_unfaulted wrote.0 (subst (λ (x : Result (List ℕ) HereRefusal). AnswersHere w i o w0 w1 i0 i1 o0 o1 place words x) wrote.1 a)
 
-  pub gives : (answer : Result (List ℕ) HereRefusal) → AnswersHere w i w0 w1 i0 i1 place words answer → EndsHere s e s0 s1 e0 e1 answer status
-      → (t : Names) → w.told w0 ≡ Some t → status ≡ 0
-      → (bytes : List ℕ) × output.IsOutputHere (w.precomposes w0) t place words (w.faults w0) (w.faults w1) bytes × Appends (s.written s0) (s.written s1) bytes
-  gives answer a ends t told zero =
+  pub owners_unfaulted : (answer : Result (List ℕ) HereRefusal) → AnswersHere w i o w0 w1 i0 i1 o0 o1 place words answer → EndsHere s e s0 s1 e0 e1 answer status
+      → status ≡ 0 → o.faults o1 ≡ o.faults o0
+  owners_unfaulted answer a ends zero =
       let wrote = ends_in_zero s e s0 s1 e0 e1 status answer ends zero in
-      (wrote.0, bytes_output wrote.0 (subst (λ (x : Result (List ℕ) HereRefusal). AnswersHere w i w0 w1 i0 i1 place words x) wrote.1 a) t told, wrote.2)
+      bytes_owners wrote.0 (subst (λ (x : Result (List ℕ) HereRefusal). AnswersHere w i o w0 w1 i0 i1 o0 o1 place words x) wrote.1 a)
 
-  error_misuse : (refusal : HereRefusal) → AnswersHere w i w0 w1 i0 i1 place words (Err refusal) → status_of refusal ≡ 129 → IsMisuse words
+  pub gives : (answer : Result (List ℕ) HereRefusal) → AnswersHere w i o w0 w1 i0 i1 o0 o1 place words answer → EndsHere s e s0 s1 e0 e1 answer status
+      → (t : Names) (owned : Owned) → w.told w0 ≡ Some t → o.told o0 ≡ Some owned → status ≡ 0
+      → (bytes : List ℕ) × output.IsOutputHere (w.precomposes w0) t owned place words (w.faults w0) (w.faults w1) bytes × Appends (s.written s0) (s.written s1) bytes
+  gives answer a ends t owned told tells zero =
+      let wrote = ends_in_zero s e s0 s1 e0 e1 status answer ends zero in
+      (wrote.0, bytes_output wrote.0 (subst (λ (x : Result (List ℕ) HereRefusal). AnswersHere w i o w0 w1 i0 i1 o0 o1 place words x) wrote.1 a) t owned told tells, wrote.2)
+
+  error_misuse : (refusal : HereRefusal) → AnswersHere w i o w0 w1 i0 i1 o0 o1 place words (Err refusal) → status_of refusal ≡ 129 → IsMisuse words
   error_misuse refusal a is =
       elim a [
-        | inl of ↦ absurd (task_not_misuse w i w0 w1 i0 i1 place of.request.directory (task_of place.takes_colors of.request.command) refusal of.answers is)
+        | inl of ↦ absurd (task_not_misuse w i o w0 w1 i0 i1 o0 o1 place of.request.directory (task_of place.takes_colors of.request.command) refusal of.answers is)
         | inr (inl wrong) ↦ wrong.misuse
         | inr (inr unread) ↦ absurd (let same = memory_not refusal 129 (same_error unread.answer_is) is in omega (arith, same))
       ]
 
-  pub misuse : (answer : Result (List ℕ) HereRefusal) → AnswersHere w i w0 w1 i0 i1 place words answer → EndsHere s e s0 s1 e0 e1 answer status → status ≡ 129 → IsMisuse words
+  pub misuse : (answer : Result (List ℕ) HereRefusal) → AnswersHere w i o w0 w1 i0 i1 o0 o1 place words answer → EndsHere s e s0 s1 e0 e1 answer status → status ≡ 129 → IsMisuse words
   misuse answer a ends is =
       let refused = ends_above s e s0 s1 e0 e1 status answer ends 129 is (λ no. omega (arith, no)) (λ no. omega (arith, no)) in
-      error_misuse refused.0 (subst (λ (x : Result (List ℕ) HereRefusal). AnswersHere w i w0 w1 i0 i1 place words x) refused.1 a) refused.2
+      error_misuse refused.0 (subst (λ (x : Result (List ℕ) HereRefusal). AnswersHere w i o w0 w1 i0 i1 o0 o1 place words x) refused.1 a) refused.2
 
-  pub usage : (answer : Result (List ℕ) HereRefusal) → AnswersHere w i w0 w1 i0 i1 place words answer → EndsHere s e s0 s1 e0 e1 answer status → IsMisuse words
+  pub usage : (answer : Result (List ℕ) HereRefusal) → AnswersHere w i o w0 w1 i0 i1 o0 o1 place words answer → EndsHere s e s0 s1 e0 e1 answer status → IsMisuse words
       → (status ≡ 129) ⊎ IsToldOf e e0 e1 memory_line 128 status
   usage answer a ends known =
       elim a [
@@ -298,11 +323,11 @@ module _ {W I S E : Type 0} (w : WorktreeOf W) (i : InterruptOf I) (s : SinkOf S
         | inr (inr unread) ↦ inr (wants_memory s e s0 s1 e0 e1 status memory refl (subst (λ (x : Result (List ℕ) HereRefusal). EndsHere s e s0 s1 e0 e1 x status) unread.answer_is ends).by.1)
       ]
 
-  error_refused : (refusal : HereRefusal) → AnswersHere w i w0 w1 i0 i1 place words (Err refusal) → (t : Names) → w.told w0 ≡ Some t → NotIncreased (w.faults w0) (w.faults w1)
-      → status_of refusal ≡ 128 → (refusal ≡ memory) ⊎ output.RefusesHere t place words refusal
-  error_refused refusal a t told quiet is =
+  error_refused : (refusal : HereRefusal) → AnswersHere w i o w0 w1 i0 i1 o0 o1 place words (Err refusal) → (t : Names) (owned : Owned) → w.told w0 ≡ Some t → o.told o0 ≡ Some owned → NotIncreased (w.faults w0) (w.faults w1) → NotIncreased (o.faults o0) (o.faults o1)
+      → status_of refusal ≡ 128 → (refusal ≡ memory) ⊎ output.RefusesHere t owned place words refusal
+  error_refused refusal a t owned told tells quiet owners_quiet is =
       elim a [
-        | inl of ↦ elim (task_refused w i w0 w1 i0 i1 place of.request.directory (task_of place.takes_colors of.request.command) refusal of.answers t told quiet) [
+        | inl of ↦ elim (task_refused w i o w0 w1 i0 i1 o0 o1 place of.request.directory (task_of place.takes_colors of.request.command) refusal of.answers t owned told tells quiet owners_quiet) [
           | inl wants ↦ inl wants
           | inr refused ↦ inr (record { request = of.request; asked = of.asked; refused = refused })
         ]
@@ -310,50 +335,50 @@ module _ {W I S E : Type 0} (w : WorktreeOf W) (i : InterruptOf I) (s : SinkOf S
         | inr (inr unread) ↦ inl (same_error unread.answer_is)
       ]
 
-  pub fatal : (answer : Result (List ℕ) HereRefusal) → AnswersHere w i w0 w1 i0 i1 place words answer → EndsHere s e s0 s1 e0 e1 answer status
-      → (t : Names) → w.told w0 ≡ Some t → status ≡ 128 → NotIncreased (w.faults w0) (w.faults w1) → NotIncreased (s.refusals s0) (s.refusals s1)
-      → IsToldOf e e0 e1 memory_line 128 status ⊎ IsFatal e e0 e1 (output.RefusesHere t place words)
-  fatal (Ok bytes) a ends t told is quiet taken =
+  pub fatal : (answer : Result (List ℕ) HereRefusal) → AnswersHere w i o w0 w1 i0 i1 o0 o1 place words answer → EndsHere s e s0 s1 e0 e1 answer status
+      → (t : Names) (owned : Owned) → w.told w0 ≡ Some t → o.told o0 ≡ Some owned → status ≡ 128 → NotIncreased (w.faults w0) (w.faults w1) → NotIncreased (o.faults o0) (o.faults o1) → NotIncreased (s.refusals s0) (s.refusals s1)
+      → IsToldOf e e0 e1 memory_line 128 status ⊎ IsFatal e e0 e1 (output.RefusesHere t owned place words)
+  fatal (Ok bytes) a ends t owned told tells is quiet owners_quiet taken =
       elim ends.by [
         | inl whole ↦ absurd (let zero = whole.status_is in omega (arith, zero, is))
         | inr cut ↦ absurd (let cause = cut.cause in omega (arith, cause, taken))
       ]
-  fatal (Err refusal) a ends t told is quiet taken =
+  fatal (Err refusal) a ends t owned told tells is quiet owners_quiet taken =
       elim ends.by.1 [
-        | inl told_of ↦ elim (error_refused refusal a t told quiet (sym told_of.status_is ∙ is)) [
+        | inl told_of ↦ elim (error_refused refusal a t owned told tells quiet owners_quiet (sym told_of.status_is ∙ is)) [
           | inl wants ↦ inl (wants_memory s e s0 s1 e0 e1 status refusal wants ends.by.1)
           | inr refused ↦ inr (record { refusal = refusal; refused = refused; said = told_of.said })
         ]
         | inr untold ↦ inl untold
       ]
 
-  error_interrupted : (refusal : HereRefusal) → AnswersHere w i w0 w1 i0 i1 place words (Err refusal) → status_of refusal ≡ 130 → Increased (i.raised i0) (i.raised i1)
+  error_interrupted : (refusal : HereRefusal) → AnswersHere w i o w0 w1 i0 i1 o0 o1 place words (Err refusal) → status_of refusal ≡ 130 → Increased (i.raised i0) (i.raised i1)
   error_interrupted refusal a is =
       elim a [
-        | inl of ↦ task_interrupted w i w0 w1 i0 i1 place of.request.directory (task_of place.takes_colors of.request.command) refusal of.answers is
+        | inl of ↦ task_interrupted w i o w0 w1 i0 i1 o0 o1 place of.request.directory (task_of place.takes_colors of.request.command) refusal of.answers is
         | inr (inl wrong) ↦ absurd (let same = sym is ∙ ap status_of (same_error wrong.answer_is) in omega (arith, same))
         | inr (inr unread) ↦ absurd (let same = memory_not refusal 130 (same_error unread.answer_is) is in omega (arith, same))
       ]
 
-  pub interrupted : (answer : Result (List ℕ) HereRefusal) → AnswersHere w i w0 w1 i0 i1 place words answer → EndsHere s e s0 s1 e0 e1 answer status → status ≡ 130
+  pub interrupted : (answer : Result (List ℕ) HereRefusal) → AnswersHere w i o w0 w1 i0 i1 o0 o1 place words answer → EndsHere s e s0 s1 e0 e1 answer status → status ≡ 130
       → Increased (i.raised i0) (i.raised i1)
   interrupted answer a ends is =
       let refused = ends_above s e s0 s1 e0 e1 status answer ends 130 is (λ no. omega (arith, no)) (λ no. omega (arith, no)) in
-      error_interrupted refused.0 (subst (λ (x : Result (List ℕ) HereRefusal). AnswersHere w i w0 w1 i0 i1 place words x) refused.1 a) refused.2
+      error_interrupted refused.0 (subst (λ (x : Result (List ℕ) HereRefusal). AnswersHere w i o w0 w1 i0 i1 o0 o1 place words x) refused.1 a) refused.2
 
-  error_complete : (refusal : HereRefusal) → AnswersHere w i w0 w1 i0 i1 place words (Err refusal) → (t : Names) → w.told w0 ≡ Some t → output.IsValidHere (w.precomposes w0) t place words
-      → NotIncreased (w.faults w0) (w.faults w1) → NotIncreased (i.raised i0) (i.raised i1) → refusal ≡ memory
-  error_complete refusal a t told valid quiet calm =
+  error_complete : (refusal : HereRefusal) → AnswersHere w i o w0 w1 i0 i1 o0 o1 place words (Err refusal) → (t : Names) (owned : Owned) → w.told w0 ≡ Some t → o.told o0 ≡ Some owned → output.IsValidHere (w.precomposes w0) t owned place words
+      → NotIncreased (w.faults w0) (w.faults w1) → NotIncreased (o.faults o0) (o.faults o1) → NotIncreased (i.raised i0) (i.raised i1) → refusal ≡ memory
+  error_complete refusal a t owned told tells valid quiet owners_quiet calm =
       elim a [
-        | inl of ↦ task_complete w i w0 w1 i0 i1 place of.request.directory (task_of place.takes_colors of.request.command) refusal of.answers t told quiet calm (valid.ready of.request of.asked)
+        | inl of ↦ task_complete w i o w0 w1 i0 i1 o0 o1 place of.request.directory (task_of place.takes_colors of.request.command) refusal of.answers t owned told tells quiet owners_quiet calm (valid.ready of.request of.asked)
         | inr (inl wrong) ↦ absurd (no_asking (sym valid.words_are ∙ wrong.misuse.is))
         | inr (inr unread) ↦ same_error unread.answer_is
       ]
 
-  pub complete : (answer : Result (List ℕ) HereRefusal) → AnswersHere w i w0 w1 i0 i1 place words answer → EndsHere s e s0 s1 e0 e1 answer status
-      → (t : Names) → w.told w0 ≡ Some t → output.IsValidHere (w.precomposes w0) t place words → NotIncreased (w.faults w0) (w.faults w1)
+  pub complete : (answer : Result (List ℕ) HereRefusal) → AnswersHere w i o w0 w1 i0 i1 o0 o1 place words answer → EndsHere s e s0 s1 e0 e1 answer status
+      → (t : Names) (owned : Owned) → w.told w0 ≡ Some t → o.told o0 ≡ Some owned → output.IsValidHere (w.precomposes w0) t owned place words → NotIncreased (w.faults w0) (w.faults w1) → NotIncreased (o.faults o0) (o.faults o1)
       → NotIncreased (i.raised i0) (i.raised i1) → NotIncreased (s.refusals s0) (s.refusals s1) → (status ≡ 0) ⊎ IsToldOf e e0 e1 memory_line 128 status
-  complete (Ok bytes) a ends t told valid quiet calm taken =
+  complete (Ok bytes) a ends t owned told tells valid quiet owners_quiet calm taken =
       elim ends.by [ inl whole ↦ inl whole.status_is | inr cut ↦ absurd (let cause = cut.cause in omega (arith, cause, taken)) ]
-  complete (Err refusal) a ends t told valid quiet calm taken =
-      inr (wants_memory s e s0 s1 e0 e1 status refusal (error_complete refusal a t told valid quiet calm) ends.by.1)
+  complete (Err refusal) a ends t owned told tells valid quiet owners_quiet calm taken =
+      inr (wants_memory s e s0 s1 e0 e1 status refusal (error_complete refusal a t owned told tells valid quiet owners_quiet calm) ends.by.1)

@@ -1,7 +1,9 @@
 -- The parts of an answer, put together.
 use Rattle.std.proofs.Common.{◌≡◌, inl, inr, ℕ, List, Some, Result, Ok, Err, sym, subst, refl}
 use Rattle.worktree_fs.specs.declared.interrupt.Interrupt.{Ghosts as InterruptOf}
+use Rattle.worktree_fs.specs.declared.owners.Owners.{Ghosts as OwnersOf}
 use Rattle.worktree_fs.specs.declared.worktree.Worktree.{Ghosts as WorktreeOf}
+use Rattle.worktree_fs.specs.Owners.{Owned}
 use Rattle.worktree_fs.specs.Tree.{Names}
 use Rattle.worktree_report.specs.declared.refusal.Refusal.{Refusal}
 use Rattle.command_line.specs.Requests.{request_in, MisusedAt}
@@ -26,10 +28,10 @@ same_error a b e = cc
 no_bytes : (a : List ℕ) (b : HereRefusal) → ◌≡◌ {A = Result (List ℕ) HereRefusal} (Ok a) (Err b) → ⊥
 no_bytes a b e = absurd cc
 
-module _ {W I : Type 0} (w : WorktreeOf W) (i : InterruptOf I) (w0 w1 : W) (i0 i1 : I) where
+module _ {W I O : Type 0} (w : WorktreeOf W) (i : InterruptOf I) (o : OwnersOf O) (w0 w1 : W) (i0 i1 : I) (o0 o1 : O) where
   -- a text or a refusal by what was found
-  pub by_found : (found : Names → Result Found HereRefusal) (call : Call) (answer : Result (List ℕ) Refusal) (here_answer : Result (List ℕ) HereRefusal) → here_answer ≡ as_program answer
-      → ByFound w w0 found (Then w i w1 i0 i1 call answer) → AnswersBy w i w0 w1 i0 i1 found call here_answer
+  pub by_found : (found : Names → Owned → Result Found HereRefusal) (call : Call) (answer : Result (List ℕ) Refusal) (here_answer : Result (List ℕ) HereRefusal) → here_answer ≡ as_program answer
+      → ByFound w o w0 o0 o1 found (Then w i w1 i0 i1 call answer) → AnswersBy w i o w0 w1 i0 i1 o0 o1 found call here_answer
   by_found found call (Ok text) here_answer is by = rw is by
   by_found found call (Err refusal) here_answer is by = rw is (inr (record { refusal = refusal; e_is = refl; by = by }))
 
@@ -39,19 +41,19 @@ module _ {W I : Type 0} (w : WorktreeOf W) (i : InterruptOf I) (w0 w1 : W) (i0 i
   by_root call answer here loaded root is made = subst (λ (r : List ℕ). TextsBy w i loaded w1 i0 i1 r here.setup answer call) is made
 
   -- the bytes of a text
-  pub by_writing : (found : Names → Result Found HereRefusal) (call : Call) (writing : Writing) (answer result : Result (List ℕ) HereRefusal) → IsWrittenAs writing answer result
-      → AnswersBy w i w0 w1 i0 i1 found call answer → AnswersCall w i w0 w1 i0 i1 found call writing result
+  pub by_writing : (found : Names → Owned → Result Found HereRefusal) (call : Call) (writing : Writing) (answer result : Result (List ℕ) HereRefusal) → IsWrittenAs writing answer result
+      → AnswersBy w i o w0 w1 i0 i1 o0 o1 found call answer → AnswersCall w i o w0 w1 i0 i1 o0 o1 found call writing result
   by_writing found call writing (Ok text) (Ok bytes) is by =
       elim is [ inl same ↦ record { text = text; bytes_is = same_bytes _ _ same; by = by } | inr wants ↦ absurd (no_bytes _ _ wants) ]
   by_writing found call writing (Ok text) (Err e) is by =
       elim is [ inl same ↦ absurd (no_bytes _ _ (sym same)) | inr wants ↦ inr (record { text = text; e_is = same_error _ _ wants; by = by }) ]
   by_writing found call writing (Err e) (Ok bytes) is by = absurd (no_bytes _ _ is)
   by_writing found call writing (Err e) (Err other) is by =
-      inl (subst (λ (x : HereRefusal). AnswersBy w i w0 w1 i0 i1 found call (Err x)) (sym (same_error _ _ is)) by)
+      inl (subst (λ (x : HereRefusal). AnswersBy w i o w0 w1 i0 i1 o0 o1 found call (Err x)) (sym (same_error _ _ is)) by)
 
-module _ {W I : Type 0} (w : WorktreeOf W) (i : InterruptOf I) (w0 : W) (i0 : I) where
+module _ {W I O : Type 0} (w : WorktreeOf W) (i : InterruptOf I) (o : OwnersOf O) (w0 : W) (i0 : I) (o0 : O) where
   -- the words are none, or are not read
-  pub by_words : (place : Place) (words : List (List ℕ)) (misuse : Misuse) → MisusedAt misuse (request_in words) → AnswersHere w i w0 w0 i0 i0 place words (Err (of_misuse misuse))
+  pub by_words : (place : Place) (words : List (List ℕ)) (misuse : Misuse) → MisusedAt misuse (request_in words) → AnswersHere w i o w0 w0 i0 i0 o0 o0 place words (Err (of_misuse misuse))
   by_words place words (misuses.Word topic wrong word) is =
-      inr (inl (record { misuse = record { topic = topic; wrong = wrong; word = word; is = is }; answer_is = refl; worktree = refl; interrupt = refl }))
-  by_words place words misuses.OutOfMemory is = inr (inr (record { answer_is = refl; worktree = refl; interrupt = refl }))
+      inr (inl (record { misuse = record { topic = topic; wrong = wrong; word = word; is = is }; answer_is = refl; worktree = refl; interrupt = refl; owners = refl }))
+  by_words place words misuses.OutOfMemory is = inr (inr (record { answer_is = refl; worktree = refl; interrupt = refl; owners = refl }))

@@ -1,9 +1,12 @@
 -- The text that the words ask for, or why there is none.
 use Rattle.std.specs.Prelude.{◌≡◌, ◌⊎◌, ◌≤◌, ℕ, List, Bool, Option, Some, Result, Ok, Err, IfOk, IfErr, IsErrOf}
 use Rattle.worktree_fs.specs.declared.interrupt.Interrupt.{Ghosts as InterruptOf}
+use Rattle.worktree_fs.specs.declared.owners.Owners.{Ghosts as OwnersOf}
 use Rattle.worktree_fs.specs.declared.worktree.Worktree.{Ghosts as WorktreeOf}
 use Rattle.worktree_fs.specs.Causes.{Increased}
 use Rattle.worktree_fs.specs.Kept.{Asks}
+use Rattle.worktree_fs.specs.KeptOwners.{AsksOwners}
+use Rattle.worktree_fs.specs.Owners.{Owned}
 use Rattle.worktree_fs.specs.Tree.{Names}
 use Rattle.worktree_report.specs.declared.refusal.Refusal.{Refusal}
 use Rattle.command_line.specs.Forms.{styled}
@@ -16,7 +19,7 @@ use Rattle.command_line.specs.declared.misuse.Misuse.TheVariants.{Word}
 use Rattle.command_line.specs.declared.misuse.Wrong.{Wrong}
 use Rattle.command_line.specs.declared.verb.Topic.{Topic}
 use Rattle.git_places.specs.Variables.{Variable}
-use Rattle.git_setup.specs.Outcomes.{GivesBy, UnlessBy}
+use Rattle.git_places.specs.Answers.{GivesBy, UnlessBy}
 use Rattle.git_setup.specs.declared.asked.Asked.{Asked}
 use Rattle.git_setup.specs.declared.found.Found.{Found}
 use Rattle.tizhagor.specs.declared.call.Call.{Call}
@@ -30,24 +33,29 @@ use Rattle.tizhagor.specs.Refusals.{fault, memory, IsOfFinding}
 use Rattle.tizhagor.specs.Texts.{TextsBy}
 use Rattle.tizhagor.specs.Writing.{written}
 
--- The root and the setup were found first, by asking for nodes and files alone, and no fault of that is hidden; then `Then` holds of them
--- and of the worktree as it was by then. Where the tree is told they are the ones that are found in it.
-pub record ByFound {W : Type 0} (w : WorktreeOf W) (w0 : W) (found : Names → Result Found HereRefusal) (Then : Found → W → Type 0) : Type 0 where
+-- The root and the setup were found first, by asking for nodes, files and owners alone, and no fault of that is hidden; then `Then` holds
+-- of them and of the worktree as it was by then. Where the tree and the owners are told they are the ones that are found in them. The
+-- owners were asked for nothing else.
+pub record ByFound {W O : Type 0} (w : WorktreeOf W) (o : OwnersOf O) (w0 : W) (o0 o1 : O) (found : Names → Owned → Result Found HereRefusal) (Then : Found → W → Type 0) : Type 0 where
   pub here : Found
-  pub is : (t : Names) → w.told w0 ≡ Some t → found t ≡ Ok here
+  pub is : (t : Names) (owned : Owned) → w.told w0 ≡ Some t → o.told o0 ≡ Some owned → found t owned ≡ Ok here
   pub loaded : W
   pub asks : Asks w w0 loaded
   pub unfaulted : w.faults loaded ≡ w.faults w0
+  pub owners : AsksOwners o o0 o1
+  pub owners_unfaulted : o.faults o1 ≡ o.faults o0
   pub made : Then here loaded
 
--- They were not found: over a told tree as the tree has it, or for want of memory, or as the worktree failed, which it counted; no other
--- refusal hides a fault. Nothing was listed, and the interrupt was not asked.
-pub record NotFound {W I : Type 0} (w : WorktreeOf W) (w0 w1 : W) (i0 i1 : I) (found : Names → Result Found HereRefusal) (e : HereRefusal) : Type 0 where
-  pub is : (t : Names) → w.told w0 ≡ Some t → GivesBy {A = Found} fault memory (Err e) (found t)
+-- They were not found: over a told tree and told owners as these have it, or for want of memory, or as the worktree failed, or the owners,
+-- which they counted; no other refusal hides a fault. Nothing was listed, and the interrupt was not asked.
+pub record NotFound {W I O : Type 0} (w : WorktreeOf W) (o : OwnersOf O) (w0 w1 : W) (i0 i1 : I) (o0 o1 : O) (found : Names → Owned → Result Found HereRefusal) (e : HereRefusal) : Type 0 where
+  pub is : (t : Names) (owned : Owned) → w.told w0 ≡ Some t → o.told o0 ≡ Some owned → GivesBy {A = Found} fault memory (Err e) (found t owned)
   pub of : IsOfFinding e
-  pub cause : e ≡ fault → Increased (w.faults w0) (w.faults w1)
+  pub cause : e ≡ fault → Increased (w.faults w0) (w.faults w1) ⊎ Increased (o.faults o0) (o.faults o1)
   pub unfaulted : UnlessBy {A = Found} fault (Err e) (w.faults w1 ≡ w.faults w0)
+  pub owners_unfaulted : UnlessBy {A = Found} fault (Err e) (o.faults o1 ≡ o.faults o0)
   pub asks : Asks w w0 w1
+  pub owners : AsksOwners o o0 o1
   pub interrupt : i1 ≡ i0
 
 -- what a call says of its text or its refusal, by what was found
@@ -55,39 +63,40 @@ abbrev pub Then : {W I : Type 0} → WorktreeOf W → InterruptOf I → W → I 
 Then w i w1 i0 i1 call answer here loaded = TextsBy w i loaded w1 i0 i1 here.root here.setup answer call
 
 -- There is no text by what was found.
-pub record Refused {W I : Type 0} (w : WorktreeOf W) (i : InterruptOf I) (w0 w1 : W) (i0 i1 : I) (found : Names → Result Found HereRefusal) (call : Call) (e : HereRefusal) : Type 0 where
+pub record Refused {W I O : Type 0} (w : WorktreeOf W) (i : InterruptOf I) (o : OwnersOf O) (w0 w1 : W) (i0 i1 : I) (o0 o1 : O) (found : Names → Owned → Result Found HereRefusal) (call : Call) (e : HereRefusal) : Type 0 where
   pub refusal : Refusal
   pub e_is : e ≡ Program refusal
-  pub by : ByFound w w0 found (Then w i w1 i0 i1 call (Err refusal))
+  pub by : ByFound w o w0 o0 o1 found (Then w i w1 i0 i1 call (Err refusal))
 
 -- The text of a call, or why there is none: by what was found, or as nothing was.
-abbrev pub AnswersBy : {W I : Type 0} → WorktreeOf W → InterruptOf I → W → W → I → I → (Names → Result Found HereRefusal) → Call → Result (List ℕ) HereRefusal → Type 0
-AnswersBy w i w0 w1 i0 i1 found call (Ok text) = ByFound w w0 found (Then w i w1 i0 i1 call (Ok text))
-AnswersBy w i w0 w1 i0 i1 found call (Err e) = NotFound w w0 w1 i0 i1 found e ⊎ Refused w i w0 w1 i0 i1 found call e
+abbrev pub AnswersBy : {W I O : Type 0} → WorktreeOf W → InterruptOf I → OwnersOf O → W → W → I → I → O → O → (Names → Owned → Result Found HereRefusal) → Call → Result (List ℕ) HereRefusal → Type 0
+AnswersBy w i o w0 w1 i0 i1 o0 o1 found call (Ok text) = ByFound w o w0 o0 o1 found (Then w i w1 i0 i1 call (Ok text))
+AnswersBy w i o w0 w1 i0 i1 o0 o1 found call (Err e) = NotFound w o w0 w1 i0 i1 o0 o1 found e ⊎ Refused w i o w0 w1 i0 i1 o0 o1 found call e
 
 -- The bytes are those that are written for a text of the call.
-pub record Writes {W I : Type 0} (w : WorktreeOf W) (i : InterruptOf I) (w0 w1 : W) (i0 i1 : I) (found : Names → Result Found HereRefusal) (call : Call) (writing : Writing) (bytes : List ℕ) : Type 0 where
+pub record Writes {W I O : Type 0} (w : WorktreeOf W) (i : InterruptOf I) (o : OwnersOf O) (w0 w1 : W) (i0 i1 : I) (o0 o1 : O) (found : Names → Owned → Result Found HereRefusal) (call : Call) (writing : Writing) (bytes : List ℕ) : Type 0 where
   pub text : List ℕ
   pub bytes_is : bytes ≡ written writing text
-  pub by : AnswersBy w i w0 w1 i0 i1 found call (Ok text)
+  pub by : AnswersBy w i o w0 w1 i0 i1 o0 o1 found call (Ok text)
 
 -- There was a text, and memory was wanted for the bytes that are written for it.
-pub record Unwritten {W I : Type 0} (w : WorktreeOf W) (i : InterruptOf I) (w0 w1 : W) (i0 i1 : I) (found : Names → Result Found HereRefusal) (call : Call) (e : HereRefusal) : Type 0 where
+pub record Unwritten {W I O : Type 0} (w : WorktreeOf W) (i : InterruptOf I) (o : OwnersOf O) (w0 w1 : W) (i0 i1 : I) (o0 o1 : O) (found : Names → Owned → Result Found HereRefusal) (call : Call) (e : HereRefusal) : Type 0 where
   pub text : List ℕ
   pub e_is : e ≡ memory
-  pub by : AnswersBy w i w0 w1 i0 i1 found call (Ok text)
+  pub by : AnswersBy w i o w0 w1 i0 i1 o0 o1 found call (Ok text)
 
 -- The bytes for a call, or why there are none.
-abbrev pub AnswersCall : {W I : Type 0} → WorktreeOf W → InterruptOf I → W → W → I → I → (Names → Result Found HereRefusal) → Call → Writing → Result (List ℕ) HereRefusal → Type 0
-AnswersCall w i w0 w1 i0 i1 found call writing (Ok bytes) = Writes w i w0 w1 i0 i1 found call writing bytes
-AnswersCall w i w0 w1 i0 i1 found call writing (Err e) = AnswersBy w i w0 w1 i0 i1 found call (Err e) ⊎ Unwritten w i w0 w1 i0 i1 found call e
+abbrev pub AnswersCall : {W I O : Type 0} → WorktreeOf W → InterruptOf I → OwnersOf O → W → W → I → I → O → O → (Names → Owned → Result Found HereRefusal) → Call → Writing → Result (List ℕ) HereRefusal → Type 0
+AnswersCall w i o w0 w1 i0 i1 o0 o1 found call writing (Ok bytes) = Writes w i o w0 w1 i0 i1 o0 o1 found call writing bytes
+AnswersCall w i o w0 w1 i0 i1 o0 o1 found call writing (Err e) = AnswersBy w i o w0 w1 i0 i1 o0 o1 found call (Err e) ⊎ Unwritten w i o w0 w1 i0 i1 o0 o1 found call e
 
 -- A text that is always the same, or the want of memory for it; nothing was asked for it.
-pub record Offers {W I : Type 0} (w0 w1 : W) (i0 i1 : I) (text : List ℕ) (answer : Result (List ℕ) HereRefusal) : Type 0 where
+pub record Offers {W I O : Type 0} (w0 w1 : W) (i0 i1 : I) (o0 o1 : O) (text : List ℕ) (answer : Result (List ℕ) HereRefusal) : Type 0 where
   pub gives : IfOk answer (λ bytes. bytes ≡ text)
   pub refused : IfErr answer (λ e. e ≡ memory)
   pub worktree : w1 ≡ w0
   pub interrupt : i1 ≡ i0
+  pub owners : o1 ≡ o0
 
 -- ---- what the words ask for
 
@@ -114,22 +123,22 @@ pub record Place : Type 0 where
 abbrev pub placed : List ℕ → List Variable → Bool → Place
 placed current variables takes_colors = record { current = current; variables = variables; takes_colors = takes_colors }
 
-abbrev pub found_at : Place → Option (List ℕ) → Asked → Names → Result Found HereRefusal
-found_at place directory asked t = here_in t place.current place.variables directory asked
+abbrev pub found_at : Place → Option (List ℕ) → Asked → Names → Owned → Result Found HereRefusal
+found_at place directory asked t owned = here_in t owned place.current place.variables directory asked
 
-abbrev pub AnswersTask : {W I : Type 0} → WorktreeOf W → InterruptOf I → W → W → I → I → Place → Option (List ℕ) → Result (List ℕ) HereRefusal → Task → Type 0
-AnswersTask w i w0 w1 i0 i1 place directory answer (call_of call asked writing) = AnswersCall w i w0 w1 i0 i1 (found_at place directory asked) call writing answer
-AnswersTask w i w0 w1 i0 i1 place directory answer (offer_of text) = Offers w0 w1 i0 i1 text answer
+abbrev pub AnswersTask : {W I O : Type 0} → WorktreeOf W → InterruptOf I → OwnersOf O → W → W → I → I → O → O → Place → Option (List ℕ) → Result (List ℕ) HereRefusal → Task → Type 0
+AnswersTask w i o w0 w1 i0 i1 o0 o1 place directory answer (call_of call asked writing) = AnswersCall w i o w0 w1 i0 i1 o0 o1 (found_at place directory asked) call writing answer
+AnswersTask w i o w0 w1 i0 i1 o0 o1 place directory answer (offer_of text) = Offers w0 w1 i0 i1 o0 o1 text answer
 
 -- the words ask for this
 abbrev pub IsAsked : List (List ℕ) → Request → Type 0
 IsAsked words request = request_in words ≡ asks request.directory (seen request.command)
 
 -- The words ask for something, and this is the answer to it.
-pub record AnswersRequest {W I : Type 0} (w : WorktreeOf W) (i : InterruptOf I) (w0 w1 : W) (i0 i1 : I) (place : Place) (words : List (List ℕ)) (answer : Result (List ℕ) HereRefusal) : Type 0 where
+pub record AnswersRequest {W I O : Type 0} (w : WorktreeOf W) (i : InterruptOf I) (o : OwnersOf O) (w0 w1 : W) (i0 i1 : I) (o0 o1 : O) (place : Place) (words : List (List ℕ)) (answer : Result (List ℕ) HereRefusal) : Type 0 where
   pub request : Request
   pub asked : IsAsked words request
-  pub answers : AnswersTask w i w0 w1 i0 i1 place request.directory answer (task_of place.takes_colors request.command)
+  pub answers : AnswersTask w i o w0 w1 i0 i1 o0 o1 place request.directory answer (task_of place.takes_colors request.command)
 
 -- a word is wrong
 pub record IsMisuse (words : List (List ℕ)) : Type 0 where
@@ -139,18 +148,20 @@ pub record IsMisuse (words : List (List ℕ)) : Type 0 where
   pub is : request_in words ≡ is_misuse topic wrong word
 
 -- The words ask for nothing, and the answer names the first that is wrong; nothing was asked for it.
-pub record Misuses {W I : Type 0} (w0 w1 : W) (i0 i1 : I) (words : List (List ℕ)) (answer : Result (List ℕ) HereRefusal) : Type 0 where
+pub record Misuses {W I O : Type 0} (w0 w1 : W) (i0 i1 : I) (o0 o1 : O) (words : List (List ℕ)) (answer : Result (List ℕ) HereRefusal) : Type 0 where
   pub misuse : IsMisuse words
   pub answer_is : answer ≡ Err (Words (Word misuse.topic misuse.wrong misuse.word))
   pub worktree : w1 ≡ w0
   pub interrupt : i1 ≡ i0
+  pub owners : o1 ≡ o0
 
 -- Memory was wanted for the words; nothing was asked.
-pub record Unread {W I : Type 0} (w0 w1 : W) (i0 i1 : I) (answer : Result (List ℕ) HereRefusal) : Type 0 where
+pub record Unread {W I O : Type 0} (w0 w1 : W) (i0 i1 : I) (o0 o1 : O) (answer : Result (List ℕ) HereRefusal) : Type 0 where
   pub answer_is : answer ≡ Err memory
   pub worktree : w1 ≡ w0
   pub interrupt : i1 ≡ i0
+  pub owners : o1 ≡ o0
 
-abbrev pub AnswersHere : {W I : Type 0} → WorktreeOf W → InterruptOf I → W → W → I → I → Place → List (List ℕ) → Result (List ℕ) HereRefusal → Type 0
-AnswersHere w i w0 w1 i0 i1 place words answer =
-    AnswersRequest w i w0 w1 i0 i1 place words answer ⊎ (Misuses w0 w1 i0 i1 words answer ⊎ Unread w0 w1 i0 i1 answer)
+abbrev pub AnswersHere : {W I O : Type 0} → WorktreeOf W → InterruptOf I → OwnersOf O → W → W → I → I → O → O → Place → List (List ℕ) → Result (List ℕ) HereRefusal → Type 0
+AnswersHere w i o w0 w1 i0 i1 o0 o1 place words answer =
+    AnswersRequest w i o w0 w1 i0 i1 o0 o1 place words answer ⊎ (Misuses w0 w1 i0 i1 o0 o1 words answer ⊎ Unread w0 w1 i0 i1 o0 o1 answer)

@@ -1,10 +1,12 @@
 -- What is asked of a work tree, and what is found of it.
 use Rattle.std.specs.Prelude.{ℕ, List, Bool, true, not, ◌&&◌, bytes_eq, is_some, if◌then◌else◌, Option, Some, None, Result, Ok, Err}
+use Rattle.gitbase_core.specs.Steps.{and_then}
 use Rattle.git_places.specs.Variables.{Variable, surroundings_of}
 use Rattle.git_setup.specs.Found.{found_in}
 use Rattle.git_setup.specs.declared.asked.Asked.{Asked}
 use Rattle.git_setup.specs.declared.found.Found.{Found}
 use Rattle.clean_plan.specs.Prepared.{prepared}
+use Rattle.worktree_fs.specs.Owners.{Owned}
 use Rattle.worktree_fs.specs.Tree.{Names}
 use Rattle.worktree_report.specs.declared.setup.SetupOptions.{SetupOptions}
 use Rattle.tizhagor.specs.declared.call.Call.{Call}
@@ -24,18 +26,13 @@ options_for calls.State options = options
 abbrev pub asked_for : Call → Asked → Asked
 asked_for call asked = record asked { options = options_for call asked.options }
 
--- what comes of an answer, or the refusal that stands in its place
-abbrev pub and_then : {A B : Type 0} → (A → Result B HereRefusal) → Result A HereRefusal → Result B HereRefusal
-and_then next (Ok answer) = next answer
-and_then next (Err e) = Err e
-
 -- the directory that `-C` names from the current one, if it names one
 abbrev pub directory_in : Names → List ℕ → Option (List ℕ) → Result (List ℕ) HereRefusal
 directory_in t current None = Ok current
 directory_in t current (Some name) = directory_named t current name
 
-abbrev pub found_from : Names → List Variable → Asked → List ℕ → Result Found HereRefusal
-found_from t variables asked directory = as_git (found_in t (surroundings_of directory variables) asked)
+abbrev pub found_from : Names → Owned → List Variable → Asked → List ℕ → Result Found HereRefusal
+found_from t owned variables asked directory = as_git (found_in t owned (surroundings_of directory variables) asked)
 
 -- what may be deleted is asked for, and the current directory is not the top of the work tree: the paths that are written lead from there
 abbrev pub is_away : SetupOptions → List ℕ → Found → Bool
@@ -45,10 +42,10 @@ is_away options current here = is_some options.for_deletion && not (bytes_eq her
 abbrev pub at_top : SetupOptions → List ℕ → Found → Result Found HereRefusal
 at_top options current here = if is_away options current here then Err (errors.NotAtTop here.root) else Ok here
 
-abbrev pub top_from : Names → List ℕ → List Variable → Asked → List ℕ → Result Found HereRefusal
-top_from t current variables asked directory = and_then (at_top asked.options current) (found_from t variables asked directory)
+abbrev pub top_from : Names → Owned → List ℕ → List Variable → Asked → List ℕ → Result Found HereRefusal
+top_from t owned current variables asked directory = and_then (at_top asked.options current) (found_from t owned variables asked directory)
 
 -- The work tree around a directory, and the setup that its repository gives, or the first refusal: of the directory, then of the
 -- repository, and then of a deletion that is asked for below the top or from elsewhere.
-unfoldable pub here_in : Names → List ℕ → List Variable → Option (List ℕ) → Asked → Result Found HereRefusal
-here_in t current variables directory asked = and_then (top_from t current variables asked) (directory_in t current directory)
+unfoldable pub here_in : Names → Owned → List ℕ → List Variable → Option (List ℕ) → Asked → Result Found HereRefusal
+here_in t owned current variables directory asked = and_then (top_from t owned current variables asked) (directory_in t current directory)

@@ -1,11 +1,17 @@
--- What a step says that asks a worktree, before a setup is found.
+-- What a step says that asks a worktree, or owners too, before a setup is found.
 use Rattle.std.specs.Prelude.{Result}
+use Rattle.worktree_fs.specs.declared.owners.Owners.{Ghosts as OwnersOf}
 use Rattle.worktree_fs.specs.declared.worktree.Worktree.{Ghosts as WorktreeOf}
+use Rattle.worktree_fs.specs.Owners.{Owned}
 use Rattle.worktree_fs.specs.Tree.{Names}
-use Rattle.git_setup.specs.Outcomes.{FindsBy}
+use Rattle.git_places.specs.Finds.{FindsBy, FindsWithBy}
 use Rattle.tizhagor.specs.declared.refusal.HereRefusal.{HereRefusal}
 use Rattle.tizhagor.specs.Refusals.{fault, memory}
 
 -- Over a told tree it is what is found there; a fault was counted, and whatever else is answered none was; and what stays.
 abbrev pub FindsHere : {W A : Type 0} → WorktreeOf W → W → W → (Names → Result A HereRefusal) → Result A HereRefusal → Type 0
 FindsHere w before now found result = FindsBy w before now fault memory found result
+
+-- the same over told owners too
+abbrev pub FindsHereWith : {W O A : Type 0} → WorktreeOf W → OwnersOf O → W → W → O → O → (Names → Owned → Result A HereRefusal) → Result A HereRefusal → Type 0
+FindsHereWith w o w0 w1 o0 o1 found result = FindsWithBy w o w0 w1 o0 o1 fault memory found result

@@ -1,8 +1,9 @@
--- What the program gives, and why it gives nothing, over a tree.
+-- What the program gives, and why it gives nothing, over a tree and the owners of its nodes.
 use Rattle.std.specs.Prelude.{◌≡◌, ◌⊎◌, ℕ, List, Bool, true, Option, Result, Ok, Err}
 use Rattle.command_line.specs.Requests.{Command, asks, request_in}
 use Rattle.command_line.specs.declared.command.Request.{Request}
 use Rattle.git_setup.specs.declared.found.Found.{Found}
+use Rattle.worktree_fs.specs.Owners.{Owned}
 use Rattle.worktree_fs.specs.Tree.{Names, look}
 use Rattle.worktree_report.specs.SetupAt.{setup_at}
 use Rattle.worktree_report.specs.declared.refusal.Refusal.{Refusal}
@@ -18,17 +19,17 @@ use Rattle.tizhagor.specs.Writing.{written}
 
 -- The bytes are those that are written for the text of a call, by the root and the setup that are found in the tree. The text is that of
 -- the program that reads a setup text, over the same root, wherever such a text means that setup.
-pub record IsBytesOf (composes : Bool) (t : Names) (found : Names → Result Found HereRefusal) (call : Call) (writing : Writing) (bytes : List ℕ) : Type 0 where
+pub record IsBytesOf (composes : Bool) (t : Names) (found : Result Found HereRefusal) (call : Call) (writing : Writing) (bytes : List ℕ) : Type 0 where
   pub here : Found
-  pub found_is : found t ≡ Ok here
+  pub found_is : found ≡ Ok here
   pub text : List ℕ
   pub text_is : IsTextOf call composes t here.root here.setup text
   pub bytes_is : bytes ≡ written writing text
   pub same : (path : List ℕ) → setup_at (look t path true) ≡ Ok here.setup → IsTextAtSetup call composes t here.root path text
 
-abbrev pub IsBytesFor : Bool → Names → Place → Option (List ℕ) → List ℕ → Task → Type 0
-IsBytesFor composes t place directory bytes (call_of call asked writing) = IsBytesOf composes t (found_at place directory asked) call writing bytes
-IsBytesFor composes t place directory bytes (offer_of text) = bytes ≡ text
+abbrev pub IsBytesFor : Bool → Names → Owned → Place → Option (List ℕ) → List ℕ → Task → Type 0
+IsBytesFor composes t owned place directory bytes (call_of call asked writing) = IsBytesOf composes t (found_at place directory asked t owned) call writing bytes
+IsBytesFor composes t owned place directory bytes (offer_of text) = bytes ≡ text
 
 -- what is said of the count of faults, where there are bytes
 abbrev pub IsUnfaultedFor : ℕ → ℕ → Task → Type 0
@@ -47,42 +48,42 @@ pub record IsUnfaultedHere (place : Place) (words : List (List ℕ)) (before now
   pub unfaulted : IsUnfaultedFor before now (task_of place.takes_colors request.command)
 
 -- The words ask for something, and the bytes are those that it gives over the tree; for a report, where no fault was counted.
-pub record IsOutputHere (composes : Bool) (t : Names) (place : Place) (words : List (List ℕ)) (before now : ℕ) (bytes : List ℕ) : Type 0 where
+pub record IsOutputHere (composes : Bool) (t : Names) (owned : Owned) (place : Place) (words : List (List ℕ)) (before now : ℕ) (bytes : List ℕ) : Type 0 where
   pub request : Request
   pub asked : IsAsked words request
-  pub bytes_is : IsQuietWith before now (task_of place.takes_colors request.command) → IsBytesFor composes t place request.directory bytes (task_of place.takes_colors request.command)
+  pub bytes_is : IsQuietWith before now (task_of place.takes_colors request.command) → IsBytesFor composes t owned place request.directory bytes (task_of place.takes_colors request.command)
 
 -- ---- refusals
 
 -- what a call is refused for over the tree: no root and no setup is found, or there is no text by them
-abbrev pub RefusesCall : Names → (Names → Result Found HereRefusal) → HereRefusal → Type 0
-RefusesCall t found e = (found t ≡ Err e) ⊎ ((here : Found) × (found t ≡ Ok here) × (refusal : Refusal) × (e ≡ Program refusal))
+abbrev pub RefusesCall : Result Found HereRefusal → HereRefusal → Type 0
+RefusesCall found e = (found ≡ Err e) ⊎ ((here : Found) × (found ≡ Ok here) × (refusal : Refusal) × (e ≡ Program refusal))
 
-abbrev pub RefusesFor : Names → Place → Option (List ℕ) → HereRefusal → Task → Type 0
-RefusesFor t place directory e (call_of call asked writing) = RefusesCall t (found_at place directory asked) e
-RefusesFor t place directory e (offer_of text) = ⊥
+abbrev pub RefusesFor : Names → Owned → Place → Option (List ℕ) → HereRefusal → Task → Type 0
+RefusesFor t owned place directory e (call_of call asked writing) = RefusesCall (found_at place directory asked t owned) e
+RefusesFor t owned place directory e (offer_of text) = ⊥
 
 -- The words ask for something, and it is refused so over the tree.
-pub record RefusesHere (t : Names) (place : Place) (words : List (List ℕ)) (e : HereRefusal) : Type 0 where
+pub record RefusesHere (t : Names) (owned : Owned) (place : Place) (words : List (List ℕ)) (e : HereRefusal) : Type 0 where
   pub request : Request
   pub asked : IsAsked words request
-  pub refused : RefusesFor t place request.directory e (task_of place.takes_colors request.command)
+  pub refused : RefusesFor t owned place request.directory e (task_of place.takes_colors request.command)
 
 -- ---- what can be had
 
 -- a root and a setup are found, and there is a text by them
-pub record IsReadyAt (composes : Bool) (t : Names) (found : Names → Result Found HereRefusal) (call : Call) : Type 0 where
+pub record IsReadyAt (composes : Bool) (t : Names) (found : Result Found HereRefusal) (call : Call) : Type 0 where
   pub here : Found
-  pub found_is : found t ≡ Ok here
+  pub found_is : found ≡ Ok here
   pub ready : IsReadyFor call composes t here.root here.setup
 
-abbrev pub IsReadyWith : Bool → Names → Place → Option (List ℕ) → Task → Type 0
-IsReadyWith composes t place directory (call_of call asked writing) = IsReadyAt composes t (found_at place directory asked) call
-IsReadyWith composes t place directory (offer_of text) = Unit {0}
+abbrev pub IsReadyWith : Bool → Names → Owned → Place → Option (List ℕ) → Task → Type 0
+IsReadyWith composes t owned place directory (call_of call asked writing) = IsReadyAt composes t (found_at place directory asked t owned) call
+IsReadyWith composes t owned place directory (offer_of text) = Unit {0}
 
 -- No word is wrong, and what the words ask for can be had.
-pub record IsValidHere (composes : Bool) (t : Names) (place : Place) (words : List (List ℕ)) : Type 0 where
+pub record IsValidHere (composes : Bool) (t : Names) (owned : Owned) (place : Place) (words : List (List ℕ)) : Type 0 where
   pub directory : Option (List ℕ)
   pub command : Command
   pub words_are : request_in words ≡ asks directory command
-  pub ready : (request : Request) → IsAsked words request → IsReadyWith composes t place request.directory (task_of place.takes_colors request.command)
+  pub ready : (request : Request) → IsAsked words request → IsReadyWith composes t owned place request.directory (task_of place.takes_colors request.command)

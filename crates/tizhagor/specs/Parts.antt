@@ -23,7 +23,12 @@ config_line path line = codes "fatal: bad config line " ++ decimal line ++ (code
 abbrev pub value_line : List ℕ → List ℕ
 value_line key = with_path (codes "fatal: bad config value for '") key (codes "'\n")
 
--- the worktree failed; which call did is not told
+-- a repository belongs to another user, in git's words; the path is not put into the call, which a person may copy into a shell
+abbrev pub foreign_line : List ℕ → List ℕ
+foreign_line path =
+    with_path (codes "fatal: detected dubious ownership in repository at '") path (codes "'; to add an exception, call 'git config --global --add safe.directory DIRECTORY'\n")
+
+-- the worktree or the owners failed; which call did is not told
 abbrev pub fault_line : List ℕ
 fault_line = codes "fatal: a file or directory could not be read\n"
 

@@ -6,8 +6,12 @@ use Rattle.tizhagor.specs.Parts.{config_line, fault_line, memory_line, value_lin
 
 abbrev pub places_line : PlacesError → List ℕ
 places_line errors.NoRepository = codes "fatal: not a git repository (or any of the parent directories): .git\n"
+places_line (errors.Border path) =
+    with_path (codes "fatal: not a git repository (or any parent up to mount point ") path (codes "); stopping at filesystem boundary (GIT_DISCOVERY_ACROSS_FILESYSTEM not set)\n")
+places_line (errors.NoDirectory path) = with_path (codes "fatal: failed to stat '") path (codes "': No such file or directory\n")
 places_line (errors.Bare path) = codes "fatal: this operation must be run in a work tree\n"
-places_line (errors.GitFile path) = with_path (codes "fatal: invalid gitfile format: ") path (codes "\n")
+places_line (errors.GitFileForm path) = with_path (codes "fatal: invalid gitfile format: ") path (codes "\n")
+places_line (errors.GitFileTarget path) = with_path (codes "fatal: not a git repository: ") path (codes "\n")
 places_line (errors.Version value) = with_path (codes "fatal: Expected git repo version <= 1, found ") value (codes "\n")
 places_line (errors.Extension key) = with_path (codes "fatal: unknown repository extension found: ") key (codes "\n")
 places_line errors.Sha256 = codes "fatal: a repository with ids of SHA-256 is not read\n"

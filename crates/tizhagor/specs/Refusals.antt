@@ -1,5 +1,6 @@
 -- Why there is no text: the status and the line of each refusal.
 use Rattle.std.specs.Prelude.{ℕ, List, codes, ◌++◌, Result, Ok, Err}
+use Rattle.git_places.specs.Answers.{refused_as}
 use Rattle.git_setup.specs.declared.error.GitRefusal.{GitRefusal}
 use Rattle.git_setup.specs.declared.error.GitRefusal.TheVariants as git
 use Rattle.worktree_fs.specs.declared.answers.ReadError.{ReadError}
@@ -14,7 +15,7 @@ use Rattle.tizhagor.specs.declared.refusal.HereRefusal.{HereRefusal}
 use Rattle.tizhagor.specs.declared.refusal.HereRefusal.TheVariants as errors
 use Rattle.tizhagor.specs.FilesLines.{files_line}
 use Rattle.tizhagor.specs.IndexLines.{entry_reason, file_reason}
-use Rattle.tizhagor.specs.Parts.{fault_line, memory_line, value_line, with_path}
+use Rattle.tizhagor.specs.Parts.{fault_line, foreign_line, memory_line, value_line, with_path}
 use Rattle.tizhagor.specs.PlacesLines.{places_line}
 use Rattle.tizhagor.specs.ProgramLines.{program_line, program_status}
 
@@ -41,6 +42,7 @@ of_misuse misuses.OutOfMemory = memory
 abbrev pub of_git : GitRefusal → HereRefusal
 of_git (git.Elsewhere name) = errors.Git (git.Elsewhere name)
 of_git (git.Places e) = errors.Git (git.Places e)
+of_git (git.Foreign path) = errors.Git (git.Foreign path)
 of_git (git.IndexNode path) = errors.Git (git.IndexNode path)
 of_git (git.IndexFile path e) = errors.Git (git.IndexFile path e)
 of_git (git.IndexEntry path e) = errors.Git (git.IndexEntry path e)
@@ -56,8 +58,7 @@ of_git git.Fault = fault
 of_git git.OutOfMemory = memory
 
 abbrev pub as_git : {A : Type 0} → Result A GitRefusal → Result A HereRefusal
-as_git (Ok found) = Ok found
-as_git (Err e) = Err (of_git e)
+as_git answer = refused_as of_git answer
 
 -- that there is no text by a setup
 abbrev pub as_program : {A : Type 0} → Result A Refusal → Result A HereRefusal
@@ -95,6 +96,7 @@ status_of (errors.Program refusal) = program_status refusal
 abbrev pub git_line : GitRefusal → List ℕ
 git_line (git.Elsewhere name) = with_path (codes "fatal: ") name (codes " is set, which is not heeded; unset it\n")
 git_line (git.Places e) = places_line e
+git_line (git.Foreign path) = foreign_line path
 git_line (git.IndexNode path) = with_path (codes "fatal: '") path (codes "' is no file\n")
 git_line (git.IndexFile path e) = with_path (codes "fatal: ") path (file_reason e)
 git_line (git.IndexEntry path e) = with_path (codes "fatal: ") path (entry_reason e)

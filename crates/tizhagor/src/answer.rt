@@ -1,6 +1,7 @@
 //! The top call.
 ghost use Rattle.std.specs.Prelude.{◌≡◌, ◌⊎◌, ℕ, List, true, Some, IfOk, IfErr};
 ghost use Rattle.worktree_fs.specs.Causes.{Increased, NotIncreased};
+ghost use Rattle.worktree_fs.specs.Owners.{Owned};
 ghost use Rattle.worktree_fs.specs.Tree.{Names};
 ghost use Rattle.worktree_report.specs.Written.{Appends};
 ghost use Rattle.tizhagor.specs.Answers as answers;
@@ -21,13 +22,14 @@ use git_places::Variable;
 use git_setup::Asked;
 use gitbase_core::Bytes;
 use std::alloc::Global;
-use worktree_fs::{Interrupt, Sink};
+use worktree_fs::{Interrupt, Owners, Sink};
 use worktree_report::CountsFaults;
 
 /// The bytes for a call, or why there are none.
-fn bytes_for<W: CountsFaults, I: Interrupt>(
+fn bytes_for<W: CountsFaults, O: Owners, I: Interrupt>(
     alloc: Global,
     worktree: &mut W,
+    owners: &mut O,
     interrupt: &mut I,
     current: &[u8],
     variables: &[Variable],
@@ -36,13 +38,14 @@ fn bytes_for<W: CountsFaults, I: Interrupt>(
     asked: Asked,
     writing: Writing,
 ) -> Result<Bytes, HereRefusal>
-    ensures { answers.AnswersCall W.Worktree I.Interrupt worktree.old worktree.new interrupt.old
-        interrupt.new (answers.found_at (answers.placed current.now variables.now true)
+    ensures { answers.AnswersCall W.Worktree I.Interrupt O.Owners worktree.old worktree.new
+        interrupt.old interrupt.new owners.old owners.new
+        (answers.found_at (answers.placed current.now variables.now true)
         directory.now (asked_for call asked)) call writing result }
 {
     let asked = asked_for(call, asked);
     let answer = text_here(
-        alloc, worktree, interrupt, current, variables, directory, call, &asked,
+        alloc, worktree, owners, interrupt, current, variables, directory, call, &asked,
     );
     written(alloc, writing, answer)
 }
@@ -56,9 +59,10 @@ fn offered(alloc: Global, text: &[u8]) -> Result<Bytes, HereRefusal>
 }
 
 /// The bytes for a command, or why there are none.
-fn bytes_of<W: CountsFaults, I: Interrupt>(
+fn bytes_of<W: CountsFaults, O: Owners, I: Interrupt>(
     alloc: Global,
     worktree: &mut W,
+    owners: &mut O,
     interrupt: &mut I,
     current: &[u8],
     variables: &[Variable],
@@ -66,8 +70,9 @@ fn bytes_of<W: CountsFaults, I: Interrupt>(
     directory: &Option<Bytes>,
     command: Command,
 ) -> Result<Bytes, HereRefusal>
-    ensures { answers.AnswersTask W.Worktree I.Interrupt worktree.old worktree.new interrupt.old
-        interrupt.new (answers.placed current.now variables.now takes_colors) directory.now result
+    ensures { answers.AnswersTask W.Worktree I.Interrupt O.Owners worktree.old worktree.new
+        interrupt.old interrupt.new owners.old owners.new
+        (answers.placed current.now variables.now takes_colors) directory.now result
         (answers.task_of takes_colors command) }
 {
     match command {
@@ -76,6 +81,7 @@ fn bytes_of<W: CountsFaults, I: Interrupt>(
             bytes_for(
                 alloc,
                 worktree,
+                owners,
                 interrupt,
                 current,
                 variables,
@@ -93,6 +99,7 @@ fn bytes_of<W: CountsFaults, I: Interrupt>(
         } => bytes_for(
             alloc,
             worktree,
+            owners,
             interrupt,
             current,
             variables,
@@ -104,6 +111,7 @@ fn bytes_of<W: CountsFaults, I: Interrupt>(
         Command::Modules { asked } => bytes_for(
             alloc,
             worktree,
+            owners,
             interrupt,
             current,
             variables,
@@ -117,6 +125,7 @@ fn bytes_of<W: CountsFaults, I: Interrupt>(
             bytes_for(
                 alloc,
                 worktree,
+                owners,
                 interrupt,
                 current,
                 variables,
@@ -132,23 +141,26 @@ fn bytes_of<W: CountsFaults, I: Interrupt>(
 }
 
 /// The bytes that the words ask for, or why there are none.
-fn bytes_asked<W: CountsFaults, I: Interrupt>(
+fn bytes_asked<W: CountsFaults, O: Owners, I: Interrupt>(
     alloc: Global,
     words: &[Bytes],
     worktree: &mut W,
+    owners: &mut O,
     interrupt: &mut I,
     current: &[u8],
     variables: &[Variable],
     takes_colors: bool,
 ) -> Result<Bytes, HereRefusal>
-    ensures { answers.AnswersHere W.Worktree I.Interrupt worktree.old worktree.new interrupt.old
-        interrupt.new (answers.placed current.now variables.now takes_colors) words.now result }
+    ensures { answers.AnswersHere W.Worktree I.Interrupt O.Owners worktree.old worktree.new
+        interrupt.old interrupt.new owners.old owners.new
+        (answers.placed current.now variables.now takes_colors) words.now result }
 {
     let request = request_of(alloc, words)?;
     let directory = request.directory;
     bytes_of(
         alloc,
         worktree,
+        owners,
         interrupt,
         current,
         variables,
@@ -172,18 +184,21 @@ fn bytes_asked<W: CountsFaults, I: Interrupt>(
 /// | 129 | a word is wrong; the line names it |
 /// | 130 | the interrupt was raised, and counted it |
 ///
+/// A work tree is read where it is the user's or safe, as `owners` tell whose it is.
+///
 /// With a status other than 0 nothing goes to `out`, but where `out` itself refused bytes, a front of them. With each status other than 0
 /// a line goes to `err`, with 129 the usage behind it, with 0 none; a refusal of `err` changes no byte of `out`, and no status but to 128. The interrupt is
 /// asked before each directory is read.
 ///
 /// See docs/DECISIONS.md#status-of-an-interrupt.
-pub fn answer_here<W: CountsFaults, I: Interrupt, S: Sink, E: Sink>(
+pub fn answer_here<W: CountsFaults, O: Owners, I: Interrupt, S: Sink, E: Sink>(
     alloc: Global,
     words: &[Bytes],
     current: &[u8],
     variables: &[Variable],
     takes_colors: bool,
     worktree: &mut W,
+    owners: &mut O,
     interrupt: &mut I,
     out: &mut S,
     err: &mut E,
@@ -191,18 +206,23 @@ pub fn answer_here<W: CountsFaults, I: Interrupt, S: Sink, E: Sink>(
     // What the words ask for came to an answer: bytes, or a refusal with its cause. The status, `out` and `err` are as that answer has
     // it, and what stays is said of each.
     ensures runs { RunsHere S.Sink E.Sink out.old out.new err.old err.new
-        (answers.AnswersHere W.Worktree I.Interrupt worktree.old worktree.new interrupt.old
-        interrupt.new (answers.placed current.now variables.now takes_colors) words.now) result }
+        (answers.AnswersHere W.Worktree I.Interrupt O.Owners worktree.old worktree.new
+        interrupt.old interrupt.new owners.old owners.new
+        (answers.placed current.now variables.now takes_colors) words.now) result }
 
     // Status 0, but for a report: no fault was counted.
     ensures unfaulted { result ≡ 0 → output.IsUnfaultedHere
         (answers.placed current.now variables.now takes_colors) words.now
         (W.faults worktree.old) (W.faults worktree.new) }
 
-    // Status 0, over a told tree, and for a report with no fault counted: what `out` has is what it had, and what the words ask for,
-    // from the bytes of `.git` on. Where a setup text means the setup that was found, it is the text by that one.
-    ensures output { (t : Names) → W.told worktree.old ≡ Some t → result ≡ 0
-        → (bytes : List ℕ) × output.IsOutputHere (W.precomposes worktree.old) t
+    // Status 0: the owners failed at nothing.
+    ensures owners_unfaulted { result ≡ 0 → O.faults owners.new ≡ O.faults owners.old }
+
+    // Status 0, over a told tree and told owners, and for a report with no fault counted: what `out` has is what it had, and what the words
+    // ask for, from the bytes of `.git` on. Where a setup text means the setup that was found, it is the text by that one.
+    ensures output { (t : Names) (owned : Owned)
+        → W.told worktree.old ≡ Some t → O.told owners.old ≡ Some owned → result ≡ 0
+        → (bytes : List ℕ) × output.IsOutputHere (W.precomposes worktree.old) t owned
         (answers.placed current.now variables.now takes_colors) words.now
         (W.faults worktree.old) (W.faults worktree.new) bytes
         × Appends (S.written out.old) (S.written out.new) bytes }
@@ -212,23 +232,29 @@ pub fn answer_here<W: CountsFaults, I: Interrupt, S: Sink, E: Sink>(
     ensures usage { answers.IsMisuse words.now
         → (result ≡ 129) ⊎ IsToldOf E.Sink err.old err.new memory_line 128 result }
 
-    // Status 128, over a told tree with no fault counted and no output refused: want of memory is told, or what is refused over the tree.
-    ensures fatal { (t : Names) → W.told worktree.old ≡ Some t → result ≡ 128
+    // Status 128, over a told tree and told owners with no fault counted and no output refused: want of memory is told, or what is refused
+    // over them.
+    ensures fatal { (t : Names) (owned : Owned)
+        → W.told worktree.old ≡ Some t → O.told owners.old ≡ Some owned → result ≡ 128
         → NotIncreased (W.faults worktree.old) (W.faults worktree.new)
+        → NotIncreased (O.faults owners.old) (O.faults owners.new)
         → NotIncreased (S.refusals out.old) (S.refusals out.new)
         → IsToldOf E.Sink err.old err.new memory_line 128 result
         ⊎ IsFatal E.Sink err.old err.new
-        (output.RefusesHere t (answers.placed current.now variables.now takes_colors) words.now) }
+        (output.RefusesHere t owned (answers.placed current.now variables.now takes_colors)
+        words.now) }
 
     // Status 130: the interrupt was raised.
     ensures interrupted { result ≡ 130
         → Increased (I.raised interrupt.old) (I.raised interrupt.new) }
 
-    // Valid input, over a told tree and with nothing counted: 0, or want of memory is told.
-    ensures complete { (t : Names) → W.told worktree.old ≡ Some t
-        → output.IsValidHere (W.precomposes worktree.old) t
+    // Valid input, over a told tree and told owners and with nothing counted: 0, or want of memory is told.
+    ensures complete { (t : Names) (owned : Owned)
+        → W.told worktree.old ≡ Some t → O.told owners.old ≡ Some owned
+        → output.IsValidHere (W.precomposes worktree.old) t owned
         (answers.placed current.now variables.now takes_colors) words.now
         → NotIncreased (W.faults worktree.old) (W.faults worktree.new)
+        → NotIncreased (O.faults owners.old) (O.faults owners.new)
         → NotIncreased (I.raised interrupt.old) (I.raised interrupt.new)
         → NotIncreased (S.refusals out.old) (S.refusals out.new)
         → (result ≡ 0) ⊎ IsToldOf E.Sink err.old err.new memory_line 128 result }
@@ -237,6 +263,7 @@ pub fn answer_here<W: CountsFaults, I: Interrupt, S: Sink, E: Sink>(
         alloc,
         words,
         worktree,
+        owners,
         interrupt,
         current,
         variables,

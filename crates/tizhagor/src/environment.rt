@@ -4,6 +4,7 @@ use git_places::Variable;
 use gitbase_core::{Bytes, OutOfMemory};
 use std::alloc::Global;
 use std::env::{Env, FillError};
+use std::str;
 
 /// The most bytes that Linux hands on in one word or variable.
 const LIMIT: usize = 131_072;
@@ -20,6 +21,8 @@ pub struct Handed {
     pub variables: Vec<Variable>,
     /// The current directory: an absolute path without links.
     pub current: Bytes,
+    /// The same with a slash at its end; nothing where it is not UTF-8.
+    pub beside: String,
 }
 
 /// Why the program cannot begin.
@@ -98,6 +101,16 @@ fn current<R: Env>(rt: &R, alloc: Global) -> Result<Bytes, NotGiven> {
     }
 }
 
+/// A path with a slash at its end; nothing where it is not UTF-8.
+fn with_slash(alloc: Global, path: &[u8]) -> Result<String, OutOfMemory> {
+    let Ok(text) = str::from_utf8(path) else {
+        return Ok(String::new(alloc));
+    };
+    let mut path = String::from_str(alloc, text)?;
+    path.push('/')?;
+    Ok(path)
+}
+
 /// All that the system hands to the program.
 ///
 /// # Errors
@@ -110,10 +123,12 @@ pub fn given<R: Env>(rt: &R, alloc: Global) -> Result<Handed, NotGiven> {
     let words = words(rt, alloc, &mut buffer)?;
     let variables = variables(rt, alloc, &mut buffer)?;
     let current = current(rt, alloc)?;
+    let beside = with_slash(alloc, current.as_bytes())?;
     Ok(Handed {
         words,
         variables,
         current,
+        beside,
     })
 }
 

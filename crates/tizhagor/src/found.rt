@@ -2,7 +2,7 @@
 ghost use Rattle.std.specs.Prelude.{◌≡◌, IfOk, IfErr};
 ghost use Rattle.git_setup.specs.Found.{found_in};
 ghost use Rattle.tizhagor.specs.Asking as words;
-ghost use Rattle.tizhagor.specs.Finds.{FindsHere};
+ghost use Rattle.tizhagor.specs.Finds.{FindsHere, FindsHereWith};
 ghost use Rattle.tizhagor.specs.Refusals.{as_git, IsOfFinding};
 
 use crate::call::{Call, options_for};
@@ -12,7 +12,7 @@ use git_places::{Surroundings, Variable, surroundings_of};
 use git_setup::{Asked, Found, GitRefusal, setup_here};
 use gitbase_core::{Bytes, OutOfMemory, PathText};
 use std::alloc::Global;
-use worktree_fs::Worktree;
+use worktree_fs::{Owners, Worktree};
 use worktree_report::SetupOptions;
 
 /// What is asked, with the options that a call needs.
@@ -55,34 +55,37 @@ fn as_git(answer: Result<Found, GitRefusal>) -> Result<Found, HereRefusal>
 }
 
 /// The work tree in these surroundings, and its setup.
-fn setup_in<W: Worktree>(
+fn setup_in<W: Worktree, O: Owners>(
     alloc: Global,
     worktree: &mut W,
+    owners: &mut O,
     around: &Surroundings,
     asked: &Asked,
 ) -> Result<Found, HereRefusal>
-    ensures finds { FindsHere W.Worktree worktree.old worktree.new
-        (λ t. as_git (found_in t around.now asked.now)) result }
+    ensures finds { FindsHereWith W.Worktree O.Owners worktree.old worktree.new owners.old
+        owners.new (λ t owned. as_git (found_in t owned around.now asked.now)) result }
     ensures of { IfErr result IsOfFinding }
 {
-    let answer = setup_here(alloc, worktree, around, asked);
+    let answer = setup_here(alloc, worktree, owners, around, asked);
     as_git(answer)
 }
 
 /// The work tree around a directory, and its setup.
-fn found_from<W: Worktree>(
+fn found_from<W: Worktree, O: Owners>(
     alloc: Global,
     worktree: &mut W,
+    owners: &mut O,
     variables: &[Variable],
     asked: &Asked,
     directory: &[u8],
 ) -> Result<Found, HereRefusal>
-    ensures finds { FindsHere W.Worktree worktree.old worktree.new
-        (λ t. words.found_from t variables.now asked.now directory.now) result }
+    ensures finds { FindsHereWith W.Worktree O.Owners worktree.old worktree.new owners.old
+        owners.new (λ t owned. words.found_from t owned variables.now asked.now directory.now)
+        result }
     ensures of { IfErr result IsOfFinding }
 {
     let around = surroundings_of(alloc, directory, variables)?;
-    setup_in(alloc, worktree, &around, asked)
+    setup_in(alloc, worktree, owners, &around, asked)
 }
 
 /// Whether what may be deleted is asked for, and the current directory is not the top of the work tree.
@@ -102,19 +105,21 @@ fn not_at_top(alloc: Global, found: &Found) -> Result<HereRefusal, OutOfMemory>
 }
 
 /// The same, where what may be deleted is asked for at the top of the work tree alone.
-fn top_from<W: Worktree>(
+fn top_from<W: Worktree, O: Owners>(
     alloc: Global,
     worktree: &mut W,
+    owners: &mut O,
     current: &[u8],
     variables: &[Variable],
     asked: &Asked,
     directory: &[u8],
 ) -> Result<Found, HereRefusal>
-    ensures finds { FindsHere W.Worktree worktree.old worktree.new (λ t. words.top_from t
-        current.now variables.now asked.now directory.now) result }
+    ensures finds { FindsHereWith W.Worktree O.Owners worktree.old worktree.new owners.old
+        owners.new (λ t owned. words.top_from t owned current.now variables.now asked.now
+        directory.now) result }
     ensures of { IfErr result IsOfFinding }
 {
-    let found = found_from(alloc, worktree, variables, asked, directory)?;
+    let found = found_from(alloc, worktree, owners, variables, asked, directory)?;
     if is_away(&asked.options, current, &found) {
         return Err(not_at_top(alloc, &found)?);
     }
@@ -129,21 +134,31 @@ fn top_from<W: Worktree>(
 /// - `Absent`, `NotADirectory`: the directory that `-C` names is none.
 /// - `Git`: no setup is found, as [`setup_here`] says.
 /// - `NotAtTop`: `asked` is for deletion, and `current` is not the top of the work tree.
-/// - `Program(Fault)`: the worktree failed, which it counted. No fault reads as "nothing is there".
+/// - `Program(Fault)`: the worktree failed, or the owners, which they counted. No fault reads as "nothing is there".
 /// - `Program(OutOfMemory)` for want of memory.
 #[tactic(auto, unfolding(crate::specs::Asking::here_in))]
-pub fn found_here<W: Worktree>(
+pub fn found_here<W: Worktree, O: Owners>(
     alloc: Global,
     worktree: &mut W,
+    owners: &mut O,
     current: &[u8],
     variables: &[Variable],
     directory: &Option<Bytes>,
     asked: &Asked,
 ) -> Result<Found, HereRefusal>
-    ensures finds { FindsHere W.Worktree worktree.old worktree.new
-        (λ t. words.here_in t current.now variables.now directory.now asked.now) result }
+    ensures finds { FindsHereWith W.Worktree O.Owners worktree.old worktree.new owners.old
+        owners.new (λ t owned. words.here_in t owned current.now variables.now directory.now
+        asked.now) result }
     ensures of { IfErr result IsOfFinding }
 {
     let place = directory_in(alloc, worktree, current, directory)?;
-    top_from(alloc, worktree, current, variables, asked, place.as_bytes())
+    top_from(
+        alloc,
+        worktree,
+        owners,
+        current,
+        variables,
+        asked,
+        place.as_bytes(),
+    )
 }

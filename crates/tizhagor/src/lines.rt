@@ -19,7 +19,7 @@ pub const MEMORY: &[u8] = b"fatal: out of memory\n";
 /// The line of an output that was refused.
 pub const OUTPUT: &[u8] = b"fatal: write failure on standard output\n";
 
-/// The line of a worktree that failed.
+/// The line of a worktree, or of owners, that failed.
 pub const FAULT: &[u8] = b"fatal: a file or directory could not be read\n";
 
 /// A line that is always the same.
@@ -82,6 +82,18 @@ pub fn config_line(alloc: Global, path: &[u8], line: usize) -> Result<Bytes, Out
     add_escaped(&mut text, path)?;
     text.extend_from_slice(b"\n")?;
     Ok(Bytes::from_vec(text))
+}
+
+/// A repository belongs to another user. The path is not put into the call, which a person may copy into a shell.
+pub fn foreign_line(alloc: Global, path: &[u8]) -> Result<Bytes, OutOfMemory>
+    ensures { IfOk result (λ text. text ≡ words.foreign_line path.now) }
+{
+    with_path(
+        alloc,
+        b"fatal: detected dubious ownership in repository at '",
+        path,
+        b"'; to add an exception, call 'git config --global --add safe.directory DIRECTORY'\n",
+    )
 }
 
 /// The value of a key or of a variable cannot be read.

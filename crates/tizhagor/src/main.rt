@@ -8,6 +8,7 @@ mod ending;
 mod environment;
 mod found;
 mod lines;
+mod progress;
 mod refusal;
 #[cfg(test)]
 mod tests;
@@ -16,10 +17,11 @@ mod writing;
 
 use answer::answer_here;
 use environment::{Handed, NotGiven, given};
+use progress::Progress;
 use std::alloc::Global;
 use std::io::IsTerminal;
 use std::process::ExitCode;
-use worktree_fs::{DiskWorktree, PlannedInterrupt, StdSink};
+use worktree_fs::{DiskOwners, DiskWorktree, StdSink};
 use worktree_report::say;
 
 /// The line of a program that cannot begin.
@@ -32,28 +34,36 @@ fn line_of(refused: NotGiven) -> &'static [u8] {
 }
 
 /// Answers the words over the real disk.
-fn answered(rt: &HostRuntime, alloc: Global, given: &Handed) -> u8 {
-    let mut worktree = DiskWorktree::new(rt, false);
-    let mut interrupt = PlannedInterrupt::never();
-    let mut out = StdSink::out(rt);
-    let mut err = StdSink::err(rt);
-    answer_here(
+fn answered(rt: &HostRuntime, alloc: Global, given: &Handed) -> Result<u8, NotGiven> {
+    let mut worktree = DiskWorktree::beside(rt, false, given.beside.as_str());
+    let mut owners = DiskOwners::new(rt);
+    let mut progress = Progress::new(rt, alloc, &given.variables)?;
+    let mut out = progress.out()?;
+    let mut err = progress.err()?;
+    Ok(answer_here(
         alloc,
         &given.words,
         given.current.as_bytes(),
         &given.variables,
         rt.stdout().is_terminal(),
         &mut worktree,
-        &mut interrupt,
+        &mut owners,
+        &mut progress,
         &mut out,
         &mut err,
-    )
+    ))
+}
+
+/// The status of the program, over what the system hands to it.
+fn status(rt: &HostRuntime, alloc: Global) -> Result<u8, NotGiven> {
+    let given = given(rt, alloc)?;
+    answered(rt, alloc, &given)
 }
 
 fn main(rt: HostRuntime) -> ExitCode {
     let alloc = rt.alloc();
-    match given(&rt, alloc) {
-        Ok(given) => ExitCode::from(answered(&rt, alloc, &given)),
+    match status(&rt, alloc) {
+        Ok(status) => ExitCode::from(status),
         Err(refused) => {
             say(&mut StdSink::err(&rt), line_of(refused));
             ExitCode::from(128)

@@ -5,7 +5,9 @@ use bstr::ByteSlice;
 use git_places::Variable;
 use gitbase_core::Bytes;
 use std::alloc::Global;
-use worktree_fs::{MemorySink, MemoryWorktree, NewNode, PlannedInterrupt};
+use worktree_fs::{
+    MemoryOwners, MemorySink, MemoryWorktree, NewNode, OwnedNode, Ownership, PlannedInterrupt,
+};
 
 /// More room than any answer here needs.
 const ROOM: usize = 65_536;
@@ -19,6 +21,10 @@ const INDEX: &[u8] = b"DIRC\0\0\0\x02\0\0\0\x01\
 /// Steps by which each tree begins, parted by `;`: a directory, or a file with its bytes behind `=`, where `~` stands for a line feed.
 const BEGIN: &[u8] =
     b"/w/.git/objects;/w/.git/refs;/w/.git/HEAD=ref: refs/heads/main~;/w/.gitignore=*.o~;/w/a=x~;/w/b=;/w/c.o=;/w/d/e=";
+
+/// Steps that each tree has besides, behind those of its row: `@` and a path, and behind `=` a digit for the user who owns what is there, and
+/// one for the file system.
+const OWNED: &[u8] = b"@/proc/self=19;@/=01;@/w=11;@/w/.git=11;@/w/d=11;@/w/n=11;@/w/n/.git=11";
 
 /// Rows, parted by `|`: words, the directory, a variable, more steps, the status, and what stands on the output and on standard error, parted
 /// by `^`.
@@ -48,8 +54,22 @@ report^/w^GIT_DIR=x^^128^^fatal: GIT_DIR is set, which is not heeded; unset it~|
 report^/w^^/w/.git/config=[core~^128^^fatal: bad config line 1 in file /w/.git/config~|\
 report^/w^^/w/.git/config=[core]~repositoryformatversion=2~^128^^fatal: Expected git repo version <= 1, found 2~|\
 report^/w/n^^/w/n/.git=x^128^^fatal: invalid gitfile format: /w/n/.git~|\
+report^/w/n^^/w/n/.git=gitdir: x~^128^^fatal: not a git repository: /w/n/x~|\
+report^/w^^/w/.git/config=[core]~repositoryformatversion=0~bare=x~^128^^fatal: bad config value for 'core.bare'~|\
+report^/w^^@/w/.git=21^128^^fatal: detected dubious ownership in repository at '/w'; to add an exception, call 'git config --global --add safe.directory DIRECTORY'~|\
+report d^/w^HOME=/h^@/w/.git=21;/h/.gitconfig=[safe]~directory=/w~^0^untracked file - prefix - -\td/e~^|\
+report^/w/d^^@/w/d=12^128^^fatal: not a git repository (or any parent up to mount point /w); stopping at filesystem boundary (GIT_DISCOVERY_ACROSS_FILESYSTEM not set)~|\
+report .^/w/d^GIT_DISCOVERY_ACROSS_FILESYSTEM=1^@/w/d=12^0^untracked file - prefix - -\td/e~^|\
 report^/w^^/w/.git/index=x^128^^fatal: /w/.git/index: index file smaller than expected~|\
-report ../x^/w^^^128^^fatal: '../x' is outside repository~";
+report ../x^/w^^^128^^fatal: '../x' is outside repository~|\
+report^/w^^/w/.git/config=[include]~path=more~;/w/.git/more=[core]~excludesFile=/x~;/x=b~^0^untracked file - always - -\t.gitignore~untracked file - always - -\td/e~^|\
+report b^/w^^/w/.git/config=[includeIf \"onbranch:other\"]~path=more~;/w/.git/more=[core]~excludesFile=/x~;/x=b~^0^untracked file - verbatim - -\tb~^|\
+report^/l^^@/l=11;@/l/.git=11;@/w/.git/worktrees/l=11;/l/.git=gitdir: /w/.git/worktrees/l~;/w/.git/worktrees/l/HEAD=ref: refs/heads/l~;/w/.git/worktrees/l/commondir=../..~;/w/.git/info/exclude=n~;/l/n=;/l/m=^0^untracked file - always - -\tm~^|\
+state a^/w^^^129^^error: `a' is a path, and this command takes none~|\
+state^/w^^/w/a=y~;/w/.git/index=DIRC\0\0\0\x04\0\0\0\x01\
+\0\0\0\0\0\0\0\0\0\0\0\0\0\0\0\0\0\0\0\0\0\0\0\0\0\0\x81\xa4\0\0\0\0\0\0\0\0\0\0\0\0\
+\x58\x7b\xe6\xb4\xc3\xf9\x3f\x93\xc4\x89\xc0\x11\x1b\xba\x55\x96\x14\x7a\x26\xcb\0\x01\0a\0\
+\0\0\0\0\0\0\0\0\0\0\0\0\0\0\0\0\0\0\0\0^0^modified\ta~untracked file - always - -\t.gitignore~untracked file - always - -\tb~untracked file - always - -\td/e~^";
 
 /// A text with a line feed in the place of each `~`.
 fn lines_of(alloc: Global, text: &[u8]) -> Option<Vec<u8>> {
@@ -62,8 +82,11 @@ fn lines_of(alloc: Global, text: &[u8]) -> Option<Vec<u8>> {
     Some(copy)
 }
 
-/// Whether a step was taken.
+/// Whether a step was taken; one that tells an owner adds nothing to the tree.
 fn is_taken(alloc: Global, tree: &mut MemoryWorktree, step: &[u8]) -> bool {
+    if step.starts_with(b"@") {
+        return true;
+    }
     match step.split_once_str(b"=") {
         Some((path, text)) => match lines_of(alloc, text) {
             Some(bytes) => tree.add(alloc, path, NewNode::File(&bytes)).is_ok(),
@@ -93,6 +116,41 @@ fn tree_of(alloc: Global, steps: &[u8]) -> Option<MemoryWorktree> {
     }
     let _ = tree.add(alloc, b"/w/.git/index", NewNode::File(INDEX));
     Some(tree)
+}
+
+/// A node whose owner a step tells.
+fn node_of(alloc: Global, path: &[u8], said: &[u8]) -> Option<OwnedNode> {
+    let [owner, device] = said else {
+        return None;
+    };
+    Some(OwnedNode {
+        path: Bytes::from_slice(alloc, path).ok()?,
+        ownership: Ownership {
+            owner: u32::from(*owner),
+            device: u64::from(*device),
+        },
+    })
+}
+
+/// Adds what a step tells of an owner, if it does.
+fn add_node(alloc: Global, nodes: &mut Vec<OwnedNode>, step: &[u8]) -> Option<()> {
+    if let Some(told) = step.strip_prefix(b"@".as_slice()) {
+        let (path, said) = told.split_once_str(b"=")?;
+        nodes.push(node_of(alloc, path, said)?).ok()?;
+    }
+    Some(())
+}
+
+/// The owners that these steps tell, and of each tree where they tell none.
+fn owners_of(alloc: Global, steps: &[u8]) -> Option<MemoryOwners> {
+    let mut nodes = Vec::new(alloc);
+    for step in steps.split(|byte| *byte == b';') {
+        add_node(alloc, &mut nodes, step)?;
+    }
+    for step in OWNED.split(|byte| *byte == b';') {
+        add_node(alloc, &mut nodes, step)?;
+    }
+    Some(MemoryOwners::new(nodes))
 }
 
 fn words_of(alloc: Global, text: &[u8]) -> Option<Vec<Bytes>> {
@@ -130,6 +188,7 @@ fn answer_of(
     current: &[u8],
     variables: &[Variable],
     tree: &mut MemoryWorktree,
+    owners: &mut MemoryOwners,
     mut interrupt: PlannedInterrupt,
     nth: u64,
 ) -> Option<Answer> {
@@ -143,6 +202,7 @@ fn answer_of(
         variables,
         false,
         tree,
+        owners,
         &mut interrupt,
         &mut out,
         &mut err,
@@ -179,8 +239,16 @@ fn holds_for(alloc: Global, row: &[u8], interrupt: PlannedInterrupt, nth: u64) -
     let words = words_of(alloc, words)?;
     let variables = variables_of(alloc, variable)?;
     let mut tree = tree_of(alloc, steps)?;
+    let mut owners = owners_of(alloc, steps)?;
     let answer = answer_of(
-        alloc, &words, current, &variables, &mut tree, interrupt, nth,
+        alloc,
+        &words,
+        current,
+        &variables,
+        &mut tree,
+        &mut owners,
+        interrupt,
+        nth,
     )?;
     Some(is_wanted(alloc, &answer, want))
 }

@@ -16,7 +16,7 @@ use gitbase_core::Bytes;
 use index_status::text_of_status;
 use module_plan::planned_text;
 use std::alloc::Global;
-use worktree_fs::{Interrupt, Worktree};
+use worktree_fs::{Interrupt, Owners, Worktree};
 use worktree_report::{CountsFaults, Refusal, Setup, walked_text};
 
 /// The text of a plan, by a setup that is prepared for it.
@@ -70,9 +70,10 @@ fn as_program(answer: Result<Bytes, Refusal>) -> Result<Bytes, HereRefusal>
 }
 
 /// The text of a call in the work tree around the directory that is asked for, or why there is none.
-pub fn text_here<W: CountsFaults, I: Interrupt>(
+pub fn text_here<W: CountsFaults, O: Owners, I: Interrupt>(
     alloc: Global,
     worktree: &mut W,
+    owners: &mut O,
     interrupt: &mut I,
     current: &[u8],
     variables: &[Variable],
@@ -80,11 +81,14 @@ pub fn text_here<W: CountsFaults, I: Interrupt>(
     call: Call,
     asked: &Asked,
 ) -> Result<Bytes, HereRefusal>
-    ensures { answers.AnswersBy W.Worktree I.Interrupt worktree.old worktree.new interrupt.old
-        interrupt.new (λ t. here_in t current.now variables.now directory.now asked.now) call
+    ensures { answers.AnswersBy W.Worktree I.Interrupt O.Owners worktree.old worktree.new
+        interrupt.old interrupt.new owners.old owners.new
+        (λ t owned. here_in t owned current.now variables.now directory.now asked.now) call
         result }
 {
-    let found = found_here(alloc, worktree, current, variables, directory, asked)?;
+    let found = found_here(
+        alloc, worktree, owners, current, variables, directory, asked,
+    )?;
     let Found { root, setup } = found;
     let mut setup = setup;
     let answer = text_by(

@@ -2,7 +2,7 @@
 ghost use Rattle.std.specs.Prelude.{◌≡◌, IfOk};
 ghost use Rattle.tizhagor.specs.FilesLines as words;
 
-use crate::lines::{FAULT, MEMORY, config_line, fixed, value_line, with_path};
+use crate::lines::{FAULT, MEMORY, config_line, fixed, foreign_line, value_line, with_path};
 use git_config_files::FilesError;
 use gitbase_core::{Bytes, OutOfMemory};
 use std::alloc::Global;
@@ -50,6 +50,7 @@ pub fn files_line(alloc: Global, error: &FilesError) -> Result<Bytes, OutOfMemor
             name.as_bytes(),
             b" is set, which is not heeded; unset it\n",
         ),
+        FilesError::Foreign { path } => foreign_line(alloc, path.as_bytes()),
         FilesError::Fault => fixed(alloc, FAULT),
         FilesError::OutOfMemory => fixed(alloc, MEMORY),
     }

@@ -5,7 +5,7 @@ ghost use Rattle.tizhagor.specs.Refusals as words;
 use crate::lines::files::files_line;
 use crate::lines::index::{entry_reason, file_reason};
 use crate::lines::places::places_line;
-use crate::lines::{FAULT, MEMORY, fixed, value_line, with_path};
+use crate::lines::{FAULT, MEMORY, fixed, foreign_line, value_line, with_path};
 use git_index::IndexFileError;
 use git_setup::GitRefusal;
 use gitbase_core::{Bytes, IndexError, OutOfMemory};
@@ -61,6 +61,7 @@ pub fn git_line(alloc: Global, refusal: &GitRefusal) -> Result<Bytes, OutOfMemor
             b" is set, which is not heeded; unset it\n",
         ),
         GitRefusal::Places(error) => places_line(alloc, error),
+        GitRefusal::Foreign { path } => foreign_line(alloc, path.as_bytes()),
         GitRefusal::IndexNode { path } => with_path(
             alloc,
             b"fatal: '",

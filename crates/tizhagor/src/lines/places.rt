@@ -16,13 +16,31 @@ pub fn places_line(alloc: Global, error: &PlacesError) -> Result<Bytes, OutOfMem
             alloc,
             b"fatal: not a git repository (or any of the parent directories): .git\n",
         ),
+        PlacesError::Border { path } => with_path(
+            alloc,
+            b"fatal: not a git repository (or any parent up to mount point ",
+            path.as_bytes(),
+            b"); stopping at filesystem boundary (GIT_DISCOVERY_ACROSS_FILESYSTEM not set)\n",
+        ),
+        PlacesError::NoDirectory { path } => with_path(
+            alloc,
+            b"fatal: failed to stat '",
+            path.as_bytes(),
+            b"': No such file or directory\n",
+        ),
         PlacesError::Bare { path: _ } => fixed(
             alloc,
             b"fatal: this operation must be run in a work tree\n",
         ),
-        PlacesError::GitFile { path } => with_path(
+        PlacesError::GitFileForm { path } => with_path(
             alloc,
             b"fatal: invalid gitfile format: ",
+            path.as_bytes(),
+            b"\n",
+        ),
+        PlacesError::GitFileTarget { path } => with_path(
+            alloc,
+            b"fatal: not a git repository: ",
             path.as_bytes(),
             b"\n",
         ),
