@@ -1,0 +1,2 @@
+pub mod QuotedNames
+pub mod RelativeNames

@@ -1,0 +1,9 @@
+pub mod Choices
+pub mod Lines
+pub mod Cached
+pub mod Places
+pub mod Others
+pub mod Unmatched
+pub mod Walking
+pub mod Listed
+pub mod Wrong

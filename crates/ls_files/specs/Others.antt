@@ -1,0 +1,167 @@
+-- What a work tree holds besides the index, by the entries of a report: git-ls-files(1), "OPTIONS".
+use Rattle.std.specs.Prelude.{ℕ, List, [], ◌∷◌, ◌++◌, Bool, true, false, not, ◌&&◌, ◌||◌, find, slice_index, take, Option, Some, None, option_map, option_and_then, if◌then◌else◌}
+use Rattle.std.specs.List.{flat_map}
+use Rattle.std.specs.Option.{option_or}
+use Rattle.gitbase_core.specs.Kinds.{kinds}
+use Rattle.gitbase_core.specs.Path.{is_slash}
+use Rattle.gitbase_core.specs.declared.entry.IndexEntry.{IndexEntry}
+use Rattle.gitbase_core.specs.declared.kinds.EntryKind.{EntryKind}
+use Rattle.gitbase_core.specs.declared.kinds.EntryKind.TheVariants as index
+use Rattle.glob_rules.specs.PathSpec.{PathSpec}
+use Rattle.glob_rules.specs.PathSpecs.{list_match}
+use Rattle.glob_rules.specs.declared.pathspec.Match.{Match}
+use Rattle.glob_rules.specs.declared.pathspec.MatchKind.{MatchKind}
+use Rattle.glob_rules.specs.declared.pathspec.MatchKind.TheVariants.{Always, Prefix, WildcardMatch, Verbatim}
+use Rattle.dir_classify.specs.Kinds.{holds_names}
+use Rattle.dir_classify.specs.declared.entry.Entry.{Entry}
+use Rattle.dir_classify.specs.declared.entry.Kind.{Kind}
+use Rattle.dir_classify.specs.declared.entry.Kind.TheVariants.{Untrackable, File, Symlink, Directory, Repository}
+use Rattle.dir_classify.specs.declared.entry.Status.{Status}
+use Rattle.dir_classify.specs.declared.entry.Status.TheVariants.{Pruned, Tracked, Ignored, Untracked}
+use Rattle.worktree_report.specs.SetupMeant.{ordered_after}
+use Rattle.worktree_report.specs.declared.report.ReportEntry.{ReportEntry}
+use Rattle.ls_files.specs.declared.listing.Listing.{Listing}
+use Rattle.ls_files.specs.Cached.{is_matched}
+use Rattle.ls_files.specs.Lines.{other_line}
+use Rattle.ls_files.specs.Places.{Place}
+
+-- a directory with a slash behind its path
+abbrev pub name : Place → List ℕ
+name place = if place.holds_names then place.path ++ 47 ∷ [] else place.path
+
+-- ---- an entry by itself
+
+abbrev pub place_at : Entry → Place
+place_at e = record { path = e.rela_path; holds_names = holds_names e.disk_kind }
+
+-- "-o: Show other (i.e. untracked) files in the output", "-i: Show only ignored files in the output"
+abbrev pub is_wanted : Listing → Status → Bool
+is_wanted l Untracked = not l.ignored
+is_wanted l (Ignored kind) = l.ignored
+is_wanted l Tracked = false
+is_wanted l Pruned = false
+
+-- directories without anything are shown with `--directory`, unless `--no-empty-directory` is said
+abbrev pub shows_empty : Listing → Bool
+shows_empty l = l.directories && l.empty_directories
+
+-- a file, a link or a repository; and such a directory
+abbrev pub is_plain : Listing → Option Kind → Bool
+is_plain l None = false
+is_plain l (Some Untrackable) = false
+is_plain l (Some File) = true
+is_plain l (Some Symlink) = true
+is_plain l (Some Repository) = true
+is_plain l (Some Directory) = shows_empty l
+
+abbrev pub may_show : Listing → Entry → Bool
+may_show l e = is_wanted l e.status && is_plain l e.disk_kind
+
+-- the path specs match it, with a slash behind it if it is a directory
+abbrev pub is_entry_matched : List PathSpec → Entry → Bool
+is_entry_matched specs e = is_matched specs (name (place_at e)) (holds_names e.disk_kind)
+
+abbrev pub is_shown : Listing → List PathSpec → Entry → Bool
+is_shown l specs e = may_show l e && is_entry_matched specs e
+
+abbrev pub itself : Listing → List PathSpec → Entry → Option Place
+itself l specs e = if is_shown l specs e then Some (place_at e) else None
+
+-- ---- a directory in the place of what it holds
+
+abbrev pub as_directory : List ℕ → Place
+as_directory path = record { path = path; holds_names = true }
+
+-- the directories above a path, the highest first; some bytes of it stand before the others
+abbrev pub above_after : List ℕ → List ℕ → List (List ℕ)
+above_after passed [] = []
+above_after passed (b ∷ rest) =
+    if is_slash b then passed ∷ above_after (passed ++ b ∷ []) rest else above_after (passed ++ b ∷ []) rest
+
+abbrev pub above : List ℕ → List (List ℕ)
+above path = above_after [] path
+
+abbrev pub is_always : MatchKind → Bool
+is_always Always = true
+is_always Prefix = false
+is_always WildcardMatch = false
+is_always Verbatim = false
+
+-- The path specs match a directory, with a slash behind it. Where one names it, and what it holds is ignored, the directory may be ignored
+-- itself: then it is not shown.
+abbrev pub opens : Bool → Option Match → Bool
+opens ignored None = false
+opens ignored (Some m) = not m.excluded && (not ignored || is_always m.kind)
+
+abbrev pub is_directory_kind : Option EntryKind → Bool
+is_directory_kind None = false
+is_directory_kind (Some index.File) = false
+is_directory_kind (Some index.Symlink) = false
+is_directory_kind (Some index.Repository) = false
+is_directory_kind (Some index.Directory) = true
+
+abbrev pub directory_match : List PathSpec → List ℕ → Option Match
+directory_match specs directory = list_match specs (name (as_directory directory)) (Some true)
+
+-- "--directory: If a whole directory is classified as "other", show just its name with a trailing slash and not its whole contents": the
+-- index has nothing in it
+abbrev pub folds : List IndexEntry → List PathSpec → Bool → List ℕ → Bool
+folds entries specs ignored directory =
+    not (is_directory_kind (kinds entries directory).kind) && opens ignored (directory_match specs directory)
+
+-- the directory that ends before a byte of a path is
+abbrev pub folds_at : List IndexEntry → List PathSpec → Bool → List ℕ → ℕ → Bool
+folds_at entries specs ignored path at = is_slash (slice_index path at) && folds entries specs ignored (take at path)
+
+abbrev pub is_ignored : Status → Bool
+is_ignored Untracked = false
+is_ignored (Ignored kind) = true
+is_ignored Tracked = false
+is_ignored Pruned = false
+
+-- an entry shows that a directory is not empty: any, but with "--no-empty-directory: Do not list empty directories" one alone that is shown
+abbrev pub fills : Listing → List PathSpec → Entry → Bool
+fills l specs e = l.directories && (l.empty_directories || is_shown l specs e)
+
+-- the highest directory above an entry that is shown in its place
+abbrev pub top : List IndexEntry → List PathSpec → Bool → List ℕ → Option (List ℕ)
+top entries specs ignored path = find (folds entries specs ignored) (above path)
+
+abbrev pub folded : Listing → List IndexEntry → List PathSpec → Entry → Option Place
+folded l entries specs e =
+    if fills l specs e then option_map as_directory (top entries specs (is_ignored e.status) e.rela_path) else None
+
+-- ---- what is shown
+
+-- an entry of the index stands at the path itself
+abbrev pub is_entry_kind : Option EntryKind → Bool
+is_entry_kind None = false
+is_entry_kind (Some index.File) = true
+is_entry_kind (Some index.Symlink) = true
+is_entry_kind (Some index.Repository) = true
+is_entry_kind (Some index.Directory) = false
+
+-- no path of the index is any other
+abbrev pub name_unless : List IndexEntry → Place → Option (List ℕ)
+name_unless entries place = if is_entry_kind (kinds entries place.path).kind then None else Some (name place)
+
+abbrev pub place_of : Listing → List IndexEntry → List PathSpec → Entry → Option Place
+place_of l entries specs e = option_or (folded l entries specs e) (itself l specs e)
+
+abbrev pub name_of : Listing → List IndexEntry → List PathSpec → Entry → Option (List ℕ)
+name_of l entries specs e = option_and_then (name_unless entries) (place_of l entries specs e)
+
+abbrev pub with_name : Option (List ℕ) → List (List ℕ) → List (List ℕ)
+with_name None names = names
+with_name (Some name) names = name ∷ names
+
+abbrev pub names_of : Listing → List IndexEntry → List PathSpec → List ReportEntry → List (List ℕ)
+names_of l entries specs [] = []
+names_of l entries specs (e ∷ found) = with_name (name_of l entries specs e.entry) (names_of l entries specs found)
+
+-- the names of what is shown, in the order of their bytes, each once
+abbrev pub others : Listing → List IndexEntry → List PathSpec → List ReportEntry → List (List ℕ)
+others l entries specs found = ordered_after [] (names_of l entries specs found)
+
+abbrev pub others_text : Listing → List ℕ → List (List ℕ) → List ℕ
+others_text l prefix names = flat_map (other_line l prefix) names

@@ -1,0 +1,39 @@
+-- What the walk is asked for.
+use Rattle.std.specs.Prelude.{true, false, ◌||◌, Option, Some, None, if◌then◌else◌}
+use Rattle.dir_classify.specs.declared.options.EmissionMode.{EmissionMode}
+use Rattle.dir_classify.specs.declared.options.EmissionMode.TheVariants.{Matching}
+use Rattle.dir_classify.specs.declared.options.ForDeletionMode.{ForDeletionMode}
+use Rattle.dir_classify.specs.declared.options.ForDeletionMode.TheVariants.{FindNonBareRepositoriesInIgnoredDirectories}
+use Rattle.worktree_report.specs.declared.setup.SetupOptions.{SetupOptions}
+use Rattle.ls_files.specs.declared.listing.Listing.{Listing}
+use Rattle.ls_files.specs.Others.{shows_empty}
+
+-- ignored paths are asked for themselves, or since a directory is not empty where they lie in it
+abbrev pub ignored_for : Listing → Option EmissionMode
+ignored_for l = if l.ignored || shows_empty l then Some Matching else None
+
+-- Ignored directories are walked, as for a deletion, where what lies in them is asked for.
+abbrev pub deletion_for : Listing → Option ForDeletionMode
+deletion_for l = if l.ignored then Some FindNonBareRepositoriesInIgnoredDirectories else None
+
+-- Options with those set that a listing needs: each path by itself and none folded; what is left out, as path specs are asked here
+-- about directories; directories without names, where these are shown; and git's rule that what an ignored directory holds is ignored. All others stay.
+abbrev pub walking : Listing → SetupOptions → SetupOptions
+walking l options =
+    record options {
+      excludes = l.excludes_standard;
+      strict_parents = true;
+      precious = false;
+      recurse_repositories = false;
+      symlinks_to_directories_are_ignored_like_directories = false;
+      classify_untracked_bare_repositories = false;
+      for_deletion = deletion_for l;
+      emit_pruned = true;
+      emit_tracked = false;
+      emit_untracked = Matching;
+      emit_ignored = ignored_for l;
+      emit_collapsed = None;
+      emit_empty_directories = shows_empty l;
+      submodules = false;
+      origins = false;
+    }

@@ -1,0 +1,42 @@
+-- Which listings there are not: in git, or not here.
+use Rattle.std.specs.Prelude.{ℕ, List, Bool, not, ◌&&◌, ◌||◌, ◌==◌, codes, Option, Some, None, if◌then◌else◌}
+use Rattle.std.specs.List.{list_any}
+use Rattle.gitbase_core.specs.Entry.{mode_bits, dir_mode}
+use Rattle.gitbase_core.specs.declared.entry.IndexEntry.{IndexEntry}
+use Rattle.ls_files.specs.declared.listing.Listing.{Listing}
+use Rattle.ls_files.specs.declared.wrong.WrongListing.{WrongListing}
+use Rattle.ls_files.specs.declared.wrong.WrongListing.TheVariants as wrong
+use Rattle.ls_files.specs.Choices.{shows_index}
+
+-- "-i: Show only ignored files in the output. Must be used with either an explicit -c or -o."
+abbrev pub lacks_kind : Listing → Bool
+lacks_kind l = not (l.others || l.cached)
+
+-- of `-i`, in the order in which git asks; the last two are not answered here
+abbrev pub wrong_ignored : Listing → Option WrongListing
+wrong_ignored l =
+    if lacks_kind l then Some wrong.IgnoredOfNothing
+    else if not l.excludes_standard then Some wrong.IgnoredWithoutRules
+    else if shows_index l then Some wrong.IgnoredIndex
+    else if l.directories then Some wrong.IgnoredDirectories
+    else None
+
+-- a sparse index has an entry in the place of a directory
+abbrev pub is_sparse : IndexEntry → Bool
+is_sparse e = mode_bits e.mode == dir_mode
+
+-- git reads what it stands for from objects
+abbrev pub wrong_index : Listing → List IndexEntry → Option WrongListing
+wrong_index l entries = if shows_index l && list_any is_sparse entries then Some wrong.SparseIndex else None
+
+-- why there is no such listing of an index
+abbrev pub wrong_in : Listing → List IndexEntry → Option WrongListing
+wrong_in l entries = if l.ignored then wrong_ignored l else wrong_index l entries
+
+-- what is told of it
+abbrev pub wrong_text : WrongListing → List ℕ
+wrong_text wrong.IgnoredOfNothing = codes "ls-files -i must be used with either -o or -c"
+wrong_text wrong.IgnoredWithoutRules = codes "ls-files --ignored needs some exclude pattern"
+wrong_text wrong.IgnoredIndex = codes "ls-files -i is not supported for what the index has"
+wrong_text wrong.IgnoredDirectories = codes "ls-files -i is not supported with --directory"
+wrong_text wrong.SparseIndex = codes "ls-files is not supported for what a sparse index has"

@@ -1,0 +1,82 @@
+//! What is listed of a work tree.
+ghost use Rattle.std.specs.Prelude.{◌≡◌, None};
+ghost use Rattle.ls_files.specs.Listed as words;
+ghost use Rattle.ls_files.specs.Wrong.{wrong_in};
+
+use crate::listed::{Listed, list_found};
+use crate::listing::{Listing, NamedSpec};
+use gitbase_core::Find;
+use std::alloc::Global;
+use worktree_fs::Interrupt;
+use worktree_report::{CountsFaults, Refusal, Setup, has_failed_since, of_report, worktree_report};
+
+/// What is listed of the work tree at `root`, by a report that is made for it.
+fn list_walked<W: CountsFaults, I: Interrupt>(
+    alloc: Global,
+    worktree: &mut W,
+    interrupt: &mut I,
+    root: &[u8],
+    setup: &Setup,
+    listing: &Listing,
+    prefix: &[u8],
+    named: &[NamedSpec],
+) -> Result<Listed, Refusal>
+    ensures { words.ListsWalked W.Worktree I.Interrupt (W.precomposes worktree.old) worktree.old
+        worktree.new interrupt.old interrupt.new root.now setup.now listing.now prefix.now
+        named.now result }
+{
+    let before = worktree.fault_count();
+    let mut objects = setup.blobs.fork(alloc)?;
+    match worktree_report(alloc, worktree, &mut objects, interrupt, root, setup) {
+        Ok(report) => {
+            if has_failed_since(worktree, before) {
+                return Err(Refusal::Fault);
+            }
+            let found = report.entries.as_slice();
+            Ok(list_found(alloc, listing, prefix, named, setup, found)?)
+        }
+        Err(error) => Err(of_report(alloc, error)?),
+    }
+}
+
+/// What `git ls-files` lists of the work tree at `root`, called in its directory `prefix`: what the
+/// index does not have, where that is asked for, and behind it what the index has. A report is made
+/// for what the index does not have, and nothing is asked of the worktree without.
+///
+/// The listing has to be one that there is, which [`wrong_in`](crate::wrong_in) tests. The setup is
+/// found with the options that [`walk_options`](crate::walk_options) gives for the listing, and
+/// with the path specs; `named` has each of these alone, as it was written. Where no path spec is
+/// written, or each excludes, git means the current directory: then a path spec of it is among
+/// them.
+///
+/// # Errors
+///
+/// - `Walk` has the cause that the walk names.
+/// - `Fault`: the worktree failed, and counted it, also where the walk goes on with such a fault;
+///   or its count stands at its last value.
+/// - `Interrupted`: the interrupt was raised, and counted it.
+/// - `OutOfMemory`: memory was refused.
+///
+/// See docs/DECISIONS.md#listing-by-leaves.
+pub fn list_files<W: CountsFaults, I: Interrupt>(
+    alloc: Global,
+    worktree: &mut W,
+    interrupt: &mut I,
+    root: &[u8],
+    setup: &Setup,
+    listing: &Listing,
+    prefix: &[u8],
+    named: &[NamedSpec],
+) -> Result<Listed, Refusal>
+    requires listable { wrong_in listing.now setup.now.index ≡ None }
+    ensures { words.ListsFiles W.Worktree I.Interrupt (W.precomposes worktree.old) worktree.old
+        worktree.new interrupt.old interrupt.new root.now setup.now listing.now prefix.now
+        named.now result }
+{
+    if listing.others {
+        return list_walked(
+            alloc, worktree, interrupt, root, setup, listing, prefix, named,
+        );
+    }
+    Ok(list_found(alloc, listing, prefix, named, setup, &[])?)
+}

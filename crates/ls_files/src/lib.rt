@@ -1,0 +1,20 @@
+//! What `git ls-files` prints: the paths of an index, and what else a work tree holds.
+#![tactic(auto)]
+
+mod answer;
+mod cached;
+mod line;
+mod listed;
+mod listing;
+mod naming;
+mod others;
+mod place;
+mod unmatched;
+mod walking;
+mod wrong;
+
+pub use answer::list_files;
+pub use listed::{Listed, list_found};
+pub use listing::{Listing, NamedSpec};
+pub use walking::walk_options;
+pub use wrong::{WrongListing, wrong_in};

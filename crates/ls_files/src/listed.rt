@@ -1,0 +1,173 @@
+//! What is listed, by the entries of a report.
+ghost use Rattle.std.specs.Prelude.{◌≡◌, ◌++◌, map, IfOk, OnOk};
+ghost use Rattle.gitbase_core.specs.Path as paths;
+ghost use Rattle.ls_files.specs.Choices.{chosen};
+ghost use Rattle.ls_files.specs.Listed as words;
+ghost use Rattle.ls_files.specs.Unmatched.{place_of_entry, place_of_name, places_of};
+
+use crate::cached::{add_index, is_directory, is_next};
+use crate::listing::{Listing, NamedSpec};
+use crate::others::{add_others, others};
+use crate::place::Place;
+use crate::unmatched::complaint;
+use gitbase_core::{Bytes, IndexEntry, OutOfMemory, State};
+use glob_rules::pathspec::Search;
+use std::alloc::Global;
+use worktree_report::{ReportEntry, Setup};
+
+/// What is listed.
+#[derive(Debug, Drop)]
+pub struct Listed {
+    /// What goes to the output.
+    pub out: Bytes,
+    /// What is told of path specs that are about no path.
+    pub err: Bytes,
+}
+
+impl Listed {
+    /// The status: 1 where something is told of path specs, else 0.
+    pub fn status(&self) -> u8
+        ensures { result ≡ words.status self.now }
+    {
+        if self.err.as_bytes().is_empty() { 0 } else { 1 }
+    }
+}
+
+/// Whether a name ends in a slash.
+fn ends_in_slash(name: &[u8]) -> bool
+    ensures { result ≡ paths.ends_in_slash name.now }
+{
+    name.last() == Some(&b'/')
+}
+
+/// A name without the slash at its end, if there is one.
+fn without_slash(name: &[u8]) -> &[u8]
+    ensures { result.now ≡ paths.without_slash name.now }
+{
+    if ends_in_slash(name) {
+        return &name[..name.len() - 1];
+    }
+    name
+}
+
+/// The path of a name, and whether it is that of a directory.
+fn place_of_name(name: &[u8]) -> Place<'_>
+    ensures { result ≡ place_of_name name.now }
+{
+    Place::new(without_slash(name), ends_in_slash(name))
+}
+
+/// The path of an entry, and whether it is that of a directory.
+fn place_of_entry(entry: &IndexEntry) -> Place<'_>
+    ensures { result ≡ place_of_entry entry.now }
+{
+    Place::new(entry.path.as_bytes(), is_directory(entry))
+}
+
+/// Adds the places of names.
+fn add_names<'a>(places: &mut Vec<Place<'a>>, names: &'a [Bytes]) -> Result<(), OutOfMemory>
+    ensures { OnOk result (places.new.items ≡ places.old.items ++ map place_of_name names.now) }
+{
+    for name in names {
+        places.push(place_of_name(name.as_bytes()))?;
+    }
+    Ok(())
+}
+
+/// Adds the places of the entries that are chosen.
+fn add_entries<'a>(
+    places: &mut Vec<Place<'a>>,
+    listing: &Listing,
+    entries: &'a [IndexEntry],
+) -> Result<(), OutOfMemory>
+    ensures { OnOk result (places.new.items
+        ≡ places.old.items ++ map place_of_entry (chosen listing.now entries.now)) }
+{
+    let mut last = None;
+    for entry in entries {
+        if is_next(listing, last, entry) {
+            places.push(place_of_entry(entry))?;
+            last = Some(entry.path.as_bytes());
+        }
+    }
+    Ok(())
+}
+
+/// What is told of path specs, where that is asked for.
+fn told(
+    alloc: Global,
+    listing: &Listing,
+    named: &[NamedSpec],
+    index: &State,
+    names: &[Bytes],
+) -> Result<Bytes, OutOfMemory>
+    ensures { IfOk result
+        (λ text. text ≡ words.err_text listing.now named.now index.now names.now) }
+{
+    if !listing.error_unmatch {
+        return Ok(Bytes::new(alloc));
+    }
+    let mut places = Vec::new(alloc);
+    add_names(&mut places, names)?;
+    add_entries(&mut places, listing, index.entries())?;
+    complaint(alloc, named, &places)
+}
+
+/// The names of what the index does not have, where that is asked for.
+fn names_for(
+    alloc: Global,
+    listing: &Listing,
+    index: &State,
+    specs: &Search,
+    found: &[ReportEntry],
+) -> Result<Vec<Bytes>, OutOfMemory>
+    ensures { IfOk result
+        (λ names. names.items ≡ words.names_for listing.now index.now specs.now found.now) }
+{
+    if !listing.others {
+        return Ok(Vec::new(alloc));
+    }
+    others(alloc, listing, index, specs, found)
+}
+
+/// The lines of names, and behind them those of the index.
+fn shown(
+    alloc: Global,
+    listing: &Listing,
+    prefix: &[u8],
+    specs: &Search,
+    index: &State,
+    names: &[Bytes],
+) -> Result<Bytes, OutOfMemory>
+    ensures { IfOk result (λ text. text
+        ≡ words.out_text listing.now prefix.now specs.now index.now names.now) }
+{
+    let mut text = Vec::new(alloc);
+    add_others(alloc, &mut text, listing, prefix, names)?;
+    add_index(alloc, &mut text, listing, prefix, specs, index.entries())?;
+    Ok(Bytes::from_vec(text))
+}
+
+/// What is listed by the entries of a report, in the directory `prefix` of the work tree: the setup
+/// has the index and the path specs, and `named` has each of these, as it was written.
+///
+/// # Errors
+///
+/// Memory was refused.
+#[tactic(auto, unfolding(crate::specs::Listed::listed))]
+pub fn list_found(
+    alloc: Global,
+    listing: &Listing,
+    prefix: &[u8],
+    named: &[NamedSpec],
+    setup: &Setup,
+    found: &[ReportEntry],
+) -> Result<Listed, OutOfMemory>
+    ensures { IfOk result
+        (λ made. made ≡ words.listed listing.now prefix.now named.now setup.now found.now) }
+{
+    let names = names_for(alloc, listing, &setup.index, &setup.specs, found)?;
+    let out = shown(alloc, listing, prefix, &setup.specs, &setup.index, &names)?;
+    let err = told(alloc, listing, named, &setup.index, &names)?;
+    Ok(Listed { out, err })
+}

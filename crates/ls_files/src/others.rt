@@ -1,0 +1,358 @@
+//! What a work tree holds besides the index, by the entries of a report.
+ghost use Rattle.std.specs.Prelude.{◌≡◌, ◌++◌, ◌<◌, IfOk, OnOk, length, option_copied};
+ghost use Rattle.ls_files.specs.Others as words;
+
+use crate::cached::is_matched;
+use crate::line::add_other;
+use crate::listing::Listing;
+use crate::place::Place;
+use dir_classify::entry::holds_names;
+use dir_classify::{Entry, Kind, Status};
+use gitbase_core::{Bytes, EntryKind, OutOfMemory, State};
+use glob_rules::pathspec::{Match, MatchKind, Matcher, Search};
+use std::alloc::Global;
+use std::collections::BTreeSet;
+use worktree_report::ReportEntry;
+
+/// Whether an entry of this status is shown.
+fn is_wanted(listing: &Listing, status: Status) -> bool
+    ensures { result ≡ words.is_wanted listing.now status }
+{
+    match status {
+        Status::Untracked => !listing.ignored,
+        Status::Ignored(_) => listing.ignored,
+        Status::Tracked => false,
+        Status::Pruned => false,
+    }
+}
+
+/// Whether what stands at a path may be shown.
+fn is_plain(listing: &Listing, kind: Option<Kind>) -> bool
+    ensures { result ≡ words.is_plain listing.now kind }
+{
+    match kind {
+        None => false,
+        Some(Kind::Untrackable) => false,
+        Some(Kind::File) => true,
+        Some(Kind::Symlink) => true,
+        Some(Kind::Repository) => true,
+        Some(Kind::Directory) => listing.directories && listing.empty_directories,
+    }
+}
+
+/// Whether an entry may be shown by itself, if the path specs match it.
+fn may_show(listing: &Listing, entry: &Entry) -> bool
+    ensures { result ≡ words.may_show listing.now entry.now }
+{
+    is_wanted(listing, entry.status) && is_plain(listing, entry.disk_kind)
+}
+
+/// The path of an entry, and whether a directory stands there.
+fn place_at(entry: &Entry) -> Place<'_>
+    ensures { result ≡ words.place_at entry.now }
+{
+    Place::new(entry.rela_path.as_bytes(), holds_names(entry.disk_kind))
+}
+
+/// The name of what is shown.
+fn name(alloc: Global, place: &Place<'_>) -> Result<Bytes, OutOfMemory>
+    ensures { IfOk result (λ name. name ≡ words.name place.now) }
+{
+    let mut name = Bytes::from_slice(alloc, place.path())?;
+    if place.holds_names() {
+        name.extend(alloc, b"/")?;
+    }
+    Ok(name)
+}
+
+/// Whether the path specs match an entry.
+fn is_entry_matched(alloc: Global, specs: &Search, entry: &Entry) -> Result<bool, OutOfMemory>
+    ensures { IfOk result (λ matched. matched ≡ words.is_entry_matched specs.now entry.now) }
+{
+    let name = name(alloc, &place_at(entry))?;
+    let matched = is_matched(specs, name.as_bytes(), holds_names(entry.disk_kind));
+    Ok(matched)
+}
+
+/// Whether an entry is shown by itself.
+fn is_shown(
+    alloc: Global,
+    listing: &Listing,
+    specs: &Search,
+    entry: &Entry,
+) -> Result<bool, OutOfMemory>
+    ensures { IfOk result (λ shown. shown ≡ words.is_shown listing.now specs.now entry.now) }
+{
+    if !may_show(listing, entry) {
+        return Ok(false);
+    }
+    is_entry_matched(alloc, specs, entry)
+}
+
+/// The place of an entry itself, if it is shown.
+fn itself<'a>(
+    alloc: Global,
+    listing: &Listing,
+    specs: &Search,
+    entry: &'a Entry,
+) -> Result<Option<Place<'a>>, OutOfMemory>
+    ensures { IfOk result (λ place. place ≡ words.itself listing.now specs.now entry.now) }
+{
+    if is_shown(alloc, listing, specs, entry)? {
+        return Ok(Some(place_at(entry)));
+    }
+    Ok(None)
+}
+
+/// Whether a spec matches whatever the path is.
+fn is_always(kind: MatchKind) -> bool
+    ensures { result ≡ words.is_always kind }
+{
+    matches!(kind, MatchKind::Always)
+}
+
+/// Whether a directory that is matched so may be shown for what it holds.
+fn opens(ignored: bool, found: Option<Match>) -> bool
+    ensures { result ≡ words.opens ignored found }
+{
+    let Some(found) = found else {
+        return false;
+    };
+    if found.is_excluded() {
+        return false;
+    }
+    !ignored | is_always(found.kind)
+}
+
+/// Whether the index has something in a directory of this kind.
+fn is_directory_kind(kind: Option<EntryKind>) -> bool
+    ensures { result ≡ words.is_directory_kind kind }
+{
+    matches!(kind, Some(EntryKind::Directory))
+}
+
+/// How the path specs match a directory.
+fn directory_match(
+    alloc: Global,
+    specs: &Search,
+    directory: &[u8],
+) -> Result<Option<Match>, OutOfMemory>
+    ensures { IfOk result (λ found. found ≡ words.directory_match specs.now directory.now) }
+{
+    let name = name(alloc, &Place::new(directory, true))?;
+    let found = specs.pattern_matching_relative_path(name.as_bytes(), Some(true));
+    Ok(found)
+}
+
+/// Whether a directory is shown in the place of what it holds.
+fn folds(
+    alloc: Global,
+    index: &State,
+    specs: &Search,
+    ignored: bool,
+    directory: &[u8],
+) -> Result<bool, OutOfMemory>
+    ensures { IfOk result
+        (λ shown. shown ≡ words.folds index.now specs.now ignored directory.now) }
+{
+    if is_directory_kind(index.kinds(directory).kind) {
+        return Ok(false);
+    }
+    let found = directory_match(alloc, specs, directory)?;
+    Ok(opens(ignored, found))
+}
+
+/// Whether an entry of this status is ignored.
+fn is_ignored(status: Status) -> bool
+    ensures { result ≡ words.is_ignored status }
+{
+    matches!(status, Status::Ignored(_))
+}
+
+/// Whether an entry shows that the directories above it are not empty.
+fn fills(
+    alloc: Global,
+    listing: &Listing,
+    specs: &Search,
+    entry: &Entry,
+) -> Result<bool, OutOfMemory>
+    ensures { IfOk result (λ fills. fills ≡ words.fills listing.now specs.now entry.now) }
+{
+    if !listing.directories {
+        return Ok(false);
+    }
+    if listing.empty_directories {
+        return Ok(true);
+    }
+    is_shown(alloc, listing, specs, entry)
+}
+
+/// Whether the directory that ends before a byte of a path is shown in the place of what it holds.
+fn folds_at(
+    alloc: Global,
+    index: &State,
+    specs: &Search,
+    ignored: bool,
+    path: &[u8],
+    at: usize,
+) -> Result<bool, OutOfMemory>
+    requires { at < length path.now }
+    ensures { IfOk result
+        (λ shown. shown ≡ words.folds_at index.now specs.now ignored path.now at) }
+{
+    if path[at] != b'/' {
+        return Ok(false);
+    }
+    folds(alloc, index, specs, ignored, &path[..at])
+}
+
+/// The highest directory above a path that is shown in the place of what it holds.
+fn top<'a>(
+    alloc: Global,
+    index: &State,
+    specs: &Search,
+    ignored: bool,
+    path: &'a [u8],
+) -> Result<Option<&'a [u8]>, OutOfMemory>
+    ensures { IfOk result
+        (λ found. option_copied found ≡ words.top index.now specs.now ignored path.now) }
+{
+    let mut at = 0;
+    while at < path.len() {
+        if folds_at(alloc, index, specs, ignored, path, at)? {
+            return Ok(Some(&path[..at]));
+        }
+        at += 1;
+    }
+    Ok(None)
+}
+
+/// The directory that is shown in the place of an entry, if one is.
+fn folded<'a>(
+    alloc: Global,
+    listing: &Listing,
+    index: &State,
+    specs: &Search,
+    entry: &'a Entry,
+) -> Result<Option<Place<'a>>, OutOfMemory>
+    ensures { IfOk result
+        (λ place. place ≡ words.folded listing.now index.now specs.now entry.now) }
+{
+    if !fills(alloc, listing, specs, entry)? {
+        return Ok(None);
+    }
+    let ignored = is_ignored(entry.status);
+    match top(alloc, index, specs, ignored, entry.rela_path.as_bytes())? {
+        Some(path) => Ok(Some(Place::new(path, true))),
+        None => Ok(None),
+    }
+}
+
+/// What is shown for an entry.
+fn place_for<'a>(
+    alloc: Global,
+    listing: &Listing,
+    index: &State,
+    specs: &Search,
+    entry: &'a Entry,
+) -> Result<Option<Place<'a>>, OutOfMemory>
+    ensures { IfOk result
+        (λ place. place ≡ words.place_of listing.now index.now specs.now entry.now) }
+{
+    match folded(alloc, listing, index, specs, entry)? {
+        Some(place) => Ok(Some(place)),
+        None => itself(alloc, listing, specs, entry),
+    }
+}
+
+/// Whether an entry of the index stands at a path where it has this kind.
+fn is_entry_kind(kind: Option<EntryKind>) -> bool
+    ensures { result ≡ words.is_entry_kind kind }
+{
+    match kind {
+        None => false,
+        Some(EntryKind::File) => true,
+        Some(EntryKind::Symlink) => true,
+        Some(EntryKind::Repository) => true,
+        Some(EntryKind::Directory) => false,
+    }
+}
+
+/// The name of what is shown, unless the index has the path.
+fn name_unless(
+    alloc: Global,
+    index: &State,
+    place: &Place<'_>,
+) -> Result<Option<Bytes>, OutOfMemory>
+    ensures { IfOk result (λ name. name ≡ words.name_unless index.now place.now) }
+{
+    if is_entry_kind(index.kinds(place.path()).kind) {
+        return Ok(None);
+    }
+    Ok(Some(name(alloc, place)?))
+}
+
+/// The name that is shown for an entry, if one is.
+fn name_of(
+    alloc: Global,
+    listing: &Listing,
+    index: &State,
+    specs: &Search,
+    entry: &Entry,
+) -> Result<Option<Bytes>, OutOfMemory>
+    ensures { IfOk result
+        (λ name. name ≡ words.name_of listing.now index.now specs.now entry.now) }
+{
+    match place_for(alloc, listing, index, specs, entry)? {
+        Some(place) => name_unless(alloc, index, &place),
+        None => Ok(None),
+    }
+}
+
+/// The names of a set, in the order of their bytes.
+fn in_order(alloc: Global, names: BTreeSet<Bytes>) -> Result<Vec<Bytes>, OutOfMemory>
+    ensures { IfOk result (λ list. list.items ≡ names.keys) }
+{
+    let mut list = Vec::with_capacity(alloc, names.len())?;
+    for name in names {
+        list.push(name)?;
+    }
+    Ok(list)
+}
+
+/// The names of what a report has and the index does not, in the order of their bytes.
+pub fn others(
+    alloc: Global,
+    listing: &Listing,
+    index: &State,
+    specs: &Search,
+    found: &[ReportEntry],
+) -> Result<Vec<Bytes>, OutOfMemory>
+    ensures { IfOk result
+        (λ names. names.items ≡ words.others listing.now index.now specs.now found.now) }
+{
+    let mut names = BTreeSet::new(alloc);
+    for entry in found {
+        if let Some(name) = name_of(alloc, listing, index, specs, &entry.entry)? {
+            names.insert(name)?;
+        }
+    }
+    in_order(alloc, names)
+}
+
+/// Adds a line for each name.
+pub fn add_others(
+    alloc: Global,
+    text: &mut Vec<u8>,
+    listing: &Listing,
+    prefix: &[u8],
+    names: &[Bytes],
+) -> Result<(), OutOfMemory>
+    ensures { OnOk result (text.new.items ≡ text.old.items
+        ++ words.others_text listing.now prefix.now names.now) }
+{
+    for name in names {
+        add_other(alloc, text, listing, prefix, name.as_bytes())?;
+    }
+    Ok(())
+}

@@ -1,0 +1,63 @@
+//! What the walk is asked for.
+ghost use Rattle.std.specs.Prelude.{◌≡◌};
+ghost use Rattle.ls_files.specs.Others.{shows_empty};
+ghost use Rattle.ls_files.specs.Walking as words;
+
+use crate::listing::Listing;
+use dir_classify::{EmissionMode, ForDeletionMode};
+use worktree_report::SetupOptions;
+
+/// Whether directories are shown that hold nothing to be shown.
+pub fn shows_empty(listing: &Listing) -> bool
+    ensures { result ≡ shows_empty listing.now }
+{
+    listing.directories && listing.empty_directories
+}
+
+/// How ignored paths are reported.
+fn ignored_for(listing: &Listing) -> Option<EmissionMode>
+    ensures { result ≡ words.ignored_for listing.now }
+{
+    if listing.ignored | shows_empty(listing) {
+        return Some(EmissionMode::Matching);
+    }
+    None
+}
+
+/// How ignored directories are walked.
+fn deletion_for(listing: &Listing) -> Option<ForDeletionMode>
+    ensures { result ≡ words.deletion_for listing.now }
+{
+    if listing.ignored {
+        return Some(ForDeletionMode::FindNonBareRepositoriesInIgnoredDirectories);
+    }
+    None
+}
+
+/// The options with which a setup is to be found, so that its report has what a listing shows: each
+/// path by itself and none folded, what is left out, directories without names where directories
+/// are shown, and the ignore rules where `--exclude-standard` asks for them. What git does is set;
+/// all others stay.
+///
+/// See docs/DECISIONS.md#listing-by-leaves.
+pub fn walk_options(listing: &Listing, options: &SetupOptions) -> SetupOptions
+    ensures { result ≡ words.walking listing.now options.now }
+{
+    let mut options = *options;
+    options.excludes = listing.excludes_standard;
+    options.strict_parents = true;
+    options.precious = false;
+    options.recurse_repositories = false;
+    options.symlinks_to_directories_are_ignored_like_directories = false;
+    options.classify_untracked_bare_repositories = false;
+    options.for_deletion = deletion_for(listing);
+    options.emit_pruned = true;
+    options.emit_tracked = false;
+    options.emit_untracked = EmissionMode::Matching;
+    options.emit_ignored = ignored_for(listing);
+    options.emit_collapsed = None;
+    options.emit_empty_directories = shows_empty(listing);
+    options.submodules = false;
+    options.origins = false;
+    options
+}

@@ -1,0 +1,99 @@
+//! Which listings there are not.
+ghost use Rattle.std.specs.Prelude.{◌≡◌};
+ghost use Rattle.std.specs.List.{list_any};
+ghost use Rattle.ls_files.specs.Wrong as words;
+
+use crate::cached::shows_index;
+use crate::listing::Listing;
+use gitbase_core::{IndexEntry, State};
+
+/// Why there is no such listing: in git, or not here.
+#[derive(Clone, Copy, Debug, PartialEq, Eq)]
+pub enum WrongListing {
+    /// `-i` without `-o` and `-c`, which git refuses.
+    IgnoredOfNothing,
+    /// `-i` without rules, which git refuses.
+    IgnoredWithoutRules,
+    /// `-i` of what the index has, which is not answered here.
+    IgnoredIndex,
+    /// `-i` with `--directory`, which is not answered here.
+    IgnoredDirectories,
+    /// What a sparse index has, where an entry stands for all that is beneath a directory: git reads
+    /// that from objects.
+    SparseIndex,
+}
+
+impl WrongListing {
+    /// What is told of it, behind `fatal: `; of what git refuses too in git's words.
+    pub fn text(&self) -> &'static [u8]
+        ensures { result.now ≡ words.wrong_text self.now }
+    {
+        match self {
+            WrongListing::IgnoredOfNothing => b"ls-files -i must be used with either -o or -c",
+            WrongListing::IgnoredWithoutRules => b"ls-files --ignored needs some exclude pattern",
+            WrongListing::IgnoredIndex => b"ls-files -i is not supported for what the index has",
+            WrongListing::IgnoredDirectories => b"ls-files -i is not supported with --directory",
+            WrongListing::SparseIndex => b"ls-files is not supported for what a sparse index has",
+        }
+    }
+}
+
+/// Why there is no listing of only what is ignored.
+fn wrong_ignored(listing: &Listing) -> Option<WrongListing>
+    ensures { result ≡ words.wrong_ignored listing.now }
+{
+    if !(listing.others | listing.cached) {
+        return Some(WrongListing::IgnoredOfNothing);
+    }
+    if !listing.excludes_standard {
+        return Some(WrongListing::IgnoredWithoutRules);
+    }
+    if shows_index(listing) {
+        return Some(WrongListing::IgnoredIndex);
+    }
+    if listing.directories {
+        return Some(WrongListing::IgnoredDirectories);
+    }
+    None
+}
+
+/// Whether an entry stands for all that is beneath a directory.
+fn is_sparse(entry: &IndexEntry) -> bool
+    ensures { result ≡ words.is_sparse entry.now }
+{
+    entry.mode.is_sparse()
+}
+
+/// Whether an entry does.
+fn has_sparse(entries: &[IndexEntry]) -> bool
+    ensures { result ≡ list_any words.is_sparse entries.now }
+{
+    entries.iter().any(|entry| is_sparse(entry))
+}
+
+/// Why there is no listing of what an index has.
+fn wrong_index(listing: &Listing, index: &State) -> Option<WrongListing>
+    ensures { result ≡ words.wrong_index listing.now index.now }
+{
+    if !shows_index(listing) {
+        return None;
+    }
+    if has_sparse(index.entries()) {
+        return Some(WrongListing::SparseIndex);
+    }
+    None
+}
+
+/// Why there is no such listing of an index, the first reason that git asks for; none where there is
+/// one.
+///
+/// See docs/DIFFERENCES.md#list-ignored-forms.
+/// See docs/DIFFERENCES.md#list-sparse-index.
+pub fn wrong_in(listing: &Listing, index: &State) -> Option<WrongListing>
+    ensures { result ≡ words.wrong_in listing.now index.now }
+{
+    if listing.ignored {
+        return wrong_ignored(listing);
+    }
+    wrong_index(listing, index)
+}

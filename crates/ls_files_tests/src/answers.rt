@@ -1,0 +1,208 @@
+//! What git lists; made by `scripts/ask-git-ls-files` with git version 2.39.5.
+//!
+//! A row has the number of the tree, the directory, the options, parted by `|`, the path specs, what git prints to its output, and what it
+//! prints to standard error, with `$` in the place of each LF. Of a path spec there is how git tells it, `&`, and how it is from the
+//! top; specs are parted by `|`. A tree has its setup, and its steps, parted by `;`: `d` is a directory, `f` a file with its text, `x` one
+//! with its bytes in hexadecimal digits, `l` a link, and `p` a pipe.
+
+/// The setups and the trees, one a line.
+pub const TREES: &[u8] = b"\
+git_dir /w/r/.git$index 100644 0 - 8326e08e379b5161997a1ff46f9e0f95c04017b0 .gitignore$index 100644 0 - 587be6b4c3f93f93c489c0111bba5596147a26cb gone/tr$index 100644 0 - 587be6b4c3f93f93c489c0111bba5596147a26cb repl$index 100644 0 - 587be6b4c3f93f93c489c0111bba5596147a26cb t/a$index 100644 0 - 587be6b4c3f93f93c489c0111bba5596147a26cb t/b.o$^d /w/h;l /w/r/lt=t;f /w/r/.gitignore=*.o$build/$;l /w/r/ln=nowhere;f /w/r/o.o=x$;p /w/r/p;f /w/r/repl.x=x$;f /w/r/top=x$;d /w/r/.git/objects;d /w/r/.git/refs;f /w/r/.git/HEAD=ref: refs/heads/main$;f /w/r/.git/config=[core]$\trepositoryformatversion = 0$\tfilemode = true$\tbare = false$\tlogallrefupdates = true$;x /w/r/.git/index=444952430000000200000005000000000000000000000000000000000000000000000000000081a40000000000000000000000008326e08e379b5161997a1ff46f9e0f95c04017b0000a2e67697469676e6f72650000000000000000000000000000000000000000000000000000000000000000000081a4000000000000000000000000587be6b4c3f93f93c489c0111bba5596147a26cb0007676f6e652f7472000000000000000000000000000000000000000000000000000000000081a4000000000000000000000000587be6b4c3f93f93c489c0111bba5596147a26cb00047265706c000000000000000000000000000000000000000000000000000000000000000081a4000000000000000000000000587be6b4c3f93f93c489c0111bba5596147a26cb0003742f6100000000000000000000000000000000000000000000000000000000000000000081a4000000000000000000000000587be6b4c3f93f93c489c0111bba5596147a26cb0005742f622e6f0000000000002a584047dbc7504904852e874fe8991bbed2df;d /w/r/.git/info;f /w/r/brk/f=x$;d /w/r/brk/.git;d /w/r/brk2/.git;f /w/r/build/h.o=x$;f /w/r/build/sub/g=x$;d /w/r/empty;p /w/r/fif/p;f /w/r/gone/un=x$;f /w/r/ign.o/in/f=x$;f /w/r/nested/n=x$;d /w/r/nested/deep/rep2/.git/objects;d /w/r/nested/deep/rep2/.git/refs;f /w/r/nested/deep/rep2/.git/HEAD=ref: refs/heads/master$;f /w/r/nested/deep/rep2/.git/config=[core]$\trepositoryformatversion = 0$\tfilemode = true$\tbare = false$\tlogallrefupdates = true$;f /w/r/nested/deep/rep2/.git/info/exclude=# git ls-files --others --exclude-from=.git/info/exclude$# Lines that start with '#' are comments.$# For a project mostly in C, the following would be a good set of$# exclude patterns (uncomment them if you want to use them):$# *.[oa]$# *~$;f /w/r/onlyign/z.o=x$;d /w/r/rep/.git/objects;d /w/r/rep/.git/refs;f /w/r/rep/.git/HEAD=ref: refs/heads/master$;f /w/r/rep/.git/config=[core]$\trepositoryformatversion = 0$\tfilemode = true$\tbare = false$\tlogallrefupdates = true$;f /w/r/rep/.git/info/exclude=# git ls-files --others --exclude-from=.git/info/exclude$# Lines that start with '#' are comments.$# For a project mostly in C, the following would be a good set of$# exclude patterns (uncomment them if you want to use them):$# *.[oa]$# *~$;f /w/r/repl/in=x$;d /w/r/repl.d;f /w/r/t/a=x$;f /w/r/t/b.o=x$;d /w/r/t/empty;f /w/r/u/y.o=x$;f /w/r/u/v/x=x$\n\
+git_dir /w/r/.git$index 100644 0 - 587be6b4c3f93f93c489c0111bba5596147a26cb a b$index 100644 0 - 587be6b4c3f93f93c489c0111bba5596147a26cb d\\5ce/z$^d /w/h;f /w/r/a b=x$;f /w/r/a\"b=x$;f /w/r/q\tt=x$;f /w/r/x\x01y=x$;f /w/r/\xc3\xa9=x$;d /w/r/.git/objects;d /w/r/.git/refs;f /w/r/.git/HEAD=ref: refs/heads/main$;f /w/r/.git/config=[core]$\trepositoryformatversion = 0$\tfilemode = true$\tbare = false$\tlogallrefupdates = true$;x /w/r/.git/index=444952430000000200000002000000000000000000000000000000000000000000000000000081a4000000000000000000000000587be6b4c3f93f93c489c0111bba5596147a26cb000361206200000000000000000000000000000000000000000000000000000000000000000081a4000000000000000000000000587be6b4c3f93f93c489c0111bba5596147a26cb0005645c652f7a00000000009509bb60157d4b5138e02799a7eb04b34f21610f;d /w/r/.git/info;f /w/r/d\\e/z=x$\n\
+git_dir /w/r/.git$^d /w/h;d /w/r/.git/objects;d /w/r/.git/refs;f /w/r/.git/HEAD=ref: refs/heads/main$;f /w/r/.git/config=[core]$\trepositoryformatversion = 0$\tfilemode = true$\tbare = false$\tlogallrefupdates = true$;d /w/r/.git/info\n\
+git_dir /w/r/.git$index 100644 1 - 78981922613b2afb6025042ff6bd878ac1994e85 a$index 100644 2 - f2ad6c76f0115a6ba5b00456a849810e7ec0af20 a$index 100644 3 - 61780798228d17af2d34fce4cfbdf35556832472 a$index 100644 0 - b68025345d5301abad4d9ec9166f455243a0d746 b$index 100755 0 - 975fbec8256d3e8a3797e7a3611380f27c49f4ac e$index 120000 0 - 2e65efe2a145dda7ee51d1741299f848e5bf752e l$^d /w/h;f /w/r/a=<<<<<<< HEAD$c$=======$b$>>>>>>> o$;f /w/r/b=z$;f /w/r/e=y$;l /w/r/l=a;d /w/r/.git/objects;d /w/r/.git/refs;f /w/r/.git/HEAD=ref: refs/heads/main$;f /w/r/.git/config=[core]$\trepositoryformatversion = 0$\tfilemode = true$\tbare = false$\tlogallrefupdates = true$;x /w/r/.git/index=444952430000000200000006000000000000000000000000000000000000000000000000000081a400000000000000000000000078981922613b2afb6025042ff6bd878ac1994e8510016100000000000000000000000000000000000000000000000000000081a4000000000000000000000000f2ad6c76f0115a6ba5b00456a849810e7ec0af2020016100000000000000000000000000000000000000000000000000000081a400000000000000000000000061780798228d17af2d34fce4cfbdf3555683247230016100000000000000000000000000000000000000000000000000000081a4000000000000000000000000b68025345d5301abad4d9ec9166f455243a0d74600016200000000000000000000000000000000000000000000000000000081ed000000000000000000000000975fbec8256d3e8a3797e7a3611380f27c49f4ac000165000000000000000000000000000000000000000000000000000000a0000000000000000000000000002e65efe2a145dda7ee51d1741299f848e5bf752e00016c005452454500000006002d3120300a6413a4944f3021eca2a0df20e0a51dbb233ac76b;d /w/r/.git/info\n\
+git_dir /w/r/.git$index 100644 0 a 78981922613b2afb6025042ff6bd878ac1994e85 a$index 100644 0 s 61780798228d17af2d34fce4cfbdf35556832472 b$index 100644 0 - f2ad6c76f0115a6ba5b00456a849810e7ec0af20 c$index 100644 0 as 4bcfe98e640c8284511312660fb8709b0afa888e d$^d /w/h;f /w/r/a=a$;f /w/r/c=c$;f /w/r/d=d$;d /w/r/.git/objects;d /w/r/.git/refs;f /w/r/.git/HEAD=ref: refs/heads/main$;f /w/r/.git/config=[core]$\trepositoryformatversion = 0$\tfilemode = true$\tbare = false$\tlogallrefupdates = true$;x /w/r/.git/index=444952430000000300000004000000000000000000000000000000000000000000000000000081a400000000000000000000000078981922613b2afb6025042ff6bd878ac1994e8580016100000000000000000000000000000000000000000000000000000081a400000000000000000000000061780798228d17af2d34fce4cfbdf35556832472400140006200000000000000000000000000000000000000000000000000000000000000000081a4000000000000000000000000f2ad6c76f0115a6ba5b00456a849810e7ec0af2000016300000000000000000000000000000000000000000000000000000081a40000000000000000000000004bcfe98e640c8284511312660fb8709b0afa888ec0014000640000000000000011f6520b9474b5c092012ebea5b1a1e58a0a5e9c;d /w/r/.git/info\n\
+git_dir /w/r/.git$index 100644 0 - 6aa9f6d7f691151ab6f34e58382dfcdf51ea45cf .gitmodules$index 160000 0 - c46f9e7f62aef384fb09ffd76aea54910337c9e9 s$^d /w/h;d /w/m/.git/objects;d /w/m/.git/refs;f /w/m/.git/HEAD=ref: refs/heads/master$;f /w/m/.git/config=[core]$\trepositoryformatversion = 0$\tfilemode = true$\tbare = false$\tlogallrefupdates = true$;x /w/m/.git/index=4449524300000002000000005452454500000019003020300a4b825dc642cb6eb9a060e54bf8d69288fbee490472d53f787d86a932a25a8537cee236d81846a8f1;f /w/m/.git/info/exclude=# git ls-files --others --exclude-from=.git/info/exclude$# Lines that start with '#' are comments.$# For a project mostly in C, the following would be a good set of$# exclude patterns (uncomment them if you want to use them):$# *.[oa]$# *~$;f /w/r/.gitmodules=[submodule \"s\"]$\tpath = s$\turl = ../m$;f /w/r/s-=x$;f /w/r/s.z=x$;f /w/r/x.y=x$;d /w/r/.git/objects;d /w/r/.git/refs;f /w/r/.git/HEAD=ref: refs/heads/main$;f /w/r/.git/config=[core]$\trepositoryformatversion = 0$\tfilemode = true$\tbare = false$\tlogallrefupdates = true$[submodule \"s\"]$\turl = /w/m$\tactive = true$;x /w/r/.git/index=444952430000000200000002000000000000000000000000000000000000000000000000000081a40000000000000000000000006aa9f6d7f691151ab6f34e58382dfcdf51ea45cf000b2e6769746d6f64756c6573000000000000000000000000000000000000000000000000000000000000000000e000000000000000000000000000c46f9e7f62aef384fb09ffd76aea54910337c9e900017300a9e5f4f75195e326bc408f23f966f2249f2a6830;d /w/r/.git/info;d /w/r/.git/modules/s/objects;d /w/r/.git/modules/s/refs;f /w/r/.git/modules/s/HEAD=ref: refs/heads/master$;f /w/r/.git/modules/s/config=[core]$\trepositoryformatversion = 0$\tfilemode = true$\tbare = false$\tlogallrefupdates = true$\tworktree = ../../../s$[remote \"origin\"]$\turl = /w/m$\tfetch = +refs/heads/*:refs/remotes/origin/*$[branch \"master\"]$\tremote = origin$\tmerge = refs/heads/master$;x /w/r/.git/modules/s/index=4449524300000002000000005452454500000019003020300a4b825dc642cb6eb9a060e54bf8d69288fbee490472d53f787d86a932a25a8537cee236d81846a8f1;f /w/r/.git/modules/s/info/exclude=# git ls-files --others --exclude-from=.git/info/exclude$# Lines that start with '#' are comments.$# For a project mostly in C, the following would be a good set of$# exclude patterns (uncomment them if you want to use them):$# *.[oa]$# *~$;f /w/r/s/.git=gitdir: ../.git/modules/s$;f /w/r/x/y=x$\n\
+git_dir /w/r/.git$global *.u$global k/$index 100644 0 - 89db367c5fbf568fa02d19447557fb8e1b0ae5e5 a/.gitignore$^f /w/h/.config/git/ignore=*.u$;f /w/r/.gitignore=*.x$!keep.x$;f /w/r/1.x=x$;f /w/r/keep.x=x$;d /w/r/.git/objects;d /w/r/.git/refs;f /w/r/.git/HEAD=ref: refs/heads/main$;f /w/r/.git/config=[core]$\trepositoryformatversion = 0$\tfilemode = true$\tbare = false$\tlogallrefupdates = true$;x /w/r/.git/index=444952430000000200000001000000000000000000000000000000000000000000000000000081a400000000000000000000000089db367c5fbf568fa02d19447557fb8e1b0ae5e5000c612f2e67697469676e6f726500000000000040302103f35c4d3d214f99a8b62d327207e03cdb;f /w/r/.git/info/exclude=k/$;f /w/r/a/.gitignore=!*.x$;f /w/r/a/2.x=x$;f /w/r/a/b/.gitignore=/c$;f /w/r/a/b/3.x=x$;f /w/r/a/b/c/4.u=x$;f /w/r/k/5.u=x$;f /w/r/k/l/6=x$;f /w/r/k/l/keep.x=x$\n\
+";
+
+/// What git lists.
+pub const ROWS: &[u8] = b"\
+0^^-o^^brk/f$build/h.o$build/sub/g$gone/un$ign.o/in/f$ln$lt$nested/deep/rep2/$nested/n$o.o$onlyign/z.o$rep/$repl.x$repl/in$top$u/v/x$u/y.o$^\n\
+0^^-o|--directory^^brk/$brk2/$build/$empty/$fif/$gone/un$ign.o/$ln$lt$nested/$o.o$onlyign/$rep/$repl.d/$repl.x$t/empty/$top$u/$^\n\
+0^^-o|--directory|--no-empty-directory^^brk/$build/$gone/un$ign.o/$ln$lt$nested/$o.o$onlyign/$rep/$repl.x$top$u/$^\n\
+0^^-o|--exclude-standard^^brk/f$gone/un$ln$lt$nested/deep/rep2/$nested/n$rep/$repl.x$repl/in$top$u/v/x$^\n\
+0^^-o|--directory|--exclude-standard^^brk/$brk2/$empty/$fif/$gone/un$ln$lt$nested/$onlyign/$rep/$repl.d/$repl.x$t/empty/$top$u/$^\n\
+0^^-o|--directory|--no-empty-directory|--exclude-standard^^brk/$gone/un$ln$lt$nested/$rep/$repl.x$top$u/$^\n\
+0^^-t|-o^^? brk/f$? build/h.o$? build/sub/g$? gone/un$? ign.o/in/f$? ln$? lt$? nested/deep/rep2/$? nested/n$? o.o$? onlyign/z.o$? rep/$? repl.x$? repl/in$? top$? u/v/x$? u/y.o$^\n\
+0^^-o|-i|--exclude-standard^^build/h.o$build/sub/g$ign.o/in/f$o.o$onlyign/z.o$u/y.o$^\n\
+0^^-o|-c|-t|--exclude-standard^^? brk/f$? gone/un$? ln$? lt$? nested/deep/rep2/$? nested/n$? rep/$? repl.x$? repl/in$? top$? u/v/x$H .gitignore$H gone/tr$H repl$H t/a$H t/b.o$^\n\
+0^^-o|-s^^brk/f$build/h.o$build/sub/g$gone/un$ign.o/in/f$ln$lt$nested/deep/rep2/$nested/n$o.o$onlyign/z.o$rep/$repl.x$repl/in$top$u/v/x$u/y.o$100644 8326e08e379b5161997a1ff46f9e0f95c04017b0 0\t.gitignore$100644 587be6b4c3f93f93c489c0111bba5596147a26cb 0\tgone/tr$100644 587be6b4c3f93f93c489c0111bba5596147a26cb 0\trepl$100644 587be6b4c3f93f93c489c0111bba5596147a26cb 0\tt/a$100644 587be6b4c3f93f93c489c0111bba5596147a26cb 0\tt/b.o$^\n\
+0^^-o|-z^^brk/f\x00build/h.o\x00build/sub/g\x00gone/un\x00ign.o/in/f\x00ln\x00lt\x00nested/deep/rep2/\x00nested/n\x00o.o\x00onlyign/z.o\x00rep/\x00repl.x\x00repl/in\x00top\x00u/v/x\x00u/y.o\x00^\n\
+0^^-o|--directory^u/v&::u/v^u/v/$^\n\
+0^^-o|--directory^u/*&::u/*^u/$^\n\
+0^^-o|--directory^u/v/x&::u/v/x|nested&::nested^nested/$u/v/x$^\n\
+0^^-o|--directory^:!u/v&:!:u/v|&:(literal)^brk/$brk2/$build/$empty/$fif/$gone/un$ign.o/$ln$lt$nested/$o.o$onlyign/$rep/$repl.d/$repl.x$t/empty/$top$u/$^\n\
+0^^-o|--directory^nested/deep&::nested/deep^nested/deep/$^\n\
+0^^-o|--directory^:(glob)**/x&:(glob)**/x^u/v/x$^\n\
+0^^-o|--directory^*x&::*x^repl.x$u/v/x$^\n\
+0^^-o|--directory^gone&::gone^gone/un$^\n\
+0^^-o|--directory^repl&::repl^^\n\
+0^^-o|--directory^rep&::rep^rep/$^\n\
+0^^-o|--directory^t&::t^t/empty/$^\n\
+0^^-o|--directory^top&::top|u&::u^top$u/$^\n\
+0^^-o|--directory^empty&::empty^empty/$^\n\
+0^^-o|--directory^:!u&:!:u|&:(literal)^brk/$brk2/$build/$empty/$fif/$gone/un$ign.o/$ln$lt$nested/$o.o$onlyign/$rep/$repl.d/$repl.x$t/empty/$top$^\n\
+0^^-o|--directory^onlyign&::onlyign^onlyign/$^\n\
+0^^-o|--directory^:(glob)u*&:(glob)u*^^\n\
+0^^-o|--directory^u?&::u?^u/$^\n\
+0^^-o|--directory^[u]&::[u]^^\n\
+0^^-o|--directory^*/v&::*/v^^\n\
+0^^-o|--directory^:!u/*&:!:u/*|&:(literal)^brk/$brk2/$build/$empty/$fif/$gone/un$ign.o/$ln$lt$nested/$o.o$onlyign/$rep/$repl.d/$repl.x$t/empty/$top$^\n\
+0^^-o|--directory^empty?&::empty?^empty/$^\n\
+0^^-o|--directory^empt?&::empt?^^\n\
+0^^-o|--directory^:(glob)u/*&:(glob)u/*^u/$^\n\
+0^^-o^rep/x&::rep/x^^\n\
+0^^-o^nested/deep&::nested/deep^nested/deep/rep2/$^\n\
+0^^-o^:(glob)**/x&:(glob)**/x^u/v/x$^\n\
+0^^-o^rep/&::rep/^rep/$^\n\
+0^^-o^rep&::rep^rep/$^\n\
+0^^-o^u&::u|t&::t^u/v/x$u/y.o$^\n\
+0^^-o^:!u&:!:u|&:(literal)^brk/f$build/h.o$build/sub/g$gone/un$ign.o/in/f$ln$lt$nested/deep/rep2/$nested/n$o.o$onlyign/z.o$rep/$repl.x$repl/in$top$^\n\
+0^^-o^:!*x&:!:*x|&:(literal)^brk/f$build/h.o$build/sub/g$gone/un$ign.o/in/f$ln$lt$nested/deep/rep2/$nested/n$o.o$onlyign/z.o$rep/$repl/in$top$u/y.o$^\n\
+0^^-o^repl&::repl^repl/in$^\n\
+0^^-o^gone&::gone^gone/un$^\n\
+0^^-o^:(icase)TOP&:(icase)TOP^top$^\n\
+0^^-o^nowhere&::nowhere^^\n\
+0^^-o^t/empty&::t/empty^^\n\
+0^^-o^rep?&::rep?^rep/$^\n\
+0^^-o^re[p]&::re[p]^^\n\
+0^^-o^rep/*&::rep/*^rep/$^\n\
+0^^-o^re*/&::re*/^rep/$^\n\
+0^^-o^*/&::*/^nested/deep/rep2/$rep/$^\n\
+0^^-o|--exclude-standard^build&::build^^\n\
+0^^-o|--exclude-standard^build/h.o&::build/h.o^^\n\
+0^^-o|--exclude-standard^u&::u^u/v/x$^\n\
+0^^-o|--exclude-standard^*.o&::*.o^^\n\
+0^^-o|--exclude-standard^onlyign&::onlyign^^\n\
+0^^-o|--exclude-standard^u/y.o&::u/y.o^^\n\
+0^^-o|--directory|--exclude-standard^build&::build^^\n\
+0^^-o|--directory|--exclude-standard^build/sub&::build/sub^^\n\
+0^^-o|--directory|--exclude-standard^u&::u^u/$^\n\
+0^^-o|--directory|--exclude-standard^nested&::nested^nested/$^\n\
+0^^-o|--directory|--exclude-standard^.&::.^brk/$brk2/$empty/$fif/$gone/un$ln$lt$nested/$onlyign/$rep/$repl.d/$repl.x$t/empty/$top$u/$^\n\
+0^^-o|--directory|--exclude-standard^:/&:/:^brk/$brk2/$empty/$fif/$gone/un$ln$lt$nested/$onlyign/$rep/$repl.d/$repl.x$t/empty/$top$u/$^\n\
+0^^-o|-i|--exclude-standard^build/sub&::build/sub^build/sub/g$^\n\
+0^^-o|-i|--exclude-standard^u&::u^u/y.o$^\n\
+0^^-o|-i|--exclude-standard^ign.o&::ign.o^ign.o/in/f$^\n\
+0^^-o|-i|--exclude-standard^build/h.o&::build/h.o^build/h.o$^\n\
+0^u^-o^u/&:(literal)u^v/x$y.o$^\n\
+0^u^-o|--directory^u/&:(literal)u^./$^\n\
+0^u^-o|--full-name^u/&:(literal)u^u/v/x$u/y.o$^\n\
+0^u^^u/&:(literal)u^^\n\
+0^u^-o^..&::u/..^../brk/f$../build/h.o$../build/sub/g$../gone/un$../ign.o/in/f$../ln$../lt$../nested/deep/rep2/$../nested/n$../o.o$../onlyign/z.o$../rep/$../repl.x$../repl/in$../top$v/x$y.o$^\n\
+0^u^-o|--directory^../nested&::u/../nested^../nested/$^\n\
+0^u^--error-unmatch^u/&:(literal)u^^error: pathspec 'u/' did not match any file(s) known to git$Did you forget to 'git add'?$\n\
+0^u^-o^:!v&:!:u/v|&:(literal)u^y.o$^\n\
+0^u^-o^:/t&:/:t|:/top&:/:top^../top$^\n\
+0^u^-t|-o|-z^..&::u/..^? ../brk/f\x00? ../build/h.o\x00? ../build/sub/g\x00? ../gone/un\x00? ../ign.o/in/f\x00? ../ln\x00? ../lt\x00? ../nested/deep/rep2/\x00? ../nested/n\x00? ../o.o\x00? ../onlyign/z.o\x00? ../rep/\x00? ../repl.x\x00? ../repl/in\x00? ../top\x00? v/x\x00? y.o\x00^\n\
+0^u^-o|--exclude-standard^u/&:(literal)u^v/x$^\n\
+0^nested/deep^-o^nested/deep/&:(literal)nested/deep^rep2/$^\n\
+0^nested/deep^-o|--directory^nested/deep/&:(literal)nested/deep^./$^\n\
+0^nested/deep^-o^../n&::nested/deep/../n^../n$^\n\
+0^nested/deep^-s^../../t&::nested/deep/../../t^100644 587be6b4c3f93f93c489c0111bba5596147a26cb 0\t../../t/a$100644 587be6b4c3f93f93c489c0111bba5596147a26cb 0\t../../t/b.o$^\n\
+0^nested/deep^-c|--full-name^../..&::nested/deep/../..^.gitignore$gone/tr$repl$t/a$t/b.o$^\n\
+0^build^-o|--exclude-standard^build/&:(literal)build^^\n\
+0^build^-o|--directory|--exclude-standard^build/&:(literal)build^^\n\
+0^build^-o|-i|--exclude-standard^build/&:(literal)build^h.o$sub/g$^\n\
+0^build^-o^build/&:(literal)build^h.o$sub/g$^\n\
+0^t^^t/&:(literal)t^a$b.o$^\n\
+0^t^-s^t/&:(literal)t^100644 587be6b4c3f93f93c489c0111bba5596147a26cb 0\ta$100644 587be6b4c3f93f93c489c0111bba5596147a26cb 0\tb.o$^\n\
+0^t^-c^..&::t/..^../.gitignore$../gone/tr$../repl$a$b.o$^\n\
+0^t^--full-name^t/&:(literal)t^t/a$t/b.o$^\n\
+0^t^-z^..&::t/..^../.gitignore\x00../gone/tr\x00../repl\x00a\x00b.o\x00^\n\
+0^t^-o|--directory^t/&:(literal)t^empty/$^\n\
+0^t^-o|--directory^..&::t/..^../brk/$../brk2/$../build/$../empty/$../fif/$../gone/un$../ign.o/$../ln$../lt$../nested/$../o.o$../onlyign/$../rep/$../repl.d/$../repl.x$empty/$../top$../u/$^\n\
+0^^--error-unmatch^nope&::nope|top&::top|t&::t^t/a$t/b.o$^error: pathspec 'nope' did not match any file(s) known to git$error: pathspec 'top' did not match any file(s) known to git$Did you forget to 'git add'?$\n\
+0^^--error-unmatch^nope&::nope|:!t&:!:t^^error: pathspec 'nope' did not match any file(s) known to git$error: pathspec ':!t' did not match any file(s) known to git$Did you forget to 'git add'?$\n\
+0^^--error-unmatch^t&::t|:!t&:!:t^^\n\
+0^^--error-unmatch^t/a&::t/a|t/b.o&::t/b.o^t/a$t/b.o$^\n\
+0^^--error-unmatch^nope&::nope|nope&::nope^^error: pathspec 'nope' did not match any file(s) known to git$error: pathspec 'nope' did not match any file(s) known to git$Did you forget to 'git add'?$\n\
+0^^--error-unmatch|-o^top&::top|nope&::nope^top$^error: pathspec 'nope' did not match any file(s) known to git$Did you forget to 'git add'?$\n\
+0^^--error-unmatch|-o|--exclude-standard^build&::build^^error: pathspec 'build' did not match any file(s) known to git$Did you forget to 'git add'?$\n\
+0^^--error-unmatch|-o^rep/&::rep/|u/v&::u/v^rep/$u/v/x$^\n\
+0^^--error-unmatch|-o|--directory^u/v&::u/v|nested/n&::nested/n^nested/n$u/v/$^\n\
+0^^--error-unmatch|-u^t&::t^^error: pathspec 't' did not match any file(s) known to git$Did you forget to 'git add'?$\n\
+0^^--error-unmatch^:!t&:!:t|&:(literal)^.gitignore$gone/tr$repl$^\n\
+0^^--error-unmatch^no*&::no*|t*&::t*^t/a$t/b.o$^error: pathspec 'no*' did not match any file(s) known to git$Did you forget to 'git add'?$\n\
+1^^-o^^\"a\\\"b\"$\"q\\tt\"$\"x\\001y\"$\"\\303\\251\"$^\n\
+1^^-c^^a b$\"d\\\\e/z\"$^\n\
+1^^-o|-z^^a\"b\x00q\tt\x00x\x01y\x00\xc3\xa9\x00^\n\
+1^^-c|-z^^a b\x00d\\e/z\x00^\n\
+1^^-s^^100644 587be6b4c3f93f93c489c0111bba5596147a26cb 0\ta b$100644 587be6b4c3f93f93c489c0111bba5596147a26cb 0\t\"d\\\\e/z\"$^\n\
+1^^-t|-o|-c^^? \"a\\\"b\"$? \"q\\tt\"$? \"x\\001y\"$? \"\\303\\251\"$H a b$H \"d\\\\e/z\"$^\n\
+1^^--raw|-o^^\"a\\\"b\"$\"q\\tt\"$\"x\\001y\"$\xc3\xa9$^\n\
+1^^--raw|-c^^a b$\"d\\\\e/z\"$^\n\
+1^^--raw|-s|-o^^\"a\\\"b\"$\"q\\tt\"$\"x\\001y\"$\xc3\xa9$100644 587be6b4c3f93f93c489c0111bba5596147a26cb 0\ta b$100644 587be6b4c3f93f93c489c0111bba5596147a26cb 0\t\"d\\\\e/z\"$^\n\
+1^d\\e^-o^..&::d\\e/..^\"../a\\\"b\"$\"../q\\tt\"$\"../x\\001y\"$\"../\\303\\251\"$^\n\
+1^d\\e^^d\\e/&:(literal)d\\e^z$^\n\
+1^d\\e^-c^../a b&::d\\e/../a b^../a b$^\n\
+1^d\\e^-o|-z^..&::d\\e/..^../a\"b\x00../q\tt\x00../x\x01y\x00../\xc3\xa9\x00^\n\
+1^^--error-unmatch^n\x01\tx\x7f&::n\x01\tx\x7f^^error: pathspec 'n?\tx?' did not match any file(s) known to git$Did you forget to 'git add'?$\n\
+2^^^^^\n\
+2^^-o^^^\n\
+2^^-s^^^\n\
+2^^-o|--directory^^^\n\
+2^^--error-unmatch^x&::x^^error: pathspec 'x' did not match any file(s) known to git$Did you forget to 'git add'?$\n\
+2^^-u^^^\n\
+2^^-z^^^\n\
+3^^^^a$a$a$b$e$l$^\n\
+3^^-c^^a$a$a$b$e$l$^\n\
+3^^-s^^100644 78981922613b2afb6025042ff6bd878ac1994e85 1\ta$100644 f2ad6c76f0115a6ba5b00456a849810e7ec0af20 2\ta$100644 61780798228d17af2d34fce4cfbdf35556832472 3\ta$100644 b68025345d5301abad4d9ec9166f455243a0d746 0\tb$100755 975fbec8256d3e8a3797e7a3611380f27c49f4ac 0\te$120000 2e65efe2a145dda7ee51d1741299f848e5bf752e 0\tl$^\n\
+3^^-u^^100644 78981922613b2afb6025042ff6bd878ac1994e85 1\ta$100644 f2ad6c76f0115a6ba5b00456a849810e7ec0af20 2\ta$100644 61780798228d17af2d34fce4cfbdf35556832472 3\ta$^\n\
+3^^-t^^M a$M a$M a$H b$H e$H l$^\n\
+3^^-v^^M a$M a$M a$H b$H e$H l$^\n\
+3^^-t|-v^^M a$M a$M a$H b$H e$H l$^\n\
+3^^-s|-v^^M 100644 78981922613b2afb6025042ff6bd878ac1994e85 1\ta$M 100644 f2ad6c76f0115a6ba5b00456a849810e7ec0af20 2\ta$M 100644 61780798228d17af2d34fce4cfbdf35556832472 3\ta$H 100644 b68025345d5301abad4d9ec9166f455243a0d746 0\tb$H 100755 975fbec8256d3e8a3797e7a3611380f27c49f4ac 0\te$H 120000 2e65efe2a145dda7ee51d1741299f848e5bf752e 0\tl$^\n\
+3^^-z^^a\x00a\x00a\x00b\x00e\x00l\x00^\n\
+3^^-s|-z^^100644 78981922613b2afb6025042ff6bd878ac1994e85 1\ta\x00100644 f2ad6c76f0115a6ba5b00456a849810e7ec0af20 2\ta\x00100644 61780798228d17af2d34fce4cfbdf35556832472 3\ta\x00100644 b68025345d5301abad4d9ec9166f455243a0d746 0\tb\x00100755 975fbec8256d3e8a3797e7a3611380f27c49f4ac 0\te\x00120000 2e65efe2a145dda7ee51d1741299f848e5bf752e 0\tl\x00^\n\
+3^^-c|-u^^100644 78981922613b2afb6025042ff6bd878ac1994e85 1\ta$100644 f2ad6c76f0115a6ba5b00456a849810e7ec0af20 2\ta$100644 61780798228d17af2d34fce4cfbdf35556832472 3\ta$^\n\
+3^^-u|-t^^M 100644 78981922613b2afb6025042ff6bd878ac1994e85 1\ta$M 100644 f2ad6c76f0115a6ba5b00456a849810e7ec0af20 2\ta$M 100644 61780798228d17af2d34fce4cfbdf35556832472 3\ta$^\n\
+3^^--deduplicate^^a$b$e$l$^\n\
+3^^--deduplicate|-t^^M a$M a$M a$H b$H e$H l$^\n\
+3^^--deduplicate|-s^^100644 78981922613b2afb6025042ff6bd878ac1994e85 1\ta$100644 f2ad6c76f0115a6ba5b00456a849810e7ec0af20 2\ta$100644 61780798228d17af2d34fce4cfbdf35556832472 3\ta$100644 b68025345d5301abad4d9ec9166f455243a0d746 0\tb$100755 975fbec8256d3e8a3797e7a3611380f27c49f4ac 0\te$120000 2e65efe2a145dda7ee51d1741299f848e5bf752e 0\tl$^\n\
+3^^--deduplicate|-v^^M a$H b$H e$H l$^\n\
+3^^-u^a&::a^100644 78981922613b2afb6025042ff6bd878ac1994e85 1\ta$100644 f2ad6c76f0115a6ba5b00456a849810e7ec0af20 2\ta$100644 61780798228d17af2d34fce4cfbdf35556832472 3\ta$^\n\
+3^^-u^b&::b^^\n\
+3^^--error-unmatch|-u^b&::b^^error: pathspec 'b' did not match any file(s) known to git$Did you forget to 'git add'?$\n\
+3^^--error-unmatch^e&::e^e$^\n\
+3^^-s^a&::a^100644 78981922613b2afb6025042ff6bd878ac1994e85 1\ta$100644 f2ad6c76f0115a6ba5b00456a849810e7ec0af20 2\ta$100644 61780798228d17af2d34fce4cfbdf35556832472 3\ta$^\n\
+3^^-o^^^\n\
+3^^-o|-u^^100644 78981922613b2afb6025042ff6bd878ac1994e85 1\ta$100644 f2ad6c76f0115a6ba5b00456a849810e7ec0af20 2\ta$100644 61780798228d17af2d34fce4cfbdf35556832472 3\ta$^\n\
+3^^-o|-s|-t^^M 100644 78981922613b2afb6025042ff6bd878ac1994e85 1\ta$M 100644 f2ad6c76f0115a6ba5b00456a849810e7ec0af20 2\ta$M 100644 61780798228d17af2d34fce4cfbdf35556832472 3\ta$H 100644 b68025345d5301abad4d9ec9166f455243a0d746 0\tb$H 100755 975fbec8256d3e8a3797e7a3611380f27c49f4ac 0\te$H 120000 2e65efe2a145dda7ee51d1741299f848e5bf752e 0\tl$^\n\
+4^^^^a$b$c$d$^\n\
+4^^-t^^H a$S b$H c$S d$^\n\
+4^^-v^^h a$S b$H c$s d$^\n\
+4^^-s|-v^^h 100644 78981922613b2afb6025042ff6bd878ac1994e85 0\ta$S 100644 61780798228d17af2d34fce4cfbdf35556832472 0\tb$H 100644 f2ad6c76f0115a6ba5b00456a849810e7ec0af20 0\tc$s 100644 4bcfe98e640c8284511312660fb8709b0afa888e 0\td$^\n\
+4^^-t|-v^^h a$S b$H c$s d$^\n\
+4^^-o^^^\n\
+4^^-v|-z^^h a\x00S b\x00H c\x00s d\x00^\n\
+5^^^^.gitmodules$s$^\n\
+5^^-s^^100644 6aa9f6d7f691151ab6f34e58382dfcdf51ea45cf 0\t.gitmodules$160000 c46f9e7f62aef384fb09ffd76aea54910337c9e9 0\ts$^\n\
+5^^^s&::s^s$^\n\
+5^^^s/&::s/^s$^\n\
+5^^^s/x&::s/x^^\n\
+5^^-o^^s-$s.z$x.y$x/y$^\n\
+5^^-o|--directory^^s-$s.z$x.y$x/$^\n\
+5^^-s^s/&::s/^160000 c46f9e7f62aef384fb09ffd76aea54910337c9e9 0\ts$^\n\
+5^^--error-unmatch^s/&::s/^s$^\n\
+5^^-o^s&::s^^\n\
+5^^-t^*&::*^H .gitmodules$H s$^\n\
+5^^^s*&::s*^s$^\n\
+5^^-o^s*&::s*^s-$s.z$^\n\
+5^^^x/&::x/^^\n\
+5^x^-s^../s&::x/../s^160000 c46f9e7f62aef384fb09ffd76aea54910337c9e9 0\t../s$^\n\
+6^^-o^^.gitignore$1.x$a/2.x$a/b/.gitignore$a/b/3.x$a/b/c/4.u$k/5.u$k/l/6$k/l/keep.x$keep.x$^\n\
+6^^-o|--directory^^.gitignore$1.x$a/2.x$a/b/$k/$keep.x$^\n\
+6^^-o|--directory|--no-empty-directory^^.gitignore$1.x$a/2.x$a/b/$k/$keep.x$^\n\
+6^^-o|--exclude-standard^^.gitignore$a/2.x$a/b/.gitignore$a/b/3.x$keep.x$^\n\
+6^^-o|--directory|--exclude-standard^^.gitignore$a/2.x$a/b/$keep.x$^\n\
+6^^-o|--directory|--no-empty-directory|--exclude-standard^^.gitignore$a/2.x$a/b/$keep.x$^\n\
+6^^-t|-o^^? .gitignore$? 1.x$? a/2.x$? a/b/.gitignore$? a/b/3.x$? a/b/c/4.u$? k/5.u$? k/l/6$? k/l/keep.x$? keep.x$^\n\
+6^^-o|-i|--exclude-standard^^1.x$a/b/c/4.u$k/5.u$k/l/6$k/l/keep.x$^\n\
+6^^-o|--exclude-standard^a&::a^a/2.x$a/b/.gitignore$a/b/3.x$^\n\
+6^^-o|--exclude-standard^k&::k^^\n\
+6^^-o|-i|--exclude-standard^k/l&::k/l^k/l/6$k/l/keep.x$^\n\
+6^a/b^-o|--exclude-standard^a/b/&:(literal)a/b^.gitignore$3.x$^\n\
+6^k^-o|--exclude-standard^k/&:(literal)k^^\n\
+";

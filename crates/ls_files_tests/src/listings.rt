@@ -1,0 +1,116 @@
+//! Listings, each compared with what git prints.
+use crate::answers::{ROWS, TREES};
+use crate::tree::{lines_of, parted, tree_of};
+use crate::words::{all_named, listing_of, specs_of};
+use bstr::ByteSlice;
+use ls_files::{Listed, Listing, NamedSpec, list_files, walk_options, wrong_in};
+use std::alloc::Global;
+use worktree_fs::PlannedInterrupt;
+use worktree_report::Setup;
+
+/// The setup of a tree, for a listing with these path specs.
+fn setup_for(alloc: Global, text: &[u8], listing: &Listing, specs: &[u8]) -> Option<Setup> {
+    let lines = lines_of(alloc, text)?;
+    let mut setup = Setup::parse(alloc, &lines).ok()?;
+    setup.options = walk_options(listing, &setup.options);
+    setup.specs = specs_of(alloc, specs)?;
+    Some(setup)
+}
+
+/// What is listed of the tree of some steps.
+fn listed_of(
+    alloc: Global,
+    steps: &[u8],
+    setup: &Setup,
+    listing: &Listing,
+    prefix: &[u8],
+    named: &[NamedSpec],
+) -> Option<Listed> {
+    if let Some(_) = wrong_in(listing, &setup.index) {
+        return None;
+    }
+    let mut tree = tree_of(alloc, steps)?;
+    let mut interrupt = PlannedInterrupt::never();
+    list_files(
+        alloc,
+        &mut tree,
+        &mut interrupt,
+        b"/w/r",
+        setup,
+        listing,
+        prefix,
+        named,
+    )
+    .ok()
+}
+
+/// What is listed of a tree in a directory.
+fn listed_in(
+    alloc: Global,
+    tree: &[u8],
+    prefix: &[u8],
+    listing: &Listing,
+    specs: &[u8],
+) -> Option<Listed> {
+    let (text, steps) = parted(tree, b'^');
+    let setup = setup_for(alloc, text, listing, specs)?;
+    let named = all_named(alloc, specs)?;
+    listed_of(alloc, steps, &setup, listing, prefix, &named)
+}
+
+/// Whether a text is what a row has, with `$` in the place of each line feed.
+fn is_text(alloc: Global, text: &[u8], want: &[u8]) -> bool {
+    match lines_of(alloc, want) {
+        Some(lines) => lines.as_slice() == text,
+        None => false,
+    }
+}
+
+/// Whether what is listed is what git prints: to its output, and to standard error, where its status
+/// is 1.
+fn is_printed(alloc: Global, listed: &Listed, out: &[u8], err: &[u8]) -> bool {
+    is_text(alloc, listed.out.as_bytes(), out)
+        && is_text(alloc, listed.err.as_bytes(), err)
+        && (listed.status() == 1) == !err.is_empty()
+}
+
+/// The tree of a number, one digit.
+fn tree_at(number: &[u8]) -> Option<&'static [u8]> {
+    let digit = *number.first()?;
+    TREES.lines().nth(usize::from(digit).checked_sub(48)?)
+}
+
+/// Whether what is listed of a tree is what git prints.
+fn lists(
+    alloc: Global,
+    tree: &[u8],
+    prefix: &[u8],
+    listing: &Listing,
+    specs: &[u8],
+    want: &[u8],
+) -> bool {
+    let (out, err) = parted(want, b'^');
+    match listed_in(alloc, tree, prefix, listing, specs) {
+        Some(listed) => is_printed(alloc, &listed, out, err),
+        None => false,
+    }
+}
+
+/// Whether a row is met.
+fn is_met(alloc: Global, row: &[u8]) -> bool {
+    let (number, rest) = parted(row, b'^');
+    let (prefix, rest) = parted(rest, b'^');
+    let (options, rest) = parted(rest, b'^');
+    let (specs, want) = parted(rest, b'^');
+    match tree_at(number) {
+        Some(tree) => lists(alloc, tree, prefix, &listing_of(options), specs, want),
+        None => false,
+    }
+}
+
+#[test]
+fn a_listing_is_what_git_prints(rt: HostRuntime) {
+    for row in ROWS.lines() {
+        assert!(rt; is_met(rt.alloc(), row), "{}", row.as_bstr());
+    }
+}
