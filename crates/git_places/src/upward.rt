@@ -72,8 +72,8 @@ fn top_above<W: Worktree, O: Owners>(
     }
 }
 
-/// The nearest work tree at or above `current`, an absolute path, as git(1) finds it: the first directory, from `current` upward,
-/// whose `.git` is a git directory, a link to one, or a file that names one. The search goes up into no ceiling, and into no directory
+/// The nearest work tree at or above `current`, an absolute path without links, `.` and `..`, as git(1) finds it: the first directory,
+/// from `current` upward, whose `.git` is a git directory, a link to one, or a file that names one. The search goes up into no ceiling, and into no directory
 /// on another file system than the one that is not left.
 ///
 /// # Errors

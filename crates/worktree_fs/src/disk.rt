@@ -10,7 +10,7 @@ ghost use Rattle.worktree_fs.specs.Order.{path_cmp};
 ghost use Rattle.worktree_fs.specs.Answers.{UnlessRead, UnlessFault, OnListFault, UnlessListFault};
 
 mod listing;
-mod node;
+pub(crate) mod node;
 
 use crate::faults::{is_fault, is_listing_fault};
 use crate::{

@@ -4,16 +4,17 @@ ghost use Rattle.std.specs.Prelude.{◌≡◌, None};
 use super::Owners;
 use super::ownership::Ownership;
 use crate::ReadError;
+use crate::disk::node::is_absent;
 use crate::faults::is_fault;
 use std::fs::Metadata;
-use std::io::ErrorKind;
 use std::marker::Model;
 use std::os::unix::fs::MetadataExt;
 use std::rt::{Files, HostRuntime};
-use std::{io, str};
+use std::str;
 
-/// The owners of the files of the system. They tell nothing, and count every call that the system refuses; a path that is not UTF-8 is
-/// such a failure, since std has none for it.
+/// The owners of the files of the system. They tell nothing, and count every call that the system
+/// refuses, unless it says that nothing is there; a path that is not UTF-8 is such a failure, since std
+/// has none for it.
 ///
 /// Contracts see the count.
 #[derive(Drop)]
@@ -52,11 +53,6 @@ fn ownership_of(metadata: &Metadata) -> Ownership {
         owner: metadata.uid(),
         device: metadata.dev(),
     }
-}
-
-/// Whether the system says that the path leads nowhere.
-fn is_absent(error: &io::Error) -> bool {
-    error.kind() == ErrorKind::NotFound || error.kind() == ErrorKind::NotADirectory
 }
 
 /// Who owns the node at a path, where there is one. Never answers `OutOfMemory`.
