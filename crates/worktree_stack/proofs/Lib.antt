@@ -41,3 +41,8 @@ pub mod Keeping
 pub mod HeldOut
 pub mod Seeing
 pub mod SeeingOn
+pub mod StackSteps
+pub mod Popping
+pub mod LookCounted
+pub mod Arriving
+pub mod RulesRead

@@ -12,7 +12,7 @@ use Rattle.worktree_stack.specs.declared.statistics.RulesStatistics.{RulesStatis
 use Rattle.worktree_stack.specs.declared.statistics.Statistics.{Statistics}
 use Rattle.worktree_stack.specs.Checkout.{Prepared, IsOutcome}
 use Rattle.worktree_stack.specs.Counted.{count_call, count_calls, count_each, count_readings, counts_of}
-use Rattle.worktree_stack.specs.Making.{Way, WorksOn, checked_out, count_out, made_on, mkdirs, pushed_out, unchanged, where_made, without_mkdirs}
+use Rattle.worktree_stack.specs.Making.{Way, WorksOn, checked_out, count_out, made_on, pushed_out, unchanged, where_made, without_mkdirs}
 use Rattle.worktree_stack.specs.Reading.{Sources, Tells, RulesKind, of_attributes, of_ignore, readings_of}
 use Rattle.worktree_stack.specs.Setup.{Made}
 use Rattle.worktree_stack.specs.Stacked.{Stacked, made_of}
@@ -152,10 +152,6 @@ mkdirs-same d [] = refl
 mkdirs-same d (push path is_last ∷ calls) = mkdirs-same (count_call d (push path is_last)) calls
 mkdirs-same d (push_directory path ∷ calls) = mkdirs-same (count_call d (push_directory path)) calls
 mkdirs-same d (pop_directory ∷ calls) = mkdirs-same (count_call d pop_directory) calls
-
--- no directory is asked to be made where calls push no component
-pub popped-mkdirs : (old new : Stacked) (calls : List Call) → new.statistics.delegate ≡ count_calls old.statistics.delegate calls → mkdirs new ≡ mkdirs old
-popped-mkdirs old new calls counted = ap (λ (d : DelegateStatistics). d.num_mkdir_calls) counted ∙ mkdirs-same old.statistics.delegate calls
 
 pub read-untold : (told : Option Names) (holds : Option Objects) (made : Made) (calls : List Call) (a b : Statistics) → HasRead told holds made calls a b → HasRead None None made calls a b
 read-untold told holds made calls a b read kind =

@@ -20,3 +20,5 @@ pub mod SeenNames
 pub mod ChecksOut
 pub mod GoesOn
 pub mod HeldOut
+pub mod Moments
+pub mod StackSteps

@@ -1,6 +1,6 @@
 //! What is said of attributes: by the lists of a caller, and by those of the directories on the way
 //! to a path.
-ghost use Rattle.std.specs.Prelude.{◌≡◌, ◌++◌, [], ◌∷◌, true, Some, IfOk, OnOk, OnErr};
+ghost use Rattle.std.specs.Prelude.{◌≡◌, ◌++◌, [], true, Some, IfOk, OnOk, OnErr};
 ghost use Rattle.glob_rules.specs.AttributeLines as texts;
 ghost use Rattle.glob_rules.specs.AttributeNames.{SeesPart, names_in};
 ghost use Rattle.glob_rules.specs.AttributeOutcome.{asking_anew, asking_for, filled, finds_some, nothing_asked};

@@ -1,5 +1,5 @@
 //! Where the files of directories are read that speak of attributes.
-ghost use Rattle.std.specs.Prelude.{◌≡◌, ℕ, List, if◌then◌else◌};
+ghost use Rattle.std.specs.Prelude.{◌≡◌, if◌then◌else◌};
 ghost use Rattle.worktree_stack.specs.declared.attributes_source.Source.TheVariants as sources;
 
 /// Where the `.gitattributes` of directories are read; gitoxide's

@@ -1,6 +1,6 @@
 //! The rules that exclude paths: those of a caller, and those of the directories on the way to a
 //! path.
-ghost use Rattle.std.specs.Prelude.{◌≡◌, ◌≤◌, ◌+◌, ◌-◌, ◌++◌, [], ◌∷◌, true, false, Some, IfOk, IfErr, OnOk, OnErr, option_map, is_some, reverse, length, take};
+ghost use Rattle.std.specs.Prelude.{◌≡◌, ◌+◌, ◌-◌, ◌++◌, [], ◌∷◌, false, Some, IfOk, OnOk, OnErr, option_map, is_some, reverse};
 ghost use Rattle.glob_rules.specs.Ignore.{search_hit, search_place};
 ghost use Rattle.worktree_stack.specs.Excludes.{by_group, first_decision, first_positive, decisive, is_positive};
 ghost use Rattle.worktree_stack.specs.Setup.{Held, push_level, pop_level, bare, file_name_or_default, by_place, decision_of, own_decision, directory_decision, deciding};

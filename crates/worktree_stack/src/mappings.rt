@@ -1,6 +1,6 @@
 //! The blobs that rules files are mapped to.
 ghost use Rattle.std.specs.Prelude.{◌≡◌, ◌||◌, ◌==◌, true, IfOk};
-ghost use Rattle.gitbase_core.specs.Index.{path_cmp, IsIndex};
+ghost use Rattle.gitbase_core.specs.Index.{path_cmp};
 ghost use Rattle.worktree_stack.specs.Mappings.{are_ascending, is_named, counts_for, is_plain, is_rules_entry, mappings_in};
 ghost use Rattle.worktree_stack.specs.Setup.{mapped_to, attributes_setup_of, setup_of};
 ghost use Rattle.worktree_stack.specs.Stacked.{attributes_of, ignore_of};

@@ -1,15 +1,17 @@
 //! The steps of a lookup that makes the directories on its way, in a checkout.
-ghost use Rattle.std.specs.Prelude.{◌≡◌, ◌≤◌, ◌++◌, ◌∷◌, [], true, false, is_some, length, None, OnOk, OnErr};
+ghost use Rattle.std.specs.Prelude.{◌≡◌, ◌++◌, ◌∷◌, [], true, false, is_some, None, OnOk};
 ghost use Rattle.gitbase_core.specs.Path.{components};
 ghost use Rattle.worktree_fs.specs.Paths.{IsComponent};
-ghost use Rattle.worktree_fs.specs.PathStack.{deepest_names, push, calls_for, calls_below, lookup_calls, IsOnWay};
+ghost use Rattle.worktree_fs.specs.PathStack.{deepest_names, push, calls_for, calls_below, lookup_calls};
 ghost use Rattle.worktree_stack.specs.ChecksOut.{left_of};
 ghost use Rattle.worktree_stack.specs.GoesOn.{Goes, GoesWithin, KeepsAll, KeepsOn, LeavesLast, PushesOut, Readies, is_wanted};
 ghost use Rattle.worktree_stack.specs.HeldOut.{AddsOut, HoldsOut};
-ghost use Rattle.worktree_stack.specs.Lookups.{is_dir_of, IsLookedUp, staying};
+ghost use Rattle.worktree_stack.specs.Lookups.{is_dir_of, staying};
 ghost use Rattle.worktree_stack.specs.Making.{is_link_of, mkdirs, way_of};
+ghost use Rattle.worktree_stack.specs.Moments.{HidesNoFault, moment};
 ghost use Rattle.worktree_stack.specs.Reading.{Sources, Tells};
-ghost use Rattle.worktree_stack.specs.Stacked.{made_of, pushed};
+ghost use Rattle.worktree_stack.specs.StackSteps.{Arrives, ArrivesBelow, StandsAt};
+ghost use Rattle.worktree_stack.specs.Stacked.{made_of};
 
 use super::Stack;
 use super::steps::mode_is_dir;
@@ -100,18 +102,24 @@ impl Stack {
     ) -> Result<(), AtPathError>
         requires component { IsComponent name.now }
         requires some { is_some self.old.at ≡ true }
+        // What is pushed, made, read and counted, and why it is refused.
         ensures goes { Goes W.Worktree F.Find worktree.old worktree.new objects.old objects.new
             (way_of checkout (W.precomposes worktree.old) self.old.root (is_dir_of mode))
             (is_link_of mode) checkout.validate.protect_windows
             (calls_for (deepest_names self.old.at) name.now false) (name.now ∷ []) self.old self.new
             result }
-        ensures at { OnOk result (self.new.at ≡ Some (deepest_names self.old.at ++ name.now ∷ [])) }
-        ensures at_refused { OnErr result (self.new.at ≡ self.old.at) }
+        // The component is the deepest directory then.
+        ensures stands { StandsAt (deepest_names self.old.at ++ name.now ∷ []) self.old self.new
+            result }
+        // What is held stays what the tree has that is made.
         ensures keeps { KeepsOn W.Worktree F.Find worktree.old worktree.new objects.old
             (way_of checkout (W.precomposes worktree.old) self.old.root (is_dir_of mode))
             (name.now ∷ []) self.old self.new result }
-        ensures unfaulted { OnOk result (W.faults worktree.new ≡ W.faults worktree.old) }
-        ensures unfaulted_store { OnOk result (F.faults objects.new ≡ F.faults objects.old) }
+        // An answer hides no fault.
+        ensures unfaulted { HidesNoFault W.Worktree F.Find
+            (moment worktree.old objects.old self.old)
+            (moment worktree.new objects.new self.new) result }
+        // The lists of each directory are those of the tree that it was made in.
         ensures held { (s : Sources) → Tells (W.told worktree.old) (F.holds objects.old) s
             → OnOk result (AddsOut (made_of self.old)
             (way_of checkout (W.precomposes worktree.old) self.old.root (is_dir_of mode))
@@ -135,25 +143,28 @@ impl Stack {
     ) -> Result<(), AtPathError>
         requires some { is_some self.old.at ≡ true }
         requires end { components left.now ≡ [] → deepest_names self.old.at ≡ [] }
+        // What is pushed, made, read and counted, and why it is refused.
         ensures goes { Goes W.Worktree F.Find worktree.old worktree.new objects.old objects.new
             (way_of checkout (W.precomposes worktree.old) self.old.root (is_dir_of mode))
             (is_link_of mode) checkout.validate.protect_windows
             (calls_below (deepest_names self.old.at) (components left.now)) (components left.now)
             self.old self.new result }
-        ensures some { is_some self.new.at ≡ true }
-        ensures looked_up { OnOk result
-            (IsLookedUp self.new (deepest_names self.old.at ++ components left.now)) }
-        ensures on_way { OnErr result
-            (IsOnWay self.new.at (deepest_names self.old.at ++ components left.now)) }
-        ensures stays { length (deepest_names self.old.at) ≤ length (deepest_names self.new.at) }
+        // The stack stands at the path then, or on the way to it.
+        ensures arrives { ArrivesBelow (deepest_names self.old.at ++ components left.now)
+            self.old self.new result }
+        // What is held is what the tree has that is there in the end.
         ensures keeps { KeepsAll W.Worktree F.Find worktree.old worktree.new objects.old
             (way_of checkout (W.precomposes worktree.old) self.old.root (is_dir_of mode))
             (components left.now) self.old self.new result }
+        // The last component is a directory then, where it is to be one.
         ensures last { LeavesLast W.Worktree worktree.new
             (way_of checkout (W.precomposes worktree.old) self.old.root (is_dir_of mode))
             (deepest_names self.old.at) (components left.now) result }
-        ensures unfaulted { OnOk result (W.faults worktree.new ≡ W.faults worktree.old) }
-        ensures unfaulted_store { OnOk result (F.faults objects.new ≡ F.faults objects.old) }
+        // An answer hides no fault.
+        ensures unfaulted { HidesNoFault W.Worktree F.Find
+            (moment worktree.old objects.old self.old)
+            (moment worktree.new objects.new self.new) result }
+        // The lists of each directory are those of the tree that it was made in.
         ensures held { (s : Sources) → Tells (W.told worktree.old) (F.holds objects.old) s
             → OnOk result (AddsOut (made_of self.old)
             (way_of checkout (W.precomposes worktree.old) self.old.root (is_dir_of mode))
@@ -184,21 +195,25 @@ impl Stack {
         worktree: &mut W,
         objects: &mut F,
     ) -> Result<(), AtPathError>
+        // What is pushed, made, read and counted, and why it is refused.
         ensures goes { Goes W.Worktree F.Find worktree.old worktree.new objects.old objects.new
             (way_of checkout (W.precomposes worktree.old) self.old.root (is_dir_of mode))
             (is_link_of mode) checkout.validate.protect_windows
             (lookup_calls self.old.at (components relative.now))
             (left_of self.old.at (components relative.now)) self.old self.new result }
-        ensures looked_up { OnOk result (IsLookedUp self.new (components relative.now)) }
-        ensures on_way { OnErr result (IsOnWay self.new.at (components relative.now)) }
-        ensures stays { length (pushed (staying self.old.at (components relative.now))) ≤ length
-            (pushed self.new.at) }
+        // The stack stands at the path then, or on the way to it.
+        ensures arrives { Arrives (components relative.now)
+            (staying self.old.at (components relative.now)) self.new result }
+        // A stack in step stays so, and its directories are there.
         ensures within { GoesWithin W.Worktree F.Find worktree.old worktree.new objects.old
             objects.new (way_of checkout (W.precomposes worktree.old) self.old.root
             (is_dir_of mode)) (components relative.now)
             (left_of self.old.at (components relative.now)) self.old self.new result }
-        ensures unfaulted { OnOk result (W.faults worktree.new ≡ W.faults worktree.old) }
-        ensures unfaulted_store { OnOk result (F.faults objects.new ≡ F.faults objects.old) }
+        // An answer hides no fault.
+        ensures unfaulted { HidesNoFault W.Worktree F.Find
+            (moment worktree.old objects.old self.old)
+            (moment worktree.new objects.new self.new) result }
+        // The lists of each directory are those of the tree that it was made in.
         ensures held { (s : Sources) → Tells (W.told worktree.old) (F.holds objects.old) s
             → OnOk result (HoldsOut (made_of self.old)
             (way_of checkout (W.precomposes worktree.old) self.old.root (is_dir_of mode))

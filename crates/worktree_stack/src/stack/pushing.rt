@@ -7,11 +7,13 @@ ghost use Rattle.worktree_fs.specs.Paths.{fronts, spelled};
 ghost use Rattle.worktree_fs.specs.PathStack.{push_directory};
 ghost use Rattle.worktree_stack.specs.Counted.{count_call};
 ghost use Rattle.worktree_stack.specs.Excludes.{ancestors};
+ghost use Rattle.worktree_stack.specs.Moments.{HidesNoFault, moment};
 ghost use Rattle.worktree_stack.specs.Placed.{Reads};
 ghost use Rattle.worktree_stack.specs.Reading.{Sources, Tells, attribute_readings, own_readings, info_readings_if, ignore_readings, readings_of, rulebook, rules_from, text_of, attributes_from, lists_if, own_lists_if, info_lists_if};
-ghost use Rattle.worktree_stack.specs.SeenNames.{Sees, info_names_if, names_at, names_from, names_if, own_names_if};
+ghost use Rattle.worktree_stack.specs.SeenNames.{Sees, info_names_if, names_from, names_if, own_names_if};
 ghost use Rattle.worktree_stack.specs.Setup.{attributes_name, attributes_setup_of, lists_of, names_of, push_list, IsLonger};
-ghost use Rattle.worktree_stack.specs.Stacked.{HoldsFor, HoldsRules, HasAsMany, HasAsManyRules, PushesLists, attributes_of, checkout_of, ignore_of, info_count_if, own_count, count_at, made_of};
+ghost use Rattle.worktree_stack.specs.StackSteps.{KeepsPlace, PushesRules};
+ghost use Rattle.worktree_stack.specs.Stacked.{HoldsFor, HoldsRules, HasAsMany, HasAsManyRules, attributes_of, checkout_of, ignore_of, info_count_if, own_count, count_at, made_of};
 
 use super::Stack;
 use super::reading::{read_text, set_paths};
@@ -31,18 +33,23 @@ impl Stack {
         worktree: &mut W,
         objects: &mut F,
     ) -> Result<List, AtPathError>
+        // Only what is read of ignore rules is counted.
         ensures same { self.new ≡ record self.old {
           statistics = record self.old.statistics
               { ignore = self.new.statistics.ignore };
         } }
+        // The rules are those that are told.
         ensures rules { (s : Sources) → Tells (W.told worktree.old) (F.holds objects.old) s
             → IfOk result (λ list. (rulebook (made_of self.old) s).of_directory self.old.current ≡
             list) }
+        // What is read and counted, and why it is refused.
         ensures reads { Reads W.Worktree F.Find worktree.old worktree.new objects.old objects.new
             (ignore_readings (made_of self.old) (made_of self.old).ignore
             (spelled self.old.current)) self.old.statistics self.new.statistics result }
-        ensures unfaulted { OnOk result (W.faults worktree.new ≡ W.faults worktree.old) }
-        ensures unfaulted_store { OnOk result (F.faults objects.new ≡ F.faults objects.old) }
+        // An answer hides no fault.
+        ensures unfaulted { HidesNoFault W.Worktree F.Find
+            (moment worktree.old objects.old self.old)
+            (moment worktree.new objects.new self.new) result }
     {
         let Some(ignore) = self.state.ignore() else {
             return Ok(List::new(alloc));
@@ -78,24 +85,32 @@ impl Stack {
         worktree: &mut W,
         objects: &mut F,
     ) -> Result<(), AtPathError>
+        // Only the ignore rules change, and what is counted of them.
         ensures same { self.new ≡ record self.old {
           ignore = self.new.ignore;
           statistics = record self.old.statistics
               { ignore = self.new.statistics.ignore };
         } }
+        // The stack stays as it was made.
         ensures made { made_of self.new ≡ made_of self.old }
+        // Refused, none is pushed.
         ensures held { OnErr result (self.new.ignore ≡ self.old.ignore) }
+        // What is held is what is told of all directories above, and of the path itself.
         ensures rules { (s : Sources) → Tells (W.told worktree.old) (F.holds objects.old) s
             → HoldsRules (made_of self.old) s (ancestors self.old.current) self.old.ignore
             → OnOk result (HoldsRules (made_of self.old) s (fronts self.old.current)
             self.new.ignore) }
+        // There are as many lists and matches as directories.
         ensures levels { HasAsManyRules (ancestors self.old.current) self.old.ignore
             → OnOk result (HasAsManyRules (fronts self.old.current) self.new.ignore) }
+        // What is read and counted, and why it is refused.
         ensures reads { Reads W.Worktree F.Find worktree.old worktree.new objects.old objects.new
             (ignore_readings (made_of self.old) (made_of self.old).ignore
             (spelled self.old.current)) self.old.statistics self.new.statistics result }
-        ensures unfaulted { OnOk result (W.faults worktree.new ≡ W.faults worktree.old) }
-        ensures unfaulted_store { OnOk result (F.faults objects.new ≡ F.faults objects.old) }
+        // An answer hides no fault.
+        ensures unfaulted { HidesNoFault W.Worktree F.Find
+            (moment worktree.old objects.old self.old)
+            (moment worktree.new objects.new self.new) result }
     {
         if !self.has_excludes() {
             return Ok(());
@@ -114,28 +129,37 @@ impl Stack {
         worktree: &mut W,
         objects: &mut F,
     ) -> Result<(), AtPathError>
+        // Only the attributes change, and what is counted of them.
         ensures same { self.new ≡ record self.old {
           attributes = self.new.attributes;
           statistics = record self.old.statistics
               { attributes = self.new.statistics.attributes };
         } }
+        // The state stays as it was made.
         ensures setup { attributes_setup_of self.new.attributes ≡ attributes_setup_of
             self.old.attributes }
+        // Refused, no list is pushed.
         ensures held { OnErr result (lists_of self.new.attributes ≡ lists_of self.old.attributes) }
+        // The lists that are told come above those that were held.
         ensures lists { (s : Sources) → Tells (W.told worktree.old) (F.holds objects.old) s
             → OnOk result (lists_of self.new.attributes ≡ lists_of self.old.attributes
             ++ own_lists_if (made_of self.old) (made_of self.old).attributes s
             (spelled self.old.current)) }
+        // Whatever is told, so many come.
         ensures many { OnOk result (IsLonger (own_count (made_of self.old).attributes)
             (lists_of self.old.attributes) (lists_of self.new.attributes)) }
+        // The names are seen that were read.
         ensures names { Sees (W.told worktree.old) (F.holds objects.old)
             (λ s. own_names_if (made_of self.old) (made_of self.old).attributes s
             (spelled self.old.current)) self.old.attributes self.new.attributes result }
+        // What is read and counted, and why it is refused.
         ensures reads { Reads W.Worktree F.Find worktree.old worktree.new objects.old objects.new
             (own_readings (made_of self.old) (made_of self.old).attributes
             (spelled self.old.current)) self.old.statistics self.new.statistics result }
-        ensures unfaulted { OnOk result (W.faults worktree.new ≡ W.faults worktree.old) }
-        ensures unfaulted_store { OnOk result (F.faults objects.new ≡ F.faults objects.old) }
+        // An answer hides no fault.
+        ensures unfaulted { HidesNoFault W.Worktree F.Find
+            (moment worktree.old objects.old self.old)
+            (moment worktree.new objects.new self.new) result }
     {
         let Some(attributes) = self.state.attributes() else {
             return Ok(());
@@ -180,28 +204,37 @@ impl Stack {
         worktree: &mut W,
         objects: &mut F,
     ) -> Result<(), AtPathError>
+        // Only the attributes change, and what is counted of them.
         ensures same { self.new ≡ record self.old {
           attributes = self.new.attributes;
           statistics = record self.old.statistics
               { attributes = self.new.statistics.attributes };
         } }
+        // The state stays as it was made.
         ensures setup { attributes_setup_of self.new.attributes ≡ attributes_setup_of
             self.old.attributes }
+        // Refused, no list is pushed.
         ensures held { OnErr result (lists_of self.new.attributes ≡ lists_of self.old.attributes) }
+        // The lists that are told come above those that were held.
         ensures lists { (s : Sources) → Tells (W.told worktree.old) (F.holds objects.old) s
             → OnOk result (lists_of self.new.attributes ≡ lists_of self.old.attributes
             ++ info_lists_if (made_of self.old).attributes s (spelled self.old.current)) }
+        // Whatever is told, so many come.
         ensures many { OnOk result (IsLonger
             (info_count_if (made_of self.old).attributes (spelled self.old.current))
             (lists_of self.old.attributes) (lists_of self.new.attributes)) }
+        // The names are seen that were read.
         ensures names { Sees (W.told worktree.old) (F.holds objects.old)
             (λ s. info_names_if (made_of self.old).attributes s (spelled self.old.current))
             self.old.attributes self.new.attributes result }
+        // What is read and counted, and why it is refused.
         ensures reads { Reads W.Worktree F.Find worktree.old worktree.new objects.old objects.new
             (info_readings_if (made_of self.old).attributes (spelled self.old.current))
             self.old.statistics self.new.statistics result }
-        ensures unfaulted { OnOk result (W.faults worktree.new ≡ W.faults worktree.old) }
-        ensures unfaulted_store { OnOk result (F.faults objects.new ≡ F.faults objects.old) }
+        // An answer hides no fault.
+        ensures unfaulted { HidesNoFault W.Worktree F.Find
+            (moment worktree.old objects.old self.old)
+            (moment worktree.new objects.new self.new) result }
     {
         let Some(attributes) = self.state.attributes() else {
             return Ok(());
@@ -236,29 +269,38 @@ impl Stack {
         worktree: &mut W,
         objects: &mut F,
     ) -> Result<(), AtPathError>
+        // Only the attributes change, and what is counted of them.
         ensures same { self.new ≡ record self.old {
           attributes = self.new.attributes;
           statistics = record self.old.statistics
               { attributes = self.new.statistics.attributes };
         } }
+        // The state stays as it was made.
         ensures setup { attributes_setup_of self.new.attributes ≡ attributes_setup_of
             self.old.attributes }
+        // Refused, no list is pushed.
         ensures held { OnErr result (lists_of self.new.attributes ≡ lists_of self.old.attributes) }
+        // The lists that are told come above those that were held.
         ensures lists { (s : Sources) → Tells (W.told worktree.old) (F.holds objects.old) s
             → OnOk result (lists_of self.new.attributes ≡ lists_of self.old.attributes
             ++ lists_if (made_of self.old) (made_of self.old).attributes s
             (spelled self.old.current)) }
+        // Whatever is told, so many come.
         ensures many { OnOk result (IsLonger
             (count_at (made_of self.old).attributes (spelled self.old.current))
             (lists_of self.old.attributes) (lists_of self.new.attributes)) }
+        // The names are seen that were read.
         ensures names { Sees (W.told worktree.old) (F.holds objects.old)
             (λ s. names_if (made_of self.old) (made_of self.old).attributes s
             (spelled self.old.current)) self.old.attributes self.new.attributes result }
+        // What is read and counted, and why it is refused.
         ensures reads { Reads W.Worktree F.Find worktree.old worktree.new objects.old objects.new
             (attribute_readings (made_of self.old) (made_of self.old).attributes
             (spelled self.old.current)) self.old.statistics self.new.statistics result }
-        ensures unfaulted { OnOk result (W.faults worktree.new ≡ W.faults worktree.old) }
-        ensures unfaulted_store { OnOk result (F.faults objects.new ≡ F.faults objects.old) }
+        // An answer hides no fault.
+        ensures unfaulted { HidesNoFault W.Worktree F.Find
+            (moment worktree.old objects.old self.old)
+            (moment worktree.new objects.new self.new) result }
     {
         self.push_own(alloc, worktree, objects)?;
         if let Err(refused) = self.push_info(alloc, worktree, objects) {
@@ -276,36 +318,33 @@ impl Stack {
         worktree: &mut W,
         objects: &mut F,
     ) -> Result<(), AtPathError>
-        ensures made { made_of self.new ≡ made_of self.old }
-        ensures at { self.new.at ≡ self.old.at }
-        ensures current { self.new.current ≡ self.old.current }
-        ensures is_dir { self.new.is_dir ≡ self.old.is_dir }
-        ensures answered { self.new.is_answered ≡ self.old.is_answered }
-        ensures platforms { self.new.statistics.platforms ≡ self.old.statistics.platforms }
+        // The stack stands where it stood.
+        ensures place { KeepsPlace self.old self.new }
+        // The directory is counted.
         ensures delegate { self.new.statistics.delegate ≡ count_call self.old.statistics.delegate
             (push_directory (spelled self.old.current)) }
-        ensures held { OnErr result (self.new.ignore ≡ self.old.ignore) }
-        ensures held_lists { OnErr result
-            (lists_of self.new.attributes ≡ lists_of self.old.attributes) }
+        // The rules of the current path are pushed, or nothing is.
+        ensures pushes { PushesRules W.Worktree F.Find
+            (moment worktree.old objects.old self.old)
+            (moment worktree.new objects.new self.new) result }
+        // What is held is what is told of all directories above, and of the path itself.
         ensures in_step { (s : Sources) → Tells (W.told worktree.old) (F.holds objects.old) s
             → HoldsFor (made_of self.old) s (ancestors self.old.current) self.old.attributes
             self.old.ignore
             → OnOk result (HoldsFor (made_of self.old) s (fronts self.old.current)
             self.new.attributes self.new.ignore) }
-        ensures lists { (s : Sources) → Tells (W.told worktree.old) (F.holds objects.old) s
-            → OnOk result (PushesLists (made_of self.old) s self.old.current self.old.attributes
-            self.new.attributes) }
-        ensures names { Sees (W.told worktree.old) (F.holds objects.old)
-            (λ s. names_at (made_of self.old) s self.old.current) self.old.attributes
-            self.new.attributes result }
+        // There are as many lists and matches as directories.
         ensures levels { HasAsMany (ancestors self.old.current) self.old.attributes self.old.ignore
             → OnOk result (HasAsMany (fronts self.old.current) self.new.attributes
             self.new.ignore) }
+        // What is read and counted, and why it is refused.
         ensures reads { Reads W.Worktree F.Find worktree.old worktree.new objects.old objects.new
             (readings_of (made_of self.old) (spelled self.old.current)) self.old.statistics
             self.new.statistics result }
-        ensures unfaulted { OnOk result (W.faults worktree.new ≡ W.faults worktree.old) }
-        ensures unfaulted_store { OnOk result (F.faults objects.new ≡ F.faults objects.old) }
+        // An answer hides no fault.
+        ensures unfaulted { HidesNoFault W.Worktree F.Find
+            (moment worktree.old objects.old self.old)
+            (moment worktree.new objects.new self.new) result }
     {
         self.count_push();
         self.push_attributes(alloc, worktree, objects)?;

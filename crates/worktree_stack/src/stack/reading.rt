@@ -1,5 +1,5 @@
 //! What is read from one place and then the next.
-ghost use Rattle.std.specs.Prelude.{◌≡◌, ◌⊎◌, ◌≤◌, ◌+◌, ◌↔◌, true, is_some, Some, Ok, IfOk, IfErr, IfNone, OnOk};
+ghost use Rattle.std.specs.Prelude.{◌≡◌, ◌⊎◌, ◌≤◌, ◌+◌, true, is_some, Some, Ok, IfOk, IfErr, IfNone, OnOk};
 ghost use Rattle.gitbase_core.specs.Objects.{Objects, object_at, blob};
 ghost use Rattle.gitbase_core.specs.Path.{joined};
 ghost use Rattle.worktree_fs.specs.Causes.{Increased};

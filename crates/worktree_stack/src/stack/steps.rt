@@ -1,22 +1,19 @@
 //! The steps of a lookup: what is pushed and popped on the way from one path to the next.
-ghost use Rattle.std.specs.Prelude.{◌≡◌, ◌≤◌, ◌+◌, ◌++◌, ◌∷◌, [], ℕ, true, false, length, drop, replicate, is_some, Option, Some, None, IfErr, IfSome, OnOk, OnErr};
-ghost use Rattle.gitbase_core.specs.Objects.{Objects};
+ghost use Rattle.std.specs.Prelude.{◌≡◌, ◌+◌, ◌++◌, ◌∷◌, [], true, false, length, drop, replicate, is_some, Option, Some, None, IfErr, IfSome, OnOk, OnErr};
 ghost use Rattle.gitbase_core.specs.Path.{components};
 ghost use Rattle.worktree_fs.specs.Causes.{Increased};
 ghost use Rattle.worktree_fs.specs.Paths.{spelled, IsComponent};
-ghost use Rattle.worktree_fs.specs.PathStack.{deepest_names, one_up, surplus, lookup_calls, root_calls, calls_for, calls_below, push_directory, pop_directory, IsOnWay};
-ghost use Rattle.worktree_fs.specs.Tree.{Names};
-ghost use Rattle.worktree_stack.specs.Asked.{asked_on};
-ghost use Rattle.worktree_stack.specs.Counted.{count_platform, count_call, files_in};
+ghost use Rattle.worktree_fs.specs.PathStack.{deepest_names, one_up, surplus, lookup_calls, root_calls, calls_for, calls_below, push_directory, pop_directory};
+ghost use Rattle.worktree_stack.specs.Counted.{count_platform, count_call};
 ghost use Rattle.worktree_stack.specs.Excludes.{ancestors};
-ghost use Rattle.worktree_fs.specs.Kept.{Asks, AsksStore};
-ghost use Rattle.worktree_stack.specs.HeldOut.{AddsOut, AreLowest};
-ghost use Rattle.worktree_stack.specs.Lookups.{IsIn, asks_worktree, is_dir_of, IsLookedUp, staying, stepped, refused_one};
+ghost use Rattle.worktree_stack.specs.HeldOut.{AddsOut};
+ghost use Rattle.worktree_stack.specs.Lookups.{IsIn, is_dir_of, staying, stepped, refused_one};
 ghost use Rattle.worktree_stack.specs.Making.{Way, mkdirs};
-ghost use Rattle.worktree_stack.specs.Reading.{Sources, Tells, places_in, readings_of};
-ghost use Rattle.worktree_stack.specs.Stacked.{IsInStep, IsLevel, PushesLists, made_of, pushed};
-ghost use Rattle.worktree_stack.specs.SeenNames.{Sees, names_at, names_on};
-ghost use Rattle.worktree_stack.specs.Setup.{has_attributes, lists_of, names_of};
+ghost use Rattle.worktree_stack.specs.Moments.{moment};
+ghost use Rattle.worktree_stack.specs.Reading.{Sources, Tells};
+ghost use Rattle.worktree_stack.specs.Stacked.{made_of, pushed};
+ghost use Rattle.worktree_stack.specs.Setup.{lists_of};
+ghost use Rattle.worktree_stack.specs.StackSteps.{Arrives, ArrivesBelow, Pops, PushesRules, StandsAt, StepAsks, StepHolds, StepKeeps, StepMoves, StepSees};
 ghost use Rattle.worktree_stack.specs.Steps.{CarriesOut, Stops};
 
 use super::Stack;
@@ -28,17 +25,10 @@ use worktree_fs::{Worktree, next_component};
 impl Stack {
     /// Pops the deepest directory, with its rules.
     fn pop_directory(&mut self)
-        ensures made { made_of self.new ≡ made_of self.old }
+        // The deepest directory is the one above it.
         ensures at { self.new.at ≡ one_up self.old.at }
-        ensures in_step { (s : Sources) → IsInStep s self.old → IsInStep s self.new }
-        ensures levels { IsLevel self.old → IsLevel self.new }
-        ensures is_dir { self.new.is_dir ≡ self.old.is_dir }
-        ensures answered { self.new.is_answered ≡ self.old.is_answered }
-        ensures platforms { self.new.statistics.platforms ≡ self.old.statistics.platforms }
-        ensures carried { (told : Option Names) (holds : Option Objects)
-            → CarriesOut told holds (pop_directory ∷ []) self.old self.new }
-        ensures dropped { AreLowest (lists_of self.new.attributes) (lists_of self.old.attributes) }
-        ensures names { names_of self.new.attributes ≡ names_of self.old.attributes }
+        // One directory is popped, and nothing else changes.
+        ensures pops { Pops (pop_directory ∷ []) self.old self.new }
     {
         self.state.pop_ignore();
         self.state.pop_attributes(self.stack.deepest());
@@ -72,18 +62,13 @@ impl Stack {
 
     /// Pops the directories that are not above a path.
     pub(super) fn pop_surplus(&mut self, relative: &[u8])
-        ensures made { made_of self.new ≡ made_of self.old }
+        // The directories that are above the path stay.
         ensures at { self.new.at ≡ staying self.old.at (components relative.now) }
-        ensures is_dir { self.new.is_dir ≡ self.old.is_dir }
-        ensures answered { self.new.is_answered ≡ self.old.is_answered }
-        ensures platforms { self.new.statistics.platforms ≡ self.old.statistics.platforms }
-        ensures in_step { (s : Sources) → IsInStep s self.old → IsInStep s self.new }
-        ensures levels { IsLevel self.old → IsLevel self.new }
-        ensures carried { (told : Option Names) (holds : Option Objects)
-            → CarriesOut told holds (replicate (surplus self.old.at (components relative.now))
-            pop_directory) self.old self.new }
-        ensures dropped { AreLowest (lists_of self.new.attributes) (lists_of self.old.attributes) }
-        ensures names { names_of self.new.attributes ≡ names_of self.old.attributes }
+        // The others are popped, and nothing else changes.
+        ensures pops { Pops
+            (replicate (surplus self.old.at (components relative.now)) pop_directory)
+            self.old self.new }
+        // Where all stay no list is dropped.
         ensures undropped { surplus self.old.at (components relative.now) ≡ 0
             → lists_of self.new.attributes ≡ lists_of self.old.attributes }
     {
@@ -101,17 +86,18 @@ impl Stack {
         worktree: &mut W,
         objects: &mut F,
     ) -> Result<(), AtPathError>
-        ensures made { made_of self.new ≡ made_of self.old }
-        ensures at { OnOk result (self.new.at ≡ Some self.old.current) }
+        // The stack stays as it was made, the tree as it was, and no fault is hidden.
+        ensures keeps { StepKeeps W.Worktree F.Find
+            (moment worktree.old objects.old self.old)
+            (moment worktree.new objects.new self.new) result }
+        // The current path is the deepest directory then, and stays the current path.
+        ensures stands { StandsAt self.old.current self.old self.new result }
         ensures current { OnOk result (self.new.current ≡ self.old.current) }
-        ensures at_refused { OnErr result (self.new.at ≡ self.old.at) }
-        ensures held { OnErr result (self.new.ignore ≡ self.old.ignore) }
-        ensures held_lists { OnErr result
-            (lists_of self.new.attributes ≡ lists_of self.old.attributes) }
-        ensures is_dir { self.new.is_dir ≡ self.old.is_dir }
-        ensures answered { self.new.is_answered ≡ self.old.is_answered }
-        ensures platforms { self.new.statistics.platforms ≡ self.old.statistics.platforms }
-        ensures mkdirs { mkdirs self.new ≡ mkdirs self.old }
+        // Its rules are pushed, or nothing is.
+        ensures pushes { PushesRules W.Worktree F.Find
+            (moment worktree.old objects.old self.old)
+            (moment worktree.new objects.new self.new) result }
+        // The call is carried out behind those of the directories above, or refused for its cause.
         ensures carried { pushed self.old.at ≡ ancestors self.old.current
             → OnOk result (CarriesOut (W.told worktree.old) (F.holds objects.old)
             (push_directory (spelled self.old.current) ∷ []) self.old self.new) }
@@ -119,27 +105,16 @@ impl Stack {
             (Increased (W.faults worktree.old) (W.faults worktree.new))
             (Increased (F.faults objects.old) (F.faults objects.new))
             (push_directory (spelled self.old.current) ∷ []) self.old self.new) }
-        ensures lists { (s : Sources) → Tells (W.told worktree.old) (F.holds objects.old) s
-            → OnOk result (PushesLists (made_of self.old) s self.old.current self.old.attributes
-            self.new.attributes) }
-        ensures names { Sees (W.told worktree.old) (F.holds objects.old)
-            (λ s. names_at (made_of self.old) s self.old.current) self.old.attributes
-            self.new.attributes result }
-        ensures in_step { (s : Sources) → Tells (W.told worktree.old) (F.holds objects.old) s
-            → pushed self.old.at ≡ ancestors self.old.current → IsInStep s self.old
-            → IsInStep s self.new }
-        ensures levels { pushed self.old.at ≡ ancestors self.old.current → IsLevel self.old
-            → IsLevel self.new }
-        ensures untouched { asks_worktree (made_of self.old) ≡ false → worktree.new ≡ worktree.old }
-        ensures store_untouched { (made_of self.old).mappings ≡ [] → objects.new ≡ objects.old }
-        ensures leaves { Asks W.Worktree worktree.old worktree.new }
-        ensures leaves_store { AsksStore F.Find objects.old objects.new }
-        ensures asked { W.reads worktree.new ≤ W.reads worktree.old + files_in
-            (places_in (readings_of (made_of self.old) (spelled self.old.current))) }
-        ensures reads { has_attributes (made_of self.old) ≡ false
-            → W.reads worktree.new ≤ W.reads worktree.old + 1 }
-        ensures unfaulted { OnOk result (W.faults worktree.new ≡ W.faults worktree.old) }
-        ensures unfaulted_store { OnOk result (F.faults objects.new ≡ F.faults objects.old) }
+        // A stack in step stays so, and level, where the directories above are pushed.
+        ensures holds { pushed self.old.at ≡ ancestors self.old.current
+            → StepHolds W.Worktree F.Find
+            (moment worktree.old objects.old self.old)
+            (moment worktree.new objects.new self.new) }
+        // How often the worktree is read.
+        ensures asks { StepAsks W.Worktree
+            (moment worktree.old objects.old self.old)
+            (moment worktree.new objects.new self.new)
+            (push_directory (spelled self.old.current) ∷ []) 0 1 }
     {
         if let Err(refused) = self.push_rules(alloc, worktree, objects) {
             self.leave();
@@ -190,41 +165,37 @@ impl Stack {
         worktree: &mut W,
         objects: &mut F,
     ) -> Result<(), AtPathError>
-        ensures made { made_of self.new ≡ made_of self.old }
-        ensures at { OnOk result (self.new.at ≡ Some (deepest_names self.old.at)) }
-        ensures at_refused { OnErr result (self.new.at ≡ self.old.at) }
+        // The stack stays as it was made, the tree as it was, and no fault is hidden.
+        ensures keeps { StepKeeps W.Worktree F.Find
+            (moment worktree.old objects.old self.old)
+            (moment worktree.new objects.new self.new) result }
+        // The root is the deepest directory then, unless one was pushed.
+        ensures stands { StandsAt (deepest_names self.old.at) self.old self.new result }
         ensures none { OnErr result (self.old.at ≡ None) }
-        ensures is_dir { self.new.is_dir ≡ self.old.is_dir }
-        ensures answered { self.new.is_answered ≡ self.old.is_answered }
-        ensures platforms { self.new.statistics.platforms ≡ self.old.statistics.platforms }
-        ensures mkdirs { mkdirs self.new ≡ mkdirs self.old }
-        ensures names { Sees (W.told worktree.old) (F.holds objects.old)
-            (λ s. names_on (made_of self.old) s (root_calls self.old.at))
-            self.old.attributes self.new.attributes result }
-        ensures carried { OnOk result (CarriesOut (W.told worktree.old) (F.holds objects.old)
-            (root_calls self.old.at) self.old self.new) }
-        ensures stopped { IfErr result (Stops (W.told worktree.old) (F.holds objects.old)
-            (Increased (W.faults worktree.old) (W.faults worktree.new))
-            (Increased (F.faults objects.old) (F.faults objects.new)) (root_calls self.old.at)
-            self.old self.new) }
-        ensures in_step { (s : Sources) → Tells (W.told worktree.old) (F.holds objects.old) s
-            → IsInStep s self.old → IsInStep s self.new }
-        ensures levels { IsLevel self.old → IsLevel self.new }
-        ensures untouched { asks_worktree (made_of self.old) ≡ false → worktree.new ≡ worktree.old }
-        ensures store_untouched { (made_of self.old).mappings ≡ [] → objects.new ≡ objects.old }
-        ensures leaves { Asks W.Worktree worktree.old worktree.new }
-        ensures leaves_store { AsksStore F.Find objects.old objects.new }
-        ensures asked { W.reads worktree.new ≤ W.reads worktree.old + asked_on
-            (made_of self.old) (root_calls self.old.at) }
-        ensures reads { has_attributes (made_of self.old) ≡ false
-            → W.reads worktree.new ≤ W.reads worktree.old + length
-            (root_calls self.old.at) }
-        ensures unfaulted { OnOk result (W.faults worktree.new ≡ W.faults worktree.old) }
-        ensures unfaulted_store { OnOk result (F.faults objects.new ≡ F.faults objects.old) }
+        // The calls are carried out, or one is refused for its cause.
+        ensures moves { StepMoves W.Worktree F.Find
+            (moment worktree.old objects.old self.old)
+            (moment worktree.new objects.new self.new)
+            (root_calls self.old.at) result }
+        // A stack in step stays so, and level.
+        ensures holds { StepHolds W.Worktree F.Find
+            (moment worktree.old objects.old self.old)
+            (moment worktree.new objects.new self.new) }
+        // The names of attributes are seen of what is read.
+        ensures sees { StepSees W.Worktree F.Find
+            (moment worktree.old objects.old self.old)
+            (moment worktree.new objects.new self.new)
+            (root_calls self.old.at) result }
+        // Its lists come above those that were held.
         ensures lists { (way : Way) (s : Sources)
             → Tells (W.told worktree.old) (F.holds objects.old) s
             → OnOk result (AddsOut (made_of self.old) way (mkdirs self.old) s
             (root_calls self.old.at) self.old.attributes self.new.attributes) }
+        // How often the worktree is read.
+        ensures asks { StepAsks W.Worktree
+            (moment worktree.old objects.old self.old)
+            (moment worktree.new objects.new self.new)
+            (root_calls self.old.at) 0 (length (root_calls self.old.at)) }
     {
         if self.is_root_pushed() {
             return Ok(());
@@ -243,35 +214,32 @@ impl Stack {
     ) -> Result<(), AtPathError>
         requires component { IsComponent name.now }
         requires some { is_some self.old.at ≡ true }
-        ensures made { made_of self.new ≡ made_of self.old }
-        ensures at { OnOk result (self.new.at ≡ Some (deepest_names self.old.at ++ name.now ∷ [])) }
-        ensures at_refused { OnErr result (self.new.at ≡ self.old.at) }
-        ensures is_dir { self.new.is_dir ≡ self.old.is_dir }
-        ensures answered { self.new.is_answered ≡ self.old.is_answered }
-        ensures platforms { self.new.statistics.platforms ≡ self.old.statistics.platforms }
-        ensures names { Sees (W.told worktree.old) (F.holds objects.old)
-            (λ s. names_on (made_of self.old) s
-            (calls_for (deepest_names self.old.at) name.now false))
-            self.old.attributes self.new.attributes result }
-        ensures carried { OnOk result (CarriesOut (W.told worktree.old) (F.holds objects.old)
-            (calls_for (deepest_names self.old.at) name.now false) self.old self.new) }
-        ensures stopped { IfErr result (Stops (W.told worktree.old) (F.holds objects.old)
-            (Increased (W.faults worktree.old) (W.faults worktree.new))
-            (Increased (F.faults objects.old) (F.faults objects.new))
-            (calls_for (deepest_names self.old.at) name.now false) self.old self.new) }
-        ensures in_step { (s : Sources) → Tells (W.told worktree.old) (F.holds objects.old) s
-            → IsInStep s self.old → IsInStep s self.new }
-        ensures levels { IsLevel self.old → IsLevel self.new }
-        ensures untouched { asks_worktree (made_of self.old) ≡ false → worktree.new ≡ worktree.old }
-        ensures store_untouched { (made_of self.old).mappings ≡ [] → objects.new ≡ objects.old }
-        ensures leaves { Asks W.Worktree worktree.old worktree.new }
-        ensures leaves_store { AsksStore F.Find objects.old objects.new }
-        ensures asked { W.reads worktree.new ≤ W.reads worktree.old + asked_on
-            (made_of self.old) (calls_for (deepest_names self.old.at) name.now false) }
-        ensures reads { has_attributes (made_of self.old) ≡ false
-            → W.reads worktree.new ≤ W.reads worktree.old + 1 }
-        ensures unfaulted { OnOk result (W.faults worktree.new ≡ W.faults worktree.old) }
-        ensures unfaulted_store { OnOk result (F.faults objects.new ≡ F.faults objects.old) }
+        // The stack stays as it was made, the tree as it was, and no fault is hidden.
+        ensures keeps { StepKeeps W.Worktree F.Find
+            (moment worktree.old objects.old self.old)
+            (moment worktree.new objects.new self.new) result }
+        // The component is the deepest directory then.
+        ensures stands { StandsAt (deepest_names self.old.at ++ name.now ∷ []) self.old self.new
+            result }
+        // The calls are carried out, or one is refused for its cause.
+        ensures moves { StepMoves W.Worktree F.Find
+            (moment worktree.old objects.old self.old)
+            (moment worktree.new objects.new self.new)
+            (calls_for (deepest_names self.old.at) name.now false) result }
+        // A stack in step stays so, and level.
+        ensures holds { StepHolds W.Worktree F.Find
+            (moment worktree.old objects.old self.old)
+            (moment worktree.new objects.new self.new) }
+        // The names of attributes are seen of what is read.
+        ensures sees { StepSees W.Worktree F.Find
+            (moment worktree.old objects.old self.old)
+            (moment worktree.new objects.new self.new)
+            (calls_for (deepest_names self.old.at) name.now false) result }
+        // How often the worktree is read.
+        ensures asks { StepAsks W.Worktree
+            (moment worktree.old objects.old self.old)
+            (moment worktree.new objects.new self.new)
+            (calls_for (deepest_names self.old.at) name.now false) 0 1 }
     {
         self.push(alloc, name)?;
         self.push_directory(alloc, worktree, objects)
@@ -288,40 +256,34 @@ impl Stack {
     ) -> Result<(), AtPathError>
         requires some { is_some self.old.at ≡ true }
         requires end { components left.now ≡ [] → deepest_names self.old.at ≡ [] }
-        ensures made { made_of self.new ≡ made_of self.old }
-        ensures some { is_some self.new.at ≡ true }
-        ensures looked_up { OnOk result
-            (IsLookedUp self.new (deepest_names self.old.at ++ components left.now)) }
-        ensures on_way { OnErr result
-            (IsOnWay self.new.at (deepest_names self.old.at ++ components left.now)) }
-        ensures is_dir { self.new.is_dir ≡ self.old.is_dir }
-        ensures answered { self.new.is_answered ≡ self.old.is_answered }
-        ensures platforms { self.new.statistics.platforms ≡ self.old.statistics.platforms }
-        ensures names { Sees (W.told worktree.old) (F.holds objects.old)
-            (λ s. names_on (made_of self.old) s
-            (calls_below (deepest_names self.old.at) (components left.now)))
-            self.old.attributes self.new.attributes result }
-        ensures carried { OnOk result (CarriesOut (W.told worktree.old) (F.holds objects.old)
-            (calls_below (deepest_names self.old.at) (components left.now)) self.old self.new) }
-        ensures stopped { IfErr result (Stops (W.told worktree.old) (F.holds objects.old)
-            (Increased (W.faults worktree.old) (W.faults worktree.new))
-            (Increased (F.faults objects.old) (F.faults objects.new))
-            (calls_below (deepest_names self.old.at) (components left.now)) self.old self.new) }
-        ensures in_step { (s : Sources) → Tells (W.told worktree.old) (F.holds objects.old) s
-            → IsInStep s self.old → IsInStep s self.new }
-        ensures levels { IsLevel self.old → IsLevel self.new }
-        ensures untouched { asks_worktree (made_of self.old) ≡ false → worktree.new ≡ worktree.old }
-        ensures store_untouched { (made_of self.old).mappings ≡ [] → objects.new ≡ objects.old }
-        ensures leaves { Asks W.Worktree worktree.old worktree.new }
-        ensures leaves_store { AsksStore F.Find objects.old objects.new }
-        ensures stays { length (deepest_names self.old.at) ≤ length (deepest_names self.new.at) }
-        ensures asked { W.reads worktree.new ≤ W.reads worktree.old + asked_on
-            (made_of self.old) (calls_below (deepest_names self.old.at) (components left.now)) }
-        ensures reads { has_attributes (made_of self.old) ≡ false
-            → W.reads worktree.new + length (deepest_names self.old.at) ≤ W.reads
-            worktree.old + length (deepest_names self.new.at) + refused_one result }
-        ensures unfaulted { OnOk result (W.faults worktree.new ≡ W.faults worktree.old) }
-        ensures unfaulted_store { OnOk result (F.faults objects.new ≡ F.faults objects.old) }
+        // The stack stays as it was made, the tree as it was, and no fault is hidden.
+        ensures keeps { StepKeeps W.Worktree F.Find
+            (moment worktree.old objects.old self.old)
+            (moment worktree.new objects.new self.new) result }
+        // The stack stands at the path then, or on the way to it.
+        ensures arrives { ArrivesBelow (deepest_names self.old.at ++ components left.now)
+            self.old self.new result }
+        // The calls are carried out, or one is refused for its cause.
+        ensures moves { StepMoves W.Worktree F.Find
+            (moment worktree.old objects.old self.old)
+            (moment worktree.new objects.new self.new)
+            (calls_below (deepest_names self.old.at) (components left.now)) result }
+        // A stack in step stays so, and level.
+        ensures holds { StepHolds W.Worktree F.Find
+            (moment worktree.old objects.old self.old)
+            (moment worktree.new objects.new self.new) }
+        // The names of attributes are seen of what is read.
+        ensures sees { StepSees W.Worktree F.Find
+            (moment worktree.old objects.old self.old)
+            (moment worktree.new objects.new self.new)
+            (calls_below (deepest_names self.old.at) (components left.now)) result }
+        // How often the worktree is read.
+        ensures asks { StepAsks W.Worktree
+            (moment worktree.old objects.old self.old)
+            (moment worktree.new objects.new self.new)
+            (calls_below (deepest_names self.old.at) (components left.now))
+            (length (deepest_names self.old.at))
+            (length (deepest_names self.new.at) + refused_one result) }
     {
         let mut rest = left;
         while let Some(next) = next_component(rest) {
@@ -344,39 +306,34 @@ impl Stack {
         worktree: &mut W,
         objects: &mut F,
     ) -> Result<(), AtPathError>
-        ensures made { made_of self.new ≡ made_of self.old }
-        ensures looked_up { OnOk result (IsLookedUp self.new (components relative.now)) }
-        ensures on_way { OnErr result (IsOnWay self.new.at (components relative.now)) }
-        ensures is_dir { self.new.is_dir ≡ self.old.is_dir }
-        ensures answered { self.new.is_answered ≡ self.old.is_answered }
-        ensures platforms { self.new.statistics.platforms ≡ self.old.statistics.platforms }
-        ensures names { Sees (W.told worktree.old) (F.holds objects.old)
-            (λ s. names_on (made_of self.old) s
-            (lookup_calls self.old.at (components relative.now)))
-            self.old.attributes self.new.attributes result }
-        ensures carried { OnOk result (CarriesOut (W.told worktree.old) (F.holds objects.old)
-            (lookup_calls self.old.at (components relative.now)) self.old self.new) }
-        ensures stopped { IfErr result (Stops (W.told worktree.old) (F.holds objects.old)
-            (Increased (W.faults worktree.old) (W.faults worktree.new))
-            (Increased (F.faults objects.old) (F.faults objects.new))
-            (lookup_calls self.old.at (components relative.now)) self.old self.new) }
-        ensures in_step { (s : Sources) → Tells (W.told worktree.old) (F.holds objects.old) s
-            → IsInStep s self.old → IsInStep s self.new }
-        ensures levels { IsLevel self.old → IsLevel self.new }
-        ensures untouched { asks_worktree (made_of self.old) ≡ false → worktree.new ≡ worktree.old }
-        ensures store_untouched { (made_of self.old).mappings ≡ [] → objects.new ≡ objects.old }
-        ensures leaves { Asks W.Worktree worktree.old worktree.new }
-        ensures leaves_store { AsksStore F.Find objects.old objects.new }
-        ensures stays { length (pushed (staying self.old.at (components relative.now))) ≤ length
-            (pushed self.new.at) }
-        ensures asked { W.reads worktree.new ≤ W.reads worktree.old + asked_on
-            (made_of self.old) (lookup_calls self.old.at (components relative.now)) }
-        ensures reads { has_attributes (made_of self.old) ≡ false
-            → W.reads worktree.new + length
-            (pushed (staying self.old.at (components relative.now))) ≤ W.reads worktree.old + length
-            (pushed self.new.at) + refused_one result }
-        ensures unfaulted { OnOk result (W.faults worktree.new ≡ W.faults worktree.old) }
-        ensures unfaulted_store { OnOk result (F.faults objects.new ≡ F.faults objects.old) }
+        // The stack stays as it was made, the tree as it was, and no fault is hidden.
+        ensures keeps { StepKeeps W.Worktree F.Find
+            (moment worktree.old objects.old self.old)
+            (moment worktree.new objects.new self.new) result }
+        // The stack stands at the path then, or on the way to it.
+        ensures arrives { Arrives (components relative.now)
+            (staying self.old.at (components relative.now)) self.new result }
+        // The calls are carried out, or one is refused for its cause.
+        ensures moves { StepMoves W.Worktree F.Find
+            (moment worktree.old objects.old self.old)
+            (moment worktree.new objects.new self.new)
+            (lookup_calls self.old.at (components relative.now)) result }
+        // A stack in step stays so, and level.
+        ensures holds { StepHolds W.Worktree F.Find
+            (moment worktree.old objects.old self.old)
+            (moment worktree.new objects.new self.new) }
+        // The names of attributes are seen of what is read.
+        ensures sees { StepSees W.Worktree F.Find
+            (moment worktree.old objects.old self.old)
+            (moment worktree.new objects.new self.new)
+            (lookup_calls self.old.at (components relative.now)) result }
+        // How often the worktree is read.
+        ensures asks { StepAsks W.Worktree
+            (moment worktree.old objects.old self.old)
+            (moment worktree.new objects.new self.new)
+            (lookup_calls self.old.at (components relative.now))
+            (length (pushed (staying self.old.at (components relative.now))))
+            (length (pushed self.new.at) + refused_one result) }
     {
         self.push_root(alloc, worktree, objects)?;
         self.pop_surplus(relative);

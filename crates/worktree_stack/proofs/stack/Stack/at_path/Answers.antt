@@ -1,3 +1,4 @@
+-- A lookup is counted, and goes to its path as one that makes no directories or as a checkout; then it is answered.
 use Rattle.std.proofs.Common.{ℕ, List, ◌≤◌, length, ◌≡◌, ◌∙◌, refl, sym, ap, subst, Ok, Err, Some, None, rules}
 use Rattle.std.specs.Prelude.{IsErrAnd, Result, Option, is_some}
 use Rattle.gitbase_core.specs.Path.{components}
@@ -7,11 +8,13 @@ use Rattle.worktree_stack.specs.GoesOn.{Goes, GoesWithin}
 use Rattle.worktree_stack.specs.LooksUp.{LooksUp}
 use Rattle.worktree_stack.specs.Lookups.{is_dir_of, staying}
 use Rattle.worktree_stack.specs.Making.{is_link_of, way_of}
+use Rattle.worktree_stack.specs.Moments.{moment}
 use Rattle.worktree_stack.specs.Stacked.{Stacked, made_of, pushed}
 use Rattle.worktree_stack.specs.declared.error.AtPathError.{AtPathError}
 use Rattle.worktree_stack.specs.declared.state.Checkout.{Checkout}
 use Rattle.worktree_stack.proofs.Asked.{asked-as}
-use Rattle.worktree_stack.proofs.LookedUp.{not-normal, look-refused}
+use Rattle.worktree_stack.proofs.LookedUp.{not-normal}
+use Rattle.worktree_stack.proofs.LookCounted.{look-answered, look-refused}
 use Rattle.worktree_stack.proofs.LookedOut.{checks-answered, checks-not-normal, checks-refused, same-checkout}
 use Rattle.worktree_stack.proofs.Refusals.{is_err}
 use Rattle.worktree_stack.specs.HeldOut.{HoldsOut}
@@ -37,8 +40,13 @@ returns-in_err-look_up-clause-looks_up g c keeps =
     let same : IsErrAnd c.from_residual.result (λ x. x ≡ e) = search rules in
     subst (λ (r : Result (Unit {0}) AtPathError). LooksUp W F c.args.worktree.now c.look_up.new.worktree c.args.objects.now c.look_up.new.objects c.args.relative.now (is_dir_of c.args.mode) c.args.self.now c.look_up.new.self r)
     (sym (is_err c.from_residual.result e same))
-    (look-refused W F c.args.worktree.now c.look_up.new.worktree c.args.objects.now c.look_up.new.objects c.args.relative.now _ c.args.self.now c.count_platform.new.self c.look_up.new.self e
-    c.count_platform.ensures (search rules) c.look_up.ensures.made c.look_up.ensures.in_step c.in_err-look_up.ensures.on_way c.look_up.ensures.platforms c.in_err-look_up.ensures.stopped c.look_up.ensures.untouched c.look_up.ensures.store_untouched c.look_up.ensures.levels c.in_err-look_up.ensures.names c.look_up.ensures.answered c.look_up.ensures.stays c.in_err-look_up.ensures.reads)
+    (look-refused W F (moment c.args.worktree.now c.args.objects.now c.count_platform.new.self) (moment c.look_up.new.worktree c.look_up.new.objects c.look_up.new.self) c.args.relative.now _ c.args.self.now e
+    c.count_platform.ensures (search rules) c.in_err-look_up.ensures.keeps c.in_err-look_up.ensures.arrives c.in_err-look_up.ensures.moves c.look_up.ensures.holds c.in_err-look_up.ensures.sees c.in_err-look_up.ensures.asks)
+
+pub returns-in_default-clause-looks_up : goal.returns-in_default-clause-looks_up
+returns-in_default-clause-looks_up g c keeps =
+    look-answered g.W.Worktree g.F.Find (moment c.args.worktree.now c.args.objects.now c.count_platform.new.self) (moment c.look_up.new.worktree c.look_up.new.objects c.look_up.new.self) c.args.relative.now (is_dir_of c.args.mode)
+    c.args.self.now c.answer.new.self c.count_platform.ensures (search rules) c.answer.ensures c.in_ok-look_up.ensures.keeps c.in_ok-look_up.ensures.arrives c.in_ok-look_up.ensures.moves c.look_up.ensures.holds c.in_ok-look_up.ensures.sees c.in_ok-look_up.ensures.asks
 
 pub returns-in_err-check_out-clause-checks_out : goal.returns-in_err-check_out-clause-checks_out
 returns-in_err-check_out-clause-checks_out g c checkout is =
@@ -60,7 +68,7 @@ returns-in_err-check_out-clause-checks_out g c checkout is =
     (checks-refused W F a.worktree.now c.check_out.new.worktree a.objects.now c.check_out.new.objects k a.relative.now (is_dir_of a.mode) (is_link_of a.mode) old has free (search rules) new e
     (subst (λ (m : Stacked). Goes W F a.worktree.now c.check_out.new.worktree a.objects.now c.check_out.new.objects (way_of k (W.precomposes a.worktree.now) m.root (is_dir_of a.mode)) (is_link_of a.mode) k.validate.protect_windows (lookup_calls m.at parts) (left_of m.at parts) m new (Err e)) counted
     (subst (λ (r : Result (Unit {0}) AtPathError). Goes W F a.worktree.now c.check_out.new.worktree a.objects.now c.check_out.new.objects (way_of k (W.precomposes a.worktree.now) c.count_platform.new.self.root (is_dir_of a.mode)) (is_link_of a.mode) k.validate.protect_windows (lookup_calls c.count_platform.new.self.at parts) (left_of c.count_platform.new.self.at parts) c.count_platform.new.self new r) c.in_err-check_out.was c.check_out.ensures.goes))
-    went.on_way (subst (λ (m : Stacked). length (pushed (staying m.at parts)) ≤ length (pushed new.at)) counted c.check_out.ensures.stays)
+    went.arrives.on_way (subst (λ (m : Stacked). length (pushed (staying m.at parts)) ≤ length (pushed new.at)) counted c.check_out.ensures.arrives.stays)
     (subst (λ (m : Stacked). GoesWithin W F a.worktree.now c.check_out.new.worktree a.objects.now c.check_out.new.objects (way_of k (W.precomposes a.worktree.now) m.root (is_dir_of a.mode)) parts (left_of m.at parts) m new (Err e)) counted
     (subst (λ (r : Result (Unit {0}) AtPathError). GoesWithin W F a.worktree.now c.check_out.new.worktree a.objects.now c.check_out.new.objects (way_of k (W.precomposes a.worktree.now) c.count_platform.new.self.root (is_dir_of a.mode)) parts (left_of c.count_platform.new.self.at parts) c.count_platform.new.self new r) c.in_err-check_out.was c.check_out.ensures.within))))
 
@@ -80,13 +88,17 @@ returns-clause-checks_out g c checkout is =
     (checks-answered W F a.worktree.now c.check_out.new.worktree a.objects.now c.check_out.new.objects k a.relative.now (is_dir_of a.mode) (is_link_of a.mode) old has free (search rules) went_to c.answer-2.new.self c.answer-2.ensures
     (subst (λ (m : Stacked). Goes W F a.worktree.now c.check_out.new.worktree a.objects.now c.check_out.new.objects (way_of k (W.precomposes a.worktree.now) m.root (is_dir_of a.mode)) (is_link_of a.mode) k.validate.protect_windows (lookup_calls m.at parts) (left_of m.at parts) m went_to (Ok tt)) counted
     (subst (λ (r : Result (Unit {0}) AtPathError). Goes W F a.worktree.now c.check_out.new.worktree a.objects.now c.check_out.new.objects (way_of k (W.precomposes a.worktree.now) c.count_platform.new.self.root (is_dir_of a.mode)) (is_link_of a.mode) k.validate.protect_windows (lookup_calls c.count_platform.new.self.at parts) (left_of c.count_platform.new.self.at parts) c.count_platform.new.self went_to r) c.in_ok-check_out.was c.check_out.ensures.goes))
-    c.in_ok-check_out.ensures.looked_up (subst (λ (m : Stacked). length (pushed (staying m.at parts)) ≤ length (pushed went_to.at)) counted c.check_out.ensures.stays)
+    c.in_ok-check_out.ensures.arrives.looked_up (subst (λ (m : Stacked). length (pushed (staying m.at parts)) ≤ length (pushed went_to.at)) counted c.check_out.ensures.arrives.stays)
     (subst (λ (m : Stacked). GoesWithin W F a.worktree.now c.check_out.new.worktree a.objects.now c.check_out.new.objects (way_of k (W.precomposes a.worktree.now) m.root (is_dir_of a.mode)) parts (left_of m.at parts) m went_to (Ok tt)) counted
     (subst (λ (r : Result (Unit {0}) AtPathError). GoesWithin W F a.worktree.now c.check_out.new.worktree a.objects.now c.check_out.new.objects (way_of k (W.precomposes a.worktree.now) c.count_platform.new.self.root (is_dir_of a.mode)) parts (left_of c.count_platform.new.self.at parts) c.count_platform.new.self went_to r) c.in_ok-check_out.was c.check_out.ensures.within)))
 
 pub returns-in_err-look_up-clause-asked : goal.returns-in_err-look_up-clause-asked
 returns-in_err-look_up-clause-asked g c =
-    asked-as g.W.Worktree c.args.worktree.now c.look_up.new.worktree (components c.args.relative.now) c.args.self.now c.count_platform.new.self c.count_platform.ensures c.look_up.ensures.asked
+    asked-as g.W.Worktree c.args.worktree.now c.look_up.new.worktree (components c.args.relative.now) c.args.self.now c.count_platform.new.self c.count_platform.ensures c.look_up.ensures.asks.asked
+
+pub returns-in_default-clause-asked : goal.returns-in_default-clause-asked
+returns-in_default-clause-asked g c =
+    asked-as g.W.Worktree c.args.worktree.now c.look_up.new.worktree (components c.args.relative.now) c.args.self.now c.count_platform.new.self c.count_platform.ensures c.look_up.ensures.asks.asked
 
 pub returns-in_err-check_out-clause-asked : goal.returns-in_err-check_out-clause-asked
 returns-in_err-check_out-clause-asked g c =

@@ -1,17 +1,19 @@
-use Rattle.std.proofs.Common.{append_assoc, ◌≡◌, ◌∙◌, ◌++◌, ℕ, List, refl, sym, ap, subst, length, replicate, Ok, Err, arith, rules}
-use Rattle.std.specs.Prelude.{IsErrAnd, Result, OnOk, OnErr}
+-- A checkout is the root, what is popped, and what is left of the path, one behind another.
+use Rattle.std.proofs.Common.{append_assoc, ◌≡◌, ◌∙◌, ◌++◌, ℕ, List, refl, sym, ap, subst, replicate, Ok, Err, arith, rules}
+use Rattle.std.specs.Prelude.{IsErrAnd, Result}
 use Rattle.gitbase_core.specs.Path.{components}
-use Rattle.worktree_fs.specs.PathStack.{Call, kept, deepest_names, IsOnWay, calls_below, root_calls, surplus, pop_directory, lookup_calls}
+use Rattle.worktree_fs.specs.PathStack.{Call, kept, deepest_names, calls_below, root_calls, surplus, pop_directory, lookup_calls}
 use Rattle.worktree_stack.specs.declared.error.AtPathError.{AtPathError}
 use Rattle.worktree_stack.specs.ChecksOut.{AreThere, left_of}
 use Rattle.worktree_stack.specs.GoesOn.{Goes, GoesWithin, KeepsAll, LeavesLast}
-use Rattle.worktree_stack.specs.Lookups.{is_dir_of, IsLookedUp, staying}
+use Rattle.worktree_stack.specs.Lookups.{is_dir_of, staying}
 use Rattle.worktree_stack.specs.Making.{Way, is_link_of, way_of}
 use Rattle.worktree_stack.specs.Setup.{Made}
 use Rattle.worktree_stack.specs.Stacked.{Stacked, made_of, pushed}
 use Rattle.worktree_stack.proofs.Refusals.{is_err}
-use Rattle.worktree_stack.proofs.Looking.{IsStaying, whole, ends, stay_names, left_names, calls_are, root-length, length-pushed}
-use Rattle.worktree_stack.proofs.Working.{unpushed-root, unpushed-pops, popped-mkdirs}
+use Rattle.worktree_stack.proofs.Looking.{IsStaying, whole, ends, left_names, calls_are}
+use Rattle.worktree_stack.proofs.Arriving.{arrives-whole}
+use Rattle.worktree_stack.proofs.Working.{unpushed-root, unpushed-pops}
 use Rattle.worktree_stack.proofs.Going.{goes-then, goes-more, goes-as, goes-unpushed}
 use Rattle.worktree_stack.proofs.RestOut.{way-same}
 use Rattle.worktree_stack.proofs.Within.{within-gone, within-same, there-staying}
@@ -25,34 +27,13 @@ use Rattle.worktree_stack.proofs.stack.Stack.check_out.Goals as goal
 pub rest_out-requires-clause-end : goal.rest_out-requires-clause-end
 rest_out-requires-clause-end g c =
     ends c.args.self.now.at c.push_root.new.self.at c.pop_surplus.new.self.at (components c.args.relative.now) (components c.rest-left.result.now)
-    (record { rooted = c.in_ok-push_root.ensures.at; popped = c.pop_surplus.ensures.at; left_is = c.rest-left.ensures })
+    (record { rooted = c.in_ok-push_root.ensures.stands.at; popped = c.pop_surplus.ensures.at; left_is = c.rest-left.ensures })
 
-pub returns-clause-looked_up : goal.returns-clause-looked_up
-returns-clause-looked_up g c =
-    subst (λ names. OnOk c.rest_out.result (IsLookedUp c.rest_out.new.self names))
-    (whole c.args.self.now.at c.push_root.new.self.at c.pop_surplus.new.self.at (components c.args.relative.now) (components c.rest-left.result.now)
-    (record { rooted = c.in_ok-push_root.ensures.at; popped = c.pop_surplus.ensures.at; left_is = c.rest-left.ensures }))
-    c.rest_out.ensures.looked_up
-
-pub returns-clause-on_way : goal.returns-clause-on_way
-returns-clause-on_way g c =
-    subst (λ names. OnErr c.rest_out.result (IsOnWay c.rest_out.new.self.at names))
-    (whole c.args.self.now.at c.push_root.new.self.at c.pop_surplus.new.self.at (components c.args.relative.now) (components c.rest-left.result.now)
-    (record { rooted = c.in_ok-push_root.ensures.at; popped = c.pop_surplus.ensures.at; left_is = c.rest-left.ensures }))
-    c.rest_out.ensures.on_way
-
-pub returns-clause-stays : goal.returns-clause-stays
-returns-clause-stays g c =
-    let stay =
-    stay_names c.args.self.now.at c.push_root.new.self.at c.pop_surplus.new.self.at (components c.args.relative.now) (components c.rest-left.result.now)
-    (record { rooted = c.in_ok-push_root.ensures.at; popped = c.pop_surplus.ensures.at; left_is = c.rest-left.ensures }) in
-    omega (
-      arith,
-      c.rest_out.ensures.stays,
-      root-length c.args.self.now.at (components c.args.relative.now),
-      length-pushed c.rest_out.new.self.at c.rest_out.ensures.some,
-      ap length stay,
-    )
+pub returns-clause-arrives : goal.returns-clause-arrives
+returns-clause-arrives g c =
+    let staying_is : IsStaying c.args.self.now.at c.push_root.new.self.at c.pop_surplus.new.self.at (components c.args.relative.now) (components c.rest-left.result.now) =
+    record { rooted = c.in_ok-push_root.ensures.stands.at; popped = c.pop_surplus.ensures.at; left_is = c.rest-left.ensures } in
+    arrives-whole c.args.self.now.at c.push_root.new.self.at c.pop_surplus.new.self.at (components c.args.relative.now) (components c.rest-left.result.now) staying_is c.rest_out.new.self c.rest_out.result refl c.rest_out.ensures.arrives
 
 pub returns-in_err-push_root-clause-goes : goal.returns-in_err-push_root-clause-goes
 returns-in_err-push_root-clause-goes g c =
@@ -68,8 +49,8 @@ returns-in_err-push_root-clause-goes g c =
     (sym (is_err c.from_residual.result e same))
     (goes-as W F way (is_link_of a.mode) a.checkout.validate.protect_windows (Err e) (append_assoc (root_calls a.self.now.at) (replicate (surplus a.self.now.at (components a.relative.now)) pop_directory) (calls_below (kept (deepest_names a.self.now.at) (components a.relative.now)) (left_of a.self.now.at (components a.relative.now)))) refl
     (goes-more W F way (is_link_of a.mode) a.checkout.validate.protect_windows e more (left_of a.self.now.at (components a.relative.now))
-    (goes-unpushed W F way (is_link_of a.mode) a.checkout.validate.protect_windows (root_calls a.self.now.at) a.self.now c.push_root.new.self (unpushed-root a.self.now.at) went.leaves went.leaves_store
-    (Err e) went.made tt c.in_err-push_root.ensures.stopped went.mkdirs went.is_dir went.answered went.platforms went.levels c.in_err-push_root.ensures.names went.store_untouched went.asked)))
+    (goes-unpushed W F way (is_link_of a.mode) a.checkout.validate.protect_windows (root_calls a.self.now.at) a.self.now c.push_root.new.self (unpushed-root a.self.now.at) went.keeps.leaves went.keeps.leaves_store
+    (Err e) went.keeps.made tt c.in_err-push_root.ensures.moves.stopped went.keeps.no_mkdirs went.keeps.is_dir went.keeps.answered went.keeps.platforms went.holds.levels c.in_err-push_root.ensures.sees went.keeps.store_untouched went.asks.asked)))
 
 pub returns-clause-goes : goal.returns-clause-goes
 returns-clause-goes g c =
@@ -80,21 +61,21 @@ returns-clause-goes g c =
     let protects = a.checkout.validate.protect_windows in
     let way : Way = way_of a.checkout (W.precomposes a.worktree.now) a.self.now.root (is_dir_of a.mode) in
     let mid : Stacked = c.pop_surplus.new.self in
-    let made : made_of mid ≡ made_of a.self.now = c.pop_surplus.ensures.made ∙ c.push_root.ensures.made in
+    let made : made_of mid ≡ made_of a.self.now = c.pop_surplus.ensures.pops.made ∙ c.push_root.ensures.keeps.made in
     let there : Way = way_of a.checkout (W.precomposes c.push_root.new.worktree) mid.root (is_dir_of a.mode) in
-    let ways : there ≡ way = way-same a.checkout (is_dir_of a.mode) (W.precomposes a.worktree.now) (W.precomposes c.push_root.new.worktree) a.self.now.root mid.root c.push_root.ensures.leaves.precomposes (ap (λ (m : Made). m.root) made) in
+    let ways : there ≡ way = way-same a.checkout (is_dir_of a.mode) (W.precomposes a.worktree.now) (W.precomposes c.push_root.new.worktree) a.self.now.root mid.root c.push_root.ensures.keeps.leaves.precomposes (ap (λ (m : Made). m.root) made) in
     let parts : List (List ℕ) = components a.relative.now in
     let left : List (List ℕ) = components c.rest-left.result.now in
-    let staying : IsStaying a.self.now.at c.push_root.new.self.at mid.at parts left = record { rooted = c.in_ok-push_root.ensures.at; popped = c.pop_surplus.ensures.at; left_is = c.rest-left.ensures } in
+    let staying : IsStaying a.self.now.at c.push_root.new.self.at mid.at parts left = record { rooted = c.in_ok-push_root.ensures.stands.at; popped = c.pop_surplus.ensures.at; left_is = c.rest-left.ensures } in
     let root = c.push_root.ensures in
-    let pops = c.pop_surplus.ensures in
+    let pops = c.pop_surplus.ensures.pops in
     let n = surplus c.push_root.new.self.at parts in
     let carried = pops.carried (W.told c.push_root.new.worktree) (F.holds c.push_root.new.objects) in
-    let first = goes-unpushed W F way link protects (root_calls a.self.now.at) a.self.now c.push_root.new.self (unpushed-root a.self.now.at) root.leaves root.leaves_store
-    (Ok tt) root.made c.in_ok-push_root.ensures.carried tt root.mkdirs root.is_dir root.answered root.platforms root.levels c.in_ok-push_root.ensures.names root.store_untouched root.asked in
+    let first = goes-unpushed W F way link protects (root_calls a.self.now.at) a.self.now c.push_root.new.self (unpushed-root a.self.now.at) root.keeps.leaves root.keeps.leaves_store
+    (Ok tt) root.keeps.made c.in_ok-push_root.ensures.moves.carried tt root.keeps.no_mkdirs root.keeps.is_dir root.keeps.answered root.keeps.platforms root.holds.levels c.in_ok-push_root.ensures.sees root.keeps.store_untouched root.asks.asked in
     let second = goes-unpushed W F way link protects (replicate n pop_directory) c.push_root.new.self mid (unpushed-pops n)
     (record { tree = refl; faults = omega arith; list_faults = refl; reads = omega arith; lists = refl; precomposes = refl }) (record { holds = refl; faults = omega arith })
-    (Ok tt) pops.made carried tt (popped-mkdirs c.push_root.new.self mid (replicate n pop_directory) carried.counted) pops.is_dir pops.answered pops.platforms pops.levels (sees-popped (W.told c.push_root.new.worktree) (F.holds c.push_root.new.objects) (made_of c.push_root.new.self) n c.push_root.new.self.attributes mid.attributes pops.names pops.dropped) (λ none. refl) (omega arith) in
+    (Ok tt) pops.made carried tt pops.no_mkdirs pops.is_dir pops.answered pops.platforms pops.levels (sees-popped (W.told c.push_root.new.worktree) (F.holds c.push_root.new.objects) (made_of c.push_root.new.self) n c.push_root.new.self.attributes mid.attributes pops.names pops.dropped) (λ none. refl) (omega arith) in
     let third : Goes W F c.push_root.new.worktree c.rest_out.new.worktree c.push_root.new.objects c.rest_out.new.objects way link protects (calls_below (deepest_names mid.at) left) left mid c.rest_out.new.self c.rest_out.result =
     subst (λ (x : Way). Goes W F c.push_root.new.worktree c.rest_out.new.worktree c.push_root.new.objects c.rest_out.new.objects x link protects (calls_below (deepest_names mid.at) left) left mid c.rest_out.new.self c.rest_out.result) ways c.rest_out.ensures.goes in
     goes-as W F way link protects c.rest_out.result (calls_are a.self.now.at c.push_root.new.self.at mid.at parts left staying) (sym (left_names a.self.now.at c.push_root.new.self.at mid.at parts left staying))
@@ -110,7 +91,7 @@ returns-in_err-push_root-clause-within g c =
     let went = c.push_root.ensures in
     subst (λ (r : Result (Unit {0}) AtPathError). GoesWithin W F a.worktree.now c.push_root.new.worktree a.objects.now c.push_root.new.objects (way_of a.checkout (W.precomposes a.worktree.now) a.self.now.root (is_dir_of a.mode)) (components a.relative.now) (left_of a.self.now.at (components a.relative.now)) a.self.now c.push_root.new.self r)
     (sym (is_err c.from_residual.result e same))
-    (within-same W F _ (components a.relative.now) (left_of a.self.now.at (components a.relative.now)) a.self.now c.push_root.new.self e went.leaves.tree went.leaves_store.holds went.made c.in_err-push_root.ensures.at_refused went.in_step)
+    (within-same W F _ (components a.relative.now) (left_of a.self.now.at (components a.relative.now)) a.self.now c.push_root.new.self e went.keeps.leaves.tree went.keeps.leaves_store.holds went.keeps.made c.in_err-push_root.ensures.stands.at_refused went.holds.in_step)
 
 pub returns-clause-within : goal.returns-clause-within
 returns-clause-within g c =
@@ -119,12 +100,12 @@ returns-clause-within g c =
     let a = c.args in
     let way : Way = way_of a.checkout (W.precomposes a.worktree.now) a.self.now.root (is_dir_of a.mode) in
     let mid : Stacked = c.pop_surplus.new.self in
-    let made : made_of mid ≡ made_of a.self.now = c.pop_surplus.ensures.made ∙ c.push_root.ensures.made in
+    let made : made_of mid ≡ made_of a.self.now = c.pop_surplus.ensures.pops.made ∙ c.push_root.ensures.keeps.made in
     let there : Way = way_of a.checkout (W.precomposes c.push_root.new.worktree) mid.root (is_dir_of a.mode) in
-    let ways : there ≡ way = way-same a.checkout (is_dir_of a.mode) (W.precomposes a.worktree.now) (W.precomposes c.push_root.new.worktree) a.self.now.root mid.root c.push_root.ensures.leaves.precomposes (ap (λ (m : Made). m.root) made) in
+    let ways : there ≡ way = way-same a.checkout (is_dir_of a.mode) (W.precomposes a.worktree.now) (W.precomposes c.push_root.new.worktree) a.self.now.root mid.root c.push_root.ensures.keeps.leaves.precomposes (ap (λ (m : Made). m.root) made) in
     let parts : List (List ℕ) = components a.relative.now in
     let left : List (List ℕ) = components c.rest-left.result.now in
-    let staying_is : IsStaying a.self.now.at c.push_root.new.self.at mid.at parts left = record { rooted = c.in_ok-push_root.ensures.at; popped = c.pop_surplus.ensures.at; left_is = c.rest-left.ensures } in
+    let staying_is : IsStaying a.self.now.at c.push_root.new.self.at mid.at parts left = record { rooted = c.in_ok-push_root.ensures.stands.at; popped = c.pop_surplus.ensures.at; left_is = c.rest-left.ensures } in
     let root = c.push_root.ensures in
     let keeps : KeepsAll W F c.push_root.new.worktree c.rest_out.new.worktree c.push_root.new.objects way left mid c.rest_out.new.self c.rest_out.result =
     subst (λ (x : Way). KeepsAll W F c.push_root.new.worktree c.rest_out.new.worktree c.push_root.new.objects x left mid c.rest_out.new.self c.rest_out.result) ways c.rest_out.ensures.keeps in
@@ -132,10 +113,10 @@ returns-clause-within g c =
     subst (λ (x : Way). LeavesLast W c.rest_out.new.worktree x (deepest_names mid.at) left c.rest_out.result) ways c.rest_out.ensures.last in
     subst (λ (l : List (List ℕ)). GoesWithin W F a.worktree.now c.rest_out.new.worktree a.objects.now c.rest_out.new.objects way parts l a.self.now c.rest_out.new.self c.rest_out.result)
     (left_names a.self.now.at c.push_root.new.self.at mid.at parts left staying_is)
-    (within-gone W F way parts left a.relative.now a.self.now mid c.rest_out.new.self c.rest_out.result refl made c.rest_out.ensures.goes.made refl root.leaves.tree root.leaves_store.holds c.rest_out.ensures.goes.leaves_store.holds
+    (within-gone W F way parts left a.relative.now a.self.now mid c.rest_out.new.self c.rest_out.result refl made c.rest_out.ensures.goes.made refl root.keeps.leaves.tree root.keeps.leaves_store.holds c.rest_out.ensures.goes.leaves_store.holds
     (whole a.self.now.at c.push_root.new.self.at mid.at parts left staying_is) (ends a.self.now.at c.push_root.new.self.at mid.at parts left staying_is)
-    (λ s tells step. c.pop_surplus.ensures.in_step s (root.in_step s tells step))
-    (λ t are. subst (λ at. AreThere a.self.now.root t (pushed at)) (sym (c.pop_surplus.ensures.at ∙ ap (λ d. staying d parts) c.in_ok-push_root.ensures.at)) (there-staying a.self.now.root t a.self.now.at parts are))
+    (λ s tells step. c.pop_surplus.ensures.pops.in_step s (root.holds.in_step s tells step))
+    (λ t are. subst (λ at. AreThere a.self.now.root t (pushed at)) (sym (c.pop_surplus.ensures.at ∙ ap (λ d. staying d parts) c.in_ok-push_root.ensures.stands.at)) (there-staying a.self.now.root t a.self.now.at parts are))
     keeps last)
 
 pub returns-clause-held : goal.returns-clause-held
@@ -145,24 +126,23 @@ returns-clause-held g c s tells =
     let a = c.args in
     let way : Way = way_of a.checkout (W.precomposes a.worktree.now) a.self.now.root (is_dir_of a.mode) in
     let mid : Stacked = c.pop_surplus.new.self in
-    let made : made_of mid ≡ made_of a.self.now = c.pop_surplus.ensures.made ∙ c.push_root.ensures.made in
+    let made : made_of mid ≡ made_of a.self.now = c.pop_surplus.ensures.pops.made ∙ c.push_root.ensures.keeps.made in
     let there : Way = way_of a.checkout (W.precomposes c.push_root.new.worktree) mid.root (is_dir_of a.mode) in
-    let ways : there ≡ way = way-same a.checkout (is_dir_of a.mode) (W.precomposes a.worktree.now) (W.precomposes c.push_root.new.worktree) a.self.now.root mid.root c.push_root.ensures.leaves.precomposes (ap (λ (m : Made). m.root) made) in
+    let ways : there ≡ way = way-same a.checkout (is_dir_of a.mode) (W.precomposes a.worktree.now) (W.precomposes c.push_root.new.worktree) a.self.now.root mid.root c.push_root.ensures.keeps.leaves.precomposes (ap (λ (m : Made). m.root) made) in
     let parts : List (List ℕ) = components a.relative.now in
     let left : List (List ℕ) = components c.rest-left.result.now in
-    let staying_is : IsStaying a.self.now.at c.push_root.new.self.at mid.at parts left = record { rooted = c.in_ok-push_root.ensures.at; popped = c.pop_surplus.ensures.at; left_is = c.rest-left.ensures } in
+    let staying_is : IsStaying a.self.now.at c.push_root.new.self.at mid.at parts left = record { rooted = c.in_ok-push_root.ensures.stands.at; popped = c.pop_surplus.ensures.at; left_is = c.rest-left.ensures } in
     let below : List Call = calls_below (deepest_names mid.at) left in
     let n = surplus c.push_root.new.self.at parts in
-    let carried = c.pop_surplus.ensures.carried (W.told c.push_root.new.worktree) (F.holds c.push_root.new.objects) in
-    let counted : mkdirs mid ≡ mkdirs a.self.now = popped-mkdirs c.push_root.new.self mid (replicate n pop_directory) carried.counted ∙ c.push_root.ensures.mkdirs in
+    let counted : mkdirs mid ≡ mkdirs a.self.now = c.pop_surplus.ensures.pops.no_mkdirs ∙ c.push_root.ensures.keeps.no_mkdirs in
     on_ok c.rest_out.result
     (λ (added : AddsOut (made_of mid) there (mkdirs mid) s below mid.attributes c.rest_out.new.self.attributes).
     subst (λ (calls : List Call). HoldsOut (made_of a.self.now) way (mkdirs a.self.now) s calls a.self.now.attributes c.rest_out.new.self.attributes)
     (sym (calls_are a.self.now.at c.push_root.new.self.at mid.at parts left staying_is))
     (holds-whole (made_of a.self.now) way (mkdirs a.self.now) s a.self.now.at n below a.self.now.attributes c.push_root.new.self.attributes mid.attributes c.rest_out.new.self.attributes
-    (c.in_ok-push_root.ensures.lists way s tells) c.pop_surplus.ensures.dropped
-    (λ none. c.pop_surplus.ensures.undropped (none-surplus a.self.now.at c.push_root.new.self.at parts c.in_ok-push_root.ensures.at none))
+    (c.in_ok-push_root.ensures.lists way s tells) c.pop_surplus.ensures.pops.dropped
+    (λ none. c.pop_surplus.ensures.undropped (none-surplus a.self.now.at c.push_root.new.self.at parts c.in_ok-push_root.ensures.stands.at none))
     (subst (λ (m : Made). AddsOut m way (mkdirs a.self.now) s below mid.attributes c.rest_out.new.self.attributes) made
     (subst (λ (x : Way). AddsOut (made_of mid) x (mkdirs a.self.now) s below mid.attributes c.rest_out.new.self.attributes) ways
     (subst (λ (k : ℕ). AddsOut (made_of mid) there k s below mid.attributes c.rest_out.new.self.attributes) counted added)))))
-    (c.rest_out.ensures.held s (record { tree_is = c.push_root.ensures.leaves.tree ∙ tells.tree_is; objects_are = c.push_root.ensures.leaves_store.holds ∙ tells.objects_are }))
+    (c.rest_out.ensures.held s (record { tree_is = c.push_root.ensures.keeps.leaves.tree ∙ tells.tree_is; objects_are = c.push_root.ensures.keeps.leaves_store.holds ∙ tells.objects_are }))

@@ -1,84 +1,53 @@
-use Rattle.std.proofs.Common.{◌≡◌, ◌∙◌, ◌++◌, [], ℕ, append_assoc, drop, List, Result, Ok, replicate, OnOk, OnErr, refl, sym, ap, subst, length, arith, rules}
+-- A lookup is the root, what is popped, and what is left of the path, one behind another.
+use Rattle.std.proofs.Common.{◌≡◌, ◌∙◌, ◌++◌, ◌+◌, [], ℕ, append_assoc, drop, List, Result, Ok, replicate, refl, sym, ap, subst, length, arith, rules}
 use Rattle.std.specs.Prelude.{IsErrAnd}
 use Rattle.std.proofs.lemmas.List.{append-nil}
 use Rattle.std.proofs.lemmas.Result.{IfErr-weaker}
+use Rattle.worktree_fs.proofs.Calls.{handed_on}
 use Rattle.worktree_fs.proofs.Lookups.{on_ok}
 use Rattle.gitbase_core.specs.Path.{components}
-use Rattle.worktree_fs.specs.PathStack.{Call, kept, deepest_names, IsOnWay, calls_below, root_calls, surplus, pop_directory, lookup_calls}
-use Rattle.worktree_fs.specs.Causes.{Increased}
-use Rattle.worktree_stack.specs.Asked.{asked_on}
-use Rattle.worktree_stack.specs.Lookups.{IsLookedUp}
-use Rattle.worktree_stack.proofs.Refusals.{is_err, rose-earlier}
-use Rattle.worktree_stack.proofs.SeeingOn.{on-front, on-then, sees-popped}
-use Rattle.worktree_stack.proofs.LookedUp.{tells-before}
+use Rattle.worktree_fs.specs.PathStack.{Call, kept, deepest_names, calls_below, root_calls, surplus, pop_directory, lookup_calls}
 use Rattle.worktree_stack.specs.declared.error.AtPathError.{AtPathError}
-use Rattle.worktree_stack.specs.SeenNames.{Sees, names_on}
-use Rattle.worktree_stack.specs.Setup.{Made, has_attributes}
-use Rattle.worktree_stack.specs.Stacked.{made_of}
-use Rattle.worktree_stack.specs.Steps.{CarriesOut, Stops}
-use Rattle.worktree_stack.proofs.Asked.{asked-append, asked-front}
-use Rattle.worktree_stack.proofs.Carrying.{carries-as, carries-then, stops-after}
-use Rattle.worktree_stack.proofs.Looking.{whole, ends, stay_names, calls_are, root-length, length-pushed}
+use Rattle.worktree_stack.specs.Lookups.{refused_one, staying}
+use Rattle.worktree_stack.specs.Moments.{moment}
+use Rattle.worktree_stack.specs.StackSteps.{StepKeeps, StepMoves, StepSees}
+use Rattle.worktree_stack.specs.Stacked.{made_of, pushed}
+use Rattle.worktree_stack.proofs.Arriving.{arrives-whole}
+use Rattle.worktree_stack.proofs.Asked.{asks-whole, asks-cut, one-refused}
+use Rattle.worktree_stack.proofs.Carrying.{carries-as, carries-none, carries-then, stops-after}
+use Rattle.worktree_stack.proofs.Looking.{IsStaying, ends, stay_names, calls_are, root-length, length-pushed}
+use Rattle.worktree_stack.proofs.Refusals.{is_err}
+use Rattle.worktree_stack.proofs.SeeingOn.{on-front}
+use Rattle.worktree_stack.proofs.StackSteps.{holds-popped, holds-then, keeps-popped, keeps-then, moves-popped, no-answer, sees-behind, sees-popped-on, stops-behind, told-before}
 use Rattle.worktree_stack.proofs.stack.Stack.look_up.Goals as goal
 
 pub push_rest-requires-clause-end : goal.push_rest-requires-clause-end
 push_rest-requires-clause-end g c =
     ends c.args.self.now.at c.push_root.new.self.at c.pop_surplus.new.self.at (components c.args.relative.now) (components c.rest-left.result.now)
-    (record { rooted = c.in_ok-push_root.ensures.at; popped = c.pop_surplus.ensures.at; left_is = c.rest-left.ensures })
+    (record { rooted = c.in_ok-push_root.ensures.stands.at; popped = c.pop_surplus.ensures.at; left_is = c.rest-left.ensures })
 
-pub returns-clause-looked_up : goal.returns-clause-looked_up
-returns-clause-looked_up g c =
-    subst (λ names. OnOk c.push_rest.result (IsLookedUp c.push_rest.new.self names))
-    (whole c.args.self.now.at c.push_root.new.self.at c.pop_surplus.new.self.at (components c.args.relative.now) (components c.rest-left.result.now)
-    (record { rooted = c.in_ok-push_root.ensures.at; popped = c.pop_surplus.ensures.at; left_is = c.rest-left.ensures }))
-    c.push_rest.ensures.looked_up
+-- ---- the root was refused
 
-pub returns-clause-on_way : goal.returns-clause-on_way
-returns-clause-on_way g c =
-    subst (λ names. OnErr c.push_rest.result (IsOnWay c.push_rest.new.self.at names))
-    (whole c.args.self.now.at c.push_root.new.self.at c.pop_surplus.new.self.at (components c.args.relative.now) (components c.rest-left.result.now)
-    (record { rooted = c.in_ok-push_root.ensures.at; popped = c.pop_surplus.ensures.at; left_is = c.rest-left.ensures }))
-    c.push_rest.ensures.on_way
-
-pub returns-clause-carried : goal.returns-clause-carried
-returns-clause-carried g c =
+pub returns-in_err-push_root-clause-moves : goal.returns-in_err-push_root-clause-moves
+returns-in_err-push_root-clause-moves g c =
     let told = g.W.Worktree.told c.args.worktree.now in
     let holds = g.F.Find.holds c.args.objects.now in
-    on_ok c.push_rest.result
-    (λ carries.
-    carries-as told holds _ _ c.args.self.now c.push_rest.new.self
-    (calls_are c.args.self.now.at c.push_root.new.self.at c.pop_surplus.new.self.at (components c.args.relative.now) (components c.rest-left.result.now)
-    (record { rooted = c.in_ok-push_root.ensures.at; popped = c.pop_surplus.ensures.at; left_is = c.rest-left.ensures }))
-    (carries-then told holds _ _ c.args.self.now c.pop_surplus.new.self c.push_rest.new.self
-    (carries-then told holds _ _ c.args.self.now c.push_root.new.self c.pop_surplus.new.self c.in_ok-push_root.ensures.carried (c.pop_surplus.ensures.carried told holds))
-    (subst (λ h. CarriesOut told h (calls_below (deepest_names c.pop_surplus.new.self.at) (components c.rest-left.result.now)) c.pop_surplus.new.self c.push_rest.new.self) c.push_root.ensures.leaves_store.holds
-    (subst (λ t. CarriesOut t (g.F.Find.holds c.push_root.new.objects) (calls_below (deepest_names c.pop_surplus.new.self.at) (components c.rest-left.result.now)) c.pop_surplus.new.self c.push_rest.new.self) (c.push_root.ensures.leaves.tree) carries))))
-    c.push_rest.ensures.carried
+    let old = c.args.self.now in
+    let parts : List (List ℕ) = components c.args.relative.now in
+    let pops : List Call = replicate (surplus old.at parts) pop_directory in
+    let below : List Call = calls_below (kept (deepest_names old.at) parts) (drop (length (kept (deepest_names old.at) parts)) parts) in
+    let e : AtPathError = c.in_err-push_root.field-0.0 in
+    let same : IsErrAnd c.from_residual.result (λ x. x ≡ e) = search rules in
+    record {
+      carried = no-answer _ c.from_residual.result e same;
+      stopped =
+          handed_on c.from_residual.result e _ same
+          (stops-after told holds (lookup_calls old.at parts) [] (root_calls old.at) (pops ++ below) old old c.push_root.new.self (append_assoc (root_calls old.at) pops below)
+          (carries-none told holds old old refl refl refl) refl _ _ _ _ (λ rose. rose) (λ rose. rose) e c.in_err-push_root.ensures.moves.stopped);
+    }
 
-pub returns-clause-stopped : goal.returns-clause-stopped
-returns-clause-stopped g c =
-    let W = g.W.Worktree in
-    let F = g.F.Find in
-    let told = W.told c.args.worktree.now in
-    let holds = F.holds c.args.objects.now in
-    let below : List Call = calls_below (deepest_names c.pop_surplus.new.self.at) (components c.rest-left.result.now) in
-    let before : List Call = root_calls c.args.self.now.at ++ replicate (surplus c.push_root.new.self.at (components c.args.relative.now)) pop_directory in
-    IfErr-weaker c.push_rest.result _ _
-    (λ e stops.
-    stops-after told holds _ before below [] c.args.self.now c.pop_surplus.new.self c.push_rest.new.self
-    (calls_are c.args.self.now.at c.push_root.new.self.at c.pop_surplus.new.self.at (components c.args.relative.now) (components c.rest-left.result.now)
-    (record { rooted = c.in_ok-push_root.ensures.at; popped = c.pop_surplus.ensures.at; left_is = c.rest-left.ensures })
-    ∙ ap (λ l. before ++ l) (sym (append-nil below)))
-    (carries-then told holds _ _ c.args.self.now c.push_root.new.self c.pop_surplus.new.self c.in_ok-push_root.ensures.carried (c.pop_surplus.ensures.carried told holds))
-    (c.pop_surplus.ensures.is_dir ∙ c.push_root.ensures.is_dir) _ _ _ _
-    (rose-earlier (W.faults c.args.worktree.now) (W.faults c.push_root.new.worktree) (W.faults c.push_rest.new.worktree) c.push_root.ensures.leaves.faults)
-    (rose-earlier (F.faults c.args.objects.now) (F.faults c.push_root.new.objects) (F.faults c.push_rest.new.objects) c.push_root.ensures.leaves_store.faults) e
-    (subst (λ h. Stops told h (Increased (W.faults c.push_root.new.worktree) (W.faults c.push_rest.new.worktree)) (Increased (F.faults c.push_root.new.objects) (F.faults c.push_rest.new.objects)) below c.pop_surplus.new.self c.push_rest.new.self e) c.push_root.ensures.leaves_store.holds
-    (subst (λ t. Stops t (F.holds c.push_root.new.objects) (Increased (W.faults c.push_root.new.worktree) (W.faults c.push_rest.new.worktree)) (Increased (F.faults c.push_root.new.objects) (F.faults c.push_rest.new.objects)) below c.pop_surplus.new.self c.push_rest.new.self e) (c.push_root.ensures.leaves.tree) stops)))
-    c.push_rest.ensures.stopped
-
-pub returns-in_err-push_root-clause-names : goal.returns-in_err-push_root-clause-names
-returns-in_err-push_root-clause-names g c =
+pub returns-in_err-push_root-clause-sees : goal.returns-in_err-push_root-clause-sees
+returns-in_err-push_root-clause-sees g c =
     let told = g.W.Worktree.told c.args.worktree.now in
     let holds = g.F.Find.holds c.args.objects.now in
     let parts : List (List ℕ) = components c.args.relative.now in
@@ -86,92 +55,112 @@ returns-in_err-push_root-clause-names g c =
     let below : List Call = calls_below (kept (deepest_names c.args.self.now.at) parts) (drop (length (kept (deepest_names c.args.self.now.at) parts)) parts) in
     let e : AtPathError = c.in_err-push_root.field-0.0 in
     let same : IsErrAnd c.from_residual.result (λ x. x ≡ e) = search rules in
-    subst (λ (r : Result (Unit {0}) AtPathError). Sees told holds (λ s. names_on (made_of c.args.self.now) s (lookup_calls c.args.self.now.at parts)) c.args.self.now.attributes c.push_root.new.self.attributes r) (sym (is_err c.from_residual.result e same))
+    subst (λ (r : Result (Unit {0}) AtPathError). StepSees g.W.Worktree g.F.Find (moment c.args.worktree.now c.args.objects.now c.args.self.now) (moment c.push_root.new.worktree c.push_root.new.objects c.push_root.new.self)
+    (lookup_calls c.args.self.now.at parts) r) (sym (is_err c.from_residual.result e same))
     (on-front told holds (made_of c.args.self.now) (root_calls c.args.self.now.at) (pops ++ below) (lookup_calls c.args.self.now.at parts) c.args.self.now.attributes c.push_root.new.self.attributes e
-    (append_assoc (root_calls c.args.self.now.at) pops below) c.in_err-push_root.ensures.names)
+    (append_assoc (root_calls c.args.self.now.at) pops below) c.in_err-push_root.ensures.sees)
 
-pub returns-clause-names : goal.returns-clause-names
-returns-clause-names g c =
-    let W = g.W.Worktree in
-    let F = g.F.Find in
-    let told = W.told c.args.worktree.now in
-    let holds = F.holds c.args.objects.now in
-    let made : Made = made_of c.args.self.now in
-    let n = surplus c.push_root.new.self.at (components c.args.relative.now) in
-    let pops : List Call = replicate n pop_directory in
-    let below : List Call = calls_below (deepest_names c.pop_surplus.new.self.at) (components c.rest-left.result.now) in
-    let before : List Call = root_calls c.args.self.now.at ++ pops in
-    let root = c.push_root.ensures in
-    let pop = c.pop_surplus.ensures in
-    on-then told (W.told c.push_root.new.worktree) holds (F.holds c.push_root.new.objects) made (made_of c.pop_surplus.new.self) before below (lookup_calls c.args.self.now.at (components c.args.relative.now))
-    c.args.self.now.attributes c.pop_surplus.new.self.attributes c.push_rest.new.self.attributes c.push_rest.result root.leaves.tree root.leaves_store.holds (pop.made ∙ root.made)
-    (calls_are c.args.self.now.at c.push_root.new.self.at c.pop_surplus.new.self.at (components c.args.relative.now) (components c.rest-left.result.now)
-    (record { rooted = c.in_ok-push_root.ensures.at; popped = c.pop_surplus.ensures.at; left_is = c.rest-left.ensures }))
-    (on-then told told holds holds made made (root_calls c.args.self.now.at) pops before c.args.self.now.attributes c.push_root.new.self.attributes c.pop_surplus.new.self.attributes (Ok tt) refl refl refl refl
-    c.in_ok-push_root.ensures.names (sees-popped told holds made n c.push_root.new.self.attributes c.pop_surplus.new.self.attributes pop.names pop.dropped))
-    c.push_rest.ensures.names
-
-pub returns-clause-reads : goal.returns-clause-reads
-returns-clause-reads g c alone =
-    let made : made_of c.pop_surplus.new.self ≡ made_of c.args.self.now = c.pop_surplus.ensures.made ∙ c.push_root.ensures.made in
-    let stay =
-    stay_names c.args.self.now.at c.push_root.new.self.at c.pop_surplus.new.self.at (components c.args.relative.now) (components c.rest-left.result.now)
-    (record { rooted = c.in_ok-push_root.ensures.at; popped = c.pop_surplus.ensures.at; left_is = c.rest-left.ensures }) in
-    omega (
-      arith,
-      c.push_root.ensures.reads alone,
-      c.push_rest.ensures.reads (ap has_attributes made ∙ alone),
-      root-length c.args.self.now.at (components c.args.relative.now),
-      length-pushed c.push_rest.new.self.at c.push_rest.ensures.some,
-      ap length stay,
-    )
-
-pub returns-clause-stays : goal.returns-clause-stays
-returns-clause-stays g c =
-    let stay =
-    stay_names c.args.self.now.at c.push_root.new.self.at c.pop_surplus.new.self.at (components c.args.relative.now) (components c.rest-left.result.now)
-    (record { rooted = c.in_ok-push_root.ensures.at; popped = c.pop_surplus.ensures.at; left_is = c.rest-left.ensures }) in
-    omega (
-      arith,
-      c.push_rest.ensures.stays,
-      root-length c.args.self.now.at (components c.args.relative.now),
-      length-pushed c.push_rest.new.self.at c.push_rest.ensures.some,
-      ap length stay,
-    )
-
-pub returns-clause-in_step : goal.returns-clause-in_step
-returns-clause-in_step g c s tells in_step =
-    c.push_rest.ensures.in_step s (tells-before _ _ _ _ s (c.push_root.ensures.leaves.tree) c.push_root.ensures.leaves_store.holds tells)
-    (c.pop_surplus.ensures.in_step s (c.push_root.ensures.in_step s tells in_step))
-
-pub returns-clause-levels : goal.returns-clause-levels
-returns-clause-levels g c level = c.push_rest.ensures.levels (c.pop_surplus.ensures.levels (c.push_root.ensures.levels level))
-
-pub returns-in_err-push_root-clause-asked : goal.returns-in_err-push_root-clause-asked
-returns-in_err-push_root-clause-asked g c =
+pub returns-in_err-push_root-clause-asks : goal.returns-in_err-push_root-clause-asks
+returns-in_err-push_root-clause-asks g c =
     let parts : List (List ℕ) = components c.args.relative.now in
     let pops : List Call = replicate (surplus c.args.self.now.at parts) pop_directory in
     let below : List Call = calls_below (kept (deepest_names c.args.self.now.at) parts) (drop (length (kept (deepest_names c.args.self.now.at) parts)) parts) in
-    omega (
-      arith,
-      c.push_root.ensures.asked,
-      asked-front (made_of c.args.self.now) (lookup_calls c.args.self.now.at parts) (root_calls c.args.self.now.at) (pops ++ below) (append_assoc (root_calls c.args.self.now.at) pops below),
-    )
+    let e : AtPathError = c.in_err-push_root.field-0.0 in
+    let same : IsErrAnd c.from_residual.result (λ x. x ≡ e) = search rules in
+    asks-cut g.W.Worktree (moment c.args.worktree.now c.args.objects.now c.args.self.now) (moment c.push_root.new.worktree c.push_root.new.objects c.push_root.new.self) (pops ++ below) (lookup_calls c.args.self.now.at parts) c.from_residual.result parts
+    (append_assoc (root_calls c.args.self.now.at) pops below) c.in_err-push_root.ensures.none (one-refused c.from_residual.result e same) c.push_root.ensures.asks
 
-pub returns-clause-asked : goal.returns-clause-asked
-returns-clause-asked g c =
-    let made : made_of c.pop_surplus.new.self ≡ made_of c.args.self.now = c.pop_surplus.ensures.made ∙ c.push_root.ensures.made in
-    let first : List Call = root_calls c.args.self.now.at in
-    let pops : List Call = replicate (surplus c.push_root.new.self.at (components c.args.relative.now)) pop_directory in
+-- ---- the whole
+
+pub returns-clause-keeps : goal.returns-clause-keeps
+returns-clause-keeps g c =
+    let W = g.W.Worktree in
+    let F = g.F.Find in
+    let before = moment c.args.worktree.now c.args.objects.now c.args.self.now in
+    let rooted = moment c.push_root.new.worktree c.push_root.new.objects c.push_root.new.self in
+    let popped = moment c.push_root.new.worktree c.push_root.new.objects c.pop_surplus.new.self in
+    keeps-then W F before popped (moment c.push_rest.new.worktree c.push_rest.new.objects c.push_rest.new.self) c.push_rest.result
+    (keeps-popped W F before rooted c.pop_surplus.new.self c.in_ok-push_root.ensures.keeps c.pop_surplus.ensures.pops) c.push_rest.ensures.keeps
+
+pub returns-clause-arrives : goal.returns-clause-arrives
+returns-clause-arrives g c =
+    let staying : IsStaying c.args.self.now.at c.push_root.new.self.at c.pop_surplus.new.self.at (components c.args.relative.now) (components c.rest-left.result.now) =
+    record { rooted = c.in_ok-push_root.ensures.stands.at; popped = c.pop_surplus.ensures.at; left_is = c.rest-left.ensures } in
+    arrives-whole c.args.self.now.at c.push_root.new.self.at c.pop_surplus.new.self.at (components c.args.relative.now) (components c.rest-left.result.now) staying c.push_rest.new.self c.push_rest.result refl c.push_rest.ensures.arrives
+
+pub returns-clause-moves : goal.returns-clause-moves
+returns-clause-moves g c =
+    let W = g.W.Worktree in
+    let F = g.F.Find in
+    let before = moment c.args.worktree.now c.args.objects.now c.args.self.now in
+    let rooted = moment c.push_root.new.worktree c.push_root.new.objects c.push_root.new.self in
+    let popped = moment c.push_root.new.worktree c.push_root.new.objects c.pop_surplus.new.self in
+    let now = moment c.push_rest.new.worktree c.push_rest.new.objects c.push_rest.new.self in
     let below : List Call = calls_below (deepest_names c.pop_surplus.new.self.at) (components c.rest-left.result.now) in
-    omega (
+    let pops : List Call = replicate (surplus c.push_root.new.self.at (components c.args.relative.now)) pop_directory in
+    let first : List Call = root_calls c.args.self.now.at ++ pops in
+    let calls = calls_are c.args.self.now.at c.push_root.new.self.at c.pop_surplus.new.self.at (components c.args.relative.now) (components c.rest-left.result.now)
+    (record { rooted = c.in_ok-push_root.ensures.stands.at; popped = c.pop_surplus.ensures.at; left_is = c.rest-left.ensures }) in
+    let keeps : StepKeeps {T = Unit {0}} W F before popped (Ok tt) = keeps-popped W F before rooted c.pop_surplus.new.self c.in_ok-push_root.ensures.keeps c.pop_surplus.ensures.pops in
+    let moves : StepMoves {T = Unit {0}} W F before popped first (Ok tt) = moves-popped W F before rooted c.pop_surplus.new.self (root_calls c.args.self.now.at) pops c.in_ok-push_root.ensures.moves c.pop_surplus.ensures.pops in
+    record {
+      carried =
+          on_ok c.push_rest.result
+          (λ carries. carries-as _ _ _ _ c.args.self.now c.push_rest.new.self calls
+          (carries-then _ _ first below c.args.self.now c.pop_surplus.new.self c.push_rest.new.self moves.carried (told-before W F before popped below c.pop_surplus.new.self c.push_rest.new.self keeps carries)))
+          c.push_rest.ensures.moves.carried;
+      stopped =
+          IfErr-weaker c.push_rest.result _ _
+          (λ e stops. stops-behind W F before popped now _ first below [] (calls ∙ ap (λ l. first ++ l) (sym (append-nil below))) keeps moves e stops)
+          c.push_rest.ensures.moves.stopped;
+    }
+
+pub returns-clause-holds : goal.returns-clause-holds
+returns-clause-holds g c =
+    let before = moment c.args.worktree.now c.args.objects.now c.args.self.now in
+    let rooted = moment c.push_root.new.worktree c.push_root.new.objects c.push_root.new.self in
+    let popped = moment c.push_root.new.worktree c.push_root.new.objects c.pop_surplus.new.self in
+    let now = moment c.push_rest.new.worktree c.push_rest.new.objects c.push_rest.new.self in
+    let keeps = keeps-popped g.W.Worktree g.F.Find before rooted c.pop_surplus.new.self c.in_ok-push_root.ensures.keeps c.pop_surplus.ensures.pops in
+    holds-then g.W.Worktree g.F.Find before popped now (Ok tt) keeps (holds-popped g.W.Worktree g.F.Find before rooted c.pop_surplus.new.self c.push_root.ensures.holds c.pop_surplus.ensures.pops) c.push_rest.ensures.holds
+
+pub returns-clause-sees : goal.returns-clause-sees
+returns-clause-sees g c =
+    let W = g.W.Worktree in
+    let F = g.F.Find in
+    let before = moment c.args.worktree.now c.args.objects.now c.args.self.now in
+    let rooted = moment c.push_root.new.worktree c.push_root.new.objects c.push_root.new.self in
+    let popped = moment c.push_root.new.worktree c.push_root.new.objects c.pop_surplus.new.self in
+    let now = moment c.push_rest.new.worktree c.push_rest.new.objects c.push_rest.new.self in
+    let n = surplus c.push_root.new.self.at (components c.args.relative.now) in
+    let first : List Call = root_calls c.args.self.now.at ++ replicate n pop_directory in
+    let below : List Call = calls_below (deepest_names c.pop_surplus.new.self.at) (components c.rest-left.result.now) in
+    sees-behind W F before popped now first below (lookup_calls c.args.self.now.at (components c.args.relative.now)) c.push_rest.result
+    (calls_are c.args.self.now.at c.push_root.new.self.at c.pop_surplus.new.self.at (components c.args.relative.now) (components c.rest-left.result.now)
+    (record { rooted = c.in_ok-push_root.ensures.stands.at; popped = c.pop_surplus.ensures.at; left_is = c.rest-left.ensures }))
+    (keeps-popped W F before rooted c.pop_surplus.new.self c.in_ok-push_root.ensures.keeps c.pop_surplus.ensures.pops)
+    (sees-popped-on W F before rooted c.pop_surplus.new.self (root_calls c.args.self.now.at) n c.in_ok-push_root.ensures.keeps c.in_ok-push_root.ensures.sees c.pop_surplus.ensures.pops) c.push_rest.ensures.sees
+
+pub returns-clause-asks : goal.returns-clause-asks
+returns-clause-asks g c =
+    let W = g.W.Worktree in
+    let F = g.F.Find in
+    let before = moment c.args.worktree.now c.args.objects.now c.args.self.now in
+    let rooted = moment c.push_root.new.worktree c.push_root.new.objects c.push_root.new.self in
+    let popped = moment c.push_root.new.worktree c.push_root.new.objects c.pop_surplus.new.self in
+    let now = moment c.push_rest.new.worktree c.push_rest.new.objects c.push_rest.new.self in
+    let is : IsStaying c.args.self.now.at c.push_root.new.self.at c.pop_surplus.new.self.at (components c.args.relative.now) (components c.rest-left.result.now) =
+    record { rooted = c.in_ok-push_root.ensures.stands.at; popped = c.pop_surplus.ensures.at; left_is = c.rest-left.ensures } in
+    let below : List Call = calls_below (deepest_names c.pop_surplus.new.self.at) (components c.rest-left.result.now) in
+    let parts : List (List ℕ) = components c.args.relative.now in
+    asks-whole W F before rooted popped now (root_calls c.args.self.now.at) (surplus c.push_root.new.self.at parts) below (lookup_calls c.args.self.now.at parts)
+    (calls_are c.args.self.now.at c.push_root.new.self.at c.pop_surplus.new.self.at (components c.args.relative.now) (components c.rest-left.result.now) is)
+    refl (keeps-popped W F before rooted c.pop_surplus.new.self c.in_ok-push_root.ensures.keeps c.pop_surplus.ensures.pops)
+    (length (root_calls c.args.self.now.at)) (length (deepest_names c.pop_surplus.new.self.at)) (length (deepest_names c.push_rest.new.self.at) + refused_one c.push_rest.result)
+    (length (pushed (staying c.args.self.now.at parts))) (length (pushed c.push_rest.new.self.at) + refused_one c.push_rest.result)
+    (omega (
       arith,
-      c.push_root.ensures.asked,
-      c.push_rest.ensures.asked,
-      ap (λ (m : Made). asked_on m below) made,
-      ap (asked_on (made_of c.args.self.now))
-          (calls_are c.args.self.now.at c.push_root.new.self.at c.pop_surplus.new.self.at (components c.args.relative.now) (components c.rest-left.result.now)
-          (record { rooted = c.in_ok-push_root.ensures.at; popped = c.pop_surplus.ensures.at; left_is = c.rest-left.ensures })),
-      asked-append (made_of c.args.self.now) (first ++ pops) below,
-      asked-append (made_of c.args.self.now) first pops,
-    )
+      root-length c.args.self.now.at parts,
+      length-pushed c.push_rest.new.self.at c.push_rest.ensures.arrives.some,
+      ap length (stay_names c.args.self.now.at c.push_root.new.self.at c.pop_surplus.new.self.at (components c.args.relative.now) (components c.rest-left.result.now) is),
+    )) c.push_root.ensures.asks c.push_rest.ensures.asks

@@ -1,3 +1,4 @@
+-- The match of the directory is found among the rules above it, and then its own rules are read and pushed.
 use Rattle.std.proofs.Common.{◌≡◌, [], ℕ, List, refl, sym, subst, rules}
 use Rattle.std.specs.Prelude.{IsErrAnd}
 use Rattle.worktree_fs.specs.Paths.{spelled}

@@ -1,3 +1,4 @@
+-- One text is read, at the root alone, where there is an info file; its list is pushed.
 use Rattle.std.proofs.Common.{◌≡◌, ◌∙◌, ◌∷◌, [], ℕ, List, Option, Some, Result, true, refl, ap, subst, rules}
 use Rattle.std.specs.Prelude.{IsErrAnd}
 use Rattle.worktree_fs.specs.Paths.{spelled}

@@ -1,3 +1,4 @@
+-- One text is read, where there is an exclude state; it is that of the ignore rules.
 use Rattle.std.proofs.Common.{◌≡◌, ◌∙◌, ◌∷◌, [], ℕ, List, Option, Some, Result, refl, ap, subst, rules}
 use Rattle.std.specs.Prelude.{IsErrAnd}
 use Rattle.worktree_fs.specs.Paths.{spelled}

@@ -1,3 +1,4 @@
+-- The components are tested, made and pushed one after another. What holds of those that are done holds of the path in the end.
 use Rattle.std.proofs.Common.{◌≡◌, ◌∙◌, ◌++◌, ◌∷◌, [], ℕ, List, Option, inl, inr, refl, sym, ap, subst, is_some, true, false, length, Ok, Err, arith, rules}
 use Rattle.std.specs.Prelude.{IsErrAnd, Result}
 use Rattle.std.proofs.lemmas.List.{length-append, append-nil}
@@ -26,6 +27,7 @@ use Rattle.worktree_stack.proofs.RestOut.{keeping-by, keeps-left, kept-by, nil-i
 use Rattle.worktree_stack.specs.HeldOut.{AddsOut}
 use Rattle.worktree_stack.specs.Setup.{HeldAttributes}
 use Rattle.worktree_stack.proofs.HeldOut.{adds-same, adds-then, always}
+use Rattle.worktree_stack.proofs.StackSteps.{no-answer}
 use Rattle.worktree_stack.proofs.stack.Stack.rest_out.Goals as goal
 
 pub loop-next-init : goal.loop-next-init
@@ -61,14 +63,14 @@ loop-next-preserved g c =
     let rest : List (List ℕ) = components c.loop-next.rest.now in
     let more : List (List ℕ) = components c.in-Some.next.rest.now in
     let more_is = sym c.in-Some.ensures.2 ∙ c.if-next.false in
-    let names_is : deepest_names c.step_out.new.self.at ≡ names ++ name ∷ [] = ap deepest_names c.in_ok-step_out.ensures.at in
+    let names_is : deepest_names c.step_out.new.self.at ≡ names ++ name ∷ [] = ap deepest_names c.in_ok-step_out.ensures.stands.at in
     let step : Goes W F c.loop-next.worktree c.step_out.new.worktree c.loop-next.objects c.step_out.new.objects way link protects (calls_for names name false) (name ∷ []) c.loop-next.self c.step_out.new.self (Ok tt) =
     subst (λ (x : Way). Goes W F c.loop-next.worktree c.step_out.new.worktree c.loop-next.objects c.step_out.new.objects x link protects (calls_for names name false) (name ∷ []) c.loop-next.self c.step_out.new.self (Ok tt)) ways
     (subst (λ (r : Result (Unit {0}) AtPathError). Goes W F c.loop-next.worktree c.step_out.new.worktree c.loop-next.objects c.step_out.new.objects there link protects (calls_for names name false) (name ∷ []) c.loop-next.self c.step_out.new.self r) c.in_ok-step_out.was c.step_out.ensures.goes) in
     let goes = goes-then W F way link protects (Ok tt) before.goes step in
     record {
-      some = ap is_some c.in_ok-step_out.ensures.at;
-      below = below_next _ c.loop-next.self.at c.step_out.new.self.at rest more name before.below c.in-Some.ensures.0 more_is c.in_ok-step_out.ensures.at;
+      some = ap is_some c.in_ok-step_out.ensures.stands.at;
+      below = below_next _ c.loop-next.self.at c.step_out.new.self.at rest more name before.below c.in-Some.ensures.0 more_is c.in_ok-step_out.ensures.stands.at;
       done = before.done ++ calls_for names name false;
       taken = before.taken ++ name ∷ [];
       front =
@@ -76,8 +78,8 @@ loop-next-preserved g c =
           ∙ ap (λ (n : List (List ℕ)). (before.done ++ calls_for names name false) ++ calls_below n more) (sym names_is);
       parts = before.parts ∙ ap (λ (l : List (List ℕ)). before.taken ++ l) c.in-Some.ensures.0 ∙ sym (append_assoc before.taken (name ∷ []) more);
       goes = goes;
-      unfaulted = c.in_ok-step_out.ensures.unfaulted ∙ before.unfaulted;
-      unfaulted_store = c.in_ok-step_out.ensures.unfaulted_store ∙ before.unfaulted_store;
+      unfaulted = c.in_ok-step_out.ensures.unfaulted.worktree ∙ before.unfaulted;
+      unfaulted_store = c.in_ok-step_out.ensures.unfaulted.objects ∙ before.unfaulted_store;
       held = λ s tells.
           adds-then W (F.holds a.objects.now) way (made_of a.self.now) before.done (calls_for names name false) (mkdirs a.self.now) (mkdirs c.loop-next.self) a.self.now.statistics c.loop-next.self.statistics
           a.self.now.attributes c.loop-next.self.attributes c.step_out.new.self.attributes before.goes.works s tells (before.held s tells)
@@ -128,11 +130,20 @@ returns-in_err-step_out-clause-goes g c =
     (before.parts ∙ ap (λ (l : List (List ℕ)). before.taken ++ l) c.in-Some.ensures.0 ∙ sym (append_assoc before.taken (name ∷ []) more))
     (goes-more W F way link protects e (calls_below (names ++ name ∷ []) more) more (goes-then W F way link protects (Err e) before.goes step))))
 
-pub returns-in_err-step_out-clause-on_way : goal.returns-in_err-step_out-clause-on_way
-returns-in_err-step_out-clause-on_way g c =
-    on_err c.from_residual.result
-    (on_way_same _ c.loop-next.self.at c.step_out.new.self.at c.in_err-step_out.ensures.at_refused
-    (on_way _ c.loop-next.self.at (components c.loop-next.rest.now) (components c.in-Some.next.rest.now) c.in-Some.next.name.now c.loop-next.invariant.below c.in-Some.ensures.0))
+pub returns-in_err-step_out-clause-arrives : goal.returns-in_err-step_out-clause-arrives
+returns-in_err-step_out-clause-arrives g c =
+    let e : AtPathError = c.in_err-step_out.field-0.0 in
+    let same : IsErrAnd c.from_residual.result (λ x. x ≡ e) = search rules in
+    let before = c.loop-next.invariant in
+    let at = c.in_err-step_out.ensures.stands.at_refused in
+    record {
+      some = ap is_some at ∙ before.some;
+      looked_up = no-answer _ c.from_residual.result e same;
+      on_way =
+          on_err c.from_residual.result (on_way_same _ c.loop-next.self.at c.step_out.new.self.at at
+          (on_way _ c.loop-next.self.at (components c.loop-next.rest.now) (components c.in-Some.next.rest.now) c.in-Some.next.name.now before.below c.in-Some.ensures.0));
+      stays = omega (arith, before.stays, ap (λ (d : Option (List (List ℕ))). length (deepest_names d)) at);
+    }
 
 pub returns-in_err-step_out-clause-last : goal.returns-in_err-step_out-clause-last
 returns-in_err-step_out-clause-last g c =
@@ -199,24 +210,21 @@ returns-then-next-clause-goes g c =
     (goes-then W F way link protects c.push_out.result before.goes
     (goes-pushed W F way link protects c.loop-next.objects c.loop-next.self c.push_out.new.self name true c.push_out.result pushes))
 
-pub returns-then-next-clause-looked_up : goal.returns-then-next-clause-looked_up
-returns-then-next-clause-looked_up g c =
-    looked-pushed g.W.Worktree _ _ _ _ c.loop-next.self c.push_out.new.self (components c.loop-next.rest.now) (components c.in-Some.next.rest.now) c.in-Some.next.name.now c.push_out.result
-    c.loop-next.invariant.below c.in-Some.ensures.0 (sym c.in-Some.ensures.2 ∙ c.if-next.true) c.push_out.ensures
-
-pub returns-then-next-clause-on_way : goal.returns-then-next-clause-on_way
-returns-then-next-clause-on_way g c =
-    on_err c.push_out.result
-    (on_way_same _ c.loop-next.self.at c.push_out.new.self.at (pushed-field g.W.Worktree g.F.Find _ _ _ (λ (s : Stacked). s.at) c.loop-next.self c.push_out.new.self c.in-Some.next.name.now true c.push_out.result (λ n. refl) refl (λ n. refl) c.push_out.ensures)
-    (on_way _ c.loop-next.self.at (components c.loop-next.rest.now) (components c.in-Some.next.rest.now) c.in-Some.next.name.now c.loop-next.invariant.below c.in-Some.ensures.0))
-
-pub returns-then-next-clause-some : goal.returns-then-next-clause-some
-returns-then-next-clause-some g c =
-    ap is_some (pushed-field g.W.Worktree g.F.Find _ _ _ (λ (s : Stacked). s.at) c.loop-next.self c.push_out.new.self c.in-Some.next.name.now true c.push_out.result (λ n. refl) refl (λ n. refl) c.push_out.ensures) ∙ c.loop-next.invariant.some
-
-pub returns-then-next-clause-stays : goal.returns-then-next-clause-stays
-returns-then-next-clause-stays g c =
-    omega (arith, c.loop-next.invariant.stays, ap (λ (at : Option (List (List ℕ))). length (deepest_names at)) (pushed-field g.W.Worktree g.F.Find _ _ _ (λ (s : Stacked). s.at) c.loop-next.self c.push_out.new.self c.in-Some.next.name.now true c.push_out.result (λ n. refl) refl (λ n. refl) c.push_out.ensures))
+pub returns-then-next-clause-arrives : goal.returns-then-next-clause-arrives
+returns-then-next-clause-arrives g c =
+    let before = c.loop-next.invariant in
+    let at : c.push_out.new.self.at ≡ c.loop-next.self.at =
+    pushed-field g.W.Worktree g.F.Find _ _ _ (λ (s : Stacked). s.at) c.loop-next.self c.push_out.new.self c.in-Some.next.name.now true c.push_out.result (λ n. refl) refl (λ n. refl) c.push_out.ensures in
+    record {
+      some = ap is_some at ∙ before.some;
+      looked_up =
+          looked-pushed g.W.Worktree _ _ _ _ c.loop-next.self c.push_out.new.self (components c.loop-next.rest.now) (components c.in-Some.next.rest.now) c.in-Some.next.name.now c.push_out.result
+          before.below c.in-Some.ensures.0 (sym c.in-Some.ensures.2 ∙ c.if-next.true) c.push_out.ensures;
+      on_way =
+          on_err c.push_out.result (on_way_same _ c.loop-next.self.at c.push_out.new.self.at at
+          (on_way _ c.loop-next.self.at (components c.loop-next.rest.now) (components c.in-Some.next.rest.now) c.in-Some.next.name.now before.below c.in-Some.ensures.0));
+      stays = omega (arith, before.stays, ap (λ (d : Option (List (List ℕ))). length (deepest_names d)) at);
+    }
 
 pub returns-then-next-clause-keeps : goal.returns-then-next-clause-keeps
 returns-then-next-clause-keeps g c =

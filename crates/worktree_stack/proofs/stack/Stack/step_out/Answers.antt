@@ -1,4 +1,5 @@
-use Rattle.std.proofs.Common.{◌≡◌, ◌∙◌, ◌++◌, ◌∷◌, [], ℕ, List, sym, ap, subst, arith, Ok, Err, rules}
+-- A component is tested and made, and then pushed as a directory.
+use Rattle.std.proofs.Common.{◌≡◌, ◌∙◌, ◌++◌, ◌∷◌, [], ℕ, List, sym, ap, subst, Ok, Err, rules}
 use Rattle.std.specs.Prelude.{IsErrAnd, Result, is_some, false}
 use Rattle.worktree_fs.specs.Paths.{spelled}
 use Rattle.worktree_fs.specs.PathStack.{deepest_names, push, push_directory}
@@ -6,8 +7,7 @@ use Rattle.worktree_stack.specs.declared.error.AtPathError.{AtPathError}
 use Rattle.worktree_stack.specs.GoesOn.{Goes, KeepsOn, PushesOut}
 use Rattle.worktree_stack.specs.Lookups.{is_dir_of}
 use Rattle.worktree_stack.specs.Making.{Way, is_link_of, mkdirs, way_of}
-use Rattle.worktree_stack.specs.Stacked.{Stacked, made_of}
-use Rattle.worktree_stack.proofs.Asked.{asked-directory}
+use Rattle.worktree_stack.specs.Stacked.{Stacked}
 use Rattle.worktree_stack.proofs.InStep.{pushed-below}
 use Rattle.worktree_stack.proofs.Refusals.{is_err}
 use Rattle.worktree_stack.proofs.Going.{goes-then, goes-more, goes-pushed, goes-unpushed}
@@ -56,9 +56,9 @@ returns-clause-goes g c =
     (ap spelled current)
     (goes-then W F way (is_link_of a.mode) protects c.push_directory.result
     (goes-pushed W F way (is_link_of a.mode) protects a.objects.now a.self.now mid a.name.now false (Ok tt) pushes)
-    (goes-unpushed W F way (is_link_of a.mode) protects (push_directory (spelled mid.current) ∷ []) mid c.push_directory.new.self tt went.leaves went.leaves_store
-    c.push_directory.result went.made (went.carried below) went.stopped went.mkdirs went.is_dir went.answered went.platforms (went.levels below) (sees-one (W.told c.push_out.new.worktree) (F.holds a.objects.now) mid c.push_directory.new.self.attributes c.push_directory.result went.names) went.store_untouched
-    (omega (arith, went.asked, asked-directory (made_of mid) (spelled mid.current)))))
+    (goes-unpushed W F way (is_link_of a.mode) protects (push_directory (spelled mid.current) ∷ []) mid c.push_directory.new.self tt went.keeps.leaves went.keeps.leaves_store
+    c.push_directory.result went.keeps.made (went.carried below) went.stopped went.keeps.no_mkdirs went.keeps.is_dir went.keeps.answered went.keeps.platforms (went.holds below).levels (sees-one (W.told c.push_out.new.worktree) (F.holds a.objects.now) mid c.push_directory.new.self.attributes c.push_directory.result went.pushes.sees) went.keeps.store_untouched
+    went.asks.asked))
 
 pub returns-in_err-push_out-clause-keeps : goal.returns-in_err-push_out-clause-keeps
 returns-in_err-push_out-clause-keeps g c =
@@ -85,8 +85,8 @@ returns-clause-keeps g c =
     let pushes : PushesOut W a.worktree.now c.push_out.new.worktree way (is_link_of a.mode) protects a.name.now false a.self.now mid (Ok tt) =
     subst (λ (r : Result (Unit {0}) AtPathError). PushesOut W a.worktree.now c.push_out.new.worktree way (is_link_of a.mode) protects a.name.now false a.self.now mid r) c.in_ok-push_out.was c.push_out.ensures in
     let went = c.push_directory.ensures in
-    keeps-passed W F way (is_link_of a.mode) protects a.objects.now a.self.now mid c.push_directory.new.self a.name.now c.requires.some pushes went.leaves.tree
-    c.push_directory.result went.made went.at went.at_refused went.held went.held_lists went.lists
+    keeps-passed W F way (is_link_of a.mode) protects a.objects.now a.self.now mid c.push_directory.new.self a.name.now c.requires.some pushes went.keeps.leaves.tree
+    c.push_directory.result went.keeps.made went.stands.at went.stands.at_refused went.pushes.held went.pushes.held_lists went.pushes.lists
 
 pub returns-clause-held : goal.returns-clause-held
 returns-clause-held g c s tells =
@@ -101,4 +101,4 @@ returns-clause-held g c s tells =
     let is : IsOutcome p (W.told c.push_out.new.worktree) (mkdirs mid) makes.Made = pushes.made s.tree tells.tree_is in
     let after : Sources = record { tree = p.tree; objects = s.objects } in
     on_ok c.push_directory.result (λ pushed. adds-step way s a.self.now mid c.push_directory.new.self.attributes a.name.now (mkdirs mid) pushes.passed pushed)
-    (c.push_directory.ensures.lists after (record { tree_is = is.tree_is; objects_are = tells.objects_are }))
+    (c.push_directory.ensures.pushes.lists after (record { tree_is = is.tree_is; objects_are = tells.objects_are }))
