@@ -28,6 +28,7 @@ fn node_of(alloc: Global, word: &[u8]) -> Option<OwnedNode> {
             owner: number(owner),
             device: u64::from(number(device)),
         },
+        link: None,
     })
 }
 

@@ -129,6 +129,7 @@ pub fn owners_of(alloc: Global) -> Result<MemoryOwners, OutOfMemory> {
                 owner: 7,
                 device: 1,
             },
+            link: None,
         })?;
     }
     Ok(MemoryOwners::new(nodes))

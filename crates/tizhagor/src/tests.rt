@@ -129,6 +129,7 @@ fn node_of(alloc: Global, path: &[u8], said: &[u8]) -> Option<OwnedNode> {
             owner: u32::from(*owner),
             device: u64::from(*device),
         },
+        link: None,
     })
 }
 

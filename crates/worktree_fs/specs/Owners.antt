@@ -1,5 +1,5 @@
 -- Who owns the nodes of a file system, and on which file system they lie.
-use Rattle.std.specs.Prelude.{ℕ, Bool, List, Option, bytes_eq, find, option_map}
+use Rattle.std.specs.Prelude.{ℕ, Bool, true, false, List, Option, Some, None, bytes_eq, find, option_map}
 use Rattle.worktree_fs.specs.declared.owners.ownership.Ownership.{Ownership}
 
 -- what is told of the node at a path, by whether a last link is followed; none where nothing is there
@@ -12,10 +12,19 @@ pub record Asked : Type 0 where
 
 -- ---- in memory
 
+-- a node at a path, and, where a link leads there, the link itself
 pub record OwnedNode : Type 0 where
   pub path : List ℕ
   pub ownership : Ownership
+  pub link : Option Ownership
 
--- what nodes tell: each of the path at which it is listed, a last link followed or not, and the first of those at one path
+-- a link is told by itself, unless it is followed
+abbrev pub told_of : Ownership → Option Ownership → Bool → Ownership
+told_of ownership None follow = ownership
+told_of ownership (Some link) true = ownership
+told_of ownership (Some link) false = link
+
+-- what nodes tell: each of the path at which it is listed, and the first of those at one path
 abbrev pub owned_in : List OwnedNode → Owned
-owned_in nodes path follow = option_map (λ (node : OwnedNode). node.ownership) (find (λ (node : OwnedNode). bytes_eq node.path path) nodes)
+owned_in nodes path follow =
+    option_map (λ (node : OwnedNode). told_of node.ownership node.link follow) (find (λ (node : OwnedNode). bytes_eq node.path path) nodes)

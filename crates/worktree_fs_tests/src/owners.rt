@@ -35,20 +35,28 @@ fn the_disk_tells_file_systems_and_counts_faults(rt: HostRuntime) {
     assert_eq!(rt; owners.fault_count(), 1);
 }
 
-/// The owners of one node.
-fn one_owner(alloc: Global, path: &[u8], owner: u32) -> Option<MemoryOwners> {
+fn owned_by(owner: u32) -> Ownership {
+    Ownership { owner, device: 1 }
+}
+
+/// The owners of a node of 7, at which a link of 8 stands.
+fn one_owner(alloc: Global) -> Option<MemoryOwners> {
     let mut nodes = Vec::new(alloc);
-    let ownership = Ownership { owner, device: 1 };
-    let path = Bytes::from_slice(alloc, path).ok()?;
-    nodes.push(OwnedNode { path, ownership }).ok()?;
+    nodes
+        .push(OwnedNode {
+            path: Bytes::from_slice(alloc, b"/w").ok()?,
+            ownership: owned_by(7),
+            link: Some(owned_by(8)),
+        })
+        .ok()?;
     Some(MemoryOwners::new(nodes))
 }
 
-fn is_owned_by(alloc: Global, path: &[u8], want: Option<u32>) -> bool {
-    match one_owner(alloc, b"/w", 7) {
+fn is_owned_by(alloc: Global, path: &[u8], follow: bool, want: Option<u32>) -> bool {
+    match one_owner(alloc) {
         Some(owners) => {
             let mut owners = owners;
-            match owners.ownership(path, false) {
+            match owners.ownership(path, follow) {
                 Ok(found) => found.map(|found| found.owner) == want,
                 Err(_) => false,
             }
@@ -59,6 +67,7 @@ fn is_owned_by(alloc: Global, path: &[u8], want: Option<u32>) -> bool {
 
 #[test]
 fn owners_in_memory_are_those_that_were_put_there(rt: HostRuntime) {
-    assert!(rt; is_owned_by(rt.alloc(), b"/w", Some(7)));
-    assert!(rt; is_owned_by(rt.alloc(), b"/w/r", None));
+    assert!(rt; is_owned_by(rt.alloc(), b"/w", true, Some(7)));
+    assert!(rt; is_owned_by(rt.alloc(), b"/w", false, Some(8)));
+    assert!(rt; is_owned_by(rt.alloc(), b"/w/r", true, None));
 }

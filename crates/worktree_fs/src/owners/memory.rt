@@ -8,11 +8,14 @@ use crate::ReadError;
 use gitbase_core::Bytes;
 use std::marker::Model;
 
-/// A path, and what is told of it. Contracts see a record of both.
+/// A node, and whose it is. Contracts see a record of the fields.
 #[derive(Debug, Drop)]
 pub struct OwnedNode {
     pub path: Bytes,
+    /// What is told of the node at the path, a last link followed.
     pub ownership: Ownership,
+    /// What is told of a link at the path itself; none where there is no link.
+    pub link: Option<Ownership>,
 }
 
 impl Model for OwnedNode {
@@ -20,10 +23,22 @@ impl Model for OwnedNode {
 
     ghost Value = { words.OwnedNode };
 
-    ghost view = { λ node. record { path = node.path; ownership = node.ownership } };
+    ghost view = { λ node. record { path = node.path; ownership = node.ownership; link = node.link } };
 }
 
-/// Owners in memory: what is told of a path is that of the first node there, a last link followed or not. They never fail.
+impl OwnedNode {
+    /// What is told of the node: of a link itself, unless it is followed.
+    pub fn told(&self, follow: bool) -> Ownership
+        ensures { result ≡ words.told_of self.now.ownership self.now.link follow }
+    {
+        match self.link {
+            Some(link) if !follow => link,
+            _ => self.ownership,
+        }
+    }
+}
+
+/// Owners in memory: what is told of a path is that of the first node there. They never fail.
 ///
 /// Contracts see the list of nodes.
 #[derive(Debug, Drop)]
@@ -61,9 +76,9 @@ impl Owners for MemoryOwners {
 
     ghost faults = { λ _. 0 };
 
-    fn ownership(&mut self, path: &[u8], _follow: bool) -> Result<Option<Ownership>, ReadError> {
+    fn ownership(&mut self, path: &[u8], follow: bool) -> Result<Option<Ownership>, ReadError> {
         match self.node_at(path) {
-            Some(node) => Ok(Some(node.ownership)),
+            Some(node) => Ok(Some(node.told(follow))),
             None => Ok(None),
         }
     }
