@@ -1,12 +1,10 @@
 -- What a work tree holds besides the index, by the entries of a report: git-ls-files(1), "OPTIONS".
-use Rattle.std.specs.Prelude.{ℕ, List, [], ◌∷◌, ◌++◌, Bool, true, false, not, ◌&&◌, ◌||◌, find, slice_index, take, Option, Some, None, option_map, option_and_then, if◌then◌else◌}
+use Rattle.std.specs.Prelude.{ℕ, List, [], ◌∷◌, ◌++◌, Bool, true, false, not, ◌&&◌, ◌||◌, find, slice_index, take, Option, Some, None, is_some, option_map, option_and_then, if◌then◌else◌}
 use Rattle.std.specs.List.{flat_map}
 use Rattle.std.specs.Option.{option_or}
-use Rattle.gitbase_core.specs.Kinds.{kinds}
+use Rattle.gitbase_core.specs.Index.{entry_at, prefixed_range}
 use Rattle.gitbase_core.specs.Path.{is_slash}
 use Rattle.gitbase_core.specs.declared.entry.IndexEntry.{IndexEntry}
-use Rattle.gitbase_core.specs.declared.kinds.EntryKind.{EntryKind}
-use Rattle.gitbase_core.specs.declared.kinds.EntryKind.TheVariants as index
 use Rattle.glob_rules.specs.PathSpec.{PathSpec}
 use Rattle.glob_rules.specs.PathSpecs.{list_match}
 use Rattle.glob_rules.specs.declared.pathspec.Match.{Match}
@@ -93,31 +91,32 @@ abbrev pub opens : Bool → Option Match → Bool
 opens ignored None = false
 opens ignored (Some m) = not m.excluded && (not ignored || is_always m.kind)
 
-abbrev pub is_directory_kind : Option EntryKind → Bool
-is_directory_kind None = false
-is_directory_kind (Some index.File) = false
-is_directory_kind (Some index.Symlink) = false
-is_directory_kind (Some index.Repository) = false
-is_directory_kind (Some index.Directory) = true
+-- an entry of the index lies beneath a directory, by its name
+abbrev pub has_beneath : List IndexEntry → List ℕ → Bool
+has_beneath entries name = is_some (prefixed_range name entries)
 
-abbrev pub directory_match : List PathSpec → List ℕ → Option Match
-directory_match specs directory = list_match specs (name (as_directory directory)) (Some true)
+-- the same of a name alone: nothing of the index lies beneath it, and the path specs match it
+abbrev pub is_other : List IndexEntry → List PathSpec → Bool → List ℕ → Bool
+is_other entries specs ignored name = not (has_beneath entries name) && opens ignored (list_match specs name (Some true))
 
 -- "--directory: If a whole directory is classified as "other", show just its name with a trailing slash and not its whole contents": the
 -- index has nothing in it
 abbrev pub folds : List IndexEntry → List PathSpec → Bool → List ℕ → Bool
-folds entries specs ignored directory =
-    not (is_directory_kind (kinds entries directory).kind) && opens ignored (directory_match specs directory)
+folds entries specs ignored directory = is_other entries specs ignored (name (as_directory directory))
 
 -- the directory that ends before a byte of a path is
 abbrev pub folds_at : List IndexEntry → List PathSpec → Bool → List ℕ → ℕ → Bool
 folds_at entries specs ignored path at = is_slash (slice_index path at) && folds entries specs ignored (take at path)
 
-abbrev pub is_ignored : Status → Bool
-is_ignored Untracked = false
-is_ignored (Ignored kind) = true
-is_ignored Tracked = false
-is_ignored Pruned = false
+abbrev pub is_untracked : Status → Bool
+is_untracked Untracked = true
+is_untracked (Ignored kind) = false
+is_untracked Tracked = false
+is_untracked Pruned = false
+
+-- with rules, a directory may be ignored itself unless what lies in it is untracked: a `.git` is pruned in either
+abbrev pub may_be_ignored : Listing → Status → Bool
+may_be_ignored l status = l.excludes_standard && not (is_untracked status)
 
 -- an entry shows that a directory is not empty: any, but with "--no-empty-directory: Do not list empty directories" one alone that is shown
 abbrev pub fills : Listing → List PathSpec → Entry → Bool
@@ -129,21 +128,17 @@ top entries specs ignored path = find (folds entries specs ignored) (above path)
 
 abbrev pub folded : Listing → List IndexEntry → List PathSpec → Entry → Option Place
 folded l entries specs e =
-    if fills l specs e then option_map as_directory (top entries specs (is_ignored e.status) e.rela_path) else None
+    if fills l specs e then option_map as_directory (top entries specs (may_be_ignored l e.status) e.rela_path) else None
 
 -- ---- what is shown
 
 -- an entry of the index stands at the path itself
-abbrev pub is_entry_kind : Option EntryKind → Bool
-is_entry_kind None = false
-is_entry_kind (Some index.File) = true
-is_entry_kind (Some index.Symlink) = true
-is_entry_kind (Some index.Repository) = true
-is_entry_kind (Some index.Directory) = false
+abbrev pub has_entry : List IndexEntry → List ℕ → Bool
+has_entry entries path = is_some (entry_at path entries)
 
 -- no path of the index is any other
 abbrev pub name_unless : List IndexEntry → Place → Option (List ℕ)
-name_unless entries place = if is_entry_kind (kinds entries place.path).kind then None else Some (name place)
+name_unless entries place = if has_entry entries place.path then None else Some (name place)
 
 abbrev pub place_of : Listing → List IndexEntry → List PathSpec → Entry → Option Place
 place_of l entries specs e = option_or (folded l entries specs e) (itself l specs e)

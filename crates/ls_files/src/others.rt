@@ -8,7 +8,7 @@ use crate::listing::Listing;
 use crate::place::Place;
 use dir_classify::entry::holds_names;
 use dir_classify::{Entry, Kind, Status};
-use gitbase_core::{Bytes, EntryKind, OutOfMemory, State};
+use gitbase_core::{Bytes, OutOfMemory, State};
 use glob_rules::pathspec::{Match, MatchKind, Matcher, Search};
 use std::alloc::Global;
 use std::collections::BTreeSet;
@@ -124,27 +124,24 @@ fn opens(ignored: bool, found: Option<Match>) -> bool
     !ignored | is_always(found.kind)
 }
 
-/// Whether the index has something in a directory of this kind.
-fn is_directory_kind(kind: Option<EntryKind>) -> bool
-    ensures { result ≡ words.is_directory_kind kind }
+/// Whether an entry of the index lies beneath a directory, by its name.
+fn has_beneath(index: &State, name: &[u8]) -> bool
+    ensures { result ≡ words.has_beneath index.now name.now }
 {
-    matches!(kind, Some(EntryKind::Directory))
+    index.prefixed_entries_range(name).is_some()
 }
 
-/// How the path specs match a directory.
-fn directory_match(
-    alloc: Global,
-    specs: &Search,
-    directory: &[u8],
-) -> Result<Option<Match>, OutOfMemory>
-    ensures { IfOk result (λ found. found ≡ words.directory_match specs.now directory.now) }
+/// Whether a directory of this name is shown in the place of what it holds.
+fn is_other(index: &State, specs: &Search, ignored: bool, name: &[u8]) -> bool
+    ensures { result ≡ words.is_other index.now specs.now ignored name.now }
 {
-    let name = name(alloc, &Place::new(directory, true))?;
-    let found = specs.pattern_matching_relative_path(name.as_bytes(), Some(true));
-    Ok(found)
+    if has_beneath(index, name) {
+        return false;
+    }
+    opens(ignored, specs.pattern_matching_relative_path(name, Some(true)))
 }
 
-/// Whether a directory is shown in the place of what it holds.
+/// The same of a directory by its path.
 fn folds(
     alloc: Global,
     index: &State,
@@ -155,18 +152,22 @@ fn folds(
     ensures { IfOk result
         (λ shown. shown ≡ words.folds index.now specs.now ignored directory.now) }
 {
-    if is_directory_kind(index.kinds(directory).kind) {
-        return Ok(false);
-    }
-    let found = directory_match(alloc, specs, directory)?;
-    Ok(opens(ignored, found))
+    let name = name(alloc, &Place::new(directory, true))?;
+    Ok(is_other(index, specs, ignored, name.as_bytes()))
 }
 
-/// Whether an entry of this status is ignored.
-fn is_ignored(status: Status) -> bool
-    ensures { result ≡ words.is_ignored status }
+/// Whether an entry of this status is untracked.
+fn is_untracked(status: Status) -> bool
+    ensures { result ≡ words.is_untracked status }
 {
-    matches!(status, Status::Ignored(_))
+    matches!(status, Status::Untracked)
+}
+
+/// Whether a directory that holds an entry of this status may be ignored itself.
+fn may_be_ignored(listing: &Listing, status: Status) -> bool
+    ensures { result ≡ words.may_be_ignored listing.now status }
+{
+    listing.excludes_standard && !is_untracked(status)
 }
 
 /// Whether an entry shows that the directories above it are not empty.
@@ -241,7 +242,7 @@ fn folded<'a>(
     if !fills(alloc, listing, specs, entry)? {
         return Ok(None);
     }
-    let ignored = is_ignored(entry.status);
+    let ignored = may_be_ignored(listing, entry.status);
     match top(alloc, index, specs, ignored, entry.rela_path.as_bytes())? {
         Some(path) => Ok(Some(Place::new(path, true))),
         None => Ok(None),
@@ -265,17 +266,11 @@ fn place_for<'a>(
     }
 }
 
-/// Whether an entry of the index stands at a path where it has this kind.
-fn is_entry_kind(kind: Option<EntryKind>) -> bool
-    ensures { result ≡ words.is_entry_kind kind }
+/// Whether an entry of the index stands at a path.
+fn has_entry(index: &State, path: &[u8]) -> bool
+    ensures { result ≡ words.has_entry index.now path.now }
 {
-    match kind {
-        None => false,
-        Some(EntryKind::File) => true,
-        Some(EntryKind::Symlink) => true,
-        Some(EntryKind::Repository) => true,
-        Some(EntryKind::Directory) => false,
-    }
+    index.entry_by_path(path).is_some()
 }
 
 /// The name of what is shown, unless the index has the path.
@@ -286,7 +281,7 @@ fn name_unless(
 ) -> Result<Option<Bytes>, OutOfMemory>
     ensures { IfOk result (λ name. name ≡ words.name_unless index.now place.now) }
 {
-    if is_entry_kind(index.kinds(place.path()).kind) {
+    if has_entry(index, place.path()) {
         return Ok(None);
     }
     Ok(Some(name(alloc, place)?))

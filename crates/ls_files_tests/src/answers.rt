@@ -13,6 +13,8 @@ git_dir /w/r/.git$^d /w/h;d /w/r/.git/objects;d /w/r/.git/refs;f /w/r/.git/HEAD=
 git_dir /w/r/.git$index 100644 1 - 78981922613b2afb6025042ff6bd878ac1994e85 a$index 100644 2 - f2ad6c76f0115a6ba5b00456a849810e7ec0af20 a$index 100644 3 - 61780798228d17af2d34fce4cfbdf35556832472 a$index 100644 0 - b68025345d5301abad4d9ec9166f455243a0d746 b$index 100755 0 - 975fbec8256d3e8a3797e7a3611380f27c49f4ac e$index 120000 0 - 2e65efe2a145dda7ee51d1741299f848e5bf752e l$^d /w/h;f /w/r/a=<<<<<<< HEAD$c$=======$b$>>>>>>> o$;f /w/r/b=z$;f /w/r/e=y$;l /w/r/l=a;d /w/r/.git/objects;d /w/r/.git/refs;f /w/r/.git/HEAD=ref: refs/heads/main$;f /w/r/.git/config=[core]$\trepositoryformatversion = 0$\tfilemode = true$\tbare = false$\tlogallrefupdates = true$;x /w/r/.git/index=444952430000000200000006000000000000000000000000000000000000000000000000000081a400000000000000000000000078981922613b2afb6025042ff6bd878ac1994e8510016100000000000000000000000000000000000000000000000000000081a4000000000000000000000000f2ad6c76f0115a6ba5b00456a849810e7ec0af2020016100000000000000000000000000000000000000000000000000000081a400000000000000000000000061780798228d17af2d34fce4cfbdf3555683247230016100000000000000000000000000000000000000000000000000000081a4000000000000000000000000b68025345d5301abad4d9ec9166f455243a0d74600016200000000000000000000000000000000000000000000000000000081ed000000000000000000000000975fbec8256d3e8a3797e7a3611380f27c49f4ac000165000000000000000000000000000000000000000000000000000000a0000000000000000000000000002e65efe2a145dda7ee51d1741299f848e5bf752e00016c005452454500000006002d3120300a6413a4944f3021eca2a0df20e0a51dbb233ac76b;d /w/r/.git/info\n\
 git_dir /w/r/.git$index 100644 0 a 78981922613b2afb6025042ff6bd878ac1994e85 a$index 100644 0 s 61780798228d17af2d34fce4cfbdf35556832472 b$index 100644 0 - f2ad6c76f0115a6ba5b00456a849810e7ec0af20 c$index 100644 0 as 4bcfe98e640c8284511312660fb8709b0afa888e d$^d /w/h;f /w/r/a=a$;f /w/r/c=c$;f /w/r/d=d$;d /w/r/.git/objects;d /w/r/.git/refs;f /w/r/.git/HEAD=ref: refs/heads/main$;f /w/r/.git/config=[core]$\trepositoryformatversion = 0$\tfilemode = true$\tbare = false$\tlogallrefupdates = true$;x /w/r/.git/index=444952430000000300000004000000000000000000000000000000000000000000000000000081a400000000000000000000000078981922613b2afb6025042ff6bd878ac1994e8580016100000000000000000000000000000000000000000000000000000081a400000000000000000000000061780798228d17af2d34fce4cfbdf35556832472400140006200000000000000000000000000000000000000000000000000000000000000000081a4000000000000000000000000f2ad6c76f0115a6ba5b00456a849810e7ec0af2000016300000000000000000000000000000000000000000000000000000081a40000000000000000000000004bcfe98e640c8284511312660fb8709b0afa888ec0014000640000000000000011f6520b9474b5c092012ebea5b1a1e58a0a5e9c;d /w/r/.git/info\n\
 git_dir /w/r/.git$index 100644 0 - 6aa9f6d7f691151ab6f34e58382dfcdf51ea45cf .gitmodules$index 160000 0 - c46f9e7f62aef384fb09ffd76aea54910337c9e9 s$^d /w/h;d /w/m/.git/objects;d /w/m/.git/refs;f /w/m/.git/HEAD=ref: refs/heads/master$;f /w/m/.git/config=[core]$\trepositoryformatversion = 0$\tfilemode = true$\tbare = false$\tlogallrefupdates = true$;x /w/m/.git/index=4449524300000002000000005452454500000019003020300a4b825dc642cb6eb9a060e54bf8d69288fbee490472d53f787d86a932a25a8537cee236d81846a8f1;f /w/m/.git/info/exclude=# git ls-files --others --exclude-from=.git/info/exclude$# Lines that start with '#' are comments.$# For a project mostly in C, the following would be a good set of$# exclude patterns (uncomment them if you want to use them):$# *.[oa]$# *~$;f /w/r/.gitmodules=[submodule \"s\"]$\tpath = s$\turl = ../m$;f /w/r/s-=x$;f /w/r/s.z=x$;f /w/r/x.y=x$;d /w/r/.git/objects;d /w/r/.git/refs;f /w/r/.git/HEAD=ref: refs/heads/main$;f /w/r/.git/config=[core]$\trepositoryformatversion = 0$\tfilemode = true$\tbare = false$\tlogallrefupdates = true$[submodule \"s\"]$\turl = /w/m$\tactive = true$;x /w/r/.git/index=444952430000000200000002000000000000000000000000000000000000000000000000000081a40000000000000000000000006aa9f6d7f691151ab6f34e58382dfcdf51ea45cf000b2e6769746d6f64756c6573000000000000000000000000000000000000000000000000000000000000000000e000000000000000000000000000c46f9e7f62aef384fb09ffd76aea54910337c9e900017300a9e5f4f75195e326bc408f23f966f2249f2a6830;d /w/r/.git/info;d /w/r/.git/modules/s/objects;d /w/r/.git/modules/s/refs;f /w/r/.git/modules/s/HEAD=ref: refs/heads/master$;f /w/r/.git/modules/s/config=[core]$\trepositoryformatversion = 0$\tfilemode = true$\tbare = false$\tlogallrefupdates = true$\tworktree = ../../../s$[remote \"origin\"]$\turl = /w/m$\tfetch = +refs/heads/*:refs/remotes/origin/*$[branch \"master\"]$\tremote = origin$\tmerge = refs/heads/master$;x /w/r/.git/modules/s/index=4449524300000002000000005452454500000019003020300a4b825dc642cb6eb9a060e54bf8d69288fbee490472d53f787d86a932a25a8537cee236d81846a8f1;f /w/r/.git/modules/s/info/exclude=# git ls-files --others --exclude-from=.git/info/exclude$# Lines that start with '#' are comments.$# For a project mostly in C, the following would be a good set of$# exclude patterns (uncomment them if you want to use them):$# *.[oa]$# *~$;f /w/r/s/.git=gitdir: ../.git/modules/s$;f /w/r/x/y=x$\n\
+git_dir /w/r/.git$index 100644 0 - fd8ceeec65dbf084a46132f8b7ae5f781393960b .gitignore$^d /w/h;f /w/r/.gitignore=vendor/$build/$;d /w/r/.git/objects;d /w/r/.git/refs;f /w/r/.git/HEAD=ref: refs/heads/main$;f /w/r/.git/config=[core]$\trepositoryformatversion = 0$\tfilemode = true$\tbare = false$\tlogallrefupdates = true$;x /w/r/.git/index=444952430000000200000001000000000000000000000000000000000000000000000000000081a4000000000000000000000000fd8ceeec65dbf084a46132f8b7ae5f781393960b000a2e67697469676e6f72650000000000000000b0919b4a42134b84e4eba66f5fdbad9493217bef;d /w/r/.git/info;f /w/r/build/sub/.git=gitdir: nowhere$;d /w/r/t/brk/.git;f /w/r/t/x/y/f=x$;f /w/r/vendor/in/f=x$;d /w/r/vendor/lib/.git/objects;d /w/r/vendor/lib/.git/refs;f /w/r/vendor/lib/.git/HEAD=ref: refs/heads/master$;f /w/r/vendor/lib/.git/config=[core]$\trepositoryformatversion = 0$\tfilemode = true$\tbare = false$\tlogallrefupdates = true$;f /w/r/vendor/lib/.git/info/exclude=# git ls-files --others --exclude-from=.git/info/exclude$# Lines that start with '#' are comments.$# For a project mostly in C, the following would be a good set of$# exclude patterns (uncomment them if you want to use them):$# *.[oa]$# *~$\n\
+git_dir /w/r/.git$index 100644 2 - e69de29bb2d1d6434b8b29ae775ad8c2e48c5391 d$index 100644 0 - 587be6b4c3f93f93c489c0111bba5596147a26cb d/x$^d /w/h;d /w/r/.git/objects;d /w/r/.git/refs;f /w/r/.git/HEAD=ref: refs/heads/main$;f /w/r/.git/config=[core]$\trepositoryformatversion = 0$\tfilemode = true$\tbare = false$\tlogallrefupdates = true$;x /w/r/.git/index=444952430000000200000002000000000000000000000000000000000000000000000000000081a4000000000000000000000000e69de29bb2d1d6434b8b29ae775ad8c2e48c539120016400000000000000000000000000000000000000000000000000000081a4000000000000000000000000587be6b4c3f93f93c489c0111bba5596147a26cb0003642f7800000000000000dd2eabceab515fbd6f8e839c1c4eaead3a97593a;d /w/r/.git/info;f /w/r/d/new=x$;f /w/r/d/x=x$\n\
 git_dir /w/r/.git$global *.u$global k/$index 100644 0 - 89db367c5fbf568fa02d19447557fb8e1b0ae5e5 a/.gitignore$^f /w/h/.config/git/ignore=*.u$;f /w/r/.gitignore=*.x$!keep.x$;f /w/r/1.x=x$;f /w/r/keep.x=x$;d /w/r/.git/objects;d /w/r/.git/refs;f /w/r/.git/HEAD=ref: refs/heads/main$;f /w/r/.git/config=[core]$\trepositoryformatversion = 0$\tfilemode = true$\tbare = false$\tlogallrefupdates = true$;x /w/r/.git/index=444952430000000200000001000000000000000000000000000000000000000000000000000081a400000000000000000000000089db367c5fbf568fa02d19447557fb8e1b0ae5e5000c612f2e67697469676e6f726500000000000040302103f35c4d3d214f99a8b62d327207e03cdb;f /w/r/.git/info/exclude=k/$;f /w/r/a/.gitignore=!*.x$;f /w/r/a/2.x=x$;f /w/r/a/b/.gitignore=/c$;f /w/r/a/b/3.x=x$;f /w/r/a/b/c/4.u=x$;f /w/r/k/5.u=x$;f /w/r/k/l/6=x$;f /w/r/k/l/keep.x=x$\n\
 ";
 
@@ -192,17 +194,32 @@ pub const ROWS: &[u8] = b"\
 5^^-o^s*&::s*^s-$s.z$^\n\
 5^^^x/&::x/^^\n\
 5^x^-s^../s&::x/../s^160000 c46f9e7f62aef384fb09ffd76aea54910337c9e9 0\t../s$^\n\
-6^^-o^^.gitignore$1.x$a/2.x$a/b/.gitignore$a/b/3.x$a/b/c/4.u$k/5.u$k/l/6$k/l/keep.x$keep.x$^\n\
-6^^-o|--directory^^.gitignore$1.x$a/2.x$a/b/$k/$keep.x$^\n\
-6^^-o|--directory|--no-empty-directory^^.gitignore$1.x$a/2.x$a/b/$k/$keep.x$^\n\
-6^^-o|--exclude-standard^^.gitignore$a/2.x$a/b/.gitignore$a/b/3.x$keep.x$^\n\
-6^^-o|--directory|--exclude-standard^^.gitignore$a/2.x$a/b/$keep.x$^\n\
-6^^-o|--directory|--no-empty-directory|--exclude-standard^^.gitignore$a/2.x$a/b/$keep.x$^\n\
-6^^-t|-o^^? .gitignore$? 1.x$? a/2.x$? a/b/.gitignore$? a/b/3.x$? a/b/c/4.u$? k/5.u$? k/l/6$? k/l/keep.x$? keep.x$^\n\
-6^^-o|-i|--exclude-standard^^1.x$a/b/c/4.u$k/5.u$k/l/6$k/l/keep.x$^\n\
-6^^-o|--exclude-standard^a&::a^a/2.x$a/b/.gitignore$a/b/3.x$^\n\
-6^^-o|--exclude-standard^k&::k^^\n\
-6^^-o|-i|--exclude-standard^k/l&::k/l^k/l/6$k/l/keep.x$^\n\
-6^a/b^-o|--exclude-standard^a/b/&:(literal)a/b^.gitignore$3.x$^\n\
-6^k^-o|--exclude-standard^k/&:(literal)k^^\n\
+6^^-o|--directory|--exclude-standard^^t/$^\n\
+6^^-o|--directory|--exclude-standard^vendor&::vendor^^\n\
+6^^-o|--directory|--exclude-standard^*&::*^t/$^\n\
+6^^-o|--directory|--exclude-standard^build&::build^^\n\
+6^^-o|--directory|--exclude-standard^t&::t^t/$^\n\
+6^^-o|--directory|--exclude-standard^t/x&::t/x^t/x/$^\n\
+6^^-o|--directory^vendor&::vendor^vendor/$^\n\
+6^vendor^-o|--directory|--exclude-standard^vendor/&:(literal)vendor^^\n\
+6^t^-o|--directory^t/&:(literal)t^./$^\n\
+7^^^^d$d/x$^\n\
+7^^-s^^100644 e69de29bb2d1d6434b8b29ae775ad8c2e48c5391 2\td$100644 587be6b4c3f93f93c489c0111bba5596147a26cb 0\td/x$^\n\
+7^^-o^^d/new$^\n\
+7^^-o|--directory^^d/new$^\n\
+7^^-o|--directory^d&::d^d/new$^\n\
+7^^-u^^100644 e69de29bb2d1d6434b8b29ae775ad8c2e48c5391 2\td$^\n\
+8^^-o^^.gitignore$1.x$a/2.x$a/b/.gitignore$a/b/3.x$a/b/c/4.u$k/5.u$k/l/6$k/l/keep.x$keep.x$^\n\
+8^^-o|--directory^^.gitignore$1.x$a/2.x$a/b/$k/$keep.x$^\n\
+8^^-o|--directory|--no-empty-directory^^.gitignore$1.x$a/2.x$a/b/$k/$keep.x$^\n\
+8^^-o|--exclude-standard^^.gitignore$a/2.x$a/b/.gitignore$a/b/3.x$keep.x$^\n\
+8^^-o|--directory|--exclude-standard^^.gitignore$a/2.x$a/b/$keep.x$^\n\
+8^^-o|--directory|--no-empty-directory|--exclude-standard^^.gitignore$a/2.x$a/b/$keep.x$^\n\
+8^^-t|-o^^? .gitignore$? 1.x$? a/2.x$? a/b/.gitignore$? a/b/3.x$? a/b/c/4.u$? k/5.u$? k/l/6$? k/l/keep.x$? keep.x$^\n\
+8^^-o|-i|--exclude-standard^^1.x$a/b/c/4.u$k/5.u$k/l/6$k/l/keep.x$^\n\
+8^^-o|--exclude-standard^a&::a^a/2.x$a/b/.gitignore$a/b/3.x$^\n\
+8^^-o|--exclude-standard^k&::k^^\n\
+8^^-o|-i|--exclude-standard^k/l&::k/l^k/l/6$k/l/keep.x$^\n\
+8^a/b^-o|--exclude-standard^a/b/&:(literal)a/b^.gitignore$3.x$^\n\
+8^k^-o|--exclude-standard^k/&:(literal)k^^\n\
 ";
