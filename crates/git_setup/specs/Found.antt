@@ -20,6 +20,7 @@ use Rattle.worktree_report.specs.declared.setup.SetupOptions.{SetupOptions}
 use Rattle.git_setup.specs.AskedSpecs.{specs_in}
 use Rattle.git_setup.specs.GlobalRules.{globals_of}
 use Rattle.git_setup.specs.IndexAt.{entries_here, index_path}
+use Rattle.git_setup.specs.OwnDirectories.{own_for}
 use Rattle.git_setup.specs.Present.{index_seen}
 use Rattle.git_setup.specs.Protected.{protected_in}
 use Rattle.git_setup.specs.Refusals.{as_files, as_places}
@@ -101,7 +102,7 @@ unfoldable pub parts_by : Names → Layout → Surroundings → Asked → Read �
 parts_by t places around asked read = do
   rules ← as_files (rules_in t places around read.stack.file.sections)
   specs ← specs_in read.switches.ignore_case places.root around.directory asked.paths.items
-  worktrees ← protected_in (is_for_deletion asked.options) read.switches.ignore_case read.index
+  worktrees ← protected_in (is_for_deletion asked.options) read.switches.ignore_case (own_for (is_for_deletion asked.options) t places) read.index
   Ok (parts_of read (globals_of rules) specs worktrees (configs_for t asked.options read.stack.files))
 
 -- ---- all of it

@@ -7,6 +7,7 @@ pub mod Present
 pub mod GlobalRules
 pub mod Placed
 pub mod AskedSpecs
+pub mod OwnDirectories
 pub mod Protected
 pub mod Found
 pub mod SameText

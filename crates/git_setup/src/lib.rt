@@ -7,6 +7,7 @@ mod error;
 mod found;
 mod globals;
 mod index;
+mod own_directories;
 mod parts;
 mod pathspecs;
 mod placed;

@@ -7,6 +7,7 @@ ghost use Rattle.git_setup.specs.Found as words;
 use crate::asked::Asked;
 use crate::error::GitRefusal;
 use crate::globals::globals_of;
+use crate::own_directories::own_for;
 use crate::pathspecs::specs_in;
 use crate::protected::{Protected, protected_in};
 use crate::reading::Read;
@@ -30,7 +31,7 @@ pub struct Parts {
     pub globals: Bytes,
     /// The path specs that are asked for.
     pub specs: Search,
-    /// The submodules that a deletion leaves alone.
+    /// What a deletion leaves alone: submodules, and git directories of the work tree.
     pub worktrees: Protected,
     /// The configurations that are read for submodules.
     pub configs: Configs,
@@ -127,7 +128,8 @@ pub fn parts_here<W: Worktree>(
         &asked.paths,
     )?;
     let deletes = is_for_deletion(&asked.options);
-    let worktrees = protected_in(alloc, deletes, ignore_case, read.index.entries())?;
+    let own = own_for(alloc, worktree, deletes, places)?;
+    let worktrees = protected_in(alloc, deletes, ignore_case, &own, read.index.entries())?;
     let globals = globals_of(alloc, &rules)?;
     let configs = configs_for(alloc, worktree, &asked.options, read.stack.files.as_slice())?;
     Ok(Parts {

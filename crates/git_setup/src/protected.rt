@@ -1,9 +1,10 @@
-//! The submodules that a deletion leaves alone.
-ghost use Rattle.std.specs.Prelude.{◌≡◌, [], IfOk, find, option_copied};
+//! What a deletion leaves alone as a work tree of its own: submodules, and git directories of this one.
+ghost use Rattle.std.specs.Prelude.{◌≡◌, [], IfOk, OnOk, find, option_copied};
 ghost use Rattle.git_setup.specs.Finds.{Decides};
 ghost use Rattle.git_setup.specs.Protected as words;
 
 use crate::error::GitRefusal;
+use crate::own_directories::OwnDirectories;
 use gitbase_core::{IndexEntry, OutOfMemory, PathText};
 use std::alloc::Global;
 use std::collections::BTreeSet;
@@ -47,11 +48,31 @@ fn is_submodule(entry: &IndexEntry) -> bool
     entry.mode.is_submodule()
 }
 
-/// The paths of the submodules of an index.
-fn submodules_of(alloc: Global, entries: &[IndexEntry]) -> Result<Protected, OutOfMemory>
-    ensures { IfOk result (λ paths. paths ≡ words.submodules_of entries.now) }
+/// Adds a path, if there is one.
+fn add_path(
+    alloc: Global,
+    paths: &mut BTreeSet<PathText>,
+    path: &Option<PathText>,
+) -> Result<(), OutOfMemory>
+    ensures { OnOk result (paths.new.keys ≡ words.with_path paths.old.keys path.now) }
+{
+    if let Some(path) = path {
+        paths.insert(PathText::from_bytes(alloc, path.as_bytes())?)?;
+    }
+    Ok(())
+}
+
+/// The paths of git directories, and of the submodules of an index.
+fn protected_paths(
+    alloc: Global,
+    own: &OwnDirectories,
+    entries: &[IndexEntry],
+) -> Result<Protected, OutOfMemory>
+    ensures { IfOk result (λ paths. paths ≡ words.protected_paths own.now entries.now) }
 {
     let mut paths = BTreeSet::new(alloc);
+    add_path(alloc, &mut paths, &own.git)?;
+    add_path(alloc, &mut paths, &own.common)?;
     for entry in entries {
         if is_submodule(entry) {
             paths.insert(PathText::from_bytes(alloc, entry.path.as_bytes())?)?;
@@ -67,16 +88,18 @@ fn first_submodule(entries: &[IndexEntry]) -> Option<&IndexEntry>
     entries.iter().find(|entry| is_submodule(entry))
 }
 
-/// The submodules of an index that a deletion leaves alone.
+/// What a deletion leaves alone: these git directories, and the submodules of an index.
 ///
 /// See docs/DIFFERENCES.md#submodule-in-other-letters.
 pub fn protected_in(
     alloc: Global,
     deletes: bool,
     ignore_case: bool,
+    own: &OwnDirectories,
     entries: &[IndexEntry],
 ) -> Result<Protected, GitRefusal>
-    ensures { Decides result (words.protected_in deletes ignore_case entries.now) }
+    ensures { Decides result
+        (words.protected_in deletes ignore_case own.now entries.now) }
 {
     if !deletes {
         return Ok(Protected::new(alloc));
@@ -85,6 +108,6 @@ pub fn protected_in(
         Some(entry) if ignore_case => Err(GitRefusal::SubmoduleCase {
             path: PathText::from_bytes(alloc, entry.path.as_bytes())?,
         }),
-        _ => Ok(submodules_of(alloc, entries)?),
+        _ => Ok(protected_paths(alloc, own, entries)?),
     }
 }

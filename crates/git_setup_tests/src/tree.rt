@@ -117,7 +117,7 @@ pub fn asked_alone(alloc: Global, options: SetupOptions) -> Asked {
 
 /// The nodes that are the user's.
 const OWNED: &[u8] =
-    b"/proc/self /w/r /w/r/.git /w/t /w/t/.git /w/r/.git/worktrees/t /w/r/s /w/r/s/.git /w/r/s/../.git/modules/s";
+    b"/proc/self /w/r /w/r/.git /w/t /w/t/.git /w/r/.git/worktrees/t /w/r/s /w/r/s/.git /w/r/s/../.git/modules/s /w/r/g";
 
 /// Owners by whom each of these nodes is the user's.
 pub fn owners_of(alloc: Global) -> Result<MemoryOwners, OutOfMemory> {
