@@ -55,17 +55,26 @@ is_readable versions.Zero None e = not (is_for_later e.key)
 is_readable versions.One (Some subsection) e = false
 is_readable versions.One None e = is_known_later e
 
-abbrev pub is_sha256 : Version → Entry → Bool
-is_sha256 versions.Zero e = false
-is_sha256 versions.One e = is_object_format e.key && bytes_eq (text_of e.value) (codes "sha256")
+-- a key as it stands behind `extensions.`, with its subsection
+abbrev pub behind_section : Option (List ℕ) → List ℕ → List ℕ
+behind_section None key = key
+behind_section (Some subsection) key = subsection ++ codes "." ++ key
+
+-- whether a key says that the ids of the repository are of SHA-256
+abbrev pub is_sha256 : Version → Option (List ℕ) → Entry → Bool
+is_sha256 versions.Zero subsection e = false
+is_sha256 versions.One (Some subsection) e = false
+is_sha256 versions.One None e = is_object_format e.key && bytes_eq (text_of e.value) (codes "sha256")
 
 -- the refusal of a key: that the ids of the repository are of SHA-256 has a word of its own
-abbrev pub refusal_of : Version → Entry → PlacesError
-refusal_of version e = if is_sha256 version e then errors.Sha256 else errors.Extension e.key
+abbrev pub refusal_of : Version → Option (List ℕ) → Entry → PlacesError
+refusal_of version subsection e =
+    if is_sha256 version subsection e then errors.Sha256 else errors.Extension (behind_section subsection e.key)
 
 -- the refusal of a section: that of its first key that does not leave the repository readable
 abbrev pub refusal_in : Version → Section → Option PlacesError
-refusal_in version section = option_map (refusal_of version) (find (λ e. not (is_readable version section.subsection e)) section.entries)
+refusal_in version section =
+    option_map (refusal_of version section.subsection) (find (λ e. not (is_readable version section.subsection e)) section.entries)
 
 abbrev pub first_or : Option PlacesError → Result Bool PlacesError → Result Bool PlacesError
 first_or None rest = rest

@@ -27,7 +27,7 @@ pub enum PlacesError {
     /// `core.repositoryFormatVersion` has this value, which is neither 0 nor 1.
     #[error("Version")]
     Version { value: Bytes },
-    /// The repository's format asks for this key of `[extensions]`, which is not known.
+    /// The repository's format asks for this key behind `extensions.`, with its subsection, which is not known.
     #[error("Extension")]
     Extension { key: Bytes },
     /// The ids of the repository are of SHA-256.

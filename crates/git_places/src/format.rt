@@ -116,26 +116,50 @@ fn is_readable(version: Version, subsection: Option<&[u8]>, entry: &Entry) -> bo
     }
 }
 
-fn is_sha256(version: Version, entry: &Entry) -> bool
-    ensures { result ≡ words.is_sha256 version entry.now }
+fn is_sha256(version: Version, subsection: Option<&[u8]>, entry: &Entry) -> bool
+    ensures { result ≡ words.is_sha256 version (option_copied subsection.entry) entry.now }
 {
-    match version {
-        Version::Zero => false,
-        Version::One => {
+    match (version, subsection) {
+        (Version::One, None) => {
             is_object_format(entry.key.as_bytes()) && value_of(entry) == b"sha256".as_slice()
         }
+        _ => false,
     }
 }
 
-/// The refusal of a key.
-fn refusal_of(alloc: Global, version: Version, entry: &Entry) -> Result<PlacesError, OutOfMemory>
-    ensures { IfOk result (λ e. e ≡ words.refusal_of version entry.now) }
+/// A key as it stands behind `extensions.`, with its subsection.
+fn behind_section(
+    alloc: Global,
+    subsection: Option<&[u8]>,
+    key: &[u8],
+) -> Result<Bytes, OutOfMemory>
+    ensures { IfOk result
+        (λ whole. whole ≡ words.behind_section (option_copied subsection.entry) key.now) }
 {
-    if is_sha256(version, entry) {
+    let Some(subsection) = subsection else {
+        return Bytes::from_slice(alloc, key);
+    };
+    let mut whole = Bytes::from_slice(alloc, subsection)?;
+    whole.extend(alloc, b".")?;
+    whole.extend(alloc, key)?;
+    Ok(whole)
+}
+
+/// The refusal of a key.
+fn refusal_of(
+    alloc: Global,
+    version: Version,
+    subsection: Option<&[u8]>,
+    entry: &Entry,
+) -> Result<PlacesError, OutOfMemory>
+    ensures { IfOk result
+        (λ e. e ≡ words.refusal_of version (option_copied subsection.entry) entry.now) }
+{
+    if is_sha256(version, subsection, entry) {
         return Ok(PlacesError::Sha256);
     }
     Ok(PlacesError::Extension {
-        key: Bytes::from_slice(alloc, entry.key.as_bytes())?,
+        key: behind_section(alloc, subsection, entry.key.as_bytes())?,
     })
 }
 
@@ -157,7 +181,8 @@ pub fn readable_in(alloc: Global, version: Version, config: &File) -> Result<boo
 {
     for section in config.sections_by_name(b"extensions") {
         if let Some(entry) = unreadable(version, section) {
-            return Err(refusal_of(alloc, version, entry)?);
+            let subsection = section.subsection_name();
+            return Err(refusal_of(alloc, version, subsection, entry)?);
         }
     }
     Ok(true)

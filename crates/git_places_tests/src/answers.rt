@@ -186,6 +186,8 @@ extension x^/w/r/a^-^g /w/r/.git;d /w/r/a/b;f /w/r/.git/config=[extensions]~x~[c
 found - /w/r /w/r/.git /w/r/.git^/w/r/a^-^g /w/r/.git;d /w/r/a/b;f /w/r/.git/config=[core]~repositoryformatversion=0~[extensions]~x=1~\n\
 found - /w/r /w/r/.git /w/r/.git^/w/r/a^-^g /w/r/.git;d /w/r/a/b;f /w/r/.git/config=[core]~repositoryformatversion=0~[extensions]~noop~preciousobjects=true~partialclone=o~\n\
 found - /w/r /w/r/.git /w/r/.git^/w/r/a^-^g /w/r/.git;d /w/r/a/b;f /w/r/.git/config=[core]~repositoryformatversion=0~[extensions \"s\"]~x=1~\n\
+extension s.T.noop^/w/r/a^-^g /w/r/.git;d /w/r/a/b;f /w/r/.git/config=[core]~repositoryformatversion=1~[extensions \"s.T\"]~noop=1~\n\
+extension s.T.objectformat^/w/r/a^-^g /w/r/.git;d /w/r/a/b;f /w/r/.git/config=[core]~repositoryformatversion=1~[extensions \"s.T\"]~objectformat=sha256~\n\
 extension noop-v1^/w/r/a^-^g /w/r/.git;d /w/r/a/b;f /w/r/.git/config=[core]~repositoryformatversion=0~[extensions]~noop-v1~\n\
 extension objectformat^/w/r/a^-^g /w/r/.git;d /w/r/a/b;f /w/r/.git/config=[core]~repositoryformatversion=0~[extensions]~objectformat=sha1~\n\
 extension objectformat^/w/r/a^-^g /w/r/.git;d /w/r/a/b;f /w/r/.git/config=[core]~repositoryformatversion=0~[extensions]~objectformat=sha256~\n\
