@@ -18,17 +18,31 @@ fn number(digits: &[u8]) -> u32 {
     value
 }
 
-/// A node, by `PATH=OWNER,DEVICE`.
-fn node_of(alloc: Global, word: &[u8]) -> Option<OwnedNode> {
-    let (path, numbers) = parted(word, b'=');
+/// Whose a node is, by `OWNER,DEVICE`.
+fn ownership_of(numbers: &[u8]) -> Ownership {
     let (owner, device) = parted(numbers, b',');
+    Ownership {
+        owner: number(owner),
+        device: u64::from(number(device)),
+    }
+}
+
+/// The same of a link itself, where there is one.
+fn link_of(numbers: &[u8]) -> Option<Ownership> {
+    if numbers.is_empty() {
+        return None;
+    }
+    Some(ownership_of(numbers))
+}
+
+/// A node, by `PATH=OWNER,DEVICE`, and behind a `@` the same of the link that leads there.
+fn node_of(alloc: Global, word: &[u8]) -> Option<OwnedNode> {
+    let (path, told) = parted(word, b'=');
+    let (followed, link) = parted(told, b'@');
     Some(OwnedNode {
         path: Bytes::from_slice(alloc, path).ok()?,
-        ownership: Ownership {
-            owner: number(owner),
-            device: u64::from(number(device)),
-        },
-        link: None,
+        ownership: ownership_of(followed),
+        link: link_of(link),
     })
 }
 
