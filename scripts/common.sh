@@ -104,9 +104,9 @@ without_user() {
 }
 
 # What the program `tizhagor` at $program says in the directory at $1, with the words behind it. It refuses variables that give git
-# a configuration, as they are set above, and a configuration that is no file, as `/dev/null`.
+# a configuration, as they are set above.
 tizhagor_in() {
     local from=$1
     shift
-    (cd -- "$from" && env -u GIT_CONFIG_COUNT -u GIT_CONFIG_GLOBAL "$program" "$@") || fail "tizhagor $* ended with $? in $from"
+    (cd -- "$from" && env -u GIT_CONFIG_COUNT "$program" "$@") || fail "tizhagor $* ended with $? in $from"
 }

@@ -3,7 +3,7 @@ use Rattle.std.proofs.Common.{◌≡◌, ℕ, List, [], zero, suc, Option, Some,
 use Rattle.git_config_lite.specs.declared.metadata.Source.{Source}
 use Rattle.git_config_lite.specs.Sections.{Section}
 use Rattle.worktree_fs.specs.declared.worktree.Worktree.{Ghosts as WorktreeOf}
-use Rattle.worktree_fs.specs.Tree.{Names, look}
+use Rattle.worktree_fs.specs.Tree.{Names}
 use Rattle.git_config_files.specs.Conditions.{Known}
 use Rattle.git_places.specs.Answers.{GivesBy}
 use Rattle.git_config_files.specs.Finds.{Finds}
@@ -41,13 +41,13 @@ found_as {A = A} w before now found other result same finds =
     }
 
 deeper : (t : Names) (known : Known) (source : Source) (below : ℕ) (path : List ℕ)
-    → and_then (in_order t known (expanded t known source below) source path) (text_at path (look t path true)) ≡ expanded t known source (suc below) path
+    → and_then (in_order t known (expanded t known source below) source path) (text_at t path) ≡ expanded t known source (suc below) path
 unfolding expanded
-deeper t known source below path = same_file t known (expanded t known source below) source path (text_at path (look t path true))
+deeper t known source below path = same_file t known (expanded t known source below) source path (text_at t path)
 
 pub stepped : {W : Type 0} (w : WorktreeOf W) (before now : W) (known : Known) (source : Source) (levels below : ℕ) (path : List ℕ) (result : Result (List Section) FilesError)
     → levels ≡ suc below
-    → Finds w before now (λ t. and_then (in_order t known (expanded t known source below) source path) (text_at path (look t path true))) result
+    → Finds w before now (λ t. and_then (in_order t known (expanded t known source below) source path) (text_at t path)) result
     → Finds w before now (λ t. expanded t known source levels path) result
 stepped w before now known source levels below path result e finds =
     subst (λ (n : ℕ). Finds w before now (λ t. expanded t known source n path) result) (sym e)
@@ -55,7 +55,7 @@ stepped w before now known source levels below path result e finds =
 
 -- a file that is refused is refused at every depth
 pub refused : (t : Names) (known : Known) (source : Source) (levels : ℕ) (path : List ℕ) (e : FilesError)
-    → text_at path (look t path true) ≡ Err e → expanded t known source levels path ≡ Err e
+    → text_at t path ≡ Err e → expanded t known source levels path ≡ Err e
 unfolding expanded
 refused t known source zero path e is = ap (and_then (too_deep path)) is
 refused t known source (suc levels) path e is = ap (and_then (in_place t known (expanded t known source levels) source path)) is

@@ -1,10 +1,11 @@
 -- A configuration with what it includes in place: git-config(1), "Includes".
-use Rattle.std.specs.Prelude.{ℕ, zero, suc, true, List, [], ◌∷◌, ◌++◌, map, Option, Some, None, Result, Ok, Err}
+use Rattle.std.specs.Prelude.{ℕ, zero, suc, Bool, true, false, codes, bytes_eq, if◌then◌else◌, List, [], ◌∷◌, ◌++◌, map, Option, Some, None, Result, Ok, Err}
 use Rattle.git_config_lite.specs.declared.entry.Entry.{Entry}
 use Rattle.git_config_lite.specs.declared.metadata.Metadata.{Metadata}
 use Rattle.git_config_lite.specs.declared.metadata.Source.{Source}
 use Rattle.git_config_lite.specs.Grammar.{said}
 use Rattle.git_config_lite.specs.Sections.{Section}
+use Rattle.worktree_fs.specs.Changes.{real_path}
 use Rattle.worktree_fs.specs.Tree.{Names, Look, found, absent, too_many_links, file, link, directory, other, look}
 use Rattle.git_config_files.specs.Conditions.{Known}
 use Rattle.gitbase_core.specs.Steps.{and_then}
@@ -55,14 +56,27 @@ placed t known follow from [] = Ok []
 placed t known follow from (key ∷ keys) =
     and_then (λ more. and_then (λ rest. Ok ((key ∷ more) ++ rest)) (placed t known follow from keys)) (behind t known follow from key)
 
+-- the node at a path without links is the null device, by its place
+abbrev pub is_null : Option (List ℕ) → Bool
+is_null None = false
+is_null (Some real) = bytes_eq real (codes "/dev/null")
+
+-- the text of a device, a pipe or a socket: the null device has an empty one, and what else it is, is refused
+abbrev pub device_text : List ℕ → Option (List ℕ) → Result (Option (List ℕ)) FilesError
+device_text path real = if is_null real then Ok (Some []) else Err (errors.NoFile path)
+
+-- the text by what a path leads to, and by the path of that without links
+abbrev pub text_by : List ℕ → Option (List ℕ) → Look → Result (Option (List ℕ)) FilesError
+text_by path real (found (file bytes)) = Ok (Some bytes)
+text_by path real (found (directory names)) = Err (errors.NoFile path)
+text_by path real (found (link target)) = Err (errors.NoFile path)
+text_by path real (found other) = device_text path real
+text_by path real absent = Ok None
+text_by path real too_many_links = Err (errors.NoFile path)
+
 -- the text of the file that a path leads to; none where nothing is there. What is there and is no file is refused, and an endless link
-abbrev pub text_at : List ℕ → Look → Result (Option (List ℕ)) FilesError
-text_at path (found (file bytes)) = Ok (Some bytes)
-text_at path (found (directory names)) = Err (errors.NoFile path)
-text_at path (found (link target)) = Err (errors.NoFile path)
-text_at path (found other) = Err (errors.NoFile path)
-text_at path absent = Ok None
-text_at path too_many_links = Err (errors.NoFile path)
+abbrev pub text_at : Names → List ℕ → Result (Option (List ℕ)) FilesError
+text_at t path = text_by path (real_path t path (47 ∷ [])) (look t path true)
 
 abbrev pub in_place : Names → Known → Follow → Source → List ℕ → Option (List ℕ) → Result (List Section) FilesError
 in_place t known follow source path None = Ok []
@@ -75,9 +89,9 @@ too_deep path (Some bytes) = Err (errors.Depth path)
 
 -- what the file at a path says, with what it includes in place, where so many files may lie in one another
 unfoldable pub expanded : Names → Known → Source → ℕ → List ℕ → Result (List Section) FilesError
-expanded t known source zero path = and_then (too_deep path) (text_at path (look t path true))
+expanded t known source zero path = and_then (too_deep path) (text_at t path)
 expanded t known source (suc levels) path =
-    and_then (in_place t known (expanded t known source levels) source path) (text_at path (look t path true))
+    and_then (in_place t known (expanded t known source levels) source path) (text_at t path)
 
 -- ---- the same key by key
 

@@ -8,7 +8,7 @@ use Rattle.git_config_lite.specs.Sections.{Section}
 use Rattle.git_places.specs.Places.{Layout}
 use Rattle.git_places.specs.Surroundings.{Surroundings}
 use Rattle.worktree_fs.specs.Changes.{from_directory}
-use Rattle.worktree_fs.specs.Tree.{Names, is_empty, look}
+use Rattle.worktree_fs.specs.Tree.{Names, is_empty}
 use Rattle.git_config_files.specs.Includes.{text_at}
 use Rattle.gitbase_core.specs.Steps.{and_then}
 use Rattle.git_config_files.specs.Targets.{expanded_path}
@@ -72,7 +72,7 @@ rules_by path (Some bytes) = Some (record { path = path; bytes = without_mark by
 
 -- the file at a path, if it is there
 abbrev pub rules_at : Names → List ℕ → Result (Option RulesFile) FilesError
-rules_at t path = and_then (λ text. Ok (rules_by path text)) (text_at path (look t path true))
+rules_at t path = and_then (λ text. Ok (rules_by path text)) (text_at t path)
 
 abbrev pub maybe_rules : Names → Option (List ℕ) → Result (Option RulesFile) FilesError
 maybe_rules t None = Ok None

@@ -12,7 +12,7 @@ pub enum FilesError {
     /// A `path` of an include in the file has no value.
     #[error("Include")]
     Include { path: PathText },
-    /// What stands at this path is no file, or is a link without an end.
+    /// What stands at this path is no file and not the null device, or is a link without an end.
     #[error("NoFile")]
     NoFile { path: PathText },
     /// A path in the file begins with `~`, and there is no home; or with `~USER` or `%(prefix)/`, which are not expanded.

@@ -1,6 +1,6 @@
 //! A configuration with what it includes in place.
-ghost use Rattle.std.specs.Prelude.{◌≡◌, [], true, Ok, IfOk};
-ghost use Rattle.worktree_fs.specs.Tree.{look};
+ghost use Rattle.std.specs.Prelude.{◌≡◌, [], ◌∷◌, Ok, IfOk};
+ghost use Rattle.worktree_fs.specs.Changes.{real_path};
 ghost use Rattle.git_config_files.specs.Answers.{Decides};
 ghost use Rattle.git_config_files.specs.Finds.{Finds};
 ghost use Rattle.git_config_files.specs.Includes as words;
@@ -50,6 +50,32 @@ fn no_file(alloc: Global, path: &[u8]) -> Result<FilesError, OutOfMemory>
     })
 }
 
+/// Whether a path leads to the null device.
+fn is_null<W: Worktree>(alloc: Global, worktree: &mut W, path: &[u8]) -> Result<bool, FilesError>
+    ensures { Finds W.Worktree worktree.old worktree.new
+        (λ t. Ok (words.is_null (real_path t path.now (47 ∷ [])))) result }
+{
+    match worktree.real_path(alloc, path, b"/")? {
+        Some(real) => Ok(real.as_bytes() == b"/dev/null".as_slice()),
+        None => Ok(false),
+    }
+}
+
+/// The text of a device, a pipe or a socket: that of the null device is empty.
+fn device_text<W: Worktree>(
+    alloc: Global,
+    worktree: &mut W,
+    path: &[u8],
+) -> Result<Option<Bytes>, FilesError>
+    ensures { Finds W.Worktree worktree.old worktree.new
+        (λ t. words.device_text path.now (real_path t path.now (47 ∷ []))) result }
+{
+    if is_null(alloc, worktree, path)? {
+        return Ok(Some(Bytes::new(alloc)));
+    }
+    Err(no_file(alloc, path)?)
+}
+
 /// The text of the file that a path leads to, if one is there.
 pub fn text_at<W: Worktree>(
     alloc: Global,
@@ -57,12 +83,13 @@ pub fn text_at<W: Worktree>(
     path: &[u8],
 ) -> Result<Option<Bytes>, FilesError>
     ensures { Finds W.Worktree worktree.old worktree.new
-        (λ t. words.text_at path.now (look t path.now true)) result }
+        (λ t. words.text_at t path.now) result }
 {
     let mut bytes = Bytes::new(alloc);
     match worktree.read(alloc, path, true, &mut bytes)? {
         ReadAnswer::Read => Ok(Some(bytes)),
         ReadAnswer::Absent => Ok(None),
+        ReadAnswer::Special => device_text(alloc, worktree, path),
         _ => Err(no_file(alloc, path)?),
     }
 }

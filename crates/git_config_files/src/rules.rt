@@ -227,7 +227,7 @@ fn repository_rules<W: Worktree>(
 /// # Errors
 ///
 /// - `Value`: `core.excludesFile` has no value, or begins with a home that is not known.
-/// - `NoFile`: what stands at the path of one of the files is no file.
+/// - `NoFile`: what stands at the path of one of the files is no file, and not the null device, which is an empty one.
 /// - `Fault`: the worktree failed, which it counted. No fault reads as "nothing is there".
 /// - `OutOfMemory` for want of memory.
 ///

@@ -123,7 +123,8 @@ pub fn elsewhere(alloc: Global, name: &[u8]) -> Result<FilesError, OutOfMemory>
 ///
 /// - `Elsewhere`: a variable of the environment points git elsewhere.
 /// - `Config`: a line of a file is outside its grammar.
-/// - `NoFile`: what stands at the path of a configuration, or of an included file, is no file.
+/// - `NoFile`: what stands at the path of a configuration, or of an included file, is no file, and not the null device, which is an
+///   empty one.
 /// - `Include`: a key that includes a file has no value.
 /// - `Home`: the path of an included file, or of a condition, begins with a home that is not known.
 /// - `Condition`: an include asks for what the configuration says, by `hasconfig:remote.*.url:`.

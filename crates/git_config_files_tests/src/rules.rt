@@ -7,7 +7,7 @@ use git_places::{Places, Surroundings};
 use std::alloc::Global;
 use worktree_fs::{MemoryWorktree, Worktree};
 
-/// Whether a file is at the path that is wanted, without links, and has this text; `-` wants none.
+/// Whether a file is at the path that is wanted, without links, and has this text; `-` wants no rule.
 fn is_file(
     alloc: Global,
     tree: &mut MemoryWorktree,
@@ -18,6 +18,9 @@ fn is_file(
     let Some(file) = file else {
         return want == b"-".as_slice();
     };
+    if file.bytes.as_bytes().is_empty() {
+        return want == b"-".as_slice();
+    }
     match tree.real_path(alloc, file.path.as_bytes(), b"/") {
         Ok(Some(real)) => real.as_bytes() == want && file.bytes.as_bytes() == text,
         _ => false,

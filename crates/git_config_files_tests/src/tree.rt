@@ -82,6 +82,7 @@ fn is_taken(alloc: Global, tree: &mut MemoryWorktree, step: &[u8]) -> bool {
         b"g" => is_git(alloc, tree, path, text),
         b"f" => is_file(alloc, tree, path, text),
         b"d" => is_added(alloc, tree, path, NewNode::Directory),
+        b"o" => is_added(alloc, tree, path, NewNode::Other),
         _ => is_added(alloc, tree, path, NewNode::Link(text)),
     }
 }

@@ -1,5 +1,5 @@
 use Rattle.std.proofs.Common.{rules, arith, ◌≡◌, ◌-◌, Some, true}
-use Rattle.worktree_fs.specs.Tree.{Names, look}
+use Rattle.worktree_fs.specs.Tree.{Names}
 use Rattle.git_config_files.specs.Includes.{expanded, text_at}
 use Rattle.git_config_files.specs.declared.error.FilesError.TheVariants as errors
 use Rattle.git_config_files.proofs.Deeper.{refused, stepped}
@@ -14,7 +14,7 @@ expand-returns-in_err-bytes g t c =
     let e = c.in_err-bytes.field-0.0 in
     let a = c.args in
     let carry = λ (tree : Names) (told : g.W.Worktree.told a.worktree.now ≡ Some tree).
-    passes errors.Fault errors.OutOfMemory e (text_at a.path.now (look tree a.path.now true)) (expanded tree a.known.now a.source a.levels a.path.now)
+    passes errors.Fault errors.OutOfMemory e (text_at tree a.path.now) (expanded tree a.known.now a.source a.levels a.path.now)
     (c.in_err-bytes.ensures.gives tree told) (refused tree a.known.now a.source a.levels a.path.now e)
     in
     search rules
