@@ -2,7 +2,7 @@
 ghost use Rattle.std.specs.Prelude.{◌≡◌, ◌++◌, IfOk, OnOk};
 ghost use Rattle.command_line.specs.Rendered as rendered;
 
-use crate::form::{LineEnd, Style};
+use crate::form::{LineEnd, Style, Wording};
 use crate::row::{add_end, add_line, add_path};
 use bstr::ByteSlice;
 use gitbase_core::{Bytes, OutOfMemory};
@@ -17,8 +17,32 @@ fn add_whole(text: &mut Vec<u8>, style: Style, line: &[u8]) -> Result<(), OutOfM
     Ok(())
 }
 
+/// Each line of a report in a style.
+fn each_line(alloc: Global, style: Style, text: &[u8]) -> Result<Bytes, OutOfMemory>
+    ensures { IfOk result (λ out. out ≡ rendered.each_line style text.now) }
+{
+    let mut out = Vec::new(alloc);
+    for line in text.lines() {
+        add_whole(&mut out, style, line)?;
+    }
+    Ok(Bytes::from_vec(out))
+}
+
+/// Whether a report stays as it is: words, line feeds, and no colours.
+fn is_plain(style: Style) -> bool
+    ensures { result ≡ rendered.is_plain style }
+{
+    match style.wording {
+        Wording::Words => match style.end {
+            LineEnd::Feed => !style.is_colored,
+            LineEnd::Nul => false,
+        },
+        Wording::Letters => false,
+    }
+}
+
 /// The text of a report in a style: words or letters before the paths, coloured or not, each line with its end. The states of the
-/// index before a report are such lines too.
+/// index before a report are such lines too. With words, line feeds and no colours the text stays as it is.
 ///
 /// # Errors
 ///
@@ -26,11 +50,10 @@ fn add_whole(text: &mut Vec<u8>, style: Style, line: &[u8]) -> Result<(), OutOfM
 pub fn rendered(alloc: Global, style: Style, text: &[u8]) -> Result<Bytes, OutOfMemory>
     ensures { IfOk result (λ out. out ≡ rendered.rendered style text.now) }
 {
-    let mut out = Vec::new(alloc);
-    for line in text.lines() {
-        add_whole(&mut out, style, line)?;
+    if is_plain(style) {
+        return Bytes::from_slice(alloc, text);
     }
-    Ok(Bytes::from_vec(out))
+    each_line(alloc, style, text)
 }
 
 /// Adds a path and the end of its line.
@@ -42,7 +65,18 @@ fn add_whole_path(text: &mut Vec<u8>, end: LineEnd, path: &[u8]) -> Result<(), O
     Ok(())
 }
 
-/// The text of a plan, which has a path a line, with such ends of lines.
+/// Each path of a plan, with such ends of lines.
+fn each_path(alloc: Global, end: LineEnd, text: &[u8]) -> Result<Bytes, OutOfMemory>
+    ensures { IfOk result (λ out. out ≡ rendered.each_path end text.now) }
+{
+    let mut out = Vec::new(alloc);
+    for line in text.lines() {
+        add_whole_path(&mut out, end, line)?;
+    }
+    Ok(Bytes::from_vec(out))
+}
+
+/// The text of a plan, which has a path a line, with such ends of lines. With line feeds it stays as it is.
 ///
 /// # Errors
 ///
@@ -50,9 +84,8 @@ fn add_whole_path(text: &mut Vec<u8>, end: LineEnd, path: &[u8]) -> Result<(), O
 pub fn rendered_paths(alloc: Global, end: LineEnd, text: &[u8]) -> Result<Bytes, OutOfMemory>
     ensures { IfOk result (λ out. out ≡ rendered.rendered_paths end text.now) }
 {
-    let mut out = Vec::new(alloc);
-    for line in text.lines() {
-        add_whole_path(&mut out, end, line)?;
+    match end {
+        LineEnd::Feed => Bytes::from_slice(alloc, text),
+        LineEnd::Nul => each_path(alloc, LineEnd::Nul, text),
     }
-    Ok(Bytes::from_vec(out))
 }
