@@ -15,12 +15,13 @@ use Rattle.worktree_report.specs.declared.refusal.Misread.{Misread}
 use Rattle.worktree_report.specs.declared.refusal.Refusal.{Refusal}
 use Rattle.worktree_report.specs.declared.refusal.Refusal.TheVariants as refusals
 use Rattle.worktree_report.specs.declared.setup.Setup.{Setup}
+use Rattle.tizhagor.specs.ProgramLines.{program_status}
 use Rattle.clean_plan.specs.Run as clean
 use Rattle.index_status.specs.Run as status
 use Rattle.module_plan.specs.Run as modules
 use Rattle.tizhagor.specs.declared.call.Call.{Call}
 use Rattle.tizhagor.specs.declared.call.Call.TheVariants as calls
-use Rattle.tizhagor.specs.Texts.{AreModulesKnown, IsQuietFor, IsReadyFor, IsTextAtSetup, IsTextOf, IsUnfaultedBy, TextsBy}
+use Rattle.tizhagor.specs.Texts.{AreModulesKnown, IsQuietFor, IsReadyFor, IsTextAtSetup, IsTextOf, IsUnfaultedBy, RefusesReport, RefusesSteps, RefusesTextOf, TextsBy}
 
 -- ---- the same text as by a setup text
 
@@ -142,3 +143,47 @@ module _ {W I : Type 0} (w : WorktreeOf W) (i : InterruptOf I) (w0 w1 : W) (i0 i
   complete (calls.Plan what finding) refusal made t told quiet calm ready = text-complete (clean.made_by finding setup) _ refusal made.refused t told quiet calm ready
   complete calls.Modules refusal made t told quiet calm ready = modules-complete refusal made.0 t told quiet ready
   complete calls.State refusal made t told quiet calm ready = text-complete setup _ refusal made.refused t told quiet calm ready
+
+  -- what is refused over a tree, but for an interrupt
+  report-refused : (other : Setup) (refusal : Refusal) → Texts w i (w.precomposes w0) w0 w1 i0 i1 root other (Err refusal)
+      → (t : Names) → w.told w0 ≡ Some t → NotIncreased (w.faults w0) (w.faults w1) → program_status refusal ≡ 128
+      → (refusal ≡ refusals.OutOfMemory) ⊎ RefusesReport (w.precomposes w0) t root other refusal
+  report-refused other refusals.Interrupted made t told quiet is = absurd (omega (arith, is))
+  report-refused other refusals.Usage made t told quiet is = absurd made.answers
+  report-refused other (refusals.Setup line) made t told quiet is = absurd made.answers
+  report-refused other (refusals.Walk word path) made t told quiet is = inr (made.refused t told quiet word path refl)
+  report-refused other (refusals.Misread which) made t told quiet is = inr (made.misread t told which refl)
+  report-refused other refusals.Fault made t told quiet is = absurd (let rose = made.cause refl in omega (arith, rose, quiet))
+  report-refused other refusals.Output made t told quiet is = absurd made.answers
+  report-refused other refusals.OutOfMemory made t told quiet is = inl refl
+
+  text-refused : (other : Setup) (most : ℕ) (refusal : Refusal) → RefusesText w i (w.precomposes w0) w0 w1 i0 i1 root other most refusal
+      → (t : Names) → w.told w0 ≡ Some t → NotIncreased (w.faults w0) (w.faults w1) → program_status refusal ≡ 128
+      → (refusal ≡ refusals.OutOfMemory) ⊎ RefusesReport (w.precomposes w0) t root other refusal
+  text-refused other most refusal refused t told quiet is =
+      elim refused [
+        | inl memory ↦ inl memory
+        | inr known ↦ elim known [
+          | inl failed ↦ absurd (let rose = failed.1.rose in omega (arith, rose, quiet))
+          | inr none ↦ report-refused other refusal none t told quiet is
+        ]
+      ]
+
+  steps-refused : (refusal : Refusal) → modules.PlansText w w0 w1 root setup (Err refusal) → (t : Names) → w.told w0 ≡ Some t
+      → NotIncreased (w.faults w0) (w.faults w1) → (refusal ≡ refusals.OutOfMemory) ⊎ RefusesSteps t root (modules.asking setup) refusal
+  steps-refused refusals.Interrupted plans t told quiet = absurd plans.refused
+  steps-refused refusals.Usage plans t told quiet = absurd plans.refused
+  steps-refused (refusals.Setup line) plans t told quiet = absurd plans.refused
+  steps-refused (refusals.Misread which) plans t told quiet = inr (plans.misread t told which refl)
+  steps-refused (refusals.Walk word path) plans t told quiet = absurd plans.refused
+  steps-refused refusals.Fault plans t told quiet = absurd (let rose = plans.refused in omega (arith, rose, quiet))
+  steps-refused refusals.Output plans t told quiet = absurd plans.refused
+  steps-refused refusals.OutOfMemory plans t told quiet = inl refl
+
+  pub refused : (call : Call) (refusal : Refusal) → TextsBy w i w0 w1 i0 i1 root setup (Err refusal) call
+      → (t : Names) → w.told w0 ≡ Some t → NotIncreased (w.faults w0) (w.faults w1) → program_status refusal ≡ 128
+      → (refusal ≡ refusals.OutOfMemory) ⊎ RefusesTextOf call (w.precomposes w0) t root setup refusal
+  refused calls.Report refusal made t told quiet is = report-refused setup refusal made t told quiet is
+  refused (calls.Plan what finding) refusal made t told quiet is = text-refused (clean.made_by finding setup) _ refusal made.refused t told quiet is
+  refused calls.Modules refusal made t told quiet is = steps-refused refusal made.0 t told quiet
+  refused calls.State refusal made t told quiet is = text-refused setup _ refusal made.refused t told quiet is

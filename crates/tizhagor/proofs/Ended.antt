@@ -20,13 +20,13 @@ use Rattle.tizhagor.specs.declared.refusal.HereRefusal.{HereRefusal}
 use Rattle.tizhagor.specs.declared.refusal.HereRefusal.TheVariants as errors
 use Rattle.tizhagor.specs.declared.writing.Writing.{Writing}
 use Rattle.tizhagor.specs.Answers as answers
-use Rattle.tizhagor.specs.Answers.{AnswersCall, AnswersHere, AnswersTask, IsMisuse, Place, Task, Writes, call_of, found_at, offer_of, task_of}
+use Rattle.tizhagor.specs.Answers.{AnswersCall, AnswersHere, AnswersTask, IsMisuse, Place, Refused, Task, Writes, call_of, found_at, offer_of, task_of}
 use Rattle.tizhagor.specs.Ends.{EndsHere, IsFatal, IsTold, IsToldOf}
 use Rattle.tizhagor.specs.Output as output
 use Rattle.tizhagor.specs.Parts.{memory_line}
 use Rattle.tizhagor.specs.ProgramLines.{program_status}
 use Rattle.tizhagor.specs.Refusals.{IsOfFinding, fault, line_of, memory, status_of}
-use Rattle.tizhagor.specs.Texts.{IsQuietFor, IsReadyFor, IsTextOf, IsUnfaultedBy}
+use Rattle.tizhagor.specs.Texts.{IsQuietFor, IsReadyFor, IsTextOf, IsUnfaultedBy, RefusesTextOf}
 use Rattle.tizhagor.proofs.ByCall as calls
 
 -- ---- statuses
@@ -106,6 +106,9 @@ same_error e = cc
 
 same_found : {a b : Found} → ◌≡◌ {A = Result Found HereRefusal} (Ok a) (Ok b) → a ≡ b
 same_found e = cc
+
+same_refusal : {a b : HereRefusal} → ◌≡◌ {A = Result Found HereRefusal} (Err a) (Err b) → a ≡ b
+same_refusal e = cc
 
 not_found : {a : Found} {b : HereRefusal} → ◌≡◌ {A = Result Found HereRefusal} (Ok a) (Err b) → ⊥
 not_found is = absurd cc
@@ -208,23 +211,63 @@ module _ {W I O : Type 0} (w : WorktreeOf W) (i : InterruptOf I) (o : OwnersOf O
   task_interrupted place directory (offer_of text) e a is = absurd (let same = memory_not e 130 a.refused is in omega (arith, same))
 
   -- what is refused over a tree
+  text_refused : (found : Names → Owned → Result Found HereRefusal) (call : Call) (e : HereRefusal) → Refused w i o w0 w1 i0 i1 o0 o1 found call e
+      → (t : Names) (owned : Owned) → w.told w0 ≡ Some t → o.told o0 ≡ Some owned → NotIncreased (w.faults w0) (w.faults w1) → status_of e ≡ 128
+      → (e ≡ memory) ⊎ output.RefusesText (w.precomposes w0) t (found t owned) call e
+  text_refused found call e refused t owned told tells quiet is =
+      elim (calls.refused w i refused.by.loaded w1 i0 i1 refused.by.here.root refused.by.here.setup call refused.refusal refused.by.made t (refused.by.asks.tree ∙ told)
+        (subst (λ (n : ℕ). NotIncreased n (w.faults w1)) (sym refused.by.unfaulted) quiet) (sym (ap status_of refused.e_is) ∙ is)) [
+        | inl wants ↦ inl (refused.e_is ∙ ap errors.Program wants)
+        | inr known ↦ inr (record {
+            here = refused.by.here;
+            found_is = refused.by.is t owned told tells;
+            refusal = refused.refusal;
+            e_is = refused.e_is;
+            refused = subst (λ (b : Bool). RefusesTextOf call b t refused.by.here.root refused.by.here.setup refused.refusal) refused.by.asks.precomposes known;
+          })
+      ]
+
   call_refused : (found : Names → Owned → Result Found HereRefusal) (call : Call) (writing : Writing) (e : HereRefusal) → AnswersCall w i o w0 w1 i0 i1 o0 o1 found call writing (Err e)
-      → (t : Names) (owned : Owned) → w.told w0 ≡ Some t → o.told o0 ≡ Some owned → NotIncreased (w.faults w0) (w.faults w1) → NotIncreased (o.faults o0) (o.faults o1) → (e ≡ memory) ⊎ output.RefusesCall (found t owned) e
-  call_refused found call writing e a t owned told tells quiet owners_quiet =
+      → (t : Names) (owned : Owned) → w.told w0 ≡ Some t → o.told o0 ≡ Some owned → NotIncreased (w.faults w0) (w.faults w1) → NotIncreased (o.faults o0) (o.faults o1) → status_of e ≡ 128
+      → (e ≡ memory) ⊎ output.RefusesCall (w.precomposes w0) t (found t owned) call e
+  call_refused found call writing e a t owned told tells quiet owners_quiet is =
       elim a [
         | inl (inl none) ↦ elim (none.is t owned told tells) [
-          | inl is ↦ inr (inl is)
-          | inr (inl is) ↦ absurd (no_fault (none.cause is) quiet owners_quiet)
-          | inr (inr is) ↦ inl is
+          | inl same ↦ inr (inl same)
+          | inr (inl failed) ↦ absurd (no_fault (none.cause failed) quiet owners_quiet)
+          | inr (inr wants) ↦ inl wants
         ]
-        | inl (inr refused) ↦ inr (inr (refused.by.here, refused.by.is t owned told tells, refused.refusal, refused.e_is))
+        | inl (inr refused) ↦ elim (text_refused found call e refused t owned told tells quiet is) [ inl wants ↦ inl wants | inr known ↦ inr (inr known) ]
         | inr unwritten ↦ inl unwritten.e_is
       ]
 
   task_refused : (place : Place) (directory : Option (List ℕ)) (task : Task) (e : HereRefusal) → AnswersTask w i o w0 w1 i0 i1 o0 o1 place directory (Err e) task
-      → (t : Names) (owned : Owned) → w.told w0 ≡ Some t → o.told o0 ≡ Some owned → NotIncreased (w.faults w0) (w.faults w1) → NotIncreased (o.faults o0) (o.faults o1) → (e ≡ memory) ⊎ output.RefusesFor t owned place directory e task
-  task_refused place directory (call_of call asked writing) e a t owned told tells quiet owners_quiet = call_refused (found_at place directory asked) call writing e a t owned told tells quiet owners_quiet
-  task_refused place directory (offer_of text) e a t owned told tells quiet owners_quiet = inl a.refused
+      → (t : Names) (owned : Owned) → w.told w0 ≡ Some t → o.told o0 ≡ Some owned → NotIncreased (w.faults w0) (w.faults w1) → NotIncreased (o.faults o0) (o.faults o1) → status_of e ≡ 128
+      → (e ≡ memory) ⊎ output.RefusesFor (w.precomposes w0) t owned place directory e task
+  task_refused place directory (call_of call asked writing) e a t owned told tells quiet owners_quiet is = call_refused (found_at place directory asked) call writing e a t owned told tells quiet owners_quiet is
+  task_refused place directory (offer_of text) e a t owned told tells quiet owners_quiet is = inl a.refused
+
+  -- where nothing is found over a tree, that is the answer, or want of memory
+  call_none : (found : Names → Owned → Result Found HereRefusal) (call : Call) (writing : Writing) (answer : Result (List ℕ) HereRefusal) → AnswersCall w i o w0 w1 i0 i1 o0 o1 found call writing answer
+      → (t : Names) (owned : Owned) → w.told w0 ≡ Some t → o.told o0 ≡ Some owned → NotIncreased (w.faults w0) (w.faults w1) → NotIncreased (o.faults o0) (o.faults o1)
+      → (e : HereRefusal) → found t owned ≡ Err e → (answer ≡ Err e) ⊎ (answer ≡ Err memory)
+  call_none found call writing (Ok bytes) a t owned told tells quiet owners_quiet e known = absurd (not_found (sym (a.by.is t owned told tells) ∙ known))
+  call_none found call writing (Err other) a t owned told tells quiet owners_quiet e known =
+      elim a [
+        | inl (inl none) ↦ elim (none.is t owned told tells) [
+          | inl same ↦ inl (ap Err (same_refusal (sym same ∙ known)))
+          | inr (inl failed) ↦ absurd (no_fault (none.cause failed) quiet owners_quiet)
+          | inr (inr wants) ↦ inr (ap Err wants)
+        ]
+        | inl (inr refused) ↦ absurd (not_found (sym (refused.by.is t owned told tells) ∙ known))
+        | inr unwritten ↦ inr (ap Err unwritten.e_is)
+      ]
+
+  task_none : (place : Place) (directory : Option (List ℕ)) (task : Task) (answer : Result (List ℕ) HereRefusal) → AnswersTask w i o w0 w1 i0 i1 o0 o1 place directory answer task
+      → (t : Names) (owned : Owned) → w.told w0 ≡ Some t → o.told o0 ≡ Some owned → NotIncreased (w.faults w0) (w.faults w1) → NotIncreased (o.faults o0) (o.faults o1)
+      → (e : HereRefusal) → output.IsNotFoundFor t owned place directory e task → (answer ≡ Err e) ⊎ (answer ≡ Err memory)
+  task_none place directory (call_of call asked writing) answer a t owned told tells quiet owners_quiet e known = call_none (found_at place directory asked) call writing answer a t owned told tells quiet owners_quiet e known
+  task_none place directory (offer_of text) answer a t owned told tells quiet owners_quiet e known = absurd known
 
   -- for what can be had only memory may be wanted
   call_complete : (found : Names → Owned → Result Found HereRefusal) (call : Call) (writing : Writing) (e : HereRefusal) → AnswersCall w i o w0 w1 i0 i1 o0 o1 found call writing (Err e)
@@ -324,10 +367,10 @@ module _ {W I O S E : Type 0} (w : WorktreeOf W) (i : InterruptOf I) (o : Owners
       ]
 
   error_refused : (refusal : HereRefusal) → AnswersHere w i o w0 w1 i0 i1 o0 o1 place words (Err refusal) → (t : Names) (owned : Owned) → w.told w0 ≡ Some t → o.told o0 ≡ Some owned → NotIncreased (w.faults w0) (w.faults w1) → NotIncreased (o.faults o0) (o.faults o1)
-      → status_of refusal ≡ 128 → (refusal ≡ memory) ⊎ output.RefusesHere t owned place words refusal
+      → status_of refusal ≡ 128 → (refusal ≡ memory) ⊎ output.RefusesHere (w.precomposes w0) t owned place words refusal
   error_refused refusal a t owned told tells quiet owners_quiet is =
       elim a [
-        | inl of ↦ elim (task_refused w i o w0 w1 i0 i1 o0 o1 place of.request.directory (task_of place.takes_colors of.request.command) refusal of.answers t owned told tells quiet owners_quiet) [
+        | inl of ↦ elim (task_refused w i o w0 w1 i0 i1 o0 o1 place of.request.directory (task_of place.takes_colors of.request.command) refusal of.answers t owned told tells quiet owners_quiet is) [
           | inl wants ↦ inl wants
           | inr refused ↦ inr (record { request = of.request; asked = of.asked; refused = refused })
         ]
@@ -337,7 +380,7 @@ module _ {W I O S E : Type 0} (w : WorktreeOf W) (i : InterruptOf I) (o : Owners
 
   pub fatal : (answer : Result (List ℕ) HereRefusal) → AnswersHere w i o w0 w1 i0 i1 o0 o1 place words answer → EndsHere s e s0 s1 e0 e1 answer status
       → (t : Names) (owned : Owned) → w.told w0 ≡ Some t → o.told o0 ≡ Some owned → status ≡ 128 → NotIncreased (w.faults w0) (w.faults w1) → NotIncreased (o.faults o0) (o.faults o1) → NotIncreased (s.refusals s0) (s.refusals s1)
-      → IsToldOf e e0 e1 memory_line 128 status ⊎ IsFatal e e0 e1 (output.RefusesHere t owned place words)
+      → IsToldOf e e0 e1 memory_line 128 status ⊎ IsFatal e e0 e1 (output.RefusesHere (w.precomposes w0) t owned place words)
   fatal (Ok bytes) a ends t owned told tells is quiet owners_quiet taken =
       elim ends.by [
         | inl whole ↦ absurd (let zero = whole.status_is in omega (arith, zero, is))
@@ -350,6 +393,25 @@ module _ {W I O S E : Type 0} (w : WorktreeOf W) (i : InterruptOf I) (o : Owners
           | inr refused ↦ inr (record { refusal = refusal; refused = refused; said = told_of.said })
         ]
         | inr untold ↦ inl untold
+      ]
+
+  answer_none : (answer : Result (List ℕ) HereRefusal) → AnswersHere w i o w0 w1 i0 i1 o0 o1 place words answer → (t : Names) (owned : Owned) (e : HereRefusal)
+      → w.told w0 ≡ Some t → o.told o0 ≡ Some owned → output.IsNotFoundHere t owned place words e → NotIncreased (w.faults w0) (w.faults w1) → NotIncreased (o.faults o0) (o.faults o1)
+      → (answer ≡ Err e) ⊎ (answer ≡ Err memory)
+  answer_none answer a t owned e told tells known quiet owners_quiet =
+      elim a [
+        | inl of ↦ task_none w i o w0 w1 i0 i1 o0 o1 place of.request.directory (task_of place.takes_colors of.request.command) answer of.answers t owned told tells quiet owners_quiet e (known.refused of.request of.asked)
+        | inr (inl wrong) ↦ absurd (no_asking (sym known.words_are ∙ wrong.misuse.is))
+        | inr (inr unread) ↦ inr unread.answer_is
+      ]
+
+  pub refused : (answer : Result (List ℕ) HereRefusal) → AnswersHere w i o w0 w1 i0 i1 o0 o1 place words answer → EndsHere s e s0 s1 e0 e1 answer status
+      → (t : Names) (owned : Owned) (refusal : HereRefusal) → w.told w0 ≡ Some t → o.told o0 ≡ Some owned → output.IsNotFoundHere t owned place words refusal
+      → NotIncreased (w.faults w0) (w.faults w1) → NotIncreased (o.faults o0) (o.faults o1) → IsTold e e0 e1 refusal status
+  refused answer a ends t owned refusal told tells known quiet owners_quiet =
+      elim (answer_none answer a t owned refusal told tells known quiet owners_quiet) [
+        | inl is ↦ (subst (λ (x : Result (List ℕ) HereRefusal). EndsHere s e s0 s1 e0 e1 x status) is ends).by.1
+        | inr wants ↦ inr (wants_memory s e s0 s1 e0 e1 status memory refl (subst (λ (x : Result (List ℕ) HereRefusal). EndsHere s e s0 s1 e0 e1 x status) wants ends).by.1)
       ]
 
   error_interrupted : (refusal : HereRefusal) → AnswersHere w i o w0 w1 i0 i1 o0 o1 place words (Err refusal) → status_of refusal ≡ 130 → Increased (i.raised i0) (i.raised i1)

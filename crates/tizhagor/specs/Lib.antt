@@ -1,3 +1,4 @@
+pub mod Environment
 pub mod Parts
 pub mod PlacesLines
 pub mod FilesLines

@@ -12,7 +12,7 @@ use Rattle.tizhagor.specs.declared.refusal.HereRefusal.{HereRefusal}
 use Rattle.tizhagor.specs.declared.refusal.HereRefusal.TheVariants.{Program}
 use Rattle.tizhagor.specs.declared.writing.Writing.{Writing}
 use Rattle.tizhagor.specs.Answers.{IsAsked, Place, Task, call_of, found_at, offer_of, task_of}
-use Rattle.tizhagor.specs.Texts.{IsQuietFor, IsReadyFor, IsTextAtSetup, IsTextOf, IsUnfaultedBy}
+use Rattle.tizhagor.specs.Texts.{IsQuietFor, IsReadyFor, IsTextAtSetup, IsTextOf, IsUnfaultedBy, RefusesTextOf}
 use Rattle.tizhagor.specs.Writing.{written}
 
 -- ---- the bytes
@@ -55,19 +55,39 @@ pub record IsOutputHere (composes : Bool) (t : Names) (owned : Owned) (place : P
 
 -- ---- refusals
 
--- what a call is refused for over the tree: no root and no setup is found, or there is no text by them
-abbrev pub RefusesCall : Result Found HereRefusal → HereRefusal → Type 0
-RefusesCall found e = (found ≡ Err e) ⊎ ((here : Found) × (found ≡ Ok here) × (refusal : Refusal) × (e ≡ Program refusal))
+-- There is no text over the tree by the root and the setup that are found.
+pub record RefusesText (composes : Bool) (t : Names) (found : Result Found HereRefusal) (call : Call) (e : HereRefusal) : Type 0 where
+  pub here : Found
+  pub found_is : found ≡ Ok here
+  pub refusal : Refusal
+  pub e_is : e ≡ Program refusal
+  pub refused : RefusesTextOf call composes t here.root here.setup refusal
 
-abbrev pub RefusesFor : Names → Owned → Place → Option (List ℕ) → HereRefusal → Task → Type 0
-RefusesFor t owned place directory e (call_of call asked writing) = RefusesCall (found_at place directory asked t owned) e
-RefusesFor t owned place directory e (offer_of text) = ⊥
+-- what a call is refused for over the tree: no root and no setup is found, or there is no text by them
+abbrev pub RefusesCall : Bool → Names → Result Found HereRefusal → Call → HereRefusal → Type 0
+RefusesCall composes t found call e = (found ≡ Err e) ⊎ RefusesText composes t found call e
+
+abbrev pub RefusesFor : Bool → Names → Owned → Place → Option (List ℕ) → HereRefusal → Task → Type 0
+RefusesFor composes t owned place directory e (call_of call asked writing) = RefusesCall composes t (found_at place directory asked t owned) call e
+RefusesFor composes t owned place directory e (offer_of text) = ⊥
 
 -- The words ask for something, and it is refused so over the tree.
-pub record RefusesHere (t : Names) (owned : Owned) (place : Place) (words : List (List ℕ)) (e : HereRefusal) : Type 0 where
+pub record RefusesHere (composes : Bool) (t : Names) (owned : Owned) (place : Place) (words : List (List ℕ)) (e : HereRefusal) : Type 0 where
   pub request : Request
   pub asked : IsAsked words request
-  pub refused : RefusesFor t owned place request.directory e (task_of place.takes_colors request.command)
+  pub refused : RefusesFor composes t owned place request.directory e (task_of place.takes_colors request.command)
+
+-- no root and no setup is found
+abbrev pub IsNotFoundFor : Names → Owned → Place → Option (List ℕ) → HereRefusal → Task → Type 0
+IsNotFoundFor t owned place directory e (call_of call asked writing) = found_at place directory asked t owned ≡ Err e
+IsNotFoundFor t owned place directory e (offer_of text) = ⊥
+
+-- No word is wrong, and no root and no setup is found for what they ask for.
+pub record IsNotFoundHere (t : Names) (owned : Owned) (place : Place) (words : List (List ℕ)) (e : HereRefusal) : Type 0 where
+  pub directory : Option (List ℕ)
+  pub command : Command
+  pub words_are : request_in words ≡ asks directory command
+  pub refused : (request : Request) → IsAsked words request → IsNotFoundFor t owned place request.directory e (task_of place.takes_colors request.command)
 
 -- ---- what can be had
 

@@ -4,7 +4,7 @@ use Rattle.worktree_fs.specs.declared.interrupt.Interrupt.{Ghosts as InterruptOf
 use Rattle.worktree_fs.specs.declared.worktree.Worktree.{Ghosts as WorktreeOf}
 use Rattle.worktree_fs.specs.Causes.{Increased, NotIncreased}
 use Rattle.worktree_fs.specs.Tree.{Names}
-use Rattle.worktree_report.specs.Asked.{read_in, text_of, IsValidAt}
+use Rattle.worktree_report.specs.Asked.{read_in, text_of, IsValidAt, RefusesWalkAt}
 use Rattle.worktree_report.specs.Loading.{known_in}
 use Rattle.worktree_report.specs.Reported.{Texts}
 use Rattle.worktree_report.specs.Run as report
@@ -60,6 +60,37 @@ IsReadyFor (calls.Plan what finding) composes t root setup =
     IsValidAt composes (read_in t (clean.made_by finding setup)) root (clean.made_by finding setup)
 IsReadyFor calls.Modules composes t root setup = AreModulesKnown t root setup
 IsReadyFor calls.State composes t root setup = IsValidAt composes (read_in t setup) root setup
+
+-- ---- why there is no text
+
+-- a report is refused over the tree: what tells of submodules is outside its grammar, or the walk stops
+abbrev pub RefusesReport : Bool → Names → List ℕ → Setup → Refusal → Type 0
+RefusesReport composes t root setup (refusals.Walk word path) = RefusesWalkAt composes t root setup word path
+RefusesReport composes t root setup (refusals.Misread which) = known_in t root setup ≡ Err which
+RefusesReport composes t root setup refusals.Interrupted = ⊥
+RefusesReport composes t root setup refusals.Usage = ⊥
+RefusesReport composes t root setup (refusals.Setup line) = ⊥
+RefusesReport composes t root setup refusals.Fault = ⊥
+RefusesReport composes t root setup refusals.Output = ⊥
+RefusesReport composes t root setup refusals.OutOfMemory = ⊥
+
+-- and so are steps for submodules: nothing is walked for them
+abbrev pub RefusesSteps : Names → List ℕ → Setup → Refusal → Type 0
+RefusesSteps t root setup (refusals.Misread which) = known_in t root setup ≡ Err which
+RefusesSteps t root setup (refusals.Walk word path) = ⊥
+RefusesSteps t root setup refusals.Interrupted = ⊥
+RefusesSteps t root setup refusals.Usage = ⊥
+RefusesSteps t root setup (refusals.Setup line) = ⊥
+RefusesSteps t root setup refusals.Fault = ⊥
+RefusesSteps t root setup refusals.Output = ⊥
+RefusesSteps t root setup refusals.OutOfMemory = ⊥
+
+-- the text of a call is refused over the tree by a root and a setup
+abbrev pub RefusesTextOf : Call → Bool → Names → List ℕ → Setup → Refusal → Type 0
+RefusesTextOf calls.Report composes t root setup refusal = RefusesReport composes t root setup refusal
+RefusesTextOf (calls.Plan what finding) composes t root setup refusal = RefusesReport composes t root (clean.made_by finding setup) refusal
+RefusesTextOf calls.Modules composes t root setup refusal = RefusesSteps t root (modules.asking setup) refusal
+RefusesTextOf calls.State composes t root setup refusal = RefusesReport composes t root setup refusal
 
 -- The same text as that of the program that reads a setup text: the call's own words, over the work tree at `root` with the setup text
 -- at `path`.

@@ -6,7 +6,7 @@ ghost use Rattle.worktree_fs.specs.Tree.{Names};
 ghost use Rattle.worktree_report.specs.Written.{Appends};
 ghost use Rattle.tizhagor.specs.Answers as answers;
 ghost use Rattle.tizhagor.specs.Asking.{asked_for};
-ghost use Rattle.tizhagor.specs.Ends.{IsFatal, IsToldOf, RunsHere};
+ghost use Rattle.tizhagor.specs.Ends.{IsFatal, IsTold, IsToldOf, RunsHere};
 ghost use Rattle.tizhagor.specs.Output as output;
 ghost use Rattle.tizhagor.specs.Parts.{memory_line};
 ghost use Rattle.tizhagor.specs.Refusals.{memory};
@@ -233,7 +233,7 @@ pub fn answer_here<W: CountsFaults, O: Owners, I: Interrupt, S: Sink, E: Sink>(
         → (result ≡ 129) ⊎ IsToldOf E.Sink err.old err.new memory_line 128 result }
 
     // Status 128, over a told tree and told owners with no fault counted and no output refused: want of memory is told, or what is refused
-    // over them.
+    // over them: no work tree and no setup is found there, or a report by them is refused, or what tells of submodules is misread.
     ensures fatal { (t : Names) (owned : Owned)
         → W.told worktree.old ≡ Some t → O.told owners.old ≡ Some owned → result ≡ 128
         → NotIncreased (W.faults worktree.old) (W.faults worktree.new)
@@ -241,8 +241,18 @@ pub fn answer_here<W: CountsFaults, O: Owners, I: Interrupt, S: Sink, E: Sink>(
         → NotIncreased (S.refusals out.old) (S.refusals out.new)
         → IsToldOf E.Sink err.old err.new memory_line 128 result
         ⊎ IsFatal E.Sink err.old err.new
-        (output.RefusesHere t owned (answers.placed current.now variables.now takes_colors)
-        words.now) }
+        (output.RefusesHere (W.precomposes worktree.old) t owned
+        (answers.placed current.now variables.now takes_colors) words.now) }
+
+    // And the other way: where no work tree and no setup is found over them, and no fault was counted, the line says why, or that memory
+    // was wanted, with its status.
+    ensures refused { (t : Names) (owned : Owned) (e : HereRefusal)
+        → W.told worktree.old ≡ Some t → O.told owners.old ≡ Some owned
+        → output.IsNotFoundHere t owned (answers.placed current.now variables.now takes_colors)
+        words.now e
+        → NotIncreased (W.faults worktree.old) (W.faults worktree.new)
+        → NotIncreased (O.faults owners.old) (O.faults owners.new)
+        → IsTold E.Sink err.old err.new e result }
 
     // Status 130: the interrupt was raised.
     ensures interrupted { result ≡ 130

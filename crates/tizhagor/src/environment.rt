@@ -1,5 +1,7 @@
 //! What the system hands to the program: words, variables of the environment, and the current directory.
-use bstr::ByteSlice;
+ghost use Rattle.std.specs.Prelude.{◌≡◌, ◌==◌, ◌<◌, ◌++◌, length, position, IfOk, IfSome, OnOk};
+ghost use Rattle.tizhagor.specs.Environment as words;
+
 use git_places::Variable;
 use gitbase_core::{Bytes, OutOfMemory};
 use std::alloc::Global;
@@ -48,7 +50,7 @@ impl From<OutOfMemory> for NotGiven {
 }
 
 /// The words behind the program's name.
-fn words<R: Env>(rt: &R, alloc: Global, buffer: &mut [u8]) -> Result<Vec<Bytes>, NotGiven> {
+fn words_given<R: Env>(rt: &R, alloc: Global, buffer: &mut [u8]) -> Result<Vec<Bytes>, NotGiven> {
     let mut words = Vec::new(alloc);
     for i in 1..usize::MAX {
         match rt.arg(i, buffer) {
@@ -65,13 +67,25 @@ fn add(alloc: Global, words: &mut Vec<Bytes>, word: &[u8]) -> Result<(), OutOfMe
     Ok(())
 }
 
+/// The place of the first `=`.
+fn first_equals(entry: &[u8]) -> Option<usize>
+    ensures place { result ≡ position (λ b. b == 61) entry.now }
+    ensures within { IfSome result (λ place. place < length entry.now) }
+{
+    entry.iter().position(|byte| *byte == b'=')
+}
+
 /// Adds the variable of an entry `NAME=value`; any other entry is none.
 fn add_variable(
     alloc: Global,
     variables: &mut Vec<Variable>,
     entry: &[u8],
-) -> Result<(), OutOfMemory> {
-    if let Some((name, value)) = entry.split_once_str(b"=") {
+) -> Result<(), OutOfMemory>
+    ensures { OnOk result (variables.new.items ≡ variables.old.items ++ words.variable_of entry.now) }
+{
+    if let Some(place) = first_equals(entry) {
+        let (name, _) = entry.split_at(place);
+        let (_, value) = entry.split_at(place + 1);
         let name = Bytes::from_slice(alloc, name)?;
         let value = Bytes::from_slice(alloc, value)?;
         variables.push(Variable { name, value })?;
@@ -79,17 +93,28 @@ fn add_variable(
     Ok(())
 }
 
-/// The variables of the environment, in its order.
-fn variables<R: Env>(rt: &R, alloc: Global, buffer: &mut [u8]) -> Result<Vec<Variable>, NotGiven> {
+/// The variables of entries of an environment, in their order.
+fn variables_of(alloc: Global, entries: &[Bytes]) -> Result<Vec<Variable>, OutOfMemory>
+    ensures { IfOk result (λ variables. variables.items ≡ words.variables_of entries.now) }
+{
     let mut variables = Vec::new(alloc);
+    for entry in entries {
+        add_variable(alloc, &mut variables, entry.as_bytes())?;
+    }
+    Ok(variables)
+}
+
+/// The entries of the environment.
+fn entries<R: Env>(rt: &R, alloc: Global, buffer: &mut [u8]) -> Result<Vec<Bytes>, NotGiven> {
+    let mut entries = Vec::new(alloc);
     for i in 0..usize::MAX {
         match rt.var_at(i, buffer) {
-            Ok(length) => add_variable(alloc, &mut variables, &buffer[..length])?,
+            Ok(length) => add(alloc, &mut entries, &buffer[..length])?,
             Err(FillError::NotPresent) => break,
             Err(FillError::TooLong) => return Err(NotGiven::TooLong),
         }
     }
-    Ok(variables)
+    Ok(entries)
 }
 
 /// The current directory.
@@ -120,8 +145,9 @@ fn with_slash(alloc: Global, path: &[u8]) -> Result<String, OutOfMemory> {
 /// - `OutOfMemory` for want of memory.
 pub fn given<R: Env>(rt: &R, alloc: Global) -> Result<Handed, NotGiven> {
     let mut buffer = room(alloc)?;
-    let words = words(rt, alloc, &mut buffer)?;
-    let variables = variables(rt, alloc, &mut buffer)?;
+    let words = words_given(rt, alloc, &mut buffer)?;
+    let entries = entries(rt, alloc, &mut buffer)?;
+    let variables = variables_of(alloc, &entries)?;
     let current = current(rt, alloc)?;
     let beside = with_slash(alloc, current.as_bytes())?;
     Ok(Handed {

@@ -27,3 +27,6 @@ returns-clause-interrupted g c = lemmas.interrupted g.W.Worktree g.I.Interrupt g
 
 pub returns-clause-complete : goal.returns-clause-complete
 returns-clause-complete g c = lemmas.complete g.W.Worktree g.I.Interrupt g.O.Owners g.S.Sink g.E.Sink _ _ _ _ _ _ _ _ _ _ _ _ _ c.bytes_asked-answer.result c.bytes_asked-answer.ensures c.finish_here.ensures
+
+pub returns-clause-refused : goal.returns-clause-refused
+returns-clause-refused g c = lemmas.refused g.W.Worktree g.I.Interrupt g.O.Owners g.S.Sink g.E.Sink _ _ _ _ _ _ _ _ _ _ _ _ _ c.bytes_asked-answer.result c.bytes_asked-answer.ensures c.finish_here.ensures
