@@ -10,7 +10,6 @@ use Rattle.git_places.specs.Limits.{Limits, limits_of}
 use Rattle.git_places.specs.Places.{Layout, layout_of}
 use Rattle.git_places.specs.Surroundings.{Surroundings}
 use Rattle.git_places.specs.Upward.{Top, top_in}
-use Rattle.glob_rules.specs.PathSpec.{PathSpec}
 use Rattle.worktree_fs.specs.Changes.{real_path}
 use Rattle.worktree_fs.specs.Owners.{Owned}
 use Rattle.worktree_fs.specs.Tree.{Names}
@@ -18,6 +17,8 @@ use Rattle.worktree_report.specs.ConfigFiles.{ConfigFile}
 use Rattle.worktree_report.specs.declared.setup.Setup.{Setup}
 use Rattle.worktree_report.specs.declared.setup.SetupOptions.{SetupOptions}
 use Rattle.git_setup.specs.AskedSpecs.{specs_in}
+use Rattle.git_setup.specs.Placed.{beneath}
+use Rattle.git_setup.specs.declared.pathspecs.AskedSpecs.{AskedSpecs}
 use Rattle.git_setup.specs.GlobalRules.{globals_of}
 use Rattle.git_setup.specs.IndexAt.{entries_here, index_path}
 use Rattle.git_setup.specs.OwnDirectories.{own_for}
@@ -86,10 +87,11 @@ read_in t places around = do
   index ← index_seen t places.root (index_path places.git) switches.looks_for_skipped entries
   Ok (record { stack = stack; switches = switches; index = index })
 
-abbrev pub parts_of : Read → List ℕ → List PathSpec → List (List ℕ) → List ConfigFile → Parts
+abbrev pub parts_of : Read → List ℕ → AskedSpecs → List (List ℕ) → List ConfigFile → Parts
 parts_of read globals specs worktrees configs =
     record {
       ignore_case = read.switches.ignore_case;
+      quote_path = read.switches.quote_path;
       index = read.index;
       globals = globals;
       specs = specs;
@@ -101,7 +103,7 @@ parts_of read globals specs worktrees configs =
 unfoldable pub parts_by : Names → Layout → Surroundings → Asked → Read → Result Parts GitRefusal
 parts_by t places around asked read = do
   rules ← as_files (rules_in t places around read.stack.file.sections)
-  specs ← specs_in read.switches.ignore_case places.root around.directory asked.paths.items
+  specs ← specs_in asked.prefers_current read.switches.ignore_case places.root around.directory asked.paths.items
   worktrees ← protected_in (is_for_deletion asked.options) read.switches.ignore_case (own_for (is_for_deletion asked.options) t places) read.index
   Ok (parts_of read (globals_of rules) specs worktrees (configs_for t asked.options read.stack.files))
 
@@ -119,14 +121,25 @@ setup_with git directory asked parts =
       blobs = empty;
       overrides = [];
       globals = parts.globals;
-      specs = parts.specs;
+      specs = parts.specs.all;
       worktrees = record { keys = parts.worktrees };
       configs = parts.configs;
       options = options_with asked.options parts.ignore_case;
     }
 
+-- the current directory from the top; no bytes where it is the top, or is not in the work tree
+abbrev pub prefix_in : List ℕ → List ℕ → List ℕ
+prefix_in root directory = unwrap_or (beneath root directory) []
+
 abbrev pub found_with : Layout → Surroundings → Asked → Parts → Found
-found_with places around asked parts = record { root = places.root; setup = setup_with places.own around.directory asked parts }
+found_with places around asked parts =
+    record {
+      root = places.root;
+      setup = setup_with places.own around.directory asked parts;
+      prefix = prefix_in places.root around.directory;
+      each = parts.specs.each;
+      quote_path = parts.quote_path;
+    }
 
 -- what is found at the top of a work tree
 unfoldable pub found_at : Names → Surroundings → Asked → Top → Result Found GitRefusal

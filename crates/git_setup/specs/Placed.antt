@@ -5,7 +5,7 @@ use Rattle.std.specs.List.{list_any, before_first, after_first, prefix_len}
 use Rattle.gitbase_core.specs.Path.{is_empty, is_absolute, is_slash, joined, relative_to}
 use Rattle.glob_rules.specs.Glob.{is_special}
 use Rattle.glob_rules.specs.Marks.{colon, open_parenthesis}
-use Rattle.glob_rules.specs.PathSpecText.{is_close, is_mark, words_in}
+use Rattle.glob_rules.specs.PathSpecText.{is_close, is_excluding, is_mark, words_in}
 use Rattle.glob_rules.specs.Rule.{without_front}
 use Rattle.gitbase_core.specs.Steps.{and_then}
 use Rattle.git_setup.specs.declared.error.GitRefusal.{GitRefusal}
@@ -17,11 +17,11 @@ says word words = list_any (λ said. bytes_eq said word) words
 
 -- a path alone
 abbrev pub plain : List ℕ → SpecText
-plain path = record { front = codes "::"; path = path; is_top = false; is_literal = false; folds = false }
+plain path = record { front = codes "::"; path = path; is_top = false; is_literal = false; folds = false; excludes = false }
 
 -- a text that is left as it is
 abbrev pub as_it_is : List ℕ → SpecText
-as_it_is text = record { front = []; path = text; is_top = true; is_literal = false; folds = false }
+as_it_is text = record { front = []; path = text; is_top = true; is_literal = false; folds = false; excludes = false }
 
 abbrev pub by_words : List ℕ → List ℕ → SpecText
 by_words inside path =
@@ -31,6 +31,7 @@ by_words inside path =
       is_top = says (codes "top") (words_in inside);
       is_literal = says (codes "literal") (words_in inside);
       folds = says (codes "icase") (words_in inside);
+      excludes = says (codes "exclude") (words_in inside);
     }
 
 -- by what stands behind `:(`
@@ -39,7 +40,14 @@ long_parted rest = if list_any is_close rest then by_words (before_first is_clos
 
 abbrev pub by_marks : List ℕ → List ℕ → SpecText
 by_marks marks path =
-    record { front = codes ":" ++ marks ++ codes ":"; path = path; is_top = list_any is_slash marks; is_literal = false; folds = false }
+    record {
+      front = codes ":" ++ marks ++ codes ":";
+      path = path;
+      is_top = list_any is_slash marks;
+      is_literal = false;
+      folds = false;
+      excludes = list_any is_excluding marks;
+    }
 
 -- by what stands behind `:`, where no parenthesis comes next
 abbrev pub short_parted : List ℕ → SpecText

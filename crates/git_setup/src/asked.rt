@@ -9,6 +9,8 @@ pub struct Asked {
     pub options: SetupOptions,
     /// Path specs as they are written, from the current directory on; see git(7), `pathspec`. None of them asks for all.
     pub paths: Vec<Bytes>,
+    /// Whether the current directory is meant where there are no path specs, and where each excludes.
+    pub prefers_current: bool,
     /// How many components a directory that is entered may have below the top of the work tree.
     pub depth: usize,
 }

@@ -8,8 +8,10 @@ ghost use Rattle.git_setup.specs.Found as words;
 ghost use Rattle.git_setup.specs.Refusals.{as_files, as_places};
 
 use crate::asked::Asked;
+use crate::each::EachSpec;
 use crate::error::GitRefusal;
 use crate::parts::{Parts, is_for_deletion, parts_here};
+use crate::placed::beneath;
 use crate::reading::read_here;
 use git_config_files::{FilesError, own_top};
 use git_places::{Limits, Places, PlacesError, Surroundings, Top, find_top, limits_of, places_of};
@@ -25,6 +27,12 @@ pub struct Found {
     pub root: PathText,
     /// The setup.
     pub setup: Setup,
+    /// The current directory, from the top; no bytes where it is the top, or is not in the work tree.
+    pub prefix: Bytes,
+    /// The path specs of the setup, each by itself.
+    pub each: EachSpec,
+    /// Whether bytes above 0x7f are quoted in paths that are written, as `core.quotePath` says.
+    pub quote_path: bool,
 }
 
 /// An answer of the search for a work tree, its refusal as one of the whole.
@@ -169,33 +177,14 @@ fn current_for(
     Ok(None)
 }
 
-/// The setup of these parts.
-fn setup_with(
-    alloc: Global,
-    git: PathText,
-    directory: &[u8],
-    asked: &Asked,
-    parts: Parts,
-) -> Result<Setup, OutOfMemory>
-    ensures { IfOk result
-        (λ setup. setup ≡ words.setup_with git directory.now asked.now parts) }
+/// The current directory, from the top of a work tree.
+fn prefix_in(alloc: Global, root: &[u8], directory: &[u8]) -> Result<Bytes, OutOfMemory>
+    ensures { IfOk result (λ prefix. prefix ≡ words.prefix_in root.now directory.now) }
 {
-    let current_dir = current_for(alloc, &asked.options, directory)?;
-    let options = options_with(&asked.options, parts.ignore_case);
-    Ok(Setup {
-        git_dir: Some(git),
-        current_dir,
-        root: None,
-        depth: asked.depth,
-        index: parts.index,
-        blobs: MemoryStore::new(alloc),
-        overrides: Bytes::new(alloc),
-        globals: parts.globals,
-        specs: parts.specs,
-        worktrees: parts.worktrees.into_set(),
-        configs: parts.configs,
-        options,
-    })
+    match beneath(root, directory) {
+        Some(prefix) => Bytes::from_slice(alloc, prefix),
+        None => Ok(Bytes::new(alloc)),
+    }
 }
 
 /// The work tree at these places, with the setup of these parts.
@@ -210,10 +199,28 @@ fn found_with(
         (λ found. found ≡ words.found_with places around.now asked.now parts) }
 {
     let directory = around.directory.as_bytes();
-    let setup = setup_with(alloc, places.own_git, directory, asked, parts)?;
+    let prefix = prefix_in(alloc, places.root.as_bytes(), directory)?;
+    let current_dir = current_for(alloc, &asked.options, directory)?;
+    let options = options_with(&asked.options, parts.ignore_case);
     Ok(Found {
         root: places.root,
-        setup,
+        prefix,
+        each: parts.specs.each,
+        quote_path: parts.quote_path,
+        setup: Setup {
+            git_dir: Some(places.own_git),
+            current_dir,
+            root: None,
+            depth: asked.depth,
+            index: parts.index,
+            blobs: MemoryStore::new(alloc),
+            overrides: Bytes::new(alloc),
+            globals: parts.globals,
+            specs: parts.specs.all,
+            worktrees: parts.worktrees.into_set(),
+            configs: parts.configs,
+            options,
+        },
     })
 }
 
@@ -253,7 +260,7 @@ fn found_at<W: Worktree>(
 /// - `Places`: its repository is not read here, as [`places_of`] says.
 /// - `IndexNode`, `IndexFile`: what stands in the place of the index is no file, or is outside the grammar of one.
 /// - `Files`: a configuration is not read, as [`git_config_files::read_stack`] says.
-/// - `Boolean`: `core.ignoreCase`, `core.sparseCheckout` or `sparse.expectFilesOutsideOfPatterns` is no boolean.
+/// - `Boolean`: `core.ignoreCase`, `core.sparseCheckout`, `sparse.expectFilesOutsideOfPatterns` or `core.quotePath` is no boolean.
 /// - `SparseDirectory`: an entry of the index stands for all that is beneath a directory, and something is in its place.
 /// - `IndexEntry`: an entry breaks a rule of [`gitbase_core::State`].
 /// - `Files`: a rules file that the configuration names is not read, as [`git_config_files::rules_files`] says.

@@ -2,6 +2,7 @@
 #![tactic(auto)]
 
 mod asked;
+mod each;
 mod entries;
 mod error;
 mod found;
@@ -15,7 +16,9 @@ mod present;
 mod protected;
 mod reading;
 mod switches;
+mod written;
 
 pub use asked::Asked;
+pub use each::{AskedSpec, EachSpec};
 pub use error::GitRefusal;
 pub use found::{Found, setup_here};

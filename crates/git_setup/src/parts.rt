@@ -8,14 +8,13 @@ use crate::asked::Asked;
 use crate::error::GitRefusal;
 use crate::globals::globals_of;
 use crate::own_directories::own_for;
-use crate::pathspecs::specs_in;
+use crate::pathspecs::{AskedSpecs, specs_in};
 use crate::protected::{Protected, protected_in};
 use crate::reading::Read;
 use git_config_files::{Configured, rules_files};
 use git_config_lite::Source;
 use git_places::{Places, Surroundings};
 use gitbase_core::{Bytes, OutOfMemory, PathText, State};
-use glob_rules::pathspec::Search;
 use std::alloc::Global;
 use worktree_fs::Worktree;
 use worktree_report::{Configs, SetupOptions};
@@ -25,12 +24,14 @@ use worktree_report::{Configs, SetupOptions};
 pub struct Parts {
     /// Whether names compare without regard to the case of ASCII letters.
     pub ignore_case: bool,
+    /// Whether bytes above 0x7f are quoted in paths that are written.
+    pub quote_path: bool,
     /// The index.
     pub index: State,
     /// The rules that come behind those of all directories.
     pub globals: Bytes,
     /// The path specs that are asked for.
-    pub specs: Search,
+    pub specs: AskedSpecs,
     /// What a deletion leaves alone: submodules, and git directories of the work tree.
     pub worktrees: Protected,
     /// The configurations that are read for submodules.
@@ -122,6 +123,7 @@ pub fn parts_here<W: Worktree>(
     let root = places.root.as_bytes();
     let specs = specs_in(
         alloc,
+        asked.prefers_current,
         ignore_case,
         root,
         around.directory.as_bytes(),
@@ -134,6 +136,7 @@ pub fn parts_here<W: Worktree>(
     let configs = configs_for(alloc, worktree, &asked.options, read.stack.files.as_slice())?;
     Ok(Parts {
         ignore_case,
+        quote_path: read.switches.quote_path,
         index: read.index,
         globals,
         specs,

@@ -5,7 +5,7 @@ ghost use Rattle.std.specs.Prelude.{◌≡◌, ◌≤◌, ◌+◌, ◌==◌, ◌
 ghost use Rattle.gitbase_core.specs.Path as paths;
 ghost use Rattle.glob_rules.specs.Glob.{is_special};
 ghost use Rattle.glob_rules.specs.Marks.{colon, comma};
-ghost use Rattle.glob_rules.specs.PathSpecText.{is_close, is_mark, words_in};
+ghost use Rattle.glob_rules.specs.PathSpecText.{is_close, is_excluding, is_mark, words_in};
 ghost use Rattle.glob_rules.specs.Rule.{without_front};
 ghost use Rattle.git_setup.specs.Finds.{Decides};
 ghost use Rattle.git_setup.specs.Placed as texts;
@@ -28,6 +28,8 @@ pub struct SpecText {
     pub is_literal: bool,
     /// Whether its letters compare without regard to their case.
     pub folds: bool,
+    /// Whether it asks for what is not to be meant.
+    pub excludes: bool,
 }
 
 /// One text behind another.
@@ -49,6 +51,7 @@ fn plain(alloc: Global, path: &[u8]) -> Result<SpecText, OutOfMemory>
         is_top: false,
         is_literal: false,
         folds: false,
+        excludes: false,
     })
 }
 
@@ -62,6 +65,7 @@ fn as_it_is(alloc: Global, text: &[u8]) -> Result<SpecText, OutOfMemory>
         is_top: true,
         is_literal: false,
         folds: false,
+        excludes: false,
     })
 }
 
@@ -118,6 +122,7 @@ fn by_words(alloc: Global, inside: &[u8], path: &[u8]) -> Result<SpecText, OutOf
         is_top: says(inside, b"top"),
         is_literal: says(inside, b"literal"),
         folds: says(inside, b"icase"),
+        excludes: says(inside, b"exclude"),
     })
 }
 
@@ -183,6 +188,20 @@ fn without_colon(bytes: &[u8]) -> &[u8]
     }
 }
 
+/// Whether a mark excludes.
+fn is_excluding(mark: u8) -> bool
+    ensures { result ≡ is_excluding mark }
+{
+    mark == b'!' || mark == b'^'
+}
+
+/// Whether a mark among these does.
+fn has_excluding(marks: &[u8]) -> bool
+    ensures { result ≡ list_any is_excluding marks.now }
+{
+    marks.iter().any(|mark| is_excluding(*mark))
+}
+
 fn by_marks(alloc: Global, marks: &[u8], path: &[u8]) -> Result<SpecText, OutOfMemory>
     ensures { IfOk result (λ parted. parted ≡ texts.by_marks marks.now path.now) }
 {
@@ -194,6 +213,7 @@ fn by_marks(alloc: Global, marks: &[u8], path: &[u8]) -> Result<SpecText, OutOfM
         is_top: marks.contains(&b'/'),
         is_literal: false,
         folds: false,
+        excludes: has_excluding(marks),
     })
 }
 
@@ -206,7 +226,7 @@ fn short_parted(alloc: Global, rest: &[u8]) -> Result<SpecText, OutOfMemory>
 }
 
 /// The two parts of a text.
-fn parted(alloc: Global, text: &[u8]) -> Result<SpecText, OutOfMemory>
+pub fn parted(alloc: Global, text: &[u8]) -> Result<SpecText, OutOfMemory>
     ensures { IfOk result (λ parted. parted ≡ texts.parted text.now) }
 {
     match text {

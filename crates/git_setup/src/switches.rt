@@ -1,4 +1,4 @@
-//! What the configuration says of how names compare, and of a sparse work tree.
+//! What the configuration says of how names compare, of a sparse work tree, and of how paths are written.
 ghost use Rattle.git_setup.specs.Finds.{Decides};
 ghost use Rattle.git_setup.specs.Switches as words;
 
@@ -7,28 +7,32 @@ use git_config_lite::File;
 use gitbase_core::Bytes;
 use std::alloc::Global;
 
-/// What the configuration says of how names compare, and of a sparse work tree.
+/// What the configuration says of how names compare, of a sparse work tree, and of how paths are written.
 #[derive(Clone, Copy, Debug, PartialEq, Eq)]
 pub struct Switches {
     /// Whether names compare without regard to the case of ASCII letters.
     pub ignore_case: bool,
     /// Whether a skipped entry that is in the work tree counts as one that is not skipped.
     pub looks_for_skipped: bool,
+    /// Whether bytes above 0x7f are quoted in paths that are written.
+    pub quote_path: bool,
 }
 
-/// What a key says as a boolean; `name` is what it is called where it is refused.
+/// What a key says as a boolean, and the usual answer where it says nothing; `name` is what it is called where it is refused.
 fn truth_in(
     alloc: Global,
     config: &File,
     section: &[u8],
     key: &[u8],
     name: &[u8],
+    usual: bool,
 ) -> Result<bool, GitRefusal>
-    ensures { Decides result (words.truth_in config.now.sections section.now key.now name.now) }
+    ensures { Decides result (words.truth_in config.now.sections section.now key.now name.now
+        usual) }
 {
     match config.boolean(section, None, key) {
         Ok(Some(truth)) => Ok(truth),
-        Ok(None) => Ok(false),
+        Ok(None) => Ok(usual),
         Err(_) => Err(GitRefusal::Boolean {
             key: Bytes::from_slice(alloc, name)?,
         }),
@@ -42,13 +46,21 @@ fn truth_in(
 pub fn switches_in(alloc: Global, config: &File) -> Result<Switches, GitRefusal>
     ensures { Decides result (words.switches_in config.now.sections) }
 {
-    let ignore_case = truth_in(alloc, config, b"core", b"ignorecase", b"core.ignoreCase")?;
+    let ignore_case = truth_in(
+        alloc,
+        config,
+        b"core",
+        b"ignorecase",
+        b"core.ignoreCase",
+        false,
+    )?;
     let sparse = truth_in(
         alloc,
         config,
         b"core",
         b"sparsecheckout",
         b"core.sparseCheckout",
+        false,
     )?;
     let expects = truth_in(
         alloc,
@@ -56,9 +68,19 @@ pub fn switches_in(alloc: Global, config: &File) -> Result<Switches, GitRefusal>
         b"sparse",
         b"expectfilesoutsideofpatterns",
         b"sparse.expectFilesOutsideOfPatterns",
+        false,
+    )?;
+    let quote_path = truth_in(
+        alloc,
+        config,
+        b"core",
+        b"quotepath",
+        b"core.quotePath",
+        true,
     )?;
     Ok(Switches {
         ignore_case,
         looks_for_skipped: sparse & !expects,
+        quote_path,
     })
 }

@@ -103,6 +103,7 @@ pub fn asked_for(alloc: Global, options: SetupOptions, specs: &[u8]) -> Result<A
         options,
         paths,
         depth: 256,
+        prefers_current: false,
     })
 }
 
@@ -112,6 +113,7 @@ pub fn asked_alone(alloc: Global, options: SetupOptions) -> Asked {
         options,
         paths: Vec::new(alloc),
         depth: 256,
+        prefers_current: false,
     }
 }
 
