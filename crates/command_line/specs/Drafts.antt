@@ -14,6 +14,9 @@ use Rattle.worktree_report.specs.Permissions.{all_permissions, isolated_permissi
 use Rattle.worktree_report.specs.declared.permissions.Permissions.{Permissions}
 use Rattle.worktree_report.specs.declared.setup.SetupOptions.{SetupOptions}
 use Rattle.worktree_stack.specs.declared.ignore_source.Source.TheVariants as sources
+use Rattle.ls_files.specs.declared.listing.Listing.{Listing}
+use Rattle.command_line.specs.declared.choice.Choice.{Choice}
+use Rattle.command_line.specs.declared.choice.Choice.TheVariants as choices
 use Rattle.command_line.specs.declared.draft.Draft.{Draft}
 use Rattle.command_line.specs.declared.form.Color.{Color}
 use Rattle.command_line.specs.declared.form.Color.TheVariants.{Auto}
@@ -55,10 +58,31 @@ default_options =
 abbrev pub default_form : Form
 default_form = record { wording = Words; end = Feed; color = Auto }
 
+-- What the index has, each path by itself and from the current directory. How bytes above 0x7f are written is left to the configuration.
+abbrev pub default_listing : Listing
+default_listing =
+    record {
+      cached = false;
+      stages = false;
+      unmerged = false;
+      others = false;
+      ignored = false;
+      directories = false;
+      empty_directories = true;
+      excludes_standard = false;
+      error_unmatch = false;
+      tags = false;
+      valid = false;
+      ends_in_nul = false;
+      deduplicates = false;
+      full_names = false;
+      quote_path = true;
+    }
+
 -- what no words say: untracked paths may be removed, and no repository, bare ones neither
 abbrev pub default_draft : Draft
 default_draft =
-    record { options = default_options; what = whats.Untracked; finding = findings.All; depth = 256; form = default_form; is_help = false }
+    record { options = default_options; what = whats.Untracked; finding = findings.All; depth = 256; form = default_form; listing = default_listing; is_help = false }
 
 -- options with one of them turned on or off
 abbrev pub turned : Switch → Bool → SetupOptions → SetupOptions
@@ -74,6 +98,23 @@ turned switches.StrictParents on options = record options { strict_parents = on 
 turned switches.RecurseRepositories on options = record options { recurse_repositories = on }
 turned switches.BareRepositories on options = record options { classify_untracked_bare_repositories = on }
 turned switches.LinksAsDirectories on options = record options { symlinks_to_directories_are_ignored_like_directories = on }
+
+-- a listing with one choice made or dropped
+abbrev pub chosen : Choice → Bool → Listing → Listing
+chosen choices.Cached on listing = record listing { cached = on }
+chosen choices.Stages on listing = record listing { stages = on }
+chosen choices.Unmerged on listing = record listing { unmerged = on }
+chosen choices.Others on listing = record listing { others = on }
+chosen choices.Ignored on listing = record listing { ignored = on }
+chosen choices.Directories on listing = record listing { directories = on }
+chosen choices.EmptyDirectories on listing = record listing { empty_directories = on }
+chosen choices.ExcludesStandard on listing = record listing { excludes_standard = on }
+chosen choices.ErrorUnmatch on listing = record listing { error_unmatch = on }
+chosen choices.Tags on listing = record listing { tags = on }
+chosen choices.Valid on listing = record listing { valid = on }
+chosen choices.Nul on listing = record listing { ends_in_nul = on }
+chosen choices.Deduplicates on listing = record listing { deduplicates = on }
+chosen choices.FullNames on listing = record listing { full_names = on }
 
 abbrev pub permissions_of : Bool → Permissions
 permissions_of is_isolated = if is_isolated then isolated_permissions else all_permissions
@@ -124,6 +165,9 @@ with_finding finding draft = record draft { finding = finding }
 
 abbrev pub with_depth : ℕ → Draft → Draft
 with_depth depth draft = record draft { depth = depth }
+
+abbrev pub with_choice : Choice → Bool → Draft → Draft
+with_choice choice on draft = record draft { listing = chosen choice on draft.listing }
 
 abbrev pub with_help : Draft → Draft
 with_help draft = record draft { is_help = true }

@@ -7,11 +7,12 @@ use Rattle.command_line.specs.declared.verb.Verb.TheVariants as verbs
 
 -- how a command is called
 abbrev pub usage_of : Topic → List ℕ
-usage_of topics.Whole = codes "usage: tizhagor [-C DIR] report|plan|modules|state [OPTION..] [--] [PATH..]\n"
+usage_of topics.Whole = codes "usage: tizhagor [-C DIR] report|plan|modules|state|ls-files [OPTION..] [--] [PATH..]\n"
 usage_of (topics.Of verbs.Report) = codes "usage: tizhagor [-C DIR] report [OPTION..] [--] [PATH..]\n"
 usage_of (topics.Of verbs.Plan) = codes "usage: tizhagor [-C DIR] plan [OPTION..] [--] [PATH..]\n"
 usage_of (topics.Of verbs.Modules) = codes "usage: tizhagor [-C DIR] modules [OPTION..]\n"
 usage_of (topics.Of verbs.State) = codes "usage: tizhagor [-C DIR] state [OPTION..]\n"
+usage_of (topics.Of verbs.Files) = codes "usage: tizhagor [-C DIR] ls-files [OPTION..] [--] [PATH..]\n"
 
 -- lines, each with a line feed
 abbrev text : List (List ℕ) → List ℕ
@@ -20,7 +21,7 @@ text lines = flat_map (λ line. line ++ 10 ∷ []) lines
 abbrev whole : List ℕ
 whole =
     text
-    (codes "usage: tizhagor [-C DIR] report|plan|modules|state [OPTION..] [--] [PATH..]"
+    (codes "usage: tizhagor [-C DIR] report|plan|modules|state|ls-files [OPTION..] [--] [PATH..]"
     ∷ codes ""
     ∷ codes "Says what lies in the git work tree around the current directory. Nothing is run,"
     ∷ codes "changed or removed, and git is not needed."
@@ -29,6 +30,7 @@ whole =
     ∷ codes "  plan      what may be removed, as git clean -n -d names it"
     ∷ codes "  modules   what git submodule update would do"
     ∷ codes "  state     the paths of the index that are not as it has them, and the report"
+    ∷ codes "  ls-files  paths of the index and of the work tree, as git ls-files has them"
     ∷ codes ""
     ∷ codes "  -C DIR        works in DIR"
     ∷ codes "  -h, --help    this text; behind a command, that of the command"
@@ -178,6 +180,37 @@ state =
     ∷ []
     )
 
+unfoldable pub files : List ℕ
+files =
+    text
+    (codes "usage: tizhagor [-C DIR] ls-files [OPTION..] [--] [PATH..]"
+    ∷ codes ""
+    ∷ codes "Writes paths as git ls-files does, from the current directory: those of the index, or"
+    ∷ codes "those that OPTION chooses. A PATH is a path spec; none means the current directory."
+    ∷ codes ""
+    ∷ codes "  -c, --cached          what the index has; it is shown too where nothing is chosen"
+    ∷ codes "  -s, --stage           the same with mode, object and stage"
+    ∷ codes "  -u, --unmerged        the same of paths that are not merged, alone"
+    ∷ codes "  -o, --others          what the index does not have"
+    ∷ codes "  -i, --ignored         of that, what is ignored, alone; with --exclude-standard"
+    ∷ codes "  --exclude-standard    ignore rules are asked: .gitignore, info/exclude, and the"
+    ∷ codes "                        excludes file of the user"
+    ∷ codes "  --directory           a directory in place of what it holds, where the index has"
+    ∷ codes "                        nothing in it"
+    ∷ codes "  --no-empty-directory  no directories without files"
+    ∷ codes "  -t                    a letter before each path: H, S, M, or ? for -o"
+    ∷ codes "  -v                    the same, in lower case where a file is assumed unchanged"
+    ∷ codes "  -z                    a NUL behind each path, which stands as it is"
+    ∷ codes "  --deduplicate         each path of the index once"
+    ∷ codes "  --full-name           paths from the top of the work tree"
+    ∷ codes "  --error-unmatch       the status is 1 where a PATH is about nothing"
+    ∷ codes "  -h, --help            this text"
+    ∷ codes ""
+    ∷ codes "Of options that say the same the last counts; --no- before a name turns it off, but"
+    ∷ codes "for --exclude-standard and --full-name. For example: tizhagor ls-files -o --directory"
+    ∷ []
+    )
+
 -- the help text of a command, or of the whole program
 abbrev pub help_of : Topic → List ℕ
 help_of topics.Whole = whole
@@ -185,6 +218,7 @@ help_of (topics.Of verbs.Report) = report
 help_of (topics.Of verbs.Plan) = plan
 help_of (topics.Of verbs.Modules) = modules
 help_of (topics.Of verbs.State) = state
+help_of (topics.Of verbs.Files) = files
 
 abbrev pub version : List ℕ
 version = codes "tizhagor, unreleased\n"

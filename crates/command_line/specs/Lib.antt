@@ -1,6 +1,7 @@
 pub mod Verbs
 pub mod Forms
 pub mod Options
+pub mod Choices
 pub mod Drafts
 pub mod Steps
 pub mod Readings

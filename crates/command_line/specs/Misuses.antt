@@ -20,6 +20,8 @@ front_of wrongs.UnknownValue = codes "error: option `"
 front_of wrongs.NotADepth = codes "error: `"
 front_of wrongs.SecondDirectory = codes "error: option `"
 front_of wrongs.Paths = codes "error: `"
+front_of wrongs.Left = codes "error: option `"
+front_of (wrongs.LeftSwitch letter) = codes "error: switch `"
 
 -- what stands behind it
 abbrev pub back_of : Wrong → List ℕ
@@ -33,10 +35,13 @@ back_of wrongs.UnknownValue = codes "' has a value that is not known\n"
 back_of wrongs.NotADepth = codes "' is no depth, which is a number from 0 to 1000\n"
 back_of wrongs.SecondDirectory = codes "' stands more than once\n"
 back_of wrongs.Paths = codes "' is a path, and this command takes none\n"
+back_of wrongs.Left = codes "' is git's, and is not answered here\n"
+back_of (wrongs.LeftSwitch letter) = codes "' is git's, and is not answered here\n"
 
--- the word, or the letter in it that is no option, with control bytes escaped
+-- the word, or the letter in it that is wrong, with control bytes escaped
 abbrev pub word_in : Wrong → List ℕ → List ℕ
 word_in (wrongs.UnknownSwitch letter) word = escaped (letter ∷ [])
+word_in (wrongs.LeftSwitch letter) word = escaped (letter ∷ [])
 word_in other word = escaped word
 
 -- the line of a word that is wrong, and the usage

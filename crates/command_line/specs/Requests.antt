@@ -5,6 +5,7 @@ use Rattle.std.specs.Str.{bytes_eq}
 use Rattle.clean_plan.specs.declared.what.Finding.{Finding}
 use Rattle.clean_plan.specs.declared.what.What.{What}
 use Rattle.git_setup.specs.declared.asked.Asked.{Asked}
+use Rattle.ls_files.specs.declared.listing.Listing.{Listing}
 use Rattle.worktree_report.specs.declared.setup.SetupOptions.{SetupOptions}
 use Rattle.command_line.specs.declared.command.Command as code
 use Rattle.command_line.specs.declared.command.Command.TheVariants as commands
@@ -20,16 +21,17 @@ use Rattle.command_line.specs.declared.verb.Topic.TheVariants as topics
 use Rattle.command_line.specs.declared.verb.Verb.{Verb}
 use Rattle.command_line.specs.declared.verb.Verb.TheVariants as verbs
 use Rattle.command_line.specs.Readings.{Reading, said, wrong, read_words}
-use Rattle.command_line.specs.Verbs.{verb_of}
+use Rattle.command_line.specs.Verbs.{prefers_current, verb_of}
 
 -- what is asked of a work tree
 pub record Want : Type 0 where
   pub options : SetupOptions
   pub paths : List (List ℕ)
   pub depth : ℕ
+  pub prefers_current : Bool
 
 abbrev pub want_of : Asked → Want
-want_of asked = record { options = asked.options; paths = asked.paths.items; depth = asked.depth }
+want_of asked = record { options = asked.options; paths = asked.paths.items; depth = asked.depth; prefers_current = asked.prefers_current }
 
 -- what is to be done
 pub data Command : Type 0 where
@@ -37,6 +39,7 @@ pub data Command : Type 0 where
   plan : Want → What → Finding → Form → Command
   modules : Want → Command
   state : Want → Form → Command
+  files : Want → Listing → Command
   help : Topic → Command
   version : Command
 
@@ -46,6 +49,7 @@ seen (commands.Report asked form) = report (want_of asked) form
 seen (commands.Plan asked what finding form) = plan (want_of asked) what finding form
 seen (commands.Modules asked) = modules (want_of asked)
 seen (commands.State asked form) = state (want_of asked) form
+seen (commands.Files asked listing) = files (want_of asked) listing
 seen (commands.Help topic) = help topic
 seen commands.Version = version
 
@@ -54,14 +58,23 @@ pub data Answer : Type 0 where
   does : Command → Answer
   misuses_word : Topic → Wrong → List ℕ → Answer
 
-abbrev want_in : Draft → List (List ℕ) → Want
-want_in draft paths = record { options = draft.options; paths = paths; depth = draft.depth }
+-- git's own words have no bound but the highest that there is here
+abbrev pub depth_in : Verb → ℕ → ℕ
+depth_in verbs.Report depth = depth
+depth_in verbs.Plan depth = depth
+depth_in verbs.Modules depth = depth
+depth_in verbs.State depth = depth
+depth_in verbs.Files depth = 1000
+
+abbrev want_in : Verb → Draft → List (List ℕ) → Want
+want_in verb draft paths = record { options = draft.options; paths = paths; depth = depth_in verb draft.depth; prefers_current = prefers_current verb }
 
 abbrev done : Verb → Draft → List (List ℕ) → Command
-done verbs.Report draft paths = report (want_in draft paths) draft.form
-done verbs.Plan draft paths = plan (want_in draft paths) draft.what draft.finding draft.form
-done verbs.Modules draft paths = modules (want_in draft paths)
-done verbs.State draft paths = state (want_in draft paths) draft.form
+done verbs.Report draft paths = report (want_in verbs.Report draft paths) draft.form
+done verbs.Plan draft paths = plan (want_in verbs.Plan draft paths) draft.what draft.finding draft.form
+done verbs.Modules draft paths = modules (want_in verbs.Modules draft paths)
+done verbs.State draft paths = state (want_in verbs.State draft paths) draft.form
+done verbs.Files draft paths = files (want_in verbs.Files draft paths) draft.listing
 
 -- what a command is to do, by what its words say
 abbrev pub told : Verb → Draft → List (List ℕ) → Command

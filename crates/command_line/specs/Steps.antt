@@ -21,7 +21,9 @@ use Rattle.command_line.specs.declared.step.Next.TheVariants as nexts
 use Rattle.command_line.specs.declared.step.Step.{Step}
 use Rattle.command_line.specs.declared.step.Step.TheVariants.{Said, Path, Wrong as is_wrong}
 use Rattle.command_line.specs.declared.verb.Verb.{Verb}
-use Rattle.command_line.specs.Drafts.{with_switch, with_untracked, with_ignored, with_collapsed, with_deletion, with_permissions, with_strategy, with_wording, with_end, with_color, with_what, with_finding, with_depth, with_help}
+use Rattle.command_line.specs.declared.verb.Verb.TheVariants as verbs
+use Rattle.command_line.specs.Choices.{listing_opt_of, listing_opt_of_letter}
+use Rattle.command_line.specs.Drafts.{with_switch, with_untracked, with_ignored, with_collapsed, with_deletion, with_permissions, with_strategy, with_wording, with_end, with_color, with_what, with_finding, with_depth, with_choice, with_help}
 use Rattle.command_line.specs.Options.{opt_of, opt_of_letter, takes, emission_of, collapsed_of, deletion_of}
 use Rattle.command_line.specs.Verbs.{takes_paths}
 
@@ -48,6 +50,9 @@ bare opts.Plain draft = on (with_wording Letters draft)
 bare opts.Color draft = on (with_color Always draft)
 bare opts.NoColor draft = on (with_color Never draft)
 bare opts.Help draft = on (with_help draft)
+bare (opts.Chooses choice) draft = on (with_choice choice true draft)
+bare (opts.Drops choice) draft = on (with_choice choice false draft)
+bare opts.Left draft = is_wrong wrongs.Left
 
 -- ---- values
 
@@ -117,17 +122,23 @@ valued opts.Permissions value draft = permissions_by value draft
 valued opts.Strategy value draft = strategy_by value draft
 valued opts.Depth value draft = depth_by value draft
 valued opts.Color value draft = color_by value draft
+valued opts.Left value draft = is_wrong wrongs.Left
 valued other value draft = is_wrong wrongs.TakesNoValue
 
 -- ---- names
 
-abbrev if_taken : Verb → Option Opt → Option Opt
+-- an option, if a command has it
+abbrev pub if_taken : Verb → Option Opt → Option Opt
 if_taken verb None = None
 if_taken verb (Some opt) = if takes verb opt then Some opt else None
 
 -- the option of a name that a command has
 abbrev pub known : Verb → List ℕ → Option Opt
-known verb name = if_taken verb (opt_of name)
+known verbs.Files name = listing_opt_of name
+known verbs.Report name = if_taken verbs.Report (opt_of name)
+known verbs.Plan name = if_taken verbs.Plan (opt_of name)
+known verbs.Modules name = if_taken verbs.Modules (opt_of name)
+known verbs.State name = if_taken verbs.State (opt_of name)
 
 abbrev bare_or_unknown : Option Opt → Draft → Step
 bare_or_unknown (Some opt) draft = bare opt draft
@@ -155,7 +166,11 @@ long verb text draft = long_at verb text (position (λ b. b == 61) text) draft
 
 -- the option of a letter that a command has
 abbrev pub known_letter : Verb → ℕ → Option Opt
-known_letter verb letter = if_taken verb (opt_of_letter letter)
+known_letter verbs.Files letter = listing_opt_of_letter letter
+known_letter verbs.Report letter = if_taken verbs.Report (opt_of_letter letter)
+known_letter verbs.Plan letter = if_taken verbs.Plan (opt_of_letter letter)
+known_letter verbs.Modules letter = if_taken verbs.Modules (opt_of_letter letter)
+known_letter verbs.State letter = if_taken verbs.State (opt_of_letter letter)
 
 -- `u` and a value behind it in its word, or nothing
 abbrev pub untracked_letter : List ℕ → Draft → Step
@@ -173,9 +188,16 @@ abbrev pub is_untracked : Opt → Bool
 is_untracked opts.Untracked = true
 is_untracked other = false
 
+abbrev pub is_left : Opt → Bool
+is_left opts.Left = true
+is_left other = false
+
 abbrev pub by_letter : Option Opt → ℕ → List ℕ → (Draft → Step) → Draft → Step
 by_letter None letter text onward draft = is_wrong (wrongs.UnknownSwitch letter)
-by_letter (Some opt) letter text onward draft = if is_untracked opt then untracked_letter text draft else onward (lettered opt draft)
+by_letter (Some opt) letter text onward draft =
+    if is_untracked opt then untracked_letter text draft
+    else if is_left opt then is_wrong (wrongs.LeftSwitch letter)
+    else onward (lettered opt draft)
 
 -- letters, each an option; `u` takes what is behind it as its value
 unfoldable pub letters : Verb → List ℕ → Draft → Step

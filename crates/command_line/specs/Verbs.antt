@@ -2,7 +2,7 @@
 use Rattle.std.specs.Prelude.{ℕ, List, Bool, true, false, codes, Option, Some, None, if◌then◌else◌}
 use Rattle.std.specs.Str.{bytes_eq}
 use Rattle.command_line.specs.declared.verb.Verb.{Verb}
-use Rattle.command_line.specs.declared.verb.Verb.TheVariants.{Report, Plan, Modules, State}
+use Rattle.command_line.specs.declared.verb.Verb.TheVariants.{Report, Plan, Modules, State, Files}
 
 -- the command of this name
 abbrev pub verb_of : List ℕ → Option Verb
@@ -11,6 +11,7 @@ verb_of word =
     else if bytes_eq word (codes "plan") then Some Plan
     else if bytes_eq word (codes "modules") then Some Modules
     else if bytes_eq word (codes "state") then Some State
+    else if bytes_eq word (codes "ls-files") then Some Files
     else None
 
 -- `modules` and `state` look at the whole of the work tree
@@ -19,3 +20,12 @@ takes_paths Report = true
 takes_paths Plan = true
 takes_paths Modules = false
 takes_paths State = false
+takes_paths Files = true
+
+-- git's own words mean the current directory where no path is asked for, and where each path excludes
+abbrev pub prefers_current : Verb → Bool
+prefers_current Report = false
+prefers_current Plan = false
+prefers_current Modules = false
+prefers_current State = false
+prefers_current Files = true

@@ -4,6 +4,7 @@ use crate::verb::Topic;
 use clean_plan::{Finding, What};
 use git_setup::Asked;
 use gitbase_core::Bytes;
+use ls_files::Listing;
 
 /// What is to be done.
 #[derive(Debug, Drop)]
@@ -37,6 +38,13 @@ pub enum Command {
         asked: Asked,
         /// How both are written.
         form: Form,
+    },
+    /// What `git ls-files` prints is written.
+    Files {
+        /// What is asked of the work tree.
+        asked: Asked,
+        /// What is listed. Whether bytes above 0x7f are quoted is left to the configuration.
+        listing: Listing,
     },
     /// A help text is written.
     Help(Topic),

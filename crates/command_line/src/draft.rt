@@ -2,10 +2,12 @@
 ghost use Rattle.std.specs.Prelude.{◌≡◌, Option};
 ghost use Rattle.command_line.specs.Drafts as drafts;
 
+use crate::choice::Choice;
 use crate::form::{Color, Form, LineEnd, Wording};
 use crate::opt::Switch;
 use clean_plan::{Finding, What};
 use dir_classify::{CollapsedEntriesEmissionMode, EmissionMode, ForDeletionMode};
+use ls_files::Listing;
 use worktree_report::{Permissions, SetupOptions, Strategy};
 use worktree_stack::ignore_source;
 
@@ -25,6 +27,8 @@ pub struct Draft {
     pub depth: usize,
     /// How the answer is written.
     pub form: Form,
+    /// What is listed.
+    pub listing: Listing,
     /// Whether the help text is asked for.
     pub is_help: bool,
 }
@@ -57,6 +61,29 @@ fn default_options() -> SetupOptions
     }
 }
 
+/// The listing where no word says any.
+fn default_listing() -> Listing
+    ensures { result ≡ drafts.default_listing }
+{
+    Listing {
+        cached: false,
+        stages: false,
+        unmerged: false,
+        others: false,
+        ignored: false,
+        directories: false,
+        empty_directories: true,
+        excludes_standard: false,
+        error_unmatch: false,
+        tags: false,
+        valid: false,
+        ends_in_nul: false,
+        deduplicates: false,
+        full_names: false,
+        quote_path: true,
+    }
+}
+
 /// What no words say.
 pub fn default_draft() -> Draft
     ensures { result ≡ drafts.default_draft }
@@ -71,6 +98,7 @@ pub fn default_draft() -> Draft
             end: LineEnd::Feed,
             color: Color::Auto,
         },
+        listing: default_listing(),
         is_help: false,
     }
 }
@@ -97,6 +125,30 @@ fn turned(options: SetupOptions, switch: Switch, on: bool) -> SetupOptions
         }
     }
     options
+}
+
+/// The listing with one choice made or dropped; all others stay.
+fn chosen(listing: Listing, choice: Choice, on: bool) -> Listing
+    ensures { result ≡ drafts.chosen choice on listing }
+{
+    let mut listing = listing;
+    match choice {
+        Choice::Cached => listing.cached = on,
+        Choice::Stages => listing.stages = on,
+        Choice::Unmerged => listing.unmerged = on,
+        Choice::Others => listing.others = on,
+        Choice::Ignored => listing.ignored = on,
+        Choice::Directories => listing.directories = on,
+        Choice::EmptyDirectories => listing.empty_directories = on,
+        Choice::ExcludesStandard => listing.excludes_standard = on,
+        Choice::ErrorUnmatch => listing.error_unmatch = on,
+        Choice::Tags => listing.tags = on,
+        Choice::Valid => listing.valid = on,
+        Choice::Nul => listing.ends_in_nul = on,
+        Choice::Deduplicates => listing.deduplicates = on,
+        Choice::FullNames => listing.full_names = on,
+    }
+    listing
 }
 
 /// The configurations that may be read.
@@ -226,6 +278,14 @@ impl Draft {
     {
         let mut draft = self;
         draft.depth = depth;
+        draft
+    }
+
+    pub fn with_choice(self, choice: Choice, on: bool) -> Draft
+        ensures { result ≡ drafts.with_choice choice on self }
+    {
+        let mut draft = self;
+        draft.listing = chosen(draft.listing, choice, on);
         draft
     }
 

@@ -4,7 +4,8 @@ ghost use Rattle.command_line.specs.Helps as helps;
 
 use crate::verb::{Topic, Verb};
 
-const WHOLE: &[u8] = b"usage: tizhagor [-C DIR] report|plan|modules|state [OPTION..] [--] [PATH..]
+const WHOLE: &[u8] =
+    b"usage: tizhagor [-C DIR] report|plan|modules|state|ls-files [OPTION..] [--] [PATH..]
 
 Says what lies in the git work tree around the current directory. Nothing is run,
 changed or removed, and git is not needed.
@@ -13,6 +14,7 @@ changed or removed, and git is not needed.
   plan      what may be removed, as git clean -n -d names it
   modules   what git submodule update would do
   state     the paths of the index that are not as it has them, and the report
+  ls-files  paths of the index and of the work tree, as git ls-files has them
 
   -C DIR        works in DIR
   -h, --help    this text; behind a command, that of the command
@@ -145,6 +147,33 @@ Of options that say the same the last counts; --no- before the name of one witho
 a value turns it off. For example: tizhagor state --ignored
 ";
 
+const FILES: &[u8] = b"usage: tizhagor [-C DIR] ls-files [OPTION..] [--] [PATH..]
+
+Writes paths as git ls-files does, from the current directory: those of the index, or
+those that OPTION chooses. A PATH is a path spec; none means the current directory.
+
+  -c, --cached          what the index has; it is shown too where nothing is chosen
+  -s, --stage           the same with mode, object and stage
+  -u, --unmerged        the same of paths that are not merged, alone
+  -o, --others          what the index does not have
+  -i, --ignored         of that, what is ignored, alone; with --exclude-standard
+  --exclude-standard    ignore rules are asked: .gitignore, info/exclude, and the
+                        excludes file of the user
+  --directory           a directory in place of what it holds, where the index has
+                        nothing in it
+  --no-empty-directory  no directories without files
+  -t                    a letter before each path: H, S, M, or ? for -o
+  -v                    the same, in lower case where a file is assumed unchanged
+  -z                    a NUL behind each path, which stands as it is
+  --deduplicate         each path of the index once
+  --full-name           paths from the top of the work tree
+  --error-unmatch       the status is 1 where a PATH is about nothing
+  -h, --help            this text
+
+Of options that say the same the last counts; --no- before a name turns it off, but
+for --exclude-standard and --full-name. For example: tizhagor ls-files -o --directory
+";
+
 /// The help text of `report`.
 #[tactic(auto, unfolding(crate::specs::Helps::report))]
 fn report_help() -> &'static [u8]
@@ -169,17 +198,26 @@ fn state_help() -> &'static [u8]
     STATE
 }
 
+/// The help text of `ls-files`.
+#[tactic(auto, unfolding(crate::specs::Helps::files))]
+fn files_help() -> &'static [u8]
+    ensures { result.now ≡ helps.files }
+{
+    FILES
+}
+
 /// How a command is called.
 pub fn usage_of(topic: Topic) -> &'static [u8]
     ensures { result.now ≡ helps.usage_of topic }
 {
     match topic {
         Topic::Whole =>
-            b"usage: tizhagor [-C DIR] report|plan|modules|state [OPTION..] [--] [PATH..]\n",
+            b"usage: tizhagor [-C DIR] report|plan|modules|state|ls-files [OPTION..] [--] [PATH..]\n",
         Topic::Of(Verb::Report) => b"usage: tizhagor [-C DIR] report [OPTION..] [--] [PATH..]\n",
         Topic::Of(Verb::Plan) => b"usage: tizhagor [-C DIR] plan [OPTION..] [--] [PATH..]\n",
         Topic::Of(Verb::Modules) => b"usage: tizhagor [-C DIR] modules [OPTION..]\n",
         Topic::Of(Verb::State) => b"usage: tizhagor [-C DIR] state [OPTION..]\n",
+        Topic::Of(Verb::Files) => b"usage: tizhagor [-C DIR] ls-files [OPTION..] [--] [PATH..]\n",
     }
 }
 
@@ -193,6 +231,7 @@ pub fn help_of(topic: Topic) -> &'static [u8]
         Topic::Of(Verb::Plan) => plan_help(),
         Topic::Of(Verb::Modules) => MODULES,
         Topic::Of(Verb::State) => state_help(),
+        Topic::Of(Verb::Files) => files_help(),
     }
 }
 

@@ -1,6 +1,7 @@
 //! The command line of `tizhagor`: what its words ask for, how answers are written, and what is said of words that ask for nothing.
 #![tactic(auto)]
 
+mod choice;
 mod command;
 mod depth;
 mod draft;

@@ -35,6 +35,13 @@ pub enum Wrong {
     SecondDirectory,
     /// The command takes no paths, and the word is one.
     Paths,
+    /// The option is git's, and is not answered here.
+    Left,
+    /// The option of this letter is git's, and is not answered here.
+    LeftSwitch {
+        /// The letter.
+        letter: u8,
+    },
 }
 
 /// Why words ask for nothing.
@@ -75,9 +82,12 @@ fn front_of(wrong: Wrong) -> &'static [u8]
         Wrong::UnknownCommand => b"error: unknown command `",
         Wrong::UnknownOption => b"error: unknown option `",
         Wrong::UnknownSwitch { letter: _ } => b"error: unknown switch `",
-        Wrong::NoValue | Wrong::TakesNoValue | Wrong::UnknownValue | Wrong::SecondDirectory => {
-            b"error: option `"
-        }
+        Wrong::NoValue
+        | Wrong::TakesNoValue
+        | Wrong::UnknownValue
+        | Wrong::SecondDirectory
+        | Wrong::Left => b"error: option `",
+        Wrong::LeftSwitch { letter: _ } => b"error: switch `",
         Wrong::NotADepth | Wrong::Paths => b"error: `",
     }
 }
@@ -95,6 +105,9 @@ fn back_of(wrong: Wrong) -> &'static [u8]
         Wrong::NotADepth => b"' is no depth, which is a number from 0 to 1000\n",
         Wrong::SecondDirectory => b"' stands more than once\n",
         Wrong::Paths => b"' is a path, and this command takes none\n",
+        Wrong::Left | Wrong::LeftSwitch { letter: _ } => {
+            b"' is git's, and is not answered here\n"
+        }
     }
 }
 
@@ -103,7 +116,9 @@ fn add_word(text: &mut Vec<u8>, wrong: Wrong, word: &[u8]) -> Result<(), OutOfMe
     ensures { OnOk result (text.new.items ≡ text.old.items ++ misuses.word_in wrong word.now) }
 {
     match wrong {
-        Wrong::UnknownSwitch { letter } => add_escaped(text, &[letter])?,
+        Wrong::UnknownSwitch { letter } | Wrong::LeftSwitch { letter } => {
+            add_escaped(text, &[letter])?
+        }
         _ => add_escaped(text, word)?,
     }
     Ok(())

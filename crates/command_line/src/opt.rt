@@ -2,6 +2,7 @@
 ghost use Rattle.std.specs.Prelude.{◌≡◌};
 ghost use Rattle.command_line.specs.Options as options;
 
+use crate::choice::Choice;
 use crate::verb::Verb;
 use dir_classify::{CollapsedEntriesEmissionMode, EmissionMode, ForDeletionMode};
 
@@ -71,6 +72,12 @@ pub enum Opt {
     NoColor,
     /// The help text.
     Help,
+    /// Makes a choice of `ls-files`.
+    Chooses(Choice),
+    /// Drops one.
+    Drops(Choice),
+    /// It is git's, and is not answered here.
+    Left,
 }
 
 /// What an option of this name says of what is reported.
@@ -266,6 +273,7 @@ pub fn takes(verb: Verb, opt: Opt) -> bool
         Verb::Plan => takes_for_plan(opt),
         Verb::Modules => matches!(opt, Opt::Permissions | Opt::Help),
         Verb::State => is_of_report(opt) & !matches!(opt, Opt::Plain),
+        Verb::Files => true,
     }
 }
 

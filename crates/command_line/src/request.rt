@@ -6,10 +6,23 @@ use crate::command::{Command, Request};
 use crate::draft::Draft;
 use crate::misuse::{Misuse, Wrong};
 use crate::read::{Read, read_words};
-use crate::verb::{Topic, Verb, verb_of};
+use crate::verb::{Topic, Verb, prefers_current, verb_of};
 use git_setup::Asked;
 use gitbase_core::Bytes;
 use std::alloc::Global;
+
+/// How deep `ls-files` goes: as deep as can be asked for.
+const DEEPEST: usize = 1000;
+
+/// How many components a directory that is entered may have.
+fn depth_in(verb: Verb, depth: usize) -> usize
+    ensures { result ≡ requests.depth_in verb depth }
+{
+    match verb {
+        Verb::Report | Verb::Plan | Verb::Modules | Verb::State => depth,
+        Verb::Files => DEEPEST,
+    }
+}
 
 /// What a command is to do, by what its words say.
 fn told(verb: Verb, draft: Draft, paths: Vec<Bytes>) -> Command
@@ -22,7 +35,8 @@ fn told(verb: Verb, draft: Draft, paths: Vec<Bytes>) -> Command
     let asked = Asked {
         options: draft.options,
         paths,
-        depth: draft.depth,
+        depth: depth_in(verb, draft.depth),
+        prefers_current: prefers_current(verb),
     };
     match verb {
         Verb::Report => Command::Report { asked, form },
@@ -34,6 +48,10 @@ fn told(verb: Verb, draft: Draft, paths: Vec<Bytes>) -> Command
         },
         Verb::Modules => Command::Modules { asked },
         Verb::State => Command::State { asked, form },
+        Verb::Files => Command::Files {
+            asked,
+            listing: draft.listing,
+        },
     }
 }
 
@@ -139,7 +157,7 @@ fn elsewhere(alloc: Global, words: &[Bytes]) -> Result<Request, Misuse>
     }
 }
 
-/// What the words of a command line ask for: `[-C DIR] report|plan|modules|state [OPTION..] [--] [PATH..]`, or a help text, or the
+/// What the words of a command line ask for: `[-C DIR] report|plan|modules|state|ls-files [OPTION..] [--] [PATH..]`, or a help text, or the
 /// version.
 ///
 /// # Errors

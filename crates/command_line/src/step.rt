@@ -2,6 +2,7 @@
 ghost use Rattle.std.specs.Prelude.{◌≡◌, ◌<◌, ◌==◌, length, position, IfSome};
 ghost use Rattle.command_line.specs.Steps as steps;
 
+use crate::choice::{listing_opt_of, listing_opt_of_letter};
 use crate::depth::depth_of;
 use crate::draft::Draft;
 use crate::form::{Color, LineEnd, Wording};
@@ -61,6 +62,9 @@ fn bare(opt: Opt, draft: Draft) -> Step
         Opt::Color => on(draft.with_color(Color::Always)),
         Opt::NoColor => on(draft.with_color(Color::Never)),
         Opt::Help => on(draft.with_help()),
+        Opt::Chooses(choice) => on(draft.with_choice(choice, true)),
+        Opt::Drops(choice) => on(draft.with_choice(choice, false)),
+        Opt::Left => Step::Wrong(Wrong::Left),
     }
 }
 
@@ -170,7 +174,18 @@ fn valued(opt: Opt, value: &[u8], draft: Draft) -> Step
         Opt::Strategy => strategy_by(value, draft),
         Opt::Depth => depth_by(value, draft),
         Opt::Color => color_by(value, draft),
+        Opt::Left => Step::Wrong(Wrong::Left),
         _ => Step::Wrong(Wrong::TakesNoValue),
+    }
+}
+
+/// An option, if a command has it.
+fn if_taken(verb: Verb, opt: Option<Opt>) -> Option<Opt>
+    ensures { result ≡ steps.if_taken verb opt }
+{
+    match opt {
+        Some(opt) => { if takes(verb, opt) { Some(opt) } else { None } }
+        None => None,
     }
 }
 
@@ -178,9 +193,9 @@ fn valued(opt: Opt, value: &[u8], draft: Draft) -> Step
 fn known(verb: Verb, name: &[u8]) -> Option<Opt>
     ensures { result ≡ steps.known verb name.now }
 {
-    match opt_of(name) {
-        Some(opt) => { if takes(verb, opt) { Some(opt) } else { None } }
-        None => None,
+    match verb {
+        Verb::Files => listing_opt_of(name),
+        _ => if_taken(verb, opt_of(name)),
     }
 }
 
@@ -230,9 +245,9 @@ fn long(verb: Verb, text: &[u8], draft: Draft) -> Step
 fn known_letter(verb: Verb, letter: u8) -> Option<Opt>
     ensures { result ≡ steps.known_letter verb letter }
 {
-    match opt_of_letter(letter) {
-        Some(opt) => { if takes(verb, opt) { Some(opt) } else { None } }
-        None => None,
+    match verb {
+        Verb::Files => listing_opt_of_letter(letter),
+        _ => if_taken(verb, opt_of_letter(letter)),
     }
 }
 
@@ -246,7 +261,7 @@ fn untracked_letter(value: &[u8], draft: Draft) -> Step
     }
 }
 
-/// What an option of a letter says, by what was said before it. Each of these but `u` has no value.
+/// What an option of a letter says, by what was said before it. None of these has a value.
 fn lettered(opt: Opt, draft: Draft) -> Draft
     ensures { result ≡ steps.lettered opt draft }
 {
@@ -269,6 +284,9 @@ fn letters(verb: Verb, text: &[u8], draft: Draft) -> Step
         };
         if matches!(opt, Opt::Untracked) {
             return untracked_letter(after, said);
+        }
+        if matches!(opt, Opt::Left) {
+            return Step::Wrong(Wrong::LeftSwitch { letter: *letter });
         }
         said = lettered(opt, said);
         rest = after;

@@ -13,6 +13,8 @@ pub enum Verb {
     Modules,
     /// What became of the paths of the index, and the report.
     State,
+    /// The paths of the index and of the work tree, as `git ls-files` has them.
+    Files,
 }
 
 /// What a help text or a usage line is about.
@@ -36,6 +38,8 @@ pub(crate) fn verb_of(word: &[u8]) -> Option<Verb>
         Some(Verb::Modules)
     } else if word == b"state".as_slice() {
         Some(Verb::State)
+    } else if word == b"ls-files".as_slice() {
+        Some(Verb::Files)
     } else {
         None
     }
@@ -46,7 +50,14 @@ pub(crate) fn takes_paths(verb: Verb) -> bool
     ensures { result ≡ verbs.takes_paths verb }
 {
     match verb {
-        Verb::Report | Verb::Plan => true,
+        Verb::Report | Verb::Plan | Verb::Files => true,
         Verb::Modules | Verb::State => false,
     }
+}
+
+/// Whether the current directory is meant where no path is asked for, and where each path excludes.
+pub(crate) fn prefers_current(verb: Verb) -> bool
+    ensures { result ≡ verbs.prefers_current verb }
+{
+    matches!(verb, Verb::Files)
 }

@@ -8,6 +8,10 @@ const REPORT: &[u8] =
 --submodules,--permissions,--outcome,--no-excludes,--precious,--no-strict-parents,--recurse-repositories,--bare-repositories,\
 --links-as-directories,--for-deletion,--strategy,--depth,-z, --null,--plain,--color,--no-color,-h, --help";
 
+const FILES: &[u8] =
+    b"-c, --cached,-s, --stage,-u, --unmerged,-o, --others,-i, --ignored,--exclude-standard,--directory,--no-empty-directory,\
+  -t ,  -v ,  -z ,--deduplicate,--full-name,--error-unmatch,-h, --help";
+
 fn names_all(topic: Topic, names: &[u8]) -> bool {
     let text = help_of(topic);
     names
@@ -24,8 +28,12 @@ fn help_texts_name_the_options(rt: HostRuntime) {
     );
     let modules = names_all(Topic::Of(Verb::Modules), b"--permissions=,-h, --help");
     let state = names_all(Topic::Of(Verb::State), b"--ignored,-z, --null,--color");
-    let whole = names_all(Topic::Whole, b"-C DIR,report,plan,modules,state,--version");
-    assert!(rt; report & plan & modules & state & whole);
+    let files = names_all(Topic::Of(Verb::Files), FILES);
+    let whole = names_all(
+        Topic::Whole,
+        b"-C DIR,report,plan,modules,state,ls-files,--version",
+    );
+    assert!(rt; report & plan & modules & state & files & whole);
 }
 
 #[test]

@@ -7,6 +7,7 @@ use command_line::{
 use dir_classify::{CollapsedEntriesEmissionMode, EmissionMode, ForDeletionMode};
 use git_setup::Asked;
 use gitbase_core::Bytes;
+use ls_files::Listing;
 use std::alloc::Global;
 use worktree_report::{SetupOptions, Strategy};
 
@@ -46,6 +47,12 @@ plan,--no-excludes,--depth=0>plan;not excludes;depth 0\n\
 modules>modules\n\
 modules,--permissions=isolated>modules;isolated\n\
 state,--ignored,-z>state;ignored;nul\n\
+ls-files>files;index;current;depth 1000;no path;from here\n\
+ls-files,-oz,--exclude-standard>others;ended;rules\n\
+ls-files,--others,--no-others,a>not others;path a\n\
+ls-files,--no-empty-directory,--directory>directories\n\
+ls-files,--full-name,--,-o>not others;from the top;path -o\n\
+ls-files,-sh>help files\n\
 report,--help>help report\n\
 plan,-zh>help plan\n\
 --help>help whole\n\
@@ -72,6 +79,12 @@ report,--depth=1001>error: `--depth=1001' is no depth, which is a number from 0 
 plan,--tracked>error: unknown option `--tracked'\n\
 modules,-z>error: unknown switch `z'\n\
 modules,a>error: `a' is a path, and this command takes none\n\
+ls-files,-od>error: switch `d' is git's, and is not answered here\n\
+ls-files,--eol>error: option `--eol' is git's, and is not answered here\n\
+ls-files,--exclude=a>error: option `--exclude=a' is git's, and is not answered here\n\
+ls-files,-q>error: unknown switch `q'\n\
+ls-files,--no-full-name>error: unknown option `--no-full-name'\n\
+ls-files,--cached=1>error: option `--cached=1' takes no value\n\
 state,--,--plain>error: `--plain' is a path, and this command takes none\n\
 state,--plain>error: unknown option `--plain'";
 
@@ -169,6 +182,8 @@ fn is_path(asked: &Asked, want: &[u8]) -> bool {
 fn is_asked(asked: &Asked, want: &[u8]) -> bool {
     if want == b"no path".as_slice() {
         asked.paths.is_empty()
+    } else if want == b"current".as_slice() {
+        asked.prefers_current
     } else if want.starts_with(b"path ") {
         is_path(asked, &want[5..])
     } else if want == b"depth 256".as_slice() {
@@ -220,12 +235,34 @@ fn is_plan(what: What, finding: Finding, want: &[u8]) -> bool {
     }
 }
 
+/// Whether a listing is so.
+fn is_listing(listing: &Listing, want: &[u8]) -> bool {
+    if want == b"index".as_slice() {
+        !listing.cached && !listing.others && listing.quote_path && listing.empty_directories
+    } else if want == b"others".as_slice() {
+        listing.others
+    } else if want == b"not others".as_slice() {
+        !listing.others
+    } else if want == b"ended".as_slice() {
+        listing.ends_in_nul
+    } else if want == b"rules".as_slice() {
+        listing.excludes_standard
+    } else if want == b"directories".as_slice() {
+        listing.directories && !listing.empty_directories
+    } else if want == b"from here".as_slice() {
+        !listing.full_names
+    } else {
+        want == b"from the top".as_slice() && listing.full_names
+    }
+}
+
 /// Whether the help text is about this.
 fn is_help(topic: Topic, want: &[u8]) -> bool {
     match topic {
         Topic::Whole => want == b"help whole".as_slice(),
         Topic::Of(Verb::Report) => want == b"help report".as_slice(),
         Topic::Of(Verb::Plan) => want == b"help plan".as_slice(),
+        Topic::Of(Verb::Files) => want == b"help files".as_slice(),
         Topic::Of(_) => false,
     }
 }
@@ -245,6 +282,9 @@ fn is_command(command: &Command, want: &[u8]) -> bool {
         Command::Modules { asked } => want == b"modules".as_slice() || is_asked(asked, want),
         Command::State { asked, form } => {
             want == b"state".as_slice() || is_asked(asked, want) || is_form(*form, want)
+        }
+        Command::Files { asked, listing } => {
+            want == b"files".as_slice() || is_asked(asked, want) || is_listing(listing, want)
         }
         Command::Help(topic) => is_help(*topic, want),
         Command::Version => want == b"version".as_slice(),

@@ -1,0 +1,212 @@
+//! The options of `ls-files` by their names.
+ghost use Rattle.std.specs.Prelude.{◌≡◌};
+ghost use Rattle.command_line.specs.Choices as choices;
+
+use crate::opt::Opt;
+
+/// What an option of `ls-files` turns on or off; see git-ls-files(1).
+#[derive(Clone, Copy, Debug)]
+pub enum Choice {
+    /// What the index has.
+    Cached,
+    /// The same with modes, objects and stages.
+    Stages,
+    /// The same of paths that are not merged, alone.
+    Unmerged,
+    /// What the index does not have.
+    Others,
+    /// Of that what is ignored, alone.
+    Ignored,
+    /// Directories in place of what they hold.
+    Directories,
+    /// Such directories without files too.
+    EmptyDirectories,
+    /// Ignore rules are asked.
+    ExcludesStandard,
+    /// A path spec that is about nothing is an error.
+    ErrorUnmatch,
+    /// A letter before each path.
+    Tags,
+    /// The same, in lower case where a file is assumed to be unchanged.
+    Valid,
+    /// A NUL behind each path.
+    Nul,
+    /// Each path of the index once.
+    Deduplicates,
+    /// Paths from the top of the work tree.
+    FullNames,
+}
+
+/// The choice of this name that can be turned off.
+fn choice_of(name: &[u8]) -> Option<Choice>
+    ensures { result ≡ choices.choice_of name.now }
+{
+    if name == b"cached".as_slice() {
+        Some(Choice::Cached)
+    } else if name == b"stage".as_slice() {
+        Some(Choice::Stages)
+    } else if name == b"unmerged".as_slice() {
+        Some(Choice::Unmerged)
+    } else if name == b"others".as_slice() {
+        Some(Choice::Others)
+    } else if name == b"ignored".as_slice() {
+        Some(Choice::Ignored)
+    } else if name == b"directory".as_slice() {
+        Some(Choice::Directories)
+    } else if name == b"empty-directory".as_slice() {
+        Some(Choice::EmptyDirectories)
+    } else if name == b"error-unmatch".as_slice() {
+        Some(Choice::ErrorUnmatch)
+    } else if name == b"deduplicate".as_slice() {
+        Some(Choice::Deduplicates)
+    } else {
+        None
+    }
+}
+
+/// The choice of this name that cannot be.
+fn firm_choice_of(name: &[u8]) -> Option<Choice>
+    ensures { result ≡ choices.firm_choice_of name.now }
+{
+    if name == b"exclude-standard".as_slice() {
+        Some(Choice::ExcludesStandard)
+    } else if name == b"full-name".as_slice() {
+        Some(Choice::FullNames)
+    } else {
+        None
+    }
+}
+
+/// Whether git has an option of this name, of what a path is or which rules are asked, that is not answered here.
+fn is_left_rule(name: &[u8]) -> bool
+    ensures { result ≡ choices.is_left_rule name.now }
+{
+    name == b"deleted".as_slice()
+        || name == b"modified".as_slice()
+        || name == b"killed".as_slice()
+        || name == b"exclude".as_slice()
+        || name == b"exclude-from".as_slice()
+        || name == b"exclude-per-directory".as_slice()
+        || name == b"resolve-undo".as_slice()
+}
+
+/// The same of submodules, objects and forms.
+fn is_left_form(name: &[u8]) -> bool
+    ensures { result ≡ choices.is_left_form name.now }
+{
+    name == b"recurse-submodules".as_slice()
+        || name == b"eol".as_slice()
+        || name == b"with-tree".as_slice()
+        || name == b"format".as_slice()
+        || name == b"abbrev".as_slice()
+        || name == b"debug".as_slice()
+        || name == b"sparse".as_slice()
+}
+
+/// Whether git has an option of this name that is not answered here.
+fn is_left(name: &[u8]) -> bool
+    ensures { result ≡ choices.is_left name.now }
+{
+    if is_left_rule(name) {
+        return true;
+    }
+    is_left_form(name)
+}
+
+/// A choice that is made, if there is one.
+fn made(choice: Option<Choice>) -> Option<Opt>
+    ensures { result ≡ choices.made choice }
+{
+    match choice {
+        Some(choice) => Some(Opt::Chooses(choice)),
+        None => None,
+    }
+}
+
+/// The option of this name that makes a choice, or drops it where `no-` stands before the name.
+fn chosen_by(name: &[u8]) -> Option<Opt>
+    ensures { result ≡ choices.chosen_by name.now }
+{
+    if name.starts_with(b"no-") {
+        let (_, rest) = name.split_at(3);
+        return match choice_of(rest) {
+            Some(choice) => Some(Opt::Drops(choice)),
+            None => None,
+        };
+    }
+    made(choice_of(name))
+}
+
+/// The option of this name that is a choice, whether it can be turned off or not.
+fn choosing(name: &[u8]) -> Option<Opt>
+    ensures { result ≡ choices.choosing name.now }
+{
+    match made(firm_choice_of(name)) {
+        Some(opt) => Some(opt),
+        None => chosen_by(name),
+    }
+}
+
+/// The option of `ls-files` of this name, which stands behind `--`. None where there is none.
+#[tactic(auto, unfolding(crate::specs::Choices::listing_opt_of))]
+pub fn listing_opt_of(name: &[u8]) -> Option<Opt>
+    ensures { result ≡ choices.listing_opt_of name.now }
+{
+    if name == b"help".as_slice() {
+        return Some(Opt::Help);
+    }
+    if is_left(name) {
+        return Some(Opt::Left);
+    }
+    choosing(name)
+}
+
+/// The choice of this letter.
+fn choice_of_letter(letter: u8) -> Option<Choice>
+    ensures { result ≡ choices.choice_of_letter letter }
+{
+    if letter == b'c' {
+        Some(Choice::Cached)
+    } else if letter == b's' {
+        Some(Choice::Stages)
+    } else if letter == b'u' {
+        Some(Choice::Unmerged)
+    } else if letter == b'o' {
+        Some(Choice::Others)
+    } else if letter == b'i' {
+        Some(Choice::Ignored)
+    } else if letter == b't' {
+        Some(Choice::Tags)
+    } else if letter == b'v' {
+        Some(Choice::Valid)
+    } else if letter == b'z' {
+        Some(Choice::Nul)
+    } else {
+        None
+    }
+}
+
+/// Whether git has an option of this letter that is not answered here.
+fn is_left_letter(letter: u8) -> bool
+    ensures { result ≡ choices.is_left_letter letter }
+{
+    letter == b'd'
+        || letter == b'm'
+        || letter == b'k'
+        || letter == b'x'
+        || letter == b'X'
+        || letter == b'f'
+}
+
+/// The option of `ls-files` of this letter, which stands behind `-`. None where there is none.
+pub fn listing_opt_of_letter(letter: u8) -> Option<Opt>
+    ensures { result ≡ choices.listing_opt_of_letter letter }
+{
+    if letter == b'h' {
+        return Some(Opt::Help);
+    }
+    if is_left_letter(letter) {
+        return Some(Opt::Left);
+    }
+    made(choice_of_letter(letter))
+}
