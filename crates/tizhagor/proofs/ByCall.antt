@@ -96,7 +96,7 @@ module _ {W I : Type 0} (w : WorktreeOf W) (i : InterruptOf I) (w0 w1 : W) (i0 i
   fault_cause calls.State refusal made is = text-fault setup _ refusal made.refused is
 
   -- the interrupt was raised
-  text-interrupted : (other : Setup) (most : ℕ) (refusal : Refusal) → RefusesText w i (w.precomposes w0) w0 w1 i0 i1 root other most refusal → refusal ≡ refusals.Interrupted → Increased (i.raised i0) (i.raised i1)
+  pub text-interrupted : (other : Setup) (most : ℕ) (refusal : Refusal) → RefusesText w i (w.precomposes w0) w0 w1 i0 i1 root other most refusal → refusal ≡ refusals.Interrupted → Increased (i.raised i0) (i.raised i1)
   text-interrupted other most refusal refused is =
       elim refused [
         | inl memory ↦ absurd (let both : refusals.OutOfMemory ≡ refusals.Interrupted = sym memory ∙ is in cc)
@@ -113,7 +113,7 @@ module _ {W I : Type 0} (w : WorktreeOf W) (i : InterruptOf I) (w0 w1 : W) (i0 i
   interrupt_cause calls.State refusal made is = text-interrupted setup _ refusal made.refused is
 
   -- for what can be had, where nothing failed or was raised, only memory may be wanted
-  text-complete : (other : Setup) (most : ℕ) (refusal : Refusal) → RefusesText w i (w.precomposes w0) w0 w1 i0 i1 root other most refusal
+  pub text-complete : (other : Setup) (most : ℕ) (refusal : Refusal) → RefusesText w i (w.precomposes w0) w0 w1 i0 i1 root other most refusal
       → (t : Names) → w.told w0 ≡ Some t → NotIncreased (w.faults w0) (w.faults w1) → NotIncreased (i.raised i0) (i.raised i1)
       → IsValidAt (w.precomposes w0) (read_in t other) root other → refusal ≡ refusals.OutOfMemory
   text-complete other most refusal refused t told quiet calm valid =
@@ -157,7 +157,7 @@ module _ {W I : Type 0} (w : WorktreeOf W) (i : InterruptOf I) (w0 w1 : W) (i0 i
   report-refused other refusals.Output made t told quiet is = absurd made.answers
   report-refused other refusals.OutOfMemory made t told quiet is = inl refl
 
-  text-refused : (other : Setup) (most : ℕ) (refusal : Refusal) → RefusesText w i (w.precomposes w0) w0 w1 i0 i1 root other most refusal
+  pub text-refused : (other : Setup) (most : ℕ) (refusal : Refusal) → RefusesText w i (w.precomposes w0) w0 w1 i0 i1 root other most refusal
       → (t : Names) → w.told w0 ≡ Some t → NotIncreased (w.faults w0) (w.faults w1) → program_status refusal ≡ 128
       → (refusal ≡ refusals.OutOfMemory) ⊎ RefusesReport (w.precomposes w0) t root other refusal
   text-refused other most refusal refused t told quiet is =

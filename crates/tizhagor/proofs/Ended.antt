@@ -1,5 +1,5 @@
 -- What follows of how the top call ends.
-use Rattle.std.proofs.Common.{◌≡◌, ◌⊎◌, inl, inr, ℕ, List, Bool, Option, Some, Result, Ok, Err, sym, ap, ◌∙◌, subst, refl, arith}
+use Rattle.std.proofs.Common.{◌≡◌, ◌⊎◌, ◌≤◌, ◌<◌, inl, inr, ℕ, List, Bool, true, false, Option, Some, Result, Ok, Err, sym, ap, ◌∙◌, subst, refl, arith}
 use Rattle.worktree_fs.specs.declared.interrupt.Interrupt.{Ghosts as InterruptOf}
 use Rattle.worktree_fs.specs.declared.owners.Owners.{Ghosts as OwnersOf}
 use Rattle.worktree_fs.specs.declared.sink.Sink.{Ghosts as SinkOf}
@@ -9,7 +9,7 @@ use Rattle.worktree_fs.specs.Owners.{Owned}
 use Rattle.worktree_fs.specs.Tree.{Names}
 use Rattle.worktree_report.specs.declared.refusal.Refusal.{Refusal}
 use Rattle.worktree_report.specs.declared.refusal.Refusal.TheVariants as refusals
-use Rattle.worktree_report.specs.Written.{Appends}
+use Rattle.ls_files.specs.declared.listing.Listing.{Listing}
 use Rattle.command_line.specs.Requests.{Asking, Command as Commands, asks, is_misuse, request_in}
 use Rattle.command_line.specs.declared.misuse.Wrong.{Wrong}
 use Rattle.command_line.specs.declared.verb.Topic.{Topic}
@@ -18,36 +18,48 @@ use Rattle.git_setup.specs.declared.found.Found.{Found}
 use Rattle.tizhagor.specs.declared.call.Call.{Call}
 use Rattle.tizhagor.specs.declared.refusal.HereRefusal.{HereRefusal}
 use Rattle.tizhagor.specs.declared.refusal.HereRefusal.TheVariants as errors
+use Rattle.tizhagor.specs.declared.reply.Reply.{Reply}
 use Rattle.tizhagor.specs.declared.writing.Writing.{Writing}
 use Rattle.tizhagor.specs.Answers as answers
-use Rattle.tizhagor.specs.Answers.{AnswersCall, AnswersHere, AnswersTask, IsMisuse, Place, Refused, Task, Writes, call_of, found_at, offer_of, task_of}
-use Rattle.tizhagor.specs.Ends.{EndsHere, IsFatal, IsTold, IsToldOf}
+use Rattle.tizhagor.specs.Answers.{AnswersCall, AnswersHere, AnswersListing, AnswersTask, IsMisuse, ListsReply, NotFound, Place, Refused, RefusesListing, Task, Writes, call_of, found_at, list_of, listable_at, offer_of, task_of}
+use Rattle.tizhagor.specs.Ends.{EndsHere, IsFatal, IsReplied, IsTold, IsToldOf}
+use Rattle.tizhagor.specs.Listings.{IsListable, listed_for, setup_for}
 use Rattle.tizhagor.specs.Output as output
 use Rattle.tizhagor.specs.Parts.{memory_line}
 use Rattle.tizhagor.specs.ProgramLines.{program_status}
 use Rattle.tizhagor.specs.Refusals.{IsOfFinding, fault, line_of, memory, status_of}
-use Rattle.tizhagor.specs.Texts.{IsQuietFor, IsReadyFor, IsTextOf, IsUnfaultedBy, RefusesTextOf}
+use Rattle.tizhagor.specs.Texts.{IsQuietFor, IsReadyFor, IsTextOf, IsUnfaultedBy, RefusesReport, RefusesTextOf}
+use Rattle.tizhagor.specs.Replies.{answer_status, plain, status_in}
 use Rattle.tizhagor.proofs.ByCall as calls
+use Rattle.tizhagor.proofs.Listed as lists
 
 -- ---- statuses
 
-program_no_zero : (r : Refusal) → program_status r ≡ 0 → ⊥
-program_no_zero refusals.Interrupted is = omega arith
-program_no_zero refusals.Usage is = omega arith
-program_no_zero (refusals.Setup line) is = omega arith
-program_no_zero (refusals.Walk word path) is = omega arith
-program_no_zero (refusals.Misread which) is = omega arith
-program_no_zero refusals.Fault is = omega arith
-program_no_zero refusals.Output is = omega arith
-program_no_zero refusals.OutOfMemory is = omega arith
+program_high : (r : Refusal) → 128 ≤ program_status r
+program_high refusals.Interrupted = omega arith
+program_high refusals.Usage = omega arith
+program_high (refusals.Setup line) = omega arith
+program_high (refusals.Walk word path) = omega arith
+program_high (refusals.Misread which) = omega arith
+program_high refusals.Fault = omega arith
+program_high refusals.Output = omega arith
+program_high refusals.OutOfMemory = omega arith
 
-no_zero : (e : HereRefusal) → status_of e ≡ 0 → ⊥
-no_zero (errors.Words misuse) is = omega arith
-no_zero (errors.Absent directory) is = omega arith
-no_zero (errors.NotADirectory directory) is = omega arith
-no_zero (errors.NotAtTop root) is = omega arith
-no_zero (errors.Git refusal) is = omega arith
-no_zero (errors.Program r) is = program_no_zero r is
+is_high : (e : HereRefusal) → 128 ≤ status_of e
+is_high (errors.Words misuse) = omega arith
+is_high (errors.Absent directory) = omega arith
+is_high (errors.NotADirectory directory) = omega arith
+is_high (errors.NotAtTop root) = omega arith
+is_high (errors.Git refusal) = omega arith
+is_high (errors.Listing wrong) = omega arith
+is_high (errors.Program r) = program_high r
+
+is_low : (reply : Reply) → status_in reply ≤ 1
+is_low reply = go reply.is_no
+  where
+    go : (is_no : Bool) → answer_status is_no ≤ 1
+    go true = omega arith
+    go false = omega arith
 
 program_not_misuse : (r : Refusal) → program_status r ≡ 129 → ⊥
 program_not_misuse refusals.Interrupted is = omega arith
@@ -66,6 +78,7 @@ finding_not_misuse (errors.Absent directory) of is = omega arith
 finding_not_misuse (errors.NotADirectory directory) of is = omega arith
 finding_not_misuse (errors.NotAtTop root) of is = omega arith
 finding_not_misuse (errors.Git refusal) of is = omega arith
+finding_not_misuse (errors.Listing wrong) of is = omega arith
 finding_not_misuse (errors.Program r) of is = program_not_misuse r is
 
 interrupted_is : (r : Refusal) → program_status r ≡ 130 → r ≡ refusals.Interrupted
@@ -84,6 +97,7 @@ finding_not_interrupted (errors.Absent directory) of is = omega arith
 finding_not_interrupted (errors.NotADirectory directory) of is = omega arith
 finding_not_interrupted (errors.NotAtTop root) of is = omega arith
 finding_not_interrupted (errors.Git refusal) of is = omega arith
+finding_not_interrupted (errors.Listing wrong) of is = omega arith
 finding_not_interrupted (errors.Program refusals.Interrupted) of is = absurd of
 finding_not_interrupted (errors.Program refusals.Usage) of is = absurd of
 finding_not_interrupted (errors.Program (refusals.Setup line)) of is = absurd of
@@ -98,10 +112,10 @@ memory_not e n is status = sym status ∙ ap status_of is
 
 -- ---- terms
 
-no_text : {a : List ℕ} {b : HereRefusal} → ◌≡◌ {A = Result (List ℕ) HereRefusal} (Ok a) (Err b) → ⊥
-no_text is = absurd cc
+no_reply : {a : Reply} {b : HereRefusal} → ◌≡◌ {A = Result Reply HereRefusal} (Ok a) (Err b) → ⊥
+no_reply is = absurd cc
 
-same_error : {a b : HereRefusal} → ◌≡◌ {A = Result (List ℕ) HereRefusal} (Err a) (Err b) → a ≡ b
+same_error : {a b : HereRefusal} → ◌≡◌ {A = Result Reply HereRefusal} (Err a) (Err b) → a ≡ b
 same_error e = cc
 
 same_found : {a b : Found} → ◌≡◌ {A = Result Found HereRefusal} (Ok a) (Ok b) → a ≡ b
@@ -119,29 +133,37 @@ no_asking is = absurd cc
 -- ---- how it ends
 
 module _ {S E : Type 0} (s : SinkOf S) (e : SinkOf E) (s0 s1 : S) (e0 e1 : E) (status : ℕ) where
-  -- with 0 there are bytes, and they are written
-  pub ends_in_zero : (answer : Result (List ℕ) HereRefusal) → EndsHere s e s0 s1 e0 e1 answer status → status ≡ 0
-      → (bytes : List ℕ) × (answer ≡ Ok bytes) × Appends (s.written s0) (s.written s1) bytes
-  ends_in_zero (Ok bytes) ends zero = elim ends.by [ inl whole ↦ (bytes, refl, whole.written) | inr cut ↦ absurd (let is = cut.status_is in omega (arith, is, zero)) ]
-  ends_in_zero (Err refusal) ends zero =
+  -- with 0 and 1 there is a reply, and it is written
+  pub ends_low : (answer : Result Reply HereRefusal) → EndsHere s e s0 s1 e0 e1 answer status → status ≤ 1
+      → (reply : Reply) × (answer ≡ Ok reply) × IsReplied s e s0 s1 e0 e1 reply status
+  ends_low (Ok reply) ends few = elim ends.by [ inl whole ↦ (reply, refl, whole) | inr cut ↦ absurd (let is = cut.status_is in omega (arith, is, few)) ]
+  ends_low (Err refusal) ends few =
       elim ends.by.1 [
-        | inl told ↦ absurd (no_zero refusal (sym told.status_is ∙ zero))
-        | inr untold ↦ absurd (let is = untold.status_is in omega (arith, is, zero))
+        | inl told ↦ absurd (let is = told.status_is in let high = is_high refusal in omega (arith, is, high, few))
+        | inr untold ↦ absurd (let is = untold.status_is in omega (arith, is, few))
       ]
 
   -- a status above 128 is that of a refusal
-  pub ends_above : (answer : Result (List ℕ) HereRefusal) → EndsHere s e s0 s1 e0 e1 answer status → (n : ℕ) → status ≡ n → (n ≡ 0 → ⊥) → (n ≡ 128 → ⊥)
+  pub ends_above : (answer : Result Reply HereRefusal) → EndsHere s e s0 s1 e0 e1 answer status → (n : ℕ) → status ≡ n → 128 < n
       → (refusal : HereRefusal) × (answer ≡ Err refusal) × (status_of refusal ≡ n)
-  ends_above (Ok bytes) ends n is not_zero not_fatal =
-      elim ends.by [ inl whole ↦ absurd (not_zero (sym is ∙ whole.status_is)) | inr cut ↦ absurd (not_fatal (sym is ∙ cut.status_is)) ]
-  ends_above (Err refusal) ends n is not_zero not_fatal =
-      elim ends.by.1 [ inl told ↦ (refusal, refl, sym told.status_is ∙ is) | inr untold ↦ absurd (not_fatal (sym is ∙ untold.status_is)) ]
+  ends_above (Ok reply) ends n is high =
+      elim ends.by [
+        | inl whole ↦ absurd (let same = whole.status_is in let low = is_low reply in omega (arith, same, low, is, high))
+        | inr cut ↦ absurd (let same = cut.status_is in omega (arith, same, is, high))
+      ]
+  ends_above (Err refusal) ends n is high =
+      elim ends.by.1 [ inl told ↦ (refusal, refl, sym told.status_is ∙ is) | inr untold ↦ absurd (let same = untold.status_is in omega (arith, same, is, high)) ]
 
   -- want of memory is told
   pub wants_memory : (refusal : HereRefusal) → refusal ≡ memory → IsTold e e0 e1 refusal status → IsToldOf e e0 e1 memory_line 128 status
   wants_memory refusal is told = elim (subst (λ (x : HereRefusal). IsTold e e0 e1 x status) is told) [ inl known ↦ record { status_is = known.status_is; said = known.said } | inr untold ↦ untold ]
 
 -- ---- a task
+
+-- this is the refusal, or want of memory
+abbrev IsRefusedAs : {A : Type 0} → HereRefusal → Result A HereRefusal → Type 0
+IsRefusedAs e (Ok given) = ⊥
+IsRefusedAs e (Err other) = (other ≡ e) ⊎ (other ≡ memory)
 
 module _ {W I O : Type 0} (w : WorktreeOf W) (i : InterruptOf I) (o : OwnersOf O) (w0 w1 : W) (i0 i1 : I) (o0 o1 : O) where
   call_unfaulted : (found : Names → Owned → Result Found HereRefusal) (call : Call) (writing : Writing) (bytes : List ℕ) → Writes w i o w0 w1 i0 i1 o0 o1 found call writing bytes
@@ -165,19 +187,36 @@ module _ {W I O : Type 0} (w : WorktreeOf W) (i : InterruptOf I) (o : OwnersOf O
         same = λ path read. calls.joins call (w.precomposes w0) t a.by.here.root path a.by.here.setup a.text read text_is;
       }
 
-  task_unfaulted : (place : Place) (directory : Option (List ℕ)) (task : Task) (bytes : List ℕ) → AnswersTask w i o w0 w1 i0 i1 o0 o1 place directory (Ok bytes) task → output.IsUnfaultedFor (w.faults w0) (w.faults w1) task
-  task_unfaulted place directory (call_of call asked writing) bytes a = call_unfaulted (found_at place directory asked) call writing bytes a
-  task_unfaulted place directory (offer_of text) bytes a = ap w.faults a.worktree
+  list_unfaulted : (found : Names → Owned → Result Found HereRefusal) (listing : Listing) (reply : Reply) → ListsReply w i o w0 w1 i0 i1 o0 o1 found listing reply → w.faults w1 ≡ w.faults w0
+  list_unfaulted found listing reply a = lists.unfaulted w i a.by.loaded w1 i0 i1 a.by.here listing a.made a.by.made ∙ a.by.unfaulted
+
+  list_reply : (found : Names → Owned → Result Found HereRefusal) (listing : Listing) (reply : Reply) → ListsReply w i o w0 w1 i0 i1 o0 o1 found listing reply
+      → (t : Names) (owned : Owned) → w.told w0 ≡ Some t → o.told o0 ≡ Some owned → output.IsListingOf (w.precomposes w0) t (found t owned) listing reply
+  list_reply found listing reply a t owned told tells =
+      record {
+        here = a.by.here;
+        found_is = a.by.is t owned told tells;
+        made = a.made;
+        made_is = subst (λ (b : Bool). listed_for b t a.by.here listing ≡ Some a.made) a.by.asks.precomposes (lists.listing_is w i a.by.loaded w1 i0 i1 a.by.here listing a.made a.by.made t (a.by.asks.tree ∙ told));
+        reply_is = a.reply_is;
+      }
+
+  task_unfaulted : (place : Place) (directory : Option (List ℕ)) (task : Task) (reply : Reply) → AnswersTask w i o w0 w1 i0 i1 o0 o1 place directory (Ok reply) task → output.IsUnfaultedFor (w.faults w0) (w.faults w1) task
+  task_unfaulted place directory (call_of call asked writing) reply a = call_unfaulted (found_at place directory asked) call writing reply.out a.0
+  task_unfaulted place directory (list_of listing asked) reply a = list_unfaulted (listable_at place directory listing asked) listing reply a
+  task_unfaulted place directory (offer_of text) reply a = ap w.faults a.0.worktree
 
   -- and the owners failed at nothing
-  task_owners : (place : Place) (directory : Option (List ℕ)) (task : Task) (bytes : List ℕ) → AnswersTask w i o w0 w1 i0 i1 o0 o1 place directory (Ok bytes) task → o.faults o1 ≡ o.faults o0
-  task_owners place directory (call_of call asked writing) bytes a = a.by.owners_unfaulted
-  task_owners place directory (offer_of text) bytes a = ap o.faults a.owners
+  task_owners : (place : Place) (directory : Option (List ℕ)) (task : Task) (reply : Reply) → AnswersTask w i o w0 w1 i0 i1 o0 o1 place directory (Ok reply) task → o.faults o1 ≡ o.faults o0
+  task_owners place directory (call_of call asked writing) reply a = a.0.by.owners_unfaulted
+  task_owners place directory (list_of listing asked) reply a = a.by.owners_unfaulted
+  task_owners place directory (offer_of text) reply a = ap o.faults a.0.owners
 
-  task_bytes : (place : Place) (directory : Option (List ℕ)) (task : Task) (bytes : List ℕ) → AnswersTask w i o w0 w1 i0 i1 o0 o1 place directory (Ok bytes) task
-      → (t : Names) (owned : Owned) → w.told w0 ≡ Some t → o.told o0 ≡ Some owned → output.IsQuietWith (w.faults w0) (w.faults w1) task → output.IsBytesFor (w.precomposes w0) t owned place directory bytes task
-  task_bytes place directory (call_of call asked writing) bytes a t owned told tells quiet = call_bytes (found_at place directory asked) call writing bytes a t owned told tells quiet
-  task_bytes place directory (offer_of text) bytes a t owned told tells quiet = a.gives
+  task_reply : (place : Place) (directory : Option (List ℕ)) (task : Task) (reply : Reply) → AnswersTask w i o w0 w1 i0 i1 o0 o1 place directory (Ok reply) task
+      → (t : Names) (owned : Owned) → w.told w0 ≡ Some t → o.told o0 ≡ Some owned → output.IsQuietWith (w.faults w0) (w.faults w1) task → output.IsReplyFor (w.precomposes w0) t owned place directory reply task
+  task_reply place directory (call_of call asked writing) reply a t owned told tells quiet = (call_bytes (found_at place directory asked) call writing reply.out a.0 t owned told tells quiet, a.1)
+  task_reply place directory (list_of listing asked) reply a t owned told tells quiet = list_reply (listable_at place directory listing asked) listing reply a t owned told tells
+  task_reply place directory (offer_of text) reply a t owned told tells quiet = a.1 ∙ ap plain a.0.gives
 
   -- a fault was counted, and none was
   no_fault : Increased (w.faults w0) (w.faults w1) ⊎ Increased (o.faults o0) (o.faults o1) → NotIncreased (w.faults w0) (w.faults w1) → NotIncreased (o.faults o0) (o.faults o1) → ⊥
@@ -193,8 +232,13 @@ module _ {W I O : Type 0} (w : WorktreeOf W) (i : InterruptOf I) (o : OwnersOf O
       ]
 
   task_not_misuse : (place : Place) (directory : Option (List ℕ)) (task : Task) (e : HereRefusal) → AnswersTask w i o w0 w1 i0 i1 o0 o1 place directory (Err e) task → status_of e ≡ 129 → ⊥
-  task_not_misuse place directory (call_of call asked writing) e a is = call_not_misuse (found_at place directory asked) call writing e a is
-  task_not_misuse place directory (offer_of text) e a is = absurd (let same = memory_not e 129 a.refused is in omega (arith, same))
+  task_not_misuse place directory (call_of call asked writing) e a is = call_not_misuse (found_at place directory asked) call writing e a.0 is
+  task_not_misuse place directory (list_of listing asked) e a is =
+      elim a [
+        | inl none ↦ finding_not_misuse e none.of is
+        | inr refused ↦ program_not_misuse refused.refusal (sym (ap status_of refused.e_is) ∙ is)
+      ]
+  task_not_misuse place directory (offer_of text) e a is = absurd (let same = memory_not e 129 a.0.refused is in omega (arith, same))
 
   -- an interrupt was raised
   call_interrupted : (found : Names → Owned → Result Found HereRefusal) (call : Call) (writing : Writing) (e : HereRefusal) → AnswersCall w i o w0 w1 i0 i1 o0 o1 found call writing (Err e) → status_of e ≡ 130 → Increased (i.raised i0) (i.raised i1)
@@ -207,8 +251,14 @@ module _ {W I O : Type 0} (w : WorktreeOf W) (i : InterruptOf I) (o : OwnersOf O
       ]
 
   task_interrupted : (place : Place) (directory : Option (List ℕ)) (task : Task) (e : HereRefusal) → AnswersTask w i o w0 w1 i0 i1 o0 o1 place directory (Err e) task → status_of e ≡ 130 → Increased (i.raised i0) (i.raised i1)
-  task_interrupted place directory (call_of call asked writing) e a is = call_interrupted (found_at place directory asked) call writing e a is
-  task_interrupted place directory (offer_of text) e a is = absurd (let same = memory_not e 130 a.refused is in omega (arith, same))
+  task_interrupted place directory (call_of call asked writing) e a is = call_interrupted (found_at place directory asked) call writing e a.0 is
+  task_interrupted place directory (list_of listing asked) e a is =
+      elim a [
+        | inl none ↦ absurd (finding_not_interrupted e none.of is)
+        | inr refused ↦ lists.interrupt_cause w i refused.by.loaded w1 i0 i1 refused.by.here listing refused.refusal refused.by.made
+            (interrupted_is refused.refusal (sym (ap status_of refused.e_is) ∙ is))
+      ]
+  task_interrupted place directory (offer_of text) e a is = absurd (let same = memory_not e 130 a.0.refused is in omega (arith, same))
 
   -- what is refused over a tree
   text_refused : (found : Names → Owned → Result Found HereRefusal) (call : Call) (e : HereRefusal) → Refused w i o w0 w1 i0 i1 o0 o1 found call e
@@ -216,15 +266,15 @@ module _ {W I O : Type 0} (w : WorktreeOf W) (i : InterruptOf I) (o : OwnersOf O
       → (e ≡ memory) ⊎ output.RefusesText (w.precomposes w0) t (found t owned) call e
   text_refused found call e refused t owned told tells quiet is =
       elim (calls.refused w i refused.by.loaded w1 i0 i1 refused.by.here.root refused.by.here.setup call refused.refusal refused.by.made t (refused.by.asks.tree ∙ told)
-        (subst (λ (n : ℕ). NotIncreased n (w.faults w1)) (sym refused.by.unfaulted) quiet) (sym (ap status_of refused.e_is) ∙ is)) [
+      (subst (λ (n : ℕ). NotIncreased n (w.faults w1)) (sym refused.by.unfaulted) quiet) (sym (ap status_of refused.e_is) ∙ is)) [
         | inl wants ↦ inl (refused.e_is ∙ ap errors.Program wants)
         | inr known ↦ inr (record {
-            here = refused.by.here;
-            found_is = refused.by.is t owned told tells;
-            refusal = refused.refusal;
-            e_is = refused.e_is;
-            refused = subst (λ (b : Bool). RefusesTextOf call b t refused.by.here.root refused.by.here.setup refused.refusal) refused.by.asks.precomposes known;
-          })
+          here = refused.by.here;
+          found_is = refused.by.is t owned told tells;
+          refusal = refused.refusal;
+          e_is = refused.e_is;
+          refused = subst (λ (b : Bool). RefusesTextOf call b t refused.by.here.root refused.by.here.setup refused.refusal) refused.by.asks.precomposes known;
+        })
       ]
 
   call_refused : (found : Names → Owned → Result Found HereRefusal) (call : Call) (writing : Writing) (e : HereRefusal) → AnswersCall w i o w0 w1 i0 i1 o0 o1 found call writing (Err e)
@@ -241,32 +291,77 @@ module _ {W I O : Type 0} (w : WorktreeOf W) (i : InterruptOf I) (o : OwnersOf O
         | inr unwritten ↦ inl unwritten.e_is
       ]
 
+  list_refused : (found : Names → Owned → Result Found HereRefusal) (listing : Listing) (e : HereRefusal) → RefusesListing w i o w0 w1 i0 i1 o0 o1 found listing e
+      → (t : Names) (owned : Owned) → w.told w0 ≡ Some t → o.told o0 ≡ Some owned → NotIncreased (w.faults w0) (w.faults w1) → status_of e ≡ 128
+      → (e ≡ memory) ⊎ output.RefusesListed (w.precomposes w0) t (found t owned) listing e
+  list_refused found listing e refused t owned told tells quiet is =
+      elim (lists.refused w i refused.by.loaded w1 i0 i1 refused.by.here listing refused.refusal refused.by.made t (refused.by.asks.tree ∙ told)
+      (subst (λ (n : ℕ). NotIncreased n (w.faults w1)) (sym refused.by.unfaulted) quiet) (sym (ap status_of refused.e_is) ∙ is)) [
+        | inl wants ↦ inl (refused.e_is ∙ ap errors.Program wants)
+        | inr known ↦ inr (record {
+          here = refused.by.here;
+          found_is = refused.by.is t owned told tells;
+          refusal = refused.refusal;
+          e_is = refused.e_is;
+          refused = subst (λ (b : Bool). RefusesReport b t refused.by.here.root (setup_for listing refused.by.here) refused.refusal) refused.by.asks.precomposes known;
+        })
+      ]
+
+  none_refused : (found : Names → Owned → Result Found HereRefusal) (e : HereRefusal) → NotFound w o w0 w1 i0 i1 o0 o1 found e
+      → (t : Names) (owned : Owned) → w.told w0 ≡ Some t → o.told o0 ≡ Some owned → NotIncreased (w.faults w0) (w.faults w1) → NotIncreased (o.faults o0) (o.faults o1)
+      → (e ≡ memory) ⊎ (found t owned ≡ Err e)
+  none_refused found e none t owned told tells quiet owners_quiet =
+      elim (none.is t owned told tells) [
+        | inl same ↦ inr same
+        | inr (inl failed) ↦ absurd (no_fault (none.cause failed) quiet owners_quiet)
+        | inr (inr wants) ↦ inl wants
+      ]
+
   task_refused : (place : Place) (directory : Option (List ℕ)) (task : Task) (e : HereRefusal) → AnswersTask w i o w0 w1 i0 i1 o0 o1 place directory (Err e) task
       → (t : Names) (owned : Owned) → w.told w0 ≡ Some t → o.told o0 ≡ Some owned → NotIncreased (w.faults w0) (w.faults w1) → NotIncreased (o.faults o0) (o.faults o1) → status_of e ≡ 128
       → (e ≡ memory) ⊎ output.RefusesFor (w.precomposes w0) t owned place directory e task
-  task_refused place directory (call_of call asked writing) e a t owned told tells quiet owners_quiet is = call_refused (found_at place directory asked) call writing e a t owned told tells quiet owners_quiet is
-  task_refused place directory (offer_of text) e a t owned told tells quiet owners_quiet is = inl a.refused
+  task_refused place directory (call_of call asked writing) e a t owned told tells quiet owners_quiet is = call_refused (found_at place directory asked) call writing e a.0 t owned told tells quiet owners_quiet is
+  task_refused place directory (list_of listing asked) e a t owned told tells quiet owners_quiet is =
+      elim a [
+        | inl none ↦ elim (none_refused (listable_at place directory listing asked) e none t owned told tells quiet owners_quiet) [ inl wants ↦ inl wants | inr known ↦ inr (inl known) ]
+        | inr refused ↦ elim (list_refused (listable_at place directory listing asked) listing e refused t owned told tells quiet is) [ inl wants ↦ inl wants | inr known ↦ inr (inr known) ]
+      ]
+  task_refused place directory (offer_of text) e a t owned told tells quiet owners_quiet is = inl a.0.refused
 
   -- where nothing is found over a tree, that is the answer, or want of memory
+  none_is : (found : Names → Owned → Result Found HereRefusal) (other : HereRefusal) → NotFound w o w0 w1 i0 i1 o0 o1 found other
+      → (t : Names) (owned : Owned) → w.told w0 ≡ Some t → o.told o0 ≡ Some owned → NotIncreased (w.faults w0) (w.faults w1) → NotIncreased (o.faults o0) (o.faults o1)
+      → (e : HereRefusal) → found t owned ≡ Err e → (other ≡ e) ⊎ (other ≡ memory)
+  none_is found other none t owned told tells quiet owners_quiet e known =
+      elim (none_refused found other none t owned told tells quiet owners_quiet) [ inl wants ↦ inr wants | inr same ↦ inl (same_refusal (sym same ∙ known)) ]
+
   call_none : (found : Names → Owned → Result Found HereRefusal) (call : Call) (writing : Writing) (answer : Result (List ℕ) HereRefusal) → AnswersCall w i o w0 w1 i0 i1 o0 o1 found call writing answer
       → (t : Names) (owned : Owned) → w.told w0 ≡ Some t → o.told o0 ≡ Some owned → NotIncreased (w.faults w0) (w.faults w1) → NotIncreased (o.faults o0) (o.faults o1)
-      → (e : HereRefusal) → found t owned ≡ Err e → (answer ≡ Err e) ⊎ (answer ≡ Err memory)
-  call_none found call writing (Ok bytes) a t owned told tells quiet owners_quiet e known = absurd (not_found (sym (a.by.is t owned told tells) ∙ known))
+      → (e : HereRefusal) → found t owned ≡ Err e → IsRefusedAs e answer
+  call_none found call writing (Ok bytes) a t owned told tells quiet owners_quiet e known = not_found (sym (a.by.is t owned told tells) ∙ known)
   call_none found call writing (Err other) a t owned told tells quiet owners_quiet e known =
       elim a [
-        | inl (inl none) ↦ elim (none.is t owned told tells) [
-          | inl same ↦ inl (ap Err (same_refusal (sym same ∙ known)))
-          | inr (inl failed) ↦ absurd (no_fault (none.cause failed) quiet owners_quiet)
-          | inr (inr wants) ↦ inr (ap Err wants)
-        ]
+        | inl (inl none) ↦ none_is found other none t owned told tells quiet owners_quiet e known
         | inl (inr refused) ↦ absurd (not_found (sym (refused.by.is t owned told tells) ∙ known))
-        | inr unwritten ↦ inr (ap Err unwritten.e_is)
+        | inr unwritten ↦ inr unwritten.e_is
       ]
 
-  task_none : (place : Place) (directory : Option (List ℕ)) (task : Task) (answer : Result (List ℕ) HereRefusal) → AnswersTask w i o w0 w1 i0 i1 o0 o1 place directory answer task
+  list_none : (found : Names → Owned → Result Found HereRefusal) (listing : Listing) (answer : Result Reply HereRefusal) → AnswersListing w i o w0 w1 i0 i1 o0 o1 found listing answer
       → (t : Names) (owned : Owned) → w.told w0 ≡ Some t → o.told o0 ≡ Some owned → NotIncreased (w.faults w0) (w.faults w1) → NotIncreased (o.faults o0) (o.faults o1)
-      → (e : HereRefusal) → output.IsNotFoundFor t owned place directory e task → (answer ≡ Err e) ⊎ (answer ≡ Err memory)
-  task_none place directory (call_of call asked writing) answer a t owned told tells quiet owners_quiet e known = call_none (found_at place directory asked) call writing answer a t owned told tells quiet owners_quiet e known
+      → (e : HereRefusal) → found t owned ≡ Err e → IsRefusedAs e answer
+  list_none found listing (Ok reply) a t owned told tells quiet owners_quiet e known = not_found (sym (a.by.is t owned told tells) ∙ known)
+  list_none found listing (Err other) a t owned told tells quiet owners_quiet e known =
+      elim a [
+        | inl none ↦ none_is found other none t owned told tells quiet owners_quiet e known
+        | inr refused ↦ absurd (not_found (sym (refused.by.is t owned told tells) ∙ known))
+      ]
+
+  task_none : (place : Place) (directory : Option (List ℕ)) (task : Task) (answer : Result Reply HereRefusal) → AnswersTask w i o w0 w1 i0 i1 o0 o1 place directory answer task
+      → (t : Names) (owned : Owned) → w.told w0 ≡ Some t → o.told o0 ≡ Some owned → NotIncreased (w.faults w0) (w.faults w1) → NotIncreased (o.faults o0) (o.faults o1)
+      → (e : HereRefusal) → output.IsNotFoundFor t owned place directory e task → IsRefusedAs e answer
+  task_none place directory (call_of call asked writing) (Ok reply) a t owned told tells quiet owners_quiet e known = call_none (found_at place directory asked) call writing (Ok reply.out) a.0 t owned told tells quiet owners_quiet e known
+  task_none place directory (call_of call asked writing) (Err other) a t owned told tells quiet owners_quiet e known = call_none (found_at place directory asked) call writing (Err other) a.0 t owned told tells quiet owners_quiet e known
+  task_none place directory (list_of listing asked) answer a t owned told tells quiet owners_quiet e known = list_none (listable_at place directory listing asked) listing answer a t owned told tells quiet owners_quiet e known
   task_none place directory (offer_of text) answer a t owned told tells quiet owners_quiet e known = absurd known
 
   -- for what can be had only memory may be wanted
@@ -291,58 +386,78 @@ module _ {W I O : Type 0} (w : WorktreeOf W) (i : InterruptOf I) (o : OwnersOf O
         | inr unwritten ↦ unwritten.e_is
       ]
 
+  list_complete : (found : Names → Owned → Result Found HereRefusal) (listing : Listing) (e : HereRefusal) → AnswersListing w i o w0 w1 i0 i1 o0 o1 found listing (Err e)
+      → (t : Names) (owned : Owned) → w.told w0 ≡ Some t → o.told o0 ≡ Some owned → NotIncreased (w.faults w0) (w.faults w1) → NotIncreased (o.faults o0) (o.faults o1) → NotIncreased (i.raised i0) (i.raised i1)
+      → output.IsListableAt (w.precomposes w0) t (found t owned) listing → e ≡ memory
+  list_complete found listing e a t owned told tells quiet owners_quiet calm ready =
+      elim a [
+        | inl none ↦ elim (none_refused found e none t owned told tells quiet owners_quiet) [
+          | inl wants ↦ wants
+          | inr is ↦ absurd (not_found (sym ready.found_is ∙ is))
+        ]
+        | inr refused ↦
+            let by = refused.by in
+            let same : ready.here ≡ by.here = same_found (sym ready.found_is ∙ by.is t owned told tells) in
+            refused.e_is ∙ ap errors.Program
+            (lists.complete w i by.loaded w1 i0 i1 by.here listing refused.refusal by.made t (by.asks.tree ∙ told)
+            (subst (λ (n : ℕ). NotIncreased n (w.faults w1)) (sym by.unfaulted) quiet) calm
+            (subst (λ (b : Bool). IsListable b t by.here listing) (sym by.asks.precomposes)
+            (subst (λ (x : Found). IsListable (w.precomposes w0) t x listing) same ready.ready)))
+      ]
+
   task_complete : (place : Place) (directory : Option (List ℕ)) (task : Task) (e : HereRefusal) → AnswersTask w i o w0 w1 i0 i1 o0 o1 place directory (Err e) task
       → (t : Names) (owned : Owned) → w.told w0 ≡ Some t → o.told o0 ≡ Some owned → NotIncreased (w.faults w0) (w.faults w1) → NotIncreased (o.faults o0) (o.faults o1) → NotIncreased (i.raised i0) (i.raised i1)
       → output.IsReadyWith (w.precomposes w0) t owned place directory task → e ≡ memory
-  task_complete place directory (call_of call asked writing) e a t owned told tells quiet owners_quiet calm ready = call_complete (found_at place directory asked) call writing e a t owned told tells quiet owners_quiet calm ready
-  task_complete place directory (offer_of text) e a t owned told tells quiet owners_quiet calm ready = a.refused
+  task_complete place directory (call_of call asked writing) e a t owned told tells quiet owners_quiet calm ready = call_complete (found_at place directory asked) call writing e a.0 t owned told tells quiet owners_quiet calm ready
+  task_complete place directory (list_of listing asked) e a t owned told tells quiet owners_quiet calm ready = list_complete (listable_at place directory listing asked) listing e a t owned told tells quiet owners_quiet calm ready
+  task_complete place directory (offer_of text) e a t owned told tells quiet owners_quiet calm ready = a.0.refused
 
 -- ---- the call
 
 module _ {W I O S E : Type 0} (w : WorktreeOf W) (i : InterruptOf I) (o : OwnersOf O) (s : SinkOf S) (e : SinkOf E) (w0 w1 : W) (i0 i1 : I) (o0 o1 : O) (s0 s1 : S) (e0 e1 : E) (place : Place) (words : List (List ℕ)) (status : ℕ) where
-  bytes_unfaulted : (bytes : List ℕ) → AnswersHere w i o w0 w1 i0 i1 o0 o1 place words (Ok bytes) → output.IsUnfaultedHere place words (w.faults w0) (w.faults w1)
-  bytes_unfaulted bytes a =
+  reply_unfaulted : (reply : Reply) → AnswersHere w i o w0 w1 i0 i1 o0 o1 place words (Ok reply) → output.IsUnfaultedHere place words (w.faults w0) (w.faults w1)
+  reply_unfaulted reply a =
       elim a [
-        | inl of ↦ record { request = of.request; asked = of.asked; unfaulted = task_unfaulted w i o w0 w1 i0 i1 o0 o1 place of.request.directory (task_of place.takes_colors of.request.command) bytes of.answers }
-        | inr (inl wrong) ↦ absurd (no_text wrong.answer_is)
-        | inr (inr unread) ↦ absurd (no_text unread.answer_is)
+        | inl of ↦ record { request = of.request; asked = of.asked; unfaulted = task_unfaulted w i o w0 w1 i0 i1 o0 o1 place of.request.directory (task_of place.takes_colors of.request.command) reply of.answers }
+        | inr (inl wrong) ↦ absurd (no_reply wrong.answer_is)
+        | inr (inr unread) ↦ absurd (no_reply unread.answer_is)
       ]
 
-  bytes_owners : (bytes : List ℕ) → AnswersHere w i o w0 w1 i0 i1 o0 o1 place words (Ok bytes) → o.faults o1 ≡ o.faults o0
-  bytes_owners bytes a =
+  reply_owners : (reply : Reply) → AnswersHere w i o w0 w1 i0 i1 o0 o1 place words (Ok reply) → o.faults o1 ≡ o.faults o0
+  reply_owners reply a =
       elim a [
-        | inl of ↦ task_owners w i o w0 w1 i0 i1 o0 o1 place of.request.directory (task_of place.takes_colors of.request.command) bytes of.answers
-        | inr (inl wrong) ↦ absurd (no_text wrong.answer_is)
-        | inr (inr unread) ↦ absurd (no_text unread.answer_is)
+        | inl of ↦ task_owners w i o w0 w1 i0 i1 o0 o1 place of.request.directory (task_of place.takes_colors of.request.command) reply of.answers
+        | inr (inl wrong) ↦ absurd (no_reply wrong.answer_is)
+        | inr (inr unread) ↦ absurd (no_reply unread.answer_is)
       ]
 
-  bytes_output : (bytes : List ℕ) → AnswersHere w i o w0 w1 i0 i1 o0 o1 place words (Ok bytes) → (t : Names) (owned : Owned) → w.told w0 ≡ Some t → o.told o0 ≡ Some owned
-      → output.IsOutputHere (w.precomposes w0) t owned place words (w.faults w0) (w.faults w1) bytes
-  bytes_output bytes a t owned told tells =
+  reply_output : (reply : Reply) → AnswersHere w i o w0 w1 i0 i1 o0 o1 place words (Ok reply) → (t : Names) (owned : Owned) → w.told w0 ≡ Some t → o.told o0 ≡ Some owned
+      → output.IsOutputHere (w.precomposes w0) t owned place words (w.faults w0) (w.faults w1) reply
+  reply_output reply a t owned told tells =
       elim a [
-        | inl of ↦ record { request = of.request; asked = of.asked; bytes_is = λ quiet. task_bytes w i o w0 w1 i0 i1 o0 o1 place of.request.directory (task_of place.takes_colors of.request.command) bytes of.answers t owned told tells quiet }
-        | inr (inl wrong) ↦ absurd (no_text wrong.answer_is)
-        | inr (inr unread) ↦ absurd (no_text unread.answer_is)
+        | inl of ↦ record { request = of.request; asked = of.asked; reply_is = λ quiet. task_reply w i o w0 w1 i0 i1 o0 o1 place of.request.directory (task_of place.takes_colors of.request.command) reply of.answers t owned told tells quiet }
+        | inr (inl wrong) ↦ absurd (no_reply wrong.answer_is)
+        | inr (inr unread) ↦ absurd (no_reply unread.answer_is)
       ]
 
-  pub unfaulted : (answer : Result (List ℕ) HereRefusal) → AnswersHere w i o w0 w1 i0 i1 o0 o1 place words answer → EndsHere s e s0 s1 e0 e1 answer status
-      → status ≡ 0 → output.IsUnfaultedHere place words (w.faults w0) (w.faults w1)
-  unfaulted answer a ends zero =
-      let wrote = ends_in_zero s e s0 s1 e0 e1 status answer ends zero in
-      bytes_unfaulted wrote.0 (subst (λ (x : Result (List ℕ) HereRefusal). AnswersHere w i o w0 w1 i0 i1 o0 o1 place words x) wrote.1 a)
+  pub unfaulted : (answer : Result Reply HereRefusal) → AnswersHere w i o w0 w1 i0 i1 o0 o1 place words answer → EndsHere s e s0 s1 e0 e1 answer status
+      → status ≤ 1 → output.IsUnfaultedHere place words (w.faults w0) (w.faults w1)
+  unfaulted answer a ends few =
+      let wrote = ends_low s e s0 s1 e0 e1 status answer ends few in
+      reply_unfaulted wrote.0 (subst (λ (x : Result Reply HereRefusal). AnswersHere w i o w0 w1 i0 i1 o0 o1 place words x) wrote.1 a)
 
-  pub owners_unfaulted : (answer : Result (List ℕ) HereRefusal) → AnswersHere w i o w0 w1 i0 i1 o0 o1 place words answer → EndsHere s e s0 s1 e0 e1 answer status
-      → status ≡ 0 → o.faults o1 ≡ o.faults o0
-  owners_unfaulted answer a ends zero =
-      let wrote = ends_in_zero s e s0 s1 e0 e1 status answer ends zero in
-      bytes_owners wrote.0 (subst (λ (x : Result (List ℕ) HereRefusal). AnswersHere w i o w0 w1 i0 i1 o0 o1 place words x) wrote.1 a)
+  pub owners_unfaulted : (answer : Result Reply HereRefusal) → AnswersHere w i o w0 w1 i0 i1 o0 o1 place words answer → EndsHere s e s0 s1 e0 e1 answer status
+      → status ≤ 1 → o.faults o1 ≡ o.faults o0
+  owners_unfaulted answer a ends few =
+      let wrote = ends_low s e s0 s1 e0 e1 status answer ends few in
+      reply_owners wrote.0 (subst (λ (x : Result Reply HereRefusal). AnswersHere w i o w0 w1 i0 i1 o0 o1 place words x) wrote.1 a)
 
-  pub gives : (answer : Result (List ℕ) HereRefusal) → AnswersHere w i o w0 w1 i0 i1 o0 o1 place words answer → EndsHere s e s0 s1 e0 e1 answer status
-      → (t : Names) (owned : Owned) → w.told w0 ≡ Some t → o.told o0 ≡ Some owned → status ≡ 0
-      → (bytes : List ℕ) × output.IsOutputHere (w.precomposes w0) t owned place words (w.faults w0) (w.faults w1) bytes × Appends (s.written s0) (s.written s1) bytes
-  gives answer a ends t owned told tells zero =
-      let wrote = ends_in_zero s e s0 s1 e0 e1 status answer ends zero in
-      (wrote.0, bytes_output wrote.0 (subst (λ (x : Result (List ℕ) HereRefusal). AnswersHere w i o w0 w1 i0 i1 o0 o1 place words x) wrote.1 a) t owned told tells, wrote.2)
+  pub gives : (answer : Result Reply HereRefusal) → AnswersHere w i o w0 w1 i0 i1 o0 o1 place words answer → EndsHere s e s0 s1 e0 e1 answer status
+      → (t : Names) (owned : Owned) → w.told w0 ≡ Some t → o.told o0 ≡ Some owned → status ≤ 1
+      → (reply : Reply) × output.IsOutputHere (w.precomposes w0) t owned place words (w.faults w0) (w.faults w1) reply × IsReplied s e s0 s1 e0 e1 reply status
+  gives answer a ends t owned told tells few =
+      let wrote = ends_low s e s0 s1 e0 e1 status answer ends few in
+      (wrote.0, reply_output wrote.0 (subst (λ (x : Result Reply HereRefusal). AnswersHere w i o w0 w1 i0 i1 o0 o1 place words x) wrote.1 a) t owned told tells, wrote.2)
 
   error_misuse : (refusal : HereRefusal) → AnswersHere w i o w0 w1 i0 i1 o0 o1 place words (Err refusal) → status_of refusal ≡ 129 → IsMisuse words
   error_misuse refusal a is =
@@ -352,18 +467,18 @@ module _ {W I O S E : Type 0} (w : WorktreeOf W) (i : InterruptOf I) (o : Owners
         | inr (inr unread) ↦ absurd (let same = memory_not refusal 129 (same_error unread.answer_is) is in omega (arith, same))
       ]
 
-  pub misuse : (answer : Result (List ℕ) HereRefusal) → AnswersHere w i o w0 w1 i0 i1 o0 o1 place words answer → EndsHere s e s0 s1 e0 e1 answer status → status ≡ 129 → IsMisuse words
+  pub misuse : (answer : Result Reply HereRefusal) → AnswersHere w i o w0 w1 i0 i1 o0 o1 place words answer → EndsHere s e s0 s1 e0 e1 answer status → status ≡ 129 → IsMisuse words
   misuse answer a ends is =
-      let refused = ends_above s e s0 s1 e0 e1 status answer ends 129 is (λ no. omega (arith, no)) (λ no. omega (arith, no)) in
-      error_misuse refused.0 (subst (λ (x : Result (List ℕ) HereRefusal). AnswersHere w i o w0 w1 i0 i1 o0 o1 place words x) refused.1 a) refused.2
+      let refused = ends_above s e s0 s1 e0 e1 status answer ends 129 is (omega arith) in
+      error_misuse refused.0 (subst (λ (x : Result Reply HereRefusal). AnswersHere w i o w0 w1 i0 i1 o0 o1 place words x) refused.1 a) refused.2
 
-  pub usage : (answer : Result (List ℕ) HereRefusal) → AnswersHere w i o w0 w1 i0 i1 o0 o1 place words answer → EndsHere s e s0 s1 e0 e1 answer status → IsMisuse words
+  pub usage : (answer : Result Reply HereRefusal) → AnswersHere w i o w0 w1 i0 i1 o0 o1 place words answer → EndsHere s e s0 s1 e0 e1 answer status → IsMisuse words
       → (status ≡ 129) ⊎ IsToldOf e e0 e1 memory_line 128 status
   usage answer a ends known =
       elim a [
         | inl of ↦ absurd (no_asking (sym of.asked ∙ known.is))
-        | inr (inl wrong) ↦ elim (subst (λ (x : Result (List ℕ) HereRefusal). EndsHere s e s0 s1 e0 e1 x status) wrong.answer_is ends).by.1 [ inl told ↦ inl told.status_is | inr untold ↦ inr untold ]
-        | inr (inr unread) ↦ inr (wants_memory s e s0 s1 e0 e1 status memory refl (subst (λ (x : Result (List ℕ) HereRefusal). EndsHere s e s0 s1 e0 e1 x status) unread.answer_is ends).by.1)
+        | inr (inl wrong) ↦ elim (subst (λ (x : Result Reply HereRefusal). EndsHere s e s0 s1 e0 e1 x status) wrong.answer_is ends).by.1 [ inl told ↦ inl told.status_is | inr untold ↦ inr untold ]
+        | inr (inr unread) ↦ inr (wants_memory s e s0 s1 e0 e1 status memory refl (subst (λ (x : Result Reply HereRefusal). EndsHere s e s0 s1 e0 e1 x status) unread.answer_is ends).by.1)
       ]
 
   error_refused : (refusal : HereRefusal) → AnswersHere w i o w0 w1 i0 i1 o0 o1 place words (Err refusal) → (t : Names) (owned : Owned) → w.told w0 ≡ Some t → o.told o0 ≡ Some owned → NotIncreased (w.faults w0) (w.faults w1) → NotIncreased (o.faults o0) (o.faults o1)
@@ -378,12 +493,12 @@ module _ {W I O S E : Type 0} (w : WorktreeOf W) (i : InterruptOf I) (o : Owners
         | inr (inr unread) ↦ inl (same_error unread.answer_is)
       ]
 
-  pub fatal : (answer : Result (List ℕ) HereRefusal) → AnswersHere w i o w0 w1 i0 i1 o0 o1 place words answer → EndsHere s e s0 s1 e0 e1 answer status
+  pub fatal : (answer : Result Reply HereRefusal) → AnswersHere w i o w0 w1 i0 i1 o0 o1 place words answer → EndsHere s e s0 s1 e0 e1 answer status
       → (t : Names) (owned : Owned) → w.told w0 ≡ Some t → o.told o0 ≡ Some owned → status ≡ 128 → NotIncreased (w.faults w0) (w.faults w1) → NotIncreased (o.faults o0) (o.faults o1) → NotIncreased (s.refusals s0) (s.refusals s1)
       → IsToldOf e e0 e1 memory_line 128 status ⊎ IsFatal e e0 e1 (output.RefusesHere (w.precomposes w0) t owned place words)
-  fatal (Ok bytes) a ends t owned told tells is quiet owners_quiet taken =
+  fatal (Ok reply) a ends t owned told tells is quiet owners_quiet taken =
       elim ends.by [
-        | inl whole ↦ absurd (let zero = whole.status_is in omega (arith, zero, is))
+        | inl whole ↦ absurd (let same = whole.status_is in let low = is_low reply in omega (arith, same, low, is))
         | inr cut ↦ absurd (let cause = cut.cause in omega (arith, cause, taken))
       ]
   fatal (Err refusal) a ends t owned told tells is quiet owners_quiet taken =
@@ -395,24 +510,29 @@ module _ {W I O S E : Type 0} (w : WorktreeOf W) (i : InterruptOf I) (o : Owners
         | inr untold ↦ inl untold
       ]
 
-  answer_none : (answer : Result (List ℕ) HereRefusal) → AnswersHere w i o w0 w1 i0 i1 o0 o1 place words answer → (t : Names) (owned : Owned) (e : HereRefusal)
+  answer_none : (answer : Result Reply HereRefusal) → AnswersHere w i o w0 w1 i0 i1 o0 o1 place words answer → (t : Names) (owned : Owned) (e : HereRefusal)
       → w.told w0 ≡ Some t → o.told o0 ≡ Some owned → output.IsNotFoundHere t owned place words e → NotIncreased (w.faults w0) (w.faults w1) → NotIncreased (o.faults o0) (o.faults o1)
-      → (answer ≡ Err e) ⊎ (answer ≡ Err memory)
+      → IsRefusedAs e answer
   answer_none answer a t owned e told tells known quiet owners_quiet =
       elim a [
         | inl of ↦ task_none w i o w0 w1 i0 i1 o0 o1 place of.request.directory (task_of place.takes_colors of.request.command) answer of.answers t owned told tells quiet owners_quiet e (known.refused of.request of.asked)
         | inr (inl wrong) ↦ absurd (no_asking (sym known.words_are ∙ wrong.misuse.is))
-        | inr (inr unread) ↦ inr unread.answer_is
+        | inr (inr unread) ↦ subst (λ (x : Result Reply HereRefusal). IsRefusedAs e x) (sym unread.answer_is) (inr refl)
       ]
 
-  pub refused : (answer : Result (List ℕ) HereRefusal) → AnswersHere w i o w0 w1 i0 i1 o0 o1 place words answer → EndsHere s e s0 s1 e0 e1 answer status
+  told_refused : (refusal : HereRefusal) (answer : Result Reply HereRefusal) → IsRefusedAs refusal answer → EndsHere s e s0 s1 e0 e1 answer status → IsTold e e0 e1 refusal status
+  told_refused refusal (Ok reply) is ends = absurd is
+  told_refused refusal (Err other) is ends =
+      elim is [
+        | inl same ↦ subst (λ (x : HereRefusal). IsTold e e0 e1 x status) same ends.by.1
+        | inr wants ↦ inr (wants_memory s e s0 s1 e0 e1 status other wants ends.by.1)
+      ]
+
+  pub refused : (answer : Result Reply HereRefusal) → AnswersHere w i o w0 w1 i0 i1 o0 o1 place words answer → EndsHere s e s0 s1 e0 e1 answer status
       → (t : Names) (owned : Owned) (refusal : HereRefusal) → w.told w0 ≡ Some t → o.told o0 ≡ Some owned → output.IsNotFoundHere t owned place words refusal
       → NotIncreased (w.faults w0) (w.faults w1) → NotIncreased (o.faults o0) (o.faults o1) → IsTold e e0 e1 refusal status
   refused answer a ends t owned refusal told tells known quiet owners_quiet =
-      elim (answer_none answer a t owned refusal told tells known quiet owners_quiet) [
-        | inl is ↦ (subst (λ (x : Result (List ℕ) HereRefusal). EndsHere s e s0 s1 e0 e1 x status) is ends).by.1
-        | inr wants ↦ inr (wants_memory s e s0 s1 e0 e1 status memory refl (subst (λ (x : Result (List ℕ) HereRefusal). EndsHere s e s0 s1 e0 e1 x status) wants ends).by.1)
-      ]
+      told_refused refusal answer (answer_none answer a t owned refusal told tells known quiet owners_quiet) ends
 
   error_interrupted : (refusal : HereRefusal) → AnswersHere w i o w0 w1 i0 i1 o0 o1 place words (Err refusal) → status_of refusal ≡ 130 → Increased (i.raised i0) (i.raised i1)
   error_interrupted refusal a is =
@@ -422,11 +542,11 @@ module _ {W I O S E : Type 0} (w : WorktreeOf W) (i : InterruptOf I) (o : Owners
         | inr (inr unread) ↦ absurd (let same = memory_not refusal 130 (same_error unread.answer_is) is in omega (arith, same))
       ]
 
-  pub interrupted : (answer : Result (List ℕ) HereRefusal) → AnswersHere w i o w0 w1 i0 i1 o0 o1 place words answer → EndsHere s e s0 s1 e0 e1 answer status → status ≡ 130
+  pub interrupted : (answer : Result Reply HereRefusal) → AnswersHere w i o w0 w1 i0 i1 o0 o1 place words answer → EndsHere s e s0 s1 e0 e1 answer status → status ≡ 130
       → Increased (i.raised i0) (i.raised i1)
   interrupted answer a ends is =
-      let refused = ends_above s e s0 s1 e0 e1 status answer ends 130 is (λ no. omega (arith, no)) (λ no. omega (arith, no)) in
-      error_interrupted refused.0 (subst (λ (x : Result (List ℕ) HereRefusal). AnswersHere w i o w0 w1 i0 i1 o0 o1 place words x) refused.1 a) refused.2
+      let refused = ends_above s e s0 s1 e0 e1 status answer ends 130 is (omega arith) in
+      error_interrupted refused.0 (subst (λ (x : Result Reply HereRefusal). AnswersHere w i o w0 w1 i0 i1 o0 o1 place words x) refused.1 a) refused.2
 
   error_complete : (refusal : HereRefusal) → AnswersHere w i o w0 w1 i0 i1 o0 o1 place words (Err refusal) → (t : Names) (owned : Owned) → w.told w0 ≡ Some t → o.told o0 ≡ Some owned → output.IsValidHere (w.precomposes w0) t owned place words
       → NotIncreased (w.faults w0) (w.faults w1) → NotIncreased (o.faults o0) (o.faults o1) → NotIncreased (i.raised i0) (i.raised i1) → refusal ≡ memory
@@ -437,10 +557,10 @@ module _ {W I O S E : Type 0} (w : WorktreeOf W) (i : InterruptOf I) (o : Owners
         | inr (inr unread) ↦ same_error unread.answer_is
       ]
 
-  pub complete : (answer : Result (List ℕ) HereRefusal) → AnswersHere w i o w0 w1 i0 i1 o0 o1 place words answer → EndsHere s e s0 s1 e0 e1 answer status
+  pub complete : (answer : Result Reply HereRefusal) → AnswersHere w i o w0 w1 i0 i1 o0 o1 place words answer → EndsHere s e s0 s1 e0 e1 answer status
       → (t : Names) (owned : Owned) → w.told w0 ≡ Some t → o.told o0 ≡ Some owned → output.IsValidHere (w.precomposes w0) t owned place words → NotIncreased (w.faults w0) (w.faults w1) → NotIncreased (o.faults o0) (o.faults o1)
-      → NotIncreased (i.raised i0) (i.raised i1) → NotIncreased (s.refusals s0) (s.refusals s1) → (status ≡ 0) ⊎ IsToldOf e e0 e1 memory_line 128 status
-  complete (Ok bytes) a ends t owned told tells valid quiet owners_quiet calm taken =
-      elim ends.by [ inl whole ↦ inl whole.status_is | inr cut ↦ absurd (let cause = cut.cause in omega (arith, cause, taken)) ]
+      → NotIncreased (i.raised i0) (i.raised i1) → NotIncreased (s.refusals s0) (s.refusals s1) → (status ≤ 1) ⊎ IsToldOf e e0 e1 memory_line 128 status
+  complete (Ok reply) a ends t owned told tells valid quiet owners_quiet calm taken =
+      elim ends.by [ inl whole ↦ inl (let same = whole.status_is in let low = is_low reply in omega (arith, same, low)) | inr cut ↦ absurd (let cause = cut.cause in omega (arith, cause, taken)) ]
   complete (Err refusal) a ends t owned told tells valid quiet owners_quiet calm taken =
       inr (wants_memory s e s0 s1 e0 e1 status refusal (error_complete refusal a t owned told tells valid quiet owners_quiet calm) ends.by.1)

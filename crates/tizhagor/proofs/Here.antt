@@ -1,5 +1,5 @@
 -- The parts of an answer, put together.
-use Rattle.std.proofs.Common.{◌≡◌, inl, inr, ℕ, List, Some, Result, Ok, Err, sym, subst, refl}
+use Rattle.std.proofs.Common.{◌≡◌, inl, inr, ℕ, List, Some, Result, Ok, Err, IfOk, IfErr, ap, sym, subst, refl}
 use Rattle.worktree_fs.specs.declared.interrupt.Interrupt.{Ghosts as InterruptOf}
 use Rattle.worktree_fs.specs.declared.owners.Owners.{Ghosts as OwnersOf}
 use Rattle.worktree_fs.specs.declared.worktree.Worktree.{Ghosts as WorktreeOf}
@@ -13,7 +13,12 @@ use Rattle.git_setup.specs.declared.found.Found.{Found}
 use Rattle.tizhagor.specs.declared.call.Call.{Call}
 use Rattle.tizhagor.specs.declared.refusal.HereRefusal.{HereRefusal}
 use Rattle.tizhagor.specs.declared.writing.Writing.{Writing}
-use Rattle.tizhagor.specs.Answers.{AnswersBy, AnswersCall, AnswersHere, ByFound, Place, Then}
+use Rattle.ls_files.specs.declared.listed.Listed.{Listed}
+use Rattle.ls_files.specs.declared.listing.Listing.{Listing}
+use Rattle.tizhagor.specs.declared.reply.Reply.{Reply}
+use Rattle.tizhagor.specs.Answers.{AnswersBy, AnswersCall, AnswersHere, AnswersListing, ByFound, Offers, Place, Then, ThenLists}
+use Rattle.tizhagor.specs.Listings.{as_reply}
+use Rattle.tizhagor.specs.Replies.{SaysPlainly, plain, plainly}
 use Rattle.tizhagor.specs.Refusals.{as_program, memory, of_misuse}
 use Rattle.tizhagor.specs.Texts.{TextsBy}
 use Rattle.tizhagor.specs.Writing.{written}
@@ -28,7 +33,25 @@ same_error a b e = cc
 no_bytes : (a : List ℕ) (b : HereRefusal) → ◌≡◌ {A = Result (List ℕ) HereRefusal} (Ok a) (Err b) → ⊥
 no_bytes a b e = absurd cc
 
+-- a text alone
+pub says_plainly : (Says : Result (List ℕ) HereRefusal → Type 0) (answer : Result (List ℕ) HereRefusal) → Says answer → SaysPlainly Says (plainly answer)
+says_plainly Says (Ok text) says = (says, refl)
+says_plainly Says (Err e) says = (says, tt)
+
+-- one that is always the same
+pub offers_plainly : {W I O : Type 0} (w0 : W) (i0 : I) (o0 : O) (text : List ℕ) (answer : Result Reply HereRefusal) → IfOk answer (λ reply. reply ≡ plain text) → IfErr answer (λ e. e ≡ memory)
+    → SaysPlainly (Offers w0 w0 i0 i0 o0 o0 text) answer
+offers_plainly w0 i0 o0 text (Ok reply) gives refused =
+    (record { gives = ap (λ (r : Reply). r.out) gives; refused = tt; worktree = refl; interrupt = refl; owners = refl }, rw gives refl)
+offers_plainly w0 i0 o0 text (Err e) gives refused = (record { gives = tt; refused = refused; worktree = refl; interrupt = refl; owners = refl }, tt)
+
 module _ {W I O : Type 0} (w : WorktreeOf W) (i : InterruptOf I) (o : OwnersOf O) (w0 w1 : W) (i0 i1 : I) (o0 o1 : O) where
+  -- a listing or a refusal of one by what was found
+  pub by_listing : (found : Names → Owned → Result Found HereRefusal) (listing : Listing) (answer : Result Listed Refusal) (here_answer : Result Reply HereRefusal) → here_answer ≡ as_reply answer
+      → ByFound w o w0 o0 o1 found (ThenLists w i w1 i0 i1 listing answer) → AnswersListing w i o w0 w1 i0 i1 o0 o1 found listing here_answer
+  by_listing found listing (Ok made) here_answer is by = rw is (record { made = made; reply_is = refl; by = by })
+  by_listing found listing (Err refusal) here_answer is by = rw is (inr (record { refusal = refusal; e_is = refl; by = by }))
+
   -- a text or a refusal by what was found
   pub by_found : (found : Names → Owned → Result Found HereRefusal) (call : Call) (answer : Result (List ℕ) Refusal) (here_answer : Result (List ℕ) HereRefusal) → here_answer ≡ as_program answer
       → ByFound w o w0 o0 o1 found (Then w i w1 i0 i1 call answer) → AnswersBy w i o w0 w1 i0 i1 o0 o1 found call here_answer

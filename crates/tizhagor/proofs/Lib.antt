@@ -1,4 +1,5 @@
 pub mod ByCall
+pub mod Listed
 pub mod Finding
 pub mod Here
 pub mod Ended

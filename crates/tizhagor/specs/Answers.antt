@@ -28,7 +28,12 @@ use Rattle.tizhagor.specs.declared.call.Call.TheVariants as calls
 use Rattle.tizhagor.specs.declared.refusal.HereRefusal.TheVariants.{Program, Words}
 use Rattle.tizhagor.specs.declared.writing.Writing.{Writing}
 use Rattle.tizhagor.specs.declared.writing.Writing.TheVariants as writings
+use Rattle.ls_files.specs.declared.listed.Listed.{Listed}
+use Rattle.ls_files.specs.declared.listing.Listing.{Listing}
+use Rattle.tizhagor.specs.declared.reply.Reply.{Reply}
 use Rattle.tizhagor.specs.Asking.{asked_for, here_in}
+use Rattle.tizhagor.specs.Listings.{Lists, listable_in, reply_of}
+use Rattle.tizhagor.specs.Replies.{SaysPlainly}
 use Rattle.tizhagor.specs.Refusals.{fault, memory, IsOfFinding}
 use Rattle.tizhagor.specs.Texts.{TextsBy}
 use Rattle.tizhagor.specs.Writing.{written}
@@ -90,6 +95,31 @@ abbrev pub AnswersCall : {W I O : Type 0} → WorktreeOf W → InterruptOf I →
 AnswersCall w i o w0 w1 i0 i1 o0 o1 found call writing (Ok bytes) = Writes w i o w0 w1 i0 i1 o0 o1 found call writing bytes
 AnswersCall w i o w0 w1 i0 i1 o0 o1 found call writing (Err e) = AnswersBy w i o w0 w1 i0 i1 o0 o1 found call (Err e) ⊎ Unwritten w i o w0 w1 i0 i1 o0 o1 found call e
 
+-- ---- listings
+
+-- what is said of a listing or a refusal of it, by what was found
+abbrev pub ThenLists : {W I : Type 0} → WorktreeOf W → InterruptOf I → W → I → I → Listing → Result Listed Refusal → Found → W → Type 0
+ThenLists w i w1 i0 i1 listing answer here loaded = Lists w i loaded w1 i0 i1 listing here answer
+
+-- The reply is that of a listing.
+pub record ListsReply {W I O : Type 0} (w : WorktreeOf W) (i : InterruptOf I) (o : OwnersOf O) (w0 w1 : W) (i0 i1 : I) (o0 o1 : O) (found : Names → Owned → Result Found HereRefusal) (listing : Listing) (reply : Reply) : Type 0 where
+  pub made : Listed
+  pub reply_is : reply ≡ reply_of made
+  pub by : ByFound w o w0 o0 o1 found (ThenLists w i w1 i0 i1 listing (Ok made))
+
+-- There is no listing by what was found.
+pub record RefusesListing {W I O : Type 0} (w : WorktreeOf W) (i : InterruptOf I) (o : OwnersOf O) (w0 w1 : W) (i0 i1 : I) (o0 o1 : O) (found : Names → Owned → Result Found HereRefusal) (listing : Listing) (e : HereRefusal) : Type 0 where
+  pub refusal : Refusal
+  pub e_is : e ≡ Program refusal
+  pub by : ByFound w o w0 o0 o1 found (ThenLists w i w1 i0 i1 listing (Err refusal))
+
+-- What is said of a listing, or why there is none: by what was found, or as nothing was.
+abbrev pub AnswersListing : {W I O : Type 0} → WorktreeOf W → InterruptOf I → OwnersOf O → W → W → I → I → O → O → (Names → Owned → Result Found HereRefusal) → Listing → Result Reply HereRefusal → Type 0
+AnswersListing w i o w0 w1 i0 i1 o0 o1 found listing (Ok reply) = ListsReply w i o w0 w1 i0 i1 o0 o1 found listing reply
+AnswersListing w i o w0 w1 i0 i1 o0 o1 found listing (Err e) = NotFound w o w0 w1 i0 i1 o0 o1 found e ⊎ RefusesListing w i o w0 w1 i0 i1 o0 o1 found listing e
+
+-- ---- what is always the same
+
 -- A text that is always the same, or the want of memory for it; nothing was asked for it.
 pub record Offers {W I O : Type 0} (w0 w1 : W) (i0 i1 : I) (o0 o1 : O) (text : List ℕ) (answer : Result (List ℕ) HereRefusal) : Type 0 where
   pub gives : IfOk answer (λ bytes. bytes ≡ text)
@@ -100,9 +130,11 @@ pub record Offers {W I O : Type 0} (w0 w1 : W) (i0 i1 : I) (o0 o1 : O) (text : L
 
 -- ---- what the words ask for
 
--- what a command asks for: a call, with what it asks of the work tree and how its text is written; or a text that is always the same
+-- what a command asks for: a call, with what it asks of the work tree and how its text is written; a listing; or a text that is always the
+-- same
 pub data Task : Type 0 where
   call_of : Call → Asked → Writing → Task
+  list_of : Listing → Asked → Task
   offer_of : List ℕ → Task
 
 -- `takes_colors` says whether the output takes colours
@@ -111,6 +143,7 @@ task_of takes_colors (commands.Report asked form) = call_of calls.Report (asked_
 task_of takes_colors (commands.Plan asked what finding form) = call_of (calls.Plan what finding) (asked_for (calls.Plan what finding) asked) (writings.Paths form.end)
 task_of takes_colors (commands.Modules asked) = call_of calls.Modules (asked_for calls.Modules asked) writings.AsItIs
 task_of takes_colors (commands.State asked form) = call_of calls.State (asked_for calls.State asked) (writings.Lines (styled form takes_colors))
+task_of takes_colors (commands.Files asked listing) = list_of listing asked
 task_of takes_colors (commands.Help topic) = offer_of (help_of topic)
 task_of takes_colors commands.Version = offer_of version
 
@@ -126,16 +159,20 @@ placed current variables takes_colors = record { current = current; variables = 
 abbrev pub found_at : Place → Option (List ℕ) → Asked → Names → Owned → Result Found HereRefusal
 found_at place directory asked t owned = here_in t owned place.current place.variables directory asked
 
-abbrev pub AnswersTask : {W I O : Type 0} → WorktreeOf W → InterruptOf I → OwnersOf O → W → W → I → I → O → O → Place → Option (List ℕ) → Result (List ℕ) HereRefusal → Task → Type 0
-AnswersTask w i o w0 w1 i0 i1 o0 o1 place directory answer (call_of call asked writing) = AnswersCall w i o w0 w1 i0 i1 o0 o1 (found_at place directory asked) call writing answer
-AnswersTask w i o w0 w1 i0 i1 o0 o1 place directory answer (offer_of text) = Offers w0 w1 i0 i1 o0 o1 text answer
+abbrev pub listable_at : Place → Option (List ℕ) → Listing → Asked → Names → Owned → Result Found HereRefusal
+listable_at place directory listing asked t owned = listable_in t owned place.current place.variables directory listing asked
+
+abbrev pub AnswersTask : {W I O : Type 0} → WorktreeOf W → InterruptOf I → OwnersOf O → W → W → I → I → O → O → Place → Option (List ℕ) → Result Reply HereRefusal → Task → Type 0
+AnswersTask w i o w0 w1 i0 i1 o0 o1 place directory answer (call_of call asked writing) = SaysPlainly (AnswersCall w i o w0 w1 i0 i1 o0 o1 (found_at place directory asked) call writing) answer
+AnswersTask w i o w0 w1 i0 i1 o0 o1 place directory answer (list_of listing asked) = AnswersListing w i o w0 w1 i0 i1 o0 o1 (listable_at place directory listing asked) listing answer
+AnswersTask w i o w0 w1 i0 i1 o0 o1 place directory answer (offer_of text) = SaysPlainly (Offers w0 w1 i0 i1 o0 o1 text) answer
 
 -- the words ask for this
 abbrev pub IsAsked : List (List ℕ) → Request → Type 0
 IsAsked words request = request_in words ≡ asks request.directory (seen request.command)
 
 -- The words ask for something, and this is the answer to it.
-pub record AnswersRequest {W I O : Type 0} (w : WorktreeOf W) (i : InterruptOf I) (o : OwnersOf O) (w0 w1 : W) (i0 i1 : I) (o0 o1 : O) (place : Place) (words : List (List ℕ)) (answer : Result (List ℕ) HereRefusal) : Type 0 where
+pub record AnswersRequest {W I O : Type 0} (w : WorktreeOf W) (i : InterruptOf I) (o : OwnersOf O) (w0 w1 : W) (i0 i1 : I) (o0 o1 : O) (place : Place) (words : List (List ℕ)) (answer : Result Reply HereRefusal) : Type 0 where
   pub request : Request
   pub asked : IsAsked words request
   pub answers : AnswersTask w i o w0 w1 i0 i1 o0 o1 place request.directory answer (task_of place.takes_colors request.command)
@@ -148,7 +185,7 @@ pub record IsMisuse (words : List (List ℕ)) : Type 0 where
   pub is : request_in words ≡ is_misuse topic wrong word
 
 -- The words ask for nothing, and the answer names the first that is wrong; nothing was asked for it.
-pub record Misuses {W I O : Type 0} (w0 w1 : W) (i0 i1 : I) (o0 o1 : O) (words : List (List ℕ)) (answer : Result (List ℕ) HereRefusal) : Type 0 where
+pub record Misuses {W I O : Type 0} (w0 w1 : W) (i0 i1 : I) (o0 o1 : O) (words : List (List ℕ)) (answer : Result Reply HereRefusal) : Type 0 where
   pub misuse : IsMisuse words
   pub answer_is : answer ≡ Err (Words (Word misuse.topic misuse.wrong misuse.word))
   pub worktree : w1 ≡ w0
@@ -156,12 +193,12 @@ pub record Misuses {W I O : Type 0} (w0 w1 : W) (i0 i1 : I) (o0 o1 : O) (words :
   pub owners : o1 ≡ o0
 
 -- Memory was wanted for the words; nothing was asked.
-pub record Unread {W I O : Type 0} (w0 w1 : W) (i0 i1 : I) (o0 o1 : O) (answer : Result (List ℕ) HereRefusal) : Type 0 where
+pub record Unread {W I O : Type 0} (w0 w1 : W) (i0 i1 : I) (o0 o1 : O) (answer : Result Reply HereRefusal) : Type 0 where
   pub answer_is : answer ≡ Err memory
   pub worktree : w1 ≡ w0
   pub interrupt : i1 ≡ i0
   pub owners : o1 ≡ o0
 
-abbrev pub AnswersHere : {W I O : Type 0} → WorktreeOf W → InterruptOf I → OwnersOf O → W → W → I → I → O → O → Place → List (List ℕ) → Result (List ℕ) HereRefusal → Type 0
+abbrev pub AnswersHere : {W I O : Type 0} → WorktreeOf W → InterruptOf I → OwnersOf O → W → W → I → I → O → O → Place → List (List ℕ) → Result Reply HereRefusal → Type 0
 AnswersHere w i o w0 w1 i0 i1 o0 o1 place words answer =
     AnswersRequest w i o w0 w1 i0 i1 o0 o1 place words answer ⊎ (Misuses w0 w1 i0 i1 o0 o1 words answer ⊎ Unread w0 w1 i0 i1 o0 o1 answer)

@@ -8,6 +8,8 @@ pub mod Refusals
 pub mod Finds
 pub mod Directory
 pub mod Asking
+pub mod Replies
+pub mod Listings
 pub mod Texts
 pub mod Writing
 pub mod Written

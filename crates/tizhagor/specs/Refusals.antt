@@ -8,6 +8,7 @@ use Rattle.worktree_fs.specs.declared.answers.ReadError.TheVariants as read
 use Rattle.worktree_report.specs.Escapes.{escaped}
 use Rattle.worktree_report.specs.declared.refusal.Refusal.{Refusal}
 use Rattle.worktree_report.specs.declared.refusal.Refusal.TheVariants as refusals
+use Rattle.ls_files.specs.Wrong.{wrong_text}
 use Rattle.command_line.specs.Misuses.{said}
 use Rattle.command_line.specs.declared.misuse.Misuse.{Misuse}
 use Rattle.command_line.specs.declared.misuse.Misuse.TheVariants as misuses
@@ -72,6 +73,7 @@ IsOfFinding (errors.Absent directory) = Unit {0}
 IsOfFinding (errors.NotADirectory directory) = Unit {0}
 IsOfFinding (errors.NotAtTop root) = Unit {0}
 IsOfFinding (errors.Git refusal) = Unit {0}
+IsOfFinding (errors.Listing wrong) = Unit {0}
 IsOfFinding (errors.Program refusals.Interrupted) = ⊥
 IsOfFinding (errors.Program refusals.Usage) = ⊥
 IsOfFinding (errors.Program (refusals.Setup line)) = ⊥
@@ -89,6 +91,7 @@ status_of (errors.Absent directory) = 128
 status_of (errors.NotADirectory directory) = 128
 status_of (errors.NotAtTop root) = 128
 status_of (errors.Git refusal) = 128
+status_of (errors.Listing wrong) = 128
 status_of (errors.Program refusal) = program_status refusal
 
 -- ---- lines
@@ -122,4 +125,5 @@ line_of (errors.Absent directory) = with_path (codes "fatal: cannot change to '"
 line_of (errors.NotADirectory directory) = with_path (codes "fatal: cannot change to '") directory (codes "': Not a directory\n")
 line_of (errors.NotAtTop root) = with_path (codes "fatal: a plan is made at the top of the work tree; call it there: '") root (codes "'\n")
 line_of (errors.Git refusal) = git_line refusal
+line_of (errors.Listing wrong) = codes "fatal: " ++ wrong_text wrong ++ codes "\n"
 line_of (errors.Program refusal) = program_line refusal

@@ -1,20 +1,23 @@
 //! The top call.
-ghost use Rattle.std.specs.Prelude.{◌≡◌, ◌⊎◌, ℕ, List, true, Some, IfOk, IfErr};
+ghost use Rattle.std.specs.Prelude.{◌≡◌, ◌≤◌, ◌⊎◌, true, Some, IfOk, IfErr};
 ghost use Rattle.worktree_fs.specs.Causes.{Increased, NotIncreased};
 ghost use Rattle.worktree_fs.specs.Owners.{Owned};
 ghost use Rattle.worktree_fs.specs.Tree.{Names};
-ghost use Rattle.worktree_report.specs.Written.{Appends};
 ghost use Rattle.tizhagor.specs.Answers as answers;
 ghost use Rattle.tizhagor.specs.Asking.{asked_for};
-ghost use Rattle.tizhagor.specs.Ends.{IsFatal, IsTold, IsToldOf, RunsHere};
+ghost use Rattle.tizhagor.specs.Ends.{IsFatal, IsReplied, IsTold, IsToldOf, RunsHere};
 ghost use Rattle.tizhagor.specs.Output as output;
 ghost use Rattle.tizhagor.specs.Parts.{memory_line};
 ghost use Rattle.tizhagor.specs.Refusals.{memory};
+ghost use Rattle.tizhagor.specs.Replies.{SaysPlainly, plain};
+ghost use Rattle.tizhagor.specs.declared.reply.Reply.{Reply as ReplyOf};
 
 use crate::call::Call;
 use crate::ending::finish_here;
+use crate::files::files_here;
 use crate::found::asked_for;
 use crate::refusal::HereRefusal;
+use crate::reply::{Reply, plainly};
 use crate::texts::text_here;
 use crate::writing::{Writing, written};
 use command_line::{Command, help_of, request_of, styled, version};
@@ -50,16 +53,49 @@ fn bytes_for<W: CountsFaults, O: Owners, I: Interrupt>(
     written(alloc, writing, answer)
 }
 
+/// What is said of a call, or why nothing is.
+fn reply_for<W: CountsFaults, O: Owners, I: Interrupt>(
+    alloc: Global,
+    worktree: &mut W,
+    owners: &mut O,
+    interrupt: &mut I,
+    current: &[u8],
+    variables: &[Variable],
+    directory: &Option<Bytes>,
+    call: Call,
+    asked: Asked,
+    writing: Writing,
+) -> Result<Reply, HereRefusal>
+    ensures { SaysPlainly (answers.AnswersCall W.Worktree I.Interrupt O.Owners worktree.old
+        worktree.new interrupt.old interrupt.new owners.old owners.new
+        (answers.found_at (answers.placed current.now variables.now true)
+        directory.now (asked_for call asked)) call writing) result }
+{
+    let answer = bytes_for(
+        alloc, worktree, owners, interrupt, current, variables, directory, call, asked, writing,
+    );
+    plainly(alloc, answer)
+}
+
 /// A text that is always the same.
-fn offered(alloc: Global, text: &[u8]) -> Result<Bytes, HereRefusal>
+fn text_offered(alloc: Global, text: &[u8]) -> Result<Bytes, HereRefusal>
     ensures gives { IfOk result (λ bytes. bytes ≡ text.now) }
     ensures refused { IfErr result (λ e. e ≡ memory) }
 {
     Ok(Bytes::from_slice(alloc, text)?)
 }
 
-/// The bytes for a command, or why there are none.
-fn bytes_of<W: CountsFaults, O: Owners, I: Interrupt>(
+/// The same as what a command says.
+fn offered(alloc: Global, text: &[u8]) -> Result<Reply, HereRefusal>
+    ensures gives { IfOk result (λ reply. reply ≡ plain text.now) }
+    ensures refused { IfErr result (λ e. e ≡ memory) }
+{
+    let answer = text_offered(alloc, text);
+    plainly(alloc, answer)
+}
+
+/// What is said of a command, or why nothing is.
+fn reply_of<W: CountsFaults, O: Owners, I: Interrupt>(
     alloc: Global,
     worktree: &mut W,
     owners: &mut O,
@@ -69,7 +105,7 @@ fn bytes_of<W: CountsFaults, O: Owners, I: Interrupt>(
     takes_colors: bool,
     directory: &Option<Bytes>,
     command: Command,
-) -> Result<Bytes, HereRefusal>
+) -> Result<Reply, HereRefusal>
     ensures { answers.AnswersTask W.Worktree I.Interrupt O.Owners worktree.old worktree.new
         interrupt.old interrupt.new owners.old owners.new
         (answers.placed current.now variables.now takes_colors) directory.now result
@@ -78,16 +114,9 @@ fn bytes_of<W: CountsFaults, O: Owners, I: Interrupt>(
     match command {
         Command::Report { asked, form } => {
             let writing = Writing::Lines(styled(form, takes_colors));
-            bytes_for(
-                alloc,
-                worktree,
-                owners,
-                interrupt,
-                current,
-                variables,
-                directory,
-                Call::Report,
-                asked,
+            let call = Call::Report;
+            reply_for(
+                alloc, worktree, owners, interrupt, current, variables, directory, call, asked,
                 writing,
             )
         }
@@ -96,52 +125,40 @@ fn bytes_of<W: CountsFaults, O: Owners, I: Interrupt>(
             what,
             finding,
             form,
-        } => bytes_for(
-            alloc,
-            worktree,
-            owners,
-            interrupt,
-            current,
-            variables,
-            directory,
-            Call::Plan { what, finding },
-            asked,
-            Writing::Paths(form.end),
-        ),
-        Command::Modules { asked } => bytes_for(
-            alloc,
-            worktree,
-            owners,
-            interrupt,
-            current,
-            variables,
-            directory,
-            Call::Modules,
-            asked,
-            Writing::AsItIs,
-        ),
-        Command::State { asked, form } => {
-            let writing = Writing::Lines(styled(form, takes_colors));
-            bytes_for(
-                alloc,
-                worktree,
-                owners,
-                interrupt,
-                current,
-                variables,
-                directory,
-                Call::State,
-                asked,
+        } => {
+            let writing = Writing::Paths(form.end);
+            let call = Call::Plan { what, finding };
+            reply_for(
+                alloc, worktree, owners, interrupt, current, variables, directory, call, asked,
                 writing,
             )
         }
+        Command::Modules { asked } => {
+            let writing = Writing::AsItIs;
+            let call = Call::Modules;
+            reply_for(
+                alloc, worktree, owners, interrupt, current, variables, directory, call, asked,
+                writing,
+            )
+        }
+        Command::State { asked, form } => {
+            let writing = Writing::Lines(styled(form, takes_colors));
+            let call = Call::State;
+            reply_for(
+                alloc, worktree, owners, interrupt, current, variables, directory, call, asked,
+                writing,
+            )
+        }
+        Command::Files { asked, listing } => files_here(
+            alloc, worktree, owners, interrupt, current, variables, directory, &listing, &asked,
+        ),
         Command::Help(topic) => offered(alloc, help_of(topic)),
         Command::Version => offered(alloc, version()),
     }
 }
 
-/// The bytes that the words ask for, or why there are none.
-fn bytes_asked<W: CountsFaults, O: Owners, I: Interrupt>(
+/// What is said of what the words ask for, or why nothing is.
+fn reply_asked<W: CountsFaults, O: Owners, I: Interrupt>(
     alloc: Global,
     words: &[Bytes],
     worktree: &mut W,
@@ -150,14 +167,14 @@ fn bytes_asked<W: CountsFaults, O: Owners, I: Interrupt>(
     current: &[u8],
     variables: &[Variable],
     takes_colors: bool,
-) -> Result<Bytes, HereRefusal>
+) -> Result<Reply, HereRefusal>
     ensures { answers.AnswersHere W.Worktree I.Interrupt O.Owners worktree.old worktree.new
         interrupt.old interrupt.new owners.old owners.new
         (answers.placed current.now variables.now takes_colors) words.now result }
 {
     let request = request_of(alloc, words)?;
     let directory = request.directory;
-    bytes_of(
+    reply_of(
         alloc,
         worktree,
         owners,
@@ -174,21 +191,22 @@ fn bytes_asked<W: CountsFaults, O: Owners, I: Interrupt>(
 /// environment: writes what they ask for to `out`, or says to `err` why there is nothing of that, and answers the status that
 /// the program is to end with. `takes_colors` says whether `out` takes colours.
 ///
-/// The words are `[-C DIR] report|plan|modules|state [OPTION..] [--] [PATH..]`, `--help` or `--version`, as [`request_of`] reads them. The
+/// The words are `[-C DIR] report|plan|modules|state|ls-files [OPTION..] [--] [PATH..]`, `--help` or `--version`, as [`request_of`] reads them. The
 /// work tree is the one around the directory, and the setup the one that its repository gives, as [`git_setup::setup_here`] finds them.
 ///
 /// | status | where |
 /// |---|---|
 /// | 0 | what is asked for was written whole |
+/// | 1 | the same, and the answer is no: `ls-files --error-unmatch`, where a path spec is about nothing; a line for each tells it |
 /// | 128 | there is nothing of what is asked for, or `out` refused bytes; the line tells why |
 /// | 129 | a word is wrong; the line names it |
 /// | 130 | the interrupt was raised, and counted it |
 ///
 /// A work tree is read where it is the user's or safe, as `owners` tell whose it is.
 ///
-/// With a status other than 0 nothing goes to `out`, but where `out` itself refused bytes, a front of them. With each status other than 0
-/// a line goes to `err`, with 129 the usage behind it, with 0 none; a refusal of `err` changes no byte of `out`, and no status but to 128. The interrupt is
-/// asked before each directory is read.
+/// With a status above 1 nothing goes to `out`, but where `out` itself refused bytes, a front of them. With each status above 1 a line goes
+/// to `err`, with 129 the usage behind it, with 0 none; a refusal of `err` changes no byte of `out`, and no status but to 128. The
+/// interrupt is asked before each directory is read.
 ///
 /// See docs/DECISIONS.md#status-of-an-interrupt.
 pub fn answer_here<W: CountsFaults, O: Owners, I: Interrupt, S: Sink, E: Sink>(
@@ -210,22 +228,23 @@ pub fn answer_here<W: CountsFaults, O: Owners, I: Interrupt, S: Sink, E: Sink>(
         interrupt.old interrupt.new owners.old owners.new
         (answers.placed current.now variables.now takes_colors) words.now) result }
 
-    // Status 0, but for a report: no fault was counted.
-    ensures unfaulted { result ≡ 0 → output.IsUnfaultedHere
+    // Status 0 or 1, but for a report: no fault was counted.
+    ensures unfaulted { result ≤ 1 → output.IsUnfaultedHere
         (answers.placed current.now variables.now takes_colors) words.now
         (W.faults worktree.old) (W.faults worktree.new) }
 
-    // Status 0: the owners failed at nothing.
-    ensures owners_unfaulted { result ≡ 0 → O.faults owners.new ≡ O.faults owners.old }
+    // Status 0 or 1: the owners failed at nothing.
+    ensures owners_unfaulted { result ≤ 1 → O.faults owners.new ≡ O.faults owners.old }
 
-    // Status 0, over a told tree and told owners, and for a report with no fault counted: what `out` has is what it had, and what the words
-    // ask for, from the bytes of `.git` on. Where a setup text means the setup that was found, it is the text by that one.
+    // Status 0 or 1, over a told tree and told owners, and for a report with no fault counted: there is the reply to what the words ask for,
+    // from the bytes of `.git` on. What `out` has is what it had, and the reply's bytes; `err` gained its lines; and the status is its own.
+    // Where a setup text means the setup that was found, the text of a command is the one by that.
     ensures output { (t : Names) (owned : Owned)
-        → W.told worktree.old ≡ Some t → O.told owners.old ≡ Some owned → result ≡ 0
-        → (bytes : List ℕ) × output.IsOutputHere (W.precomposes worktree.old) t owned
+        → W.told worktree.old ≡ Some t → O.told owners.old ≡ Some owned → result ≤ 1
+        → (reply : ReplyOf) × output.IsOutputHere (W.precomposes worktree.old) t owned
         (answers.placed current.now variables.now takes_colors) words.now
-        (W.faults worktree.old) (W.faults worktree.new) bytes
-        × Appends (S.written out.old) (S.written out.new) bytes }
+        (W.faults worktree.old) (W.faults worktree.new) reply
+        × IsReplied S.Sink E.Sink out.old out.new err.old err.new reply result }
 
     // Status 129: a word is wrong. And where one is, that is the status, unless memory was wanted, which is told.
     ensures misuse { result ≡ 129 → answers.IsMisuse words.now }
@@ -258,7 +277,7 @@ pub fn answer_here<W: CountsFaults, O: Owners, I: Interrupt, S: Sink, E: Sink>(
     ensures interrupted { result ≡ 130
         → Increased (I.raised interrupt.old) (I.raised interrupt.new) }
 
-    // Valid input, over a told tree and told owners and with nothing counted: 0, or want of memory is told.
+    // Valid input, over a told tree and told owners and with nothing counted: 0 or 1, or want of memory is told.
     ensures complete { (t : Names) (owned : Owned)
         → W.told worktree.old ≡ Some t → O.told owners.old ≡ Some owned
         → output.IsValidHere (W.precomposes worktree.old) t owned
@@ -267,9 +286,9 @@ pub fn answer_here<W: CountsFaults, O: Owners, I: Interrupt, S: Sink, E: Sink>(
         → NotIncreased (O.faults owners.old) (O.faults owners.new)
         → NotIncreased (I.raised interrupt.old) (I.raised interrupt.new)
         → NotIncreased (S.refusals out.old) (S.refusals out.new)
-        → (result ≡ 0) ⊎ IsToldOf E.Sink err.old err.new memory_line 128 result }
+        → (result ≤ 1) ⊎ IsToldOf E.Sink err.old err.new memory_line 128 result }
 {
-    let answer = bytes_asked(
+    let answer = reply_asked(
         alloc,
         words,
         worktree,

@@ -1,11 +1,12 @@
-//! How the program ends: with a text on the output, or with a line that says why there is none.
+//! How the program ends: with a reply, or with a line that says why there is none.
 ghost use Rattle.std.specs.Prelude.{◌≡◌, ◌≤◌, Ok};
-ghost use Rattle.tizhagor.specs.Ends.{EndsHere, IsTold};
+ghost use Rattle.tizhagor.specs.Ends.{EndsHere, IsSaidOrNone, IsTold};
 
 use crate::lines::here::{line_of, status_of};
 use crate::lines::{MEMORY, OUTPUT};
 use crate::refusal::HereRefusal;
-use gitbase_core::{Bytes, OutOfMemory};
+use crate::reply::{Reply, answer_status};
+use gitbase_core::OutOfMemory;
 use std::alloc::Global;
 use worktree_fs::{Fault, Sink};
 use worktree_report::{finish, say};
@@ -26,13 +27,30 @@ impl Sink for Unheard {
     }
 }
 
-/// Writes a text, or says that it was refused.
-/// See docs/DECISIONS.md#unheard-line.
-fn deliver<S: Sink, E: Sink>(alloc: Global, text: Bytes, out: &mut S, err: &mut E) -> u8
-    ensures { EndsHere S.Sink E.Sink out.old out.new err.old err.new (Ok text) result }
+/// Says some lines, if there are any.
+fn say_any<E: Sink>(err: &mut E, lines: &[u8])
+    ensures said { IsSaidOrNone E.Sink err.old err.new lines.now }
+    ensures later { E.refusals err.old ≤ E.refusals err.new }
 {
+    match lines {
+        [] => {}
+        _ => say(err, lines),
+    }
+}
+
+/// Writes a reply, or says that it was refused.
+/// See docs/DECISIONS.md#unheard-line.
+fn deliver<S: Sink, E: Sink>(alloc: Global, reply: Reply, out: &mut S, err: &mut E) -> u8
+    ensures { EndsHere S.Sink E.Sink out.old out.new err.old err.new (Ok reply) result }
+{
+    let Reply {
+        out: text,
+        err: lines,
+        is_no,
+    } = reply;
     if finish(alloc, b"", Ok(text), out, &mut Unheard) == 0 {
-        return 0;
+        say_any(err, lines.as_bytes());
+        return answer_status(is_no);
     }
     say(err, OUTPUT);
     128
@@ -55,18 +73,18 @@ fn refuse<E: Sink>(alloc: Global, refusal: &HereRefusal, err: &mut E) -> u8
     }
 }
 
-/// Writes a text to `out`, and answers 0; or says to `err` in one line why there is none, or that it was not written whole, and
-/// answers the status for it. A refusal of `err` changes no byte of `out`, and no status but to 128, as want of memory is free.
+/// Writes a reply: its bytes to `out`, and then its lines to `err`, and answers its status, 0 or 1; or says to `err` in one line why there
+/// is none, or that it was not written whole, and answers the status for it. A refusal of `err` changes no byte of `out`, and no status but to 128, as want of memory is free.
 pub fn finish_here<S: Sink, E: Sink>(
     alloc: Global,
-    answer: Result<Bytes, HereRefusal>,
+    answer: Result<Reply, HereRefusal>,
     out: &mut S,
     err: &mut E,
 ) -> u8
     ensures { EndsHere S.Sink E.Sink out.old out.new err.old err.new answer result }
 {
     match answer {
-        Ok(text) => deliver(alloc, text, out, err),
+        Ok(reply) => deliver(alloc, reply, out, err),
         Err(refusal) => refuse(alloc, &refusal, err),
     }
 }

@@ -24,6 +24,7 @@ pub fn asked_for(call: Call, asked: Asked) -> Asked
         options,
         paths: asked.paths,
         depth: asked.depth,
+        prefers_current: asked.prefers_current,
     }
 }
 

@@ -6,10 +6,12 @@ mod call;
 mod directory;
 mod ending;
 mod environment;
+mod files;
 mod found;
 mod lines;
 mod progress;
 mod refusal;
+mod reply;
 #[cfg(test)]
 mod tests;
 mod texts;

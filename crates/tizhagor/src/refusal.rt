@@ -2,6 +2,7 @@
 use command_line::Misuse;
 use git_setup::GitRefusal;
 use gitbase_core::{Bytes, OutOfMemory};
+use ls_files::WrongListing;
 use worktree_fs::ReadError;
 use worktree_report::Refusal;
 
@@ -18,6 +19,8 @@ pub enum HereRefusal {
     NotAtTop { root: Bytes },
     /// No setup is found; never as the worktree failed, nor for want of memory.
     Git(GitRefusal),
+    /// There is no such listing: git has none, or it is not answered here.
+    Listing(WrongListing),
     /// There is no text by the setup that was found, or the worktree failed, or memory was wanted.
     Program(Refusal),
 }

@@ -65,6 +65,15 @@ report ../x^/w^^^128^^fatal: '../x' is outside repository~|\
 report^/w^^/w/.git/config=[include]~path=more~;/w/.git/more=[core]~excludesFile=/x~;/x=b~^0^untracked file - always - -\t.gitignore~untracked file - always - -\td/e~^|\
 report b^/w^^/w/.git/config=[includeIf \"onbranch:other\"]~path=more~;/w/.git/more=[core]~excludesFile=/x~;/x=b~^0^untracked file - verbatim - -\tb~^|\
 report^/l^^@/l=11;@/l/.git=11;@/w/.git/worktrees/l=11;/l/.git=gitdir: /w/.git/worktrees/l~;/w/.git/worktrees/l/HEAD=ref: refs/heads/l~;/w/.git/worktrees/l/commondir=../..~;/w/.git/info/exclude=n~;/l/n=;/l/m=^0^untracked file - always - -\tm~^|\
+ls-files^/w^^^0^a~^|\
+ls-files -ot --exclude-standard^/w^^^0^? .gitignore~? b~? d/e~^|\
+-C d ls-files -oi --exclude-standard ..^/w^^^0^../c.o~^|\
+ls-files -o^/w^^/w/.git/config=[core]~quotePath=false~;/w/\xc3\xa9=^0^.gitignore~b~c.o~d/e~\xc3\xa9~^|\
+ls-files --error-unmatch^/w/d^^^1^^error: pathspec 'd/' did not match any file(s) known to git~Did you forget to 'git add'?~|\
+ls-files -o --error-unmatch nope b^/w^^^1^b~^error: pathspec 'nope' did not match any file(s) known to git~Did you forget to 'git add'?~|\
+ls-files -o --error-unmatch :!e^/w^^^0^.gitignore~b~c.o~d/e~^|\
+ls-files -i^/w^^^128^^fatal: ls-files -i must be used with either -o or -c~|\
+ls-files -od^/w^^^129^^error: switch `d' is git's, and is not answered here~usage: tizhagor [-C DIR] ls-files|\
 state a^/w^^^129^^error: `a' is a path, and this command takes none~|\
 state^/w^^/w/a=y~;/w/.git/index=DIRC\0\0\0\x04\0\0\0\x01\
 \0\0\0\0\0\0\0\0\0\0\0\0\0\0\0\0\0\0\0\0\0\0\0\0\0\0\x81\xa4\0\0\0\0\0\0\0\0\0\0\0\0\
@@ -217,6 +226,7 @@ fn is_wanted(alloc: Global, answer: &Answer, want: &[u8]) -> bool {
     let (out, err) = rest.split_once_str(b"^").unwrap_or((rest, b""));
     let wanted = match status {
         b"0" => 0,
+        b"1" => 1,
         b"129" => 129,
         b"130" => 130,
         _ => 128,

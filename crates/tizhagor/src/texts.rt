@@ -89,7 +89,7 @@ pub fn text_here<W: CountsFaults, O: Owners, I: Interrupt>(
     let found = found_here(
         alloc, worktree, owners, current, variables, directory, asked,
     )?;
-    let Found { root, setup } = found;
+    let Found { root, setup, .. } = found;
     let mut setup = setup;
     let answer = text_by(
         alloc,

@@ -8,6 +8,7 @@ use crate::lines::with_path;
 use crate::refusal::HereRefusal;
 use command_line::said;
 use gitbase_core::{Bytes, OutOfMemory};
+use ls_files::WrongListing;
 use std::alloc::Global;
 
 /// The status that the program ends with.
@@ -19,9 +20,20 @@ pub fn status_of(refusal: &HereRefusal) -> u8
         HereRefusal::Absent { directory: _ }
         | HereRefusal::NotADirectory { directory: _ }
         | HereRefusal::NotAtTop { root: _ }
-        | HereRefusal::Git(_) => 128,
+        | HereRefusal::Git(_)
+        | HereRefusal::Listing(_) => 128,
         HereRefusal::Program(refusal) => program_status(refusal),
     }
+}
+
+/// The line of a listing that there is not.
+fn listing_line(alloc: Global, wrong: WrongListing) -> Result<Bytes, OutOfMemory>
+    ensures { IfOk result (λ line. line ≡ words.line_of (HereRefusal.Listing wrong)) }
+{
+    let mut line = Bytes::from_slice(alloc, b"fatal: ")?;
+    line.extend(alloc, wrong.text())?;
+    line.extend(alloc, b"\n")?;
+    Ok(line)
 }
 
 /// The line on standard error, its line feed included.
@@ -53,6 +65,7 @@ pub fn line_of(alloc: Global, refusal: &HereRefusal) -> Result<Bytes, OutOfMemor
             b"'\n",
         ),
         HereRefusal::Git(refusal) => git_line(alloc, refusal),
+        HereRefusal::Listing(wrong) => listing_line(alloc, *wrong),
         HereRefusal::Program(refusal) => program_line(alloc, refusal),
     }
 }

@@ -1,6 +1,6 @@
 use Rattle.std.proofs.lemmas.Result.{err_from_is_err_and}
 use Rattle.tizhagor.proofs.Here.{by_words}
-use Rattle.tizhagor.proofs.answer.bytes_asked.Goals as goal
+use Rattle.tizhagor.proofs.answer.reply_asked.Goals as goal
 
 pub returns-in_err-request : goal.returns-in_err-request
 returns-in_err-request g c =

@@ -1,0 +1,62 @@
+-- What follows of a listing by what was found.
+use Rattle.std.proofs.Common.{◌≡◌, ◌⊎◌, inl, ℕ, Bool, true, false, Option, Some, Ok, Err, ap, sym, ◌∙◌, cond, arith}
+use Rattle.std.specs.Bool.{MatchBool}
+use Rattle.git_setup.specs.declared.found.Found.{Found}
+use Rattle.ls_files.specs.declared.listed.Listed.{Listed}
+use Rattle.ls_files.specs.declared.listing.Listing.{Listing}
+use Rattle.worktree_fs.specs.declared.interrupt.Interrupt.{Ghosts as InterruptOf}
+use Rattle.worktree_fs.specs.declared.worktree.Worktree.{Ghosts as WorktreeOf}
+use Rattle.worktree_fs.specs.Causes.{Increased, NotIncreased}
+use Rattle.worktree_fs.specs.Tree.{Names}
+use Rattle.worktree_report.specs.declared.refusal.Refusal.{Refusal}
+use Rattle.worktree_report.specs.declared.refusal.Refusal.TheVariants as refusals
+use Rattle.tizhagor.specs.Listings.{IsListable, Lists, listed_for, setup_for}
+use Rattle.tizhagor.specs.ProgramLines.{program_status}
+use Rattle.tizhagor.specs.Texts.{RefusesReport}
+use Rattle.tizhagor.proofs.ByCall as calls
+
+-- ---- a report is made, or none is
+
+by_kind : {A B C : Type 0} (b : Bool) → MatchBool b A B → (A → C) → (B → C) → C
+by_kind true m f g = f m
+by_kind false m f g = g m
+
+chosen_by_kind : {A B : Type 0} {X Y : Option Listed} {made : Listed} (b : Bool) → MatchBool b A B → (A → X ≡ Some made) → (B → Y ≡ Some made) → cond b X Y ≡ Some made
+chosen_by_kind true m f g = f m
+chosen_by_kind false m f g = g m
+
+both_by_kind : {A B V N C : Type 0} (b : Bool) → MatchBool b A B → MatchBool b V N → (A → V → C) → (B → C) → C
+both_by_kind true m v f g = f m v
+both_by_kind false m v f g = g m
+
+memory_is_no_interrupt : {r : Refusal} {C : Type 0} → r ≡ refusals.OutOfMemory → r ≡ refusals.Interrupted → C
+memory_is_no_interrupt wants is = absurd (let both : refusals.OutOfMemory ≡ refusals.Interrupted = sym wants ∙ is in cc)
+
+module _ {W I : Type 0} (w : WorktreeOf W) (i : InterruptOf I) (w0 w1 : W) (i0 i1 : I) (here : Found) (listing : Listing) where
+  -- it is the one that is asked for
+  pub listing_is : (made : Listed) → Lists w i w0 w1 i0 i1 listing here (Ok made) → (t : Names) → w.told w0 ≡ Some t → listed_for (w.precomposes w0) t here listing ≡ Some made
+  listing_is made a t told = chosen_by_kind listing.others a (λ walked. walked.gives t told) (λ index. ap Some (sym index.gives))
+
+  -- and comes without a fault
+  pub unfaulted : (made : Listed) → Lists w i w0 w1 i0 i1 listing here (Ok made) → w.faults w1 ≡ w.faults w0
+  unfaulted made a = by_kind listing.others a (λ walked. let quiet = walked.unfaulted in let faults = walked.worktree.faults in omega (arith, quiet, faults)) (λ index. ap w.faults index.worktree)
+
+  -- an interrupt was raised
+  pub interrupt_cause : (refusal : Refusal) → Lists w i w0 w1 i0 i1 listing here (Err refusal) → refusal ≡ refusals.Interrupted → Increased (i.raised i0) (i.raised i1)
+  interrupt_cause refusal a is =
+      by_kind listing.others a (λ walked. calls.text-interrupted w i w0 w1 i0 i1 here.root (setup_for listing here) 0 refusal walked.refused is)
+      (λ index. memory_is_no_interrupt index.refused is)
+
+  -- for what can be had only memory may be wanted
+  pub complete : (refusal : Refusal) → Lists w i w0 w1 i0 i1 listing here (Err refusal) → (t : Names) → w.told w0 ≡ Some t → NotIncreased (w.faults w0) (w.faults w1) → NotIncreased (i.raised i0) (i.raised i1)
+      → IsListable (w.precomposes w0) t here listing → refusal ≡ refusals.OutOfMemory
+  complete refusal a t told quiet calm ready =
+      both_by_kind listing.others a ready (λ walked valid. calls.text-complete w i w0 w1 i0 i1 here.root (setup_for listing here) 0 refusal walked.refused t told quiet calm valid)
+      (λ index. index.refused)
+
+  -- what is refused over a tree, but for an interrupt
+  pub refused : (refusal : Refusal) → Lists w i w0 w1 i0 i1 listing here (Err refusal) → (t : Names) → w.told w0 ≡ Some t → NotIncreased (w.faults w0) (w.faults w1) → program_status refusal ≡ 128
+      → (refusal ≡ refusals.OutOfMemory) ⊎ RefusesReport (w.precomposes w0) t here.root (setup_for listing here) refusal
+  refused refusal a t told quiet is =
+      by_kind listing.others a (λ walked. calls.text-refused w i w0 w1 i0 i1 here.root (setup_for listing here) 0 refusal walked.refused t told quiet is)
+      (λ index. inl index.refused)

@@ -1,0 +1,89 @@
+-- What `ls-files` lists of a work tree that is found.
+use Rattle.std.specs.Prelude.{◌≡◌, ℕ, List, [], ◌++◌, Bool, not, map, codes, Option, Some, None, Result, Ok, Err, if◌then◌else◌}
+use Rattle.std.specs.Bool.{MatchBool}
+use Rattle.gitbase_core.specs.Path.{is_empty}
+use Rattle.gitbase_core.specs.Steps.{and_then}
+use Rattle.git_places.specs.Variables.{Variable}
+use Rattle.git_setup.specs.declared.asked.Asked.{Asked}
+use Rattle.git_setup.specs.declared.each.AskedSpec.{AskedSpec}
+use Rattle.git_setup.specs.declared.found.Found.{Found}
+use Rattle.ls_files.specs.Listed.{ListsFiles, listed, listed_in}
+use Rattle.ls_files.specs.Walking.{walking}
+use Rattle.ls_files.specs.Wrong.{wrong_in}
+use Rattle.ls_files.specs.declared.listed.Listed.{Listed}
+use Rattle.ls_files.specs.declared.listing.Listing.{Listing}
+use Rattle.ls_files.specs.declared.listing.NamedSpec.{NamedSpec}
+use Rattle.ls_files.specs.declared.wrong.WrongListing.{WrongListing}
+use Rattle.worktree_fs.specs.declared.interrupt.Interrupt.{Ghosts as InterruptOf}
+use Rattle.worktree_fs.specs.declared.worktree.Worktree.{Ghosts as WorktreeOf}
+use Rattle.worktree_fs.specs.Owners.{Owned}
+use Rattle.worktree_fs.specs.Tree.{Names}
+use Rattle.worktree_report.specs.Asked.{read_in, IsValidAt}
+use Rattle.worktree_report.specs.declared.refusal.Refusal.{Refusal}
+use Rattle.worktree_report.specs.declared.setup.Setup.{Setup}
+use Rattle.tizhagor.specs.declared.refusal.HereRefusal.{HereRefusal}
+use Rattle.tizhagor.specs.declared.refusal.HereRefusal.TheVariants as errors
+use Rattle.tizhagor.specs.declared.reply.Reply.{Reply}
+use Rattle.tizhagor.specs.Asking.{here_in}
+
+-- ---- what is found for a listing
+
+abbrev pub wrong_or : Found → Option WrongListing → Result Found HereRefusal
+wrong_or here None = Ok here
+wrong_or here (Some wrong) = Err (errors.Listing wrong)
+
+-- what is found, unless there is no such listing of its index
+abbrev pub unless_wrong : Listing → Found → Result Found HereRefusal
+unless_wrong listing here = wrong_or here (wrong_in listing here.setup.index)
+
+-- The work tree around a directory and its setup, or the first refusal: as for any command, and then of the listing.
+abbrev pub listable_in : Names → Owned → List ℕ → List Variable → Option (List ℕ) → Listing → Asked → Result Found HereRefusal
+listable_in t owned current variables directory listing asked = and_then (unless_wrong listing) (here_in t owned current variables directory asked)
+
+-- ---- what is listed by it
+
+-- the configuration says how bytes above 0x7f are written
+abbrev pub listing_with : Listing → Bool → Listing
+listing_with listing quote_path = record listing { quote_path = quote_path }
+
+abbrev pub listing_for : Listing → Found → Listing
+listing_for listing here = listing_with listing here.quote_path
+
+-- the setup with the options that a listing needs
+abbrev pub setup_with : Listing → Setup → Setup
+setup_with listing setup = record setup { options = walking listing setup.options }
+
+abbrev pub setup_for : Listing → Found → Setup
+setup_for listing here = setup_with listing here.setup
+
+abbrev pub named_of : AskedSpec → NamedSpec
+named_of asked = record { text = asked.text; spec = asked.spec }
+
+abbrev pub all_named : Found → List NamedSpec
+all_named here = map named_of here.each
+
+-- over a tree: by a report of the work tree, where what the index does not have is listed
+abbrev pub listed_for : Bool → Names → Found → Listing → Option Listed
+listed_for composes t here listing =
+    if listing.others then listed_in composes t here.root (setup_for listing here) (listing_for listing here) here.prefix (all_named here)
+    else Some (listed (listing_for listing here) here.prefix (all_named here) (setup_for listing here) [])
+
+-- it can be had
+abbrev pub IsListable : Bool → Names → Found → Listing → Type 0
+IsListable composes t here listing =
+    MatchBool listing.others (IsValidAt composes (read_in t (setup_for listing here)) here.root (setup_for listing here)) (Unit {0})
+
+-- what making it says, where a worktree was `w0` and is `w1`, and an interrupt was `i0` and is `i1`
+abbrev pub Lists : {W I : Type 0} → WorktreeOf W → InterruptOf I → W → W → I → I → Listing → Found → Result Listed Refusal → Type 0
+Lists w i w0 w1 i0 i1 listing here answer =
+    ListsFiles w i (w.precomposes w0) w0 w1 i0 i1 here.root (setup_for listing here) (listing_for listing here) here.prefix (all_named here) answer
+
+-- ---- what is said
+
+-- the answer is no where something is told of path specs
+abbrev pub reply_of : Listed → Reply
+reply_of made = record { out = made.out; err = made.err; is_no = not (is_empty made.err) }
+
+abbrev pub as_reply : Result Listed Refusal → Result Reply HereRefusal
+as_reply (Ok made) = Ok (reply_of made)
+as_reply (Err e) = Err (errors.Program e)

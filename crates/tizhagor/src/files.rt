@@ -1,0 +1,157 @@
+//! What `ls-files` lists of the work tree around a directory.
+ghost use Rattle.std.specs.Prelude.{◌≡◌, map, None, IfOk, IfErr};
+ghost use Rattle.ls_files.specs.Wrong.{wrong_in};
+ghost use Rattle.tizhagor.specs.Answers as answers;
+ghost use Rattle.tizhagor.specs.Finds.{FindsHereWith};
+ghost use Rattle.tizhagor.specs.Listings as words;
+ghost use Rattle.tizhagor.specs.Refusals.{IsOfFinding};
+
+use crate::found::found_here;
+use crate::refusal::HereRefusal;
+use crate::reply::Reply;
+use git_places::Variable;
+use git_setup::{Asked, AskedSpec, EachSpec, Found};
+use gitbase_core::{Bytes, OutOfMemory};
+use ls_files::{Listed, Listing, NamedSpec, list_files, walk_options, wrong_in};
+use std::alloc::Global;
+use worktree_fs::{Interrupt, Owners, Worktree};
+use worktree_report::{CountsFaults, Refusal, Setup};
+
+/// The work tree around a directory and its setup, unless there is no such listing of its index.
+fn listable_here<W: Worktree, O: Owners>(
+    alloc: Global,
+    worktree: &mut W,
+    owners: &mut O,
+    current: &[u8],
+    variables: &[Variable],
+    directory: &Option<Bytes>,
+    listing: &Listing,
+    asked: &Asked,
+) -> Result<Found, HereRefusal>
+    ensures finds { FindsHereWith W.Worktree O.Owners worktree.old worktree.new owners.old
+        owners.new (λ t owned. words.listable_in t owned current.now variables.now directory.now
+        listing.now asked.now) result }
+    ensures of { IfErr result IsOfFinding }
+    ensures listable { IfOk result (λ here. wrong_in listing.now here.setup.index ≡ None) }
+{
+    let found = found_here(
+        alloc, worktree, owners, current, variables, directory, asked,
+    )?;
+    match wrong_in(listing, &found.setup.index) {
+        Some(wrong) => Err(HereRefusal::Listing(wrong)),
+        None => Ok(found),
+    }
+}
+
+/// The listing, with what the configuration says of how paths are written.
+fn listing_with(listing: &Listing, quote_path: bool) -> Listing
+    ensures { result ≡ words.listing_with listing.now quote_path }
+{
+    let mut listing = *listing;
+    listing.quote_path = quote_path;
+    listing
+}
+
+/// Gives a setup the options that a listing needs.
+fn prepare(setup: &mut Setup, listing: &Listing)
+    ensures { setup.new ≡ words.setup_with listing.now setup.old }
+{
+    setup.options = walk_options(listing, &setup.options);
+}
+
+/// A path spec, as a listing takes it.
+fn named_of(asked: AskedSpec) -> NamedSpec
+    ensures { result ≡ words.named_of asked }
+{
+    NamedSpec {
+        text: asked.text,
+        spec: asked.spec,
+    }
+}
+
+/// Path specs, as a listing takes them.
+fn all_named(alloc: Global, each: EachSpec) -> Result<Vec<NamedSpec>, OutOfMemory>
+    ensures { IfOk result (λ named. named.items ≡ map words.named_of each) }
+{
+    let mut named = Vec::new(alloc);
+    for asked in each.into_vec() {
+        named.push(named_of(asked))?;
+    }
+    Ok(named)
+}
+
+/// What is listed of a work tree that is found.
+fn list_in<W: CountsFaults, I: Interrupt>(
+    alloc: Global,
+    worktree: &mut W,
+    interrupt: &mut I,
+    found: Found,
+    listing: &Listing,
+) -> Result<Listed, Refusal>
+    requires listable { wrong_in listing.now found.setup.index ≡ None }
+    ensures { words.Lists W.Worktree I.Interrupt worktree.old worktree.new interrupt.old
+        interrupt.new listing.now found result }
+{
+    let Found {
+        root,
+        setup,
+        prefix,
+        each,
+        quote_path,
+    } = found;
+    let named = all_named(alloc, each)?;
+    let quoting = listing_with(listing, quote_path);
+    let mut prepared = setup;
+    prepare(&mut prepared, &quoting);
+    list_files(
+        alloc,
+        worktree,
+        interrupt,
+        root.as_bytes(),
+        &prepared,
+        &quoting,
+        prefix.as_bytes(),
+        &named,
+    )
+}
+
+/// What is said of a listing.
+fn as_reply(answer: Result<Listed, Refusal>) -> Result<Reply, HereRefusal>
+    ensures { result ≡ words.as_reply answer }
+{
+    match answer {
+        Ok(made) => {
+            let is_no = !made.err.as_bytes().is_empty();
+            Ok(Reply {
+                out: made.out,
+                err: made.err,
+                is_no,
+            })
+        }
+        Err(refusal) => Err(HereRefusal::Program(refusal)),
+    }
+}
+
+/// What `ls-files` says of the work tree around the directory that is asked for, or why there is nothing of it.
+pub fn files_here<W: CountsFaults, O: Owners, I: Interrupt>(
+    alloc: Global,
+    worktree: &mut W,
+    owners: &mut O,
+    interrupt: &mut I,
+    current: &[u8],
+    variables: &[Variable],
+    directory: &Option<Bytes>,
+    listing: &Listing,
+    asked: &Asked,
+) -> Result<Reply, HereRefusal>
+    ensures { answers.AnswersListing W.Worktree I.Interrupt O.Owners worktree.old worktree.new
+        interrupt.old interrupt.new owners.old owners.new
+        (λ t owned. words.listable_in t owned current.now variables.now directory.now listing.now
+        asked.now) listing.now result }
+{
+    let found = listable_here(
+        alloc, worktree, owners, current, variables, directory, listing, asked,
+    )?;
+    let answer = list_in(alloc, worktree, interrupt, found, listing);
+    as_reply(answer)
+}
