@@ -15,6 +15,8 @@ _tizhagor_options() {
     plan) echo "-x -X --nonbare $looked $written -h --help" ;;
     modules) echo "--permissions= -h --help" ;;
     state) echo "$shown $looked $written $colour -h --help" ;;
+    ls-files) echo "-c --cached -s --stage -u --unmerged -o --others -i --ignored --exclude-standard --directory --no-empty-directory -t -v
+        -z --deduplicate --full-name --error-unmatch -h --help" ;;
     *) echo "-C -h --help --version" ;;
     esac
 }
@@ -45,7 +47,7 @@ _tizhagor() {
         case ${COMP_WORDS[at]} in
         -C) [[ -n $command ]] || at=$((at + 1)) ;;
         --) [[ -z $command ]] || ended=1 ;;
-        report | plan | modules | state) [[ -n $command ]] || command=${COMP_WORDS[at]} ;;
+        report | plan | modules | state | ls-files) [[ -n $command ]] || command=${COMP_WORDS[at]} ;;
         esac
     done
     # Bash parts a word at `=`.
@@ -59,10 +61,10 @@ _tizhagor() {
     elif [[ -z $command && $before == -C ]]; then
         mapfile -t COMPREPLY < <(compgen -d -- "$word")
     elif [[ -z $command && $word != -* ]]; then
-        _tizhagor_words "report plan modules state" "$word"
+        _tizhagor_words "report plan modules state ls-files" "$word"
     elif [[ -z $ended && $word == -* ]]; then
         _tizhagor_words "$(_tizhagor_options "$command")" "$word"
-    elif [[ $command == report || $command == plan ]]; then
+    elif [[ $command == report || $command == plan || $command == ls-files ]]; then
         mapfile -t COMPREPLY < <(compgen -f -- "$word")
     fi
 }

@@ -2,7 +2,7 @@
 # Completions of tizhagor for zsh; scripts/install puts them in place, and scripts/check-install compares them with the help texts.
 
 _tizhagor() {
-    local -a shown looked written colour help
+    local -a shown looked written colour listed help
     shown=(
         '(-u --untracked-files)'{-u,--untracked-files=-}'[untracked paths]::mode:(matching collapse)'
         '--ignored=-[ignored paths too]::mode:(matching collapse no)'
@@ -28,11 +28,27 @@ _tizhagor() {
     )
     written=('(-z --null)'{-z,--null}'[a NUL behind each line]')
     colour=('(--no-color)--color=-[lines in the colour of their status]::when:(auto always never)' '(--color)--no-color[no colours]')
+    listed=(
+        '(-c --cached)'{-c,--cached}'[what the index has]'
+        '(-s --stage)'{-s,--stage}'[the same with mode, object and stage]'
+        '(-u --unmerged)'{-u,--unmerged}'[what is not merged]'
+        '(-o --others)'{-o,--others}'[what the index does not have]'
+        '(-i --ignored)'{-i,--ignored}'[what is ignored]'
+        '--exclude-standard[ignore rules are asked]'
+        '--directory[directories in place of what they hold]'
+        '--no-empty-directory[no directories without files]'
+        '-t[a letter before each path]'
+        '-v[the same, in lower case where assumed unchanged]'
+        '-z[a NUL behind each path]'
+        '--deduplicate[each path once]'
+        '--full-name[paths from the top]'
+        '--error-unmatch[a path that is about nothing is an error]'
+    )
     help=('(- *)'{-h,--help}'[the help text]')
     local context state line
     typeset -A opt_args
     _arguments -C '-C[the directory to work in]:directory:_files -/' $help '(- *)--version[the version]' \
-        '1:command:((report\:"the untracked paths, and others" plan\:"what may be removed" modules\:"what an update of the submodules would do" state\:"the paths of the index, and the report"))' \
+        '1:command:((report\:"the untracked paths, and others" plan\:"what may be removed" modules\:"what an update of the submodules would do" state\:"the paths of the index, and the report" ls-files\:"paths, as git ls-files"))' \
         '*::word:->words'
     [[ $state == words ]] || return
     case $line[1] in
@@ -40,6 +56,7 @@ _tizhagor() {
     plan) _arguments -s '-x[ignored paths too]' '-X[ignored paths alone]' '--nonbare[bare repositories as directories]' $looked $written $help '*:path:_files' ;;
     modules) _arguments '--permissions=[the configurations that are read]:which:(secure all isolated)' $help ;;
     state) _arguments -s $shown $looked $written $colour $help ;;
+    ls-files) _arguments -s $listed $help '*:path:_files' ;;
     esac
 }
 
