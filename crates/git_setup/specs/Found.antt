@@ -99,11 +99,12 @@ parts_of read globals specs worktrees configs =
       configs = configs;
     }
 
--- what a setup has of that, and of the rules files and the path specs
+-- What a setup has of that, and of the rules files and the path specs. Of these the letters compare as they are, whatever `core.ignoreCase`
+-- says, unless a spec says `icase`.
 unfoldable pub parts_by : Names → Layout → Surroundings → Asked → Read → Result Parts GitRefusal
 parts_by t places around asked read = do
   rules ← as_files (rules_in t places around read.stack.file.sections)
-  specs ← specs_in asked.prefers_current read.switches.ignore_case places.root around.directory asked.paths.items
+  specs ← specs_in asked.prefers_current false places.root around.directory asked.paths.items
   worktrees ← protected_in (is_for_deletion asked.options) read.switches.ignore_case (own_for (is_for_deletion asked.options) t places) read.index
   Ok (parts_of read (globals_of rules) specs worktrees (configs_for t asked.options read.stack.files))
 

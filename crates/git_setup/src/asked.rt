@@ -8,6 +8,7 @@ pub struct Asked {
     /// The options of the setup. Whether letters compare without regard to their case is not asked here: the configuration says it.
     pub options: SetupOptions,
     /// Path specs as they are written, from the current directory on; see git(7), `pathspec`. None of them asks for all.
+    /// Their letters compare as they are, unless one says `icase`; `core.ignoreCase` is for names and rules.
     pub paths: Vec<Bytes>,
     /// Whether the current directory is meant where there are no path specs, and where each excludes.
     pub prefers_current: bool,

@@ -124,7 +124,7 @@ pub fn parts_here<W: Worktree>(
     let specs = specs_in(
         alloc,
         asked.prefers_current,
-        ignore_case,
+        false,
         root,
         around.directory.as_bytes(),
         &asked.paths,
