@@ -69,6 +69,7 @@ ls-files^/w^^^0^a~^|\
 ls-files -ot --exclude-standard^/w^^^0^? .gitignore~? b~? d/e~^|\
 -C d ls-files -oi --exclude-standard ..^/w^^^0^../c.o~^|\
 ls-files -o^/w^^/w/.git/config=[core]~quotePath=false~;/w/\xc3\xa9=^0^.gitignore~b~c.o~d/e~\xc3\xa9~^|\
+ls-files -o B^/w^^/w/.git/config=[core]~ignoreCase~^0^^|\
 ls-files --error-unmatch^/w/d^^^1^^error: pathspec 'd/' did not match any file(s) known to git~Did you forget to 'git add'?~|\
 ls-files -o --error-unmatch nope b^/w^^^1^b~^error: pathspec 'nope' did not match any file(s) known to git~Did you forget to 'git add'?~|\
 ls-files -o --error-unmatch :!e^/w^^^0^.gitignore~b~c.o~d/e~^|\
