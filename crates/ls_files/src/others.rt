@@ -138,7 +138,8 @@ fn is_other(index: &State, specs: &Search, ignored: bool, name: &[u8]) -> bool
     if has_beneath(index, name) {
         return false;
     }
-    opens(ignored, specs.pattern_matching_relative_path(name, Some(true)))
+    let found = specs.pattern_matching_relative_path(name, Some(true));
+    opens(ignored, found)
 }
 
 /// The same of a directory by its path.
