@@ -42,7 +42,7 @@ abbrev pub here : List ℕ → List (List ℕ) → Written
 here prefix texts = record { told = told_here prefix texts; text = codes ":(literal)." }
 
 -- the texts, and behind them the directory where it is meant: gitglossary(7), "pathspec", and the commands that look there
-abbrev pub written_in : Bool → List ℕ → List (List ℕ) → List Written
+unfoldable pub written_in : Bool → List ℕ → List (List ℕ) → List Written
 written_in prefers prefix texts =
     if prefers && means_here prefix texts then map as_written texts ++ here prefix texts ∷ [] else map as_written texts
 
@@ -78,7 +78,7 @@ each_after folds root prefix done (w ∷ written) =
     and_then (λ alone. each_after folds root prefix (done ++ alone ∷ []) written) (alone_here folds root prefix w)
 
 -- all together, and each by itself
-abbrev pub specs_from : Bool → List ℕ → List ℕ → List Written → Result AskedSpecs GitRefusal
+unfoldable pub specs_from : Bool → List ℕ → List ℕ → List Written → Result AskedSpecs GitRefusal
 specs_from folds root prefix written = do
   all ← specs_after folds root prefix [] written
   each ← each_after folds root prefix [] written

@@ -11,6 +11,7 @@ use crate::asked::Asked;
 use crate::each::EachSpec;
 use crate::error::GitRefusal;
 use crate::parts::{Parts, is_for_deletion, parts_here};
+use crate::pathspecs::AskedSpecs;
 use crate::placed::beneath;
 use crate::reading::read_here;
 use git_config_files::{FilesError, own_top};
@@ -202,25 +203,27 @@ fn found_with(
     let prefix = prefix_in(alloc, places.root.as_bytes(), directory)?;
     let current_dir = current_for(alloc, &asked.options, directory)?;
     let options = options_with(&asked.options, parts.ignore_case);
+    let AskedSpecs { all, each } = parts.specs;
+    let setup = Setup {
+        git_dir: Some(places.own_git),
+        current_dir,
+        root: None,
+        depth: asked.depth,
+        index: parts.index,
+        blobs: MemoryStore::new(alloc),
+        overrides: Bytes::new(alloc),
+        globals: parts.globals,
+        specs: all,
+        worktrees: parts.worktrees.into_set(),
+        configs: parts.configs,
+        options,
+    };
     Ok(Found {
         root: places.root,
         prefix,
-        each: parts.specs.each,
+        each,
         quote_path: parts.quote_path,
-        setup: Setup {
-            git_dir: Some(places.own_git),
-            current_dir,
-            root: None,
-            depth: asked.depth,
-            index: parts.index,
-            blobs: MemoryStore::new(alloc),
-            overrides: Bytes::new(alloc),
-            globals: parts.globals,
-            specs: parts.specs.all,
-            worktrees: parts.worktrees.into_set(),
-            configs: parts.configs,
-            options,
-        },
+        setup,
     })
 }
 

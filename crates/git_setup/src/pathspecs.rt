@@ -129,6 +129,7 @@ fn each_after(
 }
 
 /// Those of some texts, together and each by itself.
+#[tactic(auto, unfolding(crate::specs::AskedSpecs::specs_from))]
 fn specs_from(
     alloc: Global,
     ignore_case: bool,
