@@ -3,7 +3,7 @@ use Rattle.std.specs.Prelude.{ℕ, List, [], ◌∷◌, Bool, true, false, map, 
 use Rattle.std.specs.FinMap.{empty}
 use Rattle.gitbase_core.specs.declared.entry.IndexEntry.{IndexEntry}
 use Rattle.git_config_files.specs.Files.{Configured}
-use Rattle.git_config_files.specs.Rules.{rules_in}
+use Rattle.git_config_files.specs.Rules.{Rules, rules_in}
 use Rattle.git_config_files.specs.Stack.{Stack, stack_at}
 use Rattle.git_config_files.specs.Safe.{own_top}
 use Rattle.git_places.specs.Limits.{Limits, limits_of}
@@ -33,6 +33,7 @@ use Rattle.git_setup.specs.declared.error.GitRefusal.{GitRefusal}
 use Rattle.git_setup.specs.declared.error.GitRefusal.TheVariants as errors
 use Rattle.git_setup.specs.declared.found.Found.{Found}
 use Rattle.git_setup.specs.declared.parts.Parts.{Parts}
+use Rattle.git_setup.specs.declared.parts.Pieces.{Pieces}
 use Rattle.git_setup.specs.declared.reading.Read.{Read}
 use Rattle.git_setup.specs.declared.switches.Switches.{Switches}
 
@@ -87,26 +88,36 @@ read_in t places around = do
   index ← index_seen t places.root (index_path places.git) switches.looks_for_skipped entries
   Ok (record { stack = stack; switches = switches; index = index })
 
-abbrev pub parts_of : Read → List ℕ → AskedSpecs → List (List ℕ) → List ConfigFile → Parts
-parts_of read globals specs worktrees configs =
+abbrev pub pieces_of : Names → SetupOptions → List Configured → Rules → AskedSpecs → List (List ℕ) → Pieces
+pieces_of t options files rules specs worktrees =
+    record { globals = globals_of rules; specs = specs; worktrees = worktrees; configs = configs_for t options files }
+
+-- What a setup has of the rules files, the path specs and the submodules. Of path specs the letters compare as they are, whatever
+-- `core.ignoreCase` says, unless a spec says `icase`.
+unfoldable pub pieces_by : Names → Layout → Surroundings → Asked → Read → Result Pieces GitRefusal
+pieces_by t places around asked read = do
+  rules ← as_files (rules_in t places around read.stack.file.sections)
+  specs ← specs_in asked.prefers_current false places.root around.directory asked.paths.items
+  worktrees ← protected_in (is_for_deletion asked.options) read.switches.ignore_case (own_for (is_for_deletion asked.options) t places) read.index
+  Ok (pieces_of t asked.options read.stack.files rules specs worktrees)
+
+-- the same with what was read
+abbrev pub parts_of : Read → Pieces → Parts
+parts_of read pieces =
     record {
       ignore_case = read.switches.ignore_case;
       quote_path = read.switches.quote_path;
       index = read.index;
-      globals = globals;
-      specs = specs;
-      worktrees = worktrees;
-      configs = configs;
+      globals = pieces.globals;
+      specs = pieces.specs;
+      worktrees = pieces.worktrees;
+      configs = pieces.configs;
     }
 
--- What a setup has of that, and of the rules files and the path specs. Of these the letters compare as they are, whatever `core.ignoreCase`
--- says, unless a spec says `icase`.
 unfoldable pub parts_by : Names → Layout → Surroundings → Asked → Read → Result Parts GitRefusal
 parts_by t places around asked read = do
-  rules ← as_files (rules_in t places around read.stack.file.sections)
-  specs ← specs_in asked.prefers_current false places.root around.directory asked.paths.items
-  worktrees ← protected_in (is_for_deletion asked.options) read.switches.ignore_case (own_for (is_for_deletion asked.options) t places) read.index
-  Ok (parts_of read (globals_of rules) specs worktrees (configs_for t asked.options read.stack.files))
+  pieces ← pieces_by t places around asked read
+  Ok (parts_of read pieces)
 
 -- ---- all of it
 

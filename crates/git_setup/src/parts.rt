@@ -7,11 +7,10 @@ ghost use Rattle.git_setup.specs.Found as words;
 use crate::asked::Asked;
 use crate::error::GitRefusal;
 use crate::globals::globals_of;
-use crate::own_directories::own_for;
 use crate::pathspecs::{AskedSpecs, specs_in};
-use crate::protected::{Protected, protected_in};
+use crate::protected::{Protected, protected_here};
 use crate::reading::Read;
-use git_config_files::{Configured, rules_files};
+use git_config_files::{Configured, Rules, rules_files};
 use git_config_lite::Source;
 use git_places::{Places, Surroundings};
 use gitbase_core::{Bytes, OutOfMemory, PathText, State};
@@ -105,6 +104,82 @@ fn configs_for<W: Worktree>(
     Ok(Configs::from_vec(Vec::new(alloc)))
 }
 
+/// What a setup has of rules files, path specs and submodules.
+#[derive(Debug, Drop)]
+pub struct Pieces {
+    /// The rules that come behind those of all directories.
+    pub globals: Bytes,
+    /// The path specs that are asked for.
+    pub specs: AskedSpecs,
+    /// What a deletion leaves alone: submodules, and git directories of the work tree.
+    pub worktrees: Protected,
+    /// The configurations that are read for submodules.
+    pub configs: Configs,
+}
+
+/// These, with what the rules files and the configurations give.
+fn pieces_of<W: Worktree>(
+    alloc: Global,
+    worktree: &mut W,
+    options: &SetupOptions,
+    files: &[Configured],
+    rules: &Rules,
+    specs: AskedSpecs,
+    worktrees: Protected,
+) -> Result<Pieces, GitRefusal>
+    ensures { Finds W.Worktree worktree.old worktree.new
+        (λ t. Ok (words.pieces_of t options.now files.now rules.now specs worktrees)) result }
+{
+    let globals = globals_of(alloc, rules)?;
+    let configs = configs_for(alloc, worktree, options, files)?;
+    Ok(Pieces {
+        globals,
+        specs,
+        worktrees,
+        configs,
+    })
+}
+
+/// What a setup has of rules files, path specs and submodules.
+#[tactic(auto, unfolding(crate::specs::Found::pieces_by))]
+fn pieces_here<W: Worktree>(
+    alloc: Global,
+    worktree: &mut W,
+    places: &Places,
+    around: &Surroundings,
+    asked: &Asked,
+    read: &Read,
+) -> Result<Pieces, GitRefusal>
+    ensures { Finds W.Worktree worktree.old worktree.new
+        (λ t. words.pieces_by t places.now around.now asked.now read.now) result }
+{
+    let rules = rules_files(alloc, worktree, places, around, &read.stack.file)?;
+    let root = places.root.as_bytes();
+    let directory = around.directory.as_bytes();
+    let specs = specs_in(
+        alloc,
+        asked.prefers_current,
+        false,
+        root,
+        directory,
+        &asked.paths,
+    )?;
+    let deletes = is_for_deletion(&asked.options);
+    let ignore_case = read.switches.ignore_case;
+    let entries = read.index.entries();
+    let worktrees = protected_here(alloc, worktree, deletes, ignore_case, places, entries)?;
+    let files = read.stack.files.as_slice();
+    pieces_of(
+        alloc,
+        worktree,
+        &asked.options,
+        files,
+        &rules,
+        specs,
+        worktrees,
+    )
+}
+
 /// What a setup has of a repository.
 #[tactic(auto, unfolding(crate::specs::Found::parts_by))]
 pub fn parts_here<W: Worktree>(
@@ -118,29 +193,14 @@ pub fn parts_here<W: Worktree>(
     ensures { Finds W.Worktree worktree.old worktree.new
         (λ t. words.parts_by t places.now around.now asked.now read) result }
 {
-    let rules = rules_files(alloc, worktree, places, around, &read.stack.file)?;
-    let ignore_case = read.switches.ignore_case;
-    let root = places.root.as_bytes();
-    let specs = specs_in(
-        alloc,
-        asked.prefers_current,
-        false,
-        root,
-        around.directory.as_bytes(),
-        &asked.paths,
-    )?;
-    let deletes = is_for_deletion(&asked.options);
-    let own = own_for(alloc, worktree, deletes, places)?;
-    let worktrees = protected_in(alloc, deletes, ignore_case, &own, read.index.entries())?;
-    let globals = globals_of(alloc, &rules)?;
-    let configs = configs_for(alloc, worktree, &asked.options, read.stack.files.as_slice())?;
+    let pieces = pieces_here(alloc, worktree, places, around, asked, &read)?;
     Ok(Parts {
-        ignore_case,
+        ignore_case: read.switches.ignore_case,
         quote_path: read.switches.quote_path,
         index: read.index,
-        globals,
-        specs,
-        worktrees,
-        configs,
+        globals: pieces.globals,
+        specs: pieces.specs,
+        worktrees: pieces.worktrees,
+        configs: pieces.configs,
     })
 }

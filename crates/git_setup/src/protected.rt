@@ -1,14 +1,17 @@
 //! What a deletion leaves alone as a work tree of its own: submodules, and git directories of this one.
 ghost use Rattle.std.specs.Prelude.{◌≡◌, [], IfOk, OnOk, find, option_copied};
-ghost use Rattle.git_setup.specs.Finds.{Decides};
+ghost use Rattle.git_setup.specs.Finds.{Decides, Finds};
+ghost use Rattle.git_setup.specs.OwnDirectories.{own_for};
 ghost use Rattle.git_setup.specs.Protected as words;
 
 use crate::error::GitRefusal;
-use crate::own_directories::OwnDirectories;
+use crate::own_directories::{OwnDirectories, own_for};
+use git_places::Places;
 use gitbase_core::{IndexEntry, OutOfMemory, PathText};
 use std::alloc::Global;
 use std::collections::BTreeSet;
 use std::marker::Model;
+use worktree_fs::Worktree;
 
 /// Paths of work trees of their own. Contracts see the list of them, in the order of their bytes.
 #[derive(Debug, Drop)]
@@ -91,7 +94,7 @@ fn first_submodule(entries: &[IndexEntry]) -> Option<&IndexEntry>
 /// What a deletion leaves alone: these git directories, and the submodules of an index.
 ///
 /// See docs/DIFFERENCES.md#submodule-in-other-letters.
-pub fn protected_in(
+fn protected_in(
     alloc: Global,
     deletes: bool,
     ignore_case: bool,
@@ -110,4 +113,21 @@ pub fn protected_in(
         }),
         _ => Ok(protected_paths(alloc, own, entries)?),
     }
+}
+
+/// What a deletion leaves alone in a work tree: its git directories, and the submodules of its index.
+pub fn protected_here<W: Worktree>(
+    alloc: Global,
+    worktree: &mut W,
+    deletes: bool,
+    ignore_case: bool,
+    places: &Places,
+    entries: &[IndexEntry],
+) -> Result<Protected, GitRefusal>
+    ensures { Finds W.Worktree worktree.old worktree.new
+        (λ t. words.protected_in deletes ignore_case (own_for deletes t places.now) entries.now)
+        result }
+{
+    let own = own_for(alloc, worktree, deletes, places)?;
+    protected_in(alloc, deletes, ignore_case, &own, entries)
 }
