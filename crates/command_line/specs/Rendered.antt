@@ -1,5 +1,5 @@
 -- Texts in the form that is asked for.
-use Rattle.std.specs.Prelude.{ℕ, List, ◌++◌, Bool, true, false, not, map, if◌then◌else◌}
+use Rattle.std.specs.Prelude.{ℕ, List, ◌++◌, Bool, false, not, map, if◌then◌else◌}
 use Rattle.std.specs.List.{flat_map}
 use Rattle.bstr.specs.Text.{lines_of, without_terminator}
 use Rattle.command_line.specs.declared.form.LineEnd.{LineEnd}

@@ -195,7 +195,7 @@ fn known(verb: Verb, name: &[u8]) -> Option<Opt>
 {
     match verb {
         Verb::Files => listing_opt_of(name),
-        _ => if_taken(verb, opt_of(name)),
+        Verb::Report | Verb::Plan | Verb::Modules | Verb::State => { if_taken(verb, opt_of(name)) }
     }
 }
 
@@ -247,7 +247,9 @@ fn known_letter(verb: Verb, letter: u8) -> Option<Opt>
 {
     match verb {
         Verb::Files => listing_opt_of_letter(letter),
-        _ => if_taken(verb, opt_of_letter(letter)),
+        Verb::Report | Verb::Plan | Verb::Modules | Verb::State => {
+            if_taken(verb, opt_of_letter(letter))
+        }
     }
 }
 
@@ -271,6 +273,20 @@ fn lettered(opt: Opt, draft: Draft) -> Draft
     }
 }
 
+/// Whether what stands behind the letter of an option is its value.
+fn is_untracked(opt: Opt) -> bool
+    ensures { result ≡ steps.is_untracked opt }
+{
+    matches!(opt, Opt::Untracked)
+}
+
+/// Whether an option is git's, and is not answered here.
+fn is_left(opt: Opt) -> bool
+    ensures { result ≡ steps.is_left opt }
+{
+    matches!(opt, Opt::Left)
+}
+
 /// What stands behind one `-`: letters, each an option.
 #[tactic(auto, unfolding(crate::specs::Steps::letters))]
 fn letters(verb: Verb, text: &[u8], draft: Draft) -> Step
@@ -282,10 +298,10 @@ fn letters(verb: Verb, text: &[u8], draft: Draft) -> Step
         let Some(opt) = known_letter(verb, *letter) else {
             return Step::Wrong(Wrong::UnknownSwitch { letter: *letter });
         };
-        if matches!(opt, Opt::Untracked) {
+        if is_untracked(opt) {
             return untracked_letter(after, said);
         }
-        if matches!(opt, Opt::Left) {
+        if is_left(opt) {
             return Step::Wrong(Wrong::LeftSwitch { letter: *letter });
         }
         said = lettered(opt, said);
