@@ -1,0 +1,10 @@
+pub mod Stats
+pub mod KeptStats
+pub mod Modes
+pub mod Fields
+pub mod There
+pub mod States
+pub mod Rows
+pub mod Lines
+pub mod Texts
+pub mod Differences

@@ -1,0 +1,20 @@
+-- Why no differences are told.
+use Rattle.std.specs.Prelude.{ℕ, List, codes}
+use Rattle.worktree_fs.specs.declared.answers.ReadError.{ReadError}
+use Rattle.worktree_fs.specs.declared.answers.ReadError.TheVariants as reads
+use Rattle.diff_files.specs.declared.error.DiffError.{DiffError}
+use Rattle.diff_files.specs.declared.error.DiffError.TheVariants as errors
+use Rattle.diff_files.specs.declared.error.Unsupported.{Unsupported}
+use Rattle.diff_files.specs.declared.error.Unsupported.TheVariants as forms
+
+abbrev pub of_read : ReadError → DiffError
+of_read reads.Fault = errors.Fault
+of_read reads.OutOfMemory = errors.OutOfMemory
+
+-- what is told of a form that is not answered
+abbrev pub unsupported_text : Unsupported → List ℕ
+unsupported_text forms.Repository = codes "diff-files is not supported where a repository stands"
+unsupported_text forms.Conversion = codes "diff-files is not supported where bytes are converted"
+unsupported_text forms.IgnoredSubmodule = codes "diff-files is not supported for ignored submodules"
+unsupported_text forms.SparseIndex = codes "diff-files is not supported for a sparse index"
+unsupported_text forms.Details = codes "diff-files has no stat fields of an entry"

@@ -1,0 +1,27 @@
+//! What `git diff-files` prints: how the paths of an index changed in a work tree, by what the system tells of the nodes.
+#![tactic(auto)]
+
+mod answer;
+mod change;
+mod comparison;
+mod entry;
+mod error;
+mod fields;
+mod judged;
+mod line;
+mod modes;
+mod parts;
+mod place;
+mod racy;
+mod row;
+mod stats;
+mod taken;
+
+pub use answer::{Differences, diff_files};
+pub use change::PathChange;
+pub use comparison::{Comparison, Form};
+pub use error::{DiffError, Unsupported};
+pub use stats::Stats;
+pub use stats::disk::DiskStats;
+pub use stats::memory::{MemoryStats, StatNode};
+pub use stats::node_stat::NodeStat;

@@ -1,0 +1,73 @@
+//! The rows of changes.
+ghost use Rattle.std.specs.Prelude.{◌≡◌, ◌++◌, OnOk};
+ghost use Rattle.diff_files.specs.Rows as rows;
+
+use crate::change::{PathChange, is_same};
+use crate::error::{DiffError, Unsupported};
+use crate::parts::Parts;
+use gitbase_core::{IndexEntry, OutOfMemory};
+use std::marker::Model;
+
+/// An entry, and how its path changed.
+///
+/// Contracts see the two.
+#[derive(Drop)]
+pub struct Row<'a> {
+    entry: &'a IndexEntry,
+    change: PathChange,
+}
+
+impl<'a> Model for Row<'a> {
+    ghost use Rattle.diff_files.specs.Rows as specs;
+
+    ghost Value = { specs.Row };
+
+    ghost view = { λ row. record { entry = row.entry.now; change = row.change } };
+}
+
+impl<'a> Row<'a> {
+    pub fn entry(&self) -> &'a IndexEntry
+        ensures { result.now ≡ self.now.entry }
+    {
+        self.entry
+    }
+
+    pub fn change(&self) -> PathChange
+        ensures { result ≡ self.now.change }
+    {
+        self.change
+    }
+}
+
+/// Adds the row of a change; what did not change has none.
+fn add_row<'a>(
+    list: &mut Vec<Row<'a>>,
+    entry: &'a IndexEntry,
+    change: PathChange,
+) -> Result<(), OutOfMemory>
+    ensures { OnOk result (list.new.items ≡ list.old.items ++ rows.row_if entry.now change) }
+{
+    if is_same(change) {
+        return Ok(());
+    }
+    list.push(Row { entry, change })?;
+    Ok(())
+}
+
+/// Adds the rows of an entry, unless a form is not answered.
+pub fn add_parts<'a>(
+    list: &mut Vec<Row<'a>>,
+    entry: &'a IndexEntry,
+    parts: Result<Parts, Unsupported>,
+) -> Result<(), DiffError>
+    ensures { rows.AddsParts entry.now parts list.old.items list.new.items result }
+{
+    match parts {
+        Ok(parts) => {
+            add_row(list, entry, parts.unmerged)?;
+            add_row(list, entry, parts.change)?;
+            Ok(())
+        }
+        Err(form) => Err(DiffError::Unsupported(form)),
+    }
+}

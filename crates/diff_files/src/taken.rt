@@ -1,0 +1,63 @@
+//! Which entries are taken.
+ghost use Rattle.std.specs.Prelude.{◌≡◌, option_copied};
+ghost use Rattle.std.specs.List.{list_any};
+ghost use Rattle.git_index.specs.IndexFile.{is_directory};
+ghost use Rattle.diff_files.specs.Rows as rows;
+
+use gitbase_core::IndexEntry;
+use glob_rules::pathspec::{Matcher, Search};
+
+/// Whether the path specs match the path of an entry.
+fn is_entry_matched(specs: &Search, entry: &IndexEntry) -> bool
+    ensures { result ≡ rows.is_entry_matched specs.now entry.now }
+{
+    let is_dir = entry.mode.is_submodule();
+    match specs.pattern_matching_relative_path(entry.path.as_bytes(), Some(is_dir)) {
+        Some(found) => !found.is_excluded(),
+        None => false,
+    }
+}
+
+/// Whether an entry has the path of the last one that is not merged.
+pub fn is_at(last: Option<&[u8]>, entry: &IndexEntry) -> bool
+    ensures { result ≡ rows.is_at (option_copied last.entry) entry.now.path }
+{
+    match last {
+        Some(path) => path == entry.path.as_bytes(),
+        None => false,
+    }
+}
+
+/// Whether an entry is taken: the path specs match it, or it goes with the one before it.
+pub fn is_taken(specs: &Search, last: Option<&[u8]>, entry: &IndexEntry) -> bool
+    ensures { result ≡ rows.is_taken specs.now (option_copied last.entry) entry.now }
+{
+    if is_at(last, entry) {
+        return true;
+    }
+    is_entry_matched(specs, entry)
+}
+
+/// The path of an entry that is not merged.
+pub fn unmerged_path(entry: &IndexEntry) -> Option<&[u8]>
+    ensures { option_copied result ≡ rows.unmerged_path entry.now }
+{
+    if entry.stage == 0 {
+        return None;
+    }
+    Some(entry.path.as_bytes())
+}
+
+/// Whether an entry stands for all that is beneath a directory.
+fn is_sparse(entry: &IndexEntry) -> bool
+    ensures { result ≡ is_directory entry.now }
+{
+    entry.mode.is_sparse()
+}
+
+/// Whether an entry does.
+pub fn has_sparse(entries: &[IndexEntry]) -> bool
+    ensures { result ≡ list_any is_directory entries.now }
+{
+    entries.iter().any(|entry| is_sparse(entry))
+}
