@@ -1,5 +1,5 @@
 -- What `git diff-files` prints, and why it is not told.
-use Rattle.std.specs.Prelude.{◌≡◌, ℕ, List, [], Option, Some, None, Result, Ok, Err, IsErrOf, OnOk, if◌then◌else◌}
+use Rattle.std.specs.Prelude.{◌≡◌, ℕ, List, [], None, Result, Ok, Err, IsErrOf, if◌then◌else◌}
 use Rattle.std.specs.List.{list_any}
 use Rattle.gitbase_core.specs.Steps.{and_then}
 use Rattle.gitbase_core.specs.declared.entry.IndexEntry.{IndexEntry}

@@ -1,5 +1,5 @@
 -- The changes of all paths of an index.
-use Rattle.std.specs.Prelude.{⊤, ◌≡◌, ℕ, List, [], ◌∷◌, ◌++◌, Bool, true, false, not, ◌&&◌, ◌||◌, ◌==◌, bytes_eq, Option, Some, None, Result, Ok, Err, if◌then◌else◌}
+use Rattle.std.specs.Prelude.{⊤, ◌≡◌, ℕ, List, [], ◌∷◌, ◌++◌, Bool, true, false, not, ◌||◌, ◌==◌, bytes_eq, Option, Some, None, Result, Ok, Err, if◌then◌else◌}
 use Rattle.gitbase_core.specs.Entry.{mode_bits, commit_mode}
 use Rattle.gitbase_core.specs.Path.{joined}
 use Rattle.gitbase_core.specs.Steps.{and_then}
