@@ -1,0 +1,85 @@
+-- What is told of a cleaning by a report that is made for it.
+use Rattle.std.proofs.Common.{◌≡◌, ℕ, List, inl, inr, Some, option_map, Ok, Err, ap, refl, sym, ◌∙◌, arith}
+use Rattle.gitbase_core.specs.declared.find.Find.{Ghosts as FindOf}
+use Rattle.worktree_fs.specs.declared.interrupt.Interrupt.{Ghosts as InterruptOf}
+use Rattle.worktree_fs.specs.declared.worktree.Worktree.{Ghosts as WorktreeOf}
+use Rattle.worktree_fs.specs.Causes.{Increased, NotIncreased}
+use Rattle.worktree_fs.specs.Kept.{Asks}
+use Rattle.worktree_report.specs.declared.error.ReportError.{ReportError}
+use Rattle.worktree_report.specs.declared.refusal.Refusal.{Refusal}
+use Rattle.worktree_report.specs.declared.refusal.Refusal.TheVariants as refusals
+use Rattle.worktree_report.specs.declared.report.Report.{Report}
+use Rattle.worktree_report.specs.declared.report.ReportEntry.{ReportEntry}
+use Rattle.worktree_report.specs.declared.setup.Setup.{Setup}
+use Rattle.worktree_report.specs.Asked.{read_in}
+use Rattle.worktree_report.specs.Behind.{MakesFirst}
+use Rattle.worktree_report.specs.Converted as converted
+use Rattle.worktree_report.specs.Reported.{MakesReport}
+use Rattle.worktree_report.proofs.Answered.{told-blobs, Texts-refused}
+use Rattle.worktree_report.proofs.Refusing.{MakesFirst-is}
+use Rattle.worktree_report.proofs.ReportMade.{report_is}
+use Rattle.ls_files.specs.declared.listing.NamedSpec.{NamedSpec}
+use Rattle.git_clean.specs.declared.cleaning.Cleaning.{Cleaning}
+use Rattle.git_clean.specs.Cleaned as words
+
+asks-none : {W : Type 0} (w : WorktreeOf W) (x : W) → Asks w x x
+asks-none w x = record { tree = refl; faults = omega arith; list_faults = refl; reads = omega arith; lists = refl; precomposes = refl }
+
+module _ {W F I : Type 0} {w : WorktreeOf W} {f : FindOf F} {i : InterruptOf I} {w0 w1 : W} {o0 o1 : F} {i0 i1 : I} {root : List ℕ} {setup : Setup} where
+  -- the report comes first, and nothing behind it
+  first : (r : Report) → MakesReport w f i w0 w1 o0 o1 i0 i1 root setup (Ok r) → f.holds o0 ≡ Some setup.blobs → MakesFirst w i (w.precomposes w0) w0 w1 i0 i1 root setup 0
+  first r made held = MakesFirst-is 0 r made held (asks-none w w1) (omega arith)
+
+module _ {W F I : Type 0} {w : WorktreeOf W} {f : FindOf F} {i : InterruptOf I} {w0 w1 : W} {o0 o1 : F} {i0 i1 : I} {root : List ℕ} {setup : Setup} {c : Cleaning} {prefix : List ℕ} {named : List NamedSpec} where
+  -- what is told, where nothing failed
+  pub TellsCleaning-ok : (r : Report) (found : List ReportEntry) (out : List ℕ) → MakesReport w f i w0 w1 o0 o1 i0 i1 root setup (Ok r) → f.holds o0 ≡ Some setup.blobs
+      → found ≡ r.entries → out ≡ words.cleaned c prefix named setup found → NotIncreased (w.faults w0) (w.faults w1)
+      → words.TellsCleaning w i (w.precomposes w0) w0 w1 i0 i1 root setup c prefix named (Ok out)
+  TellsCleaning-ok r found out made held same found_is quiet =
+      let is : out ≡ words.cleaned_by c prefix named setup r = found_is ∙ ap (words.cleaned c prefix named setup) same in
+      record {
+        gives = λ t told.
+            ap (option_map (words.cleaned_by c prefix named setup)) (report_is (made.gives (read_in t setup) (told-blobs setup held told) quiet))
+            ∙ ap (λ (x : List ℕ). Some x) (sym is);
+        by_report = record { report = r; orderly = made.orderly; is = is };
+        unfaulted = quiet;
+        made = first r made held;
+        refused = tt;
+        worktree = made.worktree;
+        interrupt = made.interrupt;
+        listed = made.listed;
+        calm = made.calm;
+      }
+
+  -- there is a report, and the worktree failed while it was made
+  pub TellsCleaning-failed : (r : Report) → MakesReport w f i w0 w1 o0 o1 i0 i1 root setup (Ok r) → f.holds o0 ≡ Some setup.blobs → Increased (w.faults w0) (w.faults w1)
+      → words.TellsCleaning w i (w.precomposes w0) w0 w1 i0 i1 root setup c prefix named (Err refusals.Fault)
+  TellsCleaning-failed r made held rose =
+      record {
+        gives = λ t told. tt;
+        by_report = tt;
+        unfaulted = tt;
+        made = tt;
+        refused = inr (inl (refl, record { first = first r made held; rose = rose }));
+        worktree = made.worktree;
+        interrupt = made.interrupt;
+        listed = tt;
+        calm = tt;
+      }
+
+  -- the refusal that stands for that of a report
+  pub TellsCleaning-refused : (e : ReportError) (refusal : Refusal) → MakesReport w f i w0 w1 o0 o1 i0 i1 root setup (Err e) → f.holds o0 ≡ Some setup.blobs
+      → NotIncreased (f.faults o0) (f.faults o1) → refusal ≡ converted.of_report e
+      → words.TellsCleaning w i (w.precomposes w0) w0 w1 i0 i1 root setup c prefix named (Err refusal)
+  TellsCleaning-refused e refusal made held kept same =
+      record {
+        gives = λ t told. tt;
+        by_report = tt;
+        unfaulted = tt;
+        made = tt;
+        refused = inr (inr (Texts-refused e refusal made held kept same));
+        worktree = made.worktree;
+        interrupt = made.interrupt;
+        listed = tt;
+        calm = tt;
+      }

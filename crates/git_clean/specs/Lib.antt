@@ -1,0 +1,9 @@
+pub mod Wrong
+pub mod Walking
+pub mod Going
+pub mod Directories
+pub mod Scenes
+pub mod Places
+pub mod Parts
+pub mod Lines
+pub mod Cleaned

@@ -1,0 +1,115 @@
+-- What would go: entries, and directories in the place of what they hold.
+use Rattle.std.specs.Prelude.{ℕ, List, [], ◌∷◌, Bool, true, false, not, ◌&&◌, ◌||◌, find, Option, Some, None, option_map, option_and_then, is_none, slice_index, take, if◌then◌else◌}
+use Rattle.std.specs.List.{list_any}
+use Rattle.std.specs.Option.{option_or}
+use Rattle.gitbase_core.specs.Among.{is_among}
+use Rattle.gitbase_core.specs.Kinds.{kinds}
+use Rattle.gitbase_core.specs.Path.{is_slash}
+use Rattle.gitbase_core.specs.declared.kinds.EntryKind.{EntryKind}
+use Rattle.gitbase_core.specs.declared.kinds.EntryKind.TheVariants as index
+use Rattle.glob_rules.specs.PathSpec.{PathSpec}
+use Rattle.glob_rules.specs.PathSpecs.{can_match, list_match}
+use Rattle.glob_rules.specs.declared.pathspec.Match.{Match}
+use Rattle.dir_classify.specs.declared.entry.Entry.{Entry}
+use Rattle.worktree_report.specs.SetupMeant.{ordered_after}
+use Rattle.worktree_report.specs.declared.report.ReportEntry.{ReportEntry}
+use Rattle.ls_files.specs.declared.listing.NamedSpec.{NamedSpec}
+use Rattle.ls_files.specs.Cached.{takes}
+use Rattle.ls_files.specs.Others.{above, as_directory, has_beneath, is_entry_matched, name, name_unless, place_at, with_name}
+use Rattle.ls_files.specs.Places.{Place}
+use Rattle.git_clean.specs.Going.{is_removable}
+use Rattle.git_clean.specs.Scenes.{Scene}
+
+-- ---- what is kept
+
+abbrev pub is_module_kind : Option EntryKind → Bool
+is_module_kind None = false
+is_module_kind (Some index.File) = false
+is_module_kind (Some index.Symlink) = false
+is_module_kind (Some index.Repository) = true
+is_module_kind (Some index.Directory) = false
+
+-- a directory is kept with all that it holds: it holds a `.git`, or is that of a submodule
+abbrev pub keeps : Scene → List ℕ → Bool
+keeps s d = is_among d s.guarded || is_module_kind (kinds s.index d).kind
+
+-- the directory that ends before a byte of a path is
+abbrev pub keeps_at : Scene → List ℕ → ℕ → Bool
+keeps_at s path at = is_slash (slice_index path at) && keeps s (take at path)
+
+-- so is a path beneath one
+abbrev pub is_kept : Scene → List ℕ → Bool
+is_kept s path = list_any (keeps s) (above path)
+
+-- ---- directories
+
+-- The index has nothing in a directory, which is not marked. Without `-d` such a directory is passed over, and what lies in it hidden.
+abbrev pub hides : Scene → List ℕ → Bool
+hides s d = not (has_beneath s.index (name (as_directory d))) && not (is_among d s.marked)
+
+abbrev pub hides_at : Scene → List ℕ → ℕ → Bool
+hides_at s path at = is_slash (slice_index path at) && hides s (take at path)
+
+abbrev pub is_hidden : Scene → List ℕ → Bool
+is_hidden s path = list_any (hides s) (above path)
+
+-- how path specs match a directory
+abbrev pub directory_match : List PathSpec → List ℕ → Option Match
+directory_match specs d = list_match specs (name (as_directory d)) (Some true)
+
+-- a spec is about what lies further down in a directory, and does not match the directory itself
+abbrev pub leads : List ℕ → NamedSpec → Bool
+leads d named = is_none (directory_match named.spec d) && can_match named.spec d
+
+-- the path specs match a directory, and none leads further down
+abbrev pub is_taken_by : Scene → List ℕ → Bool
+is_taken_by s d = takes (directory_match s.specs d) && not (list_any (leads d) s.named)
+
+-- A directory goes as a whole: the index has nothing in it, no entry beneath keeps it from that, and the path specs take it.
+abbrev pub folds : Scene → List ℕ → Bool
+folds s d = hides s d && is_taken_by s d
+
+abbrev pub folds_at : Scene → List ℕ → ℕ → Bool
+folds_at s path at = is_slash (slice_index path at) && folds s (take at path)
+
+-- the highest directory above a path that does
+abbrev pub top : Scene → List ℕ → Option (List ℕ)
+top s path = find (folds s) (above path)
+
+-- With `-X` a directory goes for an ignored path in it that the path specs match, else for whatever they match in it.
+abbrev pub fills : Scene → Entry → Bool
+fills s e = if s.cleaning.ignored_only then is_removable s.cleaning s.specs e else is_entry_matched s.specs e
+
+abbrev pub folded : Scene → Entry → Option Place
+folded s e = if fills s e then option_map as_directory (top s e.rela_path) else None
+
+-- ---- what goes
+
+abbrev pub itself : Scene → Entry → Option Place
+itself s e = if is_removable s.cleaning s.specs e then Some (place_at e) else None
+
+-- by itself, where directories are passed over
+abbrev pub in_view : Scene → Entry → Option Place
+in_view s e = if is_hidden s e.rela_path then None else itself s e
+
+abbrev pub folded_or_itself : Scene → Entry → Option Place
+folded_or_itself s e = option_or (folded s e) (itself s e)
+
+abbrev pub place_if : Scene → Entry → Option Place
+place_if s e = if s.cleaning.directories then folded_or_itself s e else in_view s e
+
+-- what goes for an entry: a directory above it, or itself
+abbrev pub place_of : Scene → Entry → Option Place
+place_of s e = if is_kept s e.rela_path then None else place_if s e
+
+-- no path of the index goes
+abbrev pub name_of : Scene → Entry → Option (List ℕ)
+name_of s e = option_and_then (name_unless s.index) (place_of s e)
+
+abbrev pub names_of : Scene → List ReportEntry → List (List ℕ)
+names_of s [] = []
+names_of s (e ∷ found) = with_name (name_of s e.entry) (names_of s found)
+
+-- the names of what goes, in the order of their bytes, each once; that of a directory ends in a slash
+abbrev pub names : Scene → List (List ℕ)
+names s = ordered_after [] (names_of s s.found)

@@ -1,0 +1,53 @@
+-- By what it is decided what may go.
+use Rattle.std.specs.Prelude.{ℕ, List}
+use Rattle.gitbase_core.specs.declared.entry.IndexEntry.{IndexEntry}
+use Rattle.glob_rules.specs.PathSpec.{PathSpec}
+use Rattle.ls_files.specs.declared.listing.NamedSpec.{NamedSpec}
+use Rattle.worktree_report.specs.declared.report.ReportEntry.{ReportEntry}
+use Rattle.worktree_report.specs.declared.setup.Setup.{Setup}
+use Rattle.git_clean.specs.declared.cleaning.Cleaning.{Cleaning}
+use Rattle.git_clean.specs.declared.scene.Scene as declared
+use Rattle.git_clean.specs.Directories as directories
+
+pub record Scene : Type 0 where
+  pub cleaning : Cleaning
+  pub index : List IndexEntry
+  -- the path specs, and each alone
+  pub specs : List PathSpec
+  pub named : List NamedSpec
+  -- the current directory
+  pub prefix : List ℕ
+  -- the entries of a report
+  pub found : List ReportEntry
+  pub marked : List (List ℕ)
+  pub guarded : List (List ℕ)
+  pub held : List (List ℕ)
+
+abbrev pub scene_by : declared.Scene → Scene
+scene_by s =
+    record {
+      cleaning = s.cleaning.now;
+      index = s.index.now;
+      specs = s.specs.now;
+      named = s.named.now;
+      prefix = s.prefix.now;
+      found = s.found.now;
+      marked = s.marked.now.keys;
+      guarded = s.guarded.now.keys;
+      held = s.held.now.keys;
+    }
+
+-- the scene of a setup and the entries of a report
+abbrev pub scene : Cleaning → List ℕ → List NamedSpec → Setup → List ReportEntry → Scene
+scene c prefix named setup found =
+    record {
+      cleaning = c;
+      index = setup.index;
+      specs = setup.specs;
+      named = named;
+      prefix = prefix;
+      found = found;
+      marked = directories.marked c (directories.guarded found) found;
+      guarded = directories.guarded found;
+      held = directories.held c prefix found;
+    }

@@ -1,0 +1,22 @@
+-- Which cleanings there are not: in git, or not here.
+use Rattle.std.specs.Prelude.{ℕ, List, not, ◌&&◌, codes, Option, Some, None, if◌then◌else◌}
+use Rattle.worktree_report.specs.declared.setup.Setup.{Setup}
+use Rattle.git_clean.specs.declared.cleaning.Cleaning.{Cleaning}
+use Rattle.git_clean.specs.declared.wrong.WrongCleaning.{WrongCleaning}
+use Rattle.git_clean.specs.declared.wrong.WrongCleaning.TheVariants as wrong
+
+-- the first reason why there is no such cleaning of the work tree of a setup; nothing is removed here
+abbrev pub wrong_in : Cleaning → Setup → Option WrongCleaning
+wrong_in c setup =
+    if not c.dry_run then Some wrong.Removes
+    else if c.ignored_too && c.ignored_only then Some wrong.BothIgnored
+    else if c.ignored_too && c.patterns then Some wrong.PatternsAlone
+    else if setup.options.ignore_case then Some wrong.FoldedCase
+    else None
+
+-- what is told of it
+abbrev pub wrong_text : WrongCleaning → List ℕ
+wrong_text wrong.Removes = codes "clean is not supported without -n: nothing is removed"
+wrong_text wrong.BothIgnored = codes "-x and -X cannot be used together"
+wrong_text wrong.PatternsAlone = codes "clean -e is not supported with -x"
+wrong_text wrong.FoldedCase = codes "clean is not supported with core.ignoreCase"

@@ -1,0 +1,125 @@
+//! What would go, by the entries of a report.
+ghost use Rattle.std.specs.Prelude.{◌≡◌, ◌++◌, IfOk, OnOk};
+ghost use Rattle.gitbase_core.specs.Path as paths;
+ghost use Rattle.git_clean.specs.Cleaned as words;
+ghost use Rattle.git_clean.specs.Lines as lines;
+ghost use Rattle.git_clean.specs.Scenes.{scene_by};
+
+use crate::above::has;
+use crate::cleaning::Cleaning;
+use crate::inside::add_inside;
+use crate::line::{add_line, removes};
+use crate::names::names;
+use crate::scene::Scene;
+use crate::sets::{guarded, held, marked};
+use git_paths::relative_from;
+use gitbase_core::{Bytes, OutOfMemory};
+use ls_files::NamedSpec;
+use std::alloc::Global;
+use worktree_report::{ReportEntry, Setup};
+
+/// Whether a name ends in a slash.
+fn ends_in_slash(name: &[u8]) -> bool
+    ensures { result ≡ paths.ends_in_slash name.now }
+{
+    name.last() == Some(&b'/')
+}
+
+/// A name without the slash at its end, if there is one.
+fn without_slash(name: &[u8]) -> &[u8]
+    ensures { result.now ≡ paths.without_slash name.now }
+{
+    if ends_in_slash(name) {
+        return &name[..name.len() - 1];
+    }
+    name
+}
+
+/// Whether a name is that of a directory that cannot go itself.
+fn is_held_name(alloc: Global, scene: &Scene<'_>, name: &[u8]) -> Result<bool, OutOfMemory>
+    ensures { IfOk result (λ held. held ≡ lines.is_held_name (scene_by scene.now) name.now) }
+{
+    if !ends_in_slash(name) {
+        return Ok(false);
+    }
+    has(alloc, scene.held, without_slash(name))
+}
+
+/// Adds the line of what goes.
+fn add_removed(
+    alloc: Global,
+    text: &mut Vec<u8>,
+    scene: &Scene<'_>,
+    name: &[u8],
+) -> Result<(), OutOfMemory>
+    ensures { OnOk result (text.new.items ≡ text.old.items
+        ++ lines.removed_line (scene_by scene.now) name.now) }
+{
+    let read = relative_from(alloc, name, scene.prefix)?;
+    add_line(text, scene.cleaning, removes(), read.as_bytes())
+}
+
+/// Adds the lines of a name.
+fn add_lines(
+    alloc: Global,
+    text: &mut Vec<u8>,
+    scene: &Scene<'_>,
+    name: &[u8],
+) -> Result<(), OutOfMemory>
+    ensures { OnOk result (text.new.items ≡ text.old.items
+        ++ lines.lines_of (scene_by scene.now) name.now) }
+{
+    if is_held_name(alloc, scene, name)? {
+        return add_inside(alloc, text, scene, without_slash(name));
+    }
+    add_removed(alloc, text, scene, name)
+}
+
+/// The lines of all that goes.
+fn text_of(alloc: Global, scene: &Scene<'_>) -> Result<Bytes, OutOfMemory>
+    ensures { IfOk result (λ text. text ≡ lines.text (scene_by scene.now)) }
+{
+    let mut text = Vec::new(alloc);
+    for name in names(alloc, scene)? {
+        add_lines(alloc, &mut text, scene, name.as_bytes())?;
+    }
+    Ok(Bytes::from_vec(text))
+}
+
+/// What would go by the entries of a report, in the directory `prefix` of the work tree: the setup
+/// has the index and the path specs, and `named` has each of these alone.
+///
+/// The entries are gone over once, and once more for each directory that goes but for a repository
+/// in it, or for the current directory.
+///
+/// # Errors
+///
+/// Memory was refused.
+#[tactic(auto, unfolding(crate::specs::Cleaned::cleaned))]
+pub fn clean_found(
+    alloc: Global,
+    cleaning: &Cleaning,
+    prefix: &[u8],
+    named: &[NamedSpec],
+    setup: &Setup,
+    found: &[ReportEntry],
+) -> Result<Bytes, OutOfMemory>
+    ensures { IfOk result
+        (λ text. text ≡ words.cleaned cleaning.now prefix.now named.now setup.now found.now) }
+{
+    let guarded = guarded(alloc, found)?;
+    let marked = marked(alloc, cleaning, &guarded, found)?;
+    let held = held(alloc, cleaning, prefix, found)?;
+    let scene = Scene {
+        cleaning,
+        index: &setup.index,
+        specs: &setup.specs,
+        named,
+        prefix,
+        found,
+        marked: &marked,
+        guarded: &guarded,
+        held: &held,
+    };
+    text_of(alloc, &scene)
+}

@@ -1,0 +1,50 @@
+//! The lines of a cleaning.
+ghost use Rattle.std.specs.Prelude.{◌≡◌, ◌++◌, OnOk};
+ghost use Rattle.git_clean.specs.Lines as lines;
+
+use crate::cleaning::Cleaning;
+use git_paths::add_quoted;
+use gitbase_core::OutOfMemory;
+
+/// What stands before a path that would be removed.
+#[tactic(auto, unfolding(crate::specs::Lines::removes))]
+pub fn removes() -> &'static [u8]
+    ensures { result.now ≡ lines.removes }
+{
+    b"Would remove "
+}
+
+/// What stands before a repository that would be skipped.
+#[tactic(auto, unfolding(crate::specs::Lines::skips))]
+pub fn skips() -> &'static [u8]
+    ensures { result.now ≡ lines.skips }
+{
+    b"Would skip repository "
+}
+
+/// The line of the current directory.
+#[tactic(auto, unfolding(crate::specs::Lines::refusal))]
+pub fn refusal() -> &'static [u8]
+    ensures { result.now ≡ lines.refusal }
+{
+    b"Would refuse to remove current working directory\n"
+}
+
+/// Adds the line of a name, behind some words, unless nothing is to be named.
+pub fn add_line(
+    text: &mut Vec<u8>,
+    cleaning: &Cleaning,
+    words: &[u8],
+    name: &[u8],
+) -> Result<(), OutOfMemory>
+    ensures { OnOk result (text.new.items
+        ≡ text.old.items ++ lines.line cleaning.now words.now name.now) }
+{
+    if cleaning.quiet {
+        return Ok(());
+    }
+    text.extend_from_slice(words)?;
+    add_quoted(text, name, cleaning.quote_path)?;
+    text.push(b'\n')?;
+    Ok(())
+}

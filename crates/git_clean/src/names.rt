@@ -1,0 +1,144 @@
+//! The names of what would go.
+ghost use Rattle.std.specs.Prelude.{◌≡◌, IfOk};
+ghost use Rattle.ls_files.specs.Others as others;
+ghost use Rattle.git_clean.specs.Places as words;
+ghost use Rattle.git_clean.specs.Scenes.{scene_by};
+
+use crate::going::{is_entry_matched, is_removable, name, place_at};
+use crate::place::Place;
+use crate::places::{is_hidden, is_kept, top};
+use crate::scene::Scene;
+use dir_classify::Entry;
+use gitbase_core::{Bytes, OutOfMemory, State};
+use std::alloc::Global;
+use std::collections::BTreeSet;
+
+/// Whether a directory goes for an entry that it holds.
+fn fills(alloc: Global, scene: &Scene<'_>, entry: &Entry) -> Result<bool, OutOfMemory>
+    ensures { IfOk result (λ fills. fills ≡ words.fills (scene_by scene.now) entry.now) }
+{
+    if scene.cleaning.ignored_only {
+        return is_removable(alloc, scene.cleaning, scene.specs, entry);
+    }
+    is_entry_matched(alloc, scene.specs, entry)
+}
+
+/// The directory that goes for an entry, if one does.
+fn folded<'a>(
+    alloc: Global,
+    scene: &Scene<'_>,
+    entry: &'a Entry,
+) -> Result<Option<Place<'a>>, OutOfMemory>
+    ensures { IfOk result (λ place. place ≡ words.folded (scene_by scene.now) entry.now) }
+{
+    if !fills(alloc, scene, entry)? {
+        return Ok(None);
+    }
+    match top(alloc, scene, entry.rela_path.as_bytes())? {
+        Some(path) => Ok(Some(Place::new(path, true))),
+        None => Ok(None),
+    }
+}
+
+/// The place of an entry itself, if it goes.
+fn itself<'a>(
+    alloc: Global,
+    scene: &Scene<'_>,
+    entry: &'a Entry,
+) -> Result<Option<Place<'a>>, OutOfMemory>
+    ensures { IfOk result (λ place. place ≡ words.itself (scene_by scene.now) entry.now) }
+{
+    if is_removable(alloc, scene.cleaning, scene.specs, entry)? {
+        return Ok(Some(place_at(entry)));
+    }
+    Ok(None)
+}
+
+/// The same, where directories are passed over.
+fn in_view<'a>(
+    alloc: Global,
+    scene: &Scene<'_>,
+    entry: &'a Entry,
+) -> Result<Option<Place<'a>>, OutOfMemory>
+    ensures { IfOk result (λ place. place ≡ words.in_view (scene_by scene.now) entry.now) }
+{
+    if is_hidden(alloc, scene, entry.rela_path.as_bytes())? {
+        return Ok(None);
+    }
+    itself(alloc, scene, entry)
+}
+
+/// The directory that goes for an entry, else the entry itself.
+fn folded_or_itself<'a>(
+    alloc: Global,
+    scene: &Scene<'_>,
+    entry: &'a Entry,
+) -> Result<Option<Place<'a>>, OutOfMemory>
+    ensures { IfOk result (λ place. place ≡ words.folded_or_itself (scene_by scene.now) entry.now) }
+{
+    match folded(alloc, scene, entry)? {
+        Some(place) => Ok(Some(place)),
+        None => itself(alloc, scene, entry),
+    }
+}
+
+/// What goes for an entry.
+fn place_of<'a>(
+    alloc: Global,
+    scene: &Scene<'_>,
+    entry: &'a Entry,
+) -> Result<Option<Place<'a>>, OutOfMemory>
+    ensures { IfOk result (λ place. place ≡ words.place_of (scene_by scene.now) entry.now) }
+{
+    if is_kept(alloc, scene, entry.rela_path.as_bytes())? {
+        return Ok(None);
+    }
+    if scene.cleaning.directories {
+        return folded_or_itself(alloc, scene, entry);
+    }
+    in_view(alloc, scene, entry)
+}
+
+/// Whether an entry of the index stands at a path.
+fn has_entry(index: &State, path: &[u8]) -> bool
+    ensures { result ≡ others.has_entry index.now path.now }
+{
+    index.entry_by_path(path).is_some()
+}
+
+/// The name of what goes, unless the index has the path.
+fn name_unless(
+    alloc: Global,
+    index: &State,
+    place: &Place<'_>,
+) -> Result<Option<Bytes>, OutOfMemory>
+    ensures { IfOk result (λ name. name ≡ others.name_unless index.now place.now) }
+{
+    if has_entry(index, place.path()) {
+        return Ok(None);
+    }
+    Ok(Some(name(alloc, place)?))
+}
+
+/// The name of what goes for an entry, if something does.
+fn name_of(alloc: Global, scene: &Scene<'_>, entry: &Entry) -> Result<Option<Bytes>, OutOfMemory>
+    ensures { IfOk result (λ name. name ≡ words.name_of (scene_by scene.now) entry.now) }
+{
+    match place_of(alloc, scene, entry)? {
+        Some(place) => name_unless(alloc, scene.index, &place),
+        None => Ok(None),
+    }
+}
+
+/// The names of what goes, each once.
+pub fn names(alloc: Global, scene: &Scene<'_>) -> Result<BTreeSet<Bytes>, OutOfMemory>
+    ensures { IfOk result (λ names. names.keys ≡ words.names (scene_by scene.now)) }
+{
+    let mut names = BTreeSet::new(alloc);
+    for entry in scene.found {
+        if let Some(name) = name_of(alloc, scene, &entry.entry)? {
+            names.insert(name)?;
+        }
+    }
+    Ok(names)
+}

@@ -1,0 +1,42 @@
+//! What would go: a path, and whether a directory stands there.
+ghost use Rattle.std.specs.Prelude.{◌≡◌};
+
+use std::marker::Model;
+
+/// A path, and whether a directory stands there.
+///
+/// Contracts see the two.
+#[derive(Drop)]
+pub struct Place<'a> {
+    path: &'a [u8],
+    holds_names: bool,
+}
+
+impl<'a> Model for Place<'a> {
+    ghost use Rattle.ls_files.specs.Places as specs;
+
+    ghost Value = { specs.Place };
+
+    ghost view = { λ place. record { path = place.path.now; holds_names = place.holds_names } };
+}
+
+impl<'a> Place<'a> {
+    pub fn new(path: &'a [u8], holds_names: bool) -> Place<'a>
+        ensures path { result.path ≡ path.now }
+        ensures holds_names { result.holds_names ≡ holds_names }
+    {
+        Place { path, holds_names }
+    }
+
+    pub fn path(&self) -> &'a [u8]
+        ensures { result.now ≡ self.now.path }
+    {
+        self.path
+    }
+
+    pub fn holds_names(&self) -> bool
+        ensures { result ≡ self.now.holds_names }
+    {
+        self.holds_names
+    }
+}

@@ -1,0 +1,55 @@
+//! Which cleanings there are not.
+ghost use Rattle.std.specs.Prelude.{◌≡◌};
+ghost use Rattle.git_clean.specs.Wrong as words;
+
+use crate::cleaning::Cleaning;
+use worktree_report::Setup;
+
+/// Why there is no such cleaning: in git, or not here.
+#[derive(Clone, Copy, Debug, PartialEq, Eq)]
+pub enum WrongCleaning {
+    /// Something would be removed, which is not done here.
+    Removes,
+    /// `-x` with `-X`, which git refuses.
+    BothIgnored,
+    /// `-e` with `-x`, where the rules of `-e` stand alone, which is not answered here.
+    PatternsAlone,
+    /// Letters compare without regard to their case, which is not answered here.
+    FoldedCase,
+}
+
+impl WrongCleaning {
+    /// What is told of it, behind `fatal: `; of what git refuses too in git's words.
+    pub fn text(&self) -> &'static [u8]
+        ensures { result.now ≡ words.wrong_text self.now }
+    {
+        match self {
+            WrongCleaning::Removes => b"clean is not supported without -n: nothing is removed",
+            WrongCleaning::BothIgnored => b"-x and -X cannot be used together",
+            WrongCleaning::PatternsAlone => b"clean -e is not supported with -x",
+            WrongCleaning::FoldedCase => b"clean is not supported with core.ignoreCase",
+        }
+    }
+}
+
+/// Why there is no such cleaning of the work tree of a setup, the first reason; none where there is
+/// one.
+///
+/// See docs/DIFFERENCES.md#dry-clean-forms.
+pub fn wrong_in(cleaning: &Cleaning, setup: &Setup) -> Option<WrongCleaning>
+    ensures { result ≡ words.wrong_in cleaning.now setup.now }
+{
+    if !cleaning.dry_run {
+        return Some(WrongCleaning::Removes);
+    }
+    if cleaning.ignored_too & cleaning.ignored_only {
+        return Some(WrongCleaning::BothIgnored);
+    }
+    if cleaning.ignored_too & cleaning.patterns {
+        return Some(WrongCleaning::PatternsAlone);
+    }
+    if setup.options.ignore_case {
+        return Some(WrongCleaning::FoldedCase);
+    }
+    None
+}
