@@ -1,0 +1,118 @@
+//! Cleanings, each compared with what git prints.
+use crate::answers::{ROWS, TREES};
+use crate::tree::{lines_of, parted, tree_of};
+use crate::words::{all_named, cleaning_of, patterns_of, specs_of};
+use bstr::ByteSlice;
+use git_clean::{Cleaning, dry_clean, walk_options, wrong_in};
+use gitbase_core::Bytes;
+use ls_files::NamedSpec;
+use std::alloc::Global;
+use worktree_fs::PlannedInterrupt;
+use worktree_report::Setup;
+
+/// The setup of a tree, for a cleaning with these options and path specs.
+fn setup_for(
+    alloc: Global,
+    text: &[u8],
+    cleaning: &Cleaning,
+    options: &[u8],
+    specs: &[u8],
+) -> Option<Setup> {
+    let lines = lines_of(alloc, text)?;
+    let mut setup = Setup::parse(alloc, &lines).ok()?;
+    setup.options = walk_options(cleaning, &setup.options);
+    setup.overrides = patterns_of(alloc, options)?;
+    setup.specs = specs_of(alloc, specs)?;
+    setup.root = Some(Bytes::from_slice(alloc, b".").ok()?);
+    Some(setup)
+}
+
+/// What would go of the tree of some steps.
+fn cleaned_of(
+    alloc: Global,
+    steps: &[u8],
+    setup: &Setup,
+    cleaning: &Cleaning,
+    prefix: &[u8],
+    named: &[NamedSpec],
+) -> Option<Bytes> {
+    if let Some(_) = wrong_in(cleaning, setup) {
+        return None;
+    }
+    let mut tree = tree_of(alloc, steps)?;
+    let mut interrupt = PlannedInterrupt::never();
+    dry_clean(
+        alloc,
+        &mut tree,
+        &mut interrupt,
+        b"/w/r",
+        setup,
+        cleaning,
+        prefix,
+        named,
+    )
+    .ok()
+}
+
+/// What would go of a tree, in a directory.
+fn cleaned_in(
+    alloc: Global,
+    tree: &[u8],
+    prefix: &[u8],
+    options: &[u8],
+    specs: &[u8],
+) -> Option<Bytes> {
+    let (text, steps) = parted(tree, b'^');
+    let cleaning = cleaning_of(options, specs, prefix);
+    let setup = setup_for(alloc, text, &cleaning, options, specs)?;
+    let named = all_named(alloc, specs)?;
+    cleaned_of(alloc, steps, &setup, &cleaning, prefix, &named)
+}
+
+/// Whether a text is what a row has, with `$` in the place of each line feed.
+fn is_text(alloc: Global, text: &[u8], want: &[u8]) -> bool {
+    match lines_of(alloc, want) {
+        Some(lines) => lines.as_slice() == text,
+        None => false,
+    }
+}
+
+/// The tree of a number, one digit.
+fn tree_at(number: &[u8]) -> Option<&'static [u8]> {
+    let digit = *number.first()?;
+    TREES.lines().nth(usize::from(digit).checked_sub(48)?)
+}
+
+/// Whether what would go of a tree is what git prints.
+fn cleans(
+    alloc: Global,
+    tree: &[u8],
+    prefix: &[u8],
+    options: &[u8],
+    specs: &[u8],
+    want: &[u8],
+) -> bool {
+    match cleaned_in(alloc, tree, prefix, options, specs) {
+        Some(text) => is_text(alloc, text.as_bytes(), want),
+        None => false,
+    }
+}
+
+/// Whether a row is met.
+fn is_met(alloc: Global, row: &[u8]) -> bool {
+    let (number, rest) = parted(row, b'^');
+    let (prefix, rest) = parted(rest, b'^');
+    let (options, rest) = parted(rest, b'^');
+    let (specs, want) = parted(rest, b'^');
+    match tree_at(number) {
+        Some(tree) => cleans(alloc, tree, prefix, options, specs, want),
+        None => false,
+    }
+}
+
+#[test]
+fn a_cleaning_is_what_git_prints(rt: HostRuntime) {
+    for row in ROWS.lines() {
+        assert!(rt; is_met(rt.alloc(), row), "{}", row.as_bstr());
+    }
+}

@@ -1,0 +1,11 @@
+//! What would go of work trees in memory, by what git says.
+#![tactic(auto)]
+
+#[cfg(test)]
+mod answers;
+#[cfg(test)]
+mod cleanings;
+#[cfg(test)]
+mod tree;
+#[cfg(test)]
+mod words;
