@@ -25,9 +25,9 @@ chosen_by_kind : {A B : Type 0} {X Y : Option Listed} {made : Listed} (b : Bool)
 chosen_by_kind true m f g = f m
 chosen_by_kind false m f g = g m
 
-both_by_kind : {A B V N C : Type 0} (b : Bool) → MatchBool b A B → MatchBool b V N → (A → V → C) → (B → C) → C
+both_by_kind : {A B V N C : Type 0} (b : Bool) → MatchBool b A B → MatchBool b V N → (A → V → C) → (B → N → C) → C
 both_by_kind true m v f g = f m v
-both_by_kind false m v f g = g m
+both_by_kind false m v f g = g m v
 
 memory_is_no_interrupt : {r : Refusal} {C : Type 0} → r ≡ refusals.OutOfMemory → r ≡ refusals.Interrupted → C
 memory_is_no_interrupt wants is = absurd (let both : refusals.OutOfMemory ≡ refusals.Interrupted = sym wants ∙ is in cc)
@@ -44,19 +44,19 @@ module _ {W I : Type 0} (w : WorktreeOf W) (i : InterruptOf I) (w0 w1 : W) (i0 i
   -- an interrupt was raised
   pub interrupt_cause : (refusal : Refusal) → Lists w i w0 w1 i0 i1 listing here (Err refusal) → refusal ≡ refusals.Interrupted → Increased (i.raised i0) (i.raised i1)
   interrupt_cause refusal a is =
-      by_kind listing.others a (λ walked. calls.text-interrupted w i w0 w1 i0 i1 here.root (setup_for listing here) 0 refusal walked.refused is)
+      by_kind listing.others a (λ walked. calls.text-interrupted w i w0 w1 i0 i1 here.root here.setup (setup_for listing here) 0 refusal walked.refused is)
       (λ index. memory_is_no_interrupt index.refused is)
 
   -- for what can be had only memory may be wanted
   pub complete : (refusal : Refusal) → Lists w i w0 w1 i0 i1 listing here (Err refusal) → (t : Names) → w.told w0 ≡ Some t → NotIncreased (w.faults w0) (w.faults w1) → NotIncreased (i.raised i0) (i.raised i1)
       → IsListable (w.precomposes w0) t here listing → refusal ≡ refusals.OutOfMemory
   complete refusal a t told quiet calm ready =
-      both_by_kind listing.others a ready (λ walked valid. calls.text-complete w i w0 w1 i0 i1 here.root (setup_for listing here) 0 refusal walked.refused t told quiet calm valid)
-      (λ index. index.refused)
+      both_by_kind listing.others a ready (λ walked valid. calls.text-complete w i w0 w1 i0 i1 here.root here.setup (setup_for listing here) 0 refusal walked.refused t told quiet calm valid)
+      (λ index nothing. index.refused)
 
   -- what is refused over a tree, but for an interrupt
   pub refused : (refusal : Refusal) → Lists w i w0 w1 i0 i1 listing here (Err refusal) → (t : Names) → w.told w0 ≡ Some t → NotIncreased (w.faults w0) (w.faults w1) → program_status refusal ≡ 128
       → (refusal ≡ refusals.OutOfMemory) ⊎ RefusesReport (w.precomposes w0) t here.root (setup_for listing here) refusal
   refused refusal a t told quiet is =
-      by_kind listing.others a (λ walked. calls.text-refused w i w0 w1 i0 i1 here.root (setup_for listing here) 0 refusal walked.refused t told quiet is)
+      by_kind listing.others a (λ walked. calls.text-refused w i w0 w1 i0 i1 here.root here.setup (setup_for listing here) 0 refusal walked.refused t told quiet is)
       (λ index. inl index.refused)

@@ -1,5 +1,5 @@
 -- What the program gives, and why it gives nothing, over a tree and the owners of its nodes.
-use Rattle.std.specs.Prelude.{◌≡◌, ◌⊎◌, ℕ, List, Bool, true, Option, Result, Ok, Err}
+use Rattle.std.specs.Prelude.{◌≡◌, ◌⊎◌, ℕ, List, Bool, true, Option, Some, Result, Ok, Err}
 use Rattle.command_line.specs.Requests.{Command, asks, request_in}
 use Rattle.command_line.specs.declared.command.Request.{Request}
 use Rattle.git_setup.specs.declared.found.Found.{Found}
