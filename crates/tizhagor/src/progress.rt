@@ -1,5 +1,7 @@
 //! How far a walk is, on a terminal.
-ghost use Rattle.std.specs.Prelude.{◌≡◌, IfOk};
+ghost use Rattle.std.specs.Prelude.{◌≡◌, ◌≤◌, false, IfOk};
+ghost use Rattle.std.specs.Bool.{OnTrue, OnFalse};
+ghost use Rattle.worktree_fs.specs.Causes.{Incremented};
 
 use git_places::Variable;
 use gitbase_core::OutOfMemory;
@@ -178,7 +180,17 @@ impl<'a> Interrupt for Progress<'a> {
     ghost raised = { λ p. p.raised };
 
     /// Never says to stop. Shows how far the walk is, where that is due.
-    fn is_raised(&mut self) -> bool {
+    fn is_raised(&mut self) -> bool
+        // It never says to stop, and counts that it was asked and nothing else.
+        ensures never { result ≡ false }
+        ensures calm { self.new.raised ≡ self.old.raised }
+        // What any interrupt says.
+        ensures questions { Incremented self.old.questions self.new.questions }
+        ensures asked_later { self.old.questions ≤ self.new.questions }
+        ensures cause { OnTrue result (Incremented self.old.raised self.new.raised) }
+        ensures kept { OnFalse result (self.new.raised ≡ self.old.raised) }
+        ensures later { self.old.raised ≤ self.new.raised }
+    {
         self.questions = self.questions.saturating_add(1);
         self.line.count(self.rt, self.rt.alloc());
         false
