@@ -42,7 +42,7 @@ fn answered(rt: &HostRuntime, alloc: Global, given: &Handed) -> Result<u8, NotGi
     let mut progress = Progress::new(rt, alloc, &given.variables)?;
     let mut out = progress.out()?;
     let mut err = progress.err()?;
-    Ok(answer_here(
+    let status = answer_here(
         alloc,
         &given.words,
         given.current.as_bytes(),
@@ -53,7 +53,9 @@ fn answered(rt: &HostRuntime, alloc: Global, given: &Handed) -> Result<u8, NotGi
         &mut progress,
         &mut out,
         &mut err,
-    ))
+    );
+    progress.wipe();
+    Ok(status)
 }
 
 /// The status of the program, over what the system hands to it.

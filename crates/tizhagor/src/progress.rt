@@ -172,6 +172,11 @@ impl<'a> Progress<'a> {
             sink: StdSink::err(self.rt),
         })
     }
+
+    /// Wipes the line where it stands: behind a walk of which nothing is written.
+    pub fn wipe(&self) {
+        self.line.wipe(self.rt);
+    }
 }
 
 impl<'a> Interrupt for Progress<'a> {
