@@ -28,7 +28,7 @@ use Rattle.clean_plan.specs.declared.error.CleanError.{CleanError}
 use Rattle.clean_plan.specs.declared.error.CleanError.TheVariants as errors
 use Rattle.clean_plan.specs.declared.outcome.Plan.{Plan}
 use Rattle.clean_plan.specs.declared.what.Finding.{Finding}
-use Rattle.clean_plan.specs.declared.what.What.{What}
+use Rattle.clean_plan.specs.declared.what.Wanted.{Wanted}
 use Rattle.clean_plan.specs.Plans.{IsPlan, entries_of}
 use Rattle.clean_plan.specs.Planned.{AsksAfter, IsPlanBy, MakesPlan, asked_of}
 use Rattle.clean_plan.specs.Prepared.{is_matching, is_matching_if, is_prepared, is_unfolded}
@@ -104,9 +104,9 @@ memory-alone Failed (errors.Report r) f h = absurd h
 memory-alone Failed errors.Fault f h = absurd (f h)
 memory-alone Failed errors.OutOfMemory f h = refl
 
-module _ {W F I : Type 0} (w : WorktreeOf W) (f : FindOf F) (i : InterruptOf I) (w0 wm w1 : W) (o0 o1 : F) (i0 i1 : I) (root : List ℕ) (setup : Setup) (what : What) where
+module _ {W F I : Type 0} (w : WorktreeOf W) (f : FindOf F) (i : InterruptOf I) (w0 wm w1 : W) (o0 o1 : F) (i0 i1 : I) (root : List ℕ) (setup : Setup) (wanted : Wanted) where
   -- there is no report
-  pub plan-refused : (e : ReportError) → MakesReport w f i w0 w1 o0 o1 i0 i1 root setup (Err e) → MakesPlan w f i w0 w1 o0 o1 i0 i1 root setup what (Err (of_report e))
+  pub plan-refused : (e : ReportError) → MakesReport w f i w0 w1 o0 o1 i0 i1 root setup (Err e) → MakesPlan w f i w0 w1 o0 o1 i0 i1 root setup wanted (Err (of_report e))
   plan-refused e made =
       record {
         gives = λ s tells quiet. tt;
@@ -135,7 +135,7 @@ module _ {W F I : Type 0} (w : WorktreeOf W) (f : FindOf F) (i : InterruptOf I) 
 
   module _ (r : Report) (made : MakesReport w f i w0 wm o0 o1 i0 i1 root setup (Ok r)) where
     -- the real path is not known, or memory was refused
-    plan-stopped : (e : CleanError) → AsksAfter w wm w1 root setup what r (Err e) → MakesPlan w f i w0 w1 o0 o1 i0 i1 root setup what (Err e)
+    plan-stopped : (e : CleanError) → AsksAfter w wm w1 root setup wanted r (Err e) → MakesPlan w f i w0 w1 o0 o1 i0 i1 root setup wanted (Err e)
     plan-stopped e after =
         record {
           gives = λ s tells quiet. tt;
@@ -152,23 +152,23 @@ module _ {W F I : Type 0} (w : WorktreeOf W) (f : FindOf F) (i : InterruptOf I) 
         }
 
     -- there is a plan
-    plan-made : (finding : Finding) → is_prepared finding setup.options ≡ true → (plan : Plan) → AsksAfter w wm w1 root setup what r (Ok plan) → MakesPlan w f i w0 w1 o0 o1 i0 i1 root setup what (Ok plan)
+    plan-made : (finding : Finding) → is_prepared finding setup.options ≡ true → (plan : Plan) → AsksAfter w wm w1 root setup wanted r (Ok plan) → MakesPlan w f i w0 w1 o0 o1 i0 i1 root setup wanted (Ok plan)
     plan-made finding prepared plan after =
-        let by : IsPlanBy (w.told wm) root setup what r plan = after.by_report in
+        let by : IsPlanBy (w.told wm) root setup wanted r plan = after.by_report in
         let asks : Asks w wm w1 = after.asks in
-        let in_tree : (t : Names) → w.told wm ≡ Some t → IsPlan (asked_of what t root setup r) (entries_of r.entries) plan.paths.items =
-        λ t told. subst (λ (c : Option (List ℕ)). IsPlan (asked_in what setup (start_of root r.root) c) (entries_of r.entries) plan.paths.items) (by.current_is t told) by.plan_is in
+        let in_tree : (t : Names) → w.told wm ≡ Some t → IsPlan (asked_of wanted t root setup r) (entries_of r.entries) plan.paths.items =
+        λ t told. subst (λ (c : Option (List ℕ)). IsPlan (asked_in wanted setup (start_of root r.root) c) (entries_of r.entries) plan.paths.items) (by.current_is t told) by.plan_is in
         record {
           gives = λ s tells quiet.
               let of : IsReportOf (w.precomposes w0) s root setup r = made.gives s tells (omega (arith, quiet, asks.faults)) in
-              let plan_is : IsPlan (asked_of what s.tree root setup r) (entries_of r.entries) plan.paths.items = in_tree s.tree (made.worktree.tree ∙ tells.tree_is) in
+              let plan_is : IsPlan (asked_of wanted s.tree root setup r) (entries_of r.entries) plan.paths.items = in_tree s.tree (made.worktree.tree ∙ tells.tree_is) in
               let flat : AreFlat (entries_of r.entries) = report-flat (w.precomposes w0) s root setup r of finding prepared in
               record {
                 report = r;
                 report_is = report-is (w.precomposes w0) s root setup r of;
                 plan_is = plan_is;
-                apart = plan-apart (asked_of what s.tree root setup r) (entries_of r.entries) flat plan.paths.items plan_is;
-                safe = plan-safe (asked_of what s.tree root setup r) (entries_of r.entries) flat plan.paths.items plan_is;
+                apart = plan-apart (asked_of wanted s.tree root setup r) (entries_of r.entries) flat plan.paths.items plan_is;
+                safe = plan-safe (asked_of wanted s.tree root setup r) (entries_of r.entries) flat plan.paths.items plan_is;
               };
           made = Ok r;
           between = wm;
@@ -183,6 +183,6 @@ module _ {W F I : Type 0} (w : WorktreeOf W) (f : FindOf F) (i : InterruptOf I) 
         }
 
     -- there is a report, and it is planned by it
-    pub plan-by : (finding : Finding) → is_prepared finding setup.options ≡ true → (result : Result Plan CleanError) → AsksAfter w wm w1 root setup what r result → MakesPlan w f i w0 w1 o0 o1 i0 i1 root setup what result
+    pub plan-by : (finding : Finding) → is_prepared finding setup.options ≡ true → (result : Result Plan CleanError) → AsksAfter w wm w1 root setup wanted r result → MakesPlan w f i w0 w1 o0 o1 i0 i1 root setup wanted result
     plan-by finding prepared (Ok plan) after = plan-made finding prepared plan after
     plan-by finding prepared (Err e) after = plan-stopped e after

@@ -12,10 +12,11 @@ use Rattle.clean_plan.specs.declared.sift.Sifted.{Sifted}
 use Rattle.clean_plan.specs.Above.{IsTarget, some_above}
 use Rattle.clean_plan.specs.Asked.{Asked}
 use Rattle.clean_plan.specs.Kept.{is_kept}
-use Rattle.clean_plan.specs.Paths.{Ascends, is_among, text_of, texts_of}
-use Rattle.clean_plan.specs.Plans.{IsPlan, is_planned, path_of, removable_paths}
+use Rattle.clean_plan.specs.Paths.{Ascends, is_among, is_none_of, text_of, texts_of, without}
+use Rattle.clean_plan.specs.Plans.{IsPlan, is_planned, may_be_planned, path_of, removable_paths}
 use Rattle.clean_plan.specs.Removable.{is_removable}
 use Rattle.clean_plan.specs.Sifted.{AreSpoiled, IsSifted}
+use Rattle.clean_plan.specs.Staying.{AreStaying, is_staying}
 use Rattle.clean_plan.specs.Targets.{ArePlanned, HasTarget, PlannedFrom}
 use Rattle.clean_plan.specs.Whole.{is_whole, is_whole_among, lies_in, spoils}
 use Rattle.clean_plan.proofs.Directories.{above-longer, above-same, above-then, and_both, none-above, none-front}
@@ -229,7 +230,7 @@ module _ (asked : Asked) (entries : List Entry) (spoiled targets : List (List �
   target-of : (e : Entry) (target : List ℕ) → IsIn e entries → IsTarget (is_whole_among asked spoiled) e.rela_path target → IsTarget whole e.rela_path target
   target-of e target here is = target-whole asked entries spoiled are e target here is
 
-  planned-is : (path : List ℕ) → is_among path targets ≡ true → is_planned asked entries path ≡ true
+  planned-is : (path : List ℕ) → is_among path targets ≡ true → may_be_planned asked entries path ≡ true
   planned-is path there =
       let from : PlannedFrom (is_whole_among asked spoiled) (removable_paths asked entries) path = so.from path there in
       let at : RemovableAt asked entries from.path = removable-at asked entries from.path from.is_done in
@@ -249,7 +250,7 @@ module _ (asked : Asked) (entries : List Entry) (spoiled targets : List (List �
       go at (inl same) = inr (ap (λ (p : List ℕ). is_among p (removable_paths asked entries)) same ∙ among-removable asked entries at.entry at.is_in at.may)
       go at (inr h) = inl h.1
 
-  planned-there : (path : List ℕ) → is_planned asked entries path ≡ true → is_among path targets ≡ true
+  planned-there : (path : List ℕ) → may_be_planned asked entries path ≡ true → is_among path targets ≡ true
   planned-there path planned = go (or_cases (whole path) (is_among path (removable_paths asked entries)) both.0)
     where
       both : ((whole path || is_among path (removable_paths asked entries)) ≡ true) × (not (some_above whole path) ≡ true)
@@ -280,11 +281,11 @@ module _ (asked : Asked) (entries : List Entry) (spoiled targets : List (List �
           by t (inl same) = same
           by t (inr h) = absurd (true≢false (sym h.1 ∙ none-above whole path t none h.0))
 
-  -- The paths that are planned for the entries are the plan.
-  pub planned-same : (path : List ℕ) → is_among path targets ≡ is_planned asked entries path
-  planned-same path = go (is_among path targets) (is_planned asked entries path) refl refl
+  -- The paths that are planned for the entries are those that may be planned.
+  pub planned-same : (path : List ℕ) → is_among path targets ≡ may_be_planned asked entries path
+  planned-same path = go (is_among path targets) (may_be_planned asked entries path) refl refl
     where
-      go : (a b : Bool) → is_among path targets ≡ a → is_planned asked entries path ≡ b → a ≡ b
+      go : (a b : Bool) → is_among path targets ≡ a → may_be_planned asked entries path ≡ b → a ≡ b
       go true true e f = refl
       go false false e f = refl
       go true false e f = absurd (true≢false (sym (planned-is path e) ∙ f))
@@ -299,14 +300,31 @@ next-target test removable at d targets now target short so is grown =
     (sym (ap texts_of (take_more removable at d short) ∙ map-append text_of (take at removable) (get_or removable at d ∷ [])))
     (planned-more test (texts_of (take at removable)) targets now (get_or removable at d).now target so is grown)
 
--- and in their order they are the plan
-pub plan-texts : (asked : Asked) (entries : List Entry) (sifted : Sifted) (removable : List (Bor (List ℕ))) (targets : List (List ℕ)) → IsSifted asked entries sifted → removable ≡ sifted.removable.items
-    → ArePlanned (is_whole_among asked sifted.spoiled) (texts_of removable) targets
-    → {T E : Type 0} (items : T → List (List ℕ)) (result : Result T E) → IfOk result (λ t. items t ≡ targets) → IfOk result (λ t. Ascends (items t)) → IfOk result (λ t. IsPlan asked entries (items t))
-plan-texts asked entries sifted removable targets is same so items (Ok t) texts ascends =
+-- a path is among some without others where it is one of these and none of those
+among-without : (others paths : List (List ℕ)) (path : List ℕ) → is_among path (without others paths) ≡ (is_among path paths && is_none_of others path)
+among-without others [] path = refl
+among-without others (x ∷ paths) path = go (bytes_eq path x) (is_none_of others x) refl refl (among-without others paths path)
+  where
+    go : (same left : Bool) → bytes_eq path x ≡ same → is_none_of others x ≡ left → is_among path (without others paths) ≡ (is_among path paths && is_none_of others path)
+        → is_among path (cond left (x ∷ without others paths) (without others paths)) ≡ ((same || is_among path paths) && is_none_of others path)
+    go true true e f more = rw e (sym f ∙ ap (is_none_of others) (sym (same-from_eq path x e)))
+    go true false e f more = more ∙ none (is_among path paths) (ap (is_none_of others) (same-from_eq path x e) ∙ f)
+      where
+        none : (b : Bool) → is_none_of others path ≡ false → (b && is_none_of others path) ≡ is_none_of others path
+        none true h = refl
+        none false h = sym h
+    go false true e f more = rw e more
+    go false false e f more = more
+
+-- and in their order, without those at which a node stays, they are the plan
+pub plan-texts : (asked : Asked) (entries : List Entry) (sifted : Sifted) (removable : List (Bor (List ℕ))) (targets staying : List (List ℕ)) → IsSifted asked entries sifted → removable ≡ sifted.removable.items
+    → ArePlanned (is_whole_among asked sifted.spoiled) (texts_of removable) targets → AreStaying asked.others entries staying
+    → {T E : Type 0} (items : T → List (List ℕ)) (result : Result T E) → IfOk result (λ t. items t ≡ without staying targets) → IfOk result (λ t. Ascends (items t)) → IfOk result (λ t. IsPlan asked entries (items t))
+plan-texts asked entries sifted removable targets staying is same so stay items (Ok t) texts ascends =
     record {
       ascends = ascends;
-      are = λ path. ap (is_among path) texts ∙ planned-same asked entries sifted.spoiled targets is.spoiled_are
-          (subst (λ (paths : List (List ℕ)). ArePlanned (is_whole_among asked sifted.spoiled) paths targets) (ap texts_of same ∙ is.paths_are) so) path;
+      are = λ path. ap (is_among path) texts ∙ among-without staying targets path ∙ ap (λ (b : Bool). is_among path targets && not b) (stay path)
+          ∙ ap (λ (b : Bool). b && not (is_staying asked.others entries path)) (planned-same asked entries sifted.spoiled targets is.spoiled_are
+          (subst (λ (paths : List (List ℕ)). ArePlanned (is_whole_among asked sifted.spoiled) paths targets) (ap texts_of same ∙ is.paths_are) so) path);
     }
-plan-texts asked entries sifted removable targets is same so items (Err e) texts ascends = tt
+plan-texts asked entries sifted removable targets staying is same so stay items (Err e) texts ascends = tt

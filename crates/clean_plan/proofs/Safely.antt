@@ -18,8 +18,9 @@ use Rattle.clean_plan.specs.Above.{IsTarget, fronts, some_above, some_front}
 use Rattle.clean_plan.specs.Asked.{Asked}
 use Rattle.clean_plan.specs.Kept.{has_dot_git, holds_current, is_indexed, is_kept}
 use Rattle.clean_plan.specs.Paths.{is_among}
-use Rattle.clean_plan.specs.Plans.{IsPlan, is_planned, removable_paths}
+use Rattle.clean_plan.specs.Plans.{IsPlan, is_planned, may_be_planned, removable_paths}
 use Rattle.clean_plan.specs.Removable.{is_plain, is_removable, is_taken, may_go}
+use Rattle.clean_plan.specs.Staying.{is_staying, stays, stays_at}
 use Rattle.clean_plan.specs.Safe.{AreApart, AreSafe, AreSpared, IsCovered, IsSafe, IsSpared, must_stay}
 use Rattle.clean_plan.specs.Whole.{is_whole, lies_in}
 use Rattle.clean_plan.proofs.Directories.{above-then, and_both, none-above}
@@ -83,7 +84,8 @@ or_cases false b h = inr h
 
 pub planned-which : (asked : Asked) (entries : List Entry) (path : List ℕ) → is_planned asked entries path ≡ true → Planned asked entries path
 planned-which asked entries path h =
-    let both = and_both (is_whole asked entries path || is_among path (removable_paths asked entries)) (not (some_above (is_whole asked entries) path)) h in
+    let may = and_both (may_be_planned asked entries path) (not (is_staying asked.others entries path)) h in
+    let both = and_both (is_whole asked entries path || is_among path (removable_paths asked entries)) (not (some_above (is_whole asked entries) path)) may.0 in
     record {
       which = go (or_cases (is_whole asked entries path) (is_among path (removable_paths asked entries)) both.0);
       none_above = not_true (some_above (is_whole asked entries) path) both.1;
@@ -188,25 +190,36 @@ module _ (asked : Asked) (entries : List Entry) (flat : AreFlat entries) where
         go (inl e) = e
         go (inr e) = absurd (true≢false (sym above ∙ ap (λ (p : List ℕ). lies_beneath p at.rela_path) e.path_is ∙ flat.none_beneath e.entry at e.is_in here))
 
-    covered : (at : Entry) → IsIn at entries → is_among at.rela_path (removable_paths asked entries) ≡ true → IsCovered paths at.rela_path
-    covered at here among = go (some_above whole at.rela_path) refl
+    -- no node stays where an entry lies beneath
+    none-staying : (at : Entry) (d : List ℕ) → IsIn at entries → lies_beneath d at.rela_path ≡ true → is_staying asked.others entries d ≡ false
+    none-staying at d here above = none-any (stays_at asked.others d) entries (λ e there. by (stays asked.others e.disk_kind) (bytes_eq d e.rela_path)
+        (λ same. absurd (true≢false (sym above ∙ ap (λ (p : List ℕ). lies_beneath p at.rela_path) (same_text d e.rela_path (sym same)) ∙ flat.none_beneath e at there here))))
+      where
+        by : (a b : Bool) → (b ≡ true → b ≡ false) → (a && b) ≡ false
+        by true true f = f refl
+        by true false f = refl
+        by false b f = refl
+
+    covered : (at : Entry) → IsIn at entries → is_among at.rela_path (removable_paths asked entries) ≡ true → is_staying asked.others entries at.rela_path ≡ false → IsCovered paths at.rela_path
+    covered at here among gone = go (some_above whole at.rela_path) refl
       where
         path : List ℕ
         path = at.rela_path
 
-        pick : (a b k : Bool) → ((a ≡ true) ⊎ (b ≡ true)) → k ≡ false → ((a || b) && not k) ≡ true
-        pick true b false e h = refl
-        pick false true false e h = refl
-        pick false false k (inl e) h = absurd (cc e)
-        pick false false k (inr e) h = absurd (cc e)
-        pick a b true e h = absurd (cc h)
+        pick : (a b k s : Bool) → ((a ≡ true) ⊎ (b ≡ true)) → k ≡ false → s ≡ false → (((a || b) && not k) && not s) ≡ true
+        pick true b false false e h f = refl
+        pick false true false false e h f = refl
+        pick false false k s (inl e) h f = absurd (cc e)
+        pick false false k s (inr e) h f = absurd (cc e)
+        pick a b true s e h f = absurd (cc h)
+        pick a b k true e h f = absurd (cc f)
 
         go : (b : Bool) → some_above whole at.rela_path ≡ b → IsCovered paths at.rela_path
         go true e =
             let first : FirstAbove at.rela_path = first-above (length at.rela_path) at.rela_path (omega arith) e in
             record {
               over = first.target;
-              is_planned = plan.are first.target ∙ pick (whole first.target) (is_among first.target (removable_paths asked entries)) (some_above whole first.target) (inl first.passes) first.is_target.none_above;
+              is_planned = plan.are first.target ∙ pick (whole first.target) (is_among first.target (removable_paths asked entries)) (some_above whole first.target) (is_staying asked.others entries first.target) (inl first.passes) first.is_target.none_above (none-staying at first.target here first.is_above);
               covers = prefix-beneath first.target at.rela_path first.is_above;
               only = λ other h over. by first other h (prefix-cases other at.rela_path over);
             }
@@ -220,7 +233,7 @@ module _ (asked : Asked) (entries : List Entry) (flat : AreFlat entries) where
         go false e =
             record {
               over = at.rela_path;
-              is_planned = plan.are at.rela_path ∙ pick (whole at.rela_path) (is_among at.rela_path (removable_paths asked entries)) (some_above whole at.rela_path) (inr among) e;
+              is_planned = plan.are at.rela_path ∙ pick (whole at.rela_path) (is_among at.rela_path (removable_paths asked entries)) (some_above whole at.rela_path) (is_staying asked.others entries at.rela_path) (inr among) e gone;
               covers = prefix-self at.rela_path;
               only = λ other h over. by other h (prefix-cases other at.rela_path over);
             }
@@ -249,11 +262,13 @@ module _ (asked : Asked) (entries : List Entry) (flat : AreFlat entries) where
     plan-safe =
         record {
           each = λ path h. planned-safe path (sym (plan.are path) ∙ h);
-          covers = λ path h. by path h (removable-at asked entries path h);
+          covers = λ path h gone. by path h gone (removable-at asked entries path h);
         }
       where
-        by : (path : List ℕ) → is_among path (removable_paths asked entries) ≡ true → RemovableAt asked entries path → IsCovered paths path
-        by path h at = subst (IsCovered paths) (sym at.path_is) (covered at.entry at.is_in (ap (λ (p : List ℕ). is_among p (removable_paths asked entries)) (sym at.path_is) ∙ h))
+        by : (path : List ℕ) → is_among path (removable_paths asked entries) ≡ true → is_staying asked.others entries path ≡ false → RemovableAt asked entries path → IsCovered paths path
+        by path h gone at =
+            subst (IsCovered paths) (sym at.path_is)
+            (covered at.entry at.is_in (ap (λ (p : List ℕ). is_among p (removable_paths asked entries)) (sym at.path_is) ∙ h) (ap (is_staying asked.others entries) (sym at.path_is) ∙ gone))
 
 -- Over any report a plan spares what the index has.
 pub plan-spared : (asked : Asked) (entries : List Entry) (paths : List (List ℕ)) → IsPlan asked entries paths → AreSpared asked.fold asked.index paths

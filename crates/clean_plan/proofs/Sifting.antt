@@ -13,6 +13,8 @@ use Rattle.clean_plan.specs.Kept.{takes_out}
 use Rattle.clean_plan.specs.Paths.{is_among}
 use Rattle.clean_plan.specs.Plans.{entries_of, entry_of, path_of, removable_paths}
 use Rattle.clean_plan.specs.Removable.{is_removable}
+use Rattle.clean_plan.specs.declared.what.OtherNodes.{OtherNodes}
+use Rattle.clean_plan.specs.Staying.{AreStaying, is_staying, stays_at}
 use Rattle.clean_plan.specs.Sifted.{AreSifted, IsLooked, with_path}
 use Rattle.clean_plan.specs.Whole.{is_taken_out, spoils}
 use Rattle.clean_plan.proofs.Directories.{above-shorter}
@@ -139,10 +141,21 @@ sifted-more asked entries e paths spoiled more now so removable spoils_now =
     }
 
 -- of the entries of a report, one more
+one-more : (entries : List ReportEntry) (at : ℕ) (e : ReportEntry) → at < length entries → e ≡ get_or entries at e
+    → entries_of (take (at + 1) entries) ≡ entries_of (take at entries) ++ entry_of e ∷ []
+one-more entries at e short is =
+    ap entries_of (take_more entries at e short) ∙ map-append entry_of (take at entries) (get_or entries at e ∷ []) ∙ ap (λ (x : ReportEntry). entries_of (take at entries) ++ entry_of x ∷ []) (sym is)
+
 pub sifted-next : (asked : Asked) (entries : List ReportEntry) (at : ℕ) (e : ReportEntry) (paths spoiled more now : List (List ℕ)) → at < length entries
     → e ≡ get_or entries at e → AreSifted asked (entries_of (take at entries)) paths spoiled → more ≡ with_path asked (entry_of e) paths
     → ((x : List ℕ) → is_among x now ≡ (spoils asked x (entry_of e) || is_among x spoiled)) → AreSifted asked (entries_of (take (at + 1) entries)) more now
 sifted-next asked entries at e paths spoiled more now short is so removable spoils_now =
-    subst (λ (es : List Entry). AreSifted asked es more now)
-    (sym (ap entries_of (take_more entries at e short) ∙ map-append entry_of (take at entries) (get_or entries at e ∷ []) ∙ ap (λ (x : ReportEntry). entries_of (take at entries) ++ entry_of x ∷ []) (sym is)))
+    subst (λ (es : List Entry). AreSifted asked es more now) (sym (one-more entries at e short is))
     (sifted-more asked (entries_of (take at entries)) (entry_of e) paths spoiled more now so removable spoils_now)
+
+pub staying-next : (others : OtherNodes) (entries : List ReportEntry) (at : ℕ) (e : ReportEntry) (paths now : List (List ℕ)) → at < length entries → e ≡ get_or entries at e
+    → AreStaying others (entries_of (take at entries)) paths → ((x : List ℕ) → is_among x now ≡ (stays_at others x (entry_of e) || is_among x paths))
+    → AreStaying others (entries_of (take (at + 1) entries)) now
+staying-next others entries at e paths now short is so stays_now = λ x.
+    stays_now x ∙ ap (λ (b : Bool). stays_at others x (entry_of e) || b) (so x) ∙ sym (any-more (stays_at others x) (entries_of (take at entries)) (entry_of e))
+    ∙ ap (λ (es : List Entry). is_staying others es x) (sym (one-more entries at e short is))

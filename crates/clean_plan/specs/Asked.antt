@@ -3,11 +3,14 @@ use Rattle.std.specs.Prelude.{ℕ, List, Bool, Option, is_some}
 use Rattle.gitbase_core.specs.declared.entry.IndexEntry.{IndexEntry}
 use Rattle.glob_rules.specs.PathSpec.{PathSpec}
 use Rattle.clean_plan.specs.declared.cleaning.Cleaning.{Cleaning}
+use Rattle.clean_plan.specs.declared.what.OtherNodes.{OtherNodes}
 use Rattle.clean_plan.specs.declared.what.What.{What}
 
 pub record Asked : Type 0 where
   -- which paths may go
   pub what : What
+  -- what becomes of nodes that are no files, links or directories
+  pub others : OtherNodes
   -- letters fold in paths of the index
   pub fold : Bool
   pub index : List IndexEntry
@@ -23,6 +26,7 @@ abbrev pub asked_by : Cleaning → Asked
 asked_by cleaning =
     record {
       what = cleaning.what;
+      others = cleaning.others;
       fold = is_some cleaning.lookup.now;
       index = cleaning.index.now;
       specs = cleaning.specs.now;

@@ -1,4 +1,6 @@
 pub mod Paths
+pub mod Wanted
+pub mod Staying
 pub mod Above
 pub mod Asked
 pub mod Kept

@@ -19,7 +19,7 @@ use Rattle.worktree_report.specs.Reported.{MakesReport}
 use Rattle.clean_plan.specs.declared.error.CleanError.{CleanError}
 use Rattle.clean_plan.specs.declared.error.CleanError.TheVariants as errors
 use Rattle.clean_plan.specs.declared.outcome.Plan.{Plan}
-use Rattle.clean_plan.specs.declared.what.What.{What}
+use Rattle.clean_plan.specs.declared.what.Wanted.{Wanted}
 use Rattle.clean_plan.specs.Asked.{Asked}
 use Rattle.clean_plan.specs.Plans.{IsPlan, entries_of, removable_paths}
 use Rattle.clean_plan.specs.Refusals.{StopsAsking, UnlessFault, of_report}
@@ -27,34 +27,34 @@ use Rattle.clean_plan.specs.Safe.{AreApart, AreSafe, AreSpared}
 use Rattle.clean_plan.specs.Setups.{asked_in, start_of}
 
 -- what is asked for over a tree, by a report of the work tree at `root`
-abbrev pub asked_of : What → Names → List ℕ → Setup → Report → Asked
-asked_of what t root setup report =
-    asked_in what setup (start_of root report.root) (current_below t root (current_dir_or root setup.current_dir))
+abbrev pub asked_of : Wanted → Names → List ℕ → Setup → Report → Asked
+asked_of wanted t root setup report =
+    asked_in wanted setup (start_of root report.root) (current_below t root (current_dir_or root setup.current_dir))
 
 -- This is the plan over a tree: by the entries of the report of the work tree at `root`; and it is safe to act on.
-pub record IsPlanAt (composes : Bool) (s : Sources) (root : List ℕ) (setup : Setup) (what : What) (plan : Plan) : Type 0 where
+pub record IsPlanAt (composes : Bool) (s : Sources) (root : List ℕ) (setup : Setup) (wanted : Wanted) (plan : Plan) : Type 0 where
   pub report : Report
   pub report_is : report_of composes s root setup ≡ Some report
-  pub plan_is : IsPlan (asked_of what s.tree root setup report) (entries_of report.entries) plan.paths.items
+  pub plan_is : IsPlan (asked_of wanted s.tree root setup report) (entries_of report.entries) plan.paths.items
   pub apart : AreApart plan.paths.items
-  pub safe : AreSafe (asked_of what s.tree root setup report) (entries_of report.entries) plan.paths.items
-      (removable_paths (asked_of what s.tree root setup report) (entries_of report.entries))
+  pub safe : AreSafe (asked_of wanted s.tree root setup report) (entries_of report.entries) plan.paths.items
+      (removable_paths (asked_of wanted s.tree root setup report) (entries_of report.entries))
 
 -- Whatever a worktree tells, it is the plan by the entries of a report of the work tree at `root`; where it tells its tree, it is that by
 -- where the current directory is there.
-pub record IsPlanBy (told : Option Names) (root : List ℕ) (setup : Setup) (what : What) (report : Report) (plan : Plan) : Type 0 where
+pub record IsPlanBy (told : Option Names) (root : List ℕ) (setup : Setup) (wanted : Wanted) (report : Report) (plan : Plan) : Type 0 where
   pub current : Option (List ℕ)
   pub current_is : (t : Names) → told ≡ Some t → current ≡ current_below t root (current_dir_or root setup.current_dir)
-  pub plan_is : IsPlan (asked_in what setup (start_of root report.root) current) (entries_of report.entries) plan.paths.items
+  pub plan_is : IsPlan (asked_in wanted setup (start_of root report.root) current) (entries_of report.entries) plan.paths.items
 
 -- The plan by a report that is made, where a worktree was `w0` and is `w1`.
 pub record AsksAfter {W : Type 0} (w : WorktreeOf W) (w0 w1 : W)
-    (root : List ℕ) (setup : Setup) (what : What) (report : Report) (result : Result Plan CleanError) : Type 0 where
+    (root : List ℕ) (setup : Setup) (wanted : Wanted) (report : Report) (result : Result Plan CleanError) : Type 0 where
   -- Nothing is listed, and no file is read.
   pub asks : Asks w w0 w1
   pub reads : w.reads w1 ≡ w.reads w0
   -- A plan is the one by the entries of that report, whatever failed.
-  pub by_report : IfOk result (IsPlanBy (w.told w0) root setup what report)
+  pub by_report : IfOk result (IsPlanBy (w.told w0) root setup wanted report)
   -- Over any worktree and by any report the paths ascend strictly, and none has an index entry at it or beneath it.
   pub spares : IfOk result (λ plan. AreSpared setup.options.ignore_case setup.index plan.paths.items)
   -- A fault comes only where the worktree counted one, and no other answer hides one.
@@ -63,22 +63,22 @@ pub record AsksAfter {W : Type 0} (w : WorktreeOf W) (w0 w1 : W)
 
 -- After a report was made, or refused, which left the worktree as `between`: a refusal of the report is that of the plan, and nothing was
 -- asked after it; else it is planned by that report.
-abbrev pub EndsAs : {W : Type 0} → WorktreeOf W → W → W → List ℕ → Setup → What → Result Report ReportError → Result Plan CleanError → Type 0
-EndsAs w between w1 root setup what (Ok r) result = AsksAfter w between w1 root setup what r result
-EndsAs w between w1 root setup what (Err e) result = (result ≡ Err (of_report e)) × (w1 ≡ between)
+abbrev pub EndsAs : {W : Type 0} → WorktreeOf W → W → W → List ℕ → Setup → Wanted → Result Report ReportError → Result Plan CleanError → Type 0
+EndsAs w between w1 root setup wanted (Ok r) result = AsksAfter w between w1 root setup wanted r result
+EndsAs w between w1 root setup wanted (Err e) result = (result ≡ Err (of_report e)) × (w1 ≡ between)
 
 -- The plan for the work tree at `root`, where a worktree was `w0` and is `w1`, a store was `o0` and is `o1`, and an interrupt was
 -- `i0` and is `i1`.
 pub record MakesPlan {W F I : Type 0} (w : WorktreeOf W) (f : FindOf F) (i : InterruptOf I) (w0 w1 : W) (o0 o1 : F) (i0 i1 : I)
-    (root : List ℕ) (setup : Setup) (what : What) (result : Result Plan CleanError) : Type 0 where
+    (root : List ℕ) (setup : Setup) (wanted : Wanted) (result : Result Plan CleanError) : Type 0 where
   -- Over a told tree and a store that tells what it holds, and without a fault, it is exactly the one that the setup asks for.
   pub gives : (s : Sources) → TellsIf (w.told w0) (f.holds o0) (excludes_of root setup) s → NotIncreased (w.faults w0) (w.faults w1)
-      → IfOk result (IsPlanAt (w.precomposes w0) s root setup what)
+      → IfOk result (IsPlanAt (w.precomposes w0) s root setup wanted)
   -- One report is made, and all that its making says holds of it; the plan comes of it.
   pub made : Result Report ReportError
   pub between : W
   pub reported : MakesReport w f i w0 between o0 o1 i0 i1 root setup made
-  pub ends : EndsAs w between w1 root setup what made result
+  pub ends : EndsAs w between w1 root setup wanted made result
   -- For valid input, and where nothing failed or was raised, only memory may be wanted.
   pub complete : (s : Sources) → TellsIf (w.told w0) (f.holds o0) (excludes_of root setup) s
       → NotIncreased (w.faults w0) (w.faults w1) → NotIncreased (f.faults o0) (f.faults o1) → NotIncreased (i.raised i0) (i.raised i1)

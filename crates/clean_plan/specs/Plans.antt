@@ -6,6 +6,7 @@ use Rattle.clean_plan.specs.Above.{some_above}
 use Rattle.clean_plan.specs.Asked.{Asked}
 use Rattle.clean_plan.specs.Paths.{Ascends, is_among}
 use Rattle.clean_plan.specs.Removable.{is_removable}
+use Rattle.clean_plan.specs.Staying.{is_staying}
 use Rattle.clean_plan.specs.Whole.{is_whole}
 
 abbrev pub entry_of : ReportEntry → Entry
@@ -22,12 +23,16 @@ path_of e = e.rela_path
 abbrev pub removable_paths : Asked → List Entry → List (List ℕ)
 removable_paths asked entries = map path_of (filter (is_removable asked) entries)
 
--- A path is planned: it is that of a directory that may go as a whole, or of an entry that may go by itself, and no directory
+-- A path may be planned: it is that of a directory that may go as a whole, or of an entry that may go by itself, and no directory
 -- above it may go as a whole.
-abbrev pub is_planned : Asked → List Entry → List ℕ → Bool
-is_planned asked entries path =
+abbrev pub may_be_planned : Asked → List Entry → List ℕ → Bool
+may_be_planned asked entries path =
     (is_whole asked entries path || is_among path (removable_paths asked entries))
     && not (some_above (is_whole asked entries) path)
+
+-- and it is planned, unless a node stays there
+abbrev pub is_planned : Asked → List Entry → List ℕ → Bool
+is_planned asked entries path = may_be_planned asked entries path && not (is_staying asked.others entries path)
 
 -- The plan: the planned paths, in strictly ascending order.
 pub record IsPlan (asked : Asked) (entries : List Entry) (paths : List (List ℕ)) : Type 0 where

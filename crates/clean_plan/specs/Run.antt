@@ -23,12 +23,13 @@ use Rattle.clean_plan.specs.declared.error.CleanError.{CleanError}
 use Rattle.clean_plan.specs.declared.error.CleanError.TheVariants as errors
 use Rattle.clean_plan.specs.declared.outcome.Plan.{Plan}
 use Rattle.clean_plan.specs.declared.what.Finding.{Finding}
-use Rattle.clean_plan.specs.declared.what.What.{What}
+use Rattle.clean_plan.specs.declared.what.Wanted.{Wanted}
 use Rattle.clean_plan.specs.Kept.{has_dot_git}
 use Rattle.clean_plan.specs.Paths.{Ascends, is_among}
 use Rattle.clean_plan.specs.Planned.{IsPlanAt, IsPlanBy}
 use Rattle.clean_plan.specs.Prepared.{prepared}
 use Rattle.clean_plan.specs.Safe.{AreSpared}
+use Rattle.clean_plan.specs.Wanted.{with_other_nodes}
 use Rattle.clean_plan.specs.Words as words
 use Rattle.clean_plan.specs.Words.{Request}
 
@@ -54,9 +55,9 @@ abbrev pub made_by : Finding → Setup → Setup
 made_by finding setup = record setup { options = prepared finding setup.options }
 
 -- it is the text of the plan for the work tree at `root`, by a setup that is prepared
-pub record IsTextIn (composes : Bool) (t : Names) (root : List ℕ) (setup : Setup) (what : What) (text : List ℕ) : Type 0 where
+pub record IsTextIn (composes : Bool) (t : Names) (root : List ℕ) (setup : Setup) (wanted : Wanted) (text : List ℕ) : Type 0 where
   pub plan : Plan
-  pub plan_is : IsPlanAt composes (read_in t setup) root setup what plan
+  pub plan_is : IsPlanAt composes (read_in t setup) root setup wanted plan
   pub text_is : text ≡ plan_text plan.paths.items
 
 -- a path is not that of the root, and has no component `.git`
@@ -73,11 +74,11 @@ pub record IsTextOutsideGit (text : List ℕ) : Type 0 where
 
 -- Whatever a worktree tells, it is the text of a plan by the entries of some report of the work tree at `root` that is in order, and by
 -- where the current directory is in its tree, if it tells one: none of its paths has an index entry at it or beneath it.
-pub record IsTextByReport (composes : Bool) (told : Option Names) (root : List ℕ) (setup : Setup) (what : What) (text : List ℕ) : Type 0 where
+pub record IsTextByReport (composes : Bool) (told : Option Names) (root : List ℕ) (setup : Setup) (wanted : Wanted) (text : List ℕ) : Type 0 where
   pub report : Report
   pub orderly : IsOrderly composes told root setup report
   pub plan : Plan
-  pub plan_is : IsPlanBy told root setup what report plan
+  pub plan_is : IsPlanBy told root setup wanted report plan
   pub spared : AreSpared setup.options.ignore_case setup.index plan.paths.items
   pub text_is : text ≡ plan_text plan.paths.items
 
@@ -85,7 +86,7 @@ pub record IsTextByReport (composes : Bool) (told : Option Names) (root : List �
 pub record IsTextByReportAt (composes : Bool) (told : Option Names) (request : Request) (text : List ℕ) : Type 0 where
   pub setup : Setup
   pub read : (t : Names) → told ≡ Some t → setup_at (look t request.places.setup true) ≡ Ok setup
-  pub text_is : IsTextByReport composes told request.places.root (made_by request.finding setup) request.what text
+  pub text_is : IsTextByReport composes told request.places.root (made_by request.finding setup) (with_other_nodes request.what) text
 
 -- what making it takes: the setup is read once, and the rest is what the report by the prepared setup takes
 pub record PlanWorks (composes : Bool) (t : Names) (questions0 questions1 reads0 reads1 : ℕ) (request : Request) : Type 0 where
@@ -93,11 +94,15 @@ pub record PlanWorks (composes : Bool) (t : Names) (questions0 questions1 reads0
   pub read : setup_at (look t request.places.setup true) ≡ Ok setup
   pub works : WorksAt composes t request.places.root (made_by request.finding setup) questions0 questions1 (next reads0) reads1
 
--- It is the text that a request asks for over the tree `t`: the setup is read, and prepared.
-pub record IsTextAt (composes : Bool) (t : Names) (request : Request) (text : List ℕ) : Type 0 where
+-- It is the text of what is wanted over the tree `t`, as a request has it: the setup is read, and prepared.
+pub record IsTextFor (composes : Bool) (t : Names) (request : Request) (wanted : Wanted) (text : List ℕ) : Type 0 where
   pub setup : Setup
   pub read : setup_at (look t request.places.setup true) ≡ Ok setup
-  pub text_is : IsTextIn composes t request.places.root (made_by request.finding setup) request.what text
+  pub text_is : IsTextIn composes t request.places.root (made_by request.finding setup) wanted text
+
+-- it is the text that the request asks for
+abbrev pub IsTextAt : Bool → Names → Request → List ℕ → Type 0
+IsTextAt composes t request text = IsTextFor composes t request (with_other_nodes request.what) text
 
 -- it is what is asked for, if something is
 abbrev pub IsOutputAt : Bool → Names → Option Request → List ℕ → Type 0
@@ -118,9 +123,9 @@ of_clean errors.OutOfMemory = refusals.OutOfMemory
 
 -- The text of the plan, or why there is none, where a worktree was `w0` and is `w1`, and an interrupt was `i0` and is `i1`. `composes`
 -- says whether the worktree composes names.
-pub record PlanTexts {W I : Type 0} (w : WorktreeOf W) (i : InterruptOf I) (composes : Bool) (w0 w1 : W) (i0 i1 : I) (root : List ℕ) (setup : Setup) (what : What) (answer : Result (List ℕ) Refusal) : Type 0 where
-  pub gives : (t : Names) → w.told w0 ≡ Some t → IfOk answer (IsTextIn composes t root setup what)
-  pub by_report : IfOk answer (IsTextByReport composes (w.told w0) root setup what)
+pub record PlanTexts {W I : Type 0} (w : WorktreeOf W) (i : InterruptOf I) (composes : Bool) (w0 w1 : W) (i0 i1 : I) (root : List ℕ) (setup : Setup) (wanted : Wanted) (answer : Result (List ℕ) Refusal) : Type 0 where
+  pub gives : (t : Names) → w.told w0 ≡ Some t → IfOk answer (IsTextIn composes t root setup wanted)
+  pub by_report : IfOk answer (IsTextByReport composes (w.told w0) root setup wanted)
   -- no fault was counted, one that the walk swallows among them
   pub unfaulted : OnOk answer (NotIncreased (w.faults w0) (w.faults w1))
   -- one report was made, and behind it no file was read
@@ -159,7 +164,7 @@ pub record AnswersClean {W I : Type 0} (w : WorktreeOf W) (i : InterruptOf I) (w
   -- It comes by the setup, which was read once and without a fault, then prepared; or as that was not read. By the setup a refusal, but for
   -- want of memory, comes as the report is made, or behind that, where no file is read.
   pub in_order : InOrder w w0 w1 i0 i1 request.places
-      (λ setup loaded. PlanTexts w i (w.precomposes w0) loaded w1 i0 i1 request.places.root (made_by request.finding setup) request.what answer) answer
+      (λ setup loaded. PlanTexts w i (w.precomposes w0) loaded w1 i0 i1 request.places.root (made_by request.finding setup) (with_other_nodes request.what) answer) answer
   pub keeps : Keeps w i w0 w1 i0 i1 answer
 
 -- the text that is asked for, or why there is none

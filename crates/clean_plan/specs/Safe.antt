@@ -10,6 +10,7 @@ use Rattle.dir_walk.specs.Fold.{is_precious, is_pruned}
 use Rattle.clean_plan.specs.Asked.{Asked}
 use Rattle.clean_plan.specs.Kept.{has_dot_git, holds_current, is_indexed}
 use Rattle.clean_plan.specs.Paths.{Ascends, is_among}
+use Rattle.clean_plan.specs.Staying.{is_staying}
 
 -- an entry that no plan may take: it is pruned, precious, tracked or a repository
 abbrev pub must_stay : Entry → Bool
@@ -47,10 +48,10 @@ pub record IsCovered (paths : List (List ℕ)) (path : List ℕ) : Type 0 where
   pub covers : is_path_prefix over path ≡ true
   pub only : (other : List ℕ) → is_among other paths ≡ true → is_path_prefix other path ≡ true → other ≡ over
 
--- each planned path is safe, and each entry that may go lies at or beneath exactly one
+-- each planned path is safe, and each entry that may go lies at or beneath exactly one, unless its node stays
 pub record AreSafe (asked : Asked) (entries : List Entry) (paths removable : List (List ℕ)) : Type 0 where
   pub each : (path : List ℕ) → is_among path paths ≡ true → IsSafe asked entries path
-  pub covers : (path : List ℕ) → is_among path removable ≡ true → IsCovered paths path
+  pub covers : (path : List ℕ) → is_among path removable ≡ true → is_staying asked.others entries path ≡ false → IsCovered paths path
 
 -- no planned path lies beneath another
 abbrev pub AreApart : List (List ℕ) → Type 0

@@ -2,7 +2,7 @@
 use Rattle.std.specs.Prelude.{ℕ, List, Option, drop, length}
 use Rattle.gitbase_core.specs.Path.{directory_prefix}
 use Rattle.worktree_report.specs.declared.setup.Setup.{Setup}
-use Rattle.clean_plan.specs.declared.what.What.{What}
+use Rattle.clean_plan.specs.declared.what.Wanted.{Wanted}
 use Rattle.clean_plan.specs.Asked.{Asked}
 
 -- A traversal root as it reads from the root of the work tree: what its whole path has behind that and a slash.
@@ -10,10 +10,11 @@ abbrev pub start_of : List ℕ → List ℕ → List ℕ
 start_of root whole = drop (length (directory_prefix root)) whole
 
 -- what is asked for, by a setup, a traversal root, and where the current directory is in the work tree
-abbrev pub asked_in : What → Setup → List ℕ → Option (List ℕ) → Asked
-asked_in what setup start current =
+abbrev pub asked_in : Wanted → Setup → List ℕ → Option (List ℕ) → Asked
+asked_in wanted setup start current =
     record {
-      what = what;
+      what = wanted.what;
+      others = wanted.others;
       fold = setup.options.ignore_case;
       index = setup.index;
       specs = setup.specs;

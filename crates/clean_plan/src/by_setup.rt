@@ -4,13 +4,14 @@ ghost use Rattle.clean_plan.specs.Plans.{IsPlan, entries_of};
 ghost use Rattle.clean_plan.specs.Planned.{AsksAfter, MakesPlan};
 ghost use Rattle.clean_plan.specs.Prepared.{is_prepared};
 ghost use Rattle.clean_plan.specs.Setups.{asked_in, start_of};
+ghost use Rattle.clean_plan.specs.Wanted.{with_other_nodes};
 
 use crate::cleaning::Cleaning;
 use crate::current::{current_below, current_dir_of, start_of};
 use crate::error::CleanError;
 use crate::outcome::Plan;
 use crate::planned::planned;
-use crate::what::{Finding, What};
+use crate::what::{Finding, Wanted, What};
 use gitbase_core::{Find, OutOfMemory, PathText};
 use std::alloc::Global;
 use worktree_fs::{Interrupt, Worktree};
@@ -21,17 +22,18 @@ fn plan_by(
     alloc: Global,
     root: &[u8],
     setup: &Setup,
-    what: What,
+    wanted: Wanted,
     report: &Report,
     current: &Option<PathText>,
 ) -> Result<Plan, OutOfMemory>
     ensures { IfOk result (λ plan. IsPlan
-        (asked_in what setup.now (start_of root.now report.now.root) current.now)
+        (asked_in wanted setup.now (start_of root.now report.now.root) current.now)
         (entries_of report.now.entries) plan.paths.items) }
 {
     let lookup = lookup_of(alloc, setup)?;
     let cleaning = Cleaning {
-        what,
+        what: wanted.what,
+        others: wanted.others,
         index: &setup.index,
         lookup: &lookup,
         specs: &setup.specs,
@@ -40,6 +42,24 @@ fn plan_by(
     };
     let paths = planned(alloc, &cleaning, report.entries.as_slice())?;
     Ok(Plan { paths })
+}
+
+/// What may be removed, by a report that was made of the work tree: as [`plan_by_report`], with a
+/// word on other nodes.
+fn plan_for<W: Worktree>(
+    alloc: Global,
+    worktree: &mut W,
+    worktree_root: &[u8],
+    setup: &Setup,
+    wanted: Wanted,
+    report: &Report,
+) -> Result<Plan, CleanError>
+    ensures { AsksAfter W.Worktree worktree.old worktree.new worktree_root.now setup.now wanted
+        report.now result }
+{
+    let current_dir = current_dir_of(worktree_root, setup);
+    let current = current_below(alloc, worktree, worktree_root, current_dir)?;
+    Ok(plan_by(alloc, worktree_root, setup, wanted, report, &current)?)
 }
 
 /// What may be removed from the work tree at `worktree_root`, by a report that was made of it: what
@@ -66,12 +86,30 @@ pub fn plan_by_report<W: Worktree>(
     what: What,
     report: &Report,
 ) -> Result<Plan, CleanError>
-    ensures { AsksAfter W.Worktree worktree.old worktree.new worktree_root.now setup.now what
-        report.now result }
+    ensures { AsksAfter W.Worktree worktree.old worktree.new worktree_root.now setup.now
+        (with_other_nodes what) report.now result }
 {
-    let current_dir = current_dir_of(worktree_root, setup);
-    let current = current_below(alloc, worktree, worktree_root, current_dir)?;
-    Ok(plan_by(alloc, worktree_root, setup, what, report, &current)?)
+    let wanted = Wanted::with_other_nodes(what);
+    plan_for(alloc, worktree, worktree_root, setup, wanted, report)
+}
+
+/// What may be removed from a work tree: as [`plan`], with a word on other nodes.
+pub(crate) fn plan_wanted<W: Worktree, F: Find, I: Interrupt>(
+    alloc: Global,
+    worktree: &mut W,
+    objects: &mut F,
+    interrupt: &mut I,
+    worktree_root: &[u8],
+    setup: &Setup,
+    wanted: Wanted,
+    finding: Finding,
+) -> Result<Plan, CleanError>
+    requires prepared { is_prepared finding setup.now.options ≡ true }
+    ensures { MakesPlan W.Worktree F.Find I.Interrupt worktree.old worktree.new objects.old
+        objects.new interrupt.old interrupt.new worktree_root.now setup.now wanted result }
+{
+    let report = worktree_report(alloc, worktree, objects, interrupt, worktree_root, setup)?;
+    plan_for(alloc, worktree, worktree_root, setup, wanted, &report)
 }
 
 /// What may be removed from the work tree at `worktree_root`, as `git clean` removes it: whole
@@ -119,8 +157,17 @@ pub fn plan<W: Worktree, F: Find, I: Interrupt>(
 ) -> Result<Plan, CleanError>
     requires prepared { is_prepared finding setup.now.options ≡ true }
     ensures { MakesPlan W.Worktree F.Find I.Interrupt worktree.old worktree.new objects.old
-        objects.new interrupt.old interrupt.new worktree_root.now setup.now what result }
+        objects.new interrupt.old interrupt.new worktree_root.now setup.now (with_other_nodes what)
+        result }
 {
-    let report = worktree_report(alloc, worktree, objects, interrupt, worktree_root, setup)?;
-    plan_by_report(alloc, worktree, worktree_root, setup, what, &report)
+    plan_wanted(
+        alloc,
+        worktree,
+        objects,
+        interrupt,
+        worktree_root,
+        setup,
+        Wanted::with_other_nodes(what),
+        finding,
+    )
 }

@@ -1,6 +1,6 @@
 //! Paths in their order.
 ghost use Rattle.std.specs.Prelude.{◌≡◌, ℕ, List, [], Bool, ◌||◌, IfOk, OnOk, bytes_eq};
-ghost use Rattle.clean_plan.specs.Paths.{Ascends, is_among};
+ghost use Rattle.clean_plan.specs.Paths.{Ascends, is_among, without};
 
 use gitbase_core::{OutOfMemory, PathText};
 use std::alloc::Global;
@@ -51,14 +51,20 @@ impl<'a> Paths<'a> {
         Ok(())
     }
 
-    /// The paths, as texts of their own.
-    pub(crate) fn texts(self, alloc: Global) -> Result<Vec<PathText>, OutOfMemory>
-        ensures same { IfOk result (λ texts. texts.items ≡ self.entry) }
+    /// The paths but for those that stay, as texts of their own.
+    pub(crate) fn texts(
+        self,
+        alloc: Global,
+        staying: &Paths<'_>,
+    ) -> Result<Vec<PathText>, OutOfMemory>
+        ensures same { IfOk result (λ texts. texts.items ≡ without staying.now self.entry) }
         ensures ascends { IfOk result (λ texts. Ascends texts.items) }
     {
         let mut texts = Vec::with_capacity(alloc, self.sorted.len())?;
         for path in self.sorted {
-            texts.push(PathText::from_bytes(alloc, path)?)?;
+            if !staying.has(path) {
+                texts.push(PathText::from_bytes(alloc, path)?)?;
+            }
         }
         Ok(texts)
     }

@@ -10,6 +10,7 @@ ghost use Rattle.clean_plan.specs.Whole.{is_whole_among};
 use crate::cleaning::Cleaning;
 use crate::paths::Paths;
 use crate::sift::sift;
+use crate::staying::staying;
 use crate::whole::{Known, target};
 use gitbase_core::{OutOfMemory, PathText};
 use std::alloc::Global;
@@ -55,5 +56,6 @@ pub(crate) fn planned(
 {
     let sifted = sift(alloc, cleaning, entries)?;
     let planned = targets(alloc, cleaning, &sifted.removable, &sifted.spoiled)?;
-    planned.texts(alloc)
+    let staying = staying(alloc, cleaning.others, entries)?;
+    planned.texts(alloc, &staying)
 }

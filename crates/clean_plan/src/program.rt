@@ -8,11 +8,11 @@ ghost use Rattle.clean_plan.specs.Named.{requested_by};
 ghost use Rattle.clean_plan.specs.Prepared.{is_prepared};
 ghost use Rattle.clean_plan.specs.Run as top;
 
-use crate::by_setup::plan;
+use crate::by_setup::plan_wanted;
 use crate::error::CleanError;
 use crate::outcome::Plan;
 use crate::prepared::prepare;
-use crate::what::{Finding, What};
+use crate::what::{Finding, Wanted};
 use crate::words::{Request, asked};
 use gitbase_core::{Bytes, Find, OutOfMemory, PathText};
 use std::alloc::Global;
@@ -71,23 +71,23 @@ pub fn text_of_plan<W: CountsFaults, I: Interrupt>(
     interrupt: &mut I,
     root: &[u8],
     setup: &Setup,
-    what: What,
+    wanted: Wanted,
     finding: Finding,
 ) -> Result<Bytes, Refusal>
     requires prepared { is_prepared finding setup.now.options ≡ true }
     ensures { top.PlanTexts W.Worktree I.Interrupt (W.precomposes worktree.old) worktree.old
-        worktree.new interrupt.old interrupt.new root.now setup.now what result }
+        worktree.new interrupt.old interrupt.new root.now setup.now wanted result }
 {
     let before = worktree.fault_count();
     let mut objects = setup.blobs.fork(alloc)?;
-    match plan(
+    match plan_wanted(
         alloc,
         worktree,
         &mut objects,
         interrupt,
         root,
         setup,
-        what,
+        wanted,
         finding,
     ) {
         Ok(plan) => {
@@ -123,7 +123,7 @@ fn text_at<W: CountsFaults, I: Interrupt>(
         interrupt,
         places.root,
         &setup,
-        what,
+        Wanted::with_other_nodes(what),
         finding,
     )
 }

@@ -5,6 +5,8 @@
 #[cfg(test)]
 mod by_report;
 #[cfg(test)]
+mod others;
+#[cfg(test)]
 mod plans;
 #[cfg(test)]
 mod prepared;

@@ -17,6 +17,7 @@ fn is_taken(alloc: Global, tree: &mut MemoryWorktree, step: &[u8]) -> bool {
         b"file" => NewNode::File(text),
         b"link" => NewNode::Link(text),
         b"directory" => NewNode::Directory,
+        b"other" => NewNode::Other,
         b"first real path fails" => return tree.fail(alloc, CallKind::RealPath, 1).is_ok(),
         b"last real path fails" => return tree.fail(alloc, CallKind::RealPath, 2).is_ok(),
         _ => return false,

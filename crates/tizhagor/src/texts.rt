@@ -1,6 +1,7 @@
 //! The text of each call, by the root and the setup that were found.
 ghost use Rattle.std.specs.Prelude.{◌≡◌};
 ghost use Rattle.clean_plan.specs.Run as clean;
+ghost use Rattle.clean_plan.specs.Wanted.{without_other_nodes};
 ghost use Rattle.tizhagor.specs.Answers as answers;
 ghost use Rattle.tizhagor.specs.Asking.{here_in};
 ghost use Rattle.tizhagor.specs.Refusals.{as_program};
@@ -9,7 +10,7 @@ ghost use Rattle.tizhagor.specs.Texts.{TextsBy};
 use crate::call::Call;
 use crate::found::found_here;
 use crate::refusal::HereRefusal;
-use clean_plan::{Finding, What, prepare, text_of_plan};
+use clean_plan::{Finding, Wanted, What, prepare, text_of_plan};
 use git_places::Variable;
 use git_setup::{Asked, Found};
 use gitbase_core::Bytes;
@@ -19,7 +20,8 @@ use std::alloc::Global;
 use worktree_fs::{Interrupt, Owners, Worktree};
 use worktree_report::{CountsFaults, Refusal, Setup, walked_text};
 
-/// The text of a plan, by a setup that is prepared for it.
+/// The text of a plan, by a setup that is prepared for it: pipes, sockets and devices stay, unless a
+/// directory above them goes as a whole.
 fn plan_text<W: CountsFaults, I: Interrupt>(
     alloc: Global,
     worktree: &mut W,
@@ -30,11 +32,12 @@ fn plan_text<W: CountsFaults, I: Interrupt>(
     finding: Finding,
 ) -> Result<Bytes, Refusal>
     ensures { clean.PlanTexts W.Worktree I.Interrupt (W.precomposes worktree.old) worktree.old
-        worktree.new interrupt.old interrupt.new root.now (clean.made_by finding setup.old) what
-        result }
+        worktree.new interrupt.old interrupt.new root.now (clean.made_by finding setup.old)
+        (without_other_nodes what) result }
 {
     prepare(&mut setup.options, finding);
-    text_of_plan(alloc, worktree, interrupt, root, setup, what, finding)
+    let wanted = Wanted::without_other_nodes(what);
+    text_of_plan(alloc, worktree, interrupt, root, setup, wanted, finding)
 }
 
 /// The text of a call by a root and a setup, of which a plan prepares the options.

@@ -4,7 +4,7 @@ use Rattle.dir_classify.specs.Layers.{current_below}
 use Rattle.clean_plan.specs.Plans.{entries_of}
 use Rattle.clean_plan.specs.Setups.{asked_in, start_of}
 use Rattle.clean_plan.proofs.Safely.{plan-spared}
-use Rattle.clean_plan.proofs.by_setup.plan_by_report.Goals as goal
+use Rattle.clean_plan.proofs.by_setup.plan_for.Goals as goal
 
 pub returns : goal.returns
 returns g c =
@@ -18,7 +18,7 @@ returns g c =
         plan_is = c.in_ok-plan_by.ensures;
       };
       spares =
-          plan-spared (asked_in c.args.what c.args.setup.now (start_of c.args.worktree_root.now c.args.report.now.root) c.in_ok-current.current)
+          plan-spared (asked_in c.args.wanted c.args.setup.now (start_of c.args.worktree_root.now c.args.report.now.root) c.in_ok-current.current)
           (entries_of c.args.report.now.entries) c.in_ok-plan_by.field-0.paths.items c.in_ok-plan_by.ensures;
       refused = tt;
       unfaulted = below.unfaulted;
