@@ -85,7 +85,8 @@ report =
     ∷ codes "  -h, --help            this text"
     ∷ codes ""
     ∷ codes "Of options that say the same the last counts; --no- before the name of one without"
-    ∷ codes "a value turns it off. For example: tizhagor report --ignored -z src"
+    ∷ codes "a value turns it off, but for --null, --plain and --help. For example:"
+    ∷ codes "tizhagor report --ignored -z src"
     ∷ []
     )
 
@@ -113,7 +114,8 @@ plan =
     ∷ codes "  -h, --help            this text"
     ∷ codes ""
     ∷ codes "Of options that say the same the last counts; --no- before the name of one without"
-    ∷ codes "a value turns it off. For example: tizhagor plan -xz | xargs -0 -r ls -d --"
+    ∷ codes "a value turns it off, but for --nonbare, --null and --help. For example:"
+    ∷ codes "tizhagor plan -xz | xargs -0 -r ls -d --"
     ∷ []
     )
 
@@ -176,7 +178,8 @@ state =
     ∷ codes "  -h, --help            this text"
     ∷ codes ""
     ∷ codes "Of options that say the same the last counts; --no- before the name of one without"
-    ∷ codes "a value turns it off. For example: tizhagor state --ignored"
+    ∷ codes "a value turns it off, but for --null, --plain and --help. For example:"
+    ∷ codes "tizhagor state --ignored"
     ∷ []
     )
 

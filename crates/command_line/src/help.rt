@@ -65,7 +65,8 @@ How it is written
   -h, --help            this text
 
 Of options that say the same the last counts; --no- before the name of one without
-a value turns it off. For example: tizhagor report --ignored -z src
+a value turns it off, but for --null, --plain and --help. For example:
+tizhagor report --ignored -z src
 ";
 
 const PLAN: &[u8] = b"usage: tizhagor [-C DIR] plan [OPTION..] [--] [PATH..]
@@ -89,7 +90,8 @@ path of the index goes, no repository whose git directory is whole (bare ones go
   -h, --help            this text
 
 Of options that say the same the last counts; --no- before the name of one without
-a value turns it off. For example: tizhagor plan -xz | xargs -0 -r ls -d --
+a value turns it off, but for --nonbare, --null and --help. For example:
+tizhagor plan -xz | xargs -0 -r ls -d --
 ";
 
 const MODULES: &[u8] = b"usage: tizhagor [-C DIR] modules [OPTION..]
@@ -144,7 +146,8 @@ How it is written
   -h, --help            this text
 
 Of options that say the same the last counts; --no- before the name of one without
-a value turns it off. For example: tizhagor state --ignored
+a value turns it off, but for --null, --plain and --help. For example:
+tizhagor state --ignored
 ";
 
 const FILES: &[u8] = b"usage: tizhagor [-C DIR] ls-files [OPTION..] [--] [PATH..]
