@@ -17,7 +17,7 @@ walk_phrase words.MissingRoot = codes "fatal: nothing is there: '"
 walk_phrase words.AbsentDirectory = codes "fatal: directory is gone: '"
 walk_phrase words.NotADirectory = codes "fatal: no longer a directory: '"
 walk_phrase words.RulesFile = codes "fatal: ignore rules are not read: '"
-walk_phrase words.Blob = codes "fatal: ignore rules of a path that is skipped are in an object, which is not read: '"
+walk_phrase words.Blob = codes "fatal: ignore rules are in a file that is not checked out, and objects are not read; check it out: '"
 walk_phrase words.Lookup = codes "fatal: ignore rules cannot be asked: '"
 walk_phrase words.TooDeep = codes "fatal: deeper than --depth: '"
 

@@ -114,7 +114,7 @@ git_line (git.OutsidePath text) = with_path (codes "fatal: '") text (codes "' is
 git_line (git.Prefix text prefix) =
     with_path (codes "fatal: pathspec '") text (with_path (codes "' is not read from directory '") prefix (codes "'; write it from the top, with ':/'\n"))
 git_line (git.SubmoduleCase path) =
-    with_path (codes "fatal: no plan with core.ignoreCase and a submodule: '") path (codes "'\n")
+    with_path (codes "fatal: no plan with core.ignoreCase and a submodule; 'git clean -n' makes one: '") path (codes "'\n")
 git_line git.Fault = fault_line
 git_line git.OutOfMemory = memory_line
 
@@ -123,7 +123,7 @@ abbrev pub line_of : HereRefusal → List ℕ
 line_of (errors.Words misuse) = said misuse
 line_of (errors.Absent directory) = with_path (codes "fatal: cannot change to '") directory (codes "': No such file or directory\n")
 line_of (errors.NotADirectory directory) = with_path (codes "fatal: cannot change to '") directory (codes "': Not a directory\n")
-line_of (errors.NotAtTop root) = with_path (codes "fatal: a plan is made at the top of the work tree; call it there: '") root (codes "'\n")
+line_of (errors.NotAtTop root) = with_path (codes "fatal: what is to be deleted is told at the top of the work tree; call it there: '") root (codes "'\n")
 line_of (errors.Git refusal) = git_line refusal
 line_of (errors.Listing wrong) = codes "fatal: " ++ wrong_text wrong ++ codes "\n"
 line_of (errors.Program refusal) = program_line refusal

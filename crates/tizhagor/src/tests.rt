@@ -36,9 +36,9 @@ report .^/w/d^^^0^untracked file - prefix - -\td/e~^|\
 plan^/w^^^0^.gitignore~b~d~^|\
 plan -x^/w^^^0^.gitignore~b~c.o~d~^|\
 plan -X^/w^^^0^c.o~^|\
-plan^/w/d^^^128^^fatal: a plan is made at the top of the work tree; call it there: '/w'~|\
--C .. plan^/w/d^^^128^^fatal: a plan is made at the top of the work tree; call it there: '/w'~|\
--C w plan^/^^^128^^fatal: a plan is made at the top of the work tree; call it there: '/w'~|\
+plan^/w/d^^^128^^fatal: what is to be deleted is told at the top of the work tree; call it there: '/w'~|\
+-C .. plan^/w/d^^^128^^fatal: what is to be deleted is told at the top of the work tree; call it there: '/w'~|\
+-C w plan^/^^^128^^fatal: what is to be deleted is told at the top of the work tree; call it there: '/w'~|\
 -C . plan e^/w^^/w/e=~^0^e~^|\
 modules^/w^^^0^^|\
 state^/w^^^0^untracked file - always - -\t.gitignore~untracked file - always - -\tb~untracked file - always - -\td/e~^|\

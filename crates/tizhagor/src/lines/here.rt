@@ -60,7 +60,7 @@ pub fn line_of(alloc: Global, refusal: &HereRefusal) -> Result<Bytes, OutOfMemor
         ),
         HereRefusal::NotAtTop { root } => with_path(
             alloc,
-            b"fatal: a plan is made at the top of the work tree; call it there: '",
+            b"fatal: what is to be deleted is told at the top of the work tree; call it there: '",
             root.as_bytes(),
             b"'\n",
         ),

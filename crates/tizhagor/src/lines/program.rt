@@ -20,7 +20,7 @@ fn walk_phrase(word: WalkWord) -> &'static [u8]
         WalkWord::NotADirectory => b"fatal: no longer a directory: '",
         WalkWord::RulesFile => b"fatal: ignore rules are not read: '",
         WalkWord::Blob => {
-            b"fatal: ignore rules of a path that is skipped are in an object, which is not read: '"
+            b"fatal: ignore rules are in a file that is not checked out, and objects are not read; check it out: '"
         }
         WalkWord::Lookup => b"fatal: ignore rules cannot be asked: '",
         WalkWord::TooDeep => b"fatal: deeper than --depth: '",
