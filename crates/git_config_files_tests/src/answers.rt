@@ -294,14 +294,12 @@ pub const AT_RANDOM: &[u8] = b"\
 /// - git asks the addresses of remotes; here such a condition is refused
 /// - git passes over a condition with a home of another user; here it is refused
 /// - git puts the place where it is installed before such a path; here it is refused
-/// - git takes a link in place of HEAD for the branch that it names; here it names none
 /// - git passes over blanks around the name in HEAD; here they are part of it
 pub const DIFFERENCES: &[u8] = b"\
 |l /w/r/.git/config remote.o.url=x|l /w/r/.git/config includeif.hasconfig:remote.*.url:x.path=/w/i|l /w/i a.k=yes=>!condition^home=/w/h;system=/w/etc^g /w/r/.git=main;f /w/r/.git/config=[remote \"o\"]$url=x$[includeIf \"hasconfig:remote.*.url:x\"]$path=/w/i$;f /w/i=[a]$k=yes$\n\
 |l /w/r/.git/config includeif.gitdir:~nobody-here/.path=/w/i=>!home^home=/w/h;system=/w/etc^g /w/r/.git=main;f /w/r/.git/config=[includeIf \"gitdir:~nobody-here/\"]$path=/w/i$;f /w/i=[a]$k=yes$\n\
 |l /w/r/.git/config includeif.gitdir:%(prefix)/x.path=/w/i=>!home^home=/w/h;system=/w/etc^g /w/r/.git=main;f /w/r/.git/config=[includeIf \"gitdir:%(prefix)/x\"]$path=/w/i$;f /w/i=[a]$k=yes$\n\
 |l /w/r/.git/config a.k=1|l /w/r/.git/config include.path=%(prefix)/nowhere|l /w/r/.git/config a.k=3=>!home^home=/w/h;system=/w/etc^g /w/r/.git=main;f /w/r/.git/config=[a]$k=1$[include]$path=%(prefix)/nowhere$[a]$k=3$\n\
-|u /w/h/.gitconfig includeif.onbranch:x.path=/w/i|u /w/i a.k=yes=>|u /w/h/.gitconfig includeif.onbranch:x.path=/w/i^home=/w/h;system=/w/etc^d /w/r/.git/objects;f /w/r/.git/refs/heads/x=a1a1a1a1a1a1a1a1a1a1a1a1a1a1a1a1a1a1a1a1$;l /w/r/.git/HEAD=refs/heads/x;f /w/h/.gitconfig=[includeIf \"onbranch:x\"]$path=/w/i$;f /w/i=[a]$k=yes$\n\
 |u /w/h/.gitconfig includeif.onbranch:x.path=/w/i|u /w/i a.k=yes=>|u /w/h/.gitconfig includeif.onbranch:x.path=/w/i^home=/w/h;system=/w/etc^d /w/r/.git/objects;d /w/r/.git/refs;f /w/r/.git/HEAD=ref:  refs/heads/x$;f /w/h/.gitconfig=[includeIf \"onbranch:x\"]$path=/w/i$;f /w/i=[a]$k=yes$\n\
 |u /w/h/.gitconfig includeif.onbranch:x.path=/w/i|u /w/i a.k=yes=>|u /w/h/.gitconfig includeif.onbranch:x.path=/w/i^home=/w/h;system=/w/etc^d /w/r/.git/objects;d /w/r/.git/refs;f /w/r/.git/HEAD=ref: refs/heads/x $;f /w/h/.gitconfig=[includeIf \"onbranch:x\"]$path=/w/i$;f /w/i=[a]$k=yes$\n\
 ";

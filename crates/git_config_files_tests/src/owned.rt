@@ -78,6 +78,7 @@ fn is_refused(error: &PlacesError, want: &[u8]) -> bool {
     match error {
         PlacesError::NoRepository => word == b"no-repository".as_slice(),
         PlacesError::Bare { .. } => word == b"bare".as_slice(),
+        PlacesError::OddHead { .. } => word == b"odd-head".as_slice(),
         PlacesError::GitFileForm { .. } => word == b"git-file-form".as_slice(),
         PlacesError::Border { path } => word == b"border".as_slice() && path.as_bytes() == named,
         PlacesError::Value { key } => word == b"value".as_slice() && key.as_bytes() == named,

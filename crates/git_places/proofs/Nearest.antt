@@ -5,7 +5,7 @@ use Rattle.worktree_fs.specs.Tree.{Names}
 use Rattle.git_places.specs.GitDirectory.{git_at}
 use Rattle.worktree_fs.specs.Owners.{Owned}
 use Rattle.git_places.specs.Limits.{Limits, absolute, stop_at}
-use Rattle.git_places.specs.Upward.{Top, top, below, here_or, or_stop, top_from, top_by, top_in, ArePassed, IsNearest}
+use Rattle.git_places.specs.Upward.{Top, top, below, here_or, or_stop, top_from, top_in, ArePassed, IsNearest}
 use Rattle.git_places.proofs.UpwardLemmas.{Stop}
 use Rattle.git_places.specs.declared.error.PlacesError.{PlacesError}
 use Rattle.git_places.specs.declared.error.PlacesError.TheVariants as errors

@@ -1,8 +1,8 @@
 -- What the configuration of a repository says of its format.
-use Rattle.std.specs.Prelude.{ℕ, Bool, true, false, not, ◌++◌, ◌||◌, ◌&&◌, codes, bytes_eq, find, List, [], ◌∷◌, Option, Some, None, option_map, Result, Ok, Err, if◌then◌else◌}
+use Rattle.std.specs.Prelude.{ℕ, Bool, true, false, not, drop, length, nat_lt, slice_get, take, ◌++◌, ◌||◌, ◌&&◌, codes, bytes_eq, find, List, [], ◌∷◌, Option, Some, None, option_map, Result, Ok, Err, if◌then◌else◌}
 use Rattle.git_config_lite.specs.declared.entry.Entry.{Entry}
 use Rattle.gitbase_core.specs.Text.{eq_ignore_case}
-use Rattle.git_config_lite.specs.Lookups.{boolean, sections_named, string, text_of}
+use Rattle.git_config_lite.specs.Lookups.{boolean, string, text_of}
 use Rattle.git_config_lite.specs.Sections.{Section}
 use Rattle.git_places.specs.declared.error.PlacesError.{PlacesError}
 use Rattle.git_places.specs.declared.error.PlacesError.TheVariants as errors
@@ -27,9 +27,9 @@ abbrev pub is_harmless : List ℕ → Bool
 is_harmless key =
     eq_ignore_case key (codes "noop") || (eq_ignore_case key (codes "preciousobjects") || (eq_ignore_case key (codes "partialclone") || eq_ignore_case key (codes "worktreeconfig")))
 
--- one that only version 1 may have, and that has no say here either: no ref is read
+-- one that only version 1 may have, and that has no say here either
 abbrev pub is_harmless_later : List ℕ → Bool
-is_harmless_later key = eq_ignore_case key (codes "noop-v1") || (eq_ignore_case key (codes "refstorage") || eq_ignore_case key (codes "relativeworktrees"))
+is_harmless_later key = eq_ignore_case key (codes "noop-v1") || eq_ignore_case key (codes "relativeworktrees")
 
 abbrev pub is_object_format : List ℕ → Bool
 is_object_format key = eq_ignore_case key (codes "objectformat")
@@ -44,9 +44,13 @@ is_sha1 e = bytes_eq (text_of e.value) (codes "sha1")
 abbrev pub is_sha1_format : Entry → Bool
 is_sha1_format e = is_object_format e.key && is_sha1 e
 
+-- whether a key says that each ref is a file, as `HEAD` is read here
+abbrev pub is_files_storage : Entry → Bool
+is_files_storage e = eq_ignore_case e.key (codes "refstorage") && bytes_eq (text_of e.value) (codes "files")
+
 -- whether a key is known to version 1, with the value that it has
 abbrev pub is_known_later : Entry → Bool
-is_known_later e = is_harmless e.key || (is_harmless_later e.key || is_sha1_format e)
+is_known_later e = is_harmless e.key || (is_harmless_later e.key || (is_sha1_format e || is_files_storage e))
 
 -- whether a key of a section `extensions`, with a subsection or without one, leaves the repository readable
 abbrev pub is_readable : Version → Option (List ℕ) → Entry → Bool
@@ -71,22 +75,42 @@ abbrev pub refusal_of : Version → Option (List ℕ) → Entry → PlacesError
 refusal_of version subsection e =
     if is_sha256 version subsection e then errors.Sha256 else errors.Extension (behind_section subsection e.key)
 
--- the refusal of a section: that of its first key that does not leave the repository readable
+-- the refusal of a section `extensions`: that of its first key that does not leave the repository readable
+abbrev pub refusal_of_section : Version → Section → Option PlacesError
+refusal_of_section version section =
+    option_map (refusal_of version section.subsection) (find (λ e. not (is_readable version section.subsection e)) section.entries)
+
+-- what stands behind `extensions.` in the name of a section
+abbrev pub behind_dot : List ℕ → Option (List ℕ)
+behind_dot name =
+    if nat_lt (length name) 11 then None
+    else if eq_ignore_case (take 11 name) (codes "extensions.") then Some (drop 11 name) else None
+
+-- a key of a section whose name has a dot, as it stands behind `extensions.`
+abbrev pub dotted_key : List ℕ → Option (List ℕ) → List ℕ → List ℕ
+dotted_key name subsection key = behind_section (Some name) (behind_section subsection key)
+
+-- the refusal of a section whose name begins with `extensions.`: version 1 knows no key in it, and version 0 passes over each
+abbrev pub refusal_of_dotted : Version → Section → Option (List ℕ) → Option PlacesError
+refusal_of_dotted version section None = None
+refusal_of_dotted versions.Zero section (Some name) = None
+refusal_of_dotted versions.One section (Some name) =
+    option_map (λ e. errors.Extension (dotted_key name section.subsection e.key)) (slice_get section.entries 0)
+
+-- the refusal of a section, if it has one
 abbrev pub refusal_in : Version → Section → Option PlacesError
 refusal_in version section =
-    option_map (refusal_of version section.subsection) (find (λ e. not (is_readable version section.subsection e)) section.entries)
+    if eq_ignore_case section.name (codes "extensions") then refusal_of_section version section
+    else refusal_of_dotted version section (behind_dot section.name)
 
 abbrev pub first_or : Option PlacesError → Result Bool PlacesError → Result Bool PlacesError
 first_or None rest = rest
 first_or (Some e) rest = Err e
 
--- whether the sections that are named `extensions` leave the repository readable: the first refusal counts
-abbrev pub readable : Version → List Section → Result Bool PlacesError
-readable version [] = Ok true
-readable version (section ∷ sections) = first_or (refusal_in version section) (readable version sections)
-
+-- whether the sections of extensions leave the repository readable: the first refusal counts
 abbrev pub readable_in : Version → List Section → Result Bool PlacesError
-readable_in version sections = readable version (sections_named (Some (codes "extensions")) sections)
+readable_in version [] = Ok true
+readable_in version (section ∷ sections) = first_or (refusal_in version section) (readable_in version sections)
 
 -- ---- truths
 

@@ -3,7 +3,9 @@ use Rattle.std.specs.Prelude.{ℕ, true, List, [], codes, Option, Some, None, Re
 use Rattle.gitbase_core.specs.Path.{joined, parent}
 use Rattle.worktree_fs.specs.Changes.{from_directory}
 use Rattle.worktree_fs.specs.Tree.{Names, Look, look}
-use Rattle.worktree_fs.specs.Repository.{file_at, gitdir_path, is_directory_at, is_git_below}
+use Rattle.worktree_fs.specs.Repository.{file_at, gitdir_path, is_directory_at}
+use Rattle.gitbase_core.specs.Steps.{and_then}
+use Rattle.git_places.specs.Whole.{is_whole}
 use Rattle.git_places.specs.declared.error.PlacesError.{PlacesError}
 use Rattle.git_places.specs.declared.error.PlacesError.TheVariants as errors
 
@@ -13,7 +15,7 @@ dot_git directory = joined directory (codes ".git")
 
 -- the path that a file `.git` has to be that of a git directory, and else it is refused
 abbrev pub named_git : Names → List ℕ → Result (Option (List ℕ)) PlacesError
-named_git t git = if is_git_below t git then Ok (Some git) else Err (errors.GitFileTarget git)
+named_git t git = and_then (λ is. if is then Ok (Some git) else Err (errors.GitFileTarget git)) (is_whole t git)
 
 -- the git directory that a file names; the file is refused where it names none
 abbrev pub git_of_text : Names → List ℕ → Option (List ℕ) → Result (Option (List ℕ)) PlacesError
@@ -25,14 +27,18 @@ abbrev pub git_of_file : Names → List ℕ → Option (List ℕ) → Result (Op
 git_of_file t path None = Ok None
 git_of_file t path (Some bytes) = git_of_text t path (gitdir_path bytes)
 
+-- a directory, where it is a git directory
+abbrev pub git_directory : Names → List ℕ → Result (Option (List ℕ)) PlacesError
+git_directory t path = and_then (λ is. if is then Ok (Some path) else Ok None) (is_whole t path)
+
 -- the git directory by what stands at `.git`: the directory there, where it is a git directory, or the one that the file names
 abbrev pub git_of_look : Names → List ℕ → Look → Result (Option (List ℕ)) PlacesError
 git_of_look t path at =
-    if is_directory_at at then (if is_git_below t path then Ok (Some path) else Ok None) else git_of_file t path (file_at at)
+    if is_directory_at at then git_directory t path else git_of_file t path (file_at at)
 
 -- a directory without one that is itself a git directory is a bare repository, and refused
 abbrev pub unless_bare : Names → List ℕ → Result (Option (List ℕ)) PlacesError → Result (Option (List ℕ)) PlacesError
-unless_bare t directory (Ok None) = if is_git_below t directory then Err (errors.Bare directory) else Ok None
+unless_bare t directory (Ok None) = and_then (λ is. if is then Err (errors.Bare directory) else Ok None) (is_whole t directory)
 unless_bare t directory (Ok (Some git)) = Ok (Some git)
 unless_bare t directory (Err e) = Err e
 

@@ -3,9 +3,11 @@ pub mod Ceilings
 pub mod Finds
 pub mod Format
 pub mod GitDirectory
+pub mod Head
 pub mod Limits
 pub mod Places
 pub mod Surroundings
 pub mod Truths
 pub mod Upward
 pub mod Variables
+pub mod Whole

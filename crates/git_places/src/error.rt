@@ -24,6 +24,13 @@ pub enum PlacesError {
     /// A file `.git` names `path`, and that is no git directory.
     #[error("GitFileTarget")]
     GitFileTarget { path: PathText },
+    /// Git and the walk would not agree on whether the directory with the `HEAD` at `path` is a git directory, or whether they would is not
+    /// known.
+    #[error("OddHead")]
+    OddHead { path: PathText },
+    /// What is at `path`, a `commondir`, is an empty file, no file, or names no directory.
+    #[error("CommonDir")]
+    CommonDir { path: PathText },
     /// `core.repositoryFormatVersion` has this value, which is neither 0 nor 1.
     #[error("Version")]
     Version { value: Bytes },

@@ -1,5 +1,5 @@
 //! What the configuration of a repository says of its format.
-ghost use Rattle.std.specs.Prelude.{◌≡◌, not, find, Ok, IfOk, option_copied, option_map};
+ghost use Rattle.std.specs.Prelude.{◌≡◌, not, find, Some, Ok, IfOk, option_copied, option_map};
 ghost use Rattle.git_places.specs.Answers.{Decides};
 ghost use Rattle.git_places.specs.Format as words;
 ghost use Rattle.git_config_lite.specs.Lookups as lookups;
@@ -56,9 +56,7 @@ fn is_harmless(key: &[u8]) -> bool
 fn is_harmless_later(key: &[u8]) -> bool
     ensures { result ≡ words.is_harmless_later key.now }
 {
-    eq_ignore_case(key, b"noop-v1")
-        || eq_ignore_case(key, b"refstorage")
-        || eq_ignore_case(key, b"relativeworktrees")
+    eq_ignore_case(key, b"noop-v1") || eq_ignore_case(key, b"relativeworktrees")
 }
 
 fn is_object_format(key: &[u8]) -> bool
@@ -95,6 +93,13 @@ fn is_sha1_format(entry: &Entry) -> bool
     is_object_format(entry.key.as_bytes()) && is_sha1(entry)
 }
 
+/// Whether a key says that each ref is a file.
+fn is_files_storage(entry: &Entry) -> bool
+    ensures { result ≡ words.is_files_storage entry.now }
+{
+    eq_ignore_case(entry.key.as_bytes(), b"refstorage") && value_of(entry) == b"files".as_slice()
+}
+
 /// Whether version 1 knows a key, with its value.
 fn is_known_later(entry: &Entry) -> bool
     ensures { result ≡ words.is_known_later entry.now }
@@ -102,6 +107,7 @@ fn is_known_later(entry: &Entry) -> bool
     is_harmless(entry.key.as_bytes())
         || is_harmless_later(entry.key.as_bytes())
         || is_sha1_format(entry)
+        || is_files_storage(entry)
 }
 
 /// Whether a key of a section `extensions` leaves the repository readable.
@@ -175,14 +181,95 @@ fn unreadable(version: Version, section: &Section) -> Option<&Entry>
         .find(|entry| !is_readable(version, subsection, entry))
 }
 
-/// Whether the sections named `extensions` leave the repository readable; the first key that does not is refused.
+/// The refusal of a section `extensions`, if it has one.
+fn refusal_of_section(
+    alloc: Global,
+    version: Version,
+    section: &Section,
+) -> Result<Option<PlacesError>, OutOfMemory>
+    ensures { IfOk result (λ refusal. refusal ≡ words.refusal_of_section version section.now) }
+{
+    match unreadable(version, section) {
+        Some(entry) => {
+            let subsection = section.subsection_name();
+            Ok(Some(refusal_of(alloc, version, subsection, entry)?))
+        }
+        None => Ok(None),
+    }
+}
+
+/// What stands behind `extensions.` in the name of a section.
+fn behind_dot(name: &[u8]) -> Option<&[u8]>
+    ensures { option_copied result ≡ words.behind_dot name.now }
+{
+    if name.len() < 11 {
+        return None;
+    }
+    let (front, rest) = name.split_at(11);
+    if eq_ignore_case(front, b"extensions.") {
+        return Some(rest);
+    }
+    None
+}
+
+/// The refusal of the first key of a section whose name has `name` behind `extensions.`.
+fn refusal_of_first(
+    alloc: Global,
+    section: &Section,
+    name: &[u8],
+) -> Result<Option<PlacesError>, OutOfMemory>
+    ensures { IfOk result
+        (λ refusal. refusal ≡ words.refusal_of_dotted Version.One section.now (Some name.now)) }
+{
+    match section.entries().first() {
+        Some(entry) => {
+            let key = behind_section(alloc, section.subsection_name(), entry.key.as_bytes())?;
+            Ok(Some(PlacesError::Extension {
+                key: behind_section(alloc, Some(name), key.as_bytes())?,
+            }))
+        }
+        None => Ok(None),
+    }
+}
+
+/// The refusal of a section whose name begins with `extensions.`, if it has one.
+fn refusal_of_dotted(
+    alloc: Global,
+    version: Version,
+    section: &Section,
+    name: Option<&[u8]>,
+) -> Result<Option<PlacesError>, OutOfMemory>
+    ensures { IfOk result (λ refusal. refusal
+        ≡ words.refusal_of_dotted version section.now (option_copied name.entry)) }
+{
+    match (version, name) {
+        (Version::One, Some(name)) => refusal_of_first(alloc, section, name),
+        (Version::Zero, Some(_)) => Ok(None),
+        (_, None) => Ok(None),
+    }
+}
+
+/// The refusal of a section, if it has one.
+fn refusal_in(
+    alloc: Global,
+    version: Version,
+    section: &Section,
+) -> Result<Option<PlacesError>, OutOfMemory>
+    ensures { IfOk result (λ refusal. refusal ≡ words.refusal_in version section.now) }
+{
+    if eq_ignore_case(section.name(), b"extensions") {
+        return refusal_of_section(alloc, version, section);
+    }
+    refusal_of_dotted(alloc, version, section, behind_dot(section.name()))
+}
+
+/// Whether the sections of extensions leave the repository readable; the first key that does not is refused.
 pub fn readable_in(alloc: Global, version: Version, config: &File) -> Result<bool, PlacesError>
     ensures { Decides result (words.readable_in version config.now.sections) }
 {
-    for section in config.sections_by_name(b"extensions") {
-        if let Some(entry) = unreadable(version, section) {
-            let subsection = section.subsection_name();
-            return Err(refusal_of(alloc, version, subsection, entry)?);
+    for section in config.sections() {
+        if let Some(refusal) = refusal_in(alloc, version, section)? {
+            return Err(refusal);
         }
     }
     Ok(true)

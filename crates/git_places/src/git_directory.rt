@@ -7,9 +7,10 @@ ghost use Rattle.git_places.specs.Finds.{Finds};
 ghost use Rattle.git_places.specs.GitDirectory as words;
 
 use crate::error::PlacesError;
+use crate::whole::{is_directory, is_whole};
 use gitbase_core::{Bytes, OutOfMemory, PathText};
 use std::alloc::Global;
-use worktree_fs::{NodeKind, ReadError, Worktree, beside, gitdir_path, is_git_below, read_file};
+use worktree_fs::{ReadError, Worktree, beside, gitdir_path, read_file};
 
 /// The path of `.git` in a directory.
 pub fn dot_git(alloc: Global, directory: &[u8]) -> Result<PathText, OutOfMemory>
@@ -45,9 +46,9 @@ fn git_directory<W: Worktree>(
     path: &[u8],
 ) -> Result<Option<PathText>, PlacesError>
     ensures { Finds W.Worktree worktree.old worktree.new
-        (λ t. if is_git_below t path.now then Ok (Some path.now) else Ok None) result }
+        (λ t. words.git_directory t path.now) result }
 {
-    if !is_git_below(alloc, worktree, path)? {
+    if !is_whole(alloc, worktree, path)? {
         return Ok(None);
     }
     Ok(Some(PathText::from_bytes(alloc, path)?))
@@ -61,7 +62,7 @@ fn named_git<W: Worktree>(
 ) -> Result<Option<PathText>, PlacesError>
     ensures { Finds W.Worktree worktree.old worktree.new (λ t. words.named_git t git.now) result }
 {
-    if !is_git_below(alloc, worktree, git)? {
+    if !is_whole(alloc, worktree, git)? {
         return Err(git_target(alloc, git)?);
     }
     Ok(Some(PathText::from_bytes(alloc, git)?))
@@ -102,19 +103,6 @@ fn git_of_file<W: Worktree>(
     git_of_text(alloc, worktree, path, text.as_bytes())
 }
 
-/// Whether a path leads to a directory.
-pub fn is_directory<W: Worktree>(
-    alloc: Global,
-    worktree: &mut W,
-    path: &[u8],
-) -> Result<bool, PlacesError>
-    ensures { Finds W.Worktree worktree.old worktree.new
-        (λ t. Ok (is_directory_at (look t path.now true))) result }
-{
-    let kind = worktree.kind_following(alloc, path)?;
-    Ok(kind == Some(NodeKind::Directory))
-}
-
 /// The git directory by what stands at `.git`.
 fn git_of_look<W: Worktree>(
     alloc: Global,
@@ -139,7 +127,7 @@ fn refuse_bare<W: Worktree>(
     ensures { Finds W.Worktree worktree.old worktree.new
         (λ t. words.unless_bare t directory.now (Ok None)) result }
 {
-    if is_git_below(alloc, worktree, directory)? {
+    if is_whole(alloc, worktree, directory)? {
         return Err(PlacesError::Bare {
             path: PathText::from_bytes(alloc, directory)?,
         });

@@ -5,12 +5,14 @@ mod ceilings;
 mod error;
 mod format;
 mod git_directory;
+mod head;
 mod limits;
 mod places;
 mod surroundings;
 mod truths;
 mod upward;
 mod variables;
+mod whole;
 
 pub use ceilings::{Ceilings, ceilings_of};
 pub use error::PlacesError;

@@ -8,8 +8,9 @@ ghost use Rattle.git_places.specs.Places as words;
 
 use crate::error::PlacesError;
 use crate::format::{Version, readable_in, truth_of, version_in};
-use crate::git_directory::{dot_git, is_directory};
+use crate::git_directory::dot_git;
 use crate::upward::Top;
+use crate::whole::is_directory;
 use git_config_lite::{File, Metadata, ParseError, Source};
 use gitbase_core::{Bytes, OutOfMemory, PathText};
 use std::alloc::Global;

@@ -79,6 +79,8 @@ fn top_above<W: Worktree, O: Owners>(
 /// # Errors
 ///
 /// - `GitFileForm`, `GitFileTarget`: a file `.git` on the way names no git directory. No work tree further up is taken in its place.
+/// - `OddHead`: the `HEAD` of a git directory on the way is one that git and the walk do not read alike, or a link.
+/// - `CommonDir`: the `commondir` of one is no file, is empty, or names no directory.
 /// - `Bare`: a directory on the way is itself a git directory.
 /// - `NoRepository`: no directory up to the top, or up to a ceiling, is the top of a work tree.
 /// - `Border`: none up to the border of the file system is, above which the directory at `path` lies.

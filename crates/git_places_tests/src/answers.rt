@@ -37,6 +37,26 @@ found - /w /w/.git /w/.git^/w/r/a/b^-^g /w/.git;d /w/r/a/b;d /w/r/.git/objects;d
 found - /w /w/.git /w/.git^/w/r/a/b^-^g /w/.git;d /w/r/a/b;d /w/r/.git/objects;d /w/r/.git/refs;f /w/r/.git/HEAD=\n\
 found - /w /w/.git /w/.git^/w/r/a/b^-^g /w/.git;d /w/r/a/b;d /w/r/.git/objects;d /w/r/.git/refs;f /w/r/.git/HEAD=x~\n\
 found - /w /w/.git /w/.git^/w/r/a/b^-^g /w/.git;d /w/r/a/b;d /w/r/.git/objects;d /w/r/.git/refs;d /w/r/.git/HEAD\n\
+found - /w/r /w/r/.git /w/r/.git^/w/r/a/b^-^g /w/.git;d /w/r/a/b;d /w/r/.git/objects;d /w/r/.git/refs;f /w/r/.git/HEAD=ref:  refs/heads/x~\n\
+found - /w/r /w/r/.git /w/r/.git^/w/r/a/b^-^g /w/.git;d /w/r/a/b;d /w/r/.git/objects;d /w/r/.git/refs;f /w/r/.git/HEAD=ref: \trefs/heads/x\n\
+found - /w/r /w/r/.git /w/r/.git^/w/r/a/b^-^g /w/.git;d /w/r/a/b;d /w/r/.git/objects;d /w/r/.git/refs;f /w/r/.git/HEAD=ref: refs/\n\
+found - /w/r /w/r/.git /w/r/.git^/w/r/a/b^-^g /w/.git;d /w/r/a/b;d /w/r/.git/objects;d /w/r/.git/refs;f /w/r/.git/HEAD=A1A1A1A1A1A1A1A1A1A1A1A1A1A1A1A1A1A1A1A1~\n\
+found - /w/r /w/r/.git /w/r/.git^/w/r/a/b^-^g /w/.git;d /w/r/a/b;d /w/r/.git/objects;d /w/r/.git/refs;f /w/r/.git/HEAD=a1a1a1a1a1a1a1a1a1a1a1a1a1a1a1a1a1a1a1a1a1a1a1a1a1a1a1a1a1a1a1a1~\n\
+found - /w/r /w/r/.git /w/r/.git^/w/r/a/b^-^g /w/.git;d /w/r/a/b;d /w/r/.git/objects;d /w/r/.git/refs;f /w/r/.git/HEAD=ref: refs/heads/x\r~\n\
+found - /w/r /w/r/.git /w/r/.git^/w/r/a/b^-^g /w/.git;d /w/r/a/b;d /w/r/.git/objects;d /w/r/.git/refs;f /w/r/.git/HEAD=ref:                                                                                                                                                                                                                                                      refs/~\n\
+found - /w /w/.git /w/.git^/w/r/a/b^-^g /w/.git;d /w/r/a/b;d /w/r/.git/objects;d /w/r/.git/refs;f /w/r/.git/HEAD=ref:~\n\
+found - /w /w/.git /w/.git^/w/r/a/b^-^g /w/.git;d /w/r/a/b;d /w/r/.git/objects;d /w/r/.git/refs;f /w/r/.git/HEAD=ref:\n\
+found - /w /w/.git /w/.git^/w/r/a/b^-^g /w/.git;d /w/r/a/b;d /w/r/.git/objects;d /w/r/.git/refs;f /w/r/.git/HEAD=ref: \n\
+found - /w /w/.git /w/.git^/w/r/a/b^-^g /w/.git;d /w/r/a/b;d /w/r/.git/objects;d /w/r/.git/refs;f /w/r/.git/HEAD=ref: ~\n\
+found - /w /w/.git /w/.git^/w/r/a/b^-^g /w/.git;d /w/r/a/b;d /w/r/.git/objects;d /w/r/.git/refs;f /w/r/.git/HEAD=Ref: refs/heads/x~\n\
+found - /w /w/.git /w/.git^/w/r/a/b^-^g /w/.git;d /w/r/a/b;d /w/r/.git/objects;d /w/r/.git/refs;f /w/r/.git/HEAD= ref: refs/heads/x~\n\
+found - /w /w/.git /w/.git^/w/r/a/b^-^g /w/.git;d /w/r/a/b;d /w/r/.git/objects;d /w/r/.git/refs;f /w/r/.git/HEAD=a1a1a1a1a1a1a1a1a1a1a1a1a1a1a1a1a1a1a1g1~\n\
+found - /w /w/.git /w/.git^/w/r/a/b^-^g /w/.git;d /w/r/a/b;d /w/r/.git/objects;d /w/r/.git/refs;f /w/r/.git/HEAD=a1a1a1a1a1a1a1a1a1a1a1a1a1a1a1a1a1a1~\n\
+found - /w /w/.git /w/.git^/w/r/a/b^-^g /w/.git;d /w/r/a/b;d /w/r/.git/objects;d /w/r/.git/refs;f /w/r/.git/HEAD=~a1a1a1a1a1a1a1a1a1a1a1a1a1a1a1a1a1a1a1a1~\n\
+found - /w /w/.git /w/.git^/w/r/a/b^-^g /w/.git;d /w/r/a/b;d /w/r/.git/objects;d /w/r/.git/refs;f /w/r/.git/HEAD=ref:foo~\n\
+found - /w /w/.git /w/.git^/w/r/a/b^-^g /w/.git;d /w/r/a/b;f /w/r/.git/HEAD=ref: foo~\n\
+found - /w /w/.git /w/.git^/w/r/a/b^-^g /w/.git;d /w/r/a/b;f /w/r/.git/HEAD=ref:refs/heads/x~\n\
+found - /w /w/.git /w/.git^/w/r/a/b^-^g /w/.git;d /w/r/a/b;d /w/r/.git/refs;l /w/r/.git/HEAD=refs/heads/x\n\
 found - /w /w/.git /w/.git^/w/r/a/b^-^g /w/.git;d /w/r/a/b;f /w/r/.git/HEAD=ref: refs/heads/x~;d /w/r/.git/refs;f /w/r/.git/objects=x\n\
 found - /w /w/.git /w/.git^/w/r/a/b^-^g /w/.git;d /w/r/a/b;f /w/r/.git/HEAD=ref: refs/heads/x~;d /w/r/.git/objects;f /w/r/.git/refs=x\n\
 found - /w/r /w/r/.git /w/r/.git^/w/r/a/b^-^g /w/.git;d /w/r/a/b;f /w/r/.git/HEAD=ref: refs/heads/x~;d /w/o;d /w/p;l /w/r/.git/objects=../../o;l /w/r/.git/refs=/w/p\n\
@@ -90,7 +110,6 @@ found - /w/m /w/m/.git /w/m/.git^/w/m^-^g /w/m/.git;d /w/t/a;f /w/t/.git=gitdir:
 version 2^/w/t^-^g /w/m/.git;d /w/t/a;f /w/t/.git=gitdir: /w/m/.git/worktrees/t~;f /w/m/.git/worktrees/t/HEAD=ref: refs/heads/x~;f /w/m/.git/worktrees/t/commondir=../..~;f /w/m/.git/worktrees/t/gitdir=/w/t/.git~;f /w/m/.git/config=[core]~repositoryformatversion=2~\n\
 found - /w/t /w/m/.git/worktrees/t /w/m/.git^/w/t^-^g /w/m/.git;d /w/t/a;f /w/t/.git=gitdir: /w/m/.git/worktrees/t~;f /w/m/.git/worktrees/t/HEAD=ref: refs/heads/x~;f /w/m/.git/worktrees/t/commondir=../..;f /w/m/.git/worktrees/t/gitdir=/w/t/.git~;f /w/m/.git/config=[core]~repositoryformatversion=0~\n\
 found - /w/t /w/m/.git/worktrees/t /w/m/.git^/w/t^-^g /w/m/.git;d /w/t/a;f /w/t/.git=gitdir: /w/m/.git/worktrees/t~;f /w/m/.git/worktrees/t/HEAD=ref: refs/heads/x~;f /w/m/.git/worktrees/t/commondir=/w/m/.git~;f /w/m/.git/worktrees/t/gitdir=/w/t/.git~;f /w/m/.git/config=[core]~repositoryformatversion=0~\n\
-git-file-target^/w/t^-^g /w/m/.git;d /w/t/a;f /w/t/.git=gitdir: /w/m/.git/worktrees/t~;f /w/m/.git/worktrees/t/HEAD=ref: refs/heads/x~;f /w/m/.git/worktrees/t/commondir=nowhere~;f /w/m/.git/worktrees/t/gitdir=/w/t/.git~;f /w/m/.git/config=[core]~repositoryformatversion=0~\n\
 git-file-target^/w/t^-^g /w/m/.git;d /w/t/a;f /w/t/.git=gitdir: /w/m/.git/worktrees/t~;f /w/m/.git/worktrees/t/HEAD=ref: refs/heads/x~;f /w/m/.git/worktrees/t/gitdir=/w/t/.git~;f /w/m/.git/config=[core]~repositoryformatversion=0~\n\
 bare^/w/m/.git/worktrees/t^-^g /w/m/.git;d /w/t/a;f /w/t/.git=gitdir: /w/m/.git/worktrees/t~;f /w/m/.git/worktrees/t/HEAD=ref: refs/heads/x~;f /w/m/.git/worktrees/t/commondir=../..~;f /w/m/.git/worktrees/t/gitdir=/w/t/.git~;f /w/m/.git/config=[core]~repositoryformatversion=0~\n\
 found - /w/t /w/m.git/worktrees/t /w/m.git^/w/t/a^-^g /w/m.git;d /w/t/a;f /w/t/.git=gitdir: /w/m.git/worktrees/t~;f /w/m.git/worktrees/t/HEAD=ref: refs/heads/x~;f /w/m.git/worktrees/t/commondir=../..~;f /w/m.git/config=[core]~repositoryformatversion=0~bare=true~\n\
@@ -101,9 +120,24 @@ found - /w/t /w/m/.git/worktrees/t /w/m/.git^/w/t^-^g /w/m/.git;d /w/t/a;f /w/t/
 found - /w/t /w/m/.git/worktrees/t /w/m/.git^/w/t^-^g /w/m/.git;d /w/t/a;f /w/t/.git=gitdir: /w/m/.git/worktrees/t~;f /w/m/.git/worktrees/t/HEAD=ref: refs/heads/x~;f /w/m/.git/worktrees/t/commondir=../..~~;f /w/m/.git/worktrees/t/gitdir=/w/t/.git~;f /w/m/.git/config=[core]~repositoryformatversion=0~\n\
 found - /w/t /w/m/.git/worktrees/t /w/m/.git^/w/t^-^g /w/m/.git;d /w/t/a;f /w/t/.git=gitdir: /w/m/.git/worktrees/t~;f /w/m/.git/worktrees/t/HEAD=ref: refs/heads/x~;f /w/m/.git/worktrees/t/commondir=../../~;f /w/m/.git/worktrees/t/gitdir=/w/t/.git~;f /w/m/.git/config=[core]~repositoryformatversion=0~\n\
 found - /w/t /w/m/.git/worktrees/t /w/m/.git^/w/t^-^g /w/m/.git;d /w/t/a;f /w/t/.git=gitdir: /w/m/.git/worktrees/t~;f /w/m/.git/worktrees/t/HEAD=ref: refs/heads/x~;f /w/m/.git/worktrees/t/commondir=./../..~;f /w/m/.git/worktrees/t/gitdir=/w/t/.git~;f /w/m/.git/config=[core]~repositoryformatversion=0~\n\
-git-file-target^/w/t^-^g /w/m/.git;d /w/t/a;f /w/t/.git=gitdir: /w/m/.git/worktrees/t~;f /w/m/.git/worktrees/t/HEAD=ref: refs/heads/x~;f /w/m/.git/worktrees/t/commondir=../.. ~;f /w/m/.git/worktrees/t/gitdir=/w/t/.git~;f /w/m/.git/config=[core]~repositoryformatversion=0~\n\
 git-file-target^/w/t^-^g /w/m/.git;d /w/t/a;f /w/t/.git=gitdir: /w/m/.git/worktrees/t~;f /w/m/.git/worktrees/t/HEAD=ref: refs/heads/x~;f /w/m/.git/worktrees/t/commondir=~;f /w/m/.git/worktrees/t/gitdir=/w/t/.git~;f /w/m/.git/config=[core]~repositoryformatversion=0~\n\
-git-file-target^/w/t^-^g /w/m/.git;d /w/t/a;f /w/t/.git=gitdir: /w/m/.git/worktrees/t~;f /w/m/.git/worktrees/t/HEAD=ref: refs/heads/x~;f /w/m/.git/worktrees/t/commondir=../..~x~;f /w/m/.git/worktrees/t/gitdir=/w/t/.git~;f /w/m/.git/config=[core]~repositoryformatversion=0~\n\
+common^/w/t^-^g /w/m/.git;d /w/t/a;f /w/t/.git=gitdir: /w/m/.git/worktrees/t~;f /w/m/.git/worktrees/t/HEAD=ref: refs/heads/x~;f /w/m/.git/worktrees/t/commondir=;f /w/m/.git/worktrees/t/gitdir=/w/t/.git~;f /w/m/.git/config=[core]~repositoryformatversion=0~\n\
+common^/w/t^-^g /w/m/.git;d /w/t/a;f /w/t/.git=gitdir: /w/m/.git/worktrees/t~;f /w/m/.git/worktrees/t/HEAD=ref: refs/heads/x~;f /w/m/.git/worktrees/t/commondir= ../..~;f /w/m/.git/worktrees/t/gitdir=/w/t/.git~;f /w/m/.git/config=[core]~repositoryformatversion=0~\n\
+common^/w/t^-^g /w/m/.git;d /w/t/a;f /w/t/.git=gitdir: /w/m/.git/worktrees/t~;f /w/m/.git/worktrees/t/HEAD=ref: refs/heads/x~;f /w/m/.git/worktrees/t/commondir=gone/x~;f /w/m/.git/worktrees/t/gitdir=/w/t/.git~;f /w/m/.git/config=[core]~repositoryformatversion=0~\n\
+common^/w/t^-^g /w/m/.git;d /w/t/a;f /w/t/.git=gitdir: /w/m/.git/worktrees/t~;f /w/m/.git/worktrees/t/HEAD=ref: refs/heads/x~;f /w/m/.git/worktrees/t/commondir=gone/../../..~;f /w/m/.git/worktrees/t/gitdir=/w/t/.git~;f /w/m/.git/config=[core]~repositoryformatversion=0~\n\
+common^/w/r/a/b^-^g /w/.git;d /w/r/a/b;g /w/r/.git;f /w/r/.git/commondir=\n\
+common^/w/r/a/b^-^g /w/.git;d /w/r/a/b;g /w/r/.git;d /w/r/.git/commondir\n\
+common^/w/r/a/b^-^g /w/.git;d /w/r/a/b;g /w/r/.git;l /w/r/.git/commondir=nowhere\n\
+common^/w/r/a/b^-^g /w/.git;d /w/r/a/b;g /w/r/.git;l /w/r/.git/commondir=commondir\n\
+common^/w/r/a/b^-^g /w/.git;d /w/r/a/b;g /w/r/.git;f /w/r/.git/commondir=gone/x~\n\
+common^/w/r/a/b^-^g /w/.git;d /w/r/a/b;g /w/r/.git;f /w/r/.git/commondir=/w/gone/x~\n\
+common^/w/r/a/b^-^g /w/.git;d /w/r/a/b;g /w/r/.git;f /w/r/.git/commondir=gone/..~\n\
+common^/w/r/a/b^-^g /w/.git;d /w/r/a/b;g /w/r/.git;f /w/o=x;f /w/r/.git/commondir=/w/o/x~\n\
+common^/w/b/x^-^g /w/.git;d /w/r/a/b;g /w/b;d /w/b/x;d /w/b/commondir\n\
+found - /w /w/.git /w/.git^/w/r/a/b^-^g /w/.git;d /w/r/a/b;d /w/r/.git/objects;d /w/r/.git/refs;d /w/r/.git/commondir\n\
+found - /w /w/.git /w/.git^/w/r/a/b^-^g /w/.git;d /w/r/a/b;d /w/r/.git/objects;d /w/r/.git/refs;f /w/r/.git/HEAD=x~;f /w/r/.git/commondir=\n\
+found - /w /w/.git /w/.git^/w/r/a/b^-^g /w/.git;d /w/r/a/b;d /w/r/commondir\n\
+found - /w /w/.git /w/.git^/w/r/a/b^-^g /w/.git;d /w/r/a/b;d /w/r/.git/refs;f /w/r/.git/HEAD=ref: refs/x~;f /w/r/.git/commondir=.~\n\
 found - /w/s/n /w/s/.git/modules/n /w/s/.git/modules/n^/w/s/n/a^-^g /w/s/.git;g /w/s/.git/modules/n;f /w/s/.git/modules/n/config=[core]~repositoryformatversion=0~bare=false~worktree=../../../n~;d /w/s/n/a;f /w/s/n/.git=gitdir: ../.git/modules/n~\n\
 found - /w/s/n /w/s/.git/modules/n /w/s/.git/modules/n^/w/s/n^-^g /w/s/.git;g /w/s/.git/modules/n;f /w/s/.git/modules/n/config=[core]~repositoryformatversion=0~bare=false~worktree=../../../n~;d /w/s/n/a;f /w/s/n/.git=gitdir: ../.git/modules/n~\n\
 found - /w/s /w/s/.git /w/s/.git^/w/s^-^g /w/s/.git;g /w/s/.git/modules/n;f /w/s/.git/modules/n/config=[core]~repositoryformatversion=0~bare=false~worktree=../../../n~;d /w/s/n/a;f /w/s/n/.git=gitdir: ../.git/modules/n~\n\
@@ -188,6 +222,22 @@ found - /w/r /w/r/.git /w/r/.git^/w/r/a^-^g /w/r/.git;d /w/r/a/b;f /w/r/.git/con
 found - /w/r /w/r/.git /w/r/.git^/w/r/a^-^g /w/r/.git;d /w/r/a/b;f /w/r/.git/config=[core]~repositoryformatversion=0~[extensions \"s\"]~x=1~\n\
 extension s.T.noop^/w/r/a^-^g /w/r/.git;d /w/r/a/b;f /w/r/.git/config=[core]~repositoryformatversion=1~[extensions \"s.T\"]~noop=1~\n\
 extension s.T.objectformat^/w/r/a^-^g /w/r/.git;d /w/r/a/b;f /w/r/.git/config=[core]~repositoryformatversion=1~[extensions \"s.T\"]~objectformat=sha256~\n\
+extension refstorage^/w/r/a^-^g /w/r/.git;d /w/r/a/b;f /w/r/.git/config=[core]~repositoryformatversion=1~[extensions]~refStorage=reftable~\n\
+extension refstorage^/w/r/a^-^g /w/r/.git;d /w/r/a/b;f /w/r/.git/config=[core]~repositoryformatversion=1~[extensions]~refstorage=Files~\n\
+extension refstorage^/w/r/a^-^g /w/r/.git;d /w/r/a/b;f /w/r/.git/config=[core]~repositoryformatversion=1~[extensions]~refstorage~\n\
+extension refstorage^/w/r/a^-^g /w/r/.git;d /w/r/a/b;f /w/r/.git/config=[core]~repositoryformatversion=1~[extensions]~refstorage=~~\n\
+extension x.y^/w/r/a^-^g /w/r/.git;d /w/r/a/b;f /w/r/.git/config=[core]~repositoryformatversion=1~[extensions.x]~y=1~\n\
+extension x.z.y^/w/r/a^-^g /w/r/.git;d /w/r/a/b;f /w/r/.git/config=[core]~repositoryformatversion=1~[EXTENSIONS.x.z]~y=1~\n\
+extension x.s.y^/w/r/a^-^g /w/r/.git;d /w/r/a/b;f /w/r/.git/config=[core]~repositoryformatversion=1~[extensions.x \"s\"]~y=1~\n\
+extension noop.y^/w/r/a^-^g /w/r/.git;d /w/r/a/b;f /w/r/.git/config=[core]~repositoryformatversion=1~[extensions.noop]~y=1~\n\
+extension .y^/w/r/a^-^g /w/r/.git;d /w/r/a/b;f /w/r/.git/config=[core]~repositoryformatversion=1~[extensions.]~y=1~\n\
+found - /w/r /w/r/.git /w/r/.git^/w/r/a^-^g /w/r/.git;d /w/r/a/b;f /w/r/.git/config=[core]~repositoryformatversion=1~[extensionsx.y]~y=1~\n\
+found - /w/r /w/r/.git /w/r/.git^/w/r/a^-^g /w/r/.git;d /w/r/a/b;f /w/r/.git/config=[core]~repositoryformatversion=1~[extensions-x]~y=1~\n\
+found - /w/r /w/r/.git /w/r/.git^/w/r/a^-^g /w/r/.git;d /w/r/a/b;f /w/r/.git/config=[core]~repositoryformatversion=1~[a.extensions]~y=1~\n\
+found - /w/r /w/r/.git /w/r/.git^/w/r/a^-^g /w/r/.git;d /w/r/a/b;f /w/r/.git/config=[core]~repositoryformatversion=0~[extensions.x]~y=1~\n\
+found - /w/r /w/r/.git /w/r/.git^/w/r/a^-^g /w/r/.git;d /w/r/a/b;f /w/r/.git/config=[core]~repositoryformatversion=0~[extensions.x \"s\"]~y=1~\n\
+found - /w/r /w/r/.git /w/r/.git^/w/r/a^-^g /w/r/.git;d /w/r/a/b;f /w/r/.git/config=[core]~repositoryformatversion=1~[extensions.x]~\n\
+extension x.noop^/w/r/a^-^g /w/r/.git;d /w/r/a/b;f /w/r/.git/config=[core]~repositoryformatversion=1~[extensions.x]~noop~[extensions]~y~\n\
 extension noop-v1^/w/r/a^-^g /w/r/.git;d /w/r/a/b;f /w/r/.git/config=[core]~repositoryformatversion=0~[extensions]~noop-v1~\n\
 extension objectformat^/w/r/a^-^g /w/r/.git;d /w/r/a/b;f /w/r/.git/config=[core]~repositoryformatversion=0~[extensions]~objectformat=sha1~\n\
 extension objectformat^/w/r/a^-^g /w/r/.git;d /w/r/a/b;f /w/r/.git/config=[core]~repositoryformatversion=0~[extensions]~objectformat=sha256~\n\
@@ -270,7 +320,11 @@ no-repository^/w/r/a/b^/w/r^g /w/r;d /w/r/a/b\n\
 
 /// Where git answers otherwise, its answer before the one of the definitions:
 ///
-/// - what `HEAD` of a git directory has to be is told otherwise, as in gitoxide
+/// - git and the walk do not agree on what `HEAD` of a git directory has to be; here that is refused
+/// - git asks for the target of a link at `HEAD`, which is not known here; so that is refused
+/// - git passes over a git directory whose common directory is not there; here that is refused
+/// - git says of a `.git` file whose common directory is not there that it names no git directory; here `commondir` is refused
+/// - git takes a path up to a NUL; here no path has one
 /// - git reads the version as a number, in any spelling; here it is `0` or `1`
 /// - git takes a version below 0 as none; here it is refused
 /// - git reads each value of the keys that it looks for; here the last one of those that have a say is read
@@ -280,14 +334,49 @@ no-repository^/w/r/a/b^/w/r^g /w/r;d /w/r/a/b\n\
 /// - git says of an empty `core.worktree` that no work tree is there; here it is a value that cannot be read
 /// - git takes the work tree that `core.worktree` names in a git directory too; here a directory in it is refused as bare
 /// - git reads the format of a bare repository too; here it is refused as bare
-/// - git says that it cannot read the file `commondir`, or what it names; here the `.git` file that leads to it names no git directory
 /// - git takes `..` behind a file for the directory that the file is in; here nothing is behind a file
 /// - git ends a path at a NUL; here no path has one
 pub const DIFFERENCES: &[u8] = b"\
-found - /w/r /w/r/.git /w/r/.git=>found - /w /w/.git /w/.git^/w/r/a/b^-^g /w/.git;d /w/r/a/b;d /w/r/.git/objects;d /w/r/.git/refs;f /w/r/.git/HEAD=ref:refs/heads/x~\n\
-found - /w /w/.git /w/.git=>found - /w/r /w/r/.git /w/r/.git^/w/r/a/b^-^g /w/.git;d /w/r/a/b;d /w/r/.git/objects;d /w/r/.git/refs;f /w/r/.git/HEAD=ref: foo~\n\
-found - /w/r /w/r/.git /w/r/.git=>found - /w /w/.git /w/.git^/w/r/a/b^-^g /w/.git;d /w/r/a/b;d /w/r/.git/objects;d /w/r/.git/refs;f /w/r/.git/HEAD=a1a1a1a1a1a1a1a1a1a1a1a1a1a1a1a1a1a1a1a10~\n\
-found - /w/r /w/r/.git /w/r/.git=>found - /w /w/.git /w/.git^/w/r/a/b^-^g /w/.git;d /w/r/a/b;d /w/r/.git/objects;d /w/r/.git/refs;l /w/r/.git/HEAD=refs/heads/x\n\
+found - /w/r /w/r/.git /w/r/.git=>odd-head^/w/r/a/b^-^g /w/.git;d /w/r/a/b;d /w/r/.git/objects;d /w/r/.git/refs;f /w/r/.git/HEAD=ref:refs/heads/x~\n\
+found - /w/r /w/r/.git /w/r/.git=>odd-head^/w/r/a/b^-^g /w/.git;d /w/r/a/b;d /w/r/.git/objects;d /w/r/.git/refs;f /w/r/.git/HEAD=ref:~refs/heads/x~\n\
+found - /w/r /w/r/.git /w/r/.git=>odd-head^/w/r/a/b^-^g /w/.git;d /w/r/a/b;d /w/r/.git/objects;d /w/r/.git/refs;f /w/r/.git/HEAD=ref: refs/heads/x~~\n\
+found - /w/r /w/r/.git /w/r/.git=>odd-head^/w/r/a/b^-^g /w/.git;d /w/r/a/b;d /w/r/.git/objects;d /w/r/.git/refs;f /w/r/.git/HEAD=ref: refs/heads/x~y~\n\
+found - /w/r /w/r/.git /w/r/.git=>odd-head^/w/r/a/b^-^g /w/.git;d /w/r/a/b;d /w/r/.git/objects;d /w/r/.git/refs;f /w/r/.git/HEAD=ref:\trefs/heads/x~\n\
+found - /w/r /w/r/.git /w/r/.git=>odd-head^/w/r/a/b^-^g /w/.git;d /w/r/a/b;d /w/r/.git/objects;d /w/r/.git/refs;f /w/r/.git/HEAD=a1a1a1a1a1a1a1a1a1a1a1a1a1a1a1a1a1a1a1a10~\n\
+found - /w/r /w/r/.git /w/r/.git=>odd-head^/w/r/a/b^-^g /w/.git;d /w/r/a/b;d /w/r/.git/objects;d /w/r/.git/refs;f /w/r/.git/HEAD=a1a1a1a1a1a1a1a1a1a1a1a1a1a1a1a1a1a1a1a1~~\n\
+found - /w/r /w/r/.git /w/r/.git=>odd-head^/w/r/a/b^-^g /w/.git;d /w/r/a/b;d /w/r/.git/objects;d /w/r/.git/refs;f /w/r/.git/HEAD=a1a1a1a1a1a1a1a1a1a1a1a1a1a1a1a1a1a1a1a1 x~\n\
+found - /w/r /w/r/.git /w/r/.git=>odd-head^/w/r/a/b^-^g /w/.git;d /w/r/a/b;d /w/r/.git/objects;d /w/r/.git/refs;f /w/r/.git/HEAD=a1a1a1a1a1a1a1a1a1a1a1a1a1a1a1a1a1a1a1a1\r~\n\
+found - /w/r /w/r/.git /w/r/.git=>odd-head^/w/r/a/b^-^g /w/.git;d /w/r/a/b;d /w/r/.git/objects;d /w/r/.git/refs;f /w/r/.git/HEAD=ref: ~refs/x\n\
+found - /w /w/.git /w/.git=>odd-head^/w/r/a/b^-^g /w/.git;d /w/r/a/b;d /w/r/.git/objects;d /w/r/.git/refs;f /w/r/.git/HEAD=ref: foo~\n\
+found - /w /w/.git /w/.git=>odd-head^/w/r/a/b^-^g /w/.git;d /w/r/a/b;d /w/r/.git/objects;d /w/r/.git/refs;f /w/r/.git/HEAD=ref: foo\n\
+found - /w /w/.git /w/.git=>odd-head^/w/r/a/b^-^g /w/.git;d /w/r/a/b;d /w/r/.git/objects;d /w/r/.git/refs;f /w/r/.git/HEAD=ref: refsx~\n\
+found - /w /w/.git /w/.git=>odd-head^/w/r/a/b^-^g /w/.git;d /w/r/a/b;d /w/r/.git/objects;d /w/r/.git/refs;f /w/r/.git/HEAD=ref: /refs/x~\n\
+found - /w /w/.git /w/.git=>odd-head^/w/r/a/b^-^g /w/.git;d /w/r/a/b;d /w/r/.git/objects;d /w/r/.git/refs;f /w/r/.git/HEAD=ref: HEAD~\n\
+found - /w /w/.git /w/.git=>odd-head^/w/r/a/b^-^g /w/.git;d /w/r/a/b;d /w/r/.git/objects;d /w/r/.git/refs;f /w/r/.git/HEAD=ref: \x0crefs/x~\n\
+found - /w /w/.git /w/.git=>odd-head^/w/r/a/b^-^g /w/.git;d /w/r/a/b;d /w/r/.git/objects;d /w/r/.git/refs;f /w/r/.git/HEAD=ref:                                                                                                                                                                                                                                                       refs/~\n\
+git-file-target=>odd-head^/w/r/a/b^-^g /w/.git;d /w/r/a/b;d /w/g/objects;d /w/g/refs;f /w/g/HEAD=ref: foo~;f /w/r/.git=gitdir: ../g~\n\
+found - /w/r /w/g /w/g=>odd-head^/w/r/a/b^-^g /w/.git;d /w/r/a/b;d /w/g/objects;d /w/g/refs;f /w/g/HEAD=ref:refs/x~;f /w/r/.git=gitdir: ../g~\n\
+found - /w /w/.git /w/.git=>odd-head^/w/b/x^-^g /w/.git;d /w/r/a/b;d /w/b/objects;d /w/b/refs;d /w/b/x;f /w/b/HEAD=ref: foo~\n\
+bare=>odd-head^/w/b^-^g /w/.git;d /w/r/a/b;d /w/b/objects;d /w/b/refs;d /w/b/x;f /w/b/HEAD=ref: refs/x~~\n\
+found - /w/r /w/r/.git /w/r/.git=>odd-head^/w/r/a/b^-^g /w/.git;d /w/r/a/b;d /w/r/.git/objects;d /w/r/.git/refs;l /w/r/.git/HEAD=refs/heads/x\n\
+found - /w/r /w/r/.git /w/r/.git=>odd-head^/w/r/a/b^-^g /w/.git;d /w/r/a/b;d /w/r/.git/objects;d /w/r/.git/refs;f /w/r/.git/refs/heads/x=a1a1a1a1a1a1a1a1a1a1a1a1a1a1a1a1a1a1a1a1~;l /w/r/.git/HEAD=refs/heads/x\n\
+found - /w/r /w/r/.git /w/r/.git=>odd-head^/w/r/a/b^-^g /w/.git;d /w/r/a/b;d /w/r/.git/objects;d /w/r/.git/refs;f /w/r/.git/refs/heads/x=junk~;l /w/r/.git/HEAD=refs/heads/x\n\
+found - /w /w/.git /w/.git=>odd-head^/w/r/a/b^-^g /w/.git;d /w/r/a/b;d /w/r/.git/objects;d /w/r/.git/refs;l /w/r/.git/HEAD=nowhere\n\
+found - /w /w/.git /w/.git=>odd-head^/w/r/a/b^-^g /w/.git;d /w/r/a/b;d /w/r/.git/objects;d /w/r/.git/refs;l /w/r/.git/HEAD=HEAD\n\
+found - /w /w/.git /w/.git=>odd-head^/w/r/a/b^-^g /w/.git;d /w/r/a/b;d /w/r/.git/objects;d /w/r/.git/refs;f /w/h=ref: refs/heads/x~;l /w/r/.git/HEAD=/w/h\n\
+found - /w /w/.git /w/.git=>odd-head^/w/r/a/b^-^g /w/.git;d /w/r/a/b;d /w/r/.git/objects;d /w/r/.git/refs;f /w/h=ref: refs/heads/x~;l /w/r/.git/HEAD=../../h\n\
+found - /w /w/.git /w/.git=>odd-head^/w/r/a/b^-^g /w/.git;d /w/r/a/b;d /w/r/.git/objects;d /w/r/.git/refs;f /w/r/.git/refs/heads/x=a1a1a1a1a1a1a1a1a1a1a1a1a1a1a1a1a1a1a1a1~;l /w/r/.git/HEAD=./refs/heads/x\n\
+found - /w /w/.git /w/.git=>odd-head^/w/r/a/b^-^g /w/.git;d /w/r/a/b;d /w/r/.git/objects;d /w/r/.git/refs;l /w/r/.git/HEAD=refs\n\
+found - /w/r /w/r/.git /w/r/.git=>odd-head^/w/r/a/b^-^g /w/.git;d /w/r/a/b;d /w/r/.git/objects;d /w/r/.git/refs;l /w/r/.git/HEAD=refs/\n\
+found - /w/r /w/g /w/g=>odd-head^/w/r/a/b^-^g /w/.git;d /w/r/a/b;d /w/g/objects;d /w/g/refs;l /w/g/HEAD=refs/heads/x;f /w/r/.git=gitdir: /w/g~\n\
+bare=>odd-head^/w/r/a/b^-^g /w/.git;d /w/r/a/b;d /w/r/objects;d /w/r/refs;l /w/r/HEAD=refs/heads/x\n\
+found - /w /w/.git /w/.git=>common^/w/r/a/b^-^g /w/.git;d /w/r/a/b;g /w/r/.git;f /w/r/.git/commondir=gone~\n\
+found - /w /w/.git /w/.git=>common^/w/r/a/b^-^g /w/.git;d /w/r/a/b;g /w/r/.git;f /w/o=x;f /w/r/.git/commondir=/w/o~\n\
+git-file-target=>common^/w/t^-^g /w/m/.git;d /w/t/a;f /w/t/.git=gitdir: /w/m/.git/worktrees/t~;f /w/m/.git/worktrees/t/HEAD=ref: refs/heads/x~;f /w/m/.git/worktrees/t/commondir=nowhere~;f /w/m/.git/worktrees/t/gitdir=/w/t/.git~;f /w/m/.git/config=[core]~repositoryformatversion=0~\n\
+git-file-target=>common^/w/t^-^g /w/m/.git;d /w/t/a;f /w/t/.git=gitdir: /w/m/.git/worktrees/t~;f /w/m/.git/worktrees/t/HEAD=ref: refs/heads/x~;f /w/m/.git/worktrees/t/commondir=../.. ~;f /w/m/.git/worktrees/t/gitdir=/w/t/.git~;f /w/m/.git/config=[core]~repositoryformatversion=0~\n\
+git-file-target=>common^/w/t^-^g /w/m/.git;d /w/t/a;f /w/t/.git=gitdir: /w/m/.git/worktrees/t~;f /w/m/.git/worktrees/t/HEAD=ref: refs/heads/x~;f /w/m/.git/worktrees/t/commondir=../..~x~;f /w/m/.git/worktrees/t/gitdir=/w/t/.git~;f /w/m/.git/config=[core]~repositoryformatversion=0~\n\
+git-file-target=>common^/w/t^-^g /w/m/.git;d /w/t/a;f /w/t/.git=gitdir: /w/m/.git/worktrees/t~;f /w/m/.git/worktrees/t/HEAD=ref: refs/heads/x~;f /w/m/.git/worktrees/t/commondir=HEAD~;f /w/m/.git/worktrees/t/gitdir=/w/t/.git~;f /w/m/.git/config=[core]~repositoryformatversion=0~\n\
+found - /w/r /w/r/.git /w/r/.git=>common^/w/r/a/b^-^g /w/.git;d /w/r/a/b;g /w/r/.git;d /w/r/.git/o;f /w/r/.git/commondir=../.git\x00x~\n\
 found - /w/r /w/r/.git /w/r/.git=>version 01^/w/r/a^-^g /w/r/.git;d /w/r/a/b;f /w/r/.git/config=[core]~repositoryformatversion=01~\n\
 found - /w/r /w/r/.git /w/r/.git=>version 00^/w/r/a^-^g /w/r/.git;d /w/r/a/b;f /w/r/.git/config=[core]~repositoryformatversion=00~\n\
 found - /w/r /w/r/.git /w/r/.git=>version 0x1^/w/r/a^-^g /w/r/.git;d /w/r/a/b;f /w/r/.git/config=[core]~repositoryformatversion=0x1~\n\
@@ -312,7 +401,7 @@ value core.bare=>extension x^/w/r/a^-^g /w/r/.git;d /w/r/a/b;f /w/r/.git/config=
 value extensions.worktreeconfig=>extension x^/w/r/a^-^g /w/r/.git;d /w/r/a/b;f /w/r/.git/config=[core]~repositoryformatversion=1~[extensions]~x~worktreeconfig=maybe~\n\
 extension x=>sha256^/w/r/a^-^g /w/r/.git;d /w/r/a/b;f /w/r/.git/config=[core]~repositoryformatversion=1~[extensions]~objectformat=sha256~x~\n\
 extension refstorage=>found - /w/r /w/r/.git /w/r/.git^/w/r/a^-^g /w/r/.git;d /w/r/a/b;f /w/r/.git/config=[core]~repositoryformatversion=1~[extensions]~refstorage=files~\n\
-extension refstorage=>found - /w/r /w/r/.git /w/r/.git^/w/r/a^-^g /w/r/.git;d /w/r/a/b;f /w/r/.git/config=[core]~repositoryformatversion=1~[extensions]~refStorage=reftable~\n\
+extension refstorage=>found - /w/r /w/r/.git /w/r/.git^/w/r/a^-^g /w/r/.git;d /w/r/a/b;f /w/r/.git/config=[core]~repositoryformatversion=1~[extensions]~refStorage=files~\n\
 extension relativeworktrees=>found - /w/r /w/r/.git /w/r/.git^/w/r/a^-^g /w/r/.git;d /w/r/a/b;f /w/r/.git/config=[core]~repositoryformatversion=1~[extensions]~relativeworktrees=true~\n\
 no-work-tree=>value core.worktree^/w/r/a^-^g /w/r/.git;d /w/r/a/b;f /w/r/.git/config=[core]~repositoryformatversion=0~worktree=~\n\
 found - /w/o /w/r/.git /w/r/.git=>bare^/w/r/.git^-^g /w/r/.git;d /w/r/a/b;d /w/o;f /w/r/.git/config=[core]~repositoryformatversion=0~worktree=/w/o~\n\
@@ -322,8 +411,6 @@ version 2=>bare^/w/b^-^g /w/b;f /w/b/config=[core]~repositoryformatversion=2~\n\
 value core.bare=>bare^/w/b^-^g /w/b;f /w/b/config=[core]~bare=maybe~\n\
 extension x=>bare^/w/b^-^g /w/b;f /w/b/config=[core]~repositoryformatversion=1~[extensions]~x~\n\
 config=>bare^/w/b^-^g /w/b;f /w/b/config=[core]~x y~\n\
-common=>git-file-target^/w/t^-^g /w/m/.git;d /w/t/a;f /w/t/.git=gitdir: /w/m/.git/worktrees/t~;f /w/m/.git/worktrees/t/HEAD=ref: refs/heads/x~;f /w/m/.git/worktrees/t/commondir=;f /w/m/.git/worktrees/t/gitdir=/w/t/.git~;f /w/m/.git/config=[core]~repositoryformatversion=0~\n\
-common=>git-file-target^/w/t^-^g /w/m/.git;d /w/t/a;f /w/t/.git=gitdir: /w/m/.git/worktrees/t~;f /w/m/.git/worktrees/t/HEAD=ref: refs/heads/x~;f /w/m/.git/worktrees/t/commondir= ../..~;f /w/m/.git/worktrees/t/gitdir=/w/t/.git~;f /w/m/.git/config=[core]~repositoryformatversion=0~\n\
 found - /w/o /w/r/.git /w/r/.git=>no-work-tree^/w/r/a^-^g /w/r/.git;d /w/r/a/b;d /w/o;f /w/f=x;f /w/r/.git/config=[core]~repositoryformatversion=0~worktree=/w/f/../o~\n\
 no-repository=>found - /w/r /w/r/.git /w/r/.git^/w/r/a/b^/w/r/f/..^g /w/r/.git;d /w/r/a/b;f /w/r/f=x\n\
 found - /w/r /w/r/g /w/r/g=>git-file-target^/w/r^-^g /w/r/g;f /w/r/.git=gitdir: g\x00x~\n\

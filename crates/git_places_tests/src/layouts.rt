@@ -63,6 +63,8 @@ pub fn word_of(error: &PlacesError) -> &'static [u8] {
         PlacesError::Bare { .. } => b"bare",
         PlacesError::GitFileForm { .. } => b"git-file-form",
         PlacesError::GitFileTarget { .. } => b"git-file-target",
+        PlacesError::OddHead { .. } => b"odd-head",
+        PlacesError::CommonDir { .. } => b"common",
         PlacesError::Version { .. } => b"version",
         PlacesError::Extension { .. } => b"extension",
         PlacesError::Sha256 => b"sha256",

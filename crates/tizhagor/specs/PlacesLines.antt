@@ -12,6 +12,9 @@ places_line (errors.NoDirectory path) = with_path (codes "fatal: failed to stat 
 places_line (errors.Bare path) = codes "fatal: this operation must be run in a work tree\n"
 places_line (errors.GitFileForm path) = with_path (codes "fatal: invalid gitfile format: ") path (codes "\n")
 places_line (errors.GitFileTarget path) = with_path (codes "fatal: not a git repository: ") path (codes "\n")
+places_line (errors.OddHead path) =
+    with_path (codes "fatal: '") path (codes "' may be another HEAD to git; make it a file of one line, 'ref: refs/heads/BRANCH' or an id\n")
+places_line (errors.CommonDir path) = with_path (codes "fatal: '") path (codes "' names no directory\n")
 places_line (errors.Version value) = with_path (codes "fatal: Expected git repo version <= 1, found ") value (codes "\n")
 places_line (errors.Extension key) = with_path (codes "fatal: unknown repository extension found: ") key (codes "\n")
 places_line errors.Sha256 = codes "fatal: a repository with ids of SHA-256 is not read\n"

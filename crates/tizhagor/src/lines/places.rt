@@ -44,6 +44,18 @@ pub fn places_line(alloc: Global, error: &PlacesError) -> Result<Bytes, OutOfMem
             path.as_bytes(),
             b"\n",
         ),
+        PlacesError::OddHead { path } => with_path(
+            alloc,
+            b"fatal: '",
+            path.as_bytes(),
+            b"' may be another HEAD to git; make it a file of one line, 'ref: refs/heads/BRANCH' or an id\n",
+        ),
+        PlacesError::CommonDir { path } => with_path(
+            alloc,
+            b"fatal: '",
+            path.as_bytes(),
+            b"' names no directory\n",
+        ),
         PlacesError::Version { value } => with_path(
             alloc,
             b"fatal: Expected git repo version <= 1, found ",

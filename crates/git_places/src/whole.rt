@@ -1,0 +1,249 @@
+//! What the search takes for a git directory.
+ghost use Rattle.std.specs.Prelude.{◌≡◌, Some, true, false, Ok, IfOk};
+ghost use Rattle.gitbase_core.specs.Steps.{and_then};
+ghost use Rattle.worktree_fs.specs.Repository.{file_at, is_directory_at};
+ghost use Rattle.worktree_fs.specs.Tree.{look};
+ghost use Rattle.git_places.specs.Finds.{Finds};
+ghost use Rattle.git_places.specs.Whole as words;
+
+use crate::error::PlacesError;
+use crate::head::{Head, head_at};
+use gitbase_core::{Bytes, OutOfMemory, PathText};
+use std::alloc::Global;
+use worktree_fs::{
+    NodeKind, Worktree, from_directory, is_git_below, is_git_directory, read_file, trimmed,
+};
+
+/// Whether a path leads to a directory.
+pub fn is_directory<W: Worktree>(
+    alloc: Global,
+    worktree: &mut W,
+    path: &[u8],
+) -> Result<bool, PlacesError>
+    ensures { Finds W.Worktree worktree.old worktree.new
+        (λ t. Ok (is_directory_at (look t path.now true))) result }
+{
+    let kind = worktree.kind_following(alloc, path)?;
+    Ok(kind == Some(NodeKind::Directory))
+}
+
+/// The refusal of a `commondir`.
+fn common_error(alloc: Global, git: &[u8]) -> Result<PlacesError, OutOfMemory>
+    ensures { IfOk result (λ e. e ≡ PlacesError.CommonDir (words.common_file git.now)) }
+{
+    let path = from_directory(alloc, b"commondir", git)?;
+    Ok(PlacesError::CommonDir {
+        path: PathText::from_bytes(alloc, path.as_bytes())?,
+    })
+}
+
+/// A path that leads to a directory; another one is refused.
+fn directory_or<W: Worktree>(
+    alloc: Global,
+    worktree: &mut W,
+    git: &[u8],
+    path: Bytes,
+) -> Result<Bytes, PlacesError>
+    ensures { Finds W.Worktree worktree.old worktree.new
+        (λ t. words.directory_or t git.now path) result }
+{
+    if is_directory(alloc, worktree, path.as_bytes())? {
+        return Ok(path);
+    }
+    Err(common_error(alloc, git)?)
+}
+
+/// The common directory by the bytes of `commondir`.
+fn common_of_bytes<W: Worktree>(
+    alloc: Global,
+    worktree: &mut W,
+    git: &[u8],
+    bytes: &[u8],
+) -> Result<Bytes, PlacesError>
+    ensures { Finds W.Worktree worktree.old worktree.new
+        (λ t. words.common_said t git.now (Some bytes.now)) result }
+{
+    if bytes.is_empty() {
+        return Err(common_error(alloc, git)?);
+    }
+    let path = from_directory(alloc, trimmed(bytes), git)?;
+    directory_or(alloc, worktree, git, path)
+}
+
+/// The common directory by what stands at the path of `commondir`, where something is there.
+fn common_said<W: Worktree>(
+    alloc: Global,
+    worktree: &mut W,
+    git: &[u8],
+    path: &[u8],
+) -> Result<Bytes, PlacesError>
+    ensures { Finds W.Worktree worktree.old worktree.new
+        (λ t. words.common_said t git.now (file_at (look t path.now true))) result }
+{
+    let mut bytes = Bytes::new(alloc);
+    if !read_file(alloc, worktree, path, &mut bytes)? {
+        return Err(common_error(alloc, git)?);
+    }
+    common_of_bytes(alloc, worktree, git, bytes.as_bytes())
+}
+
+/// The common directory of a git directory.
+fn common_at<W: Worktree>(alloc: Global, worktree: &mut W, git: &[u8]) -> Result<Bytes, PlacesError>
+    ensures { Finds W.Worktree worktree.old worktree.new (λ t. words.common_at t git.now) result }
+{
+    let path = from_directory(alloc, b"commondir", git)?;
+    match worktree.kind(alloc, path.as_bytes())? {
+        Some(_) => common_said(alloc, worktree, git, path.as_bytes()),
+        None => Ok(Bytes::from_slice(alloc, git)?),
+    }
+}
+
+/// The path of `HEAD` in a git directory.
+fn head_file(alloc: Global, git: &[u8]) -> Result<Bytes, OutOfMemory>
+    ensures { IfOk result (λ path. path ≡ words.head_file git.now) }
+{
+    from_directory(alloc, b"HEAD", git)
+}
+
+/// The refusal of a `HEAD`.
+fn odd_head(alloc: Global, git: &[u8]) -> Result<PlacesError, OutOfMemory>
+    ensures { IfOk result (λ e. e ≡ PlacesError.OddHead (words.head_file git.now)) }
+{
+    let path = head_file(alloc, git)?;
+    Ok(PlacesError::OddHead {
+        path: PathText::from_bytes(alloc, path.as_bytes())?,
+    })
+}
+
+fn has_parts<W: Worktree>(
+    alloc: Global,
+    worktree: &mut W,
+    common: &[u8],
+) -> Result<bool, PlacesError>
+    ensures { Finds W.Worktree worktree.old worktree.new
+        (λ t. Ok (words.has_parts t common.now)) result }
+{
+    let objects = from_directory(alloc, b"objects", common)?;
+    if !is_directory(alloc, worktree, objects.as_bytes())? {
+        return Ok(false);
+    }
+    let refs = from_directory(alloc, b"refs", common)?;
+    is_directory(alloc, worktree, refs.as_bytes())
+}
+
+/// A directory that git takes: whether the walk takes it too.
+fn if_taken<W: Worktree>(
+    alloc: Global,
+    worktree: &mut W,
+    git: &[u8],
+    common: &[u8],
+) -> Result<bool, PlacesError>
+    ensures { Finds W.Worktree worktree.old worktree.new
+        (λ t. words.if_taken t git.now common.now) result }
+{
+    if is_git_directory(alloc, worktree, git, common)? {
+        return Ok(true);
+    }
+    Err(odd_head(alloc, git)?)
+}
+
+/// By a `HEAD` that git takes, over the common directory.
+fn if_good<W: Worktree>(
+    alloc: Global,
+    worktree: &mut W,
+    git: &[u8],
+    common: &[u8],
+) -> Result<bool, PlacesError>
+    ensures { Finds W.Worktree worktree.old worktree.new
+        (λ t. words.by_parts t git.now Head.Good common.now) result }
+{
+    if has_parts(alloc, worktree, common)? {
+        return if_taken(alloc, worktree, git, common);
+    }
+    Ok(false)
+}
+
+/// By a `HEAD` of which nothing is known, over the common directory.
+fn if_unknown<W: Worktree>(
+    alloc: Global,
+    worktree: &mut W,
+    git: &[u8],
+    common: &[u8],
+) -> Result<bool, PlacesError>
+    ensures { Finds W.Worktree worktree.old worktree.new
+        (λ t. words.by_parts t git.now Head.Unknown common.now) result }
+{
+    if has_parts(alloc, worktree, common)? {
+        return Err(odd_head(alloc, git)?);
+    }
+    Ok(false)
+}
+
+/// By what git says of `HEAD`, over the common directory.
+fn by_parts<W: Worktree>(
+    alloc: Global,
+    worktree: &mut W,
+    git: &[u8],
+    head: Head,
+    common: &[u8],
+) -> Result<bool, PlacesError>
+    ensures { Finds W.Worktree worktree.old worktree.new
+        (λ t. words.by_parts t git.now head common.now) result }
+{
+    match head {
+        Head::Good => if_good(alloc, worktree, git, common),
+        Head::Bad => Ok(false),
+        Head::Unknown => if_unknown(alloc, worktree, git, common),
+    }
+}
+
+/// By a `HEAD` that git takes, or of which nothing is known.
+fn by_common<W: Worktree>(
+    alloc: Global,
+    worktree: &mut W,
+    git: &[u8],
+    head: Head,
+) -> Result<bool, PlacesError>
+    ensures { Finds W.Worktree worktree.old worktree.new
+        (λ t. and_then (words.by_parts t git.now head) (words.common_at t git.now)) result }
+{
+    let common = common_at(alloc, worktree, git)?;
+    by_parts(alloc, worktree, git, head, common.as_bytes())
+}
+
+/// By a `HEAD` that git passes over: whether the walk does so too.
+fn if_passed<W: Worktree>(alloc: Global, worktree: &mut W, git: &[u8]) -> Result<bool, PlacesError>
+    ensures { Finds W.Worktree worktree.old worktree.new
+        (λ t. words.whole_by t git.now Head.Bad) result }
+{
+    if is_git_below(alloc, worktree, git)? {
+        return Err(odd_head(alloc, git)?);
+    }
+    Ok(false)
+}
+
+/// Whether a directory is a git directory, to git and to the walk alike.
+///
+/// # Errors
+///
+/// - `OddHead`: they would not agree, or it is not known whether they would.
+/// - `CommonDir`: its file `commondir` names no directory.
+/// - `Fault`: the worktree failed, which it counted.
+/// - `OutOfMemory` for want of memory.
+///
+/// See docs/DECISIONS.md#two-tests.
+pub fn is_whole<W: Worktree>(
+    alloc: Global,
+    worktree: &mut W,
+    git: &[u8],
+) -> Result<bool, PlacesError>
+    ensures { Finds W.Worktree worktree.old worktree.new (λ t. words.is_whole t git.now) result }
+{
+    let path = head_file(alloc, git)?;
+    let head = head_at(alloc, worktree, path.as_bytes())?;
+    match head {
+        Head::Good => by_common(alloc, worktree, git, Head::Good),
+        Head::Bad => if_passed(alloc, worktree, git),
+        Head::Unknown => by_common(alloc, worktree, git, Head::Unknown),
+    }
+}
