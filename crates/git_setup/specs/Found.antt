@@ -107,6 +107,7 @@ parts_of read pieces =
     record {
       ignore_case = read.switches.ignore_case;
       quote_path = read.switches.quote_path;
+      config = read.stack.file;
       index = read.index;
       globals = pieces.globals;
       specs = pieces.specs;
@@ -151,6 +152,7 @@ found_with places around asked parts =
       prefix = prefix_in places.root around.directory;
       each = parts.specs.each;
       quote_path = parts.quote_path;
+      config = parts.config;
     }
 
 -- what is found at the top of a work tree

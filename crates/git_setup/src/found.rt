@@ -15,6 +15,7 @@ use crate::pathspecs::AskedSpecs;
 use crate::placed::beneath;
 use crate::reading::read_here;
 use git_config_files::{FilesError, own_top};
+use git_config_lite::File;
 use git_places::{Limits, Places, PlacesError, Surroundings, Top, find_top, limits_of, places_of};
 use gitbase_core::{Bytes, MemoryStore, OutOfMemory, PathText};
 use std::alloc::Global;
@@ -34,6 +35,8 @@ pub struct Found {
     pub each: EachSpec,
     /// Whether bytes above 0x7f are quoted in paths that are written, as `core.quotePath` says.
     pub quote_path: bool,
+    /// What the configurations say, for keys that a command alone asks for.
+    pub config: File,
 }
 
 /// An answer of the search for a work tree, its refusal as one of the whole.
@@ -223,6 +226,7 @@ fn found_with(
         prefix,
         each,
         quote_path: parts.quote_path,
+        config: parts.config,
         setup,
     })
 }

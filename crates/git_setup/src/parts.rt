@@ -11,7 +11,7 @@ use crate::pathspecs::{AskedSpecs, specs_in};
 use crate::protected::{Protected, protected_here};
 use crate::reading::Read;
 use git_config_files::{Configured, Rules, rules_files};
-use git_config_lite::Source;
+use git_config_lite::{File, Source};
 use git_places::{Places, Surroundings};
 use gitbase_core::{Bytes, OutOfMemory, PathText, State};
 use std::alloc::Global;
@@ -25,6 +25,8 @@ pub struct Parts {
     pub ignore_case: bool,
     /// Whether bytes above 0x7f are quoted in paths that are written.
     pub quote_path: bool,
+    /// What the configurations say.
+    pub config: File,
     /// The index.
     pub index: State,
     /// The rules that come behind those of all directories.
@@ -197,6 +199,7 @@ pub fn parts_here<W: Worktree>(
     Ok(Parts {
         ignore_case: read.switches.ignore_case,
         quote_path: read.switches.quote_path,
+        config: read.stack.file,
         index: read.index,
         globals: pieces.globals,
         specs: pieces.specs,
