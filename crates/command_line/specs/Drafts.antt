@@ -14,9 +14,13 @@ use Rattle.worktree_report.specs.Permissions.{all_permissions, isolated_permissi
 use Rattle.worktree_report.specs.declared.permissions.Permissions.{Permissions}
 use Rattle.worktree_report.specs.declared.setup.SetupOptions.{SetupOptions}
 use Rattle.worktree_stack.specs.declared.ignore_source.Source.TheVariants as sources
+use Rattle.git_clean.specs.declared.cleaning.Cleaning.{Cleaning}
 use Rattle.ls_files.specs.declared.listing.Listing.{Listing}
 use Rattle.command_line.specs.declared.choice.Choice.{Choice}
 use Rattle.command_line.specs.declared.choice.Choice.TheVariants as choices
+use Rattle.command_line.specs.declared.cleaning.CleanChoice.{CleanChoice}
+use Rattle.command_line.specs.declared.cleaning.CleanChoice.TheVariants as cleans
+use Rattle.command_line.specs.declared.cleaning.Force.TheVariants as forces
 use Rattle.command_line.specs.declared.draft.Draft.{Draft}
 use Rattle.command_line.specs.declared.form.Color.{Color}
 use Rattle.command_line.specs.declared.form.Color.TheVariants.{Auto}
@@ -27,6 +31,7 @@ use Rattle.command_line.specs.declared.form.Wording.{Wording}
 use Rattle.command_line.specs.declared.form.Wording.TheVariants.{Words}
 use Rattle.command_line.specs.declared.opt.Switch.{Switch}
 use Rattle.command_line.specs.declared.opt.Switch.TheVariants as switches
+use Rattle.command_line.specs.Cleanings.{forced}
 
 -- Each untracked path by itself and nothing else, by the rules that git asks: what lies in an excluded directory stays excluded.
 -- Whether letters compare without regard to their case is left to the configuration.
@@ -79,10 +84,34 @@ default_listing =
       quote_path = true;
     }
 
+-- What is asked of `clean` where no word says anything. Whether repositories go is left to `-f`.
+abbrev pub default_cleaning : Cleaning
+default_cleaning =
+    record {
+      dry_run = false;
+      directories = false;
+      ignored_too = false;
+      ignored_only = false;
+      patterns = false;
+      repositories = false;
+      quiet = false;
+      quote_path = true;
+    }
+
 -- what no words say: untracked paths may be removed, and no repository, bare ones neither
 abbrev pub default_draft : Draft
 default_draft =
-    record { options = default_options; what = whats.Untracked; finding = findings.All; depth = 256; form = default_form; listing = default_listing; is_help = false }
+    record {
+      options = default_options;
+      what = whats.Untracked;
+      finding = findings.All;
+      depth = 256;
+      form = default_form;
+      listing = default_listing;
+      cleaning = default_cleaning;
+      force = forces.Unsaid;
+      is_help = false;
+    }
 
 -- options with one of them turned on or off
 abbrev pub turned : Switch → Bool → SetupOptions → SetupOptions
@@ -115,6 +144,14 @@ chosen choices.Valid on listing = record listing { valid = on }
 chosen choices.Nul on listing = record listing { ends_in_nul = on }
 chosen choices.Deduplicates on listing = record listing { deduplicates = on }
 chosen choices.FullNames on listing = record listing { full_names = on }
+
+-- what is asked of `clean` with one choice made or dropped
+abbrev pub swept : CleanChoice → Bool → Cleaning → Cleaning
+swept cleans.DryRun on cleaning = record cleaning { dry_run = on }
+swept cleans.Directories on cleaning = record cleaning { directories = on }
+swept cleans.IgnoredToo on cleaning = record cleaning { ignored_too = on }
+swept cleans.IgnoredAlone on cleaning = record cleaning { ignored_only = on }
+swept cleans.Quiet on cleaning = record cleaning { quiet = on }
 
 abbrev pub permissions_of : Bool → Permissions
 permissions_of is_isolated = if is_isolated then isolated_permissions else all_permissions
@@ -168,6 +205,12 @@ with_depth depth draft = record draft { depth = depth }
 
 abbrev pub with_choice : Choice → Bool → Draft → Draft
 with_choice choice on draft = record draft { listing = chosen choice on draft.listing }
+
+abbrev pub with_clean_choice : CleanChoice → Bool → Draft → Draft
+with_clean_choice choice on draft = record draft { cleaning = swept choice on draft.cleaning }
+
+abbrev pub with_force : Bool → Draft → Draft
+with_force on draft = record draft { force = forced on draft.force }
 
 abbrev pub with_help : Draft → Draft
 with_help draft = record draft { is_help = true }

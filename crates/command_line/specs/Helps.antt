@@ -7,12 +7,13 @@ use Rattle.command_line.specs.declared.verb.Verb.TheVariants as verbs
 
 -- how a command is called
 abbrev pub usage_of : Topic → List ℕ
-usage_of topics.Whole = codes "usage: tizhagor [-C DIR] report|plan|modules|state|ls-files [OPTION..] [--] [PATH..]\n"
+usage_of topics.Whole = codes "usage: tizhagor [-C DIR] report|plan|modules|state|ls-files|clean [OPTION..] [--] [PATH..]\n"
 usage_of (topics.Of verbs.Report) = codes "usage: tizhagor [-C DIR] report [OPTION..] [--] [PATH..]\n"
 usage_of (topics.Of verbs.Plan) = codes "usage: tizhagor [-C DIR] plan [OPTION..] [--] [PATH..]\n"
 usage_of (topics.Of verbs.Modules) = codes "usage: tizhagor [-C DIR] modules [OPTION..]\n"
 usage_of (topics.Of verbs.State) = codes "usage: tizhagor [-C DIR] state [OPTION..]\n"
 usage_of (topics.Of verbs.Files) = codes "usage: tizhagor [-C DIR] ls-files [OPTION..] [--] [PATH..]\n"
+usage_of (topics.Of verbs.Clean) = codes "usage: tizhagor [-C DIR] clean -n [OPTION..] [--] [PATH..]\n"
 
 -- lines, each with a line feed
 abbrev text : List (List ℕ) → List ℕ
@@ -21,7 +22,7 @@ text lines = flat_map (λ line. line ++ 10 ∷ []) lines
 abbrev whole : List ℕ
 whole =
     text
-    (codes "usage: tizhagor [-C DIR] report|plan|modules|state|ls-files [OPTION..] [--] [PATH..]"
+    (codes "usage: tizhagor [-C DIR] report|plan|modules|state|ls-files|clean [OPTION..] [--] [PATH..]"
     ∷ codes ""
     ∷ codes "Says what lies in the git work tree around the current directory. Nothing is run,"
     ∷ codes "changed or removed, and git is not needed."
@@ -31,6 +32,7 @@ whole =
     ∷ codes "  modules   what git submodule update would do"
     ∷ codes "  state     the paths of the index that are not as it has them, and the report"
     ∷ codes "  ls-files  paths of the index and of the work tree, as git ls-files has them"
+    ∷ codes "  clean     with -n: what git clean would remove, as git clean -n has it"
     ∷ codes ""
     ∷ codes "  -C DIR        works in DIR"
     ∷ codes "  -h, --help    this text; behind a command, that of the command"
@@ -214,6 +216,31 @@ files =
     ∷ []
     )
 
+unfoldable pub clean : List ℕ
+clean =
+    text
+    (codes "usage: tizhagor [-C DIR] clean -n [OPTION..] [--] [PATH..]"
+    ∷ codes ""
+    ∷ codes "Names what git clean would remove, as git clean -n does, from the current directory."
+    ∷ codes "Nothing is removed, so -n has to stand. A PATH is a path spec; none means the current"
+    ∷ codes "directory."
+    ∷ codes ""
+    ∷ codes "  -n, --dry-run         nothing is removed"
+    ∷ codes "  -d                    untracked directories too; so it is wherever a PATH stands"
+    ∷ codes "  -x                    ignored paths too: no ignore rules are asked"
+    ∷ codes "  -X                    ignored paths alone"
+    ∷ codes "  -e PATTERN, --exclude=PATTERN"
+    ∷ codes "                        an ignore rule before all others"
+    ∷ codes "  -f, --force           twice: untracked repositories too; where clean.requireForce is"
+    ∷ codes "                        false, once is enough"
+    ∷ codes "  -q, --quiet           nothing is named"
+    ∷ codes "  -h, --help            this text"
+    ∷ codes ""
+    ∷ codes "Of options that say the same the last counts; --no-dry-run, --no-force and --no-quiet"
+    ∷ codes "take back what they name. For example: tizhagor clean -nd"
+    ∷ []
+    )
+
 -- the help text of a command, or of the whole program
 abbrev pub help_of : Topic → List ℕ
 help_of topics.Whole = whole
@@ -222,6 +249,7 @@ help_of (topics.Of verbs.Plan) = plan
 help_of (topics.Of verbs.Modules) = modules
 help_of (topics.Of verbs.State) = state
 help_of (topics.Of verbs.Files) = files
+help_of (topics.Of verbs.Clean) = clean
 
 abbrev pub version : List ℕ
 version = codes "tizhagor, unreleased\n"

@@ -2,6 +2,7 @@ pub mod Verbs
 pub mod Forms
 pub mod Options
 pub mod Choices
+pub mod Cleanings
 pub mod Drafts
 pub mod Steps
 pub mod Readings

@@ -13,7 +13,7 @@ use Rattle.command_line.specs.declared.opt.Opt.TheVariants as opts
 use Rattle.command_line.specs.declared.opt.Switch.{Switch}
 use Rattle.command_line.specs.declared.opt.Switch.TheVariants as switches
 use Rattle.command_line.specs.declared.verb.Verb.{Verb}
-use Rattle.command_line.specs.declared.verb.Verb.TheVariants.{Report, Plan, Modules, State, Files}
+use Rattle.command_line.specs.declared.verb.Verb.TheVariants.{Report, Plan, Modules, State, Files, Clean}
 
 -- ---- names
 
@@ -129,13 +129,14 @@ abbrev pub is_letters : Opt → Bool
 is_letters opts.Plain = true
 is_letters other = false
 
--- `ls-files` has those that it knows by name. `state` has those of `report`, whose lines stand behind its own, but no letters: its own lines have none
+-- `ls-files` and `clean` have those that they know by name. `state` has those of `report`, whose lines stand behind its own, but no letters: its own lines have none
 abbrev pub takes : Verb → Opt → Bool
 takes Report opt = is_of_report opt
 takes Plan opt = takes_for_plan opt
 takes Modules opt = is_of_modules opt
 takes State opt = is_of_report opt && not (is_letters opt)
 takes Files opt = true
+takes Clean opt = true
 
 -- ---- values
 

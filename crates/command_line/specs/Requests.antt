@@ -1,12 +1,14 @@
 -- What the words of a command line ask for.
-use Rattle.std.specs.Prelude.{◌≡◌, ℕ, List, [], ◌∷◌, Bool, ◌||◌, nat_eq, ⊤, codes, Option, Some, None, Result, Ok, Err, if◌then◌else◌}
+use Rattle.std.specs.Prelude.{◌≡◌, ℕ, List, [], ◌∷◌, Bool, true, ◌||◌, nat_eq, ⊤, codes, Option, Some, None, Result, Ok, Err, if◌then◌else◌}
 use Rattle.std.specs.List.{starts_with}
 use Rattle.std.specs.Str.{bytes_eq}
 use Rattle.clean_plan.specs.declared.what.Finding.{Finding}
 use Rattle.clean_plan.specs.declared.what.What.{What}
+use Rattle.git_clean.specs.declared.cleaning.Cleaning.{Cleaning}
 use Rattle.git_setup.specs.declared.asked.Asked.{Asked}
 use Rattle.ls_files.specs.declared.listing.Listing.{Listing}
 use Rattle.worktree_report.specs.declared.setup.SetupOptions.{SetupOptions}
+use Rattle.command_line.specs.declared.cleaning.Force.{Force}
 use Rattle.command_line.specs.declared.command.Command as code
 use Rattle.command_line.specs.declared.command.Command.TheVariants as commands
 use Rattle.command_line.specs.declared.command.Request.{Request}
@@ -40,6 +42,7 @@ pub data Command : Type 0 where
   modules : Want → Command
   state : Want → Form → Command
   files : Want → Listing → Command
+  clean : Want → Cleaning → Force → List (List ℕ) → Command
   help : Topic → Command
   version : Command
 
@@ -50,6 +53,7 @@ seen (commands.Plan asked what finding form) = plan (want_of asked) what finding
 seen (commands.Modules asked) = modules (want_of asked)
 seen (commands.State asked form) = state (want_of asked) form
 seen (commands.Files asked listing) = files (want_of asked) listing
+seen (commands.Clean asked wants) = clean (want_of asked) wants.cleaning wants.force wants.patterns.items
 seen (commands.Help topic) = help topic
 seen commands.Version = version
 
@@ -65,23 +69,30 @@ depth_in verbs.Plan depth = depth
 depth_in verbs.Modules depth = depth
 depth_in verbs.State depth = depth
 depth_in verbs.Files depth = 1000
+depth_in verbs.Clean depth = 1000
 
 abbrev want_in : Verb → Draft → List (List ℕ) → Want
 want_in verb draft paths = record { options = draft.options; paths = paths; depth = depth_in verb draft.depth; prefers_current = prefers_current verb }
 
-abbrev done : Verb → Draft → List (List ℕ) → Command
-done verbs.Report draft paths = report (want_in verbs.Report draft paths) draft.form
-done verbs.Plan draft paths = plan (want_in verbs.Plan draft paths) draft.what draft.finding draft.form
-done verbs.Modules draft paths = modules (want_in verbs.Modules draft paths)
-done verbs.State draft paths = state (want_in verbs.State draft paths) draft.form
-done verbs.Files draft paths = files (want_in verbs.Files draft paths) draft.listing
+-- a path spec asks for directories too: git-clean(1), "-d"
+abbrev pub cleaning_in : Cleaning → List (List ℕ) → Cleaning
+cleaning_in cleaning [] = cleaning
+cleaning_in cleaning (path ∷ paths) = record cleaning { directories = true }
+
+abbrev done : Verb → Draft → List (List ℕ) → List (List ℕ) → Command
+done verbs.Report draft paths patterns = report (want_in verbs.Report draft paths) draft.form
+done verbs.Plan draft paths patterns = plan (want_in verbs.Plan draft paths) draft.what draft.finding draft.form
+done verbs.Modules draft paths patterns = modules (want_in verbs.Modules draft paths)
+done verbs.State draft paths patterns = state (want_in verbs.State draft paths) draft.form
+done verbs.Files draft paths patterns = files (want_in verbs.Files draft paths) draft.listing
+done verbs.Clean draft paths patterns = clean (want_in verbs.Clean draft paths) (cleaning_in draft.cleaning paths) draft.force patterns
 
 -- what a command is to do, by what its words say
-abbrev pub told : Verb → Draft → List (List ℕ) → Command
-told verb draft paths = if draft.is_help then help (topics.Of verb) else done verb draft paths
+abbrev pub told : Verb → Draft → List (List ℕ) → List (List ℕ) → Command
+told verb draft paths patterns = if draft.is_help then help (topics.Of verb) else done verb draft paths patterns
 
 abbrev answer_by : Verb → Reading → Answer
-answer_by verb (said draft paths) = does (told verb draft paths)
+answer_by verb (said draft paths patterns) = does (told verb draft paths patterns)
 answer_by verb (wrong how word) = misuses_word (topics.Of verb) how word
 
 -- the words behind a command

@@ -1,5 +1,5 @@
 -- How one word of a command is read.
-use Rattle.std.specs.Prelude.{ℕ, ◌+◌, List, [], ◌∷◌, Bool, true, false, ◌==◌, ◌||◌, position, take, drop, codes, Option, Some, None, if◌then◌else◌}
+use Rattle.std.specs.Prelude.{ℕ, ◌+◌, List, [], ◌∷◌, Bool, true, false, ◌==◌, ◌||◌, length, position, take, drop, codes, Option, Some, None, if◌then◌else◌}
 use Rattle.std.specs.Str.{bytes_eq}
 use Rattle.clean_plan.specs.declared.what.Finding.TheVariants as findings
 use Rattle.clean_plan.specs.declared.what.What.TheVariants as whats
@@ -19,11 +19,12 @@ use Rattle.command_line.specs.declared.opt.Opt.TheVariants as opts
 use Rattle.command_line.specs.declared.step.Next.{Next}
 use Rattle.command_line.specs.declared.step.Next.TheVariants as nexts
 use Rattle.command_line.specs.declared.step.Step.{Step}
-use Rattle.command_line.specs.declared.step.Step.TheVariants.{Said, Path, Wrong as is_wrong}
+use Rattle.command_line.specs.declared.step.Step.TheVariants.{Said, Path, Pattern, Wrong as is_wrong}
 use Rattle.command_line.specs.declared.verb.Verb.{Verb}
 use Rattle.command_line.specs.declared.verb.Verb.TheVariants as verbs
 use Rattle.command_line.specs.Choices.{listing_opt_of, listing_opt_of_letter}
-use Rattle.command_line.specs.Drafts.{with_switch, with_untracked, with_ignored, with_collapsed, with_deletion, with_permissions, with_strategy, with_wording, with_end, with_color, with_what, with_finding, with_depth, with_choice, with_help}
+use Rattle.command_line.specs.Cleanings.{cleaning_opt_of, cleaning_opt_of_letter, is_line}
+use Rattle.command_line.specs.Drafts.{with_switch, with_untracked, with_ignored, with_collapsed, with_deletion, with_permissions, with_strategy, with_wording, with_end, with_color, with_what, with_finding, with_depth, with_choice, with_clean_choice, with_force, with_help}
 use Rattle.command_line.specs.Options.{opt_of, opt_of_letter, takes, emission_of, collapsed_of, deletion_of}
 use Rattle.command_line.specs.Verbs.{takes_paths}
 
@@ -52,6 +53,9 @@ bare opts.NoColor draft = on (with_color Never draft)
 bare opts.Help draft = on (with_help draft)
 bare (opts.Chooses choice) draft = on (with_choice choice true draft)
 bare (opts.Drops choice) draft = on (with_choice choice false draft)
+bare (opts.Cleans choice is_on) draft = on (with_clean_choice choice is_on draft)
+bare (opts.Forces is_on) draft = on (with_force is_on draft)
+bare opts.Pattern draft = Said draft nexts.Pattern
 bare opts.Left draft = is_wrong wrongs.Left
 
 -- ---- values
@@ -112,6 +116,10 @@ depth_as None draft = is_wrong wrongs.NotADepth
 abbrev pub depth_by : List ℕ → Draft → Step
 depth_by value draft = depth_as (depth_of value) draft
 
+-- a pattern, which is the end of a word
+abbrev pub pattern_by : List ℕ → Draft → Step
+pattern_by value draft = if is_line value then Pattern draft (length value) else is_wrong wrongs.Pattern
+
 -- an option with a value
 abbrev pub valued : Opt → List ℕ → Draft → Step
 valued opts.Untracked value draft = untracked_by value draft
@@ -122,6 +130,7 @@ valued opts.Permissions value draft = permissions_by value draft
 valued opts.Strategy value draft = strategy_by value draft
 valued opts.Depth value draft = depth_by value draft
 valued opts.Color value draft = color_by value draft
+valued opts.Pattern value draft = pattern_by value draft
 valued opts.Left value draft = is_wrong wrongs.Left
 valued other value draft = is_wrong wrongs.TakesNoValue
 
@@ -135,6 +144,7 @@ if_taken verb (Some opt) = if takes verb opt then Some opt else None
 -- the option of a name that a command has
 abbrev pub known : Verb → List ℕ → Option Opt
 known verbs.Files name = listing_opt_of name
+known verbs.Clean name = cleaning_opt_of name
 known verbs.Report name = if_taken verbs.Report (opt_of name)
 known verbs.Plan name = if_taken verbs.Plan (opt_of name)
 known verbs.Modules name = if_taken verbs.Modules (opt_of name)
@@ -167,6 +177,7 @@ long verb text draft = long_at verb text (position (λ b. b == 61) text) draft
 -- the option of a letter that a command has
 abbrev pub known_letter : Verb → ℕ → Option Opt
 known_letter verbs.Files letter = listing_opt_of_letter letter
+known_letter verbs.Clean letter = cleaning_opt_of_letter letter
 known_letter verbs.Report letter = if_taken verbs.Report (opt_of_letter letter)
 known_letter verbs.Plan letter = if_taken verbs.Plan (opt_of_letter letter)
 known_letter verbs.Modules letter = if_taken verbs.Modules (opt_of_letter letter)
@@ -177,6 +188,11 @@ abbrev pub untracked_letter : List ℕ → Draft → Step
 untracked_letter [] draft = bare opts.Untracked draft
 untracked_letter (b ∷ value) draft = untracked_by (b ∷ value) draft
 
+-- `e` and a pattern behind it in its word, or in the next
+abbrev pub pattern_letter : List ℕ → Draft → Step
+pattern_letter [] draft = bare opts.Pattern draft
+pattern_letter (b ∷ value) draft = pattern_by (b ∷ value) draft
+
 abbrev said_or : Draft → Step → Draft
 said_or draft (Said now next) = now
 said_or draft other = draft
@@ -184,9 +200,15 @@ said_or draft other = draft
 abbrev pub lettered : Opt → Draft → Draft
 lettered opt draft = said_or draft (bare opt draft)
 
-abbrev pub is_untracked : Opt → Bool
-is_untracked opts.Untracked = true
-is_untracked other = false
+-- what stands behind the letter of an option in its word is the option's value
+abbrev pub takes_rest : Opt → Bool
+takes_rest opts.Untracked = true
+takes_rest opts.Pattern = true
+takes_rest other = false
+
+abbrev pub with_rest : Opt → List ℕ → Draft → Step
+with_rest opts.Pattern text draft = pattern_letter text draft
+with_rest other text draft = untracked_letter text draft
 
 abbrev pub is_left : Opt → Bool
 is_left opts.Left = true
@@ -195,11 +217,11 @@ is_left other = false
 abbrev pub by_letter : Option Opt → ℕ → List ℕ → (Draft → Step) → Draft → Step
 by_letter None letter text onward draft = is_wrong (wrongs.UnknownSwitch letter)
 by_letter (Some opt) letter text onward draft =
-    if is_untracked opt then untracked_letter text draft
+    if takes_rest opt then with_rest opt text draft
     else if is_left opt then is_wrong (wrongs.LeftSwitch letter)
     else onward (lettered opt draft)
 
--- letters, each an option; `u` takes what is behind it as its value
+-- letters, each an option; `u` and `e` take what is behind them as their value
 unfoldable pub letters : Verb → List ℕ → Draft → Step
 letters verb [] draft = on draft
 letters verb (letter ∷ text) draft = by_letter (known_letter verb letter) letter text (λ d. letters verb text d) draft
@@ -210,11 +232,13 @@ letters verb (letter ∷ text) draft = by_letter (known_letter verb letter) lett
 abbrev pub path : Verb → Step
 path verb = if takes_paths verb then Path else is_wrong wrongs.Paths
 
-abbrev twice_dashed : Verb → List ℕ → Draft → Step
+-- what stands behind `--`
+abbrev pub twice_dashed : Verb → List ℕ → Draft → Step
 twice_dashed verb [] draft = Said draft nexts.Paths
 twice_dashed verb (b ∷ text) draft = long verb (b ∷ text) draft
 
-abbrev dashed : Verb → List ℕ → Draft → Step
+-- what stands behind the first `-`
+abbrev pub dashed : Verb → List ℕ → Draft → Step
 dashed verb [] draft = path verb
 dashed verb (b ∷ text) draft = if b == 45 then twice_dashed verb text draft else letters verb (b ∷ text) draft
 
@@ -228,4 +252,5 @@ any verb (b ∷ text) draft = if b == 45 then dashed verb text draft else path v
 abbrev pub step_of : Verb → Next → List ℕ → Draft → Step
 step_of verb nexts.Any word draft = any verb word draft
 step_of verb nexts.Depth word draft = depth_by word draft
+step_of verb nexts.Pattern word draft = pattern_by word draft
 step_of verb nexts.Paths word draft = path verb

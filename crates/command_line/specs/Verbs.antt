@@ -2,7 +2,7 @@
 use Rattle.std.specs.Prelude.{ℕ, List, Bool, true, false, codes, Option, Some, None, if◌then◌else◌}
 use Rattle.std.specs.Str.{bytes_eq}
 use Rattle.command_line.specs.declared.verb.Verb.{Verb}
-use Rattle.command_line.specs.declared.verb.Verb.TheVariants.{Report, Plan, Modules, State, Files}
+use Rattle.command_line.specs.declared.verb.Verb.TheVariants.{Report, Plan, Modules, State, Files, Clean}
 
 -- the command of this name
 abbrev pub verb_of : List ℕ → Option Verb
@@ -12,6 +12,7 @@ verb_of word =
     else if bytes_eq word (codes "modules") then Some Modules
     else if bytes_eq word (codes "state") then Some State
     else if bytes_eq word (codes "ls-files") then Some Files
+    else if bytes_eq word (codes "clean") then Some Clean
     else None
 
 -- `modules` and `state` look at the whole of the work tree
@@ -21,6 +22,7 @@ takes_paths Plan = true
 takes_paths Modules = false
 takes_paths State = false
 takes_paths Files = true
+takes_paths Clean = true
 
 -- git's own words mean the current directory where no path is asked for, and where each path excludes
 abbrev pub prefers_current : Verb → Bool
@@ -29,3 +31,4 @@ prefers_current Plan = false
 prefers_current Modules = false
 prefers_current State = false
 prefers_current Files = true
+prefers_current Clean = true

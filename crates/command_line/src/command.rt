@@ -1,10 +1,25 @@
 //! What the words ask for.
+use crate::cleaning::Force;
 use crate::form::Form;
 use crate::verb::Topic;
 use clean_plan::{Finding, What};
+use git_clean::Cleaning;
 use git_setup::Asked;
 use gitbase_core::Bytes;
 use ls_files::Listing;
+
+/// What is asked of a cleaning.
+#[derive(Debug, Drop)]
+pub struct CleanAsked {
+    /// What would be removed. Whether repositories would be is left to `force`, whether there are
+    /// patterns to `patterns`, and whether bytes above 0x7f are quoted to the configuration.
+    pub cleaning: Cleaning,
+    /// How often `-f` stands.
+    pub force: Force,
+    /// The rules before all others. Each can stand as a line of a rules file, a `#` in front apart:
+    /// no line feed is in it, and no blank and no carriage return at its end.
+    pub patterns: Vec<Bytes>,
+}
 
 /// What is to be done.
 #[derive(Debug, Drop)]
@@ -45,6 +60,13 @@ pub enum Command {
         asked: Asked,
         /// What is listed. Whether bytes above 0x7f are quoted is left to the configuration.
         listing: Listing,
+    },
+    /// What `git clean` would remove is named.
+    Clean {
+        /// What is asked of the work tree. The options are those of a report.
+        asked: Asked,
+        /// What is asked of the cleaning.
+        clean: CleanAsked,
     },
     /// A help text is written.
     Help(Topic),

@@ -3,10 +3,12 @@ ghost use Rattle.std.specs.Prelude.{◌≡◌, Option};
 ghost use Rattle.command_line.specs.Drafts as drafts;
 
 use crate::choice::Choice;
+use crate::cleaning::{CleanChoice, Force};
 use crate::form::{Color, Form, LineEnd, Wording};
 use crate::opt::Switch;
 use clean_plan::{Finding, What};
 use dir_classify::{CollapsedEntriesEmissionMode, EmissionMode, ForDeletionMode};
+use git_clean::Cleaning;
 use ls_files::Listing;
 use worktree_report::{Permissions, SetupOptions, Strategy};
 use worktree_stack::ignore_source;
@@ -29,6 +31,10 @@ pub struct Draft {
     pub form: Form,
     /// What is listed.
     pub listing: Listing,
+    /// What is asked of `clean`.
+    pub cleaning: Cleaning,
+    /// How often it is to go by force.
+    pub force: Force,
     /// Whether the help text is asked for.
     pub is_help: bool,
 }
@@ -84,6 +90,22 @@ fn default_listing() -> Listing
     }
 }
 
+/// What is asked of `clean` where no word says anything.
+fn default_cleaning() -> Cleaning
+    ensures { result ≡ drafts.default_cleaning }
+{
+    Cleaning {
+        dry_run: false,
+        directories: false,
+        ignored_too: false,
+        ignored_only: false,
+        patterns: false,
+        repositories: false,
+        quiet: false,
+        quote_path: true,
+    }
+}
+
 /// What no words say.
 pub fn default_draft() -> Draft
     ensures { result ≡ drafts.default_draft }
@@ -99,6 +121,8 @@ pub fn default_draft() -> Draft
             color: Color::Auto,
         },
         listing: default_listing(),
+        cleaning: default_cleaning(),
+        force: Force::Unsaid,
         is_help: false,
     }
 }
@@ -149,6 +173,21 @@ fn chosen(listing: Listing, choice: Choice, on: bool) -> Listing
         Choice::FullNames => listing.full_names = on,
     }
     listing
+}
+
+/// What is asked of `clean` with one choice made or dropped; all others stay.
+fn swept(cleaning: Cleaning, choice: CleanChoice, on: bool) -> Cleaning
+    ensures { result ≡ drafts.swept choice on cleaning }
+{
+    let mut cleaning = cleaning;
+    match choice {
+        CleanChoice::DryRun => cleaning.dry_run = on,
+        CleanChoice::Directories => cleaning.directories = on,
+        CleanChoice::IgnoredToo => cleaning.ignored_too = on,
+        CleanChoice::IgnoredAlone => cleaning.ignored_only = on,
+        CleanChoice::Quiet => cleaning.quiet = on,
+    }
+    cleaning
 }
 
 /// The configurations that may be read.
@@ -286,6 +325,22 @@ impl Draft {
     {
         let mut draft = self;
         draft.listing = chosen(draft.listing, choice, on);
+        draft
+    }
+
+    pub fn with_clean_choice(self, choice: CleanChoice, on: bool) -> Draft
+        ensures { result ≡ drafts.with_clean_choice choice on self }
+    {
+        let mut draft = self;
+        draft.cleaning = swept(draft.cleaning, choice, on);
+        draft
+    }
+
+    pub fn with_force(self, on: bool) -> Draft
+        ensures { result ≡ drafts.with_force on self }
+    {
+        let mut draft = self;
+        draft.force = draft.force.with(on);
         draft
     }
 

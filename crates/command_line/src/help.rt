@@ -5,7 +5,7 @@ ghost use Rattle.command_line.specs.Helps as helps;
 use crate::verb::{Topic, Verb};
 
 const WHOLE: &[u8] =
-    b"usage: tizhagor [-C DIR] report|plan|modules|state|ls-files [OPTION..] [--] [PATH..]
+    b"usage: tizhagor [-C DIR] report|plan|modules|state|ls-files|clean [OPTION..] [--] [PATH..]
 
 Says what lies in the git work tree around the current directory. Nothing is run,
 changed or removed, and git is not needed.
@@ -15,6 +15,7 @@ changed or removed, and git is not needed.
   modules   what git submodule update would do
   state     the paths of the index that are not as it has them, and the report
   ls-files  paths of the index and of the work tree, as git ls-files has them
+  clean     with -n: what git clean would remove, as git clean -n has it
 
   -C DIR        works in DIR
   -h, --help    this text; behind a command, that of the command
@@ -177,6 +178,27 @@ Of options that say the same the last counts; --no- before a name turns it off, 
 for --exclude-standard and --full-name. For example: tizhagor ls-files -o --directory
 ";
 
+const CLEAN: &[u8] = b"usage: tizhagor [-C DIR] clean -n [OPTION..] [--] [PATH..]
+
+Names what git clean would remove, as git clean -n does, from the current directory.
+Nothing is removed, so -n has to stand. A PATH is a path spec; none means the current
+directory.
+
+  -n, --dry-run         nothing is removed
+  -d                    untracked directories too; so it is wherever a PATH stands
+  -x                    ignored paths too: no ignore rules are asked
+  -X                    ignored paths alone
+  -e PATTERN, --exclude=PATTERN
+                        an ignore rule before all others
+  -f, --force           twice: untracked repositories too; where clean.requireForce is
+                        false, once is enough
+  -q, --quiet           nothing is named
+  -h, --help            this text
+
+Of options that say the same the last counts; --no-dry-run, --no-force and --no-quiet
+take back what they name. For example: tizhagor clean -nd
+";
+
 /// The help text of `report`.
 #[tactic(auto, unfolding(crate::specs::Helps::report))]
 fn report_help() -> &'static [u8]
@@ -209,18 +231,27 @@ fn files_help() -> &'static [u8]
     FILES
 }
 
+/// The help text of `clean`.
+#[tactic(auto, unfolding(crate::specs::Helps::clean))]
+fn clean_help() -> &'static [u8]
+    ensures { result.now ≡ helps.clean }
+{
+    CLEAN
+}
+
 /// How a command is called.
 pub fn usage_of(topic: Topic) -> &'static [u8]
     ensures { result.now ≡ helps.usage_of topic }
 {
     match topic {
         Topic::Whole =>
-            b"usage: tizhagor [-C DIR] report|plan|modules|state|ls-files [OPTION..] [--] [PATH..]\n",
+            b"usage: tizhagor [-C DIR] report|plan|modules|state|ls-files|clean [OPTION..] [--] [PATH..]\n",
         Topic::Of(Verb::Report) => b"usage: tizhagor [-C DIR] report [OPTION..] [--] [PATH..]\n",
         Topic::Of(Verb::Plan) => b"usage: tizhagor [-C DIR] plan [OPTION..] [--] [PATH..]\n",
         Topic::Of(Verb::Modules) => b"usage: tizhagor [-C DIR] modules [OPTION..]\n",
         Topic::Of(Verb::State) => b"usage: tizhagor [-C DIR] state [OPTION..]\n",
         Topic::Of(Verb::Files) => b"usage: tizhagor [-C DIR] ls-files [OPTION..] [--] [PATH..]\n",
+        Topic::Of(Verb::Clean) => b"usage: tizhagor [-C DIR] clean -n [OPTION..] [--] [PATH..]\n",
     }
 }
 
@@ -235,6 +266,7 @@ pub fn help_of(topic: Topic) -> &'static [u8]
         Topic::Of(Verb::Modules) => MODULES,
         Topic::Of(Verb::State) => state_help(),
         Topic::Of(Verb::Files) => files_help(),
+        Topic::Of(Verb::Clean) => clean_help(),
     }
 }
 

@@ -2,6 +2,7 @@
 #![tactic(auto)]
 
 mod choice;
+mod cleaning;
 mod command;
 mod depth;
 mod draft;
@@ -17,7 +18,8 @@ mod step;
 mod unspelled;
 mod verb;
 
-pub use command::{Command, Request};
+pub use cleaning::Force;
+pub use command::{CleanAsked, Command, Request};
 pub use form::{Color, Form, LineEnd, Style, Wording, styled};
 pub use help::{help_of, version};
 pub use misuse::{Misuse, Wrong, said};

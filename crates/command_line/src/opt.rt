@@ -3,6 +3,7 @@ ghost use Rattle.std.specs.Prelude.{◌≡◌};
 ghost use Rattle.command_line.specs.Options as options;
 
 use crate::choice::Choice;
+use crate::cleaning::CleanChoice;
 use crate::verb::Verb;
 use dir_classify::{CollapsedEntriesEmissionMode, EmissionMode, ForDeletionMode};
 
@@ -76,6 +77,12 @@ pub enum Opt {
     Chooses(Choice),
     /// Drops one.
     Drops(Choice),
+    /// Makes a choice of `clean`, or drops it.
+    Cleans(CleanChoice, bool),
+    /// `-f` of `clean` once more, or not at all.
+    Forces(bool),
+    /// A rule of `clean` before all others.
+    Pattern,
     /// It is git's, and is not answered here.
     Left,
 }
@@ -273,7 +280,7 @@ pub fn takes(verb: Verb, opt: Opt) -> bool
         Verb::Plan => takes_for_plan(opt),
         Verb::Modules => matches!(opt, Opt::Permissions | Opt::Help),
         Verb::State => is_of_report(opt) & !matches!(opt, Opt::Plain),
-        Verb::Files => true,
+        Verb::Files | Verb::Clean => true,
     }
 }
 

@@ -12,20 +12,36 @@ use std::alloc::Global;
 /// What the words of a command say together.
 #[derive(Debug, Drop)]
 pub enum Read {
-    /// What the options say, and the paths as they are written.
-    Said(Draft, Vec<Bytes>),
+    /// What the options say, the paths as they are written, and the patterns.
+    Said(Draft, Vec<Bytes>, Vec<Bytes>),
     /// The first word that is wrong, and how.
     Wrong(Wrong, Bytes),
 }
 
 /// What the words say where there are no more: an option may want a value still.
-fn ended(alloc: Global, draft: Draft, next: Next, paths: Vec<Bytes>) -> Result<Read, OutOfMemory>
-    ensures { IfOk result (λ read. readings.seen read ≡ readings.ended draft next paths.items) }
+fn ended(
+    alloc: Global,
+    draft: Draft,
+    next: Next,
+    paths: Vec<Bytes>,
+    patterns: Vec<Bytes>,
+) -> Result<Read, OutOfMemory>
+    ensures { IfOk result
+        (λ read. readings.seen read ≡ readings.ended draft next paths.items patterns.items) }
 {
     match next {
-        Next::Any | Next::Paths => Ok(Read::Said(draft, paths)),
+        Next::Any | Next::Paths => Ok(Read::Said(draft, paths, patterns)),
         Next::Depth => Ok(Read::Wrong(Wrong::NoValue, Bytes::from_slice(alloc, b"--depth")?)),
+        Next::Pattern => Ok(Read::Wrong(Wrong::NoValue, Bytes::from_slice(alloc, b"--exclude")?)),
     }
+}
+
+/// The last bytes of a word, as many as are said.
+fn end_of_word(alloc: Global, left: usize, word: &[u8]) -> Result<Bytes, OutOfMemory>
+    ensures { IfOk result (λ text. text ≡ readings.end_of_word left word.now) }
+{
+    let (_, text) = word.split_at(word.len().saturating_sub(left));
+    Bytes::from_slice(alloc, text)
 }
 
 /// What the words of a command say together.
@@ -36,6 +52,7 @@ pub fn read_words(alloc: Global, verb: Verb, words: &[Bytes]) -> Result<Read, Ou
     let mut draft = default_draft();
     let mut next = Next::Any;
     let mut paths = Vec::new(alloc);
+    let mut patterns = Vec::new(alloc);
     let mut rest = words;
     while let Some((word, after)) = rest.split_first() {
         match step_of(verb, next, word.as_bytes(), draft) {
@@ -44,11 +61,16 @@ pub fn read_words(alloc: Global, verb: Verb, words: &[Bytes]) -> Result<Read, Ou
                 next = then;
             }
             Step::Path => paths.push(Bytes::from_slice(alloc, word.as_bytes())?)?,
+            Step::Pattern(now, left) => {
+                draft = now;
+                next = Next::Any;
+                patterns.push(end_of_word(alloc, left, word.as_bytes())?)?;
+            }
             Step::Wrong(wrong) => {
                 return Ok(Read::Wrong(wrong, Bytes::from_slice(alloc, word.as_bytes())?));
             }
         }
         rest = after;
     }
-    ended(alloc, draft, next, paths)
+    ended(alloc, draft, next, paths, patterns)
 }

@@ -2,16 +2,17 @@
 ghost use Rattle.std.specs.Prelude.{◌≡◌};
 ghost use Rattle.command_line.specs.Requests as requests;
 
-use crate::command::{Command, Request};
+use crate::command::{CleanAsked, Command, Request};
 use crate::draft::Draft;
 use crate::misuse::{Misuse, Wrong};
 use crate::read::{Read, read_words};
 use crate::verb::{Topic, Verb, prefers_current, verb_of};
+use git_clean::Cleaning;
 use git_setup::Asked;
 use gitbase_core::Bytes;
 use std::alloc::Global;
 
-/// How deep `ls-files` goes: as deep as can be asked for.
+/// How deep `ls-files` and `clean` go: as deep as can be asked for.
 const DEEPEST: usize = 1000;
 
 /// How many components a directory that is entered may have.
@@ -20,18 +21,33 @@ fn depth_in(verb: Verb, depth: usize) -> usize
 {
     match verb {
         Verb::Report | Verb::Plan | Verb::Modules | Verb::State => depth,
-        Verb::Files => DEEPEST,
+        Verb::Files | Verb::Clean => DEEPEST,
+    }
+}
+
+/// What is asked of `clean`, by its paths too.
+fn cleaning_in(cleaning: Cleaning, paths: &[Bytes]) -> Cleaning
+    ensures { result ≡ requests.cleaning_in cleaning paths.now }
+{
+    match paths {
+        [] => cleaning,
+        _ => {
+            let mut cleaning = cleaning;
+            cleaning.directories = true;
+            cleaning
+        }
     }
 }
 
 /// What a command is to do, by what its words say.
-fn told(verb: Verb, draft: Draft, paths: Vec<Bytes>) -> Command
-    ensures { requests.seen result ≡ requests.told verb draft paths.items }
+fn told(verb: Verb, draft: Draft, paths: Vec<Bytes>, patterns: Vec<Bytes>) -> Command
+    ensures { requests.seen result ≡ requests.told verb draft paths.items patterns.items }
 {
     if draft.is_help {
         return Command::Help(Topic::Of(verb));
     }
     let form = draft.form;
+    let cleaning = cleaning_in(draft.cleaning, &paths);
     let asked = Asked {
         options: draft.options,
         paths,
@@ -52,6 +68,14 @@ fn told(verb: Verb, draft: Draft, paths: Vec<Bytes>) -> Command
             asked,
             listing: draft.listing,
         },
+        Verb::Clean => Command::Clean {
+            asked,
+            clean: CleanAsked {
+                cleaning,
+                force: draft.force,
+                patterns,
+            },
+        },
     }
 }
 
@@ -60,7 +84,7 @@ fn of_verb(alloc: Global, verb: Verb, words: &[Bytes]) -> Result<Command, Misuse
     ensures { requests.Commands result (requests.of_verb verb words.now) }
 {
     match read_words(alloc, verb, words)? {
-        Read::Said(draft, paths) => Ok(told(verb, draft, paths)),
+        Read::Said(draft, paths, patterns) => Ok(told(verb, draft, paths, patterns)),
         Read::Wrong(wrong, word) => Err(Misuse::Word {
             topic: Topic::Of(verb),
             wrong,
@@ -157,7 +181,7 @@ fn elsewhere(alloc: Global, words: &[Bytes]) -> Result<Request, Misuse>
     }
 }
 
-/// What the words of a command line ask for: `[-C DIR] report|plan|modules|state|ls-files [OPTION..] [--] [PATH..]`, or a help text, or the
+/// What the words of a command line ask for: `[-C DIR] report|plan|modules|state|ls-files|clean [OPTION..] [--] [PATH..]`, or a help text, or the
 /// version.
 ///
 /// # Errors

@@ -3,6 +3,7 @@ ghost use Rattle.std.specs.Prelude.{◌≡◌, ◌<◌, ◌==◌, length, positi
 ghost use Rattle.command_line.specs.Steps as steps;
 
 use crate::choice::{listing_opt_of, listing_opt_of_letter};
+use crate::cleaning::{cleaning_opt_of, cleaning_opt_of_letter, is_line};
 use crate::depth::depth_of;
 use crate::draft::Draft;
 use crate::form::{Color, LineEnd, Wording};
@@ -20,6 +21,8 @@ pub enum Next {
     Any,
     /// As a depth.
     Depth,
+    /// As a pattern.
+    Pattern,
     /// As a path, whatever it is.
     Paths,
 }
@@ -31,6 +34,8 @@ pub enum Step {
     Said(Draft, Next),
     /// It is a path.
     Path,
+    /// An option whose value is a pattern: what is said now, and how many bytes at the end of the word are the pattern.
+    Pattern(Draft, usize),
     /// It is wrong.
     Wrong(Wrong),
 }
@@ -64,6 +69,9 @@ fn bare(opt: Opt, draft: Draft) -> Step
         Opt::Help => on(draft.with_help()),
         Opt::Chooses(choice) => on(draft.with_choice(choice, true)),
         Opt::Drops(choice) => on(draft.with_choice(choice, false)),
+        Opt::Cleans(choice, is_on) => on(draft.with_clean_choice(choice, is_on)),
+        Opt::Forces(is_on) => on(draft.with_force(is_on)),
+        Opt::Pattern => Step::Said(draft, Next::Pattern),
         Opt::Left => Step::Wrong(Wrong::Left),
     }
 }
@@ -161,6 +169,17 @@ fn depth_by(value: &[u8], draft: Draft) -> Step
     }
 }
 
+/// A pattern, which is the end of a word.
+fn pattern_by(value: &[u8], draft: Draft) -> Step
+    ensures { result ≡ steps.pattern_by value.now draft }
+{
+    if is_line(value) {
+        Step::Pattern(draft, value.len())
+    } else {
+        Step::Wrong(Wrong::Pattern)
+    }
+}
+
 /// An option with a value.
 fn valued(opt: Opt, value: &[u8], draft: Draft) -> Step
     ensures { result ≡ steps.valued opt value.now draft }
@@ -174,6 +193,7 @@ fn valued(opt: Opt, value: &[u8], draft: Draft) -> Step
         Opt::Strategy => strategy_by(value, draft),
         Opt::Depth => depth_by(value, draft),
         Opt::Color => color_by(value, draft),
+        Opt::Pattern => pattern_by(value, draft),
         Opt::Left => Step::Wrong(Wrong::Left),
         _ => Step::Wrong(Wrong::TakesNoValue),
     }
@@ -195,6 +215,7 @@ fn known(verb: Verb, name: &[u8]) -> Option<Opt>
 {
     match verb {
         Verb::Files => listing_opt_of(name),
+        Verb::Clean => cleaning_opt_of(name),
         Verb::Report | Verb::Plan | Verb::Modules | Verb::State => { if_taken(verb, opt_of(name)) }
     }
 }
@@ -247,6 +268,7 @@ fn known_letter(verb: Verb, letter: u8) -> Option<Opt>
 {
     match verb {
         Verb::Files => listing_opt_of_letter(letter),
+        Verb::Clean => cleaning_opt_of_letter(letter),
         Verb::Report | Verb::Plan | Verb::Modules | Verb::State => {
             if_taken(verb, opt_of_letter(letter))
         }
@@ -263,6 +285,16 @@ fn untracked_letter(value: &[u8], draft: Draft) -> Step
     }
 }
 
+/// `e` and what stands behind it in its word: a pattern, or nothing where that is the next word.
+fn pattern_letter(value: &[u8], draft: Draft) -> Step
+    ensures { result ≡ steps.pattern_letter value.now draft }
+{
+    match value {
+        [] => bare(Opt::Pattern, draft),
+        _ => pattern_by(value, draft),
+    }
+}
+
 /// What an option of a letter says, by what was said before it. None of these has a value.
 fn lettered(opt: Opt, draft: Draft) -> Draft
     ensures { result ≡ steps.lettered opt draft }
@@ -274,10 +306,20 @@ fn lettered(opt: Opt, draft: Draft) -> Draft
 }
 
 /// Whether what stands behind the letter of an option is its value.
-fn is_untracked(opt: Opt) -> bool
-    ensures { result ≡ steps.is_untracked opt }
+fn takes_rest(opt: Opt) -> bool
+    ensures { result ≡ steps.takes_rest opt }
 {
-    matches!(opt, Opt::Untracked)
+    matches!(opt, Opt::Untracked | Opt::Pattern)
+}
+
+/// What it says with that value.
+fn with_rest(opt: Opt, text: &[u8], draft: Draft) -> Step
+    ensures { result ≡ steps.with_rest opt text.now draft }
+{
+    match opt {
+        Opt::Pattern => pattern_letter(text, draft),
+        _ => untracked_letter(text, draft),
+    }
 }
 
 /// Whether an option is git's, and is not answered here.
@@ -298,8 +340,8 @@ fn letters(verb: Verb, text: &[u8], draft: Draft) -> Step
         let Some(opt) = known_letter(verb, *letter) else {
             return Step::Wrong(Wrong::UnknownSwitch { letter: *letter });
         };
-        if is_untracked(opt) {
-            return untracked_letter(after, said);
+        if takes_rest(opt) {
+            return with_rest(opt, after, said);
         }
         if is_left(opt) {
             return Step::Wrong(Wrong::LeftSwitch { letter: *letter });
@@ -321,15 +363,33 @@ fn path(verb: Verb) -> Step
     }
 }
 
+/// What stands behind `--`: nothing, or a name.
+fn twice_dashed(verb: Verb, text: &[u8], draft: Draft) -> Step
+    ensures { result ≡ steps.twice_dashed verb text.now draft }
+{
+    match text {
+        [] => Step::Said(draft, Next::Paths),
+        _ => long(verb, text, draft),
+    }
+}
+
+/// What stands behind the first `-`: nothing, another one, or letters.
+fn dashed(verb: Verb, text: &[u8], draft: Draft) -> Step
+    ensures { result ≡ steps.dashed verb text.now draft }
+{
+    match text {
+        [] => path(verb),
+        [b'-', rest @ ..] => twice_dashed(verb, rest, draft),
+        _ => letters(verb, text, draft),
+    }
+}
+
 /// A word that may be an option.
 fn any(verb: Verb, word: &[u8], draft: Draft) -> Step
     ensures { result ≡ steps.any verb word.now draft }
 {
     match word {
-        [b'-', b'-'] => Step::Said(draft, Next::Paths),
-        [b'-', b'-', text @ ..] => long(verb, text, draft),
-        [b'-'] => path(verb),
-        [b'-', text @ ..] => letters(verb, text, draft),
+        [b'-', text @ ..] => dashed(verb, text, draft),
         _ => path(verb),
     }
 }
@@ -341,6 +401,7 @@ pub fn step_of(verb: Verb, next: Next, word: &[u8], draft: Draft) -> Step
     match next {
         Next::Any => any(verb, word, draft),
         Next::Depth => depth_by(word, draft),
+        Next::Pattern => pattern_by(word, draft),
         Next::Paths => path(verb),
     }
 }

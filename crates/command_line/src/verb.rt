@@ -15,6 +15,8 @@ pub enum Verb {
     State,
     /// The paths of the index and of the work tree, as `git ls-files` has them.
     Files,
+    /// What `git clean` would remove.
+    Clean,
 }
 
 /// What a help text or a usage line is about.
@@ -40,6 +42,8 @@ pub(crate) fn verb_of(word: &[u8]) -> Option<Verb>
         Some(Verb::State)
     } else if word == b"ls-files".as_slice() {
         Some(Verb::Files)
+    } else if word == b"clean".as_slice() {
+        Some(Verb::Clean)
     } else {
         None
     }
@@ -50,7 +54,7 @@ pub(crate) fn takes_paths(verb: Verb) -> bool
     ensures { result ≡ verbs.takes_paths verb }
 {
     match verb {
-        Verb::Report | Verb::Plan | Verb::Files => true,
+        Verb::Report | Verb::Plan | Verb::Files | Verb::Clean => true,
         Verb::Modules | Verb::State => false,
     }
 }
@@ -59,5 +63,5 @@ pub(crate) fn takes_paths(verb: Verb) -> bool
 pub(crate) fn prefers_current(verb: Verb) -> bool
     ensures { result ≡ verbs.prefers_current verb }
 {
-    matches!(verb, Verb::Files)
+    matches!(verb, Verb::Files | Verb::Clean)
 }

@@ -29,11 +29,15 @@ fn help_texts_name_the_options(rt: HostRuntime) {
     let modules = names_all(Topic::Of(Verb::Modules), b"--permissions=,-h, --help");
     let state = names_all(Topic::Of(Verb::State), b"--ignored,-z, --null,--color");
     let files = names_all(Topic::Of(Verb::Files), FILES);
+    let clean = names_all(
+        Topic::Of(Verb::Clean),
+        b"-n, --dry-run,  -d ,  -x ,  -X ,-e PATTERN, --exclude=,-f, --force,-q, --quiet,-h, --help",
+    );
     let whole = names_all(
         Topic::Whole,
-        b"-C DIR,report,plan,modules,state,ls-files,--version",
+        b"-C DIR,report,plan,modules,state,ls-files,clean,--version",
     );
-    assert!(rt; report & plan & modules & state & files & whole);
+    assert!(rt; report & plan & modules & state & files & clean & whole);
 }
 
 #[test]

@@ -2,9 +2,10 @@
 use bstr::ByteSlice;
 use clean_plan::{Finding, What};
 use command_line::{
-    Color, Command, Form, LineEnd, Misuse, Request, Topic, Verb, Wording, request_of, said,
+    Color, Command, Force, Form, LineEnd, Misuse, Request, Topic, Verb, Wording, request_of, said,
 };
 use dir_classify::{CollapsedEntriesEmissionMode, EmissionMode, ForDeletionMode};
+use git_clean::Cleaning;
 use git_setup::Asked;
 use gitbase_core::Bytes;
 use ls_files::Listing;
@@ -53,6 +54,21 @@ ls-files,--others,--no-others,a>not others;path a\n\
 ls-files,--no-empty-directory,--directory>directories\n\
 ls-files,--full-name,--,-o>not others;from the top;path -o\n\
 ls-files,-sh>help files\n\
+clean,-n>clean;dry;spares;current;depth 1000;no path;no pattern;unforced\n\
+clean,-ndx,a>dry;directories;ignored too;path a\n\
+clean,a,-qX,--dry-run>dry;quiet;ignored alone;directories;path a\n\
+clean,-n,--no-dry-run,--quiet,--no-quiet>wet;loud\n\
+clean,-ffn>dry;forced twice\n\
+clean,-n,--force>forced once\n\
+clean,-f,--no-force>dropped\n\
+clean,--no-force,-nf>alone\n\
+clean,-nea>dry;pattern a;no path;spares\n\
+clean,-ne,-d,b>dry;pattern -d;path b\n\
+clean,--exclude=a b>pattern a b\n\
+clean,--exclude,--,-n>dry;pattern --;no path\n\
+clean,-e,>pattern \n\
+clean,-n,--,-d>path -d;directories\n\
+clean,-nh>help clean\n\
 report,--help>help report\n\
 plan,-zh>help plan\n\
 --help>help whole\n\
@@ -85,6 +101,14 @@ ls-files,--exclude=a>error: option `--exclude=a' is git's, and is not answered h
 ls-files,-q>error: unknown switch `q'\n\
 ls-files,--no-full-name>error: unknown option `--no-full-name'\n\
 ls-files,--cached=1>error: option `--cached=1' takes no value\n\
+clean,-ni>error: switch `i' is git's, and is not answered here\n\
+clean,--interactive>error: option `--interactive' is git's, and is not answered here\n\
+clean,-nz>error: unknown switch `z'\n\
+clean,--no-exclude>error: unknown option `--no-exclude'\n\
+clean,--dry-run=3>error: option `--dry-run=3' takes no value\n\
+clean,-ne>error: option `--exclude' requires a value\n\
+clean,-ea >error: the pattern in `-ea ' has a line feed, or a blank or carriage return at its end\n\
+ls-files,-e>error: unknown switch `e'\n\
 state,--,--plain>error: `--plain' is a path, and this command takes none\n\
 state,--plain>error: unknown option `--plain'";
 
@@ -256,6 +280,54 @@ fn is_listing(listing: &Listing, want: &[u8]) -> bool {
     }
 }
 
+/// Whether a cleaning is so.
+fn is_cleaning(cleaning: &Cleaning, want: &[u8]) -> bool {
+    if want == b"clean".as_slice() {
+        cleaning.quote_path && !cleaning.repositories
+    } else if want == b"dry".as_slice() {
+        cleaning.dry_run
+    } else if want == b"wet".as_slice() {
+        !cleaning.dry_run
+    } else if want == b"directories".as_slice() {
+        cleaning.directories
+    } else if want == b"spares".as_slice() {
+        !cleaning.directories && !cleaning.ignored_too && !cleaning.ignored_only
+    } else if want == b"ignored too".as_slice() {
+        cleaning.ignored_too
+    } else if want == b"ignored alone".as_slice() {
+        cleaning.ignored_only
+    } else if want == b"quiet".as_slice() {
+        cleaning.quiet
+    } else {
+        want == b"loud".as_slice() && !cleaning.quiet
+    }
+}
+
+/// Whether it is to go by force so often.
+fn is_forced(force: Force, want: &[u8]) -> bool {
+    if want == b"unforced".as_slice() {
+        force == Force::Unsaid
+    } else if want == b"forced once".as_slice() {
+        force == Force::Once
+    } else if want == b"forced twice".as_slice() {
+        force == Force::Twice
+    } else if want == b"dropped".as_slice() {
+        force == Force::Dropped
+    } else {
+        want == b"alone".as_slice() && force == Force::Alone
+    }
+}
+
+/// Whether there is one pattern, which is this.
+fn is_pattern(patterns: &[Bytes], want: &[u8]) -> bool {
+    if want == b"no pattern".as_slice() {
+        return patterns.is_empty();
+    }
+    want.starts_with(b"pattern ")
+        && patterns.len() == 1
+        && patterns[0].as_bytes() == &want[8..]
+}
+
 /// Whether the help text is about this.
 fn is_help(topic: Topic, want: &[u8]) -> bool {
     match topic {
@@ -263,6 +335,7 @@ fn is_help(topic: Topic, want: &[u8]) -> bool {
         Topic::Of(Verb::Report) => want == b"help report".as_slice(),
         Topic::Of(Verb::Plan) => want == b"help plan".as_slice(),
         Topic::Of(Verb::Files) => want == b"help files".as_slice(),
+        Topic::Of(Verb::Clean) => want == b"help clean".as_slice(),
         Topic::Of(_) => false,
     }
 }
@@ -285,6 +358,12 @@ fn is_command(command: &Command, want: &[u8]) -> bool {
         }
         Command::Files { asked, listing } => {
             want == b"files".as_slice() || is_asked(asked, want) || is_listing(listing, want)
+        }
+        Command::Clean { asked, clean } => {
+            is_asked(asked, want)
+                || is_cleaning(&clean.cleaning, want)
+                || is_forced(clean.force, want)
+                || is_pattern(&clean.patterns, want)
         }
         Command::Help(topic) => is_help(*topic, want),
         Command::Version => want == b"version".as_slice(),

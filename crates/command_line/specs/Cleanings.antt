@@ -1,0 +1,105 @@
+-- The options of `clean` by their names: git-clean(1), "OPTIONS".
+use Rattle.std.specs.Prelude.{ℕ, List, [], ◌∷◌, Bool, true, false, not, ◌||◌, ◌&&◌, ◌==◌, nat_eq, is_some, position, drop, codes, Option, Some, None, option_map, if◌then◌else◌}
+use Rattle.std.specs.List.{starts_with, ends_with}
+use Rattle.std.specs.Str.{bytes_eq}
+use Rattle.command_line.specs.declared.cleaning.CleanChoice.{CleanChoice}
+use Rattle.command_line.specs.declared.cleaning.CleanChoice.TheVariants as choices
+use Rattle.command_line.specs.declared.cleaning.Force.{Force}
+use Rattle.command_line.specs.declared.cleaning.Force.TheVariants as forces
+use Rattle.command_line.specs.declared.opt.Opt.{Opt}
+use Rattle.command_line.specs.declared.opt.Opt.TheVariants as opts
+
+-- ---- names
+
+-- those that `no-` before them turns off
+abbrev pub clean_choice_of : List ℕ → Option CleanChoice
+clean_choice_of name =
+    if bytes_eq name (codes "dry-run") then Some choices.DryRun
+    else if bytes_eq name (codes "quiet") then Some choices.Quiet
+    else None
+
+-- a choice that is made or dropped
+abbrev pub cleans : Bool → Option CleanChoice → Option Opt
+cleans is_on choice = option_map (λ (c : CleanChoice). opts.Cleans c is_on) choice
+
+abbrev pub cleaning_named : Bool → List ℕ → Option Opt
+cleaning_named is_on name = if bytes_eq name (codes "force") then Some (opts.Forces is_on) else cleans is_on (clean_choice_of name)
+
+abbrev pub cleaning_by : List ℕ → Option Opt
+cleaning_by name = if starts_with nat_eq name (codes "no-") then cleaning_named false (drop 3 name) else cleaning_named true name
+
+-- git's, and not answered here
+abbrev pub is_left_of_cleaning : List ℕ → Bool
+is_left_of_cleaning name = bytes_eq name (codes "interactive") || bytes_eq name (codes "no-interactive")
+
+-- the option of a name, which stands behind `--`
+unfoldable pub cleaning_opt_of : List ℕ → Option Opt
+cleaning_opt_of name =
+    if bytes_eq name (codes "help") then Some opts.Help
+    else if bytes_eq name (codes "exclude") then Some opts.Pattern
+    else if is_left_of_cleaning name then Some opts.Left
+    else cleaning_by name
+
+-- ---- letters
+
+-- the choice of a letter, which stands behind `-`: n, d, x, X, q
+abbrev pub clean_choice_of_letter : ℕ → Option CleanChoice
+clean_choice_of_letter letter =
+    if letter == 110 then Some choices.DryRun
+    else if letter == 100 then Some choices.Directories
+    else if letter == 120 then Some choices.IgnoredToo
+    else if letter == 88 then Some choices.IgnoredAlone
+    else if letter == 113 then Some choices.Quiet
+    else None
+
+-- and h, f, e; i is not answered here
+abbrev pub cleaning_opt_of_letter : ℕ → Option Opt
+cleaning_opt_of_letter letter =
+    if letter == 104 then Some opts.Help
+    else if letter == 102 then Some (opts.Forces true)
+    else if letter == 101 then Some opts.Pattern
+    else if letter == 105 then Some opts.Left
+    else cleans true (clean_choice_of_letter letter)
+
+-- ---- patterns
+
+abbrev pub has_feed : List ℕ → Bool
+has_feed bytes = is_some (position (λ b. b == 10) bytes)
+
+-- it ends in a blank or a carriage return
+abbrev pub ends_blank : List ℕ → Bool
+ends_blank bytes = ends_with nat_eq bytes (32 ∷ []) || ends_with nat_eq bytes (13 ∷ [])
+
+-- A pattern that can stand as a line of a rules file. Others, which git takes too, are not answered here.
+abbrev pub is_line : List ℕ → Bool
+is_line bytes = not (has_feed bytes) && not (ends_blank bytes)
+
+-- ---- how often `-f` stands
+
+-- once more
+abbrev pub more : Force → Force
+more forces.Unsaid = forces.Once
+more forces.Dropped = forces.Alone
+more forces.Once = forces.Twice
+more forces.Alone = forces.Twice
+more forces.Twice = forces.Twice
+
+-- once more, or not at all behind `--no-force`
+abbrev pub forced : Bool → Force → Force
+forced is_on force = if is_on then more force else forces.Dropped
+
+-- Something may be removed without `-n`. `clean.requireForce` counts as one `-f` where it is false, which is lax.
+abbrev pub is_forced : Force → Bool → Bool
+is_forced forces.Unsaid is_lax = is_lax
+is_forced forces.Dropped is_lax = false
+is_forced forces.Once is_lax = true
+is_forced forces.Alone is_lax = true
+is_forced forces.Twice is_lax = true
+
+-- repositories too
+abbrev pub is_forced_twice : Force → Bool → Bool
+is_forced_twice forces.Unsaid is_lax = false
+is_forced_twice forces.Dropped is_lax = false
+is_forced_twice forces.Once is_lax = is_lax
+is_forced_twice forces.Alone is_lax = false
+is_forced_twice forces.Twice is_lax = true
