@@ -9,7 +9,6 @@ use Rattle.worktree_fs.specs.Owners.{Owned}
 use Rattle.worktree_fs.specs.Tree.{Names}
 use Rattle.worktree_report.specs.declared.refusal.Refusal.{Refusal}
 use Rattle.worktree_report.specs.declared.refusal.Refusal.TheVariants as refusals
-use Rattle.ls_files.specs.declared.listing.Listing.{Listing}
 use Rattle.command_line.specs.Requests.{Asking, Command as Commands, asks, is_misuse, request_in}
 use Rattle.command_line.specs.declared.misuse.Wrong.{Wrong}
 use Rattle.command_line.specs.declared.verb.Topic.{Topic}
@@ -21,17 +20,17 @@ use Rattle.tizhagor.specs.declared.refusal.HereRefusal.TheVariants as errors
 use Rattle.tizhagor.specs.declared.reply.Reply.{Reply}
 use Rattle.tizhagor.specs.declared.writing.Writing.{Writing}
 use Rattle.tizhagor.specs.Answers as answers
-use Rattle.tizhagor.specs.Answers.{AnswersCall, AnswersHere, AnswersListing, AnswersTask, IsMisuse, ListsReply, NotFound, Place, Refused, RefusesListing, Task, Writes, call_of, found_at, list_of, listable_at, offer_of, task_of}
+use Rattle.tizhagor.specs.Answers.{AnswersCall, AnswersHere, AnswersTask, AnswersWord, ByFound, IsMisuse, NotFound, Place, Refused, RefusesSaying, Task, ThenSays, Writes, call_of, found_at, offer_of, task_of, word_at, word_of}
 use Rattle.tizhagor.specs.Ends.{EndsHere, IsFatal, IsReplied, IsTold, IsToldOf}
-use Rattle.tizhagor.specs.Listings.{IsListable, listed_for, setup_for}
 use Rattle.tizhagor.specs.Output as output
+use Rattle.tizhagor.specs.OwnWords.{IsSayable, OwnWord, RefusesWord, said_for}
 use Rattle.tizhagor.specs.Parts.{memory_line}
 use Rattle.tizhagor.specs.ProgramLines.{program_status}
 use Rattle.tizhagor.specs.Refusals.{IsOfFinding, fault, line_of, memory, status_of}
-use Rattle.tizhagor.specs.Texts.{IsQuietFor, IsReadyFor, IsTextOf, IsUnfaultedBy, RefusesReport, RefusesTextOf}
+use Rattle.tizhagor.specs.Texts.{IsQuietFor, IsReadyFor, IsTextOf, IsUnfaultedBy, RefusesTextOf}
 use Rattle.tizhagor.specs.Replies.{answer_status, plain, status_in}
 use Rattle.tizhagor.proofs.ByCall as calls
-use Rattle.tizhagor.proofs.Listed as lists
+use Rattle.tizhagor.proofs.Said as said
 
 -- ---- statuses
 
@@ -50,8 +49,10 @@ is_high (errors.Words misuse) = omega arith
 is_high (errors.Absent directory) = omega arith
 is_high (errors.NotADirectory directory) = omega arith
 is_high (errors.NotAtTop root) = omega arith
+is_high errors.Elsewhere = omega arith
 is_high (errors.Git refusal) = omega arith
 is_high (errors.Listing wrong) = omega arith
+is_high (errors.Cleaning wrong) = omega arith
 is_high (errors.Program r) = program_high r
 
 is_low : (reply : Reply) → status_in reply ≤ 1
@@ -77,8 +78,10 @@ finding_not_misuse (errors.Words misuse) of is = absurd of
 finding_not_misuse (errors.Absent directory) of is = omega arith
 finding_not_misuse (errors.NotADirectory directory) of is = omega arith
 finding_not_misuse (errors.NotAtTop root) of is = omega arith
+finding_not_misuse errors.Elsewhere of is = omega arith
 finding_not_misuse (errors.Git refusal) of is = omega arith
 finding_not_misuse (errors.Listing wrong) of is = omega arith
+finding_not_misuse (errors.Cleaning wrong) of is = omega arith
 finding_not_misuse (errors.Program r) of is = program_not_misuse r is
 
 interrupted_is : (r : Refusal) → program_status r ≡ 130 → r ≡ refusals.Interrupted
@@ -96,8 +99,10 @@ finding_not_interrupted (errors.Words misuse) of is = absurd of
 finding_not_interrupted (errors.Absent directory) of is = omega arith
 finding_not_interrupted (errors.NotADirectory directory) of is = omega arith
 finding_not_interrupted (errors.NotAtTop root) of is = omega arith
+finding_not_interrupted errors.Elsewhere of is = omega arith
 finding_not_interrupted (errors.Git refusal) of is = omega arith
 finding_not_interrupted (errors.Listing wrong) of is = omega arith
+finding_not_interrupted (errors.Cleaning wrong) of is = omega arith
 finding_not_interrupted (errors.Program refusals.Interrupted) of is = absurd of
 finding_not_interrupted (errors.Program refusals.Usage) of is = absurd of
 finding_not_interrupted (errors.Program (refusals.Setup line)) of is = absurd of
@@ -187,35 +192,33 @@ module _ {W I O : Type 0} (w : WorktreeOf W) (i : InterruptOf I) (o : OwnersOf O
         same = λ path read. calls.joins call (w.precomposes w0) t a.by.here.root path a.by.here.setup a.text read text_is;
       }
 
-  list_unfaulted : (found : Names → Owned → Result Found HereRefusal) (listing : Listing) (reply : Reply) → ListsReply w i o w0 w1 i0 i1 o0 o1 found listing reply → w.faults w1 ≡ w.faults w0
-  list_unfaulted found listing reply a = lists.unfaulted w i a.by.loaded w1 i0 i1 a.by.here listing a.made a.by.made ∙ a.by.unfaulted
+  word_unfaulted : (found : Names → Owned → Result Found HereRefusal) (word : OwnWord) (reply : Reply) → AnswersWord w i o w0 w1 i0 i1 o0 o1 found word (Ok reply) → w.faults w1 ≡ w.faults w0
+  word_unfaulted found word reply a = said.unfaulted w i a.loaded w1 i0 i1 a.here word reply a.made ∙ a.unfaulted
 
-  list_reply : (found : Names → Owned → Result Found HereRefusal) (listing : Listing) (reply : Reply) → ListsReply w i o w0 w1 i0 i1 o0 o1 found listing reply
-      → (t : Names) (owned : Owned) → w.told w0 ≡ Some t → o.told o0 ≡ Some owned → output.IsListingOf (w.precomposes w0) t (found t owned) listing reply
-  list_reply found listing reply a t owned told tells =
+  word_reply : (found : Names → Owned → Result Found HereRefusal) (word : OwnWord) (reply : Reply) → AnswersWord w i o w0 w1 i0 i1 o0 o1 found word (Ok reply)
+      → (t : Names) (owned : Owned) → w.told w0 ≡ Some t → o.told o0 ≡ Some owned → output.IsSaidOf (w.precomposes w0) t (found t owned) word reply
+  word_reply found word reply a t owned told tells =
       record {
-        here = a.by.here;
-        found_is = a.by.is t owned told tells;
-        made = a.made;
-        made_is = subst (λ (b : Bool). listed_for b t a.by.here listing ≡ Some a.made) a.by.asks.precomposes (lists.listing_is w i a.by.loaded w1 i0 i1 a.by.here listing a.made a.by.made t (a.by.asks.tree ∙ told));
-        reply_is = a.reply_is;
+        here = a.here;
+        found_is = a.is t owned told tells;
+        reply_is = subst (λ (b : Bool). said_for b t a.here word ≡ Some reply) a.asks.precomposes (said.reply_is w i a.loaded w1 i0 i1 a.here word reply a.made t (a.asks.tree ∙ told));
       }
 
   task_unfaulted : (place : Place) (directory : Option (List ℕ)) (task : Task) (reply : Reply) → AnswersTask w i o w0 w1 i0 i1 o0 o1 place directory (Ok reply) task → output.IsUnfaultedFor (w.faults w0) (w.faults w1) task
   task_unfaulted place directory (call_of call asked writing) reply a = call_unfaulted (found_at place directory asked) call writing reply.out a.0
-  task_unfaulted place directory (list_of listing asked) reply a = list_unfaulted (listable_at place directory listing asked) listing reply a
+  task_unfaulted place directory (word_of word asked) reply a = word_unfaulted (word_at place directory word asked) word reply a
   task_unfaulted place directory (offer_of text) reply a = ap w.faults a.0.worktree
 
   -- and the owners failed at nothing
   task_owners : (place : Place) (directory : Option (List ℕ)) (task : Task) (reply : Reply) → AnswersTask w i o w0 w1 i0 i1 o0 o1 place directory (Ok reply) task → o.faults o1 ≡ o.faults o0
   task_owners place directory (call_of call asked writing) reply a = a.0.by.owners_unfaulted
-  task_owners place directory (list_of listing asked) reply a = a.by.owners_unfaulted
+  task_owners place directory (word_of word asked) reply a = a.owners_unfaulted
   task_owners place directory (offer_of text) reply a = ap o.faults a.0.owners
 
   task_reply : (place : Place) (directory : Option (List ℕ)) (task : Task) (reply : Reply) → AnswersTask w i o w0 w1 i0 i1 o0 o1 place directory (Ok reply) task
       → (t : Names) (owned : Owned) → w.told w0 ≡ Some t → o.told o0 ≡ Some owned → output.IsQuietWith (w.faults w0) (w.faults w1) task → output.IsReplyFor (w.precomposes w0) t owned place directory reply task
   task_reply place directory (call_of call asked writing) reply a t owned told tells quiet = (call_bytes (found_at place directory asked) call writing reply.out a.0 t owned told tells quiet, a.1)
-  task_reply place directory (list_of listing asked) reply a t owned told tells quiet = list_reply (listable_at place directory listing asked) listing reply a t owned told tells
+  task_reply place directory (word_of word asked) reply a t owned told tells quiet = word_reply (word_at place directory word asked) word reply a t owned told tells
   task_reply place directory (offer_of text) reply a t owned told tells quiet = a.1 ∙ ap plain a.0.gives
 
   -- a fault was counted, and none was
@@ -233,7 +236,7 @@ module _ {W I O : Type 0} (w : WorktreeOf W) (i : InterruptOf I) (o : OwnersOf O
 
   task_not_misuse : (place : Place) (directory : Option (List ℕ)) (task : Task) (e : HereRefusal) → AnswersTask w i o w0 w1 i0 i1 o0 o1 place directory (Err e) task → status_of e ≡ 129 → ⊥
   task_not_misuse place directory (call_of call asked writing) e a is = call_not_misuse (found_at place directory asked) call writing e a.0 is
-  task_not_misuse place directory (list_of listing asked) e a is =
+  task_not_misuse place directory (word_of word asked) e a is =
       elim a [
         | inl none ↦ finding_not_misuse e none.of is
         | inr refused ↦ program_not_misuse refused.refusal (sym (ap status_of refused.e_is) ∙ is)
@@ -252,10 +255,10 @@ module _ {W I O : Type 0} (w : WorktreeOf W) (i : InterruptOf I) (o : OwnersOf O
 
   task_interrupted : (place : Place) (directory : Option (List ℕ)) (task : Task) (e : HereRefusal) → AnswersTask w i o w0 w1 i0 i1 o0 o1 place directory (Err e) task → status_of e ≡ 130 → Increased (i.raised i0) (i.raised i1)
   task_interrupted place directory (call_of call asked writing) e a is = call_interrupted (found_at place directory asked) call writing e a.0 is
-  task_interrupted place directory (list_of listing asked) e a is =
+  task_interrupted place directory (word_of word asked) e a is =
       elim a [
         | inl none ↦ absurd (finding_not_interrupted e none.of is)
-        | inr refused ↦ lists.interrupt_cause w i refused.by.loaded w1 i0 i1 refused.by.here listing refused.refusal refused.by.made
+        | inr refused ↦ said.interrupt_cause w i refused.by.loaded w1 i0 i1 refused.by.here word refused.refusal refused.by.made
             (interrupted_is refused.refusal (sym (ap status_of refused.e_is) ∙ is))
       ]
   task_interrupted place directory (offer_of text) e a is = absurd (let same = memory_not e 130 a.0.refused is in omega (arith, same))
@@ -291,11 +294,11 @@ module _ {W I O : Type 0} (w : WorktreeOf W) (i : InterruptOf I) (o : OwnersOf O
         | inr unwritten ↦ inl unwritten.e_is
       ]
 
-  list_refused : (found : Names → Owned → Result Found HereRefusal) (listing : Listing) (e : HereRefusal) → RefusesListing w i o w0 w1 i0 i1 o0 o1 found listing e
+  word_refused : (found : Names → Owned → Result Found HereRefusal) (word : OwnWord) (e : HereRefusal) → RefusesSaying w i o w0 w1 i0 i1 o0 o1 found word e
       → (t : Names) (owned : Owned) → w.told w0 ≡ Some t → o.told o0 ≡ Some owned → NotIncreased (w.faults w0) (w.faults w1) → status_of e ≡ 128
-      → (e ≡ memory) ⊎ output.RefusesListed (w.precomposes w0) t (found t owned) listing e
-  list_refused found listing e refused t owned told tells quiet is =
-      elim (lists.refused w i refused.by.loaded w1 i0 i1 refused.by.here listing refused.refusal refused.by.made t (refused.by.asks.tree ∙ told)
+      → (e ≡ memory) ⊎ output.RefusesSaid (w.precomposes w0) t (found t owned) word e
+  word_refused found word e refused t owned told tells quiet is =
+      elim (said.refused w i refused.by.loaded w1 i0 i1 refused.by.here word refused.refusal refused.by.made t (refused.by.asks.tree ∙ told)
       (subst (λ (n : ℕ). NotIncreased n (w.faults w1)) (sym refused.by.unfaulted) quiet) (sym (ap status_of refused.e_is) ∙ is)) [
         | inl wants ↦ inl (refused.e_is ∙ ap errors.Program wants)
         | inr known ↦ inr (record {
@@ -303,7 +306,7 @@ module _ {W I O : Type 0} (w : WorktreeOf W) (i : InterruptOf I) (o : OwnersOf O
           found_is = refused.by.is t owned told tells;
           refusal = refused.refusal;
           e_is = refused.e_is;
-          refused = subst (λ (b : Bool). RefusesReport b t refused.by.here.root (setup_for listing refused.by.here) refused.refusal) refused.by.asks.precomposes known;
+          refused = subst (λ (b : Bool). RefusesWord b t refused.by.here refused.refusal word) refused.by.asks.precomposes known;
         })
       ]
 
@@ -321,10 +324,10 @@ module _ {W I O : Type 0} (w : WorktreeOf W) (i : InterruptOf I) (o : OwnersOf O
       → (t : Names) (owned : Owned) → w.told w0 ≡ Some t → o.told o0 ≡ Some owned → NotIncreased (w.faults w0) (w.faults w1) → NotIncreased (o.faults o0) (o.faults o1) → status_of e ≡ 128
       → (e ≡ memory) ⊎ output.RefusesFor (w.precomposes w0) t owned place directory e task
   task_refused place directory (call_of call asked writing) e a t owned told tells quiet owners_quiet is = call_refused (found_at place directory asked) call writing e a.0 t owned told tells quiet owners_quiet is
-  task_refused place directory (list_of listing asked) e a t owned told tells quiet owners_quiet is =
+  task_refused place directory (word_of word asked) e a t owned told tells quiet owners_quiet is =
       elim a [
-        | inl none ↦ elim (none_refused (listable_at place directory listing asked) e none t owned told tells quiet owners_quiet) [ inl wants ↦ inl wants | inr known ↦ inr (inl known) ]
-        | inr refused ↦ elim (list_refused (listable_at place directory listing asked) listing e refused t owned told tells quiet is) [ inl wants ↦ inl wants | inr known ↦ inr (inr known) ]
+        | inl none ↦ elim (none_refused (word_at place directory word asked) e none t owned told tells quiet owners_quiet) [ inl wants ↦ inl wants | inr known ↦ inr (inl known) ]
+        | inr refused ↦ elim (word_refused (word_at place directory word asked) word e refused t owned told tells quiet is) [ inl wants ↦ inl wants | inr known ↦ inr (inr known) ]
       ]
   task_refused place directory (offer_of text) e a t owned told tells quiet owners_quiet is = inl a.0.refused
 
@@ -346,11 +349,11 @@ module _ {W I O : Type 0} (w : WorktreeOf W) (i : InterruptOf I) (o : OwnersOf O
         | inr unwritten ↦ inr unwritten.e_is
       ]
 
-  list_none : (found : Names → Owned → Result Found HereRefusal) (listing : Listing) (answer : Result Reply HereRefusal) → AnswersListing w i o w0 w1 i0 i1 o0 o1 found listing answer
+  word_none : (found : Names → Owned → Result Found HereRefusal) (word : OwnWord) (answer : Result Reply HereRefusal) → AnswersWord w i o w0 w1 i0 i1 o0 o1 found word answer
       → (t : Names) (owned : Owned) → w.told w0 ≡ Some t → o.told o0 ≡ Some owned → NotIncreased (w.faults w0) (w.faults w1) → NotIncreased (o.faults o0) (o.faults o1)
       → (e : HereRefusal) → found t owned ≡ Err e → IsRefusedAs e answer
-  list_none found listing (Ok reply) a t owned told tells quiet owners_quiet e known = not_found (sym (a.by.is t owned told tells) ∙ known)
-  list_none found listing (Err other) a t owned told tells quiet owners_quiet e known =
+  word_none found word (Ok reply) a t owned told tells quiet owners_quiet e known = not_found (sym (a.is t owned told tells) ∙ known)
+  word_none found word (Err other) a t owned told tells quiet owners_quiet e known =
       elim a [
         | inl none ↦ none_is found other none t owned told tells quiet owners_quiet e known
         | inr refused ↦ absurd (not_found (sym (refused.by.is t owned told tells) ∙ known))
@@ -361,7 +364,7 @@ module _ {W I O : Type 0} (w : WorktreeOf W) (i : InterruptOf I) (o : OwnersOf O
       → (e : HereRefusal) → output.IsNotFoundFor t owned place directory e task → IsRefusedAs e answer
   task_none place directory (call_of call asked writing) (Ok reply) a t owned told tells quiet owners_quiet e known = call_none (found_at place directory asked) call writing (Ok reply.out) a.0 t owned told tells quiet owners_quiet e known
   task_none place directory (call_of call asked writing) (Err other) a t owned told tells quiet owners_quiet e known = call_none (found_at place directory asked) call writing (Err other) a.0 t owned told tells quiet owners_quiet e known
-  task_none place directory (list_of listing asked) answer a t owned told tells quiet owners_quiet e known = list_none (listable_at place directory listing asked) listing answer a t owned told tells quiet owners_quiet e known
+  task_none place directory (word_of word asked) answer a t owned told tells quiet owners_quiet e known = word_none (word_at place directory word asked) word answer a t owned told tells quiet owners_quiet e known
   task_none place directory (offer_of text) answer a t owned told tells quiet owners_quiet e known = absurd known
 
   -- for what can be had only memory may be wanted
@@ -386,10 +389,10 @@ module _ {W I O : Type 0} (w : WorktreeOf W) (i : InterruptOf I) (o : OwnersOf O
         | inr unwritten ↦ unwritten.e_is
       ]
 
-  list_complete : (found : Names → Owned → Result Found HereRefusal) (listing : Listing) (e : HereRefusal) → AnswersListing w i o w0 w1 i0 i1 o0 o1 found listing (Err e)
+  word_complete : (found : Names → Owned → Result Found HereRefusal) (word : OwnWord) (e : HereRefusal) → AnswersWord w i o w0 w1 i0 i1 o0 o1 found word (Err e)
       → (t : Names) (owned : Owned) → w.told w0 ≡ Some t → o.told o0 ≡ Some owned → NotIncreased (w.faults w0) (w.faults w1) → NotIncreased (o.faults o0) (o.faults o1) → NotIncreased (i.raised i0) (i.raised i1)
-      → output.IsListableAt (w.precomposes w0) t (found t owned) listing → e ≡ memory
-  list_complete found listing e a t owned told tells quiet owners_quiet calm ready =
+      → output.IsSayableAt (w.precomposes w0) t (found t owned) word → e ≡ memory
+  word_complete found word e a t owned told tells quiet owners_quiet calm ready =
       elim a [
         | inl none ↦ elim (none_refused found e none t owned told tells quiet owners_quiet) [
           | inl wants ↦ wants
@@ -399,17 +402,17 @@ module _ {W I O : Type 0} (w : WorktreeOf W) (i : InterruptOf I) (o : OwnersOf O
             let by = refused.by in
             let same : ready.here ≡ by.here = same_found (sym ready.found_is ∙ by.is t owned told tells) in
             refused.e_is ∙ ap errors.Program
-            (lists.complete w i by.loaded w1 i0 i1 by.here listing refused.refusal by.made t (by.asks.tree ∙ told)
+            (said.complete w i by.loaded w1 i0 i1 by.here word refused.refusal by.made t (by.asks.tree ∙ told)
             (subst (λ (n : ℕ). NotIncreased n (w.faults w1)) (sym by.unfaulted) quiet) calm
-            (subst (λ (b : Bool). IsListable b t by.here listing) (sym by.asks.precomposes)
-            (subst (λ (x : Found). IsListable (w.precomposes w0) t x listing) same ready.ready)))
+            (subst (λ (b : Bool). IsSayable b t by.here word) (sym by.asks.precomposes)
+            (subst (λ (x : Found). IsSayable (w.precomposes w0) t x word) same ready.ready)))
       ]
 
   task_complete : (place : Place) (directory : Option (List ℕ)) (task : Task) (e : HereRefusal) → AnswersTask w i o w0 w1 i0 i1 o0 o1 place directory (Err e) task
       → (t : Names) (owned : Owned) → w.told w0 ≡ Some t → o.told o0 ≡ Some owned → NotIncreased (w.faults w0) (w.faults w1) → NotIncreased (o.faults o0) (o.faults o1) → NotIncreased (i.raised i0) (i.raised i1)
       → output.IsReadyWith (w.precomposes w0) t owned place directory task → e ≡ memory
   task_complete place directory (call_of call asked writing) e a t owned told tells quiet owners_quiet calm ready = call_complete (found_at place directory asked) call writing e a.0 t owned told tells quiet owners_quiet calm ready
-  task_complete place directory (list_of listing asked) e a t owned told tells quiet owners_quiet calm ready = list_complete (listable_at place directory listing asked) listing e a t owned told tells quiet owners_quiet calm ready
+  task_complete place directory (word_of word asked) e a t owned told tells quiet owners_quiet calm ready = word_complete (word_at place directory word asked) word e a t owned told tells quiet owners_quiet calm ready
   task_complete place directory (offer_of text) e a t owned told tells quiet owners_quiet calm ready = a.0.refused
 
 -- ---- the call

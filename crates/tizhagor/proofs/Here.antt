@@ -14,11 +14,11 @@ use Rattle.tizhagor.specs.declared.call.Call.{Call}
 use Rattle.tizhagor.specs.declared.refusal.HereRefusal.{HereRefusal}
 use Rattle.tizhagor.specs.declared.writing.Writing.{Writing}
 use Rattle.ls_files.specs.declared.listed.Listed.{Listed}
-use Rattle.ls_files.specs.declared.listing.Listing.{Listing}
 use Rattle.tizhagor.specs.declared.reply.Reply.{Reply}
-use Rattle.tizhagor.specs.Answers.{AnswersBy, AnswersCall, AnswersHere, AnswersListing, ByFound, Offers, Place, Then, ThenLists}
-use Rattle.tizhagor.specs.Listings.{as_reply}
-use Rattle.tizhagor.specs.Replies.{SaysPlainly, plain, plainly}
+use Rattle.tizhagor.specs.Answers.{AnswersBy, AnswersCall, AnswersHere, AnswersWord, ByFound, Offers, Place, Then, ThenSays}
+use Rattle.tizhagor.specs.Listings.{as_reply, reply_of}
+use Rattle.tizhagor.specs.OwnWords.{OwnWord, Replies}
+use Rattle.tizhagor.specs.Replies.{SaysPlainly, of_text, plain, plainly, replied}
 use Rattle.tizhagor.specs.Refusals.{as_program, memory, of_misuse}
 use Rattle.tizhagor.specs.Texts.{TextsBy}
 use Rattle.tizhagor.specs.Writing.{written}
@@ -38,6 +38,15 @@ pub says_plainly : (Says : Result (List ℕ) HereRefusal → Type 0) (answer : R
 says_plainly Says (Ok text) says = (says, refl)
 says_plainly Says (Err e) says = (says, tt)
 
+-- what is said of making a listing, or a text, of its reply
+pub replies_listed : (Makes : Result Listed Refusal → Type 0) (answer : Result Listed Refusal) → Makes answer → Replies reply_of Makes (as_reply answer)
+replies_listed Makes (Ok made) makes = record { made = made; reply_is = refl; makes = makes }
+replies_listed Makes (Err e) makes = makes
+
+pub replies_text : (Makes : Result (List ℕ) Refusal → Type 0) (answer : Result (List ℕ) Refusal) → Makes answer → Replies plain Makes (of_text answer)
+replies_text Makes (Ok text) makes = record { made = text; reply_is = refl; makes = makes }
+replies_text Makes (Err e) makes = makes
+
 -- one that is always the same
 pub offers_plainly : {W I O : Type 0} (w0 : W) (i0 : I) (o0 : O) (text : List ℕ) (answer : Result Reply HereRefusal) → IfOk answer (λ reply. reply ≡ plain text) → IfErr answer (λ e. e ≡ memory)
     → SaysPlainly (Offers w0 w0 i0 i0 o0 o0 text) answer
@@ -46,11 +55,11 @@ offers_plainly w0 i0 o0 text (Ok reply) gives refused =
 offers_plainly w0 i0 o0 text (Err e) gives refused = (record { gives = tt; refused = refused; worktree = refl; interrupt = refl; owners = refl }, tt)
 
 module _ {W I O : Type 0} (w : WorktreeOf W) (i : InterruptOf I) (o : OwnersOf O) (w0 w1 : W) (i0 i1 : I) (o0 o1 : O) where
-  -- a listing or a refusal of one by what was found
-  pub by_listing : (found : Names → Owned → Result Found HereRefusal) (listing : Listing) (answer : Result Listed Refusal) (here_answer : Result Reply HereRefusal) → here_answer ≡ as_reply answer
-      → ByFound w o w0 o0 o1 found (ThenLists w i w1 i0 i1 listing answer) → AnswersListing w i o w0 w1 i0 i1 o0 o1 found listing here_answer
-  by_listing found listing (Ok made) here_answer is by = rw is (record { made = made; reply_is = refl; by = by })
-  by_listing found listing (Err refusal) here_answer is by = rw is (inr (record { refusal = refusal; e_is = refl; by = by }))
+  -- a reply or a refusal of one by what was found
+  pub by_word : (found : Names → Owned → Result Found HereRefusal) (word : OwnWord) (answer : Result Reply Refusal) (here_answer : Result Reply HereRefusal) → here_answer ≡ replied answer
+      → ByFound w o w0 o0 o1 found (ThenSays w i w1 i0 i1 word answer) → AnswersWord w i o w0 w1 i0 i1 o0 o1 found word here_answer
+  by_word found word (Ok reply) here_answer is by = rw is by
+  by_word found word (Err refusal) here_answer is by = rw is (inr (record { refusal = refusal; e_is = refl; by = by }))
 
   -- a text or a refusal by what was found
   pub by_found : (found : Names → Owned → Result Found HereRefusal) (call : Call) (answer : Result (List ℕ) Refusal) (here_answer : Result (List ℕ) HereRefusal) → here_answer ≡ as_program answer

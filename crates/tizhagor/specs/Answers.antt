@@ -28,11 +28,9 @@ use Rattle.tizhagor.specs.declared.call.Call.TheVariants as calls
 use Rattle.tizhagor.specs.declared.refusal.HereRefusal.TheVariants.{Program, Words}
 use Rattle.tizhagor.specs.declared.writing.Writing.{Writing}
 use Rattle.tizhagor.specs.declared.writing.Writing.TheVariants as writings
-use Rattle.ls_files.specs.declared.listed.Listed.{Listed}
-use Rattle.ls_files.specs.declared.listing.Listing.{Listing}
 use Rattle.tizhagor.specs.declared.reply.Reply.{Reply}
 use Rattle.tizhagor.specs.Asking.{asked_for, here_in}
-use Rattle.tizhagor.specs.Listings.{Lists, listable_in, reply_of}
+use Rattle.tizhagor.specs.OwnWords.{OwnWord, Says, cleaning_of, listing_of, word_in}
 use Rattle.tizhagor.specs.Replies.{SaysPlainly}
 use Rattle.tizhagor.specs.Refusals.{fault, memory, IsOfFinding}
 use Rattle.tizhagor.specs.Texts.{TextsBy}
@@ -95,28 +93,22 @@ abbrev pub AnswersCall : {W I O : Type 0} → WorktreeOf W → InterruptOf I →
 AnswersCall w i o w0 w1 i0 i1 o0 o1 found call writing (Ok bytes) = Writes w i o w0 w1 i0 i1 o0 o1 found call writing bytes
 AnswersCall w i o w0 w1 i0 i1 o0 o1 found call writing (Err e) = AnswersBy w i o w0 w1 i0 i1 o0 o1 found call (Err e) ⊎ Unwritten w i o w0 w1 i0 i1 o0 o1 found call e
 
--- ---- listings
+-- ---- git's own words
 
--- what is said of a listing or a refusal of it, by what was found
-abbrev pub ThenLists : {W I : Type 0} → WorktreeOf W → InterruptOf I → W → I → I → Listing → Result Listed Refusal → Found → W → Type 0
-ThenLists w i w1 i0 i1 listing answer here loaded = Lists w i loaded w1 i0 i1 listing here answer
+-- what is said of a reply or a refusal of it, by what was found
+abbrev pub ThenSays : {W I : Type 0} → WorktreeOf W → InterruptOf I → W → I → I → OwnWord → Result Reply Refusal → Found → W → Type 0
+ThenSays w i w1 i0 i1 word answer here loaded = Says w i loaded w1 i0 i1 here answer word
 
--- The reply is that of a listing.
-pub record ListsReply {W I O : Type 0} (w : WorktreeOf W) (i : InterruptOf I) (o : OwnersOf O) (w0 w1 : W) (i0 i1 : I) (o0 o1 : O) (found : Names → Owned → Result Found HereRefusal) (listing : Listing) (reply : Reply) : Type 0 where
-  pub made : Listed
-  pub reply_is : reply ≡ reply_of made
-  pub by : ByFound w o w0 o0 o1 found (ThenLists w i w1 i0 i1 listing (Ok made))
-
--- There is no listing by what was found.
-pub record RefusesListing {W I O : Type 0} (w : WorktreeOf W) (i : InterruptOf I) (o : OwnersOf O) (w0 w1 : W) (i0 i1 : I) (o0 o1 : O) (found : Names → Owned → Result Found HereRefusal) (listing : Listing) (e : HereRefusal) : Type 0 where
+-- There is no reply by what was found.
+pub record RefusesSaying {W I O : Type 0} (w : WorktreeOf W) (i : InterruptOf I) (o : OwnersOf O) (w0 w1 : W) (i0 i1 : I) (o0 o1 : O) (found : Names → Owned → Result Found HereRefusal) (word : OwnWord) (e : HereRefusal) : Type 0 where
   pub refusal : Refusal
   pub e_is : e ≡ Program refusal
-  pub by : ByFound w o w0 o0 o1 found (ThenLists w i w1 i0 i1 listing (Err refusal))
+  pub by : ByFound w o w0 o0 o1 found (ThenSays w i w1 i0 i1 word (Err refusal))
 
--- What is said of a listing, or why there is none: by what was found, or as nothing was.
-abbrev pub AnswersListing : {W I O : Type 0} → WorktreeOf W → InterruptOf I → OwnersOf O → W → W → I → I → O → O → (Names → Owned → Result Found HereRefusal) → Listing → Result Reply HereRefusal → Type 0
-AnswersListing w i o w0 w1 i0 i1 o0 o1 found listing (Ok reply) = ListsReply w i o w0 w1 i0 i1 o0 o1 found listing reply
-AnswersListing w i o w0 w1 i0 i1 o0 o1 found listing (Err e) = NotFound w o w0 w1 i0 i1 o0 o1 found e ⊎ RefusesListing w i o w0 w1 i0 i1 o0 o1 found listing e
+-- What is said for one of git's own words, or why nothing is: by what was found, or as nothing was.
+abbrev pub AnswersWord : {W I O : Type 0} → WorktreeOf W → InterruptOf I → OwnersOf O → W → W → I → I → O → O → (Names → Owned → Result Found HereRefusal) → OwnWord → Result Reply HereRefusal → Type 0
+AnswersWord w i o w0 w1 i0 i1 o0 o1 found word (Ok reply) = ByFound w o w0 o0 o1 found (ThenSays w i w1 i0 i1 word (Ok reply))
+AnswersWord w i o w0 w1 i0 i1 o0 o1 found word (Err e) = NotFound w o w0 w1 i0 i1 o0 o1 found e ⊎ RefusesSaying w i o w0 w1 i0 i1 o0 o1 found word e
 
 -- ---- what is always the same
 
@@ -130,11 +122,11 @@ pub record Offers {W I O : Type 0} (w0 w1 : W) (i0 i1 : I) (o0 o1 : O) (text : L
 
 -- ---- what the words ask for
 
--- what a command asks for: a call, with what it asks of the work tree and how its text is written; a listing; or a text that is always the
--- same
+-- what a command asks for: a call, with what it asks of the work tree and how its text is written; one of git's own words; or a text that
+-- is always the same
 pub data Task : Type 0 where
   call_of : Call → Asked → Writing → Task
-  list_of : Listing → Asked → Task
+  word_of : OwnWord → Asked → Task
   offer_of : List ℕ → Task
 
 -- `takes_colors` says whether the output takes colours
@@ -143,7 +135,8 @@ task_of takes_colors (commands.Report asked form) = call_of calls.Report (asked_
 task_of takes_colors (commands.Plan asked what finding form) = call_of (calls.Plan what finding) (asked_for (calls.Plan what finding) asked) (writings.Paths form.end)
 task_of takes_colors (commands.Modules asked) = call_of calls.Modules (asked_for calls.Modules asked) writings.AsItIs
 task_of takes_colors (commands.State asked form) = call_of calls.State (asked_for calls.State asked) (writings.Lines (styled form takes_colors))
-task_of takes_colors (commands.Files asked listing) = list_of listing asked
+task_of takes_colors (commands.Files asked listing) = word_of (listing_of listing) asked
+task_of takes_colors (commands.Clean asked wants) = word_of (cleaning_of wants) asked
 task_of takes_colors (commands.Help topic) = offer_of (help_of topic)
 task_of takes_colors commands.Version = offer_of version
 
@@ -159,12 +152,12 @@ placed current variables takes_colors = record { current = current; variables = 
 abbrev pub found_at : Place → Option (List ℕ) → Asked → Names → Owned → Result Found HereRefusal
 found_at place directory asked t owned = here_in t owned place.current place.variables directory asked
 
-abbrev pub listable_at : Place → Option (List ℕ) → Listing → Asked → Names → Owned → Result Found HereRefusal
-listable_at place directory listing asked t owned = listable_in t owned place.current place.variables directory listing asked
+abbrev pub word_at : Place → Option (List ℕ) → OwnWord → Asked → Names → Owned → Result Found HereRefusal
+word_at place directory word asked t owned = word_in t owned place.current place.variables directory asked word
 
 abbrev pub AnswersTask : {W I O : Type 0} → WorktreeOf W → InterruptOf I → OwnersOf O → W → W → I → I → O → O → Place → Option (List ℕ) → Result Reply HereRefusal → Task → Type 0
 AnswersTask w i o w0 w1 i0 i1 o0 o1 place directory answer (call_of call asked writing) = SaysPlainly (AnswersCall w i o w0 w1 i0 i1 o0 o1 (found_at place directory asked) call writing) answer
-AnswersTask w i o w0 w1 i0 i1 o0 o1 place directory answer (list_of listing asked) = AnswersListing w i o w0 w1 i0 i1 o0 o1 (listable_at place directory listing asked) listing answer
+AnswersTask w i o w0 w1 i0 i1 o0 o1 place directory answer (word_of word asked) = AnswersWord w i o w0 w1 i0 i1 o0 o1 (word_at place directory word asked) word answer
 AnswersTask w i o w0 w1 i0 i1 o0 o1 place directory answer (offer_of text) = SaysPlainly (Offers w0 w1 i0 i1 o0 o1 text) answer
 
 -- the words ask for this

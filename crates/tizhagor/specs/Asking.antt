@@ -34,6 +34,16 @@ directory_in t current (Some name) = directory_named t current name
 abbrev pub found_from : Names → Owned → List Variable → Asked → List ℕ → Result Found HereRefusal
 found_from t owned variables asked directory = as_git (found_in t owned (surroundings_of directory variables) asked)
 
+-- a directory, if it is the current one
+abbrev pub if_current : List ℕ → List ℕ → Result (List ℕ) HereRefusal
+if_current current directory = if bytes_eq directory current then Ok directory else Err errors.Elsewhere
+
+-- The work tree around the current directory, and the setup that its repository gives, or the first refusal: of another directory, then
+-- of the repository.
+unfoldable pub around_in : Names → Owned → List ℕ → List Variable → Option (List ℕ) → Asked → Result Found HereRefusal
+around_in t owned current variables directory asked =
+    and_then (found_from t owned variables asked) (and_then (if_current current) (directory_in t current directory))
+
 -- what may be deleted is asked for, and the current directory is not the top of the work tree: the paths that are written lead from there
 abbrev pub is_away : SetupOptions → List ℕ → Found → Bool
 is_away options current here = is_some options.for_deletion && not (bytes_eq here.root current)

@@ -3,6 +3,7 @@ pub mod Parts
 pub mod PlacesLines
 pub mod FilesLines
 pub mod IndexLines
+pub mod CleanLines
 pub mod ProgramLines
 pub mod Refusals
 pub mod Finds
@@ -10,7 +11,9 @@ pub mod Directory
 pub mod Asking
 pub mod Replies
 pub mod Listings
+pub mod Cleanings
 pub mod Texts
+pub mod OwnWords
 pub mod Writing
 pub mod Written
 pub mod Answers

@@ -84,6 +84,6 @@ Lists w i w0 w1 i0 i1 listing here answer =
 abbrev pub reply_of : Listed → Reply
 reply_of made = record { out = made.out; err = made.err; is_no = not (is_empty made.err) }
 
-abbrev pub as_reply : Result Listed Refusal → Result Reply HereRefusal
+abbrev pub as_reply : Result Listed Refusal → Result Reply Refusal
 as_reply (Ok made) = Ok (reply_of made)
-as_reply (Err e) = Err (errors.Program e)
+as_reply (Err e) = Err e

@@ -11,13 +11,11 @@ use Rattle.tizhagor.specs.declared.call.Call.{Call}
 use Rattle.tizhagor.specs.declared.refusal.HereRefusal.{HereRefusal}
 use Rattle.tizhagor.specs.declared.refusal.HereRefusal.TheVariants.{Program}
 use Rattle.tizhagor.specs.declared.writing.Writing.{Writing}
-use Rattle.ls_files.specs.declared.listed.Listed.{Listed}
-use Rattle.ls_files.specs.declared.listing.Listing.{Listing}
 use Rattle.tizhagor.specs.declared.reply.Reply.{Reply}
-use Rattle.tizhagor.specs.Answers.{IsAsked, Place, Task, call_of, found_at, list_of, listable_at, offer_of, task_of}
-use Rattle.tizhagor.specs.Listings.{IsListable, listed_for, reply_of, setup_for}
+use Rattle.tizhagor.specs.Answers.{IsAsked, Place, Task, call_of, found_at, offer_of, task_of, word_at, word_of}
+use Rattle.tizhagor.specs.OwnWords.{IsSayable, OwnWord, RefusesWord, said_for}
 use Rattle.tizhagor.specs.Replies.{IsPlain, plain}
-use Rattle.tizhagor.specs.Texts.{IsQuietFor, IsReadyFor, IsTextAtSetup, IsTextOf, IsUnfaultedBy, RefusesReport, RefusesTextOf}
+use Rattle.tizhagor.specs.Texts.{IsQuietFor, IsReadyFor, IsTextAtSetup, IsTextOf, IsUnfaultedBy, RefusesTextOf}
 use Rattle.tizhagor.specs.Writing.{written}
 
 -- ---- the bytes
@@ -32,30 +30,28 @@ pub record IsBytesOf (composes : Bool) (t : Names) (found : Result Found HereRef
   pub bytes_is : bytes ≡ written writing text
   pub same : (path : List ℕ) → setup_at (look t path true) ≡ Ok here.setup → IsTextAtSetup call composes t here.root path text
 
--- The reply is that of what is listed, by the root and the setup that are found in the tree.
-pub record IsListingOf (composes : Bool) (t : Names) (found : Result Found HereRefusal) (listing : Listing) (reply : Reply) : Type 0 where
+-- The reply is that of one of git's own words, by the root and the setup that are found in the tree.
+pub record IsSaidOf (composes : Bool) (t : Names) (found : Result Found HereRefusal) (word : OwnWord) (reply : Reply) : Type 0 where
   pub here : Found
   pub found_is : found ≡ Ok here
-  pub made : Listed
-  pub made_is : listed_for composes t here listing ≡ Some made
-  pub reply_is : reply ≡ reply_of made
+  pub reply_is : said_for composes t here word ≡ Some reply
 
 -- the reply is the one that is asked for over the tree
 abbrev pub IsReplyFor : Bool → Names → Owned → Place → Option (List ℕ) → Reply → Task → Type 0
 IsReplyFor composes t owned place directory reply (call_of call asked writing) = IsBytesOf composes t (found_at place directory asked t owned) call writing reply.out × IsPlain reply
-IsReplyFor composes t owned place directory reply (list_of listing asked) = IsListingOf composes t (listable_at place directory listing asked t owned) listing reply
+IsReplyFor composes t owned place directory reply (word_of word asked) = IsSaidOf composes t (word_at place directory word asked t owned) word reply
 IsReplyFor composes t owned place directory reply (offer_of text) = reply ≡ plain text
 
 -- what is said of the count of faults, where there is a reply
 abbrev pub IsUnfaultedFor : ℕ → ℕ → Task → Type 0
 IsUnfaultedFor before now (call_of call asked writing) = IsUnfaultedBy call before now
-IsUnfaultedFor before now (list_of listing asked) = now ≡ before
+IsUnfaultedFor before now (word_of word asked) = now ≡ before
 IsUnfaultedFor before now (offer_of text) = now ≡ before
 
 -- what has to be known of it besides, so that the reply is said
 abbrev pub IsQuietWith : ℕ → ℕ → Task → Type 0
 IsQuietWith before now (call_of call asked writing) = IsQuietFor call before now
-IsQuietWith before now (list_of listing asked) = Unit {0}
+IsQuietWith before now (word_of word asked) = Unit {0}
 IsQuietWith before now (offer_of text) = Unit {0}
 
 -- The words ask for something, and the worktree did not fail for it, but for a report.
@@ -84,21 +80,21 @@ pub record RefusesText (composes : Bool) (t : Names) (found : Result Found HereR
 abbrev pub RefusesCall : Bool → Names → Result Found HereRefusal → Call → HereRefusal → Type 0
 RefusesCall composes t found call e = (found ≡ Err e) ⊎ RefusesText composes t found call e
 
--- There is no listing over the tree by the root and the setup that are found.
-pub record RefusesListed (composes : Bool) (t : Names) (found : Result Found HereRefusal) (listing : Listing) (e : HereRefusal) : Type 0 where
+-- There is no reply of one of git's own words over the tree by the root and the setup that are found.
+pub record RefusesSaid (composes : Bool) (t : Names) (found : Result Found HereRefusal) (word : OwnWord) (e : HereRefusal) : Type 0 where
   pub here : Found
   pub found_is : found ≡ Ok here
   pub refusal : Refusal
   pub e_is : e ≡ Program refusal
-  pub refused : RefusesReport composes t here.root (setup_for listing here) refusal
+  pub refused : RefusesWord composes t here refusal word
 
--- what a listing is refused for over the tree
-abbrev pub RefusesList : Bool → Names → Result Found HereRefusal → Listing → HereRefusal → Type 0
-RefusesList composes t found listing e = (found ≡ Err e) ⊎ RefusesListed composes t found listing e
+-- what it is refused for over the tree
+abbrev pub RefusesWordOf : Bool → Names → Result Found HereRefusal → OwnWord → HereRefusal → Type 0
+RefusesWordOf composes t found word e = (found ≡ Err e) ⊎ RefusesSaid composes t found word e
 
 abbrev pub RefusesFor : Bool → Names → Owned → Place → Option (List ℕ) → HereRefusal → Task → Type 0
 RefusesFor composes t owned place directory e (call_of call asked writing) = RefusesCall composes t (found_at place directory asked t owned) call e
-RefusesFor composes t owned place directory e (list_of listing asked) = RefusesList composes t (listable_at place directory listing asked t owned) listing e
+RefusesFor composes t owned place directory e (word_of word asked) = RefusesWordOf composes t (word_at place directory word asked t owned) word e
 RefusesFor composes t owned place directory e (offer_of text) = ⊥
 
 -- The words ask for something, and it is refused so over the tree.
@@ -110,7 +106,7 @@ pub record RefusesHere (composes : Bool) (t : Names) (owned : Owned) (place : Pl
 -- no root and no setup is found
 abbrev pub IsNotFoundFor : Names → Owned → Place → Option (List ℕ) → HereRefusal → Task → Type 0
 IsNotFoundFor t owned place directory e (call_of call asked writing) = found_at place directory asked t owned ≡ Err e
-IsNotFoundFor t owned place directory e (list_of listing asked) = listable_at place directory listing asked t owned ≡ Err e
+IsNotFoundFor t owned place directory e (word_of word asked) = word_at place directory word asked t owned ≡ Err e
 IsNotFoundFor t owned place directory e (offer_of text) = ⊥
 
 -- No word is wrong, and no root and no setup is found for what they ask for.
@@ -128,15 +124,15 @@ pub record IsReadyAt (composes : Bool) (t : Names) (found : Result Found HereRef
   pub found_is : found ≡ Ok here
   pub ready : IsReadyFor call composes t here.root here.setup
 
--- the same for a listing
-pub record IsListableAt (composes : Bool) (t : Names) (found : Result Found HereRefusal) (listing : Listing) : Type 0 where
+-- the same for one of git's own words
+pub record IsSayableAt (composes : Bool) (t : Names) (found : Result Found HereRefusal) (word : OwnWord) : Type 0 where
   pub here : Found
   pub found_is : found ≡ Ok here
-  pub ready : IsListable composes t here listing
+  pub ready : IsSayable composes t here word
 
 abbrev pub IsReadyWith : Bool → Names → Owned → Place → Option (List ℕ) → Task → Type 0
 IsReadyWith composes t owned place directory (call_of call asked writing) = IsReadyAt composes t (found_at place directory asked t owned) call
-IsReadyWith composes t owned place directory (list_of listing asked) = IsListableAt composes t (listable_at place directory listing asked t owned) listing
+IsReadyWith composes t owned place directory (word_of word asked) = IsSayableAt composes t (word_at place directory word asked t owned) word
 IsReadyWith composes t owned place directory (offer_of text) = Unit {0}
 
 -- No word is wrong, and what the words ask for can be had.

@@ -19,7 +19,7 @@ walk_phrase words.NotADirectory = codes "fatal: no longer a directory: '"
 walk_phrase words.RulesFile = codes "fatal: ignore rules are not read: '"
 walk_phrase words.Blob = codes "fatal: ignore rules are in a file that is not checked out, and objects are not read; check it out: '"
 walk_phrase words.Lookup = codes "fatal: ignore rules cannot be asked: '"
-walk_phrase words.TooDeep = codes "fatal: deeper than --depth: '"
+walk_phrase words.TooDeep = codes "fatal: deeper than --depth, or than 1000 directories: '"
 
 abbrev pub misread_line : Misread → List ℕ
 misread_line (misread.Config at line) = with_number (codes "fatal: bad config line ") line (with_number (codes " in configuration ") at (codes "\n"))

@@ -14,6 +14,7 @@ use Rattle.command_line.specs.declared.misuse.Misuse.{Misuse}
 use Rattle.command_line.specs.declared.misuse.Misuse.TheVariants as misuses
 use Rattle.tizhagor.specs.declared.refusal.HereRefusal.{HereRefusal}
 use Rattle.tizhagor.specs.declared.refusal.HereRefusal.TheVariants as errors
+use Rattle.tizhagor.specs.CleanLines.{clean_text}
 use Rattle.tizhagor.specs.FilesLines.{files_line}
 use Rattle.tizhagor.specs.IndexLines.{entry_reason, file_reason}
 use Rattle.tizhagor.specs.Parts.{fault_line, foreign_line, memory_line, value_line, with_path}
@@ -72,8 +73,10 @@ IsOfFinding (errors.Words misuse) = ⊥
 IsOfFinding (errors.Absent directory) = Unit {0}
 IsOfFinding (errors.NotADirectory directory) = Unit {0}
 IsOfFinding (errors.NotAtTop root) = Unit {0}
+IsOfFinding errors.Elsewhere = Unit {0}
 IsOfFinding (errors.Git refusal) = Unit {0}
 IsOfFinding (errors.Listing wrong) = Unit {0}
+IsOfFinding (errors.Cleaning wrong) = Unit {0}
 IsOfFinding (errors.Program refusals.Interrupted) = ⊥
 IsOfFinding (errors.Program refusals.Usage) = ⊥
 IsOfFinding (errors.Program (refusals.Setup line)) = ⊥
@@ -90,8 +93,10 @@ status_of (errors.Words misuse) = 129
 status_of (errors.Absent directory) = 128
 status_of (errors.NotADirectory directory) = 128
 status_of (errors.NotAtTop root) = 128
+status_of errors.Elsewhere = 128
 status_of (errors.Git refusal) = 128
 status_of (errors.Listing wrong) = 128
+status_of (errors.Cleaning wrong) = 128
 status_of (errors.Program refusal) = program_status refusal
 
 -- ---- lines
@@ -114,7 +119,7 @@ git_line (git.OutsidePath text) = with_path (codes "fatal: '") text (codes "' is
 git_line (git.Prefix text prefix) =
     with_path (codes "fatal: pathspec '") text (with_path (codes "' is not read from directory '") prefix (codes "'; write it from the top, with ':/'\n"))
 git_line (git.SubmoduleCase path) =
-    with_path (codes "fatal: no plan with core.ignoreCase and a submodule; 'git clean -n' makes one: '") path (codes "'\n")
+    with_path (codes "fatal: nothing to remove is named with core.ignoreCase and a submodule; ask git: '") path (codes "'\n")
 git_line git.Fault = fault_line
 git_line git.OutOfMemory = memory_line
 
@@ -124,6 +129,8 @@ line_of (errors.Words misuse) = said misuse
 line_of (errors.Absent directory) = with_path (codes "fatal: cannot change to '") directory (codes "': No such file or directory\n")
 line_of (errors.NotADirectory directory) = with_path (codes "fatal: cannot change to '") directory (codes "': Not a directory\n")
 line_of (errors.NotAtTop root) = with_path (codes "fatal: what is to be deleted is told at the top of the work tree; call it there: '") root (codes "'\n")
+line_of errors.Elsewhere = codes "fatal: clean is not supported with -C: it works in the current directory\n"
 line_of (errors.Git refusal) = git_line refusal
 line_of (errors.Listing wrong) = codes "fatal: " ++ wrong_text wrong ++ codes "\n"
+line_of (errors.Cleaning wrong) = codes "fatal: " ++ clean_text wrong ++ codes "\n"
 line_of (errors.Program refusal) = program_line refusal

@@ -1,6 +1,8 @@
 -- What a command says: bytes for the output, others for standard error, and whether its answer is no.
 use Rattle.std.specs.Prelude.{◌≡◌, ℕ, List, [], Bool, false, Result, Ok, Err, IfOk, if◌then◌else◌}
+use Rattle.worktree_report.specs.declared.refusal.Refusal.{Refusal}
 use Rattle.tizhagor.specs.declared.refusal.HereRefusal.{HereRefusal}
+use Rattle.tizhagor.specs.declared.refusal.HereRefusal.TheVariants as errors
 use Rattle.tizhagor.specs.declared.reply.Reply.{Reply}
 
 -- a text alone, which is no answer of no
@@ -10,6 +12,15 @@ plain text = record { out = text; err = []; is_no = false }
 abbrev pub plainly : Result (List ℕ) HereRefusal → Result Reply HereRefusal
 plainly (Ok text) = Ok (plain text)
 plainly (Err e) = Err e
+
+-- the same of a text by a setup
+abbrev pub of_text : Result (List ℕ) Refusal → Result Reply Refusal
+of_text (Ok text) = Ok (plain text)
+of_text (Err e) = Err e
+
+abbrev pub replied : Result Reply Refusal → Result Reply HereRefusal
+replied (Ok reply) = Ok reply
+replied (Err e) = Err (errors.Program e)
 
 -- git's number for a command whose answer is no
 abbrev pub answer_status : Bool → ℕ

@@ -13,6 +13,7 @@ ghost use Rattle.tizhagor.specs.Replies.{SaysPlainly, plain};
 ghost use Rattle.tizhagor.specs.declared.reply.Reply.{Reply as ReplyOf};
 
 use crate::call::Call;
+use crate::clean::clean_here;
 use crate::ending::finish_here;
 use crate::files::files_here;
 use crate::found::asked_for;
@@ -152,6 +153,9 @@ fn reply_of<W: CountsFaults, O: Owners, I: Interrupt>(
         Command::Files { asked, listing } => files_here(
             alloc, worktree, owners, interrupt, current, variables, directory, &listing, &asked,
         ),
+        Command::Clean { asked, clean } => clean_here(
+            alloc, worktree, owners, interrupt, current, variables, directory, &clean, asked,
+        ),
         Command::Help(topic) => offered(alloc, help_of(topic)),
         Command::Version => offered(alloc, version()),
     }
@@ -191,7 +195,7 @@ fn reply_asked<W: CountsFaults, O: Owners, I: Interrupt>(
 /// environment: writes what they ask for to `out`, or says to `err` why there is nothing of that, and answers the status that
 /// the program is to end with. `takes_colors` says whether `out` takes colours.
 ///
-/// The words are `[-C DIR] report|plan|modules|state|ls-files [OPTION..] [--] [PATH..]`, `--help` or `--version`, as [`request_of`] reads them. The
+/// The words are `[-C DIR] report|plan|modules|state|ls-files|clean [OPTION..] [--] [PATH..]`, `--help` or `--version`, as [`request_of`] reads them. The
 /// work tree is the one around the directory, and the setup the one that its repository gives, as [`git_setup::setup_here`] finds them.
 ///
 /// | status | where |

@@ -4,11 +4,12 @@ ghost use Rattle.ls_files.specs.Wrong.{wrong_in};
 ghost use Rattle.tizhagor.specs.Answers as answers;
 ghost use Rattle.tizhagor.specs.Finds.{FindsHereWith};
 ghost use Rattle.tizhagor.specs.Listings as words;
+ghost use Rattle.tizhagor.specs.OwnWords as own;
 ghost use Rattle.tizhagor.specs.Refusals.{IsOfFinding};
 
 use crate::found::found_here;
 use crate::refusal::HereRefusal;
-use crate::reply::Reply;
+use crate::reply::{Reply, replied};
 use git_places::Variable;
 use git_setup::{Asked, AskedSpec, EachSpec, Found};
 use gitbase_core::{Bytes, OutOfMemory};
@@ -70,7 +71,7 @@ fn named_of(asked: AskedSpec) -> NamedSpec
 }
 
 /// Path specs, as a listing takes them.
-fn all_named(alloc: Global, each: EachSpec) -> Result<Vec<NamedSpec>, OutOfMemory>
+pub fn all_named(alloc: Global, each: EachSpec) -> Result<Vec<NamedSpec>, OutOfMemory>
     ensures { IfOk result (λ named. named.items ≡ map words.named_of each) }
 {
     let mut named = Vec::new(alloc);
@@ -98,6 +99,7 @@ fn list_in<W: CountsFaults, I: Interrupt>(
         prefix,
         each,
         quote_path,
+        config: _config,
     } = found;
     let named = all_named(alloc, each)?;
     let quoting = listing_with(listing, quote_path);
@@ -116,7 +118,7 @@ fn list_in<W: CountsFaults, I: Interrupt>(
 }
 
 /// What is said of a listing.
-fn as_reply(answer: Result<Listed, Refusal>) -> Result<Reply, HereRefusal>
+fn as_reply(answer: Result<Listed, Refusal>) -> Result<Reply, Refusal>
     ensures { result ≡ words.as_reply answer }
 {
     match answer {
@@ -128,7 +130,7 @@ fn as_reply(answer: Result<Listed, Refusal>) -> Result<Reply, HereRefusal>
                 is_no,
             })
         }
-        Err(refusal) => Err(HereRefusal::Program(refusal)),
+        Err(refusal) => Err(refusal),
     }
 }
 
@@ -144,14 +146,14 @@ pub fn files_here<W: CountsFaults, O: Owners, I: Interrupt>(
     listing: &Listing,
     asked: &Asked,
 ) -> Result<Reply, HereRefusal>
-    ensures { answers.AnswersListing W.Worktree I.Interrupt O.Owners worktree.old worktree.new
+    ensures { answers.AnswersWord W.Worktree I.Interrupt O.Owners worktree.old worktree.new
         interrupt.old interrupt.new owners.old owners.new
         (λ t owned. words.listable_in t owned current.now variables.now directory.now listing.now
-        asked.now) listing.now result }
+        asked.now) (own.listing_of listing.now) result }
 {
     let found = listable_here(
         alloc, worktree, owners, current, variables, directory, listing, asked,
     )?;
     let answer = list_in(alloc, worktree, interrupt, found, listing);
-    as_reply(answer)
+    replied(as_reply(answer))
 }

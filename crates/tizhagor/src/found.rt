@@ -1,5 +1,6 @@
 //! The work tree in which a command works, and its setup.
 ghost use Rattle.std.specs.Prelude.{◌≡◌, IfOk, IfErr};
+ghost use Rattle.gitbase_core.specs.Steps.{and_then};
 ghost use Rattle.git_setup.specs.Found.{found_in};
 ghost use Rattle.tizhagor.specs.Asking as words;
 ghost use Rattle.tizhagor.specs.Finds.{FindsHere, FindsHereWith};
@@ -87,6 +88,51 @@ fn found_from<W: Worktree, O: Owners>(
 {
     let around = surroundings_of(alloc, directory, variables)?;
     setup_in(alloc, worktree, owners, &around, asked)
+}
+
+/// The current directory, unless `-C` names another one: where the program was called stays, as in
+/// git, and that is told by the directory in which it works.
+fn current_in<W: Worktree>(
+    alloc: Global,
+    worktree: &mut W,
+    current: &[u8],
+    directory: &Option<Bytes>,
+) -> Result<PathText, HereRefusal>
+    ensures finds { FindsHere W.Worktree worktree.old worktree.new
+        (λ t. and_then (words.if_current current.now)
+        (words.directory_in t current.now directory.now)) result }
+    ensures of { IfErr result IsOfFinding }
+{
+    let place = directory_in(alloc, worktree, current, directory)?;
+    if place.as_bytes() != current {
+        return Err(HereRefusal::Elsewhere);
+    }
+    Ok(place)
+}
+
+/// The work tree around the current directory, and its setup, wherever in the work tree that is.
+///
+/// # Errors
+///
+/// - `Elsewhere`: `-C` names another directory.
+/// - Those of [`found_here`] but for `NotAtTop`.
+#[tactic(auto, unfolding(crate::specs::Asking::around_in))]
+pub fn around_here<W: Worktree, O: Owners>(
+    alloc: Global,
+    worktree: &mut W,
+    owners: &mut O,
+    current: &[u8],
+    variables: &[Variable],
+    directory: &Option<Bytes>,
+    asked: &Asked,
+) -> Result<Found, HereRefusal>
+    ensures finds { FindsHereWith W.Worktree O.Owners worktree.old worktree.new owners.old
+        owners.new (λ t owned. words.around_in t owned current.now variables.now directory.now
+        asked.now) result }
+    ensures of { IfErr result IsOfFinding }
+{
+    let place = current_in(alloc, worktree, current, directory)?;
+    found_from(alloc, worktree, owners, variables, asked, place.as_bytes())
 }
 
 /// Whether what may be deleted is asked for, and the current directory is not the top of the work tree.

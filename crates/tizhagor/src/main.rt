@@ -3,6 +3,8 @@
 
 mod answer;
 mod call;
+mod clean;
+mod cleaning;
 mod directory;
 mod ending;
 mod environment;

@@ -1,4 +1,5 @@
 //! Why there is no text.
+use crate::cleaning::WrongClean;
 use command_line::Misuse;
 use git_setup::GitRefusal;
 use gitbase_core::{Bytes, OutOfMemory};
@@ -17,10 +18,14 @@ pub enum HereRefusal {
     NotADirectory { directory: Bytes },
     /// What may be deleted is asked for elsewhere than at the top of the work tree, which is at `root`.
     NotAtTop { root: Bytes },
+    /// What is to be called in the current directory alone is asked for in another one.
+    Elsewhere,
     /// No setup is found; never as the worktree failed, nor for want of memory.
     Git(GitRefusal),
     /// There is no such listing: git has none, or it is not answered here.
     Listing(WrongListing),
+    /// There is no such cleaning: git has none, or it is not answered here.
+    Cleaning(WrongClean),
     /// There is no text by the setup that was found, or the worktree failed, or memory was wanted.
     Program(Refusal),
 }

@@ -5,6 +5,7 @@ ghost use Rattle.tizhagor.specs.Replies as words;
 use crate::refusal::HereRefusal;
 use gitbase_core::Bytes;
 use std::alloc::Global;
+use worktree_report::Refusal;
 
 /// What a command says.
 #[derive(Debug, Drop)]
@@ -28,6 +29,30 @@ pub fn plainly(alloc: Global, answer: Result<Bytes, HereRefusal>) -> Result<Repl
             is_no: false,
         }),
         Err(refusal) => Err(refusal),
+    }
+}
+
+/// The text of a command that is no answer of no, or why there is none, as what a command says.
+pub fn of_text(alloc: Global, answer: Result<Bytes, Refusal>) -> Result<Reply, Refusal>
+    ensures { result ≡ words.of_text answer }
+{
+    match answer {
+        Ok(text) => Ok(Reply {
+            out: text,
+            err: Bytes::new(alloc),
+            is_no: false,
+        }),
+        Err(refusal) => Err(refusal),
+    }
+}
+
+/// What one of git's own words says, or why it says nothing.
+pub fn replied(answer: Result<Reply, Refusal>) -> Result<Reply, HereRefusal>
+    ensures { result ≡ words.replied answer }
+{
+    match answer {
+        Ok(reply) => Ok(reply),
+        Err(refusal) => Err(HereRefusal::Program(refusal)),
     }
 }
 

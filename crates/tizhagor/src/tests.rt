@@ -75,6 +75,19 @@ ls-files -o --error-unmatch nope b^/w^^^1^b~^error: pathspec 'nope' did not matc
 ls-files -o --error-unmatch :!e^/w^^^0^.gitignore~b~c.o~d/e~^|\
 ls-files -i^/w^^^128^^fatal: ls-files -i must be used with either -o or -c~|\
 ls-files -od^/w^^^129^^error: switch `d' is git's, and is not answered here~usage: tizhagor [-C DIR] ls-files|\
+clean -n^/w^^^0^Would remove .gitignore~Would remove b~^|\
+clean b -X -nd .^/w^^^0^Would remove c.o~^|\
+clean -ndx ..^/w/d^^^0^Would remove ../.gitignore~Would remove ../b~Would remove ../c.o~Would refuse to remove current working directory~Would remove ./e~^|\
+-C d clean -nd^/w^^^128^^fatal: clean is not supported with -C: it works in the current directory~|\
+-C ../w clean -nX^/w^^^0^Would remove c.o~^|\
+clean -nebd -e #d -e d^/w^^/w/#d=;/w/bd=^0^Would remove .gitignore~Would remove b~^|\
+clean -fnd^/w^^/w/n/.git/objects;/w/n/.git/refs;/w/n/.git/HEAD=ref: refs/heads/main~;/w/n/f=^0^Would remove .gitignore~Would remove b~Would remove d/~^|\
+clean -fnd^/w^^/w/.git/config=[clean]~requireForce=no~;/w/n/.git/objects;/w/n/.git/refs;/w/n/.git/HEAD=ref: refs/heads/main~;/w/n/f=^0^Would remove .gitignore~Would remove b~Would remove d/~Would remove n/~^|\
+clean -n \xc3\xa9^/w^^/w/.git/config=[core]~quotePath=false~;/w/\xc3\xa9=^0^Would remove \xc3\xa9~^|\
+clean^/w^^^128^^fatal: clean.requireForce defaults to true and neither -i, -n, nor -f given; refusing to clean~|\
+clean -nxX^/w^^^128^^fatal: -x and -X cannot be used together~|\
+clean -fd^/w^^^128^^fatal: clean is not supported without -n: nothing is removed~|\
+clean -ni^/w^^^129^^error: switch `i' is git's, and is not answered here~usage: tizhagor [-C DIR] clean|\
 state a^/w^^^129^^error: `a' is a path, and this command takes none~|\
 state^/w^^/w/a=y~;/w/.git/index=DIRC\0\0\0\x04\0\0\0\x01\
 \0\0\0\0\0\0\0\0\0\0\0\0\0\0\0\0\0\0\0\0\0\0\0\0\0\0\x81\xa4\0\0\0\0\0\0\0\0\0\0\0\0\

@@ -98,7 +98,7 @@ pub fn git_line(alloc: Global, refusal: &GitRefusal) -> Result<Bytes, OutOfMemor
         }
         GitRefusal::SubmoduleCase { path } => with_path(
             alloc,
-            b"fatal: no plan with core.ignoreCase and a submodule; 'git clean -n' makes one: '",
+            b"fatal: nothing to remove is named with core.ignoreCase and a submodule; ask git: '",
             path.as_bytes(),
             b"'\n",
         ),

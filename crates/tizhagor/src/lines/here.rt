@@ -2,9 +2,10 @@
 ghost use Rattle.std.specs.Prelude.{◌≡◌, IfOk};
 ghost use Rattle.tizhagor.specs.Refusals as words;
 
+use crate::cleaning::WrongClean;
 use crate::lines::git::git_line;
 use crate::lines::program::{program_line, program_status};
-use crate::lines::with_path;
+use crate::lines::{fixed, with_path};
 use crate::refusal::HereRefusal;
 use command_line::said;
 use gitbase_core::{Bytes, OutOfMemory};
@@ -20,8 +21,10 @@ pub fn status_of(refusal: &HereRefusal) -> u8
         HereRefusal::Absent { directory: _ }
         | HereRefusal::NotADirectory { directory: _ }
         | HereRefusal::NotAtTop { root: _ }
+        | HereRefusal::Elsewhere
         | HereRefusal::Git(_)
-        | HereRefusal::Listing(_) => 128,
+        | HereRefusal::Listing(_)
+        | HereRefusal::Cleaning(_) => 128,
         HereRefusal::Program(refusal) => program_status(refusal),
     }
 }
@@ -29,6 +32,16 @@ pub fn status_of(refusal: &HereRefusal) -> u8
 /// The line of a listing that there is not.
 fn listing_line(alloc: Global, wrong: WrongListing) -> Result<Bytes, OutOfMemory>
     ensures { IfOk result (λ line. line ≡ words.line_of (HereRefusal.Listing wrong)) }
+{
+    let mut line = Bytes::from_slice(alloc, b"fatal: ")?;
+    line.extend(alloc, wrong.text())?;
+    line.extend(alloc, b"\n")?;
+    Ok(line)
+}
+
+/// The line of a cleaning that there is not.
+fn cleaning_line(alloc: Global, wrong: WrongClean) -> Result<Bytes, OutOfMemory>
+    ensures { IfOk result (λ line. line ≡ words.line_of (HereRefusal.Cleaning wrong)) }
 {
     let mut line = Bytes::from_slice(alloc, b"fatal: ")?;
     line.extend(alloc, wrong.text())?;
@@ -64,8 +77,13 @@ pub fn line_of(alloc: Global, refusal: &HereRefusal) -> Result<Bytes, OutOfMemor
             root.as_bytes(),
             b"'\n",
         ),
+        HereRefusal::Elsewhere => fixed(
+            alloc,
+            b"fatal: clean is not supported with -C: it works in the current directory\n",
+        ),
         HereRefusal::Git(refusal) => git_line(alloc, refusal),
         HereRefusal::Listing(wrong) => listing_line(alloc, *wrong),
+        HereRefusal::Cleaning(wrong) => cleaning_line(alloc, *wrong),
         HereRefusal::Program(refusal) => program_line(alloc, refusal),
     }
 }

@@ -23,7 +23,7 @@ fn walk_phrase(word: WalkWord) -> &'static [u8]
             b"fatal: ignore rules are in a file that is not checked out, and objects are not read; check it out: '"
         }
         WalkWord::Lookup => b"fatal: ignore rules cannot be asked: '",
-        WalkWord::TooDeep => b"fatal: deeper than --depth: '",
+        WalkWord::TooDeep => b"fatal: deeper than --depth, or than 1000 directories: '",
     }
 }
 

@@ -1,11 +1,15 @@
-use Rattle.tizhagor.specs.Listings.{listable_in}
-use Rattle.tizhagor.proofs.Here.{by_listing}
+use Rattle.std.proofs.Common.{subst, sym, Result}
+use Rattle.worktree_report.specs.declared.refusal.Refusal.{Refusal}
+use Rattle.tizhagor.specs.declared.reply.Reply.{Reply}
+use Rattle.tizhagor.specs.Listings.{Lists, listable_in, reply_of}
+use Rattle.tizhagor.specs.OwnWords.{Replies, listing_of}
+use Rattle.tizhagor.proofs.Here.{by_word, replies_listed}
 use Rattle.tizhagor.proofs.files.files_here.Goals as goal
 
 pub returns : goal.returns
 returns g c =
     let read = c.in_ok-found.ensures.finds in
-    by_listing g.W.Worktree g.I.Interrupt g.O.Owners _ _ _ _ _ _ (λ t owned. listable_in t owned c.args.current.now c.args.variables.now c.args.directory.now c.args.listing.now c.args.asked.now) c.args.listing.now c.list_in-answer.result c.as_reply.result c.as_reply.ensures
+    by_word g.W.Worktree g.I.Interrupt g.O.Owners _ _ _ _ _ _ (λ t owned. listable_in t owned c.args.current.now c.args.variables.now c.args.directory.now c.args.listing.now c.args.asked.now) (listing_of c.args.listing.now) c.as_reply.result c.replied.result c.replied.ensures
     (record {
       here = c.in_ok-found.found;
       is = read.gives;
@@ -14,5 +18,7 @@ returns g c =
       unfaulted = read.unfaulted;
       owners = read.owners;
       owners_unfaulted = read.owners_unfaulted;
-      made = c.list_in-answer.ensures;
+      made = subst (λ (r : Result Reply Refusal). Replies reply_of (Lists g.W.Worktree g.I.Interrupt c.listable_here.new.worktree c.list_in-answer.new.worktree c.args.interrupt.now c.list_in-answer.new.interrupt c.args.listing.now c.in_ok-found.found) r)
+          (sym c.as_reply.ensures)
+          (replies_listed (Lists g.W.Worktree g.I.Interrupt c.listable_here.new.worktree c.list_in-answer.new.worktree c.args.interrupt.now c.list_in-answer.new.interrupt c.args.listing.now c.in_ok-found.found) c.list_in-answer.result c.list_in-answer.ensures);
     })

@@ -1,0 +1,25 @@
+use Rattle.std.proofs.Common.{subst, sym, Result}
+use Rattle.worktree_report.specs.declared.refusal.Refusal.{Refusal}
+use Rattle.tizhagor.specs.declared.reply.Reply.{Reply}
+use Rattle.tizhagor.specs.Cleanings.{Cleans, cleanable_in}
+use Rattle.tizhagor.specs.OwnWords.{Replies, cleaning_of}
+use Rattle.tizhagor.specs.Replies.{plain}
+use Rattle.tizhagor.proofs.Here.{by_word, replies_text}
+use Rattle.tizhagor.proofs.clean.clean_here.Goals as goal
+
+pub returns : goal.returns
+returns g c =
+    let read = c.in_ok-found.ensures.finds in
+    by_word g.W.Worktree g.I.Interrupt g.O.Owners _ _ _ _ _ _ (λ t owned. cleanable_in t owned c.args.current.now c.args.variables.now c.args.directory.now c.args.wants.now c.args.asked) (cleaning_of c.args.wants.now) c.of_text.result c.replied.result c.replied.ensures
+    (record {
+      here = c.in_ok-found.found;
+      is = read.gives;
+      loaded = c.cleanable_here.new.worktree;
+      asks = read.keeps;
+      unfaulted = read.unfaulted;
+      owners = read.owners;
+      owners_unfaulted = read.owners_unfaulted;
+      made = subst (λ (r : Result Reply Refusal). Replies plain (Cleans g.W.Worktree g.I.Interrupt c.cleanable_here.new.worktree c.clean_in-answer.new.worktree c.args.interrupt.now c.clean_in-answer.new.interrupt c.args.wants.now c.in_ok-found.found) r)
+          (sym c.of_text.ensures)
+          (replies_text (Cleans g.W.Worktree g.I.Interrupt c.cleanable_here.new.worktree c.clean_in-answer.new.worktree c.args.interrupt.now c.clean_in-answer.new.interrupt c.args.wants.now c.in_ok-found.found) c.clean_in-answer.result c.clean_in-answer.ensures);
+    })

@@ -1,0 +1,114 @@
+//! Whether there is such a cleaning.
+ghost use Rattle.std.specs.Prelude.{◌≡◌};
+ghost use Rattle.tizhagor.specs.CleanLines.{clean_text};
+ghost use Rattle.tizhagor.specs.Cleanings as words;
+
+use command_line::{CleanAsked, Force};
+use git_clean::WrongCleaning;
+use git_config_lite::File;
+use git_setup::Found;
+
+/// What the configuration says of `clean.requireForce`.
+#[derive(Clone, Copy, Debug, PartialEq, Eq)]
+pub enum Required {
+    /// Nothing: then `-f` or `-n` is required.
+    Unsaid,
+    /// It is.
+    Yes,
+    /// It is not.
+    No,
+    /// The value is no boolean.
+    Unread,
+}
+
+/// Why there is no such cleaning: in git, or not here.
+#[derive(Clone, Copy, Debug, PartialEq, Eq)]
+pub enum WrongClean {
+    /// `clean.requireForce` is no boolean.
+    Unread,
+    /// Neither `-n` nor `-f` is there.
+    Unforced,
+    /// The same, where the configuration has `clean.requireForce`.
+    UnforcedAsSaid,
+    /// Another reason.
+    Wrong(WrongCleaning),
+}
+
+impl WrongClean {
+    /// What is told of it, behind `fatal: `; of what git refuses too in git's words.
+    pub fn text(&self) -> &'static [u8]
+        ensures { result.now ≡ clean_text self.now }
+    {
+        match self {
+            WrongClean::Unread => b"bad config value for 'clean.requireForce'",
+            WrongClean::Unforced => {
+                b"clean.requireForce defaults to true and neither -i, -n, nor -f given; \
+refusing to clean"
+            }
+            WrongClean::UnforcedAsSaid => {
+                b"clean.requireForce set to true and neither -i, -n, nor -f given; \
+refusing to clean"
+            }
+            WrongClean::Wrong(wrong) => wrong.text(),
+        }
+    }
+}
+
+/// What a configuration says of `clean.requireForce`.
+pub fn required_in(config: &File) -> Required
+    ensures { result ≡ words.required_in config.now.sections }
+{
+    match config.boolean(b"clean", None, b"requireforce") {
+        Ok(None) => Required::Unsaid,
+        Ok(Some(is)) => { if is { Required::Yes } else { Required::No } }
+        Err(_) => Required::Unread,
+    }
+}
+
+/// Whether what it says counts for one `-f`.
+pub fn is_lax(required: Required) -> bool
+    ensures { result ≡ words.is_lax required }
+{
+    matches!(required, Required::No)
+}
+
+/// Why git refuses to remove.
+fn unforced(is_dry: bool, force: Force, required: Required) -> Option<WrongClean>
+    ensures { result ≡ words.unforced is_dry force required }
+{
+    match required {
+        Required::Unread => Some(WrongClean::Unread),
+        Required::Unsaid => {
+            if is_dry | force.is_said(false) {
+                None
+            } else {
+                Some(WrongClean::Unforced)
+            }
+        }
+        Required::Yes => {
+            if is_dry | force.is_said(false) {
+                None
+            } else {
+                Some(WrongClean::UnforcedAsSaid)
+            }
+        }
+        Required::No => {
+            if is_dry | force.is_said(true) {
+                None
+            } else {
+                Some(WrongClean::UnforcedAsSaid)
+            }
+        }
+    }
+}
+
+/// The same by the configuration of a work tree that is found.
+pub fn unforced_here(wants: &CleanAsked, found: &Found) -> Option<WrongClean>
+    ensures { result ≡ words.unforced_here wants.now found.now }
+{
+    unforced(
+        wants.cleaning.dry_run,
+        wants.force,
+        required_in(&found.config),
+    )
+}
