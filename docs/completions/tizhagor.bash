@@ -17,6 +17,7 @@ _tizhagor_options() {
     state) echo "$shown $looked $written $colour -h --help" ;;
     ls-files) echo "-c --cached -s --stage -u --unmerged -o --others -i --ignored --exclude-standard --directory --no-empty-directory -t -v
         -z --deduplicate --full-name --error-unmatch -h --help" ;;
+    clean) echo "-n --dry-run --no-dry-run -d -x -X -e --exclude= -f --force --no-force -q --quiet --no-quiet -h --help" ;;
     *) echo "-C -h --help --version" ;;
     esac
 }
@@ -47,7 +48,7 @@ _tizhagor() {
         case ${COMP_WORDS[at]} in
         -C) [[ -n $command ]] || at=$((at + 1)) ;;
         --) [[ -z $command ]] || ended=1 ;;
-        report | plan | modules | state | ls-files) [[ -n $command ]] || command=${COMP_WORDS[at]} ;;
+        report | plan | modules | state | ls-files | clean) [[ -n $command ]] || command=${COMP_WORDS[at]} ;;
         esac
     done
     # Bash parts a word at `=`.
@@ -61,10 +62,10 @@ _tizhagor() {
     elif [[ -z $command && $before == -C ]]; then
         mapfile -t COMPREPLY < <(compgen -d -- "$word")
     elif [[ -z $command && $word != -* ]]; then
-        _tizhagor_words "report plan modules state ls-files" "$word"
+        _tizhagor_words "report plan modules state ls-files clean" "$word"
     elif [[ -z $ended && $word == -* ]]; then
         _tizhagor_words "$(_tizhagor_options "$command")" "$word"
-    elif [[ $command == report || $command == plan || $command == ls-files ]]; then
+    elif [[ $command == report || $command == plan || $command == ls-files || $command == clean ]]; then
         mapfile -t COMPREPLY < <(compgen -f -- "$word")
     fi
 }

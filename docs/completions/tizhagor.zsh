@@ -2,7 +2,7 @@
 # Completions of tizhagor for zsh; scripts/install puts them in place, and scripts/check-install compares them with the help texts.
 
 _tizhagor() {
-    local -a shown looked written colour listed help
+    local -a shown looked written colour listed cleaned help
     shown=(
         '(-u --untracked-files)'{-u,--untracked-files=-}'[untracked paths]::mode:(matching collapse)'
         '--ignored=-[ignored paths too]::mode:(matching collapse no)'
@@ -44,11 +44,23 @@ _tizhagor() {
         '--full-name[paths from the top]'
         '--error-unmatch[a path that is about nothing is an error]'
     )
+    cleaned=(
+        '(-n --dry-run)'{-n,--dry-run}'[nothing is removed]'
+        '--no-dry-run[takes -n back]'
+        '-d[untracked directories too]'
+        '(-X)-x[ignored paths too]'
+        '(-x)-X[ignored paths alone]'
+        '*'{-e,--exclude=}'[an ignore rule before all others]:pattern:'
+        '*'{-f,--force}'[twice: untracked repositories too]'
+        '--no-force[takes each -f back]'
+        '(-q --quiet)'{-q,--quiet}'[nothing that would go is named]'
+        '--no-quiet[takes -q back]'
+    )
     help=('(- *)'{-h,--help}'[the help text]')
     local context state line
     typeset -A opt_args
     _arguments -C '-C[the directory to work in]:directory:_files -/' $help '(- *)--version[the version]' \
-        '1:command:((report\:"the untracked paths, and others" plan\:"what may be removed" modules\:"what an update of the submodules would do" state\:"the paths of the index, and the report" ls-files\:"paths, as git ls-files"))' \
+        '1:command:((report\:"the untracked paths, and others" plan\:"what may be removed" modules\:"what an update of the submodules would do" state\:"the paths of the index, and the report" ls-files\:"paths, as git ls-files" clean\:"what git clean would remove"))' \
         '*::word:->words'
     [[ $state == words ]] || return
     case $line[1] in
@@ -57,6 +69,7 @@ _tizhagor() {
     modules) _arguments '--permissions=[the configurations that are read]:which:(secure all isolated)' $help ;;
     state) _arguments -s $shown $looked $written $colour $help ;;
     ls-files) _arguments -s $listed $help '*:path:_files' ;;
+    clean) _arguments -s $cleaned $help '*:path:_files' ;;
     esac
 }
 
