@@ -1,0 +1,136 @@
+-- By which rule it is decided whether a path is excluded: git-check-ignore(1), gitignore(5).
+use Rattle.std.specs.Prelude.{ℕ, List, [], Bool, true, false, not, ◌&&◌, ◌||◌, Option, Some, None, option_map, unwrap_or, Result, Ok, Err, if◌then◌else◌}
+use Rattle.std.specs.FinMap.{empty}
+use Rattle.std.specs.List.{list_all}
+use Rattle.gitbase_core.specs.Path.{components, is_empty}
+use Rattle.gitbase_core.specs.declared.entry.IndexEntry.{IndexEntry}
+use Rattle.glob_rules.specs.Ignore.{Hit}
+use Rattle.glob_rules.specs.declared.ignore.Origin.{Origin}
+use Rattle.glob_rules.specs.declared.ignore.RuleGroup.{RuleGroup}
+use Rattle.worktree_fs.specs.Paths.{all_but_last, fronts, is_normal, spelled}
+use Rattle.worktree_fs.specs.Tree.{Names}
+use Rattle.worktree_stack.specs.Excludes.{Decision, exclude}
+use Rattle.worktree_stack.specs.Reading.{Sources, is_read, reading, rulebook}
+use Rattle.worktree_stack.specs.Setup.{Made}
+use Rattle.worktree_stack.specs.declared.error.AtPathError.{AtPathError}
+use Rattle.worktree_stack.specs.declared.error.AtPathError.TheVariants as lookups
+use Rattle.worktree_stack.specs.declared.error.BlobWhy.{BlobWhy}
+use Rattle.worktree_stack.specs.declared.error.BlobWhy.TheVariants as blobs
+use Rattle.worktree_stack.specs.declared.error.RulesWhy.{RulesWhy}
+use Rattle.worktree_stack.specs.declared.error.RulesWhy.TheVariants as rules
+use Rattle.check_ignore.specs.Finds.{◌>>=◌}
+use Rattle.check_ignore.specs.Links.{is_directory, kind_at}
+use Rattle.check_ignore.specs.Outer.{excludes_all, made_of as made}
+use Rattle.check_ignore.specs.Tracked.{is_tracked}
+use Rattle.check_ignore.specs.declared.asked.AskedPath.{AskedPath}
+use Rattle.check_ignore.specs.declared.checking.Checking.{Checking}
+use Rattle.check_ignore.specs.declared.checking.OuterRules.{OuterRules}
+use Rattle.check_ignore.specs.declared.found_rule.FoundRule.{FoundRule}
+use Rattle.check_ignore.specs.declared.stop.Stop.{Stop}
+use Rattle.check_ignore.specs.declared.stop.Stop.TheVariants as stops
+
+-- where the list of a rule was read
+abbrev pub source_of : Hit → List ℕ
+source_of hit = unwrap_or hit.source []
+
+-- a rule, with the group of its list
+abbrev pub found_of : RuleGroup → Hit → FoundRule
+found_of group hit =
+    record {
+      group = group;
+      source = source_of hit;
+      line = hit.line;
+      text = hit.pattern.text;
+      is_negative = hit.pattern.is_negative;
+      must_be_dir = hit.pattern.must_be_dir;
+    }
+
+-- the same by where it comes from and what it is
+abbrev pub joined : Option Origin → Option Hit → Option FoundRule
+joined None hit = None
+joined (Some origin) None = None
+joined (Some origin) (Some hit) = Some (found_of origin.group hit)
+
+-- the rule of a decision
+abbrev pub found_by : Decision → FoundRule
+found_by d = found_of d.group d.rule
+
+-- rules are read in a tree, and no blob of the index is there
+abbrev pub sources : Names → Sources
+sources t = record { tree = t; objects = empty }
+
+-- the rules files of the directories above a path are read
+abbrev pub are_read : Made → Sources → List (List ℕ) → Bool
+are_read made s names = list_all (λ directory. is_read (reading made s (spelled directory))) (fronts (all_but_last names))
+
+abbrev pub is_read_in : Names → Made → List ℕ → Bool
+is_read_in t made path = is_normal path && are_read made (sources t) (components path)
+
+-- the rule that decides about a path, by all rules of the directories above it and of those outside the work tree
+abbrev pub rule_in : Names → Made → List ℕ → Bool → Option FoundRule
+rule_in t made path is_dir = option_map found_by (exclude (rulebook made (sources t)) (components path) (Some is_dir))
+
+-- the same, if these are read
+unfoldable pub looked_up : Names → Made → AskedPath → Bool → Result (Option FoundRule) Stop
+looked_up t made a is_dir = if is_read_in t made a.path then Ok (rule_in t made a.path is_dir) else Err (stops.Unread a.text)
+
+-- a path is that of a directory: it asks for one, or one stands there
+abbrev pub is_dir_in : Names → List ℕ → AskedPath → Bool
+is_dir_in t root a = a.names_directory || is_directory (kind_at t root a.path)
+
+abbrev pub excludes : Option FoundRule → Bool
+excludes None = false
+excludes (Some rule) = not rule.is_negative
+
+-- Behind a directory that no rule excludes git asks its rules once more, for a path without a name; this is not answered.
+abbrev pub wants_more : AskedPath → Option FoundRule → Bool
+wants_more a rule = a.names_directory && (is_empty a.path || not (excludes rule))
+
+abbrev pub unless_slash : AskedPath → Option FoundRule → Result (Option FoundRule) Stop
+unless_slash a rule = if wants_more a rule then Err (stops.Slash a.text) else Ok rule
+
+-- A rule that excludes a path without a name would exclude the top too, and all beneath it: this is not answered.
+abbrev pub unless_all : OuterRules → Checking → AskedPath → Result Bool Stop
+unless_all outer c a = if excludes_all outer c.ignore_case then Err (stops.Everything a.text) else Ok true
+
+-- the rule that decides about a path that the index does not have
+unfoldable pub ruled : Names → List ℕ → List IndexEntry → OuterRules → Checking → AskedPath → Result (Option FoundRule) Stop
+ruled t root index outer c a = do
+  some ← unless_all outer c a
+  rule ← looked_up t (made root index outer c.ignore_case) a (is_dir_in t root a)
+  unless_slash a rule
+
+-- no rule decides about what the index has
+abbrev pub rule_of : Names → List ℕ → List IndexEntry → OuterRules → Checking → AskedPath → Result (Option FoundRule) Stop
+rule_of t root index outer c a = if is_tracked index a.spec then Ok None else ruled t root index outer c a
+
+-- without `-v` a negative rule counts as none
+abbrev pub counted_one : Checking → FoundRule → Option FoundRule
+counted_one c rule = if rule.is_negative && not c.verbose then None else Some rule
+
+abbrev pub counted : Checking → Option FoundRule → Option FoundRule
+counted c None = None
+counted c (Some rule) = counted_one c rule
+
+-- ---- refused lookups
+
+-- what a refused lookup is for a path that was written so
+abbrev pub stop_by_file : List ℕ → RulesWhy → Stop
+stop_by_file text rules.Link = stops.Unread text
+stop_by_file text rules.LinkLimit = stops.Unread text
+stop_by_file text rules.Special = stops.Unread text
+stop_by_file text rules.Fault = stops.Fault
+
+abbrev pub stop_by_blob : List ℕ → BlobWhy → Stop
+stop_by_blob text blobs.Missing = stops.Unread text
+stop_by_blob text blobs.NotABlob = stops.Unread text
+stop_by_blob text blobs.Fault = stops.Fault
+
+abbrev pub stop_of : List ℕ → AtPathError → Stop
+stop_of text lookups.NotNormal = stops.Unread text
+stop_of text (lookups.RulesFile path why) = stop_by_file text why
+stop_of text (lookups.Blob id why) = stop_by_blob text why
+stop_of text (lookups.Component why) = stops.Unread text
+stop_of text (lookups.Collision path) = stops.Unread text
+stop_of text (lookups.Directory path why) = stops.Unread text
+stop_of text lookups.OutOfMemory = stops.OutOfMemory

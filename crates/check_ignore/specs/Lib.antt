@@ -1,0 +1,10 @@
+pub mod Finds
+pub mod Wrong
+pub mod Told
+pub mod Asked
+pub mod Links
+pub mod Tracked
+pub mod Outer
+pub mod Deciding
+pub mod Lines
+pub mod Checked

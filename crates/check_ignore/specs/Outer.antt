@@ -1,0 +1,53 @@
+-- Ignore rules, and what a stack of them is made with: gitignore(5).
+use Rattle.std.specs.Prelude.{ℕ, List, [], ◌∷◌, ◌++◌, Bool, true, false, not, codes, Option, Some, None}
+use Rattle.gitbase_core.specs.declared.entry.IndexEntry.{IndexEntry}
+use Rattle.glob_rules.specs.Ignore.{Hit, Rules, entries, search_hit}
+use Rattle.worktree_stack.specs.Mappings.{case_of, mappings_in}
+use Rattle.worktree_stack.specs.Setup.{Setup, Made}
+use Rattle.worktree_stack.specs.declared.ignore_source.Source.TheVariants.{WorktreeThenIdMappingIfNotSkipped}
+use Rattle.check_ignore.specs.declared.checking.NamedRules.{NamedRules}
+use Rattle.check_ignore.specs.declared.checking.OuterRules.{OuterRules}
+
+-- the rules of a file outside the work tree: they are for every path
+abbrev pub list_of : NamedRules → Rules
+list_of given = record { entries = entries false given.bytes; source = Some given.name; base = [] }
+
+abbrev pub lists_of : Option NamedRules → List Rules
+lists_of None = []
+lists_of (Some given) = list_of given ∷ []
+
+abbrev pub globals_of : OuterRules → List Rules
+globals_of outer = lists_of outer.user ++ lists_of outer.repository
+
+abbrev pub is_excluding : Option Hit → Bool
+is_excluding None = false
+is_excluding (Some hit) = not hit.pattern.is_negative
+
+-- a rule outside the work tree excludes a path without a name
+abbrev pub excludes_all : OuterRules → Bool → Bool
+excludes_all outer ignore_case = is_excluding (search_hit (globals_of outer) [] (Some true) (case_of ignore_case))
+
+-- the rules of each directory's `.gitignore`, and below them those of the repository, and then those of the user; an excluded directory
+-- keeps all beneath it excluded
+abbrev pub rules_of : OuterRules → Setup
+rules_of outer =
+    record {
+      overrides = [];
+      globals = globals_of outer;
+      file_name = codes ".gitignore";
+      source = WorktreeThenIdMappingIfNotSkipped;
+      precious = false;
+      strict = true;
+    }
+
+-- what the rules of the work tree at `root` are made with; skipped rules files are mapped to the blobs that the index has for them
+abbrev pub made_of : List ℕ → List IndexEntry → OuterRules → Bool → Made
+made_of root index outer ignore_case =
+    record {
+      root = root;
+      case = case_of ignore_case;
+      mappings = mappings_in (case_of ignore_case) None (Some (rules_of outer)) index;
+      checkout = None;
+      attributes = None;
+      ignore = Some (rules_of outer);
+    }

@@ -1,0 +1,30 @@
+-- What is told of a refusal.
+use Rattle.std.specs.Prelude.{ℕ, List, ◌++◌, codes}
+use Rattle.check_ignore.specs.declared.stop.Stop.{Stop}
+use Rattle.check_ignore.specs.declared.stop.Stop.TheVariants as stops
+
+abbrev pub outside : List ℕ → List ℕ → List ℕ
+outside root text = (text ++ codes ": '" ++ text) ++ codes "' is outside repository at '" ++ root ++ codes "'"
+
+abbrev pub inside : List ℕ → List ℕ → List ℕ
+inside text place = (codes "Pathspec '" ++ text ++ codes "' is in submodule '") ++ place ++ codes "'"
+
+-- a path that is not answered here, and why
+abbrev pub unsupported : List ℕ → List ℕ → List ℕ
+unsupported why text = (codes "check-ignore is not supported with " ++ why ++ codes ": '") ++ text ++ codes "'"
+
+-- what git refuses too in git's words
+abbrev pub told : List ℕ → Stop → List ℕ
+told root stops.Empty = codes "empty string is not a valid pathspec. please use . instead if you meant to match all paths"
+told root (stops.Outside text) = outside root text
+told root (stops.Beyond text) = codes "pathspec '" ++ text ++ codes "' is beyond a symbolic link"
+told root (stops.Inside text place) = inside text place
+told root (stops.Magic text) = unsupported (codes "path spec magic") text
+told root (stops.Elsewhere text) = unsupported (codes "a path elsewhere") text
+told root (stops.Prefix text) = unsupported (codes "wildcards here") text
+told root (stops.Slash text) = unsupported (codes "a directory that is neither tracked nor ignored") text
+told root (stops.Everything text) = unsupported (codes "a rule outside the work tree that excludes all") text
+told root (stops.Unread text) = unsupported (codes "a rules file that is not read") text
+told root stops.SparseIndex = codes "check-ignore is not supported with a sparse index"
+told root stops.Fault = codes "the work tree could not be read"
+told root stops.OutOfMemory = codes "out of memory"

@@ -1,0 +1,156 @@
+//! What is answered of paths.
+ghost use Rattle.std.specs.Prelude.{◌≡◌, Ok, OnOk};
+ghost use Rattle.check_ignore.specs.Checked as words;
+ghost use Rattle.check_ignore.specs.Finds.{Finds};
+
+use crate::asked::AskedPath;
+use crate::checking::{Checking, OuterRules};
+use crate::deciding::{counted, rule_of};
+use crate::found_rule::FoundRule;
+use crate::line::line;
+use crate::links::all_asked;
+use crate::stop::Stop;
+use crate::tracked::{not_sparse, outside_modules};
+use gitbase_core::{Bytes, OutOfMemory, State as Index};
+use std::alloc::Global;
+use worktree_fs::Worktree;
+
+/// What is answered of paths.
+#[derive(Debug, Drop)]
+pub struct Answered {
+    /// What is written.
+    pub text: Bytes,
+    /// Whether a rule decides about one of them: with `-v` a negative one too. git ends with 0
+    /// where it is so, and with 1 where it is not.
+    pub is_any: bool,
+}
+
+/// Nothing is written, and no rule decides; takes no memory.
+fn nothing(alloc: Global) -> Answered
+    ensures { result ≡ words.nothing }
+{
+    Answered {
+        text: Bytes::new(alloc),
+        is_any: false,
+    }
+}
+
+/// Adds what is answered of one path.
+fn add_answer(alloc: Global, done: &mut Answered, now: &Answered) -> Result<(), OutOfMemory>
+    ensures { OnOk result (done.new ≡ words.with_answer done.old now.now) }
+{
+    done.text.extend(alloc, now.text.as_bytes())?;
+    done.is_any |= now.is_any;
+    Ok(())
+}
+
+/// What is answered of a path by the rule that decides about it.
+fn said<W: Worktree>(
+    alloc: Global,
+    worktree: &mut W,
+    root: &[u8],
+    outer: &OuterRules,
+    checking: &Checking,
+    asked: &AskedPath,
+    rule: &Option<FoundRule>,
+) -> Result<Answered, Stop>
+    ensures { Finds W.Worktree worktree.old worktree.new (λ t. Ok (words.said t root.now outer.now
+        checking.now asked.now rule.now)) result }
+{
+    let path = asked.text.as_bytes();
+    let text = line(alloc, worktree, root, outer, checking, path, rule)?;
+    Ok(Answered {
+        text,
+        is_any: rule.is_some(),
+    })
+}
+
+/// What is answered of a path.
+#[tactic(auto, unfolding(crate::specs::Checked::answer_of))]
+fn answer_of<W: Worktree>(
+    alloc: Global,
+    worktree: &mut W,
+    root: &[u8],
+    index: &Index,
+    outer: &OuterRules,
+    checking: &Checking,
+    asked: &AskedPath,
+) -> Result<Answered, Stop>
+    ensures { Finds W.Worktree worktree.old worktree.new (λ t. words.answer_of t root.now index.now
+        outer.now checking.now asked.now) result }
+{
+    let rule = rule_of(alloc, worktree, root, index, outer, checking, asked)?;
+    let rule = counted(checking, rule);
+    said(alloc, worktree, root, outer, checking, asked, &rule)
+}
+
+/// What is answered of some paths.
+fn answers<W: Worktree>(
+    alloc: Global,
+    worktree: &mut W,
+    root: &[u8],
+    index: &Index,
+    outer: &OuterRules,
+    checking: &Checking,
+    asked: &[AskedPath],
+) -> Result<Answered, Stop>
+    ensures { Finds W.Worktree worktree.old worktree.new (λ t. words.answers_after t root.now
+        index.now outer.now checking.now words.nothing asked.now) result }
+{
+    let mut done = nothing(alloc);
+    for one in asked {
+        let now = answer_of(alloc, worktree, root, index, outer, checking, one)?;
+        add_answer(alloc, &mut done, &now)?;
+    }
+    Ok(done)
+}
+
+/// What `git check-ignore` prints of `paths`, each as it was written in the directory `prefix` of
+/// the work tree at `root`, and whether it ends with 0. With `--no-index` the index is to be an
+/// empty one. The words have to be some that there are, which [`wrong_in`](crate::wrong_in) tests.
+///
+/// Each path is looked up by itself: the rules files above it are read anew, and with `-v` the file
+/// of the rule that decides once more, as git writes the pattern as its line has it. The index is
+/// gone over once for each path.
+///
+/// # Errors
+///
+/// The first refusal, in this order; `text` is the path as it was written:
+///
+/// - `SparseIndex`: an entry of the index stands for all that is beneath a directory.
+/// - `Empty`: a path has no bytes.
+/// - Of the first path of which one holds: `Magic`: it begins with a colon; `Elsewhere`: it is
+///   absolute, and does not begin with that of the top; `Prefix`: it and `prefix` have bytes with a
+///   meaning of their own in a pattern; `Outside`: it leads out of the work tree; `Beyond`: a
+///   symbolic link stands above it.
+/// - `Inside`: a path lies in a submodule, the first of the index in which one does.
+/// - Of the first path of which one holds, and of which the index has nothing: `Everything`: a rule
+///   outside the work tree excludes all, as `*` does; `Unread`: the rules above it are not read;
+///   `Slash`: it is the top, or asks for a directory that no rule excludes.
+///
+/// Besides, wherever it comes:
+///
+/// - `Fault`: the worktree failed, which it counted. No fault reads as "nothing is there".
+/// - `OutOfMemory`: memory was refused.
+///
+/// See docs/DIFFERENCES.md#check-ignore-forms.
+#[tactic(auto, unfolding(crate::specs::Checked::checked))]
+pub fn check_ignore<W: Worktree>(
+    alloc: Global,
+    worktree: &mut W,
+    root: &[u8],
+    prefix: &[u8],
+    index: &Index,
+    outer: &OuterRules,
+    checking: &Checking,
+    paths: &[Bytes],
+) -> Result<Answered, Stop>
+    ensures { Finds W.Worktree worktree.old worktree.new (λ t. words.checked t root.now prefix.now
+        index.now outer.now checking.now paths.now) result }
+{
+    not_sparse(index.entries())?;
+    let asked = all_asked(alloc, worktree, root, prefix, paths)?;
+    let each = asked.as_slice();
+    outside_modules(alloc, each, index.entries())?;
+    answers(alloc, worktree, root, index, outer, checking, each)
+}

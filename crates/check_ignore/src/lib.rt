@@ -1,0 +1,24 @@
+//! What `git check-ignore` prints: by which ignore rule a path is excluded.
+#![tactic(auto)]
+
+mod answer;
+mod asked;
+mod checking;
+mod deciding;
+mod found_rule;
+mod line;
+mod links;
+mod lookup;
+mod outer;
+mod placed;
+mod stop;
+mod telling;
+mod tracked;
+mod written;
+mod wrong;
+
+pub use answer::{Answered, check_ignore};
+pub use checking::{Checking, NamedRules, OuterRules};
+pub use stop::Stop;
+pub use telling::told;
+pub use wrong::{WrongCheck, wrong_in};

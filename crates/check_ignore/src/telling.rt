@@ -1,0 +1,98 @@
+//! What is told of a refusal.
+ghost use Rattle.std.specs.Prelude.{◌≡◌, ◌++◌, IfOk};
+ghost use Rattle.check_ignore.specs.Told as words;
+
+use crate::stop::Stop;
+use gitbase_core::{Bytes, OutOfMemory};
+use std::alloc::Global;
+
+/// A text between two others.
+fn between(alloc: Global, front: &[u8], text: &[u8], back: &[u8]) -> Result<Bytes, OutOfMemory>
+    ensures { IfOk result (λ told. told ≡ front.now ++ text.now ++ back.now) }
+{
+    let mut told = Bytes::from_slice(alloc, front)?;
+    told.extend(alloc, text)?;
+    told.extend(alloc, back)?;
+    Ok(told)
+}
+
+/// What is told of a path that leads out of the work tree at `root`.
+fn outside(alloc: Global, root: &[u8], text: &[u8]) -> Result<Bytes, OutOfMemory>
+    ensures { IfOk result (λ told. told ≡ words.outside root.now text.now) }
+{
+    let mut told = between(alloc, text, b": '", text)?;
+    told.extend(alloc, b"' is outside repository at '")?;
+    told.extend(alloc, root)?;
+    told.extend(alloc, b"'")?;
+    Ok(told)
+}
+
+/// What is told of a path in the submodule at `place`.
+fn inside(alloc: Global, text: &[u8], place: &[u8]) -> Result<Bytes, OutOfMemory>
+    ensures { IfOk result (λ told. told ≡ words.inside text.now place.now) }
+{
+    let mut told = between(alloc, b"Pathspec '", text, b"' is in submodule '")?;
+    told.extend(alloc, place)?;
+    told.extend(alloc, b"'")?;
+    Ok(told)
+}
+
+/// What is told of a path that is not answered here, and why.
+fn unsupported(alloc: Global, why: &[u8], text: &[u8]) -> Result<Bytes, OutOfMemory>
+    ensures { IfOk result (λ told. told ≡ words.unsupported why.now text.now) }
+{
+    let mut told = between(alloc, b"check-ignore is not supported with ", why, b": '")?;
+    told.extend(alloc, text)?;
+    told.extend(alloc, b"'")?;
+    Ok(told)
+}
+
+/// What is told of a refusal in the work tree at `root`, behind `fatal: `; of what git refuses too
+/// in git's words.
+///
+/// # Errors
+///
+/// Memory was refused.
+pub fn told(alloc: Global, root: &[u8], stop: &Stop) -> Result<Bytes, OutOfMemory>
+    ensures { IfOk result (λ told. told ≡ words.told root.now stop.now) }
+{
+    match stop {
+        Stop::Empty => Bytes::from_slice(
+            alloc,
+            b"empty string is not a valid pathspec. \
+            please use . instead if you meant to match all paths",
+        ),
+        Stop::Outside { text } => outside(alloc, root, text.as_bytes()),
+        Stop::Beyond { text } => between(
+            alloc,
+            b"pathspec '",
+            text.as_bytes(),
+            b"' is beyond a symbolic link",
+        ),
+        Stop::Inside { text, place } => inside(alloc, text.as_bytes(), place.as_bytes()),
+        Stop::Magic { text } => unsupported(alloc, b"path spec magic", text.as_bytes()),
+        Stop::Elsewhere { text } => unsupported(alloc, b"a path elsewhere", text.as_bytes()),
+        Stop::Prefix { text } => unsupported(alloc, b"wildcards here", text.as_bytes()),
+        Stop::Slash { text } => unsupported(
+            alloc,
+            b"a directory that is neither tracked nor ignored",
+            text.as_bytes(),
+        ),
+        Stop::Everything { text } => unsupported(
+            alloc,
+            b"a rule outside the work tree that excludes all",
+            text.as_bytes(),
+        ),
+        Stop::Unread { text } => unsupported(
+            alloc,
+            b"a rules file that is not read",
+            text.as_bytes(),
+        ),
+        Stop::SparseIndex => Bytes::from_slice(
+            alloc,
+            b"check-ignore is not supported with a sparse index",
+        ),
+        Stop::Fault => Bytes::from_slice(alloc, b"the work tree could not be read"),
+        Stop::OutOfMemory => Bytes::from_slice(alloc, b"out of memory"),
+    }
+}

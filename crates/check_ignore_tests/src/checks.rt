@@ -1,0 +1,124 @@
+//! Answers, each compared with what git says.
+use crate::answers::{REFUSED, ROWS, TREES};
+use crate::given::{checking_of, index_of, leaves_index, outer_of, paths_of};
+use crate::tree::{lines_of, parted, tree_of};
+use bstr::ByteSlice;
+use check_ignore::{Answered, OuterRules, Stop, check_ignore, told, wrong_in};
+use gitbase_core::{Bytes, State};
+use std::alloc::Global;
+use worktree_fs::MemoryWorktree;
+
+/// The number of one or two digits.
+fn number_of(digits: &[u8]) -> usize {
+    let mut number = 0;
+    for digit in digits {
+        number = number * 10 + usize::from(*digit).saturating_sub(48);
+    }
+    number
+}
+
+/// The status, what is written, and what stands behind `fatal: `, as a row has them.
+fn answer_text(alloc: Global, status: &[u8], text: &[u8], fatal: &[u8]) -> Option<Vec<u8>> {
+    let mut row = status.to_vec(alloc).ok()?;
+    row.push(b'^').ok()?;
+    row.extend_from_slice(text).ok()?;
+    row.push(b'^').ok()?;
+    row.extend_from_slice(fatal).ok()?;
+    Some(row)
+}
+
+/// What is answered.
+fn answered_text(alloc: Global, answered: &Answered) -> Option<Vec<u8>> {
+    let status: &[u8] = if answered.is_any { b"0" } else { b"1" };
+    answer_text(alloc, status, answered.text.as_bytes(), b"")
+}
+
+/// What is told of a refusal.
+fn stopped_text(alloc: Global, stop: &Stop) -> Option<Vec<u8>> {
+    let line = told(alloc, b"/w/r", stop).ok()?;
+    answer_text(alloc, b"128", b"", line.as_bytes())
+}
+
+/// What is answered by options and paths.
+fn text_of(
+    alloc: Global,
+    tree: &mut MemoryWorktree,
+    prefix: &[u8],
+    index: &State,
+    outer: &OuterRules,
+    options: &[u8],
+    paths: &[Bytes],
+) -> Option<Vec<u8>> {
+    let checking = checking_of(options);
+    if let Some(wrong) = wrong_in(&checking, paths.len()) {
+        return answer_text(alloc, b"128", b"", wrong.text());
+    }
+    match check_ignore(alloc, tree, b"/w/r", prefix, index, outer, &checking, paths) {
+        Ok(answered) => answered_text(alloc, &answered),
+        Err(stop) => stopped_text(alloc, &stop),
+    }
+}
+
+/// The tree of a number, one digit.
+fn tree_at(number: &[u8]) -> Option<&'static [u8]> {
+    TREES.lines().nth(number_of(number))
+}
+
+/// What is answered in a tree.
+fn text_in(
+    alloc: Global,
+    given: &[u8],
+    prefix: &[u8],
+    options: &[u8],
+    paths: &[Bytes],
+) -> Option<Vec<u8>> {
+    let (outer, rest) = parted(given, b'^');
+    let (words, steps) = parted(rest, b'^');
+    let words: &[u8] = if leaves_index(options) { b"" } else { words };
+    let index = index_of(alloc, words)?;
+    let outer = outer_of(alloc, outer)?;
+    let mut tree = tree_of(alloc, steps)?;
+    text_of(alloc, &mut tree, prefix, &index, &outer, options, paths)
+}
+
+/// What is answered by the words of a row, and what git says.
+fn both(alloc: Global, row: &[u8]) -> Option<(Vec<u8>, Vec<u8>)> {
+    let (number, rest) = parted(row, b'^');
+    let (prefix, rest) = parted(rest, b'^');
+    let (options, rest) = parted(rest, b'^');
+    let (count, rest) = parted(rest, b'^');
+    let (words, want) = parted(rest, b'^');
+    let paths = paths_of(alloc, number_of(count), words)?;
+    let text = text_in(alloc, tree_at(number)?, prefix, options, &paths)?;
+    Some((text, lines_of(alloc, want)?))
+}
+
+/// Whether a row is met.
+fn is_met(alloc: Global, row: &[u8]) -> bool {
+    match both(alloc, row) {
+        Some((text, want)) => text == want,
+        None => false,
+    }
+}
+
+/// Whether a row is refused by name.
+fn is_refused(alloc: Global, row: &[u8]) -> bool {
+    match both(alloc, row) {
+        Some((text, _)) => text.starts_with(b"128^^check-ignore is not supported with "),
+        None => false,
+    }
+}
+
+#[test]
+fn an_answer_is_what_git_prints(rt: HostRuntime) {
+    for row in ROWS.lines() {
+        assert!(rt; is_met(rt.alloc(), row), "{}", row.as_bstr());
+    }
+}
+
+#[test]
+fn what_is_not_answered_is_refused_by_name(rt: HostRuntime) {
+    for row in REFUSED.lines() {
+        assert!(rt; is_refused(rt.alloc(), row), "{}", row.as_bstr());
+    }
+}
