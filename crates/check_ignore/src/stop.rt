@@ -3,8 +3,8 @@ use gitbase_core::{Bytes, OutOfMemory};
 use thiserror::Error;
 use worktree_fs::ReadError;
 
-/// Why nothing is answered of paths: git refuses one, or it is not answered here. `text` is the path
-/// as it was written.
+/// Why nothing is answered of paths: git refuses one, or it is not answered here. `text` is the
+/// path as it was written.
 #[derive(Debug, Drop, PartialEq, Eq, Error)]
 pub enum Stop {
     /// The index has directories in the place of what they hold; not answered here.
@@ -35,8 +35,8 @@ pub enum Stop {
     /// it as a directory; not answered here.
     #[error("Slash")]
     Slash { text: Bytes },
-    /// A rule outside the work tree matches even a path without a name, as `*` does, and excludes; not
-    /// answered here.
+    /// A rule outside the work tree matches even a path without a name, as `*` does, and excludes;
+    /// not answered here.
     #[error("Everything")]
     Everything { text: Bytes },
     /// A rules file on the way to a path is not read; not answered here.
