@@ -98,6 +98,16 @@ is_user (Some (b ∷ rest)) = if nat_eq b 47 then false else true
 abbrev pub is_unknown_home : List ℕ → Bool
 is_unknown_home path = is_user (behind_front (codes "~") path) || is_some (behind_front (codes "%(prefix)/") path)
 
+-- a home that is the empty text, which is no path, in a pattern that begins with it
+abbrev pub is_lost : Option (List ℕ) → Option (List ℕ) → Bool
+is_lost None rest = false
+is_lost (Some home) None = false
+is_lost (Some home) (Some rest) = is_empty home
+
+-- whether a pattern begins with a home that cannot be asked for
+abbrev pub lacks_home : Option (List ℕ) → List ℕ → Bool
+lacks_home home pattern = is_unknown_home pattern || is_lost home (behind_front (codes "~") pattern)
+
 -- whether the git directory is where a pattern of the file `from` says
 abbrev pub is_at : Names → Repository → Option (List ℕ) → List ℕ → Case → Option (List ℕ) → List ℕ → Bool
 is_at t here home from case (Some rest) pattern = matches_from here case (unwrap_or (real_path t from (47 ∷ [])) from) rest
@@ -107,7 +117,7 @@ is_at t here home from case None pattern = either here (matches_path case (whole
 abbrev pub repository_holds : Names → Option (List ℕ) → List ℕ → Case → List ℕ → Option Repository → Result Bool FilesError
 repository_holds t home from case pattern None = Ok false
 repository_holds t home from case pattern (Some here) =
-    if is_unknown_home pattern then Err (errors.Home from)
+    if lacks_home home pattern then Err (errors.Home from)
     else Ok (is_at t here home from case (behind_front (codes "./") pattern) pattern)
 
 abbrev pub directory_holds : Names → Known → List ℕ → Case → List ℕ → Result Bool FilesError

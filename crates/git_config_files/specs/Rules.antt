@@ -11,7 +11,7 @@ use Rattle.worktree_fs.specs.Changes.{from_directory}
 use Rattle.worktree_fs.specs.Tree.{Names, is_empty}
 use Rattle.git_config_files.specs.Includes.{text_at}
 use Rattle.gitbase_core.specs.Steps.{and_then}
-use Rattle.git_config_files.specs.Targets.{expanded_path}
+use Rattle.git_config_files.specs.Targets.{path_of_value}
 use Rattle.git_config_files.specs.Which.{in_config_home}
 use Rattle.git_config_files.specs.declared.error.FilesError.{FilesError}
 use Rattle.git_config_files.specs.declared.error.FilesError.TheVariants as errors
@@ -37,15 +37,12 @@ abbrev pub told_excludes : List Section → Result (Option (List ℕ)) FilesErro
 told_excludes sections =
     if list_any lacks_in sections then Err excludes_error else Ok (string (codes "core") None (codes "excludesfile") sections)
 
--- a path from the top of the work tree on
-abbrev pub from_root : List ℕ → Option (List ℕ) → Result (Option (List ℕ)) FilesError
-from_root root None = Err excludes_error
-from_root root (Some path) = Ok (Some (from_directory path root))
-
--- by what is told: an empty text names no file; where nothing is told, the file is `ignore` in the user's directory of configurations
+-- by what is told: an empty text names no file, and another one is a path from the top of the work tree on; where nothing is told, the file is `ignore` in the user's directory of configurations
 abbrev pub excludes_by : List ℕ → Surroundings → Option (List ℕ) → Result (Option (List ℕ)) FilesError
 excludes_by root around None = Ok (option_map (λ path. from_directory path root) (in_config_home around (codes "ignore")))
-excludes_by root around (Some text) = if is_empty text then Ok None else from_root root (expanded_path around.home text)
+excludes_by root around (Some text) =
+    if is_empty text then Ok None
+    else and_then (λ path. Ok (Some (from_directory path root))) (path_of_value (codes "core.excludesFile") around.home text)
 
 abbrev pub excludes_path : List ℕ → Surroundings → List Section → Result (Option (List ℕ)) FilesError
 excludes_path root around sections = and_then (excludes_by root around) (told_excludes sections)

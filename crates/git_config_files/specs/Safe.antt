@@ -10,7 +10,7 @@ use Rattle.worktree_fs.specs.Owners.{Owned}
 use Rattle.worktree_fs.specs.Tree.{Names, is_empty}
 use Rattle.worktree_fs.specs.declared.owners.ownership.Ownership.{Ownership}
 use Rattle.git_config_files.specs.Stack.{Stack, known_with, stack_by, unless_elsewhere}
-use Rattle.git_config_files.specs.Targets.{expanded_path}
+use Rattle.git_config_files.specs.Targets.{path_of_value}
 use Rattle.git_config_files.specs.Which.{outer_files}
 use Rattle.git_config_files.specs.declared.error.FilesError.{FilesError}
 use Rattle.git_config_files.specs.declared.error.FilesError.TheVariants as errors
@@ -51,15 +51,12 @@ is_own owned sudo top =
 
 -- ---- what is safe
 
-abbrev pub safe_named : List ℕ → Bool → Option (List ℕ) → Result Bool FilesError
-safe_named path safe None = Err (errors.Value (codes "safe.directory"))
-safe_named path safe (Some named) = Ok (safe || bytes_eq named path)
-
 -- whether a directory is safe after one more value: an empty one takes all back, `*` means each directory
 abbrev pub safe_after : Option (List ℕ) → List ℕ → Bool → List ℕ → Result Bool FilesError
 safe_after home path safe text =
     if is_empty text then Ok false
-    else if bytes_eq text (codes "*") then Ok true else safe_named path safe (expanded_path home text)
+    else if bytes_eq text (codes "*") then Ok true
+    else and_then (λ named. Ok (safe || bytes_eq named path)) (path_of_value (codes "safe.directory") home text)
 
 abbrev pub safe_from : Option (List ℕ) → List ℕ → Bool → List (List ℕ) → Result Bool FilesError
 safe_from home path safe [] = Ok safe

@@ -8,7 +8,7 @@ use Rattle.git_places.specs.Places.{Layout}
 use Rattle.git_places.specs.Surroundings.{Surroundings}
 use Rattle.worktree_fs.specs.Changes.{from_directory, real_path}
 use Rattle.worktree_fs.specs.Repository.{behind_front, file_at, not_empty, trimmed}
-use Rattle.worktree_fs.specs.Tree.{Names, look}
+use Rattle.worktree_fs.specs.Tree.{Names, is_empty, look}
 use Rattle.git_config_files.specs.Conditions.{Known, Repository}
 use Rattle.git_config_files.specs.Files.{Configured, stack_in}
 use Rattle.gitbase_core.specs.Steps.{and_then}
@@ -36,7 +36,7 @@ spelled_of root git real = if bytes_eq git (dot_git root) then git else real
 
 abbrev pub real_home : Names → List ℕ → Option (List ℕ) → Option (List ℕ)
 real_home t root None = None
-real_home t root (Some home) = Some (real_or_same t home root)
+real_home t root (Some home) = Some (if is_empty home then home else real_or_same t home root)
 
 abbrev pub repository_of : Names → Layout → Repository
 repository_of t layout =
@@ -46,7 +46,7 @@ repository_of t layout =
       branch = branch_in t layout.git;
     }
 
--- relative homes are taken from a directory
+-- relative homes are taken from a directory; an empty one stays so
 abbrev pub known_with : Names → Option Repository → List ℕ → Option (List ℕ) → Known
 known_with t repository directory home = record { repository = repository; home = home; real_home = real_home t directory home }
 

@@ -1,5 +1,6 @@
 -- Which file a key includes.
-use Rattle.std.specs.Prelude.{ℕ, Bool, true, false, ◌&&◌, ◌++◌, codes, bytes_eq, List, [], ◌∷◌, Option, Some, None, Result, Ok, Err, if◌then◌else◌, unwrap_or}
+use Rattle.std.specs.Prelude.{ℕ, Bool, true, false, ◌&&◌, ◌++◌, ◌==◌, codes, bytes_eq, List, [], ◌∷◌, Option, Some, None, Result, Ok, Err, if◌then◌else◌, unwrap_or}
+use Rattle.std.specs.List.{list_any}
 use Rattle.gitbase_core.specs.Path.{parent}
 use Rattle.gitbase_core.specs.Text.{eq_ignore_case}
 use Rattle.git_config_lite.specs.declared.entry.Entry.{Entry}
@@ -25,6 +26,18 @@ by_home home path (Some rest) = from_home home rest
 abbrev pub expanded_path : Option (List ℕ) → List ℕ → Option (List ℕ)
 expanded_path home path = if is_unknown_home path then None else by_home home path (behind_front (codes "~") path)
 
+-- a NUL, which no path has
+abbrev pub has_nul : List ℕ → Bool
+has_nul text = list_any (λ b. b == 0) text
+
+abbrev pub expanded_or : List ℕ → Option (List ℕ) → Result (List ℕ) FilesError
+expanded_or text None = Err (errors.UserDir text)
+expanded_or text (Some path) = Ok path
+
+-- the path that the value of a key is: one with a NUL is refused by the key, and one with a home that is not known by its text
+unfoldable pub path_of_value : List ℕ → Option (List ℕ) → List ℕ → Result (List ℕ) FilesError
+path_of_value key home text = if has_nul text then Err (errors.Value key) else expanded_or text (expanded_path home text)
+
 -- taken from the directory of the file, where it is relative
 abbrev pub beside : List ℕ → List ℕ → List ℕ
 beside from path = from_directory path (unwrap_or (parent from) [])
@@ -33,10 +46,11 @@ abbrev pub named_at : List ℕ → Option (List ℕ) → Result (Option (List �
 named_at from None = Err (errors.Home from)
 named_at from (Some path) = Ok (Some (beside from path))
 
--- the file that a value names; a key without a value names none, and is refused
+-- the file that a value names; a key without a value names none, and is refused, as one whose value has a NUL is
 abbrev pub named : Known → List ℕ → Option (List ℕ) → Result (Option (List ℕ)) FilesError
 named known from None = Err (errors.Include from)
-named known from (Some text) = named_at from (expanded_path known.home text)
+named known from (Some text) =
+    if has_nul text then Err (errors.Value (codes "include.path")) else named_at from (expanded_path known.home text)
 
 abbrev pub if_holds : Known → List ℕ → Entry → Bool → Result (Option (List ℕ)) FilesError
 if_holds known from e does = if does then named known from e.value else Ok None

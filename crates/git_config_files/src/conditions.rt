@@ -247,6 +247,24 @@ pub fn is_unknown_home(path: &[u8]) -> bool
     is_user(behind(path, b"~".as_slice())) || behind(path, b"%(prefix)/".as_slice()).is_some()
 }
 
+/// Whether a pattern begins with a home that is the empty text.
+fn is_lost(home: Option<&[u8]>, rest: Option<&[u8]>) -> bool
+    ensures { result ≡ words.is_lost (option_copied home.entry) (option_copied rest.entry) }
+{
+    match (home, rest) {
+        (Some(home), Some(_)) => home.is_empty(),
+        (Some(_), None) => false,
+        (None, _) => false,
+    }
+}
+
+/// Whether a pattern begins with a home that cannot be asked for.
+fn lacks_home(home: Option<&[u8]>, pattern: &[u8]) -> bool
+    ensures { result ≡ words.lacks_home (option_copied home.entry) pattern.now }
+{
+    is_unknown_home(pattern) || is_lost(home, behind(pattern, b"~".as_slice()))
+}
+
 /// Whether the git directory is where a pattern of the file `from` says.
 fn is_at<W: Worktree>(
     alloc: Global,
@@ -283,7 +301,7 @@ fn inside_holds<W: Worktree>(
     ensures { Finds W.Worktree worktree.old worktree.new (λ t. words.repository_holds t home.now
         from.now case pattern.now (Some here.now)) result }
 {
-    if is_unknown_home(pattern) {
+    if lacks_home(bytes_of(home), pattern) {
         return Err(FilesError::Home {
             path: PathText::from_bytes(alloc, from)?,
         });

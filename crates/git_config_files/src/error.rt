@@ -18,6 +18,10 @@ pub enum FilesError {
     /// A path in the file begins with `~`, and there is no home; or with `~USER` or `%(prefix)/`, which are not expanded.
     #[error("Home")]
     Home { path: PathText },
+    /// This value, the path that a key names, begins with `~`, and there is no home; or with `~USER` or `%(prefix)/`, which are not
+    /// expanded.
+    #[error("UserDir")]
+    UserDir { value: Bytes },
     /// The file has an include with the condition `hasconfig:remote.*.url:`, which is not read.
     #[error("Condition")]
     Condition { path: PathText },

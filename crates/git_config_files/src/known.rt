@@ -38,7 +38,7 @@ pub struct Known {
     pub repository: Option<Repository>,
     /// The home, as `HOME` has it, if it is set.
     pub home: Option<Bytes>,
-    /// The home without links, if it is there.
+    /// The home without links, or as it is where nothing is there or it is empty.
     pub real_home: Option<Bytes>,
 }
 
@@ -128,6 +128,9 @@ fn real_home<W: Worktree>(
     let Some(home) = home else {
         return Ok(None);
     };
+    if home.is_empty() {
+        return Ok(Some(Bytes::new(alloc)));
+    }
     let real = real_or_same(alloc, worktree, home, root)?;
     Ok(Some(Bytes::from_slice(alloc, real.as_bytes())?))
 }

@@ -8,7 +8,7 @@ ghost use Rattle.git_config_files.specs.Rules as words;
 use crate::conditions::bytes_of;
 use crate::error::FilesError;
 use crate::includes::text_at;
-use crate::targets::expanded_path;
+use crate::targets::path_of_value;
 use crate::which::{in_config_home, value_error};
 use git_config_lite::{Entry, File, Section};
 use git_places::{Places, Surroundings};
@@ -104,16 +104,6 @@ fn told_excludes(alloc: Global, config: &File) -> Result<Option<Bytes>, FilesErr
     }
 }
 
-/// A path from the top of the work tree on; one with a home that is not known is refused.
-fn from_root(alloc: Global, root: &[u8], path: Option<&[u8]>) -> Result<Option<Bytes>, FilesError>
-    ensures { Decides result (words.from_root root.now (option_copied path.entry)) }
-{
-    match path {
-        Some(path) => Ok(Some(from_directory(alloc, path, root)?)),
-        None => Err(value_error(alloc, b"core.excludesFile")?),
-    }
-}
-
 /// Where the user's rules lie, by what a configuration tells.
 fn excludes_told(
     alloc: Global,
@@ -126,8 +116,8 @@ fn excludes_told(
     if text.is_empty() {
         return Ok(None);
     }
-    let path = expanded_path(alloc, bytes_of(&around.home), text)?;
-    from_root(alloc, root, bytes_of(&path))
+    let path = path_of_value(alloc, b"core.excludesFile", bytes_of(&around.home), text)?;
+    Ok(Some(from_directory(alloc, path.as_bytes(), root)?))
 }
 
 /// Where they lie where nothing is told.
@@ -226,7 +216,8 @@ fn repository_rules<W: Worktree>(
 ///
 /// # Errors
 ///
-/// - `Value`: `core.excludesFile` has no value, or begins with a home that is not known.
+/// - `Value`: `core.excludesFile` has no value, or one with a NUL.
+/// - `UserDir`: `core.excludesFile` begins with a home that is not known.
 /// - `NoFile`: what stands at the path of one of the files is no file, and not the null device, which is an empty one.
 /// - `Fault`: the worktree failed, which it counted. No fault reads as "nothing is there".
 /// - `OutOfMemory` for want of memory.

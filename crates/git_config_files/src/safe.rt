@@ -1,5 +1,6 @@
 //! Whose repository is read.
-ghost use Rattle.std.specs.Prelude.{◌≡◌, Some, None, Ok, IfOk, option_copied};
+ghost use Rattle.std.specs.Prelude.{◌≡◌, Some, None, Ok, IfOk, IsTrue, option_copied};
+ghost use Rattle.worktree_fs.specs.Owners.{Owned};
 ghost use Rattle.git_config_files.specs.Answers.{Decides};
 ghost use Rattle.git_config_files.specs.Finds.{Finds, FindsOwned, FindsWith};
 ghost use Rattle.git_config_files.specs.Safe as words;
@@ -8,8 +9,8 @@ use crate::conditions::bytes_of;
 use crate::error::FilesError;
 use crate::known::known_with;
 use crate::stack::{Stack, elsewhere, stack_by};
-use crate::targets::expanded_path;
-use crate::which::{outer_files, value_error};
+use crate::targets::path_of_value;
+use crate::which::outer_files;
 use git_config_lite::File;
 use git_places::{Surroundings, Top, dot_git};
 use gitbase_core::{Bytes, OutOfMemory, PathText};
@@ -127,10 +128,8 @@ fn safe_after(
     if text == b"*".as_slice() {
         return Ok(true);
     }
-    match expanded_path(alloc, bytes_of(home), text)? {
-        Some(named) => Ok(safe | (named.as_bytes() == path)),
-        None => Err(value_error(alloc, b"safe.directory")?),
-    }
+    let named = path_of_value(alloc, b"safe.directory", bytes_of(home), text)?;
+    Ok(safe | (named.as_bytes() == path))
 }
 
 /// Whether a directory is safe by what configurations say.
@@ -204,8 +203,11 @@ fn own_or_safe<W: Worktree, O: Owners>(
     around: &Surroundings,
     top: Top,
 ) -> Result<Top, FilesError>
-    ensures { FindsWith W.Worktree O.Owners worktree.old worktree.new owners.old owners.new
+    ensures finds { FindsWith W.Worktree O.Owners worktree.old worktree.new owners.old owners.new
         (λ t owned. words.own_or_safe t owned around.now top) result }
+    ensures unread { (owned : Owned) → O.told owners.old ≡ Some owned
+        → IsTrue (words.is_own owned around.now.sudo_user top)
+        → W.reads worktree.new ≡ W.reads worktree.old }
 {
     if is_own(alloc, owners, bytes_of(&around.sudo_user), &top)? {
         return Ok(top);
@@ -218,13 +220,15 @@ fn own_or_safe<W: Worktree, O: Owners>(
 /// `/proc/self`; for root what belongs to `SUDO_UID` is its own too.
 ///
 /// `safe.directory` counts where no repository has a say: in the configurations of the system and of the user, with what they include. A
-/// `*` names each directory, an empty value takes all back that stand before it. Nothing of the repository is read here.
+/// `*` names each directory, an empty value takes all back that stand before it. Nothing of the repository is read here, and nothing at
+/// all where it is the user's.
 ///
 /// # Errors
 ///
 /// - `Foreign`: the repository is another user's, and no `safe.directory` names its directory.
 /// - `Elsewhere`: a variable of the environment points git elsewhere.
-/// - `Value`: `GIT_CONFIG_NOSYSTEM` is no boolean, or a `safe.directory` begins with a home that is not known.
+/// - `Value`: `GIT_CONFIG_NOSYSTEM` is no boolean, or a `safe.directory` or the path of an include has a NUL.
+/// - `UserDir`: a `safe.directory` begins with a home that is not known.
 /// - `Config`, `NoFile`, `Include`, `Home`, `Condition`, `Depth`: those of [`read_stack`](crate::read_stack) in these configurations.
 /// - `Fault`: the worktree failed, or the owners, which counted it.
 /// - `OutOfMemory` for want of memory.
@@ -237,8 +241,11 @@ pub fn own_top<W: Worktree, O: Owners>(
     around: &Surroundings,
     top: Top,
 ) -> Result<Top, FilesError>
-    ensures { FindsWith W.Worktree O.Owners worktree.old worktree.new owners.old owners.new
+    ensures finds { FindsWith W.Worktree O.Owners worktree.old worktree.new owners.old owners.new
         (λ t owned. words.own_top t owned around.now top) result }
+    ensures unread { (owned : Owned) → O.told owners.old ≡ Some owned
+        → IsTrue (words.is_own owned around.now.sudo_user top)
+        → W.reads worktree.new ≡ W.reads worktree.old }
 {
     if let Some(name) = &around.elsewhere {
         return Err(elsewhere(alloc, name.as_bytes())?);

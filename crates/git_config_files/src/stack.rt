@@ -126,10 +126,11 @@ pub fn elsewhere(alloc: Global, name: &[u8]) -> Result<FilesError, OutOfMemory>
 /// - `NoFile`: what stands at the path of a configuration, or of an included file, is no file, and not the null device, which is an
 ///   empty one.
 /// - `Include`: a key that includes a file has no value.
-/// - `Home`: the path of an included file, or of a condition, begins with a home that is not known.
+/// - `Home`: the path of an included file, or of a condition, begins with a home that is not known, or a condition with one
+///   that is empty.
 /// - `Condition`: an include asks for what the configuration says, by `hasconfig:remote.*.url:`.
 /// - `Depth`: a file is included behind ten others.
-/// - `Value`: `GIT_CONFIG_NOSYSTEM` is no boolean.
+/// - `Value`: `GIT_CONFIG_NOSYSTEM` is no boolean, or the path of an included file has a NUL.
 /// - `Fault`: the worktree failed, which it counted. No fault reads as "nothing is there".
 /// - `OutOfMemory` for want of memory.
 ///

@@ -7,6 +7,7 @@ ghost use Rattle.git_config_files.specs.Targets as words;
 use crate::conditions::{behind, bytes_of, holds, is_unknown_home, joined};
 use crate::error::FilesError;
 use crate::known::Known;
+use crate::which::value_error;
 use git_config_lite::{Entry, Section};
 use gitbase_core::{Bytes, OutOfMemory, PathText, eq_ignore_case};
 use std::alloc::Global;
@@ -22,7 +23,7 @@ fn home_error(alloc: Global, from: &[u8]) -> Result<FilesError, OutOfMemory>
 }
 
 /// A path that a key has as its value, with the home in the place of a `~` at its front; none where that home is not known.
-pub fn expanded_path(
+fn expanded_path(
     alloc: Global,
     home: Option<&[u8]>,
     path: &[u8],
@@ -39,6 +40,41 @@ pub fn expanded_path(
         Some(home) => Ok(Some(joined(alloc, home, rest)?)),
         None => Ok(None),
     }
+}
+
+fn has_nul(text: &[u8]) -> bool
+    ensures { result ≡ words.has_nul text.now }
+{
+    text.contains(&0)
+}
+
+/// The path that the value of a key is, where it has no NUL.
+fn expanded_or(alloc: Global, home: Option<&[u8]>, text: &[u8]) -> Result<Bytes, FilesError>
+    ensures { Decides result (words.expanded_or text.now
+        (words.expanded_path (option_copied home.entry) text.now)) }
+{
+    match expanded_path(alloc, home, text)? {
+        Some(path) => Ok(path),
+        None => Err(FilesError::UserDir {
+            value: Bytes::from_slice(alloc, text)?,
+        }),
+    }
+}
+
+/// The path that the value of a key is; a NUL in it is refused by the key, and a home that is not known by the text.
+#[tactic(auto, unfolding(crate::specs::Targets::path_of_value))]
+pub fn path_of_value(
+    alloc: Global,
+    key: &[u8],
+    home: Option<&[u8]>,
+    text: &[u8],
+) -> Result<Bytes, FilesError>
+    ensures { Decides result (words.path_of_value key.now (option_copied home.entry) text.now) }
+{
+    if has_nul(text) {
+        return Err(value_error(alloc, key)?);
+    }
+    expanded_or(alloc, home, text)
 }
 
 /// The file that a value names.
@@ -67,6 +103,9 @@ fn named_by(
 ) -> Result<Option<Bytes>, FilesError>
     ensures { Decides result (words.named known.now from.now (Some text.now)) }
 {
+    if has_nul(text) {
+        return Err(value_error(alloc, b"include.path")?);
+    }
     match expanded_path(alloc, bytes_of(&known.home), text)? {
         Some(path) => Ok(Some(beside(alloc, path.as_bytes(), from)?)),
         None => Err(home_error(alloc, from)?),

@@ -149,6 +149,13 @@ pub const ANSWERS: &[u8] = b"\
 |l /w/r/.git/config includeif.gitdir:/w/l/r/.path=/w/i^home=/w/l;system=/w/etc^g /w/r/.git=main;f /w/r/.git/config=[includeIf \"gitdir:/w/l/r/\"]$path=/w/i$;f /w/i=[a]$k=yes$;l /w/l=.\n\
 |l /w/r/.git/config includeif.gitdir:~/r/.path=/w/i^home=/w/nowhere;system=/w/etc^g /w/r/.git=main;f /w/r/.git/config=[includeIf \"gitdir:~/r/\"]$path=/w/i$;f /w/i=[a]$k=yes$\n\
 |l /w/r/.git/config includeif.gitdir:~/r/.path=/w/i^system=/w/etc^g /w/r/.git=main;f /w/r/.git/config=[includeIf \"gitdir:~/r/\"]$path=/w/i$;f /w/i=[a]$k=yes$\n\
+!home^home=;system=/w/etc^g /w/r/.git=main;f /w/r/.git/config=[includeIf \"gitdir:~/\"]$path=/w/i$;f /w/i=[a]$k=yes$\n\
+!home^home=;system=/w/etc^g /w/r/.git=main;f /w/r/.git/config=[includeIf \"gitdir:~\"]$path=/w/i$;f /w/i=[a]$k=yes$\n\
+!home^home=;system=/w/etc^g /w/r/.git=main;f /w/r/.git/config=[includeIf \"gitdir/i:~/r/\"]$path=/w/i$;f /w/i=[a]$k=yes$\n\
+|l /w/r/.git/config includeif.gitdir:r/.path=/w/i|l /w/i a.k=yes^home=;system=/w/etc^g /w/r/.git=main;f /w/r/.git/config=[includeIf \"gitdir:r/\"]$path=/w/i$;f /w/i=[a]$k=yes$\n\
+|l /w/r/.git/config includeif.gitdir:./~.path=/w/i^home=;system=/w/etc^g /w/r/.git=main;f /w/r/.git/config=[includeIf \"gitdir:./~\"]$path=/w/i$;f /w/i=[a]$k=yes$\n\
+|l /w/r/.git/config includeif.onbranch:~/.path=/w/i^home=;system=/w/etc^g /w/r/.git=main;f /w/r/.git/config=[includeIf \"onbranch:~/\"]$path=/w/i$;f /w/i=[a]$k=yes$\n\
+|l /w/r/.git/config a.k=1|l /w/r/.git/config include.path=~/nowhere|l /w/r/.git/config a.k=3^home=;system=/w/etc^g /w/r/.git=main;f /w/r/.git/config=[a]$k=1$[include]$path=~/nowhere$[a]$k=3$\n\
 |u /w/g includeif.gitdir:./r/.path=/w/i|u /w/i a.k=yes^home=/w/h;system=/w/etc^g /w/r/.git=main;f /w/g=[includeIf \"gitdir:./r/\"]$path=/w/i$;l /w/h/.gitconfig=../g;f /w/i=[a]$k=yes$\n\
 |u /w/g includeif.gitdir:./r/.git.path=/w/i|u /w/i a.k=yes^home=/w/h;system=/w/etc^g /w/r/.git=main;f /w/g=[includeIf \"gitdir:./r/.git\"]$path=/w/i$;l /w/h/.gitconfig=../g;f /w/i=[a]$k=yes$\n\
 |u /w/g includeif.gitdir:./.path=/w/i|u /w/i a.k=yes^home=/w/h;system=/w/etc^g /w/r/.git=main;f /w/g=[includeIf \"gitdir:./\"]$path=/w/i$;l /w/h/.gitconfig=../g;f /w/i=[a]$k=yes$\n\
@@ -294,12 +301,17 @@ pub const AT_RANDOM: &[u8] = b"\
 /// - git asks the addresses of remotes; here such a condition is refused
 /// - git passes over a condition with a home of another user; here it is refused
 /// - git puts the place where it is installed before such a path; here it is refused
+/// - git ends a path at a NUL; here one with a NUL is refused
 /// - git passes over blanks around the name in HEAD; here they are part of it
 pub const DIFFERENCES: &[u8] = b"\
 |l /w/r/.git/config remote.o.url=x|l /w/r/.git/config includeif.hasconfig:remote.*.url:x.path=/w/i|l /w/i a.k=yes=>!condition^home=/w/h;system=/w/etc^g /w/r/.git=main;f /w/r/.git/config=[remote \"o\"]$url=x$[includeIf \"hasconfig:remote.*.url:x\"]$path=/w/i$;f /w/i=[a]$k=yes$\n\
 |l /w/r/.git/config includeif.gitdir:~nobody-here/.path=/w/i=>!home^home=/w/h;system=/w/etc^g /w/r/.git=main;f /w/r/.git/config=[includeIf \"gitdir:~nobody-here/\"]$path=/w/i$;f /w/i=[a]$k=yes$\n\
 |l /w/r/.git/config includeif.gitdir:%(prefix)/x.path=/w/i=>!home^home=/w/h;system=/w/etc^g /w/r/.git=main;f /w/r/.git/config=[includeIf \"gitdir:%(prefix)/x\"]$path=/w/i$;f /w/i=[a]$k=yes$\n\
 |l /w/r/.git/config a.k=1|l /w/r/.git/config include.path=%(prefix)/nowhere|l /w/r/.git/config a.k=3=>!home^home=/w/h;system=/w/etc^g /w/r/.git=main;f /w/r/.git/config=[a]$k=1$[include]$path=%(prefix)/nowhere$[a]$k=3$\n\
+|l /w/r/.git/config a.k=1|l /w/r/.git/config include.path=/w/i|l /w/i a.k=2|l /w/r/.git/config a.k=3=>!value^home=/w/h;system=/w/etc^g /w/r/.git=main;f /w/r/.git/config=[a]$k=1$[include]$path=/w/i\x00x$[a]$k=3$;f /w/i=[a]$k=2$\n\
+!no-file=>!value^home=/w/h;system=/w/etc^g /w/r/.git=main;f /w/r/.git/config=[a]$k=1$[include]$path=\x00$[a]$k=3$;f /w/i=[a]$k=2$\n\
+|l /w/r/.git/config a.k=1|l /w/r/.git/config include.path=/w/nowhere|l /w/r/.git/config a.k=3=>!value^home=/w/h;system=/w/etc^g /w/r/.git=main;f /w/r/.git/config=[a]$k=1$[include]$path=/w/nowhere\x00$[a]$k=3$;f /w/i=[a]$k=2$\n\
+|l /w/r/.git/config a.k=1|l /w/r/.git/config include.path=~/|l /w/r/.git/config a.k=3=>!value^home=/w/h;system=/w/etc^g /w/r/.git=main;f /w/r/.git/config=[a]$k=1$[include]$path=~/\x00x$[a]$k=3$;f /w/i=[a]$k=2$\n\
 |u /w/h/.gitconfig includeif.onbranch:x.path=/w/i|u /w/i a.k=yes=>|u /w/h/.gitconfig includeif.onbranch:x.path=/w/i^home=/w/h;system=/w/etc^d /w/r/.git/objects;d /w/r/.git/refs;f /w/r/.git/HEAD=ref:  refs/heads/x$;f /w/h/.gitconfig=[includeIf \"onbranch:x\"]$path=/w/i$;f /w/i=[a]$k=yes$\n\
 |u /w/h/.gitconfig includeif.onbranch:x.path=/w/i|u /w/i a.k=yes=>|u /w/h/.gitconfig includeif.onbranch:x.path=/w/i^home=/w/h;system=/w/etc^d /w/r/.git/objects;d /w/r/.git/refs;f /w/r/.git/HEAD=ref: refs/heads/x $;f /w/h/.gitconfig=[includeIf \"onbranch:x\"]$path=/w/i$;f /w/i=[a]$k=yes$\n\
 ";
@@ -337,18 +349,25 @@ pub const RULES: &[u8] = b"\
 - /w/r/.git/info/exclude^home=/w/h;system=/w/etc^g /w/r/.git=main;f /w/r/.git/config=[core]$excludesFile=/w/l$;f /w/r/.git/info/exclude=r$;o /dev/null;l /w/l=/dev/null\n\
 - -^home=/w/h;system=/w/etc^g /w/r/.git=main;o /dev/null;l /w/h/.config/git/ignore=/dev/null;l /w/r/.git/info/exclude=/dev/null\n\
 - /w/r/.git/info/exclude^home=/w/h;system=/w/etc^g /w/r/.git=main;f /w/r/.git/config=[core]$excludesFile=/w/u$;f /w/r/.git/info/exclude=r$;f /w/u=\n\
-!value^home=/w/h;system=/w/etc^g /w/r/.git=main;f /w/r/.git/config=[core]$excludesFile=~nobody-here/u$;f /w/r/.git/info/exclude=r$\n\
-!value^system=/w/etc^g /w/r/.git=main;f /w/r/.git/config=[core]$excludesFile=~/u$;f /w/r/.git/info/exclude=r$\n\
+!user-dir ~nobody-here/u^home=/w/h;system=/w/etc^g /w/r/.git=main;f /w/r/.git/config=[core]$excludesFile=~nobody-here/u$;f /w/r/.git/info/exclude=r$\n\
+!user-dir ~/u^system=/w/etc^g /w/r/.git=main;f /w/r/.git/config=[core]$excludesFile=~/u$;f /w/r/.git/info/exclude=r$\n\
+!user-dir ~^system=/w/etc^g /w/r/.git=main;f /w/r/.git/config=[core]$excludesFile=~$;f /w/r/.git/info/exclude=r$\n\
+!user-dir ~nobody-here^home=/w/h;system=/w/etc^g /w/r/.git=main;f /w/r/.git/config=[core]$excludesFile=~nobody-here$;f /w/r/.git/info/exclude=r$\n\
+!user-dir ~/a b^system=/w/etc^g /w/r/.git=main;f /w/etc=[core]$excludesFile=\"~/a b\"$\n\
 !value^home=/w/h;system=/w/etc^g /w/r/.git=main;f /w/r/.git/config=[core]$excludesFile$excludesFile=/w/u$;f /w/u=u$\n\
 ";
 
 /// The same where git answers otherwise:
 ///
+/// - git ends a path at a NUL; here one with a NUL is refused
 /// - git passes over a link without an end; here it is refused
 /// - git reads of a device as many bytes as its size says, which is 0; here each but the null device is refused
 /// - git expands each value of `core.excludesFile`; here the last one alone
 pub const RULES_DIFFERENCES: &[u8] = b"\
+/w/u /w/r/.git/info/exclude=>!value^home=/w/h;system=/w/etc^g /w/r/.git=main;f /w/r/.git/config=[core]$excludesFile=/w/u\x00$;f /w/r/.git/info/exclude=r$;f /w/u=u$\n\
+/w/u /w/r/.git/info/exclude=>!value^home=/w/h;system=/w/etc^g /w/r/.git=main;f /w/r/.git/config=[core]$excludesFile=/w/u\x00x$;f /w/r/.git/info/exclude=r$;f /w/u=u$\n\
+- /w/r/.git/info/exclude=>!value^home=/w/h;system=/w/etc^g /w/r/.git=main;f /w/r/.git/config=[core]$excludesFile=\x00$;f /w/r/.git/info/exclude=r$;f /w/u=u$\n\
 - /w/r/.git/info/exclude=>!no-file^home=/w/h;system=/w/etc^g /w/r/.git=main;f /w/r/.git/config=[core]$excludesFile=/w/u$;f /w/r/.git/info/exclude=r$;l /w/u=u\n\
 - /w/r/.git/info/exclude=>!no-file^home=/w/h;system=/w/etc^g /w/r/.git=main;f /w/r/.git/config=[core]$excludesFile=/dev/zero$;f /w/r/.git/info/exclude=r$;o /dev/zero\n\
-!value=>/w/u -^home=/w/h;system=/w/etc^g /w/r/.git=main;f /w/r/.git/config=[core]$excludesFile=~nobody-here/u$excludesFile=/w/u$;f /w/u=u$\n\
+!user-dir ~nobody-here/u=>/w/u -^home=/w/h;system=/w/etc^g /w/r/.git=main;f /w/r/.git/config=[core]$excludesFile=~nobody-here/u$excludesFile=/w/u$;f /w/u=u$\n\
 ";

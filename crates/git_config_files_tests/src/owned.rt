@@ -92,6 +92,8 @@ fn is_not_read(error: &FilesError, want: &[u8]) -> bool {
     match error {
         FilesError::Foreign { path } => word == b"foreign".as_slice() && path.as_bytes() == named,
         FilesError::Value { key } => word == b"value".as_slice() && key.as_bytes() == named,
+        FilesError::UserDir { value } => word == b"user-dir".as_slice()
+            && value.as_bytes() == named,
         FilesError::Config { .. } => word == b"config".as_slice(),
         FilesError::Condition { .. } => word == b"condition".as_slice(),
         _ => false,

@@ -104,6 +104,7 @@ fn word_of(error: &FilesError) -> &'static [u8] {
         FilesError::Include { .. } => b"!include",
         FilesError::NoFile { .. } => b"!no-file",
         FilesError::Home { .. } => b"!home",
+        FilesError::UserDir { .. } => b"!user-dir",
         FilesError::Condition { .. } => b"!condition",
         FilesError::Depth { .. } => b"!depth",
         FilesError::Value { .. } => b"!value",
@@ -124,6 +125,10 @@ fn is_config_line(alloc: Global, line: usize, want: &[u8]) -> bool {
 pub fn is_refused(alloc: Global, error: &FilesError, want: &[u8]) -> bool {
     match error {
         FilesError::Config { line, .. } => is_config_line(alloc, *line, want),
+        FilesError::UserDir { value } => {
+            let (word, named) = parted(want, b' ');
+            word == word_of(error) && value.as_bytes() == named
+        }
         error => want == word_of(error),
     }
 }

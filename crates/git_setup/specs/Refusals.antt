@@ -48,6 +48,7 @@ of_files (files.Config path line) = errors.Files (files.Config path line)
 of_files (files.Include path) = errors.Files (files.Include path)
 of_files (files.NoFile path) = errors.Files (files.NoFile path)
 of_files (files.Home path) = errors.Files (files.Home path)
+of_files (files.UserDir value) = errors.Files (files.UserDir value)
 of_files (files.Condition path) = errors.Files (files.Condition path)
 of_files (files.Depth path) = errors.Files (files.Depth path)
 of_files (files.Foreign path) = errors.Foreign path

@@ -9,6 +9,7 @@ files_line (errors.Config path line) = config_line path line
 files_line (errors.Include path) = with_path (codes "fatal: missing value for 'include.path' in file ") path (codes "\n")
 files_line (errors.NoFile path) = with_path (codes "fatal: '") path (codes "' is no file\n")
 files_line (errors.Home path) = with_path (codes "fatal: failed to expand user dir in file ") path (codes "\n")
+files_line (errors.UserDir value) = with_path (codes "fatal: failed to expand user dir in: '") value (codes "'\n")
 files_line (errors.Condition path) = with_path (codes "fatal: includeIf 'hasconfig:' is not read in file ") path (codes "\n")
 files_line (errors.Depth path) = with_path (codes "fatal: exceeded maximum include depth (10) at file ") path (codes "\n")
 files_line (errors.Value key) = value_line key

@@ -31,6 +31,12 @@ pub fn files_line(alloc: Global, error: &FilesError) -> Result<Bytes, OutOfMemor
             path.as_bytes(),
             b"\n",
         ),
+        FilesError::UserDir { value } => with_path(
+            alloc,
+            b"fatal: failed to expand user dir in: '",
+            value.as_bytes(),
+            b"'\n",
+        ),
         FilesError::Condition { path } => with_path(
             alloc,
             b"fatal: includeIf 'hasconfig:' is not read in file ",
