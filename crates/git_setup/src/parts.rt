@@ -10,7 +10,7 @@ use crate::globals::globals_of;
 use crate::pathspecs::{AskedSpecs, specs_in};
 use crate::protected::{Protected, protected_here};
 use crate::reading::Read;
-use git_config_files::{Configured, Rules, rules_files};
+use git_config_files::{Configured, Rules, Stack, rules_files};
 use git_config_lite::{File, Source};
 use git_places::{Places, Surroundings};
 use gitbase_core::{Bytes, OutOfMemory, PathText, State};
@@ -182,6 +182,13 @@ fn pieces_here<W: Worktree>(
     )
 }
 
+/// What the configurations say.
+fn config_of(stack: Stack) -> File
+    ensures { result ≡ stack.file }
+{
+    stack.file
+}
+
 /// What a setup has of a repository.
 #[tactic(auto, unfolding(crate::specs::Found::parts_by))]
 pub fn parts_here<W: Worktree>(
@@ -196,11 +203,16 @@ pub fn parts_here<W: Worktree>(
         (λ t. words.parts_by t places.now around.now asked.now read) result }
 {
     let pieces = pieces_here(alloc, worktree, places, around, asked, &read)?;
+    let Read {
+        stack,
+        switches,
+        index,
+    } = read;
     Ok(Parts {
-        ignore_case: read.switches.ignore_case,
-        quote_path: read.switches.quote_path,
-        config: read.stack.file,
-        index: read.index,
+        ignore_case: switches.ignore_case,
+        quote_path: switches.quote_path,
+        config: config_of(stack),
+        index,
         globals: pieces.globals,
         specs: pieces.specs,
         worktrees: pieces.worktrees,
