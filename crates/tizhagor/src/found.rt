@@ -1,5 +1,5 @@
 //! The work tree in which a command works, and its setup.
-ghost use Rattle.std.specs.Prelude.{◌≡◌, IfOk, IfErr};
+ghost use Rattle.std.specs.Prelude.{◌≡◌, IfErr};
 ghost use Rattle.gitbase_core.specs.Steps.{and_then};
 ghost use Rattle.git_setup.specs.Found.{found_in};
 ghost use Rattle.tizhagor.specs.Asking as words;
@@ -11,7 +11,7 @@ use crate::directory::directory_named;
 use crate::refusal::HereRefusal;
 use git_places::{Surroundings, Variable, surroundings_of};
 use git_setup::{Asked, Found, GitRefusal, setup_here};
-use gitbase_core::{Bytes, OutOfMemory, PathText};
+use gitbase_core::{Bytes, PathText};
 use std::alloc::Global;
 use worktree_fs::{Owners, Worktree};
 use worktree_report::SetupOptions;
@@ -143,12 +143,12 @@ fn is_away(options: &SetupOptions, current: &[u8], found: &Found) -> bool
 }
 
 /// That it is not the top.
-fn not_at_top(alloc: Global, found: &Found) -> Result<HereRefusal, OutOfMemory>
-    ensures { IfOk result (λ e. e ≡ HereRefusal.NotAtTop found.now.root) }
+fn not_at_top(found: Found) -> HereRefusal
+    ensures { result ≡ HereRefusal.NotAtTop found.root }
 {
-    Ok(HereRefusal::NotAtTop {
-        root: Bytes::from_slice(alloc, found.root.as_bytes())?,
-    })
+    HereRefusal::NotAtTop {
+        root: Bytes::from_vec(found.root.into_vec()),
+    }
 }
 
 /// The same, where what may be deleted is asked for at the top of the work tree alone.
@@ -168,7 +168,7 @@ fn top_from<W: Worktree, O: Owners>(
 {
     let found = found_from(alloc, worktree, owners, variables, asked, directory)?;
     if is_away(&asked.options, current, &found) {
-        return Err(not_at_top(alloc, &found)?);
+        return Err(not_at_top(found));
     }
     Ok(found)
 }
