@@ -2,7 +2,8 @@
 #
 #   git      git itself            program  tizhagor               handed   the commands that are handed over, with blanks around each
 #   log      the file that each call handed over, refused or left is noted in, a line a call
-#   compare  yes, where git is asked too and the calls are noted that are answered otherwise
+#   compare  yes, where git is asked too and the calls are noted that are answered otherwise; then a `clean` that is to remove is first
+#            asked with -n, of both
 #
 # A call of a command that is handed over is answered by the program. Where the program refuses its form by name, or does not have the
 # command, git answers it, and the call is noted as refused. Git answers too where there are options of git's own before the command, but
@@ -61,6 +62,38 @@ compared() {
     diff -a "$gits" "$ours" | head -n 20 | sed 's/^/#diff /' >> "$log"
 }
 
+# Asks git what the program was asked, and notes how the two differ.
+beside_git() {
+    wanted=0
+    "$git" "$@" > "$kept/answer.git" 2> "$kept/told.git" < /dev/null || wanted=$?
+    [ "$status" -eq "$wanted" ] || note "otherwise status $status for $wanted" "$@"
+    compared output "$kept/answer" "$kept/answer.git" "$@"
+    compared "standard error" "$kept/told" "$kept/told.git" "$@"
+}
+
+# Asks for what a `clean` is to remove, by -n behind its name, which is the word of this number.
+asked_dry() {
+    count=$1
+    shift
+    at=0
+    for word do
+        shift
+        set -- "$@" "$word"
+        at=$((at + 1))
+        [ "$at" -ne "$count" ] || set -- "$@" -n
+    done
+    kept=$(mktemp -d) || exit 125
+    status=0
+    timeout --foreground 60 "$program" "$@" > "$kept/answer" 2> "$kept/told" < /dev/null || status=$?
+    if is_refused "$status" "$kept/told"; then
+        note "dry refused $(head -n 1 "$kept/told" | tr '\t' ' ')" "$@"
+    else
+        note "dry answered" "$@"
+        beside_git "$@"
+    fi
+    rm -rf "$kept"
+}
+
 command=
 own=
 value=
@@ -92,17 +125,18 @@ case $handed in
 *" ${command:-/} "*) ;;
 *) exec "$git" "$@" ;;
 esac
-if [ "$command" = clean ]; then
-    # Only the words behind the command, in a shell of their own.
-    if ! (shift "$before" && only_says "$@"); then
-        note left "$@"
-        exec "$git" "$@"
-    fi
-fi
 # A trace that a variable asks git for is no part of an answer.
 if [ -n "$own" ] || [ "$directories" -gt 1 ] || [ -n "${GIT_TRACE2_EVENT-}${GIT_TRACE2_PERF-}${GIT_TRACE2-}${GIT_TRACE-}" ]; then
     note left "$@"
     exec "$git" "$@"
+fi
+if [ "$command" = clean ]; then
+    # Only the words behind the command, in a shell of their own.
+    if ! (shift "$before" && only_says "$@"); then
+        [ "$compare" != yes ] || (asked_dry "$before" "$@")
+        note left "$@"
+        exec "$git" "$@"
+    fi
 fi
 
 kept=$(mktemp -d) || exit 125
@@ -124,13 +158,7 @@ if is_refused "$status" "$kept/told"; then
 fi
 note answered "$@"
 if [ -z "$streamed" ]; then
-    if [ "$compare" = yes ]; then
-        wanted=0
-        "$git" "$@" > "$kept/answer.git" 2> "$kept/told.git" < /dev/null || wanted=$?
-        [ "$status" -eq "$wanted" ] || note "otherwise status $status for $wanted" "$@"
-        compared output "$kept/answer" "$kept/answer.git" "$@"
-        compared "standard error" "$kept/told" "$kept/told.git" "$@"
-    fi
+    [ "$compare" != yes ] || beside_git "$@"
     cat "$kept/answer"
 fi
 cat "$kept/told" >&2
