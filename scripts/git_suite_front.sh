@@ -44,6 +44,7 @@ only_says() {
 is_refused() {
     case $1:$(head -n 1 "$2") in
     129:*": unknown command "* | 129:*": unknown option "* | 129:*": unknown switch "* | 129:*" is git's, and is not answered here"*) return 0 ;;
+    129:*"' may be a revision; write "*) return 0 ;;
     0:* | 1:*) return 1 ;;
     *"not supported"* | *"is set, which is not heeded"* | *"the index is split"* | *" is not read"* | *" are not read"*) return 0 ;;
     *"the index leaves out directory"*) return 0 ;;
