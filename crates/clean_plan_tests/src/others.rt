@@ -2,7 +2,7 @@
 use crate::plans::setup_of;
 use crate::tree::tree_of;
 use bstr::ByteSlice;
-use clean_plan::{Finding, Wanted, What, text_of_plan};
+use clean_plan::{Finding, Wanted, What, is_prepared, text_of_plan};
 use std::alloc::Global;
 use worktree_fs::{MemoryWorktree, PlannedInterrupt};
 use worktree_report::Setup;
@@ -27,8 +27,11 @@ fn text_is(
     wanted: Wanted,
     want: &[u8],
 ) -> bool {
-    let mut interrupt = PlannedInterrupt::never();
     let finding = Finding::NonBare;
+    if !is_prepared(&setup.options, finding) {
+        return false;
+    }
+    let mut interrupt = PlannedInterrupt::never();
     match text_of_plan(alloc, tree, &mut interrupt, b"/w", setup, wanted, finding) {
         Ok(text) => text.as_bytes() == want,
         Err(_) => false,
