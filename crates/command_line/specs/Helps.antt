@@ -180,7 +180,7 @@ state =
     ∷ codes "  -h, --help            this text"
     ∷ codes ""
     ∷ codes "Of options that say the same the last counts; --no- before the name of one without"
-    ∷ codes "a value turns it off, but for --null, --plain and --help. For example:"
+    ∷ codes "a value turns it off, but for --null and --help. For example:"
     ∷ codes "tizhagor state --ignored"
     ∷ []
     )

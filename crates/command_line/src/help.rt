@@ -147,7 +147,7 @@ How it is written
   -h, --help            this text
 
 Of options that say the same the last counts; --no- before the name of one without
-a value turns it off, but for --null, --plain and --help. For example:
+a value turns it off, but for --null and --help. For example:
 tizhagor state --ignored
 ";
 
