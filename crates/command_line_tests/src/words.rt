@@ -323,9 +323,7 @@ fn is_pattern(patterns: &[Bytes], want: &[u8]) -> bool {
     if want == b"no pattern".as_slice() {
         return patterns.is_empty();
     }
-    want.starts_with(b"pattern ")
-        && patterns.len() == 1
-        && patterns[0].as_bytes() == &want[8..]
+    want.starts_with(b"pattern ") && patterns.len() == 1 && patterns[0].as_bytes() == &want[8..]
 }
 
 /// Whether the help text is about this.
