@@ -10,9 +10,10 @@ use worktree_fs::MemoryWorktree;
 
 /// The number of one or two digits.
 fn number_of(digits: &[u8]) -> usize {
-    let mut number = 0;
+    let mut number = 0usize;
     for digit in digits {
-        number = number * 10 + usize::from(*digit).saturating_sub(48);
+        let digit = usize::from(*digit).saturating_sub(48);
+        number = number.wrapping_mul(10).saturating_add(digit);
     }
     number
 }
