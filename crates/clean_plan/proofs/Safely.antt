@@ -13,6 +13,8 @@ use Rattle.dir_classify.specs.Enters.{is_pruned_status}
 use Rattle.dir_classify.specs.Kinds.{is_repository}
 use Rattle.dir_walk.specs.Emissions.{is_tracked_status}
 use Rattle.dir_walk.specs.Fold.{is_precious_status}
+use Rattle.clean_plan.specs.declared.what.OtherNodes.{OtherNodes}
+use Rattle.clean_plan.specs.declared.what.OtherNodes.TheVariants.{Go}
 use Rattle.clean_plan.specs.declared.what.What.{What}
 use Rattle.clean_plan.specs.Above.{IsTarget, fronts, some_above, some_front}
 use Rattle.clean_plan.specs.Asked.{Asked}
@@ -21,7 +23,7 @@ use Rattle.clean_plan.specs.Paths.{is_among}
 use Rattle.clean_plan.specs.Plans.{IsPlan, is_planned, may_be_planned, removable_paths}
 use Rattle.clean_plan.specs.Removable.{is_plain, is_removable, is_taken, may_go}
 use Rattle.clean_plan.specs.Staying.{is_staying, stays, stays_at}
-use Rattle.clean_plan.specs.Safe.{AreApart, AreSafe, AreSpared, IsCovered, IsSafe, IsSpared, must_stay}
+use Rattle.clean_plan.specs.Safe.{AreApart, AreSafe, AreSpared, IsCovered, IsSafe, IsSpared, is_left, must_stay}
 use Rattle.clean_plan.specs.Whole.{is_whole, lies_in}
 use Rattle.clean_plan.proofs.Directories.{above-then, and_both, none-above}
 use Rattle.clean_plan.proofs.Planning.{FoundEntry, IsIn, RemovableAt, found-entry, removable-at, target-only, whole-removes, whole-says}
@@ -117,6 +119,13 @@ none-any test (x ∷ entries) h = by (test x) (list_any test entries) (h x (inl 
     by true b e f = absurd (cc e)
     by false b e f = f
 
+-- where other nodes go too none is left
+none-left : (asked : Asked) (entries : List Entry) → asked.others ≡ Go → (path : List ℕ) → is_left asked entries path ≡ false
+none-left asked entries all path = ap (λ (b : Bool). b && not (some_above (is_whole asked entries) path)) none
+  where
+    none : is_staying asked.others entries path ≡ false
+    none = none-any (stays_at asked.others path) entries (λ e here. ap (λ (others : OtherNodes). stays_at others path e) all)
+
 module _ (asked : Asked) (entries : List Entry) (flat : AreFlat entries) where
   -- an entry at or beneath a planned path may go
   planned-takes : (path : List ℕ) (e : Entry) → is_top path ≡ false → (is_whole asked entries path ≡ true) ⊎ RemovableAt asked entries path → IsIn e entries → is_path_prefix path e.rela_path ≡ true
@@ -200,7 +209,7 @@ module _ (asked : Asked) (entries : List Entry) (flat : AreFlat entries) where
         by true false f = refl
         by false b f = refl
 
-    covered : (at : Entry) → IsIn at entries → is_among at.rela_path (removable_paths asked entries) ≡ true → is_staying asked.others entries at.rela_path ≡ false → IsCovered paths at.rela_path
+    covered : (at : Entry) → IsIn at entries → is_among at.rela_path (removable_paths asked entries) ≡ true → is_left asked entries at.rela_path ≡ false → IsCovered paths at.rela_path
     covered at here among gone = go (some_above whole at.rela_path) refl
       where
         path : List ℕ
@@ -213,6 +222,11 @@ module _ (asked : Asked) (entries : List Entry) (flat : AreFlat entries) where
         pick false false k s (inr e) h f = absurd (cc e)
         pick a b true s e h f = absurd (cc h)
         pick a b k true e h f = absurd (cc f)
+
+        goes : (s k : Bool) → (s && not k) ≡ false → k ≡ false → s ≡ false
+        goes true true h e = absurd (cc e)
+        goes true false h e = absurd (cc h)
+        goes false k h e = refl
 
         go : (b : Bool) → some_above whole at.rela_path ≡ b → IsCovered paths at.rela_path
         go true e =
@@ -233,7 +247,8 @@ module _ (asked : Asked) (entries : List Entry) (flat : AreFlat entries) where
         go false e =
             record {
               over = at.rela_path;
-              is_planned = plan.are at.rela_path ∙ pick (whole at.rela_path) (is_among at.rela_path (removable_paths asked entries)) (some_above whole at.rela_path) (is_staying asked.others entries at.rela_path) (inr among) e gone;
+              is_planned = plan.are at.rela_path ∙ pick (whole at.rela_path) (is_among at.rela_path (removable_paths asked entries)) (some_above whole at.rela_path) (is_staying asked.others entries at.rela_path) (inr among) e
+                  (goes (is_staying asked.others entries at.rela_path) (some_above whole at.rela_path) gone e);
               covers = prefix-self at.rela_path;
               only = λ other h over. by other h (prefix-cases other at.rela_path over);
             }
@@ -257,18 +272,47 @@ module _ (asked : Asked) (entries : List Entry) (flat : AreFlat entries) where
         go false e = e
         go true e = absurd (true≢false (sym (over e (planned-path path k).which) ∙ none-above whole path above (planned-path path k).none_above e))
 
+    -- what may go and is not left lies at or beneath one of them
+    plan-covers : (path : List ℕ) → is_among path (removable_paths asked entries) ≡ true → is_left asked entries path ≡ false → IsCovered paths path
+    plan-covers path h gone = by (removable-at asked entries path h)
+      where
+        by : RemovableAt asked entries path → IsCovered paths path
+        by at =
+            subst (IsCovered paths) (sym at.path_is)
+            (covered at.entry at.is_in (ap (λ (p : List ℕ). is_among p (removable_paths asked entries)) (sym at.path_is) ∙ h) (ap (is_left asked entries) (sym at.path_is) ∙ gone))
+
+    -- what is left lies at or beneath none
+    plan-leaves : (path : List ℕ) → is_left asked entries path ≡ true → (other : List ℕ) → is_among other paths ≡ true → is_path_prefix other path ≡ false
+    plan-leaves path h other k = go (is_path_prefix other path) refl
+      where
+        left : (is_staying asked.others entries path ≡ true) × (not (some_above whole path) ≡ true)
+        left = and_both (is_staying asked.others entries path) (not (some_above whole path)) h
+
+        never : (is_top other ≡ true) ⊎ ((other ≡ path) ⊎ (lies_beneath other path ≡ true)) → ⊥
+        never (inl t) = true≢false (sym t ∙ below-top other k)
+        never (inr (inl same)) =
+            true≢false (sym left.0 ∙ ap (is_staying asked.others entries) (sym same)
+            ∙ not_true (is_staying asked.others entries other) (and_both (may_be_planned asked entries other) (not (is_staying asked.others entries other)) (sym (plan.are other) ∙ k)).1)
+        never (inr (inr above)) = by (found-entry (stays_at asked.others path) entries left.0)
+          where
+            by : FoundEntry (stays_at asked.others path) entries → ⊥
+            by found =
+                let same = same_text path found.entry.rela_path (sym (and_both (stays asked.others found.entry.disk_kind) (bytes_eq path found.entry.rela_path) found.passes).1) in
+                true≢false (sym (above-whole found.entry other found.is_in k (ap (lies_beneath other) (sym same) ∙ above)) ∙ none-above whole path other (not_true (some_above whole path) left.1) above)
+
+        go : (b : Bool) → is_path_prefix other path ≡ b → is_path_prefix other path ≡ false
+        go false e = e
+        go true e = absurd (never (prefix-cases other path e))
+
     -- The plan by a flat report is safe.
     pub plan-safe : AreSafe asked entries paths (removable_paths asked entries)
     plan-safe =
         record {
           each = λ path h. planned-safe path (sym (plan.are path) ∙ h);
-          covers = λ path h gone. by path h gone (removable-at asked entries path h);
+          covers_all = λ all path h. plan-covers path h (none-left asked entries all path);
+          covers = plan-covers;
+          leaves = plan-leaves;
         }
-      where
-        by : (path : List ℕ) → is_among path (removable_paths asked entries) ≡ true → is_staying asked.others entries path ≡ false → RemovableAt asked entries path → IsCovered paths path
-        by path h gone at =
-            subst (IsCovered paths) (sym at.path_is)
-            (covered at.entry at.is_in (ap (λ (p : List ℕ). is_among p (removable_paths asked entries)) (sym at.path_is) ∙ h) (ap (is_staying asked.others entries) (sym at.path_is) ∙ gone))
 
 -- Over any report a plan spares what the index has.
 pub plan-spared : (asked : Asked) (entries : List Entry) (paths : List (List ℕ)) → IsPlan asked entries paths → AreSpared asked.fold asked.index paths

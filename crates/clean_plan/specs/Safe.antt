@@ -1,5 +1,5 @@
 -- What makes a plan safe to act on.
-use Rattle.std.specs.Prelude.{◌≡◌, ℕ, List, Bool, true, false, ◌&&◌, ◌||◌}
+use Rattle.std.specs.Prelude.{◌≡◌, ℕ, List, Bool, true, false, not, ◌&&◌, ◌||◌}
 use Rattle.std.specs.List.{list_any}
 use Rattle.gitbase_core.specs.Path.{is_path_prefix, is_top, lies_beneath}
 use Rattle.gitbase_core.specs.declared.entry.IndexEntry.{IndexEntry}
@@ -7,10 +7,13 @@ use Rattle.dir_classify.specs.declared.entry.Entry.{Entry}
 use Rattle.dir_classify.specs.Kinds.{is_repository}
 use Rattle.dir_walk.specs.Emissions.{is_tracked_status}
 use Rattle.dir_walk.specs.Fold.{is_precious, is_pruned}
+use Rattle.clean_plan.specs.declared.what.OtherNodes.TheVariants.{Go}
+use Rattle.clean_plan.specs.Above.{some_above}
 use Rattle.clean_plan.specs.Asked.{Asked}
 use Rattle.clean_plan.specs.Kept.{has_dot_git, holds_current, is_indexed}
 use Rattle.clean_plan.specs.Paths.{Ascends, is_among}
 use Rattle.clean_plan.specs.Staying.{is_staying}
+use Rattle.clean_plan.specs.Whole.{is_whole}
 
 -- an entry that no plan may take: it is pruned, precious, tracked or a repository
 abbrev pub must_stay : Entry → Bool
@@ -48,10 +51,18 @@ pub record IsCovered (paths : List (List ℕ)) (path : List ℕ) : Type 0 where
   pub covers : is_path_prefix over path ≡ true
   pub only : (other : List ℕ) → is_among other paths ≡ true → is_path_prefix other path ≡ true → other ≡ over
 
--- each planned path is safe, and each entry that may go lies at or beneath exactly one, unless its node stays
+-- a node is left at a path: it stays, and no directory above it goes as a whole
+abbrev pub is_left : Asked → List Entry → List ℕ → Bool
+is_left asked entries path = is_staying asked.others entries path && not (some_above (is_whole asked entries) path)
+
+-- Each planned path is safe. Each entry that may go lies at or beneath exactly one, but for a node that is left, which lies at or
+-- beneath none; where other nodes go too, each does.
 pub record AreSafe (asked : Asked) (entries : List Entry) (paths removable : List (List ℕ)) : Type 0 where
   pub each : (path : List ℕ) → is_among path paths ≡ true → IsSafe asked entries path
-  pub covers : (path : List ℕ) → is_among path removable ≡ true → is_staying asked.others entries path ≡ false → IsCovered paths path
+  pub covers_all : asked.others ≡ Go → (path : List ℕ) → is_among path removable ≡ true → IsCovered paths path
+  pub covers : (path : List ℕ) → is_among path removable ≡ true → is_left asked entries path ≡ false → IsCovered paths path
+  pub leaves : (path : List ℕ) → is_left asked entries path ≡ true → (other : List ℕ) → is_among other paths ≡ true
+      → is_path_prefix other path ≡ false
 
 -- no planned path lies beneath another
 abbrev pub AreApart : List (List ℕ) → Type 0
