@@ -3,7 +3,9 @@ pub mod Walking
 pub mod Going
 pub mod Directories
 pub mod Scenes
+pub mod Leading
 pub mod Places
 pub mod Parts
 pub mod Lines
+pub mod Beneath
 pub mod Cleaned

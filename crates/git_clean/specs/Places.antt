@@ -1,5 +1,5 @@
 -- What would go: entries, and directories in the place of what they hold.
-use Rattle.std.specs.Prelude.{ℕ, List, [], ◌∷◌, Bool, true, false, not, ◌&&◌, ◌||◌, find, Option, Some, None, option_map, option_and_then, is_none, slice_index, take, if◌then◌else◌}
+use Rattle.std.specs.Prelude.{ℕ, List, [], ◌∷◌, Bool, true, false, not, ◌&&◌, ◌||◌, find, Option, Some, None, option_map, option_and_then, slice_index, take, if◌then◌else◌}
 use Rattle.std.specs.List.{list_any}
 use Rattle.std.specs.Option.{option_or}
 use Rattle.gitbase_core.specs.Among.{is_among}
@@ -7,17 +7,13 @@ use Rattle.gitbase_core.specs.Kinds.{kinds}
 use Rattle.gitbase_core.specs.Path.{is_slash}
 use Rattle.gitbase_core.specs.declared.kinds.EntryKind.{EntryKind}
 use Rattle.gitbase_core.specs.declared.kinds.EntryKind.TheVariants as index
-use Rattle.glob_rules.specs.PathSpec.{PathSpec}
-use Rattle.glob_rules.specs.PathSpecs.{can_match, list_match}
-use Rattle.glob_rules.specs.declared.pathspec.Match.{Match}
 use Rattle.dir_classify.specs.declared.entry.Entry.{Entry}
 use Rattle.worktree_report.specs.SetupMeant.{ordered_after}
 use Rattle.worktree_report.specs.declared.report.ReportEntry.{ReportEntry}
-use Rattle.ls_files.specs.declared.listing.NamedSpec.{NamedSpec}
-use Rattle.ls_files.specs.Cached.{takes}
 use Rattle.ls_files.specs.Others.{above, as_directory, has_beneath, is_entry_matched, name, name_unless, place_at, with_name}
 use Rattle.ls_files.specs.Places.{Place}
 use Rattle.git_clean.specs.Going.{is_removable}
+use Rattle.git_clean.specs.Leading.{is_taken}
 use Rattle.git_clean.specs.Scenes.{Scene}
 
 -- ---- what is kept
@@ -53,17 +49,9 @@ hides_at s path at = is_slash (slice_index path at) && hides s (take at path)
 abbrev pub is_hidden : Scene → List ℕ → Bool
 is_hidden s path = list_any (hides s) (above path)
 
--- how path specs match a directory
-abbrev pub directory_match : List PathSpec → List ℕ → Option Match
-directory_match specs d = list_match specs (name (as_directory d)) (Some true)
-
--- a spec is about what lies further down in a directory, and does not match the directory itself
-abbrev pub leads : List ℕ → NamedSpec → Bool
-leads d named = is_none (directory_match named.spec d) && can_match named.spec d
-
--- the path specs match a directory, and none leads further down
+-- the path specs let a directory go as a whole
 abbrev pub is_taken_by : Scene → List ℕ → Bool
-is_taken_by s d = takes (directory_match s.specs d) && not (list_any (leads d) s.named)
+is_taken_by s d = is_taken s.specs s.named (name (as_directory d)) d
 
 -- A directory goes as a whole: the index has nothing in it, no entry beneath keeps it from that, and the path specs take it.
 abbrev pub folds : Scene → List ℕ → Bool

@@ -19,7 +19,8 @@ use worktree_report::{CountsFaults, Refusal, Setup, has_failed_since, of_report,
 /// with the path specs; `named` has each of these alone. Where no path spec is written, or each
 /// excludes, git means the current directory: then a path spec of it is among them. The patterns of
 /// `-e` are the last of the setup's overrides. Its traversal root is the top of the work tree, `.`,
-/// so that the walk sees each `.git` above what it looks at.
+/// so that the walk sees each `.git` above what it looks at. By another one a directory above it may
+/// be named, of which the rest was not seen.
 ///
 /// # Errors
 ///

@@ -1,11 +1,13 @@
 //! What would go, by the entries of a report.
-ghost use Rattle.std.specs.Prelude.{◌≡◌, ◌++◌, IfOk, OnOk};
+ghost use Rattle.std.specs.Prelude.{◌≡◌, ◌++◌, true, IfOk, OnOk};
 ghost use Rattle.gitbase_core.specs.Path as paths;
+ghost use Rattle.git_clean.specs.Beneath.{Rise};
 ghost use Rattle.git_clean.specs.Cleaned as words;
 ghost use Rattle.git_clean.specs.Lines as lines;
 ghost use Rattle.git_clean.specs.Scenes.{scene_by};
 
 use crate::above::has;
+use crate::beneath::rise;
 use crate::cleaning::Cleaning;
 use crate::inside::add_inside;
 use crate::line::{add_line, removes};
@@ -64,24 +66,27 @@ fn add_lines(
     alloc: Global,
     text: &mut Vec<u8>,
     scene: &Scene<'_>,
+    rise: bool,
     name: &[u8],
 ) -> Result<(), OutOfMemory>
+    requires { rise ≡ true → Rise scene.now.found.now }
     ensures { OnOk result (text.new.items ≡ text.old.items
         ++ lines.lines_of (scene_by scene.now) name.now) }
 {
     if is_held_name(alloc, scene, name)? {
-        return add_inside(alloc, text, scene, without_slash(name));
+        return add_inside(alloc, text, scene, rise, without_slash(name));
     }
     add_removed(alloc, text, scene, name)
 }
 
-/// The lines of all that goes.
-fn text_of(alloc: Global, scene: &Scene<'_>) -> Result<Bytes, OutOfMemory>
+/// The lines of all that goes; `rise` says that paths do not fall along the entries.
+fn text_of(alloc: Global, scene: &Scene<'_>, rise: bool) -> Result<Bytes, OutOfMemory>
+    requires { rise ≡ true → Rise scene.now.found.now }
     ensures { IfOk result (λ text. text ≡ lines.text (scene_by scene.now)) }
 {
     let mut text = Vec::new(alloc);
     for name in names(alloc, scene)? {
-        add_lines(alloc, &mut text, scene, name.as_bytes())?;
+        add_lines(alloc, &mut text, scene, rise, name.as_bytes())?;
     }
     Ok(Bytes::from_vec(text))
 }
@@ -89,8 +94,9 @@ fn text_of(alloc: Global, scene: &Scene<'_>) -> Result<Bytes, OutOfMemory>
 /// What would go by the entries of a report, in the directory `prefix` of the work tree: the setup
 /// has the index and the path specs, and `named` has each of these alone.
 ///
-/// The entries are gone over once, and once more for each directory that goes but for a repository
-/// in it, or for the current directory.
+/// The entries are gone over once. For each directory that goes but for a repository in it, or for
+/// the current directory, those beneath it are gone over twice more; they are found by a search
+/// where paths do not fall along the entries, as in a report, else all are gone over.
 ///
 /// # Errors
 ///
@@ -121,5 +127,5 @@ pub fn clean_found(
         guarded: &guarded,
         held: &held,
     };
-    text_of(alloc, &scene)
+    text_of(alloc, &scene, rise(found))
 }

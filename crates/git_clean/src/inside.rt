@@ -1,10 +1,12 @@
 //! The lines of a directory that cannot go itself.
-ghost use Rattle.std.specs.Prelude.{◌≡◌, ◌++◌, ◌∷◌, [], IfOk, OnOk, drop};
+ghost use Rattle.std.specs.Prelude.{◌≡◌, ◌++◌, ◌∷◌, [], true, IfOk, OnOk, drop};
 ghost use Rattle.std.specs.List.{flat_map};
+ghost use Rattle.git_clean.specs.Beneath.{Rise};
 ghost use Rattle.git_clean.specs.Lines as lines;
 ghost use Rattle.git_clean.specs.Parts as parts;
 ghost use Rattle.git_clean.specs.Scenes.{scene_by};
 
+use crate::beneath::beneath;
 use crate::line::{add_line, refusal, removes, skips};
 use crate::parts::{is_skipped, parts, refuses_here};
 use crate::scene::Scene;
@@ -126,17 +128,38 @@ fn add_parts(
     Ok(())
 }
 
-/// Adds the lines of a directory that cannot go itself.
+/// The same scene, with the entries beneath a directory alone where paths do not fall.
+fn narrowed<'a>(
+    alloc: Global,
+    scene: &Scene<'a>,
+    rise: bool,
+    directory: &[u8],
+) -> Result<Scene<'a>, OutOfMemory>
+    requires { rise ≡ true → Rise scene.now.found.now }
+    ensures skips { IfOk result (λ narrow. lines.skip_lines (scene_by narrow) directory.now
+        ≡ lines.skip_lines (scene_by scene.now) directory.now) }
+    ensures parts { IfOk result (λ narrow. lines.part_lines (scene_by narrow) directory.now
+        ≡ lines.part_lines (scene_by scene.now) directory.now) }
+{
+    let found = beneath(alloc, scene.found, rise, directory)?;
+    Ok(scene.with_found(found))
+}
+
+/// Adds the lines of a directory that cannot go itself; `rise` says that paths do not fall along
+/// the entries.
 pub fn add_inside(
     alloc: Global,
     text: &mut Vec<u8>,
     scene: &Scene<'_>,
+    rise: bool,
     directory: &[u8],
 ) -> Result<(), OutOfMemory>
+    requires { rise ≡ true → Rise scene.now.found.now }
     ensures { OnOk result (text.new.items ≡ text.old.items
         ++ lines.lines_inside (scene_by scene.now) directory.now) }
 {
-    add_skips(alloc, text, scene, directory)?;
+    let narrow = narrowed(alloc, scene, rise, directory)?;
+    add_skips(alloc, text, &narrow, directory)?;
     add_refusal(text, scene, directory)?;
-    add_parts(alloc, text, scene, directory)
+    add_parts(alloc, text, &narrow, directory)
 }

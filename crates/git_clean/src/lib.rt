@@ -3,10 +3,12 @@
 
 mod above;
 mod answer;
+mod beneath;
 mod cleaned;
 mod cleaning;
 mod going;
 mod inside;
+mod leading;
 mod line;
 mod names;
 mod parts;

@@ -1,18 +1,15 @@
 //! Which directories go in the place of what they hold, and which paths are kept.
 ghost use Rattle.std.specs.Prelude.{◌≡◌, ◌<◌, IfOk, length, option_copied};
-ghost use Rattle.std.specs.List.{list_any};
-ghost use Rattle.ls_files.specs.Cached.{takes};
 ghost use Rattle.ls_files.specs.Others as others;
 ghost use Rattle.git_clean.specs.Places as words;
 ghost use Rattle.git_clean.specs.Scenes.{scene_by};
 
 use crate::above::has;
 use crate::going::name;
+use crate::leading::is_taken;
 use crate::place::Place;
 use crate::scene::Scene;
 use gitbase_core::{EntryKind, OutOfMemory, State};
-use glob_rules::pathspec::{Match, Matcher, Search};
-use ls_files::NamedSpec;
 use std::alloc::Global;
 
 /// Whether the index has a submodule at a path where it has this kind.
@@ -103,60 +100,13 @@ pub fn is_hidden(alloc: Global, scene: &Scene<'_>, path: &[u8]) -> Result<bool, 
     Ok(false)
 }
 
-/// How path specs match a directory.
-fn directory_match(
-    alloc: Global,
-    specs: &Search,
-    directory: &[u8],
-) -> Result<Option<Match>, OutOfMemory>
-    ensures { IfOk result (λ found. found ≡ words.directory_match specs.now directory.now) }
-{
-    let name = name(alloc, &Place::new(directory, true))?;
-    let found = specs.pattern_matching_relative_path(name.as_bytes(), Some(true));
-    Ok(found)
-}
-
-/// Whether a directory that is matched so may go.
-fn opens(found: Option<Match>) -> bool
-    ensures { result ≡ takes found }
-{
-    match found {
-        Some(found) => !found.is_excluded(),
-        None => false,
-    }
-}
-
-/// Whether a spec is about what lies further down in a directory.
-fn leads(alloc: Global, directory: &[u8], named: &NamedSpec) -> Result<bool, OutOfMemory>
-    ensures { IfOk result (λ leads. leads ≡ words.leads directory.now named.now) }
-{
-    let found = directory_match(alloc, &named.spec, directory)?;
-    let can = named.spec.can_match_relative_path(directory, Some(true));
-    Ok(found.is_none() && can)
-}
-
-/// Whether one of some specs is.
-fn some_leads(alloc: Global, directory: &[u8], all: &[NamedSpec]) -> Result<bool, OutOfMemory>
-    ensures { IfOk result (λ leads. leads ≡ list_any (words.leads directory.now) all.now) }
-{
-    for named in all {
-        if leads(alloc, directory, named)? {
-            return Ok(true);
-        }
-    }
-    Ok(false)
-}
-
 /// Whether the path specs let a directory go as a whole.
-fn is_taken(alloc: Global, scene: &Scene<'_>, directory: &[u8]) -> Result<bool, OutOfMemory>
+fn is_taken_by(alloc: Global, scene: &Scene<'_>, directory: &[u8]) -> Result<bool, OutOfMemory>
     ensures { IfOk result (λ taken. taken ≡ words.is_taken_by (scene_by scene.now) directory.now) }
 {
-    let found = directory_match(alloc, scene.specs, directory)?;
-    if !opens(found) {
-        return Ok(false);
-    }
-    let leads = some_leads(alloc, directory, scene.named)?;
-    Ok(!leads)
+    let name = name(alloc, &Place::new(directory, true))?;
+    let taken = is_taken(scene.specs, scene.named, name.as_bytes(), directory);
+    Ok(taken)
 }
 
 /// Whether a directory goes as a whole.
@@ -166,7 +116,7 @@ fn folds(alloc: Global, scene: &Scene<'_>, directory: &[u8]) -> Result<bool, Out
     if !hides(alloc, scene, directory)? {
         return Ok(false);
     }
-    is_taken(alloc, scene, directory)
+    is_taken_by(alloc, scene, directory)
 }
 
 /// Whether the directory that ends before a byte of a path does.

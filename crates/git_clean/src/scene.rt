@@ -1,4 +1,6 @@
 //! By what it is decided what may go.
+ghost use Rattle.std.specs.Prelude.{◌≡◌};
+
 use crate::cleaning::Cleaning;
 use gitbase_core::{Bytes, State};
 use glob_rules::pathspec::Search;
@@ -19,4 +21,23 @@ pub struct Scene<'a> {
     pub marked: &'a BTreeSet<Bytes>,
     pub guarded: &'a BTreeSet<Bytes>,
     pub held: &'a BTreeSet<Bytes>,
+}
+
+impl<'a> Scene<'a> {
+    /// The same with other entries.
+    pub fn with_found(&self, found: &'a [ReportEntry]) -> Scene<'a>
+        ensures { result ≡ record self.now { found = found.entry } }
+    {
+        Scene {
+            cleaning: self.cleaning,
+            index: self.index,
+            specs: self.specs,
+            named: self.named,
+            prefix: self.prefix,
+            found,
+            marked: self.marked,
+            guarded: self.guarded,
+            held: self.held,
+        }
+    }
 }

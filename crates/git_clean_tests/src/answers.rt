@@ -13,6 +13,7 @@ git_dir /w/r/.git$current_dir /w/r$option for_deletion nonbare$option strict_par
 git_dir /w/r/.git$current_dir /w/r$option for_deletion nonbare$option strict_parents yes$^d /w/h;f /w/r/d=x$;d /w/r/.git/objects;d /w/r/.git/refs;f /w/r/.git/HEAD=ref: refs/heads/main$;f /w/r/.git/config=[core]$\trepositoryformatversion = 0$\tfilemode = true$\tbare = false$\tlogallrefupdates = true$;d /w/r/.git/info;f /w/r/a/b/c=x$\n\
 git_dir /w/r/.git$current_dir /w/r$option for_deletion nonbare$option strict_parents yes$global *.u$global k/$index 100644 0 - 6aa9f6d7f691151ab6f34e58382dfcdf51ea45cf .gitmodules$index 100644 0 - 89db367c5fbf568fa02d19447557fb8e1b0ae5e5 a/.gitignore$index 160000 0 - c46f9e7f62aef384fb09ffd76aea54910337c9e9 s$worktree s$^f /w/h/.config/git/ignore=*.u$;d /w/m/.git/objects;d /w/m/.git/refs;f /w/m/.git/HEAD=ref: refs/heads/master$;f /w/m/.git/config=[core]$\trepositoryformatversion = 0$\tfilemode = true$\tbare = false$\tlogallrefupdates = true$;x /w/m/.git/index=4449524300000002000000005452454500000019003020300a4b825dc642cb6eb9a060e54bf8d69288fbee490472d53f787d86a932a25a8537cee236d81846a8f1;f /w/m/.git/info/exclude=# git ls-files --others --exclude-from=.git/info/exclude$# Lines that start with '#' are comments.$# For a project mostly in C, the following would be a good set of$# exclude patterns (uncomment them if you want to use them):$# *.[oa]$# *~$;f /w/r/.gitignore=*.x$!keep.x$;f /w/r/.gitmodules=[submodule \"s\"]$\tpath = s$\turl = ../m$;f /w/r/1.x=x$;f /w/r/keep.x=x$;f /w/r/s.z=x$;d /w/r/.git/objects;d /w/r/.git/refs;f /w/r/.git/HEAD=ref: refs/heads/main$;f /w/r/.git/config=[core]$\trepositoryformatversion = 0$\tfilemode = true$\tbare = false$\tlogallrefupdates = true$[submodule \"s\"]$\turl = /w/m$\tactive = true$;x /w/r/.git/index=444952430000000200000003000000000000000000000000000000000000000000000000000081a40000000000000000000000006aa9f6d7f691151ab6f34e58382dfcdf51ea45cf000b2e6769746d6f64756c657300000000000000000000000000000000000000000000000000000000000000000081a400000000000000000000000089db367c5fbf568fa02d19447557fb8e1b0ae5e5000c612f2e67697469676e6f72650000000000000000000000000000000000000000000000000000000000000000e000000000000000000000000000c46f9e7f62aef384fb09ffd76aea54910337c9e900017300992a35a2841aa730de8598d51cad84d0b7a17408;f /w/r/.git/info/exclude=k/$;d /w/r/.git/modules/s/objects;d /w/r/.git/modules/s/refs;f /w/r/.git/modules/s/HEAD=ref: refs/heads/master$;f /w/r/.git/modules/s/config=[core]$\trepositoryformatversion = 0$\tfilemode = true$\tbare = false$\tlogallrefupdates = true$\tworktree = ../../../s$[remote \"origin\"]$\turl = /w/m$\tfetch = +refs/heads/*:refs/remotes/origin/*$[branch \"master\"]$\tremote = origin$\tmerge = refs/heads/master$;x /w/r/.git/modules/s/index=4449524300000002000000005452454500000019003020300a4b825dc642cb6eb9a060e54bf8d69288fbee490472d53f787d86a932a25a8537cee236d81846a8f1;f /w/r/.git/modules/s/info/exclude=# git ls-files --others --exclude-from=.git/info/exclude$# Lines that start with '#' are comments.$# For a project mostly in C, the following would be a good set of$# exclude patterns (uncomment them if you want to use them):$# *.[oa]$# *~$;f /w/r/a/.gitignore=!*.x$;f /w/r/a/2.x=x$;f /w/r/a/b/.gitignore=/c$;f /w/r/a/b/3.x=x$;f /w/r/a/b/c/4.u=x$;f /w/r/k/5.u=x$;f /w/r/k/l/6=x$;f /w/r/k/l/keep.x=x$;f /w/r/s/.git=gitdir: ../.git/modules/s$;f /w/r/s/new=x$;f /w/r/x/1=x$;f /w/r/x/2.x=x$\n\
 git_dir /w/r/.git$current_dir /w/r$option for_deletion nonbare$option strict_parents yes$index 100644 0 - 5761abcfdf0c26a75374c945dfe366eaeee04285 .gitignore$^d /w/h;f /w/r/.gitignore=*.o$;d /w/r/.git/objects;d /w/r/.git/refs;f /w/r/.git/HEAD=ref: refs/heads/main$;f /w/r/.git/config=[core]$\trepositoryformatversion = 0$\tfilemode = true$\tbare = false$\tlogallrefupdates = true$;x /w/r/.git/index=444952430000000200000001000000000000000000000000000000000000000000000000000081a40000000000000000000000005761abcfdf0c26a75374c945dfe366eaeee04285000a2e67697469676e6f72650000000000000000ebab26b2ecb3fcfed50247ffea24ec952e9633e0;d /w/r/.git/info;f /w/r/p/o.o=x$;f /w/r/p/g/f=x$;f /w/r/p/g/o.o=x$;d /w/r/p/g/.git/objects;d /w/r/p/g/.git/refs;f /w/r/p/g/.git/HEAD=ref:refs/heads/x$;f /w/r/p/g/.git/config=[core]$\trepositoryformatversion = 0$\tfilemode = true$\tbare = false$\tlogallrefupdates = true$;f /w/r/p/g/.git/info/exclude=# git ls-files --others --exclude-from=.git/info/exclude$# Lines that start with '#' are comments.$# For a project mostly in C, the following would be a good set of$# exclude patterns (uncomment them if you want to use them):$# *.[oa]$# *~$;f /w/r/p/g/s/h=x$\n\
+git_dir /w/r/.git$current_dir /w/r$option for_deletion nonbare$option strict_parents yes$index 100644 0 - 5761abcfdf0c26a75374c945dfe366eaeee04285 .gitignore$index 100644 0 - 587be6b4c3f93f93c489c0111bba5596147a26cb t/a$^d /w/h;f /w/r/.gitignore=*.o$;d /w/r/.git/objects;d /w/r/.git/refs;f /w/r/.git/HEAD=ref: refs/heads/main$;f /w/r/.git/config=[core]$\trepositoryformatversion = 0$\tfilemode = true$\tbare = false$\tlogallrefupdates = true$;x /w/r/.git/index=444952430000000200000002000000000000000000000000000000000000000000000000000081a40000000000000000000000005761abcfdf0c26a75374c945dfe366eaeee04285000a2e67697469676e6f72650000000000000000000000000000000000000000000000000000000000000000000081a4000000000000000000000000587be6b4c3f93f93c489c0111bba5596147a26cb0003742f6100000000000000651e078bb4771f2b970ea28d6ecfc04724d39d84;d /w/r/.git/info;f /w/r/t/a=x$;f /w/r/u/y=x$;f /w/r/u/v/x=x$;f /w/r/w/g=x$;f /w/r/w/x/f=x$;f /w/r/wa/i=x$;f /w/r/wa/b/h=x$\n\
 ";
 
 /// What git would remove.
@@ -93,12 +94,19 @@ pub const ROWS: &[u8] = b"\
 0^t^^../top&::t/../top|new/f&::t/new/f^Would remove new/f$Would remove ../top$\n\
 0^t^-d|-x^t/&:(literal)t^Would remove b.o$Would remove n$Would remove new/$\n\
 0^t^-q^t/&:(literal)t^\n\
+0^w^^.&::w/.|x/f&::w/x/f^Would refuse to remove current working directory$Would remove ./x$\n\
+0^w^^..&::w/..|x/f&::w/x/f^Would remove ../empty/$Would remove ../fd/$Would remove ../gone/un$Would remove ../lt$Would remove ../mix/a/$Would remove ../t/n$Would remove ../t/new/$Would remove ../top$Would remove ../u/v/$Would remove x/f$\n\
+0^w^^x&::w/x|x/f&::w/x/f^Would remove x/f$\n\
+0^w^^x/&::w/x/|x/f&::w/x/f^Would remove x/$\n\
 0^w/x^^w/x/&:(literal)w/x^\n\
 0^w/x^-d^w/x/&:(literal)w/x^Would refuse to remove current working directory$Would remove ./f$\n\
 0^w/x^^f&::w/x/f^Would remove f$\n\
 0^w/x^^..&::w/x/..^Would refuse to remove current working directory$Would remove ../x/f$\n\
 0^w/x^^../../top&::w/x/../../top^Would remove ../../top$\n\
 0^w/x^-d|-q^w/x/&:(literal)w/x^Would refuse to remove current working directory$\n\
+0^w/x^^..&::w/x/..|f&::w/x/f^Would refuse to remove current working directory$Would remove ../x/f$\n\
+0^w/x^^../&::w/x/../|f&::w/x/f^Would refuse to remove current working directory$Would remove ../x/f$\n\
+0^w/x^^.&::w/x/.|f&::w/x/f^Would refuse to remove current working directory$Would remove ./f$\n\
 0^mix/a^-d^mix/a/&:(literal)mix/a^Would refuse to remove current working directory$Would remove ./k$\n\
 0^mix/a^^mix/a/&:(literal)mix/a^\n\
 0^mix/a^^../a&::mix/a/../a^Would refuse to remove current working directory$Would remove ./k$\n\
@@ -212,4 +220,47 @@ pub const ROWS: &[u8] = b"\
 5^^-f|-f^p/g/s&::p/g/s^\n\
 5^^-f|-f|-X^p/g/o.o&::p/g/o.o^\n\
 5^^-f|-f|-d|-X^^Would remove p/o.o$\n\
+6^^^w/&::w/|w/x/f&::w/x/f^Would remove w/$\n\
+6^^^w*&::w*|w/x/f&::w/x/f^Would remove w/$Would remove wa/$\n\
+6^^^w&::w|w/x/f&::w/x/f^Would remove w/g$Would remove w/x/f$\n\
+6^^^w/.&::w/.|w/x/f&::w/x/f^Would remove w/$\n\
+6^^^w/x/..&::w/x/..|w/x/f&::w/x/f^Would remove w/$\n\
+6^^^w/x&::w/x|w/&::w/^Would remove w/$\n\
+6^^^w/x/&::w/x/|w/x/f&::w/x/f|w&::w^Would remove w/g$Would remove w/x/$\n\
+6^^^w/x/&::w/x/|w/x/f&::w/x/f|w/g&::w/g^Would remove w/g$Would remove w/x/$\n\
+6^^^w/&::w/|w/x/&::w/x/|w/x/f&::w/x/f^Would remove w/$\n\
+6^^^u&::u|w*&::w*^Would remove u/$Would remove w/$Would remove wa/$\n\
+6^^^u&::u|ux*&::ux*^Would remove u/$\n\
+6^^^u&::u|u/v/*&::u/v/*^Would remove u/v/$Would remove u/y$\n\
+6^^^u&::u|u/v*&::u/v*^Would remove u/v/$Would remove u/y$\n\
+6^^^u&::u|u/x*&::u/x*^Would remove u/v/$Would remove u/y$\n\
+6^^^u&::u|u*/v/x&::u*/v/x^Would remove u/v/x$Would remove u/y$\n\
+6^^^w&::w|*x/&::*x/^Would remove w/g$Would remove w/x/$\n\
+6^^^*&::*|w/x/f&::w/x/f^Would remove u/$Would remove w/$Would remove wa/$\n\
+6^^^:/&:/:|w/x/f&::w/x/f^Would remove u/$Would remove w/g$Would remove w/x/f$Would remove wa/$\n\
+6^^^.&::.|w/x/f&::w/x/f^Would remove u/$Would remove w/g$Would remove w/x/f$Would remove wa/$\n\
+6^^^w&::w|w?/&::w?/^Would remove w/g$Would remove w/x/f$\n\
+6^^^wa&::wa|w?/&::w?/^Would remove wa/$\n\
+6^^^w?/&::w?/|wa/b/h&::wa/b/h^Would remove wa/$\n\
+6^^^wa/*&::wa/*|wa/b/h&::wa/b/h^Would remove wa/$\n\
+6^^^w*&::w*|wa/b/*&::wa/b/*^Would remove w/$Would remove wa/$\n\
+6^^^wa&::wa|w[a]/b/h&::w[a]/b/h^Would remove wa/b/h$Would remove wa/i$\n\
+6^^^w&::w|w\\a*&::w\\a*^Would remove w/g$Would remove w/x/f$Would remove wa/$\n\
+6^^^:(glob)w*/&:(glob)w*/|w/x/f&::w/x/f^Would remove w/$\n\
+6^^^:(glob)w/**&:(glob)w/**|w/x/f&::w/x/f^Would remove w/$\n\
+6^^^:(icase)W/&:(icase)W/|w/x/f&::w/x/f^Would remove w/$\n\
+6^^^w/&::w/|:(icase)W/X/F&:(icase)W/X/F^Would remove w/$\n\
+6^^^w&::w|:(icase)W/X/F&:(icase)W/X/F^Would remove w/g$Would remove w/x/f$\n\
+6^^^:(literal)w/&:(literal)w/|w/x/f&::w/x/f^Would remove w/$\n\
+6^^^:(top)w/&:(top)w/|w/x/f&::w/x/f^Would remove w/$\n\
+6^^^.&::.|:!*x/&:!:*x/^Would remove u/$Would remove w/$Would remove wa/$\n\
+6^^^wa&::wa|wa/b&::wa/b|:!wa/i&:!:wa/i^Would remove wa/b/$\n\
+6^^^w/&::w/|w/x/f&::w/x/f|:!w/g&:!:w/g^Would remove w/$\n\
+6^^-x^w/&::w/|w/x/f&::w/x/f^Would remove w/$\n\
+6^^-q^w/&::w/|w/x/f&::w/x/f^\n\
+6^u^^../w/&::u/../w/|../w/x/f&::u/../w/x/f^Would remove ../w/$\n\
+6^u^^v&::u/v|v/*&::u/v/*^Would remove v/$\n\
+6^u^^v&::u/v|../w*&::u/../w*^Would remove v/$Would remove ../w/$Would remove ../wa/$\n\
+6^u^^../w&::u/../w|../w[a]&::u/../w[a]^Would remove ../w/g$Would remove ../w/x/f$\n\
+6^u^^v*&::u/v*|v/x&::u/v/x^Would remove v/$\n\
 ";
