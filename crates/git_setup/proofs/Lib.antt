@@ -1,3 +1,7 @@
 pub mod Same
 mod Stands
 mod Refused
+pub mod Located
+mod LeadsPast
+mod Beneath
+mod SeenAlong

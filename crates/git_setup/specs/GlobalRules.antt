@@ -1,5 +1,6 @@
 -- The rules that come behind those of all directories.
-use Rattle.std.specs.Prelude.{ℕ, List, [], ◌∷◌, ◌++◌, ◌-◌, ◌==◌, length, slice_index, Option, Some, None, if◌then◌else◌}
+use Rattle.std.specs.Prelude.{ℕ, List, [], ◌∷◌, ◌++◌, ◌-◌, ◌==◌, length, nat_eq, slice_index, Option, Some, None, if◌then◌else◌}
+use Rattle.std.specs.List.{starts_with}
 use Rattle.git_config_files.specs.Rules.{Rules, RulesFile}
 
 -- some lines, with a line feed behind the last one too
@@ -11,6 +12,15 @@ abbrev pub rules_text : Option RulesFile → List ℕ
 rules_text None = []
 rules_text (Some file) = ended file.bytes
 
+-- a byte order mark, as UTF-8 has it
+abbrev pub mark : List ℕ
+mark = 239 ∷ 187 ∷ 191 ∷ []
+
+-- Each file is without its byte order mark by now. The search takes one from the front of its rules: where a file had two, the second
+-- belongs to its first rule, as in git, and has another in front of it.
+abbrev pub marked : List ℕ → List ℕ
+marked rules = if starts_with nat_eq rules mark then mark ++ rules else rules
+
 -- those of the user, and behind them those of the repository
 abbrev pub globals_of : Rules → List ℕ
-globals_of rules = rules_text rules.user ++ rules_text rules.repository
+globals_of rules = marked (rules_text rules.user ++ rules_text rules.repository)

@@ -10,4 +10,10 @@ pub mod AskedSpecs
 pub mod OwnDirectories
 pub mod Protected
 pub mod Found
+pub mod Indexed
+pub mod Settings
+pub mod Conversions
+pub mod Ignoring
+pub mod Compared
+pub mod Checked
 pub mod SameText

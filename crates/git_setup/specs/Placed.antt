@@ -2,7 +2,7 @@
 use Rattle.std.specs.Prelude.{ℕ, ◌++◌, Bool, true, false, not, ◌&&◌, ◌||◌, List, [], ◌∷◌, drop, take_while, Option, Some, None, ok_or, Result, Ok, Err, bytes_eq, codes, ◌==◌, if◌then◌else◌}
 use Rattle.std.specs.Char.{is_ascii_alphabetic}
 use Rattle.std.specs.List.{list_any, before_first, after_first, prefix_len}
-use Rattle.gitbase_core.specs.Path.{is_empty, is_absolute, is_slash, joined, relative_to}
+use Rattle.gitbase_core.specs.Path.{directory_prefix, ends_in_slash, is_empty, is_absolute, is_slash, joined, normalized, relative_to}
 use Rattle.glob_rules.specs.Glob.{is_special}
 use Rattle.glob_rules.specs.Marks.{colon, open_parenthesis}
 use Rattle.glob_rules.specs.PathSpecText.{is_close, is_excluding, is_mark, words_in}
@@ -68,6 +68,14 @@ parted (b ∷ rest) = if b == colon then colon_parted rest else plain (b ∷ res
 abbrev pub beneath : List ℕ → List ℕ → Option (List ℕ)
 beneath root path = if bytes_eq path root then Some [] else relative_to root path
 
+-- an absolute path without empty components, `.` and `..`; a slash at its end stays, and so does a path that leads out
+abbrev pub normal_of : List ℕ → Option (List ℕ) → List ℕ
+normal_of path None = path
+normal_of path (Some normal) = if ends_in_slash path then directory_prefix normal else normal
+
+abbrev pub normal_path : List ℕ → List ℕ
+normal_path path = normal_of path (normalized path)
+
 -- whether the bytes of a directory would mean something else in front of the path: as a pattern, or without regard to case
 abbrev pub is_changed : SpecText → List ℕ → Bool
 is_changed p prefix = (not p.is_literal && list_any is_special prefix) || (p.folds && list_any is_ascii_alphabetic prefix)
@@ -83,7 +91,7 @@ from_prefix text prefix p =
 abbrev pub from_top : List ℕ → List ℕ → List ℕ → SpecText → Result (List ℕ) GitRefusal
 from_top root text prefix p =
     if p.is_top then Ok p.path
-    else if is_absolute p.path then ok_or (beneath root p.path) (errors.OutsidePath text)
+    else if is_absolute p.path then ok_or (beneath root (normal_path p.path)) (errors.OutsidePath text)
     else from_prefix text prefix p
 
 abbrev pub placed_by : List ℕ → List ℕ → List ℕ → SpecText → Result (List ℕ) GitRefusal

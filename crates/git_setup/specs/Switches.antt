@@ -1,8 +1,7 @@
 -- What the configuration says of how names compare, and of a sparse work tree.
-use Rattle.std.specs.Prelude.{ℕ, Bool, true, false, not, ◌&&◌, ◌++◌, List, codes, Option, Some, None, Result, Ok, Err}
+use Rattle.std.specs.Prelude.{ℕ, Bool, true, false, not, ◌&&◌, List, codes, Option, Some, None, Result, Ok, Err}
 use Rattle.git_config_lite.specs.Lookups.{boolean}
 use Rattle.git_config_lite.specs.Sections.{Section}
-use Rattle.gitbase_core.specs.Steps.{and_then}
 use Rattle.git_setup.specs.Steps.{◌>>=◌}
 use Rattle.git_setup.specs.declared.error.GitRefusal.{GitRefusal}
 use Rattle.git_setup.specs.declared.error.GitRefusal.TheVariants as errors

@@ -37,6 +37,13 @@ impl Entries {
         Entries { items }
     }
 
+    /// The entries.
+    pub fn as_slice(&self) -> &[IndexEntry]
+        ensures { result.now ≡ self.now }
+    {
+        self.items.as_slice()
+    }
+
     /// The entries as a vector; takes no memory.
     pub fn into_vec(self) -> Vec<IndexEntry>
         ensures { result.items ≡ self }

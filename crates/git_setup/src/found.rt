@@ -143,7 +143,7 @@ fn elsewhere(alloc: Global, name: &[u8]) -> Result<GitRefusal, OutOfMemory>
 }
 
 /// The nearest work tree, unless a variable points git elsewhere.
-fn top_found<W: Worktree, O: Owners>(
+pub fn top_found<W: Worktree, O: Owners>(
     alloc: Global,
     worktree: &mut W,
     owners: &mut O,
@@ -182,7 +182,7 @@ fn current_for(
 }
 
 /// The current directory, from the top of a work tree.
-fn prefix_in(alloc: Global, root: &[u8], directory: &[u8]) -> Result<Bytes, OutOfMemory>
+pub fn prefix_in(alloc: Global, root: &[u8], directory: &[u8]) -> Result<Bytes, OutOfMemory>
     ensures { IfOk result (λ prefix. prefix ≡ words.prefix_in root.now directory.now) }
 {
     match beneath(root, directory) {

@@ -31,6 +31,18 @@ fn rules_text(alloc: Global, file: &Option<RulesFile>) -> Result<Bytes, OutOfMem
     }
 }
 
+/// Rules with another byte order mark in front, if they begin with one: a search takes one away.
+pub fn marked(alloc: Global, rules: Bytes) -> Result<Bytes, OutOfMemory>
+    ensures { IfOk result (λ made. made ≡ words.marked rules) }
+{
+    if !rules.as_bytes().starts_with(b"\xef\xbb\xbf") {
+        return Ok(rules);
+    }
+    let mut made = Bytes::from_slice(alloc, b"\xef\xbb\xbf")?;
+    made.extend(alloc, rules.as_bytes())?;
+    Ok(made)
+}
+
 /// The rules of the user, and behind them those of the repository.
 pub fn globals_of(alloc: Global, rules: &Rules) -> Result<Bytes, OutOfMemory>
     ensures { IfOk result (λ globals. globals ≡ words.globals_of rules.now) }
@@ -38,5 +50,5 @@ pub fn globals_of(alloc: Global, rules: &Rules) -> Result<Bytes, OutOfMemory>
     let mut globals = rules_text(alloc, &rules.user)?;
     let repository = rules_text(alloc, &rules.repository)?;
     globals.extend(alloc, repository.as_bytes())?;
-    Ok(globals)
+    Ok(marked(alloc, globals)?)
 }

@@ -34,7 +34,7 @@ fn file_error(alloc: Global, path: &[u8], error: IndexFileError) -> Result<GitRe
 }
 
 /// What the bytes of an index file say.
-fn index_of(alloc: Global, path: &[u8], bytes: &[u8]) -> Result<IndexFile, GitRefusal>
+pub fn index_of(alloc: Global, path: &[u8], bytes: &[u8]) -> Result<IndexFile, GitRefusal>
     ensures { Decides result (as_read path.now (index_of_bytes bytes.now)) }
 {
     match read_index(alloc, bytes) {
@@ -60,7 +60,7 @@ fn entries_in(alloc: Global, path: &[u8], bytes: &[u8]) -> Result<Entries, GitRe
 }
 
 /// The refusal of what stands in the place of the index.
-fn no_file(alloc: Global, path: &[u8]) -> Result<GitRefusal, OutOfMemory>
+pub fn no_file(alloc: Global, path: &[u8]) -> Result<GitRefusal, OutOfMemory>
     ensures { IfOk result (λ e. e ≡ GitRefusal.IndexNode path.now) }
 {
     Ok(GitRefusal::IndexNode {

@@ -2,12 +2,18 @@
 #![tactic(auto)]
 
 mod asked;
+mod checked;
+mod compared;
+mod conversions;
+mod details;
 mod each;
 mod entries;
 mod error;
 mod found;
 mod globals;
+mod ignoring;
 mod index;
+mod indexed;
 mod own_directories;
 mod parts;
 mod pathspecs;
@@ -15,10 +21,16 @@ mod placed;
 mod present;
 mod protected;
 mod reading;
+mod settings;
 mod switches;
 mod written;
 
 pub use asked::Asked;
+pub use checked::{Checked, NamedFile, OuterFiles, checked_at};
+pub use compared::{Compared, compared_at, places_here};
+pub use details::Details;
 pub use each::{AskedSpec, EachSpec};
 pub use error::GitRefusal;
 pub use found::{Found, setup_here};
+pub use index::index_path;
+pub use settings::{NodeSettings, Settings};

@@ -12,7 +12,7 @@ ghost use Rattle.git_setup.specs.Placed as texts;
 
 use crate::error::GitRefusal;
 use bstr::ByteSlice;
-use gitbase_core::{Bytes, OutOfMemory, PathText, is_absolute, relative_to};
+use gitbase_core::{Bytes, OutOfMemory, PathText, is_absolute, needs_slash, relative_to};
 use std::alloc::Global;
 
 /// The text of a path spec in two parts.
@@ -321,12 +321,46 @@ pub fn outside(alloc: Global, text: &[u8]) -> Result<GitRefusal, OutOfMemory>
     })
 }
 
+fn ends_in_slash(path: &[u8]) -> bool
+    ensures { result ≡ paths.ends_in_slash path.now }
+{
+    path.last() == Some(&b'/')
+}
+
+/// A path with one slash behind it.
+fn with_slash(alloc: Global, path: PathText) -> Result<Bytes, OutOfMemory>
+    ensures { IfOk result (λ whole. whole ≡ paths.directory_prefix path) }
+{
+    let needs = needs_slash(path.as_bytes());
+    let mut whole = Bytes::from_vec(path.into_vec());
+    if needs {
+        whole.extend(alloc, b"/")?;
+    }
+    Ok(whole)
+}
+
+/// An absolute path without empty components, `.` and `..`, as git looks at it; a slash at its end stays.
+fn normal_path(alloc: Global, path: &[u8]) -> Result<Bytes, OutOfMemory>
+    ensures { IfOk result (λ normal. normal ≡ texts.normal_path path.now) }
+{
+    let whole = PathText::from_bytes(alloc, path)?;
+    let Some(normal) = whole.normalize(alloc)? else {
+        return Bytes::from_slice(alloc, path);
+    };
+    if ends_in_slash(path) {
+        return with_slash(alloc, normal);
+    }
+    Ok(Bytes::from_vec(normal.into_vec()))
+}
+
 /// An absolute path, from the top.
 fn from_absolute(alloc: Global, root: &[u8], text: &[u8], path: &[u8]) -> Result<Bytes, GitRefusal>
     ensures { Decides result
-        (ok_or (texts.beneath root.now path.now) (GitRefusal.OutsidePath text.now)) }
+        (ok_or (texts.beneath root.now (texts.normal_path path.now))
+        (GitRefusal.OutsidePath text.now)) }
 {
-    match beneath(root, path) {
+    let normal = normal_path(alloc, path)?;
+    match beneath(root, normal.as_bytes()) {
         Some(path) => Ok(Bytes::from_slice(alloc, path)?),
         None => Err(outside(alloc, text)?),
     }

@@ -1,5 +1,5 @@
 //! The entries of an index by what is in the work tree.
-ghost use Rattle.std.specs.Prelude.{◌≡◌, [], false, Ok, IfOk};
+ghost use Rattle.std.specs.Prelude.{◌≡◌, [], false, None, Ok, IfOk};
 ghost use Rattle.gitbase_core.specs.Path.{joined, without_slash};
 ghost use Rattle.git_index.specs.Head.{flags_of};
 ghost use Rattle.git_setup.specs.Finds.{Decides, Finds};
@@ -9,7 +9,9 @@ ghost use Rattle.gitbase_core.specs.Index.{index_of};
 
 use crate::entries::Entries;
 use crate::error::GitRefusal;
-use gitbase_core::{Flags, IndexEntry, IndexError, OutOfMemory, PathText, State};
+use gitbase_core::{
+    Flags, IndexEntry, IndexError, OutOfMemory, PathText, State, is_top, lies_beneath,
+};
 use std::alloc::Global;
 use worktree_fs::Worktree;
 
@@ -40,7 +42,7 @@ fn path_in(alloc: Global, root: &[u8], path: &[u8]) -> Result<PathText, OutOfMem
 }
 
 /// Whether a node is at a path of the work tree.
-fn is_present<W: Worktree>(
+pub fn is_present<W: Worktree>(
     alloc: Global,
     worktree: &mut W,
     root: &[u8],
@@ -79,45 +81,188 @@ fn is_skipped(entry: &IndexEntry) -> bool
     entry.flags.contains(Flags::SKIP_WORKTREE)
 }
 
-/// Another entry, without its skip flag where something is in its place.
-fn as_file<W: Worktree>(
-    alloc: Global,
-    worktree: &mut W,
-    root: &[u8],
-    looks: bool,
-    entry: IndexEntry,
-) -> Result<IndexEntry, GitRefusal>
-    ensures { Finds W.Worktree worktree.old worktree.new
-        (λ t. Ok (words.as_file t root.now looks entry)) result }
-{
-    if !looks {
-        return Ok(entry);
-    }
-    if !is_skipped(&entry) {
-        return Ok(entry);
-    }
-    if is_present(alloc, worktree, root, entry.path.as_bytes())? {
-        return Ok(unskipped(entry));
-    }
-    Ok(entry)
+/// A directory of the work tree that was looked at.
+#[derive(Debug, Drop)]
+struct Looked {
+    directory: PathText,
+    /// Whether anything is there.
+    present: bool,
 }
 
 /// An entry as it is seen in the work tree.
-fn seen<W: Worktree>(
+#[derive(Debug, Drop)]
+struct Seen {
+    entry: IndexEntry,
+    /// The last directory that was looked at for it or for one before it.
+    last: Option<Looked>,
+}
+
+/// Whether a path lies beneath a directory that is known not to be there.
+fn is_gone_above(last: &Option<Looked>, path: &[u8]) -> bool
+    ensures { result ≡ words.is_gone_above last.now path.now }
+{
+    match last {
+        None => false,
+        Some(looked) => !looked.present && lies_beneath(looked.directory.as_bytes(), path),
+    }
+}
+
+/// Whether a directory is known to be there.
+fn is_there(last: &Option<Looked>, directory: &[u8]) -> bool
+    ensures { result ≡ words.is_there last.now directory.now }
+{
+    match last {
+        None => false,
+        Some(looked) => looked.present && looked.directory.as_bytes() == directory,
+    }
+}
+
+/// A directory, by one look at it.
+fn looked_at<W: Worktree>(
+    alloc: Global,
+    worktree: &mut W,
+    root: &[u8],
+    directory: &[u8],
+) -> Result<Looked, GitRefusal>
+    ensures { Finds W.Worktree worktree.old worktree.new
+        (λ t. Ok (words.looked_at t root.now directory.now)) result }
+{
+    let present = is_present(alloc, worktree, root, directory)?;
+    Ok(Looked {
+        directory: PathText::from_bytes(alloc, directory)?,
+        present,
+    })
+}
+
+/// What is known of the directory above a path: one look, unless it is known already.
+fn known_above<W: Worktree>(
+    alloc: Global,
+    worktree: &mut W,
+    root: &[u8],
+    last: Option<Looked>,
+    path: &PathText,
+) -> Result<Option<Looked>, GitRefusal>
+    ensures { Finds W.Worktree worktree.old worktree.new
+        (λ t. Ok (words.known_above t root.now last path.now)) result }
+{
+    if is_gone_above(&last, path.as_bytes()) {
+        return Ok(last);
+    }
+    let Some(directory) = path.parent() else {
+        return Ok(last);
+    };
+    if is_top(directory) || is_there(&last, directory) {
+        return Ok(last);
+    }
+    let looked = looked_at(alloc, worktree, root, directory)?;
+    Ok(Some(looked))
+}
+
+/// Whether something is at a path, by what is known of the directory above it.
+fn is_present_by<W: Worktree>(
+    alloc: Global,
+    worktree: &mut W,
+    root: &[u8],
+    last: &Option<Looked>,
+    path: &[u8],
+) -> Result<bool, GitRefusal>
+    ensures { Finds W.Worktree worktree.old worktree.new
+        (λ t. Ok (words.is_present_by t root.now last.now path.now)) result }
+{
+    if is_gone_above(last, path) {
+        return Ok(false);
+    }
+    is_present(alloc, worktree, root, path)
+}
+
+/// A skipped entry, without its flag if something is in its place.
+fn as_present(entry: IndexEntry, present: bool) -> IndexEntry
+    ensures { result ≡ words.as_present entry present }
+{
+    if present {
+        return unskipped(entry);
+    }
+    entry
+}
+
+/// A skipped entry as it is seen in the work tree.
+#[tactic(auto, unfolding(crate::specs::Present::skipped_seen))]
+fn skipped_seen<W: Worktree>(
+    alloc: Global,
+    worktree: &mut W,
+    root: &[u8],
+    last: Option<Looked>,
+    entry: IndexEntry,
+) -> Result<Seen, GitRefusal>
+    ensures { Finds W.Worktree worktree.old worktree.new
+        (λ t. Ok (words.skipped_seen t root.now last entry)) result }
+{
+    let last = known_above(alloc, worktree, root, last, &entry.path)?;
+    let present = is_present_by(alloc, worktree, root, &last, entry.path.as_bytes())?;
+    Ok(Seen {
+        entry: as_present(entry, present),
+        last,
+    })
+}
+
+/// An entry that stands for a directory, as it is seen in the work tree.
+#[tactic(auto, unfolding(crate::specs::Present::directory_seen))]
+fn directory_seen<W: Worktree>(
+    alloc: Global,
+    worktree: &mut W,
+    root: &[u8],
+    last: Option<Looked>,
+    entry: IndexEntry,
+) -> Result<Seen, GitRefusal>
+    ensures { Finds W.Worktree worktree.old worktree.new
+        (λ t. words.directory_seen t root.now last entry) result }
+{
+    let present = is_present(alloc, worktree, root, without_slash(entry.path.as_bytes()))?;
+    let entry = as_directory(entry, present)?;
+    Ok(Seen { entry, last })
+}
+
+/// An entry as it is seen in the work tree, by what was looked at before.
+#[tactic(auto, unfolding(crate::specs::Present::seen_by))]
+fn entry_seen<W: Worktree>(
     alloc: Global,
     worktree: &mut W,
     root: &[u8],
     looks: bool,
+    last: Option<Looked>,
     entry: IndexEntry,
-) -> Result<IndexEntry, GitRefusal>
+) -> Result<Seen, GitRefusal>
     ensures { Finds W.Worktree worktree.old worktree.new
-        (λ t. words.seen t root.now looks entry) result }
+        (λ t. words.seen_by t root.now looks last entry) result }
 {
     if entry.mode.is_sparse() {
-        let present = is_present(alloc, worktree, root, without_slash(entry.path.as_bytes()))?;
-        return as_directory(entry, present);
+        return directory_seen(alloc, worktree, root, last, entry);
     }
-    as_file(alloc, worktree, root, looks, entry)
+    if looks && is_skipped(&entry) {
+        return skipped_seen(alloc, worktree, root, last, entry);
+    }
+    Ok(Seen { entry, last })
+}
+
+/// Entries, each as it is seen in the work tree, with one look a directory.
+fn seen_along<W: Worktree>(
+    alloc: Global,
+    worktree: &mut W,
+    root: &[u8],
+    looks: bool,
+    entries: Entries,
+) -> Result<Entries, GitRefusal>
+    ensures { Finds W.Worktree worktree.old worktree.new
+        (λ t. words.seen_along t root.now looks None [] entries) result }
+{
+    let mut done = Entries::new(alloc);
+    let mut last = None;
+    for entry in entries.into_vec() {
+        let seen = entry_seen(alloc, worktree, root, looks, last, entry)?;
+        done.push(seen.entry)?;
+        last = seen.last;
+    }
+    Ok(done)
 }
 
 /// Entries, each as it is seen in the work tree.
@@ -131,12 +276,7 @@ fn all_seen<W: Worktree>(
     ensures { Finds W.Worktree worktree.old worktree.new
         (λ t. words.seen_after t root.now looks [] entries) result }
 {
-    let mut done = Entries::new(alloc);
-    for entry in entries.into_vec() {
-        let entry = seen(alloc, worktree, root, looks, entry)?;
-        done.push(entry)?;
-    }
-    Ok(done)
+    seen_along(alloc, worktree, root, looks, entries)
 }
 
 /// The refusal of an entry of the index file at a path.
@@ -150,7 +290,7 @@ fn entry_error(alloc: Global, path: &[u8], error: IndexError) -> Result<GitRefus
 }
 
 /// Entries of the index file at a path, as an index.
-fn ordered(alloc: Global, path: &[u8], entries: Entries) -> Result<State, GitRefusal>
+pub fn ordered(alloc: Global, path: &[u8], entries: Entries) -> Result<State, GitRefusal>
     ensures { Decides result (as_ordered path.now (index_of entries)) }
 {
     match State::from_entries(entries.into_vec()) {
@@ -164,7 +304,7 @@ fn ordered(alloc: Global, path: &[u8], entries: Entries) -> Result<State, GitRef
 /// An entry that stands for all that is beneath a directory is refused where something is in its place. Where `looks` says so, a skipped
 /// entry with something in its place is taken as one that is not skipped; there is one look at each.
 ///
-/// See docs/DIFFERENCES.md#sparse-index.
+/// See docs/DIFFERENCES.md#sparse-index and docs/DECISIONS.md#look-at-skipped.
 pub fn index_seen<W: Worktree>(
     alloc: Global,
     worktree: &mut W,

@@ -19,7 +19,7 @@ pub struct Switches {
 }
 
 /// What a key says as a boolean, and the usual answer where it says nothing; `name` is what it is called where it is refused.
-fn truth_in(
+pub fn truth_in(
     alloc: Global,
     config: &File,
     section: &[u8],

@@ -81,4 +81,10 @@ d/a|d/b|d/e/a|d/e/x.c^/w/r/d^e/..\n\
 d/a^/w/r/d^./a\n\
 d/e/x.c^/w/r/d^e//x.c\n\
 D/a|d/a^/w/r^:(icase)D/A\n\
+x/d/a^/w/r/d^/w//r/x\n\
+d/e/a|d/e/x.c^/w/r^/w/./r/d/e/\n\
+d/a|d/b|d/e/a|d/e/x.c^/w/r/d^//w/r/d\n\
+a^/w/r/d^/w/x/../r/a\n\
+d/a^/w/r^/w/r//d/./a\n\
+!^/w/r/d^/w/r/d/../../s\n\
 ";

@@ -1,15 +1,15 @@
-use Rattle.std.proofs.Common.{◌≡◌, [], Some}
+use Rattle.std.proofs.Common.{◌≡◌, [], None, Some}
 use Rattle.std.specs.Vec.Iter.{into_iter_items}
 use Rattle.worktree_fs.specs.Kept.{Asks}
 use Rattle.worktree_fs.specs.Tree.{Names}
-use Rattle.git_setup.specs.Present.{seen_after}
-use Rattle.git_setup.proofs.present.all_seen.Given as goal
+use Rattle.git_setup.specs.Present.{seen_along}
+use Rattle.git_setup.proofs.present.seen_along.Given as goal
 
 abbrev pub invariant-loop-entry : goal.invariant-loop-entry
 invariant-loop-entry g l =
     record {
       same : (t : Names) → g.W.Worktree.told l.fn.worktree ≡ Some t
-          → seen_after t l.root l.looks l.done (into_iter_items l.entry-iterator) ≡ seen_after t l.root l.looks [] l.fn.entries;
+          → seen_along t l.root l.looks l.last l.done (into_iter_items l.entry-iterator) ≡ seen_along t l.root l.looks None [] l.fn.entries;
       unfaulted : g.W.Worktree.faults l.worktree ≡ g.W.Worktree.faults l.fn.worktree;
       keeps : Asks g.W.Worktree l.fn.worktree l.worktree;
     }

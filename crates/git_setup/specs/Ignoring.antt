@@ -1,0 +1,42 @@
+-- Whether some submodule may be left out of a comparison: gitmodules(5), git-config(1).
+use Rattle.std.specs.Prelude.{ℕ, List, Bool, true, false, not, ◌&&◌, ◌||◌, ◌==◌, codes, bytes_eq, is_some, None, Result, Ok, Err}
+use Rattle.std.specs.List.{list_any}
+use Rattle.gitbase_core.specs.declared.entry.IndexEntry.{IndexEntry}
+use Rattle.git_config_lite.specs.Grammar.{said}
+use Rattle.git_config_lite.specs.Lookups.{section_value}
+use Rattle.git_config_lite.specs.Sections.{Section}
+use Rattle.git_config_lite.specs.declared.metadata.Metadata.{Metadata}
+use Rattle.git_config_lite.specs.declared.metadata.Source.TheVariants.{Modules}
+use Rattle.worktree_report.specs.Loading.{modules_path}
+use Rattle.worktree_fs.specs.Tree.{Names, Look, found, absent, too_many_links, file, link, directory, other, look}
+
+-- "submodule.<name>.ignore", in `.gitmodules` or in a configuration, and "diff.ignoreSubmodules"; such a key of any section counts
+abbrev pub leaves_out : Section → Bool
+leaves_out section = is_some (section_value (codes "ignore") section) || is_some (section_value (codes "ignoresubmodules") section)
+
+abbrev pub modules_meta : Metadata
+modules_meta = record { source = Modules; path = None }
+
+abbrev said_leave_out : Result (List Section) ℕ → Bool
+said_leave_out (Ok sections) = list_any leaves_out sections
+said_leave_out (Err line) = true
+
+-- what the bytes of a `.gitmodules` say
+abbrev pub bytes_leave_out : List ℕ → Bool
+bytes_leave_out bytes = said_leave_out (said modules_meta bytes)
+
+-- where it is no file of the work tree, git asks the index and the last commit
+abbrev pub modules_leave_out : Look → Bool
+modules_leave_out (found (file bytes)) = bytes_leave_out bytes
+modules_leave_out (found (link target)) = true
+modules_leave_out (found (directory names)) = true
+modules_leave_out (found other) = true
+modules_leave_out absent = true
+modules_leave_out too_many_links = true
+
+abbrev pub is_unmerged_modules : IndexEntry → Bool
+is_unmerged_modules e = not (e.stage == 0) && bytes_eq e.path (codes ".gitmodules")
+
+abbrev pub ignores_here : Names → List ℕ → List Section → List IndexEntry → Bool
+ignores_here t root sections entries =
+    list_any leaves_out sections || (list_any is_unmerged_modules entries || modules_leave_out (look t (modules_path root) false))
