@@ -1,5 +1,5 @@
 -- Links on the way to paths: git-check-ignore(1) says nothing of what lies behind one, and git refuses it.
-use Rattle.std.specs.Prelude.{ℕ, List, [], ◌∷◌, ◌++◌, Bool, true, false, ◌||◌, Option, Some, None, Result, Ok, Err, if◌then◌else◌}
+use Rattle.std.specs.Prelude.{ℕ, List, [], ◌∷◌, ◌++◌, Bool, true, false, Option, Some, None, Result, Ok, Err, if◌then◌else◌}
 use Rattle.gitbase_core.specs.Path.{is_empty, is_slash, joined}
 use Rattle.gitbase_core.specs.Steps.{and_then}
 use Rattle.worktree_fs.specs.Answers.{kind_of}
@@ -42,14 +42,14 @@ directories_after passed (b ∷ rest) =
 abbrev pub directories : List ℕ → List (List ℕ)
 directories path = directories_after [] path
 
--- a link stands at one of some directories, or at one of others
-abbrev pub links_after : Names → List ℕ → Bool → List (List ℕ) → Result Bool Stop
-links_after t root known [] = Ok known
-links_after t root known (d ∷ ds) = and_then (λ now. links_after t root (known || now) ds) (link_at t root d)
+-- a link stands at one of some directories; what lies behind it is not looked at
+abbrev pub links_in : Names → List ℕ → List (List ℕ) → Result Bool Stop
+links_in t root [] = Ok false
+links_in t root (d ∷ ds) = and_then (λ now. if now then Ok true else links_in t root ds) (link_at t root d)
 
 -- a link stands above a path
 abbrev pub beyond : Names → List ℕ → List ℕ → Result Bool Stop
-beyond t root path = links_after t root false (directories path)
+beyond t root path = links_in t root (directories path)
 
 abbrev pub unless_link : AskedPath → Bool → Result AskedPath Stop
 unless_link a there = if there then Err (stops.Beyond a.text) else Ok a

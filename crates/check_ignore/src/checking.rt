@@ -11,9 +11,9 @@ pub struct Checking {
     pub verbose: bool,
     /// `-n`: the paths too that no rule decides about.
     pub non_matching: bool,
-    /// `--stdin`: paths are read from the standard input.
+    /// `--stdin`; not answered here either.
     pub stdin: bool,
-    /// `-z`: a NUL ends each path that is read, and each field that is written.
+    /// `-z`; not answered here, as [`wrong_in`](crate::wrong_in) says.
     pub ends_in_nul: bool,
     /// Whether bytes above 0x7f are quoted, as `core.quotePath` says.
     pub quote_path: bool,

@@ -1,5 +1,5 @@
 //! Links on the way to paths that are asked about.
-ghost use Rattle.std.specs.Prelude.{◌≡◌, [], false, Ok, IfOk};
+ghost use Rattle.std.specs.Prelude.{◌≡◌, [], Ok, IfOk};
 ghost use Rattle.gitbase_core.specs.Path.{joined};
 ghost use Rattle.check_ignore.specs.Finds.{Decides, Finds};
 ghost use Rattle.check_ignore.specs.Links as words;
@@ -88,7 +88,7 @@ fn directories(alloc: Global, path: &[u8]) -> Result<Vec<Bytes>, OutOfMemory>
     Ok(above)
 }
 
-/// Whether a link stands at one of some directories.
+/// Whether a link stands at one of some directories. What lies behind it is not looked at.
 fn links_at<W: Worktree>(
     alloc: Global,
     worktree: &mut W,
@@ -96,14 +96,14 @@ fn links_at<W: Worktree>(
     directories: &[Bytes],
 ) -> Result<bool, Stop>
     ensures { Finds W.Worktree worktree.old worktree.new
-        (λ t. words.links_after t root.now false directories.now) result }
+        (λ t. words.links_in t root.now directories.now) result }
 {
-    let mut known = false;
     for directory in directories {
-        let now = link_at(alloc, worktree, root, directory.as_bytes())?;
-        known |= now;
+        if link_at(alloc, worktree, root, directory.as_bytes())? {
+            return Ok(true);
+        }
     }
-    Ok(known)
+    Ok(false)
 }
 
 /// Whether a link stands above a path.
