@@ -15,9 +15,12 @@ _tizhagor_options() {
     plan) echo "-x -X --nonbare $looked $written -h --help" ;;
     modules) echo "--permissions= -h --help" ;;
     state) echo "$shown $looked $written $colour -h --help" ;;
-    ls-files) echo "-c --cached -s --stage -u --unmerged -o --others -i --ignored --exclude-standard --directory --no-empty-directory -t -v
+    ls-files) echo "-c --cached -s --stage -u --unmerged -o --others -k --killed -i --ignored --exclude-standard -x --exclude=
+        --exclude-per-directory=.gitignore --directory --no-empty-directory -t -v
         -z --deduplicate --full-name --error-unmatch -h --help" ;;
     clean) echo "-n --dry-run --no-dry-run -d -x -X -e --exclude= -f --force --no-force -q --quiet --no-quiet -h --help" ;;
+    diff-files) echo "--raw --name-status --name-only -z -q --exit-code --no-exit-code --quiet --no-quiet -h --help" ;;
+    check-ignore) echo "-v --verbose --no-verbose -n --non-matching --no-non-matching -q --quiet --no-quiet --no-index --index -h --help" ;;
     *) echo "-C -h --help --version" ;;
     esac
 }
@@ -48,7 +51,7 @@ _tizhagor() {
         case ${COMP_WORDS[at]} in
         -C) [[ -n $command ]] || at=$((at + 1)) ;;
         --) [[ -z $command ]] || ended=1 ;;
-        report | plan | modules | state | ls-files | clean) [[ -n $command ]] || command=${COMP_WORDS[at]} ;;
+        report | plan | modules | state | ls-files | clean | diff-files | check-ignore) [[ -n $command ]] || command=${COMP_WORDS[at]} ;;
         esac
     done
     # Bash parts a word at `=`.
@@ -62,10 +65,11 @@ _tizhagor() {
     elif [[ -z $command && $before == -C ]]; then
         mapfile -t COMPREPLY < <(compgen -d -- "$word")
     elif [[ -z $command && $word != -* ]]; then
-        _tizhagor_words "report plan modules state ls-files clean" "$word"
+        _tizhagor_words "report plan modules state ls-files clean diff-files check-ignore" "$word"
     elif [[ -z $ended && $word == -* ]]; then
         _tizhagor_words "$(_tizhagor_options "$command")" "$word"
-    elif [[ $command == report || $command == plan || $command == ls-files || $command == clean ]]; then
+    elif [[ $command == report || $command == plan || $command == ls-files || $command == clean || $command == check-ignore ||
+        ($command == diff-files && -n $ended) ]]; then
         mapfile -t COMPREPLY < <(compgen -f -- "$word")
     fi
 }

@@ -2,7 +2,7 @@
 # Completions of tizhagor for zsh; scripts/install puts them in place, and scripts/check-install compares them with the help texts.
 
 _tizhagor() {
-    local -a shown looked written colour listed cleaned help
+    local -a shown looked written colour listed cleaned compared checked help
     shown=(
         '(-u --untracked-files)'{-u,--untracked-files=-}'[untracked paths]::mode:(matching collapse)'
         '--ignored=-[ignored paths too]::mode:(matching collapse no)'
@@ -33,8 +33,11 @@ _tizhagor() {
         '(-s --stage)'{-s,--stage}'[the same with mode, object and stage]'
         '(-u --unmerged)'{-u,--unmerged}'[what is not merged]'
         '(-o --others)'{-o,--others}'[what the index does not have]'
+        '(-k --killed)'{-k,--killed}'[what lies in the way of the index]'
         '(-i --ignored)'{-i,--ignored}'[what is ignored]'
         '--exclude-standard[ignore rules are asked]'
+        '--exclude-per-directory=-[those of each directory are]:name:(.gitignore)'
+        '*'{-x,--exclude=}'[an ignore rule before all others]:pattern:'
         '--directory[directories in place of what they hold]'
         '--no-empty-directory[no directories without files]'
         '-t[a letter before each path]'
@@ -56,11 +59,29 @@ _tizhagor() {
         '(-q --quiet)'{-q,--quiet}'[nothing that would go is named]'
         '--no-quiet[takes -q back]'
     )
+    compared=(
+        '--raw[modes, ids, a letter and the path]'
+        '--name-status[a letter and the path]'
+        '--name-only[the path]'
+        '-z[a NUL behind each field]'
+        '-q[changes nothing]'
+        '(--exit-code --no-exit-code)'{--exit-code,--no-exit-code}'[the status tells whether something changed]'
+        '(--quiet --no-quiet)'{--quiet,--no-quiet}'[the same, and nothing is written]'
+    )
+    checked=(
+        '(-q --quiet)'{-v,--verbose}'[the rule that decides]'
+        '--no-verbose[takes -v back]'
+        '(-n --non-matching)'{-n,--non-matching}'[paths too that no rule decides about]'
+        '--no-non-matching[takes -n back]'
+        '(-q --quiet -v --verbose)'{-q,--quiet}'[nothing is written]'
+        '--no-quiet[takes -q back]'
+        '(--no-index --index)'{--no-index,--index}'[the index is left aside, or asked]'
+    )
     help=('(- *)'{-h,--help}'[the help text]')
     local context state line
     typeset -A opt_args
     _arguments -C '-C[the directory to work in]:directory:_files -/' $help '(- *)--version[the version]' \
-        '1:command:((report\:"the untracked paths, and others" plan\:"what may be removed" modules\:"what an update of the submodules would do" state\:"the paths of the index, and the report" ls-files\:"paths, as git ls-files" clean\:"what git clean would remove"))' \
+        '1:command:((report\:"the untracked paths, and others" plan\:"what may be removed" modules\:"what an update of the submodules would do" state\:"the paths of the index, and the report" ls-files\:"paths, as git ls-files" clean\:"what git clean would remove" diff-files\:"how paths changed" check-ignore\:"which rule excludes a path"))' \
         '*::word:->words'
     [[ $state == words ]] || return
     case $line[1] in
@@ -70,6 +91,8 @@ _tizhagor() {
     state) _arguments -s $shown $looked $written $colour $help ;;
     ls-files) _arguments -s $listed $help '*:path:_files' ;;
     clean) _arguments -s $cleaned $help '*:path:_files' ;;
+    diff-files) _arguments -s $compared $help '*:path:_files' ;;
+    check-ignore) _arguments -s $checked $help '*:path:_files' ;;
     esac
 }
 

@@ -15,6 +15,7 @@ choice_of name =
     else if bytes_eq name (codes "stage") then Some choices.Stages
     else if bytes_eq name (codes "unmerged") then Some choices.Unmerged
     else if bytes_eq name (codes "others") then Some choices.Others
+    else if bytes_eq name (codes "killed") then Some choices.Killed
     else if bytes_eq name (codes "ignored") then Some choices.Ignored
     else if bytes_eq name (codes "directory") then Some choices.Directories
     else if bytes_eq name (codes "empty-directory") then Some choices.EmptyDirectories
@@ -34,11 +35,8 @@ abbrev pub is_left_rule : List ℕ → Bool
 is_left_rule name =
     bytes_eq name (codes "deleted")
     || (bytes_eq name (codes "modified")
-    || (bytes_eq name (codes "killed")
-    || (bytes_eq name (codes "exclude")
     || (bytes_eq name (codes "exclude-from")
-    || (bytes_eq name (codes "exclude-per-directory")
-    || bytes_eq name (codes "resolve-undo"))))))
+    || bytes_eq name (codes "resolve-undo")))
 
 -- git's, of submodules, objects and forms; not answered here
 abbrev pub is_left_form : List ℕ → Bool
@@ -67,33 +65,42 @@ chosen_by name = if starts_with nat_eq name (codes "no-") then dropped (choice_o
 abbrev pub choosing : List ℕ → Option Opt
 choosing name = first_of (made (firm_choice_of name)) (chosen_by name)
 
+-- those of rules that have a value
+abbrev pub rule_opt_of : List ℕ → Option Opt
+rule_opt_of name =
+    if bytes_eq name (codes "exclude") then Some opts.Pattern
+    else if bytes_eq name (codes "exclude-per-directory") then Some opts.RulesFile
+    else None
+
 -- the option of a name, which stands behind `--`
 unfoldable pub listing_opt_of : List ℕ → Option Opt
 listing_opt_of name =
     if bytes_eq name (codes "help") then Some opts.Help
     else if is_left name then Some opts.Left
-    else choosing name
+    else first_of (rule_opt_of name) (choosing name)
 
--- the choice of a letter, which stands behind `-`: c, s, u, o, i, t, v, z
+-- the choice of a letter, which stands behind `-`: c, s, u, o, k, i, t, v, z
 abbrev pub choice_of_letter : ℕ → Option Choice
 choice_of_letter letter =
     if letter == 99 then Some choices.Cached
     else if letter == 115 then Some choices.Stages
     else if letter == 117 then Some choices.Unmerged
     else if letter == 111 then Some choices.Others
+    else if letter == 107 then Some choices.Killed
     else if letter == 105 then Some choices.Ignored
     else if letter == 116 then Some choices.Tags
     else if letter == 118 then Some choices.Valid
     else if letter == 122 then Some choices.Nul
     else None
 
--- git's, and not answered here: d, m, k, x, X, f
+-- git's, and not answered here: d, m, X, f
 abbrev pub is_left_letter : ℕ → Bool
-is_left_letter letter = letter == 100 || (letter == 109 || (letter == 107 || (letter == 120 || (letter == 88 || letter == 102))))
+is_left_letter letter = letter == 100 || (letter == 109 || (letter == 88 || letter == 102))
 
--- and h
+-- x, and h
 abbrev pub listing_opt_of_letter : ℕ → Option Opt
 listing_opt_of_letter letter =
     if letter == 104 then Some opts.Help
+    else if letter == 120 then Some opts.Pattern
     else if is_left_letter letter then Some opts.Left
     else made (choice_of_letter letter)

@@ -31,7 +31,11 @@ use Rattle.command_line.specs.declared.form.Wording.{Wording}
 use Rattle.command_line.specs.declared.form.Wording.TheVariants.{Words}
 use Rattle.command_line.specs.declared.opt.Switch.{Switch}
 use Rattle.command_line.specs.declared.opt.Switch.TheVariants as switches
+use Rattle.command_line.specs.Checkings.{default_checking, told_of}
 use Rattle.command_line.specs.Cleanings.{forced}
+use Rattle.command_line.specs.Comparings.{default_comparing, told_apart}
+use Rattle.command_line.specs.declared.checking.CheckChoice.{CheckChoice}
+use Rattle.command_line.specs.declared.comparing.CompareChoice.{CompareChoice}
 
 -- Each untracked path by itself and nothing else, by the rules that git asks: what lies in an excluded directory stays excluded.
 -- Whether letters compare without regard to their case is left to the configuration.
@@ -71,10 +75,13 @@ default_listing =
       stages = false;
       unmerged = false;
       others = false;
+      killed = false;
       ignored = false;
       directories = false;
       empty_directories = true;
       excludes_standard = false;
+      excludes_directories = false;
+      patterns = false;
       error_unmatch = false;
       tags = false;
       valid = false;
@@ -109,6 +116,8 @@ default_draft =
       form = default_form;
       listing = default_listing;
       cleaning = default_cleaning;
+      comparing = default_comparing;
+      checking = default_checking;
       force = forces.Unsaid;
       is_help = false;
     }
@@ -134,10 +143,12 @@ chosen choices.Cached on listing = record listing { cached = on }
 chosen choices.Stages on listing = record listing { stages = on }
 chosen choices.Unmerged on listing = record listing { unmerged = on }
 chosen choices.Others on listing = record listing { others = on }
+chosen choices.Killed on listing = record listing { killed = on }
 chosen choices.Ignored on listing = record listing { ignored = on }
 chosen choices.Directories on listing = record listing { directories = on }
 chosen choices.EmptyDirectories on listing = record listing { empty_directories = on }
 chosen choices.ExcludesStandard on listing = record listing { excludes_standard = on }
+chosen choices.ExcludesDirectories on listing = record listing { excludes_directories = on }
 chosen choices.ErrorUnmatch on listing = record listing { error_unmatch = on }
 chosen choices.Tags on listing = record listing { tags = on }
 chosen choices.Valid on listing = record listing { valid = on }
@@ -211,6 +222,12 @@ with_clean_choice choice on draft = record draft { cleaning = swept choice on dr
 
 abbrev pub with_force : Bool → Draft → Draft
 with_force on draft = record draft { force = forced on draft.force }
+
+abbrev pub with_compare_choice : CompareChoice → Bool → Draft → Draft
+with_compare_choice choice on draft = record draft { comparing = told_apart choice on draft.comparing }
+
+abbrev pub with_check_choice : CheckChoice → Bool → Draft → Draft
+with_check_choice choice on draft = record draft { checking = told_of choice on draft.checking }
 
 abbrev pub with_help : Draft → Draft
 with_help draft = record draft { is_help = true }

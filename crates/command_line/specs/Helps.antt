@@ -1,19 +1,23 @@
 -- The help texts, and the version.
 use Rattle.std.specs.Prelude.{ℕ, List, [], ◌∷◌, ◌++◌, codes}
 use Rattle.std.specs.List.{flat_map}
+use Rattle.command_line.specs.CheckHelp.{check}
+use Rattle.command_line.specs.CompareHelp.{compare}
 use Rattle.command_line.specs.declared.verb.Topic.{Topic}
 use Rattle.command_line.specs.declared.verb.Topic.TheVariants as topics
 use Rattle.command_line.specs.declared.verb.Verb.TheVariants as verbs
 
 -- how a command is called
 abbrev pub usage_of : Topic → List ℕ
-usage_of topics.Whole = codes "usage: tizhagor [-C DIR] report|plan|modules|state|ls-files|clean [OPTION..] [--] [PATH..]\n"
+usage_of topics.Whole = codes "usage: tizhagor [-C DIR] report|plan|modules|state|ls-files|clean|diff-files|check-ignore [OPTION..] [--] [PATH..]\n"
 usage_of (topics.Of verbs.Report) = codes "usage: tizhagor [-C DIR] report [OPTION..] [--] [PATH..]\n"
-usage_of (topics.Of verbs.Plan) = codes "usage: tizhagor [-C DIR] plan [OPTION..] [--] [PATH..]\n"
+usage_of (topics.Of verbs.Plan) = codes "usage: tizhagor plan [OPTION..] [--] [PATH..]\n"
 usage_of (topics.Of verbs.Modules) = codes "usage: tizhagor [-C DIR] modules [OPTION..]\n"
 usage_of (topics.Of verbs.State) = codes "usage: tizhagor [-C DIR] state [OPTION..]\n"
 usage_of (topics.Of verbs.Files) = codes "usage: tizhagor [-C DIR] ls-files [OPTION..] [--] [PATH..]\n"
-usage_of (topics.Of verbs.Clean) = codes "usage: tizhagor [-C DIR] clean -n [OPTION..] [--] [PATH..]\n"
+usage_of (topics.Of verbs.Clean) = codes "usage: tizhagor clean -n [OPTION..] [--] [PATH..]\n"
+usage_of (topics.Of verbs.Compare) = codes "usage: tizhagor [-C DIR] diff-files [OPTION..] [-- PATH..]\n"
+usage_of (topics.Of verbs.Check) = codes "usage: tizhagor [-C DIR] check-ignore [OPTION..] [--] PATH..\n"
 
 -- lines, each with a line feed
 abbrev text : List (List ℕ) → List ℕ
@@ -22,7 +26,7 @@ text lines = flat_map (λ line. line ++ 10 ∷ []) lines
 abbrev whole : List ℕ
 whole =
     text
-    (codes "usage: tizhagor [-C DIR] report|plan|modules|state|ls-files|clean [OPTION..] [--] [PATH..]"
+    (codes "usage: tizhagor [-C DIR] report|plan|modules|state|ls-files|clean|diff-files|check-ignore [OPTION..] [--] [PATH..]"
     ∷ codes ""
     ∷ codes "Says what lies in the git work tree around the current directory. Nothing is run,"
     ∷ codes "changed or removed, and git is not needed."
@@ -33,6 +37,10 @@ whole =
     ∷ codes "  state     the paths of the index that are not as it has them, and the report"
     ∷ codes "  ls-files  paths of the index and of the work tree, as git ls-files has them"
     ∷ codes "  clean     with -n: what git clean would remove, as git clean -n has it"
+    ∷ codes "  diff-files"
+    ∷ codes "            how the paths of the index changed, as git diff-files has it"
+    ∷ codes "  check-ignore"
+    ∷ codes "            the paths that an ignore rule excludes, as git check-ignore has it"
     ∷ codes ""
     ∷ codes "  -C DIR        works in DIR"
     ∷ codes "  -h, --help    this text; behind a command, that of the command"
@@ -66,7 +74,7 @@ report =
     ∷ codes "                        or isolated, which is that of the repository alone"
     ∷ codes "  --outcome             a last line with the counts of the walk"
     ∷ codes "How it is looked at"
-    ∷ codes "  --no-excludes         no ignore rules"
+    ∷ codes "  --no-excludes         no ignore rule counts, though the files are read"
     ∷ codes "  --precious            an ignore rule that begins with $ keeps what it matches"
     ∷ codes "  --no-strict-parents   rules may take up again what lies in an excluded directory"
     ∷ codes "  --recurse-repositories"
@@ -86,8 +94,8 @@ report =
     ∷ codes "                        lines in the colour of their status: auto, always, never"
     ∷ codes "  -h, --help            this text"
     ∷ codes ""
-    ∷ codes "Of options that say the same the last counts; --no- before the name of one without"
-    ∷ codes "a value turns it off, but for --null, --plain and --help. For example:"
+    ∷ codes "Of options that say the same the last counts; --no- before the name of one that"
+    ∷ codes "takes no value turns it off, but for --null, --plain and --help. For example:"
     ∷ codes "tizhagor report --ignored -z src"
     ∷ []
     )
@@ -95,7 +103,7 @@ report =
 unfoldable pub plan : List ℕ
 plan =
     text
-    (codes "usage: tizhagor [-C DIR] plan [OPTION..] [--] [PATH..]"
+    (codes "usage: tizhagor plan [OPTION..] [--] [PATH..]"
     ∷ codes ""
     ∷ codes "Writes the paths that may be removed, as git clean -n -d names them, one a line. It is"
     ∷ codes "called at the top of the work tree, from where the paths lead. Nothing is removed. No"
@@ -105,7 +113,7 @@ plan =
     ∷ codes "  -x                    ignored paths too"
     ∷ codes "  -X                    ignored paths alone"
     ∷ codes "  --nonbare             bare repositories are directories like any other"
-    ∷ codes "  --no-excludes         no ignore rules"
+    ∷ codes "  --no-excludes         no ignore rule counts, though the files are read"
     ∷ codes "  --precious            an ignore rule that begins with $ keeps what it matches"
     ∷ codes "  --no-strict-parents   rules may take up again what lies in an excluded directory"
     ∷ codes "  --links-as-directories"
@@ -115,8 +123,8 @@ plan =
     ∷ codes "  -z, --null            a NUL behind each path, which stands as it is"
     ∷ codes "  -h, --help            this text"
     ∷ codes ""
-    ∷ codes "Of options that say the same the last counts; --no- before the name of one without"
-    ∷ codes "a value turns it off, but for --nonbare, --null and --help. For example:"
+    ∷ codes "Of options that say the same the last counts; --no- before the name of one that"
+    ∷ codes "takes no value turns it off, but for --nonbare, --null and --help. For example:"
     ∷ codes "tizhagor plan -xz | xargs -0 -r ls -d --"
     ∷ []
     )
@@ -161,7 +169,7 @@ state =
     ∷ codes "                        or isolated, which is that of the repository alone"
     ∷ codes "  --outcome             a last line with the counts of the walk"
     ∷ codes "How it is looked at"
-    ∷ codes "  --no-excludes         no ignore rules"
+    ∷ codes "  --no-excludes         no ignore rule counts, though the files are read"
     ∷ codes "  --precious            an ignore rule that begins with $ keeps what it matches"
     ∷ codes "  --no-strict-parents   rules may take up again what lies in an excluded directory"
     ∷ codes "  --recurse-repositories"
@@ -179,8 +187,8 @@ state =
     ∷ codes "                        lines in the colour of their status: auto, always, never"
     ∷ codes "  -h, --help            this text"
     ∷ codes ""
-    ∷ codes "Of options that say the same the last counts; --no- before the name of one without"
-    ∷ codes "a value turns it off, but for --null and --help. For example:"
+    ∷ codes "Of options that say the same the last counts; --no- before the name of one that"
+    ∷ codes "takes no value turns it off, but for --null and --help. For example:"
     ∷ codes "tizhagor state --ignored"
     ∷ []
     )
@@ -197,13 +205,18 @@ files =
     ∷ codes "  -s, --stage           the same with mode, object and stage"
     ∷ codes "  -u, --unmerged        the same of paths that are not merged, alone"
     ∷ codes "  -o, --others          what the index does not have"
-    ∷ codes "  -i, --ignored         of that, what is ignored, alone; with --exclude-standard"
+    ∷ codes "  -k, --killed          what lies in the way of the index"
+    ∷ codes "  -i, --ignored         of what the index lacks, what is ignored, alone; with"
+    ∷ codes "                        --exclude-standard"
     ∷ codes "  --exclude-standard    ignore rules are asked: .gitignore, info/exclude, and the"
     ∷ codes "                        excludes file of the user"
+    ∷ codes "  --exclude-per-directory=.gitignore"
+    ∷ codes "                        of these rules those of each directory"
+    ∷ codes "  -x, --exclude=PATTERN  a rule before all others; beside one of the two above"
     ∷ codes "  --directory           a directory in place of what it holds, where the index has"
     ∷ codes "                        nothing in it"
     ∷ codes "  --no-empty-directory  no directories without files"
-    ∷ codes "  -t                    a letter before each path: H, S, M, or ? for -o"
+    ∷ codes "  -t                    a letter before each path: H, S, M, ? for -o, or K for -k"
     ∷ codes "  -v                    the same, in lower case where a file is assumed unchanged"
     ∷ codes "  -z                    a NUL behind each path, which stands as it is"
     ∷ codes "  --deduplicate         each path of the index once"
@@ -219,7 +232,7 @@ files =
 unfoldable pub clean : List ℕ
 clean =
     text
-    (codes "usage: tizhagor [-C DIR] clean -n [OPTION..] [--] [PATH..]"
+    (codes "usage: tizhagor clean -n [OPTION..] [--] [PATH..]"
     ∷ codes ""
     ∷ codes "Names what git clean would remove, as git clean -n does, from the current directory."
     ∷ codes "Nothing is removed, so -n has to stand. A PATH is a path spec; none means the current"
@@ -227,7 +240,7 @@ clean =
     ∷ codes ""
     ∷ codes "  -n, --dry-run         nothing is removed"
     ∷ codes "  -d                    untracked directories too; so it is wherever a PATH stands"
-    ∷ codes "  -x                    ignored paths too: no ignore rules are asked"
+    ∷ codes "  -x                    ignored paths too: no ignore rule counts"
     ∷ codes "  -X                    ignored paths alone"
     ∷ codes "  -e PATTERN, --exclude=PATTERN"
     ∷ codes "                        an ignore rule before all others"
@@ -250,6 +263,8 @@ help_of (topics.Of verbs.Modules) = modules
 help_of (topics.Of verbs.State) = state
 help_of (topics.Of verbs.Files) = files
 help_of (topics.Of verbs.Clean) = clean
+help_of (topics.Of verbs.Compare) = compare
+help_of (topics.Of verbs.Check) = check
 
 abbrev pub version : List ℕ
 version = codes "tizhagor, unreleased\n"

@@ -3,6 +3,8 @@ pub mod Forms
 pub mod Options
 pub mod Choices
 pub mod Cleanings
+pub mod Comparings
+pub mod Checkings
 pub mod Drafts
 pub mod Steps
 pub mod Readings
@@ -10,5 +12,7 @@ pub mod Requests
 pub mod Unspelled
 pub mod Rows
 pub mod Rendered
+pub mod CompareHelp
+pub mod CheckHelp
 pub mod Helps
 pub mod Misuses

@@ -13,7 +13,7 @@ use Rattle.command_line.specs.declared.opt.Opt.TheVariants as opts
 use Rattle.command_line.specs.declared.opt.Switch.{Switch}
 use Rattle.command_line.specs.declared.opt.Switch.TheVariants as switches
 use Rattle.command_line.specs.declared.verb.Verb.{Verb}
-use Rattle.command_line.specs.declared.verb.Verb.TheVariants.{Report, Plan, Modules, State, Files, Clean}
+use Rattle.command_line.specs.declared.verb.Verb.TheVariants.{Report, Plan, Modules, State, Files, Clean, Compare, Check}
 
 -- ---- names
 
@@ -129,7 +129,7 @@ abbrev pub is_letters : Opt → Bool
 is_letters opts.Plain = true
 is_letters other = false
 
--- `ls-files` and `clean` have those that they know by name. `state` has those of `report`, whose lines stand behind its own, but no letters: its own lines have none
+-- `ls-files`, `clean`, `diff-files` and `check-ignore` have those that they know by name. `state` has those of `report`, whose lines stand behind its own, but no letters: its own lines have none
 abbrev pub takes : Verb → Opt → Bool
 takes Report opt = is_of_report opt
 takes Plan opt = takes_for_plan opt
@@ -137,6 +137,8 @@ takes Modules opt = is_of_modules opt
 takes State opt = is_of_report opt && not (is_letters opt)
 takes Files opt = true
 takes Clean opt = true
+takes Compare opt = true
+takes Check opt = true
 
 -- ---- values
 

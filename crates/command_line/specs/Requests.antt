@@ -8,7 +8,9 @@ use Rattle.git_clean.specs.declared.cleaning.Cleaning.{Cleaning}
 use Rattle.git_setup.specs.declared.asked.Asked.{Asked}
 use Rattle.ls_files.specs.declared.listing.Listing.{Listing}
 use Rattle.worktree_report.specs.declared.setup.SetupOptions.{SetupOptions}
+use Rattle.command_line.specs.declared.checking.CheckAsked.{CheckAsked}
 use Rattle.command_line.specs.declared.cleaning.Force.{Force}
+use Rattle.command_line.specs.declared.comparing.Comparing.{Comparing}
 use Rattle.command_line.specs.declared.command.Command as code
 use Rattle.command_line.specs.declared.command.Command.TheVariants as commands
 use Rattle.command_line.specs.declared.command.Request.{Request}
@@ -41,8 +43,10 @@ pub data Command : Type 0 where
   plan : Want → What → Finding → Form → Command
   modules : Want → Command
   state : Want → Form → Command
-  files : Want → Listing → Command
+  files : Want → Listing → List (List ℕ) → Command
   clean : Want → Cleaning → Force → List (List ℕ) → Command
+  compare : Want → Comparing → Command
+  check : Want → CheckAsked → Command
   help : Topic → Command
   version : Command
 
@@ -52,8 +56,10 @@ seen (commands.Report asked form) = report (want_of asked) form
 seen (commands.Plan asked what finding form) = plan (want_of asked) what finding form
 seen (commands.Modules asked) = modules (want_of asked)
 seen (commands.State asked form) = state (want_of asked) form
-seen (commands.Files asked listing) = files (want_of asked) listing
+seen (commands.Files asked wants) = files (want_of asked) wants.listing wants.patterns.items
 seen (commands.Clean asked wants) = clean (want_of asked) wants.cleaning wants.force wants.patterns.items
+seen (commands.Compare asked comparing) = compare (want_of asked) comparing
+seen (commands.Check asked checking) = check (want_of asked) checking
 seen (commands.Help topic) = help topic
 seen commands.Version = version
 
@@ -70,6 +76,8 @@ depth_in verbs.Modules depth = depth
 depth_in verbs.State depth = depth
 depth_in verbs.Files depth = 1000
 depth_in verbs.Clean depth = 1000
+depth_in verbs.Compare depth = 1000
+depth_in verbs.Check depth = 1000
 
 abbrev want_in : Verb → Draft → List (List ℕ) → Want
 want_in verb draft paths = record { options = draft.options; paths = paths; depth = depth_in verb draft.depth; prefers_current = prefers_current verb }
@@ -84,8 +92,10 @@ done verbs.Report draft paths patterns = report (want_in verbs.Report draft path
 done verbs.Plan draft paths patterns = plan (want_in verbs.Plan draft paths) draft.what draft.finding draft.form
 done verbs.Modules draft paths patterns = modules (want_in verbs.Modules draft paths)
 done verbs.State draft paths patterns = state (want_in verbs.State draft paths) draft.form
-done verbs.Files draft paths patterns = files (want_in verbs.Files draft paths) draft.listing
+done verbs.Files draft paths patterns = files (want_in verbs.Files draft paths) draft.listing patterns
 done verbs.Clean draft paths patterns = clean (want_in verbs.Clean draft paths) (cleaning_in draft.cleaning paths) draft.force patterns
+done verbs.Compare draft paths patterns = compare (want_in verbs.Compare draft paths) draft.comparing
+done verbs.Check draft paths patterns = check (want_in verbs.Check draft paths) draft.checking
 
 -- what a command is to do, by what its words say
 abbrev pub told : Verb → Draft → List (List ℕ) → List (List ℕ) → Command

@@ -9,6 +9,7 @@ use Rattle.dir_classify.specs.declared.options.EmissionMode.TheVariants.{Matchin
 use Rattle.dir_classify.specs.declared.options.ForDeletionMode.{ForDeletionMode}
 use Rattle.dir_walk.specs.declared.strategy.Strategy.TheVariants.{Held, AtOnce}
 use Rattle.worktree_report.specs.SetupDepth.{depth_of}
+use Rattle.command_line.specs.declared.choice.Choice.TheVariants as choices
 use Rattle.command_line.specs.declared.draft.Draft.{Draft}
 use Rattle.command_line.specs.declared.form.Color.TheVariants.{Auto, Always, Never}
 use Rattle.command_line.specs.declared.form.LineEnd.TheVariants.{Nul}
@@ -22,11 +23,13 @@ use Rattle.command_line.specs.declared.step.Step.{Step}
 use Rattle.command_line.specs.declared.step.Step.TheVariants.{Said, Path, Pattern, Wrong as is_wrong}
 use Rattle.command_line.specs.declared.verb.Verb.{Verb}
 use Rattle.command_line.specs.declared.verb.Verb.TheVariants as verbs
+use Rattle.command_line.specs.Checkings.{checking_opt_of, checking_opt_of_letter}
 use Rattle.command_line.specs.Choices.{listing_opt_of, listing_opt_of_letter}
+use Rattle.command_line.specs.Comparings.{comparing_opt_of, comparing_opt_of_letter}
 use Rattle.command_line.specs.Cleanings.{cleaning_opt_of, cleaning_opt_of_letter, is_line}
-use Rattle.command_line.specs.Drafts.{with_switch, with_untracked, with_ignored, with_collapsed, with_deletion, with_permissions, with_strategy, with_wording, with_end, with_color, with_what, with_finding, with_depth, with_choice, with_clean_choice, with_force, with_help}
+use Rattle.command_line.specs.Drafts.{with_switch, with_untracked, with_ignored, with_collapsed, with_deletion, with_permissions, with_strategy, with_wording, with_end, with_color, with_what, with_finding, with_depth, with_choice, with_clean_choice, with_force, with_compare_choice, with_check_choice, with_help}
 use Rattle.command_line.specs.Options.{opt_of, opt_of_letter, takes, emission_of, collapsed_of, deletion_of}
-use Rattle.command_line.specs.Verbs.{takes_paths}
+use Rattle.command_line.specs.Verbs.{needs_dashes, takes_paths}
 
 -- something more is said, and the next word may be anything
 abbrev pub on : Draft → Step
@@ -56,6 +59,9 @@ bare (opts.Drops choice) draft = on (with_choice choice false draft)
 bare (opts.Cleans choice is_on) draft = on (with_clean_choice choice is_on draft)
 bare (opts.Forces is_on) draft = on (with_force is_on draft)
 bare opts.Pattern draft = Said draft nexts.Pattern
+bare (opts.Compares choice is_on) draft = on (with_compare_choice choice is_on draft)
+bare (opts.Checks choice is_on) draft = on (with_check_choice choice is_on draft)
+bare opts.RulesFile draft = is_wrong wrongs.Left
 bare opts.Left draft = is_wrong wrongs.Left
 
 -- ---- values
@@ -120,6 +126,11 @@ depth_by value draft = depth_as (depth_of value) draft
 abbrev pub pattern_by : List ℕ → Draft → Step
 pattern_by value draft = if is_line value then Pattern draft (length value) else is_wrong wrongs.Pattern
 
+-- the name of the rules files of directories: `.gitignore`, or another, which is not answered here
+abbrev pub rules_file_by : List ℕ → Draft → Step
+rules_file_by value draft =
+    if bytes_eq value (codes ".gitignore") then on (with_choice choices.ExcludesDirectories true draft) else is_wrong wrongs.Left
+
 -- an option with a value
 abbrev pub valued : Opt → List ℕ → Draft → Step
 valued opts.Untracked value draft = untracked_by value draft
@@ -131,6 +142,7 @@ valued opts.Strategy value draft = strategy_by value draft
 valued opts.Depth value draft = depth_by value draft
 valued opts.Color value draft = color_by value draft
 valued opts.Pattern value draft = pattern_by value draft
+valued opts.RulesFile value draft = rules_file_by value draft
 valued opts.Left value draft = is_wrong wrongs.Left
 valued other value draft = is_wrong wrongs.TakesNoValue
 
@@ -145,6 +157,8 @@ if_taken verb (Some opt) = if takes verb opt then Some opt else None
 abbrev pub known : Verb → List ℕ → Option Opt
 known verbs.Files name = listing_opt_of name
 known verbs.Clean name = cleaning_opt_of name
+known verbs.Compare name = comparing_opt_of name
+known verbs.Check name = checking_opt_of name
 known verbs.Report name = if_taken verbs.Report (opt_of name)
 known verbs.Plan name = if_taken verbs.Plan (opt_of name)
 known verbs.Modules name = if_taken verbs.Modules (opt_of name)
@@ -178,6 +192,8 @@ long verb text draft = long_at verb text (position (λ b. b == 61) text) draft
 abbrev pub known_letter : Verb → ℕ → Option Opt
 known_letter verbs.Files letter = listing_opt_of_letter letter
 known_letter verbs.Clean letter = cleaning_opt_of_letter letter
+known_letter verbs.Compare letter = comparing_opt_of_letter letter
+known_letter verbs.Check letter = checking_opt_of_letter letter
 known_letter verbs.Report letter = if_taken verbs.Report (opt_of_letter letter)
 known_letter verbs.Plan letter = if_taken verbs.Plan (opt_of_letter letter)
 known_letter verbs.Modules letter = if_taken verbs.Modules (opt_of_letter letter)
@@ -232,6 +248,10 @@ letters verb (letter ∷ text) draft = by_letter (known_letter verb letter) lett
 abbrev pub path : Verb → Step
 path verb = if takes_paths verb then Path else is_wrong wrongs.Paths
 
+-- a word that is no option and stands before `--`
+abbrev pub undashed : Verb → Step
+undashed verb = if needs_dashes verb then is_wrong wrongs.Undashed else path verb
+
 -- what stands behind `--`
 abbrev pub twice_dashed : Verb → List ℕ → Draft → Step
 twice_dashed verb [] draft = Said draft nexts.Paths
@@ -239,14 +259,14 @@ twice_dashed verb (b ∷ text) draft = long verb (b ∷ text) draft
 
 -- what stands behind the first `-`
 abbrev pub dashed : Verb → List ℕ → Draft → Step
-dashed verb [] draft = path verb
+dashed verb [] draft = undashed verb
 dashed verb (b ∷ text) draft = if b == 45 then twice_dashed verb text draft else letters verb (b ∷ text) draft
 
 -- A word that may be an option: `--` ends the options, `--NAME` and `--NAME=VALUE` are one, `-LETTERS` some; a `-` alone, and what does
 -- not begin with one, is a path.
 abbrev pub any : Verb → List ℕ → Draft → Step
-any verb [] draft = path verb
-any verb (b ∷ text) draft = if b == 45 then dashed verb text draft else path verb
+any verb [] draft = undashed verb
+any verb (b ∷ text) draft = if b == 45 then dashed verb text draft else undashed verb
 
 -- what a word says, by what was said before it
 abbrev pub step_of : Verb → Next → List ℕ → Draft → Step

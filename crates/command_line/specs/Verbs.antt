@@ -2,7 +2,7 @@
 use Rattle.std.specs.Prelude.{ℕ, List, Bool, true, false, codes, Option, Some, None, if◌then◌else◌}
 use Rattle.std.specs.Str.{bytes_eq}
 use Rattle.command_line.specs.declared.verb.Verb.{Verb}
-use Rattle.command_line.specs.declared.verb.Verb.TheVariants.{Report, Plan, Modules, State, Files, Clean}
+use Rattle.command_line.specs.declared.verb.Verb.TheVariants.{Report, Plan, Modules, State, Files, Clean, Compare, Check}
 
 -- the command of this name
 abbrev pub verb_of : List ℕ → Option Verb
@@ -13,6 +13,8 @@ verb_of word =
     else if bytes_eq word (codes "state") then Some State
     else if bytes_eq word (codes "ls-files") then Some Files
     else if bytes_eq word (codes "clean") then Some Clean
+    else if bytes_eq word (codes "diff-files") then Some Compare
+    else if bytes_eq word (codes "check-ignore") then Some Check
     else None
 
 -- `modules` and `state` look at the whole of the work tree
@@ -23,6 +25,8 @@ takes_paths Modules = false
 takes_paths State = false
 takes_paths Files = true
 takes_paths Clean = true
+takes_paths Compare = true
+takes_paths Check = true
 
 -- git's own words mean the current directory where no path is asked for, and where each path excludes
 abbrev pub prefers_current : Verb → Bool
@@ -32,3 +36,16 @@ prefers_current Modules = false
 prefers_current State = false
 prefers_current Files = true
 prefers_current Clean = true
+prefers_current Compare = false
+prefers_current Check = false
+
+-- a word of `diff-files` that stands before `--` may be a revision
+abbrev pub needs_dashes : Verb → Bool
+needs_dashes Report = false
+needs_dashes Plan = false
+needs_dashes Modules = false
+needs_dashes State = false
+needs_dashes Files = false
+needs_dashes Clean = false
+needs_dashes Compare = true
+needs_dashes Check = false

@@ -15,7 +15,9 @@ pub enum Choice {
     Unmerged,
     /// What the index does not have.
     Others,
-    /// Of that what is ignored, alone.
+    /// What lies in the way of the index.
+    Killed,
+    /// Of what the index does not have what is ignored, alone.
     Ignored,
     /// Directories in place of what they hold.
     Directories,
@@ -23,6 +25,8 @@ pub enum Choice {
     EmptyDirectories,
     /// Ignore rules are asked.
     ExcludesStandard,
+    /// Those of each directory are.
+    ExcludesDirectories,
     /// A path spec that is about nothing is an error.
     ErrorUnmatch,
     /// A letter before each path.
@@ -49,6 +53,8 @@ fn choice_of(name: &[u8]) -> Option<Choice>
         Some(Choice::Unmerged)
     } else if name == b"others".as_slice() {
         Some(Choice::Others)
+    } else if name == b"killed".as_slice() {
+        Some(Choice::Killed)
     } else if name == b"ignored".as_slice() {
         Some(Choice::Ignored)
     } else if name == b"directory".as_slice() {
@@ -83,10 +89,7 @@ fn is_left_rule(name: &[u8]) -> bool
 {
     name == b"deleted".as_slice()
         || name == b"modified".as_slice()
-        || name == b"killed".as_slice()
-        || name == b"exclude".as_slice()
         || name == b"exclude-from".as_slice()
-        || name == b"exclude-per-directory".as_slice()
         || name == b"resolve-undo".as_slice()
 }
 
@@ -147,6 +150,19 @@ fn choosing(name: &[u8]) -> Option<Opt>
     }
 }
 
+/// The option of rules of this name, which has a value.
+fn rule_opt_of(name: &[u8]) -> Option<Opt>
+    ensures { result ≡ choices.rule_opt_of name.now }
+{
+    if name == b"exclude".as_slice() {
+        Some(Opt::Pattern)
+    } else if name == b"exclude-per-directory".as_slice() {
+        Some(Opt::RulesFile)
+    } else {
+        None
+    }
+}
+
 /// The option of `ls-files` of this name, which stands behind `--`. None where there is none.
 #[tactic(auto, unfolding(crate::specs::Choices::listing_opt_of))]
 pub fn listing_opt_of(name: &[u8]) -> Option<Opt>
@@ -158,7 +174,10 @@ pub fn listing_opt_of(name: &[u8]) -> Option<Opt>
     if is_left(name) {
         return Some(Opt::Left);
     }
-    choosing(name)
+    match rule_opt_of(name) {
+        Some(opt) => Some(opt),
+        None => choosing(name),
+    }
 }
 
 /// The choice of this letter.
@@ -173,6 +192,8 @@ fn choice_of_letter(letter: u8) -> Option<Choice>
         Some(Choice::Unmerged)
     } else if letter == b'o' {
         Some(Choice::Others)
+    } else if letter == b'k' {
+        Some(Choice::Killed)
     } else if letter == b'i' {
         Some(Choice::Ignored)
     } else if letter == b't' {
@@ -190,12 +211,7 @@ fn choice_of_letter(letter: u8) -> Option<Choice>
 fn is_left_letter(letter: u8) -> bool
     ensures { result ≡ choices.is_left_letter letter }
 {
-    letter == b'd'
-        || letter == b'm'
-        || letter == b'k'
-        || letter == b'x'
-        || letter == b'X'
-        || letter == b'f'
+    letter == b'd' || letter == b'm' || letter == b'X' || letter == b'f'
 }
 
 /// The option of `ls-files` of this letter, which stands behind `-`. None where there is none.
@@ -204,6 +220,9 @@ pub fn listing_opt_of_letter(letter: u8) -> Option<Opt>
 {
     if letter == b'h' {
         return Some(Opt::Help);
+    }
+    if letter == b'x' {
+        return Some(Opt::Pattern);
     }
     if is_left_letter(letter) {
         return Some(Opt::Left);

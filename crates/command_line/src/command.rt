@@ -1,5 +1,7 @@
 //! What the words ask for.
+use crate::checking::CheckAsked;
 use crate::cleaning::Force;
+use crate::comparing::Comparing;
 use crate::form::Form;
 use crate::verb::Topic;
 use clean_plan::{Finding, What};
@@ -18,6 +20,16 @@ pub struct CleanAsked {
     pub force: Force,
     /// The rules before all others. Each can stand as a line of a rules file, a `#` in front apart:
     /// no line feed is in it, and no blank and no carriage return at its end.
+    pub patterns: Vec<Bytes>,
+}
+
+/// What is asked of a listing.
+#[derive(Debug, Drop)]
+pub struct FilesAsked {
+    /// What is listed. Whether there are patterns is left to `patterns`, and whether bytes above 0x7f
+    /// are quoted to the configuration.
+    pub listing: Listing,
+    /// The rules before all others, as those of a cleaning.
     pub patterns: Vec<Bytes>,
 }
 
@@ -58,8 +70,8 @@ pub enum Command {
     Files {
         /// What is asked of the work tree.
         asked: Asked,
-        /// What is listed. Whether bytes above 0x7f are quoted is left to the configuration.
-        listing: Listing,
+        /// What is asked of the listing.
+        files: FilesAsked,
     },
     /// What `git clean` would remove is named.
     Clean {
@@ -67,6 +79,20 @@ pub enum Command {
         asked: Asked,
         /// What is asked of the cleaning.
         clean: CleanAsked,
+    },
+    /// How the paths of the index changed is written, as `git diff-files` does.
+    Compare {
+        /// What is asked of the work tree.
+        asked: Asked,
+        /// What is asked of the comparison.
+        comparing: Comparing,
+    },
+    /// The paths that an ignore rule excludes are written, as `git check-ignore` does.
+    Check {
+        /// What is asked of the work tree.
+        asked: Asked,
+        /// What is asked of the check.
+        checking: CheckAsked,
     },
     /// A help text is written.
     Help(Topic),

@@ -2,8 +2,10 @@
 ghost use Rattle.std.specs.Prelude.{◌≡◌, Option};
 ghost use Rattle.command_line.specs.Drafts as drafts;
 
+use crate::checking::{CheckAsked, CheckChoice, default_checking, told_of};
 use crate::choice::Choice;
 use crate::cleaning::{CleanChoice, Force};
+use crate::comparing::{CompareChoice, Comparing, default_comparing, told_apart};
 use crate::form::{Color, Form, LineEnd, Wording};
 use crate::opt::Switch;
 use clean_plan::{Finding, What};
@@ -33,6 +35,10 @@ pub struct Draft {
     pub listing: Listing,
     /// What is asked of `clean`.
     pub cleaning: Cleaning,
+    /// What is asked of `diff-files`.
+    pub comparing: Comparing,
+    /// What is asked of `check-ignore`.
+    pub checking: CheckAsked,
     /// How often it is to go by force.
     pub force: Force,
     /// Whether the help text is asked for.
@@ -76,10 +82,13 @@ fn default_listing() -> Listing
         stages: false,
         unmerged: false,
         others: false,
+        killed: false,
         ignored: false,
         directories: false,
         empty_directories: true,
         excludes_standard: false,
+        excludes_directories: false,
+        patterns: false,
         error_unmatch: false,
         tags: false,
         valid: false,
@@ -122,6 +131,8 @@ pub fn default_draft() -> Draft
         },
         listing: default_listing(),
         cleaning: default_cleaning(),
+        comparing: default_comparing(),
+        checking: default_checking(),
         force: Force::Unsaid,
         is_help: false,
     }
@@ -161,10 +172,12 @@ fn chosen(listing: Listing, choice: Choice, on: bool) -> Listing
         Choice::Stages => listing.stages = on,
         Choice::Unmerged => listing.unmerged = on,
         Choice::Others => listing.others = on,
+        Choice::Killed => listing.killed = on,
         Choice::Ignored => listing.ignored = on,
         Choice::Directories => listing.directories = on,
         Choice::EmptyDirectories => listing.empty_directories = on,
         Choice::ExcludesStandard => listing.excludes_standard = on,
+        Choice::ExcludesDirectories => listing.excludes_directories = on,
         Choice::ErrorUnmatch => listing.error_unmatch = on,
         Choice::Tags => listing.tags = on,
         Choice::Valid => listing.valid = on,
@@ -341,6 +354,22 @@ impl Draft {
     {
         let mut draft = self;
         draft.force = draft.force.with(on);
+        draft
+    }
+
+    pub fn with_compare_choice(self, choice: CompareChoice, on: bool) -> Draft
+        ensures { result ≡ drafts.with_compare_choice choice on self }
+    {
+        let mut draft = self;
+        draft.comparing = told_apart(draft.comparing, choice, on);
+        draft
+    }
+
+    pub fn with_check_choice(self, choice: CheckChoice, on: bool) -> Draft
+        ensures { result ≡ drafts.with_check_choice choice on self }
+    {
+        let mut draft = self;
+        draft.checking = told_of(draft.checking, choice, on);
         draft
     }
 

@@ -2,10 +2,12 @@
 ghost use Rattle.std.specs.Prelude.{◌≡◌};
 ghost use Rattle.command_line.specs.Helps as helps;
 
+use crate::check_help::check_help;
+use crate::compare_help::compare_help;
 use crate::verb::{Topic, Verb};
 
 const WHOLE: &[u8] =
-    b"usage: tizhagor [-C DIR] report|plan|modules|state|ls-files|clean [OPTION..] [--] [PATH..]
+    b"usage: tizhagor [-C DIR] report|plan|modules|state|ls-files|clean|diff-files|check-ignore [OPTION..] [--] [PATH..]
 
 Says what lies in the git work tree around the current directory. Nothing is run,
 changed or removed, and git is not needed.
@@ -16,6 +18,10 @@ changed or removed, and git is not needed.
   state     the paths of the index that are not as it has them, and the report
   ls-files  paths of the index and of the work tree, as git ls-files has them
   clean     with -n: what git clean would remove, as git clean -n has it
+  diff-files
+            how the paths of the index changed, as git diff-files has it
+  check-ignore
+            the paths that an ignore rule excludes, as git check-ignore has it
 
   -C DIR        works in DIR
   -h, --help    this text; behind a command, that of the command
@@ -45,7 +51,7 @@ What is shown
                         or isolated, which is that of the repository alone
   --outcome             a last line with the counts of the walk
 How it is looked at
-  --no-excludes         no ignore rules
+  --no-excludes         no ignore rule counts, though the files are read
   --precious            an ignore rule that begins with $ keeps what it matches
   --no-strict-parents   rules may take up again what lies in an excluded directory
   --recurse-repositories
@@ -65,12 +71,12 @@ How it is written
                         lines in the colour of their status: auto, always, never
   -h, --help            this text
 
-Of options that say the same the last counts; --no- before the name of one without
-a value turns it off, but for --null, --plain and --help. For example:
+Of options that say the same the last counts; --no- before the name of one that
+takes no value turns it off, but for --null, --plain and --help. For example:
 tizhagor report --ignored -z src
 ";
 
-const PLAN: &[u8] = b"usage: tizhagor [-C DIR] plan [OPTION..] [--] [PATH..]
+const PLAN: &[u8] = b"usage: tizhagor plan [OPTION..] [--] [PATH..]
 
 Writes the paths that may be removed, as git clean -n -d names them, one a line. It is
 called at the top of the work tree, from where the paths lead. Nothing is removed. No
@@ -80,7 +86,7 @@ path of the index goes, no repository whose git directory is whole (bare ones go
   -x                    ignored paths too
   -X                    ignored paths alone
   --nonbare             bare repositories are directories like any other
-  --no-excludes         no ignore rules
+  --no-excludes         no ignore rule counts, though the files are read
   --precious            an ignore rule that begins with $ keeps what it matches
   --no-strict-parents   rules may take up again what lies in an excluded directory
   --links-as-directories
@@ -90,8 +96,8 @@ path of the index goes, no repository whose git directory is whole (bare ones go
   -z, --null            a NUL behind each path, which stands as it is
   -h, --help            this text
 
-Of options that say the same the last counts; --no- before the name of one without
-a value turns it off, but for --nonbare, --null and --help. For example:
+Of options that say the same the last counts; --no- before the name of one that
+takes no value turns it off, but for --nonbare, --null and --help. For example:
 tizhagor plan -xz | xargs -0 -r ls -d --
 ";
 
@@ -128,7 +134,7 @@ What is shown
                         or isolated, which is that of the repository alone
   --outcome             a last line with the counts of the walk
 How it is looked at
-  --no-excludes         no ignore rules
+  --no-excludes         no ignore rule counts, though the files are read
   --precious            an ignore rule that begins with $ keeps what it matches
   --no-strict-parents   rules may take up again what lies in an excluded directory
   --recurse-repositories
@@ -146,8 +152,8 @@ How it is written
                         lines in the colour of their status: auto, always, never
   -h, --help            this text
 
-Of options that say the same the last counts; --no- before the name of one without
-a value turns it off, but for --null and --help. For example:
+Of options that say the same the last counts; --no- before the name of one that
+takes no value turns it off, but for --null and --help. For example:
 tizhagor state --ignored
 ";
 
@@ -160,13 +166,18 @@ those that OPTION chooses. A PATH is a path spec; none means the current directo
   -s, --stage           the same with mode, object and stage
   -u, --unmerged        the same of paths that are not merged, alone
   -o, --others          what the index does not have
-  -i, --ignored         of that, what is ignored, alone; with --exclude-standard
+  -k, --killed          what lies in the way of the index
+  -i, --ignored         of what the index lacks, what is ignored, alone; with
+                        --exclude-standard
   --exclude-standard    ignore rules are asked: .gitignore, info/exclude, and the
                         excludes file of the user
+  --exclude-per-directory=.gitignore
+                        of these rules those of each directory
+  -x, --exclude=PATTERN  a rule before all others; beside one of the two above
   --directory           a directory in place of what it holds, where the index has
                         nothing in it
   --no-empty-directory  no directories without files
-  -t                    a letter before each path: H, S, M, or ? for -o
+  -t                    a letter before each path: H, S, M, ? for -o, or K for -k
   -v                    the same, in lower case where a file is assumed unchanged
   -z                    a NUL behind each path, which stands as it is
   --deduplicate         each path of the index once
@@ -178,7 +189,7 @@ Of options that say the same the last counts; --no- before a name turns it off, 
 for --exclude-standard and --full-name. For example: tizhagor ls-files -o --directory
 ";
 
-const CLEAN: &[u8] = b"usage: tizhagor [-C DIR] clean -n [OPTION..] [--] [PATH..]
+const CLEAN: &[u8] = b"usage: tizhagor clean -n [OPTION..] [--] [PATH..]
 
 Names what git clean would remove, as git clean -n does, from the current directory.
 Nothing is removed, so -n has to stand. A PATH is a path spec; none means the current
@@ -186,7 +197,7 @@ directory.
 
   -n, --dry-run         nothing is removed
   -d                    untracked directories too; so it is wherever a PATH stands
-  -x                    ignored paths too: no ignore rules are asked
+  -x                    ignored paths too: no ignore rule counts
   -X                    ignored paths alone
   -e PATTERN, --exclude=PATTERN
                         an ignore rule before all others
@@ -245,13 +256,15 @@ pub fn usage_of(topic: Topic) -> &'static [u8]
 {
     match topic {
         Topic::Whole =>
-            b"usage: tizhagor [-C DIR] report|plan|modules|state|ls-files|clean [OPTION..] [--] [PATH..]\n",
+            b"usage: tizhagor [-C DIR] report|plan|modules|state|ls-files|clean|diff-files|check-ignore [OPTION..] [--] [PATH..]\n",
         Topic::Of(Verb::Report) => b"usage: tizhagor [-C DIR] report [OPTION..] [--] [PATH..]\n",
-        Topic::Of(Verb::Plan) => b"usage: tizhagor [-C DIR] plan [OPTION..] [--] [PATH..]\n",
+        Topic::Of(Verb::Plan) => b"usage: tizhagor plan [OPTION..] [--] [PATH..]\n",
         Topic::Of(Verb::Modules) => b"usage: tizhagor [-C DIR] modules [OPTION..]\n",
         Topic::Of(Verb::State) => b"usage: tizhagor [-C DIR] state [OPTION..]\n",
         Topic::Of(Verb::Files) => b"usage: tizhagor [-C DIR] ls-files [OPTION..] [--] [PATH..]\n",
-        Topic::Of(Verb::Clean) => b"usage: tizhagor [-C DIR] clean -n [OPTION..] [--] [PATH..]\n",
+        Topic::Of(Verb::Clean) => b"usage: tizhagor clean -n [OPTION..] [--] [PATH..]\n",
+        Topic::Of(Verb::Compare) => b"usage: tizhagor [-C DIR] diff-files [OPTION..] [-- PATH..]\n",
+        Topic::Of(Verb::Check) => b"usage: tizhagor [-C DIR] check-ignore [OPTION..] [--] PATH..\n",
     }
 }
 
@@ -267,6 +280,8 @@ pub fn help_of(topic: Topic) -> &'static [u8]
         Topic::Of(Verb::State) => state_help(),
         Topic::Of(Verb::Files) => files_help(),
         Topic::Of(Verb::Clean) => clean_help(),
+        Topic::Of(Verb::Compare) => compare_help(),
+        Topic::Of(Verb::Check) => check_help(),
     }
 }
 

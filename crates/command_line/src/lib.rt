@@ -1,9 +1,13 @@
 //! The command line of `tizhagor`: what its words ask for, how answers are written, and what is said of words that ask for nothing.
 #![tactic(auto)]
 
+mod check_help;
+mod checking;
 mod choice;
 mod cleaning;
 mod command;
+mod compare_help;
+mod comparing;
 mod depth;
 mod draft;
 mod form;
@@ -18,8 +22,10 @@ mod step;
 mod unspelled;
 mod verb;
 
+pub use checking::CheckAsked;
 pub use cleaning::Force;
-pub use command::{CleanAsked, Command, Request};
+pub use command::{CleanAsked, Command, FilesAsked, Request};
+pub use comparing::Comparing;
 pub use form::{Color, Form, LineEnd, Style, Wording, styled};
 pub use help::{help_of, version};
 pub use misuse::{Misuse, Wrong, said};

@@ -37,6 +37,8 @@ pub enum Wrong {
     Paths,
     /// The pattern cannot stand as a line of a rules file.
     Pattern,
+    /// The word stands before `--`, and may be a revision.
+    Undashed,
     /// The option is git's, and is not answered here.
     Left,
     /// The option of this letter is git's, and is not answered here.
@@ -90,7 +92,7 @@ fn front_of(wrong: Wrong) -> &'static [u8]
         | Wrong::SecondDirectory
         | Wrong::Left => b"error: option `",
         Wrong::LeftSwitch { letter: _ } => b"error: switch `",
-        Wrong::NotADepth | Wrong::Paths => b"error: `",
+        Wrong::NotADepth | Wrong::Paths | Wrong::Undashed => b"error: `",
         Wrong::Pattern => b"error: the pattern in `",
     }
 }
@@ -108,6 +110,7 @@ fn back_of(wrong: Wrong) -> &'static [u8]
         Wrong::NotADepth => b"' is no depth, which is a number from 0 to 1000\n",
         Wrong::SecondDirectory => b"' stands more than once\n",
         Wrong::Paths => b"' is a path, and this command takes none\n",
+        Wrong::Undashed => b"' may be a revision; write `--' before paths\n",
         Wrong::Pattern => b"' has a line feed, or a blank or carriage return at its end\n",
         Wrong::Left | Wrong::LeftSwitch { letter: _ } => {
             b"' is git's, and is not answered here\n"

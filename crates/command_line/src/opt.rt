@@ -2,8 +2,10 @@
 ghost use Rattle.std.specs.Prelude.{◌≡◌};
 ghost use Rattle.command_line.specs.Options as options;
 
+use crate::checking::CheckChoice;
 use crate::choice::Choice;
 use crate::cleaning::CleanChoice;
+use crate::comparing::CompareChoice;
 use crate::verb::Verb;
 use dir_classify::{CollapsedEntriesEmissionMode, EmissionMode, ForDeletionMode};
 
@@ -81,8 +83,14 @@ pub enum Opt {
     Cleans(CleanChoice, bool),
     /// `-f` of `clean` once more, or not at all.
     Forces(bool),
-    /// A rule of `clean` before all others.
+    /// A rule of `clean` or `ls-files` before all others.
     Pattern,
+    /// The name of the rules files of directories.
+    RulesFile,
+    /// Makes a choice of `diff-files`, or drops it.
+    Compares(CompareChoice, bool),
+    /// Makes a choice of `check-ignore`, or drops it.
+    Checks(CheckChoice, bool),
     /// It is git's, and is not answered here.
     Left,
 }
@@ -280,7 +288,7 @@ pub fn takes(verb: Verb, opt: Opt) -> bool
         Verb::Plan => takes_for_plan(opt),
         Verb::Modules => matches!(opt, Opt::Permissions | Opt::Help),
         Verb::State => is_of_report(opt) & !matches!(opt, Opt::Plain),
-        Verb::Files | Verb::Clean => true,
+        Verb::Files | Verb::Clean | Verb::Compare | Verb::Check => true,
     }
 }
 

@@ -2,7 +2,7 @@
 ghost use Rattle.std.specs.Prelude.{◌≡◌};
 ghost use Rattle.command_line.specs.Requests as requests;
 
-use crate::command::{CleanAsked, Command, Request};
+use crate::command::{CleanAsked, Command, FilesAsked, Request};
 use crate::draft::Draft;
 use crate::misuse::{Misuse, Wrong};
 use crate::read::{Read, read_words};
@@ -21,7 +21,7 @@ fn depth_in(verb: Verb, depth: usize) -> usize
 {
     match verb {
         Verb::Report | Verb::Plan | Verb::Modules | Verb::State => depth,
-        Verb::Files | Verb::Clean => DEEPEST,
+        Verb::Files | Verb::Clean | Verb::Compare | Verb::Check => DEEPEST,
     }
 }
 
@@ -66,7 +66,10 @@ fn told(verb: Verb, draft: Draft, paths: Vec<Bytes>, patterns: Vec<Bytes>) -> Co
         Verb::State => Command::State { asked, form },
         Verb::Files => Command::Files {
             asked,
-            listing: draft.listing,
+            files: FilesAsked {
+                listing: draft.listing,
+                patterns,
+            },
         },
         Verb::Clean => Command::Clean {
             asked,
@@ -75,6 +78,14 @@ fn told(verb: Verb, draft: Draft, paths: Vec<Bytes>, patterns: Vec<Bytes>) -> Co
                 force: draft.force,
                 patterns,
             },
+        },
+        Verb::Compare => Command::Compare {
+            asked,
+            comparing: draft.comparing,
+        },
+        Verb::Check => Command::Check {
+            asked,
+            checking: draft.checking,
         },
     }
 }

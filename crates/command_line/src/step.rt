@@ -2,14 +2,16 @@
 ghost use Rattle.std.specs.Prelude.{◌≡◌, ◌<◌, ◌==◌, length, position, IfSome};
 ghost use Rattle.command_line.specs.Steps as steps;
 
-use crate::choice::{listing_opt_of, listing_opt_of_letter};
+use crate::checking::{checking_opt_of, checking_opt_of_letter};
+use crate::choice::{Choice, listing_opt_of, listing_opt_of_letter};
 use crate::cleaning::{cleaning_opt_of, cleaning_opt_of_letter, is_line};
+use crate::comparing::{comparing_opt_of, comparing_opt_of_letter};
 use crate::depth::depth_of;
 use crate::draft::Draft;
 use crate::form::{Color, LineEnd, Wording};
 use crate::misuse::Wrong;
 use crate::opt::{Opt, collapsed_of, deletion_of, emission_of, opt_of, opt_of_letter, takes};
-use crate::verb::{Verb, takes_paths};
+use crate::verb::{Verb, needs_dashes, takes_paths};
 use clean_plan::{Finding, What};
 use dir_classify::EmissionMode;
 use worktree_report::Strategy;
@@ -72,6 +74,9 @@ fn bare(opt: Opt, draft: Draft) -> Step
         Opt::Cleans(choice, is_on) => on(draft.with_clean_choice(choice, is_on)),
         Opt::Forces(is_on) => on(draft.with_force(is_on)),
         Opt::Pattern => Step::Said(draft, Next::Pattern),
+        Opt::Compares(choice, is_on) => on(draft.with_compare_choice(choice, is_on)),
+        Opt::Checks(choice, is_on) => on(draft.with_check_choice(choice, is_on)),
+        Opt::RulesFile => Step::Wrong(Wrong::Left),
         Opt::Left => Step::Wrong(Wrong::Left),
     }
 }
@@ -180,6 +185,17 @@ fn pattern_by(value: &[u8], draft: Draft) -> Step
     }
 }
 
+/// The name of the rules files of directories: `.gitignore`, or another, which is not answered here.
+fn rules_file_by(value: &[u8], draft: Draft) -> Step
+    ensures { result ≡ steps.rules_file_by value.now draft }
+{
+    if value == b".gitignore".as_slice() {
+        on(draft.with_choice(Choice::ExcludesDirectories, true))
+    } else {
+        Step::Wrong(Wrong::Left)
+    }
+}
+
 /// An option with a value.
 fn valued(opt: Opt, value: &[u8], draft: Draft) -> Step
     ensures { result ≡ steps.valued opt value.now draft }
@@ -194,6 +210,7 @@ fn valued(opt: Opt, value: &[u8], draft: Draft) -> Step
         Opt::Depth => depth_by(value, draft),
         Opt::Color => color_by(value, draft),
         Opt::Pattern => pattern_by(value, draft),
+        Opt::RulesFile => rules_file_by(value, draft),
         Opt::Left => Step::Wrong(Wrong::Left),
         _ => Step::Wrong(Wrong::TakesNoValue),
     }
@@ -216,6 +233,8 @@ fn known(verb: Verb, name: &[u8]) -> Option<Opt>
     match verb {
         Verb::Files => listing_opt_of(name),
         Verb::Clean => cleaning_opt_of(name),
+        Verb::Compare => comparing_opt_of(name),
+        Verb::Check => checking_opt_of(name),
         Verb::Report | Verb::Plan | Verb::Modules | Verb::State => { if_taken(verb, opt_of(name)) }
     }
 }
@@ -269,6 +288,8 @@ fn known_letter(verb: Verb, letter: u8) -> Option<Opt>
     match verb {
         Verb::Files => listing_opt_of_letter(letter),
         Verb::Clean => cleaning_opt_of_letter(letter),
+        Verb::Compare => comparing_opt_of_letter(letter),
+        Verb::Check => checking_opt_of_letter(letter),
         Verb::Report | Verb::Plan | Verb::Modules | Verb::State => {
             if_taken(verb, opt_of_letter(letter))
         }
@@ -363,6 +384,16 @@ fn path(verb: Verb) -> Step
     }
 }
 
+/// A word that is no option and stands before `--`.
+fn undashed(verb: Verb) -> Step
+    ensures { result ≡ steps.undashed verb }
+{
+    if needs_dashes(verb) {
+        return Step::Wrong(Wrong::Undashed);
+    }
+    path(verb)
+}
+
 /// What stands behind `--`: nothing, or a name.
 fn twice_dashed(verb: Verb, text: &[u8], draft: Draft) -> Step
     ensures { result ≡ steps.twice_dashed verb text.now draft }
@@ -378,7 +409,7 @@ fn dashed(verb: Verb, text: &[u8], draft: Draft) -> Step
     ensures { result ≡ steps.dashed verb text.now draft }
 {
     match text {
-        [] => path(verb),
+        [] => undashed(verb),
         [b'-', rest @ ..] => twice_dashed(verb, rest, draft),
         _ => letters(verb, text, draft),
     }
@@ -390,7 +421,7 @@ fn any(verb: Verb, word: &[u8], draft: Draft) -> Step
 {
     match word {
         [b'-', text @ ..] => dashed(verb, text, draft),
-        _ => path(verb),
+        _ => undashed(verb),
     }
 }
 

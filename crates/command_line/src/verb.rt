@@ -17,6 +17,10 @@ pub enum Verb {
     Files,
     /// What `git clean` would remove.
     Clean,
+    /// How the paths of the index changed in the work tree, as `git diff-files` has it.
+    Compare,
+    /// The paths that an ignore rule excludes, as `git check-ignore` has it.
+    Check,
 }
 
 /// What a help text or a usage line is about.
@@ -44,6 +48,10 @@ pub(crate) fn verb_of(word: &[u8]) -> Option<Verb>
         Some(Verb::Files)
     } else if word == b"clean".as_slice() {
         Some(Verb::Clean)
+    } else if word == b"diff-files".as_slice() {
+        Some(Verb::Compare)
+    } else if word == b"check-ignore".as_slice() {
+        Some(Verb::Check)
     } else {
         None
     }
@@ -54,7 +62,7 @@ pub(crate) fn takes_paths(verb: Verb) -> bool
     ensures { result ≡ verbs.takes_paths verb }
 {
     match verb {
-        Verb::Report | Verb::Plan | Verb::Files | Verb::Clean => true,
+        Verb::Report | Verb::Plan | Verb::Files | Verb::Clean | Verb::Compare | Verb::Check => true,
         Verb::Modules | Verb::State => false,
     }
 }
@@ -64,4 +72,11 @@ pub(crate) fn prefers_current(verb: Verb) -> bool
     ensures { result ≡ verbs.prefers_current verb }
 {
     matches!(verb, Verb::Files | Verb::Clean)
+}
+
+/// Whether paths stand behind `--` alone: a word before it may be a revision.
+pub(crate) fn needs_dashes(verb: Verb) -> bool
+    ensures { result ≡ verbs.needs_dashes verb }
+{
+    matches!(verb, Verb::Compare)
 }

@@ -9,7 +9,7 @@ const REPORT: &[u8] =
 --links-as-directories,--for-deletion,--strategy,--depth,-z, --null,--plain,--color,--no-color,-h, --help";
 
 const FILES: &[u8] =
-    b"-c, --cached,-s, --stage,-u, --unmerged,-o, --others,-i, --ignored,--exclude-standard,--directory,--no-empty-directory,\
+    b"-c, --cached,-s, --stage,-u, --unmerged,-o, --others,-k, --killed,-i, --ignored,--exclude-standard,--directory,--no-empty-directory,\
   -t ,  -v ,  -z ,--deduplicate,--full-name,--error-unmatch,-h, --help";
 
 fn names_all(topic: Topic, names: &[u8]) -> bool {
@@ -35,7 +35,7 @@ fn help_texts_name_the_options(rt: HostRuntime) {
     );
     let whole = names_all(
         Topic::Whole,
-        b"-C DIR,report,plan,modules,state,ls-files,clean,--version",
+        b"-C DIR,report,plan,modules,state,ls-files,clean,diff-files,check-ignore,--version",
     );
     assert!(rt; report & plan & modules & state & files & clean & whole);
 }

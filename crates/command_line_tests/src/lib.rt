@@ -3,6 +3,10 @@
 #![tactic(auto)]
 
 #[cfg(test)]
+mod checking;
+#[cfg(test)]
+mod comparing;
+#[cfg(test)]
 mod helps;
 #[cfg(test)]
 mod lines;

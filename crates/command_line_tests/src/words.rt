@@ -51,6 +51,11 @@ state,--ignored,-z>state;ignored;nul\n\
 ls-files>files;index;current;depth 1000;no path;from here\n\
 ls-files,-oz,--exclude-standard>others;ended;rules\n\
 ls-files,--others,--no-others,a>not others;path a\n\
+ls-files,-oxa>others;pattern a;not rules\n\
+ls-files,-o,--exclude=a b,--exclude-per-directory=.gitignore>pattern a b;rules of directories;not rules\n\
+ls-files,-o,-x,-c,--exclude-standard>pattern -c;rules\n\
+ls-files,-k>killed;not others\n\
+ls-files,--killed,-o,--no-others>killed;not others\n\
 ls-files,--no-empty-directory,--directory>directories\n\
 ls-files,--full-name,--,-o>not others;from the top;path -o\n\
 ls-files,-sh>help files\n\
@@ -97,7 +102,9 @@ modules,-z>error: unknown switch `z'\n\
 modules,a>error: `a' is a path, and this command takes none\n\
 ls-files,-od>error: switch `d' is git's, and is not answered here\n\
 ls-files,--eol>error: option `--eol' is git's, and is not answered here\n\
-ls-files,--exclude=a>error: option `--exclude=a' is git's, and is not answered here\n\
+ls-files,--exclude-per-directory=a>error: option `--exclude-per-directory=a' is git's, and is not answered here\n\
+ls-files,--exclude-from=a>error: option `--exclude-from=a' is git's, and is not answered here\n\
+ls-files,-o,-x>error: option `--exclude' requires a value\n\
 ls-files,-q>error: unknown switch `q'\n\
 ls-files,--no-full-name>error: unknown option `--no-full-name'\n\
 ls-files,--cached=1>error: option `--cached=1' takes no value\n\
@@ -267,10 +274,16 @@ fn is_listing(listing: &Listing, want: &[u8]) -> bool {
         listing.others
     } else if want == b"not others".as_slice() {
         !listing.others
+    } else if want == b"killed".as_slice() {
+        listing.killed
     } else if want == b"ended".as_slice() {
         listing.ends_in_nul
     } else if want == b"rules".as_slice() {
         listing.excludes_standard
+    } else if want == b"not rules".as_slice() {
+        !listing.excludes_standard
+    } else if want == b"rules of directories".as_slice() {
+        listing.excludes_directories
     } else if want == b"directories".as_slice() {
         listing.directories && !listing.empty_directories
     } else if want == b"from here".as_slice() {
@@ -354,8 +367,11 @@ fn is_command(command: &Command, want: &[u8]) -> bool {
         Command::State { asked, form } => {
             want == b"state".as_slice() || is_asked(asked, want) || is_form(*form, want)
         }
-        Command::Files { asked, listing } => {
-            want == b"files".as_slice() || is_asked(asked, want) || is_listing(listing, want)
+        Command::Files { asked, files } => {
+            want == b"files".as_slice()
+                || is_asked(asked, want)
+                || is_listing(&files.listing, want)
+                || is_pattern(&files.patterns, want)
         }
         Command::Clean { asked, clean } => {
             is_asked(asked, want)
@@ -363,6 +379,8 @@ fn is_command(command: &Command, want: &[u8]) -> bool {
                 || is_forced(clean.force, want)
                 || is_pattern(&clean.patterns, want)
         }
+        Command::Compare { .. } => false,
+        Command::Check { .. } => false,
         Command::Help(topic) => is_help(*topic, want),
         Command::Version => want == b"version".as_slice(),
     }
@@ -410,7 +428,7 @@ fn is_said(alloc: Global, misuse: &Misuse, want: &[u8]) -> bool {
     match said(alloc, misuse) {
         Ok(text) => {
             let (line, usage) = text.as_bytes().split_once_str(b"\n").unwrap_or((b"", b""));
-            line == want && usage.starts_with(b"usage: tizhagor [-C DIR] ")
+            line == want && usage.starts_with(b"usage: tizhagor ")
         }
         Err(_) => false,
     }

@@ -7,9 +7,18 @@ use Rattle.ls_files.specs.declared.listing.Listing.{Listing}
 abbrev pub shows_stages : Listing → Bool
 shows_stages l = l.stages || l.unmerged
 
+-- what stands in the work tree is shown, so a report is made
+abbrev pub walks : Listing → Bool
+walks l = l.others || l.killed
+
+-- the ignore rules of each directory are asked: "--exclude-standard: Add the standard Git exclusions", "--exclude-per-directory=<file>: Read
+-- additional exclude patterns that apply only to the directory and its subdirectories in <file>", which is `.gitignore` here
+abbrev pub asks_rules : Listing → Bool
+asks_rules l = l.excludes_standard || l.excludes_directories
+
 -- "-c: Show all files cached in Git's index (This is the default if no -c/-s/-d/-o/-u/-k/-m/--resolve-undo options are specified.)"
 abbrev pub is_default : Listing → Bool
-is_default l = not (shows_stages l || l.others)
+is_default l = not (shows_stages l || walks l)
 
 abbrev pub shows_index : Listing → Bool
 shows_index l = l.cached || (shows_stages l || is_default l)

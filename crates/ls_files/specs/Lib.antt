@@ -3,6 +3,7 @@ pub mod Lines
 pub mod Cached
 pub mod Places
 pub mod Others
+pub mod Killed
 pub mod Unmatched
 pub mod Walking
 pub mod Listed

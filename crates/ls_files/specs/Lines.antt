@@ -72,3 +72,7 @@ entry_line l prefix e = tag l (letter_shown l e) ++ stages_if l e ++ name_text l
 -- of what the index does not have: `?`, and the path
 abbrev pub other_line : Listing → List ℕ → List ℕ → List ℕ
 other_line l prefix path = tag l 63 ++ name_text l prefix path
+
+-- of what lies in its way: `K`, and the path
+abbrev pub killed_line : Listing → List ℕ → List ℕ → List ℕ
+killed_line l prefix path = tag l 75 ++ name_text l prefix path

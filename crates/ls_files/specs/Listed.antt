@@ -21,7 +21,8 @@ use Rattle.ls_files.specs.declared.listed.Listed.{Listed}
 use Rattle.ls_files.specs.declared.listing.Listing.{Listing}
 use Rattle.ls_files.specs.declared.listing.NamedSpec.{NamedSpec}
 use Rattle.ls_files.specs.Cached.{index_text}
-use Rattle.ls_files.specs.Choices.{chosen}
+use Rattle.ls_files.specs.Choices.{chosen, walks}
+use Rattle.ls_files.specs.Killed.{killed, killed_text}
 use Rattle.ls_files.specs.Others.{others, others_text}
 use Rattle.ls_files.specs.Unmatched.{complaint, places_of}
 
@@ -31,20 +32,26 @@ use Rattle.ls_files.specs.Unmatched.{complaint, places_of}
 abbrev pub names_for : Listing → List IndexEntry → List PathSpec → List ReportEntry → List (List ℕ)
 names_for l entries specs found = if l.others then others l entries specs found else []
 
--- what the index does not have comes first
-abbrev pub out_text : Listing → List ℕ → List PathSpec → List IndexEntry → List (List ℕ) → List ℕ
-out_text l prefix specs entries names = others_text l prefix names ++ index_text l prefix specs entries
+-- what lies in its way, where that is asked for
+abbrev pub killed_for : Listing → List IndexEntry → List PathSpec → List ReportEntry → List (List ℕ)
+killed_for l entries specs found = if l.killed then killed l entries specs found else []
 
-abbrev pub err_text : Listing → List NamedSpec → List IndexEntry → List (List ℕ) → List ℕ
-err_text l named entries names = if l.error_unmatch then complaint named (places_of (chosen l entries) names) else []
+-- what the index does not have comes first, and then what lies in its way
+abbrev pub out_text : Listing → List ℕ → List PathSpec → List IndexEntry → List (List ℕ) → List (List ℕ) → List ℕ
+out_text l prefix specs entries names ways =
+    others_text l prefix names ++ killed_text l prefix ways ++ index_text l prefix specs entries
 
-abbrev pub listed_with : Listing → List ℕ → List NamedSpec → List PathSpec → List IndexEntry → List (List ℕ) → Listed
-listed_with l prefix named specs entries names =
-    record { out = out_text l prefix specs entries names; err = err_text l named entries names }
+abbrev pub err_text : Listing → List NamedSpec → List IndexEntry → List (List ℕ) → List (List ℕ) → List ℕ
+err_text l named entries names ways =
+    if l.error_unmatch then complaint named (places_of (chosen l entries) (names ++ ways)) else []
+
+abbrev pub listed_with : Listing → List ℕ → List NamedSpec → List PathSpec → List IndexEntry → List (List ℕ) → List (List ℕ) → Listed
+listed_with l prefix named specs entries names ways =
+    record { out = out_text l prefix specs entries names ways; err = err_text l named entries names ways }
 
 unfoldable pub listed : Listing → List ℕ → List NamedSpec → Setup → List ReportEntry → Listed
 listed l prefix named setup found =
-    listed_with l prefix named setup.specs setup.index (names_for l setup.index setup.specs found)
+    listed_with l prefix named setup.specs setup.index (names_for l setup.index setup.specs found) (killed_for l setup.index setup.specs found)
 
 -- "--error-unmatch: .. treat this as an error (return 1)"
 abbrev pub status : Listed → ℕ
@@ -90,7 +97,7 @@ pub record ListsIndex {W I : Type 0} (w0 w1 : W) (i0 i1 : I) (setup : Setup) (l 
   pub worktree : w1 ≡ w0
   pub interrupt : i1 ≡ i0
 
--- a report is made where what the index does not have is asked for, and there alone
+-- a report is made where what stands in the work tree is asked for, and there alone
 abbrev pub ListsFiles : {W I : Type 0} → WorktreeOf W → InterruptOf I → Bool → W → W → I → I → List ℕ → Setup → Listing → List ℕ → List NamedSpec → Result Listed Refusal → Type 0
 ListsFiles w i composes w0 w1 i0 i1 root setup l prefix named answer =
-    MatchBool l.others (ListsWalked w i composes w0 w1 i0 i1 root setup l prefix named answer) (ListsIndex w0 w1 i0 i1 setup l prefix named answer)
+    MatchBool (walks l) (ListsWalked w i composes w0 w1 i0 i1 root setup l prefix named answer) (ListsIndex w0 w1 i0 i1 setup l prefix named answer)

@@ -19,6 +19,7 @@ use Rattle.dir_classify.specs.declared.entry.Status.TheVariants.{Pruned, Tracked
 use Rattle.worktree_report.specs.SetupMeant.{ordered_after}
 use Rattle.worktree_report.specs.declared.report.ReportEntry.{ReportEntry}
 use Rattle.ls_files.specs.declared.listing.Listing.{Listing}
+use Rattle.ls_files.specs.Choices.{asks_rules}
 use Rattle.ls_files.specs.Cached.{is_matched}
 use Rattle.ls_files.specs.Lines.{other_line}
 use Rattle.ls_files.specs.Places.{Place}
@@ -116,7 +117,7 @@ is_untracked Pruned = false
 
 -- with rules, a directory may be ignored itself unless what lies in it is untracked: a `.git` is pruned in either
 abbrev pub may_be_ignored : Listing → Status → Bool
-may_be_ignored l status = l.excludes_standard && not (is_untracked status)
+may_be_ignored l status = asks_rules l && not (is_untracked status)
 
 -- an entry shows that a directory is not empty: any, but with "--no-empty-directory: Do not list empty directories" one alone that is shown
 abbrev pub fills : Listing → List PathSpec → Entry → Bool

@@ -6,6 +6,7 @@ use Rattle.dir_classify.specs.declared.options.ForDeletionMode.{ForDeletionMode}
 use Rattle.dir_classify.specs.declared.options.ForDeletionMode.TheVariants.{FindNonBareRepositoriesInIgnoredDirectories}
 use Rattle.worktree_report.specs.declared.setup.SetupOptions.{SetupOptions}
 use Rattle.ls_files.specs.declared.listing.Listing.{Listing}
+use Rattle.ls_files.specs.Choices.{asks_rules}
 use Rattle.ls_files.specs.Others.{shows_empty}
 
 -- ignored paths are asked for themselves, or since a directory is not empty where they lie in it
@@ -21,7 +22,7 @@ deletion_for l = if l.ignored then Some FindNonBareRepositoriesInIgnoredDirector
 abbrev pub walking : Listing → SetupOptions → SetupOptions
 walking l options =
     record options {
-      excludes = l.excludes_standard;
+      excludes = asks_rules l;
       strict_parents = true;
       precious = false;
       recurse_repositories = false;

@@ -1,25 +1,36 @@
 -- Which listings there are not: in git, or not here.
 use Rattle.std.specs.Prelude.{ℕ, List, Bool, not, ◌&&◌, ◌||◌, ◌==◌, codes, Option, Some, None, if◌then◌else◌}
 use Rattle.std.specs.List.{list_any}
+use Rattle.std.specs.Option.{option_or}
 use Rattle.gitbase_core.specs.Entry.{mode_bits, dir_mode}
 use Rattle.gitbase_core.specs.declared.entry.IndexEntry.{IndexEntry}
 use Rattle.ls_files.specs.declared.listing.Listing.{Listing}
 use Rattle.ls_files.specs.declared.wrong.WrongListing.{WrongListing}
 use Rattle.ls_files.specs.declared.wrong.WrongListing.TheVariants as wrong
-use Rattle.ls_files.specs.Choices.{shows_index}
+use Rattle.ls_files.specs.Choices.{asks_rules, shows_index, walks}
 
 -- "-i: Show only ignored files in the output. Must be used with either an explicit -c or -o."
 abbrev pub lacks_kind : Listing → Bool
 lacks_kind l = not (l.others || l.cached)
 
+abbrev pub has_rules : Listing → Bool
+has_rules l = asks_rules l || l.patterns
+
 -- of `-i`, in the order in which git asks; the last two are not answered here
 abbrev pub wrong_ignored : Listing → Option WrongListing
 wrong_ignored l =
     if lacks_kind l then Some wrong.IgnoredOfNothing
-    else if not l.excludes_standard then Some wrong.IgnoredWithoutRules
+    else if not (has_rules l) then Some wrong.IgnoredWithoutRules
     else if shows_index l then Some wrong.IgnoredIndex
     else if l.directories then Some wrong.IgnoredDirectories
     else None
+
+abbrev pub wrong_if_ignored : Listing → Option WrongListing
+wrong_if_ignored l = if l.ignored then wrong_ignored l else None
+
+-- rules above all others are asked here only with those of each directory
+abbrev pub wrong_rules : Listing → Option WrongListing
+wrong_rules l = if walks l && (l.patterns && not (asks_rules l)) then Some wrong.PatternsAlone else None
 
 -- a sparse index has an entry in the place of a directory
 abbrev pub is_sparse : IndexEntry → Bool
@@ -27,11 +38,11 @@ is_sparse e = mode_bits e.mode == dir_mode
 
 -- git reads what it stands for from objects
 abbrev pub wrong_index : Listing → List IndexEntry → Option WrongListing
-wrong_index l entries = if shows_index l && list_any is_sparse entries then Some wrong.SparseIndex else None
+wrong_index l entries = if (shows_index l || l.killed) && list_any is_sparse entries then Some wrong.SparseIndex else None
 
 -- why there is no such listing of an index
 abbrev pub wrong_in : Listing → List IndexEntry → Option WrongListing
-wrong_in l entries = if l.ignored then wrong_ignored l else wrong_index l entries
+wrong_in l entries = option_or (wrong_if_ignored l) (option_or (wrong_rules l) (wrong_index l entries))
 
 -- what is told of it
 abbrev pub wrong_text : WrongListing → List ℕ
@@ -40,3 +51,4 @@ wrong_text wrong.IgnoredWithoutRules = codes "ls-files --ignored needs some excl
 wrong_text wrong.IgnoredIndex = codes "ls-files -i is not supported for what the index has"
 wrong_text wrong.IgnoredDirectories = codes "ls-files -i is not supported with --directory"
 wrong_text wrong.SparseIndex = codes "ls-files is not supported for what a sparse index has"
+wrong_text wrong.PatternsAlone = codes "ls-files -x is not supported without --exclude-per-directory"

@@ -3,6 +3,7 @@ ghost use Rattle.std.specs.Prelude.{◌≡◌, None};
 ghost use Rattle.ls_files.specs.Listed as words;
 ghost use Rattle.ls_files.specs.Wrong.{wrong_in};
 
+use crate::cached::walks;
 use crate::listed::{Listed, list_found};
 use crate::listing::{Listing, NamedSpec};
 use gitbase_core::Find;
@@ -40,8 +41,8 @@ fn list_walked<W: CountsFaults, I: Interrupt>(
 }
 
 /// What `git ls-files` lists of the work tree at `root`, called in its directory `prefix`: what the
-/// index does not have, where that is asked for, and behind it what the index has. A report is made
-/// for what the index does not have, and nothing is asked of the worktree without.
+/// index does not have and what lies in its way, where these are asked for, and behind them what the
+/// index has. A report is made for the first two, and nothing is asked of the worktree without.
 ///
 /// The listing has to be one that there is, which [`wrong_in`](crate::wrong_in) tests. The setup is
 /// found with the options that [`walk_options`](crate::walk_options) gives for the listing, and
@@ -73,7 +74,7 @@ pub fn list_files<W: CountsFaults, I: Interrupt>(
         worktree.new interrupt.old interrupt.new root.now setup.now listing.now prefix.now
         named.now result }
 {
-    if listing.others {
+    if walks(listing) {
         return list_walked(
             alloc, worktree, interrupt, root, setup, listing, prefix, named,
         );

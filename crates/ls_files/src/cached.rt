@@ -32,6 +32,20 @@ fn is_entry_matched(specs: &Search, entry: &IndexEntry) -> bool
     is_matched(specs, entry.path.as_bytes(), is_directory(entry))
 }
 
+/// Whether what stands in the work tree is shown, so that a report is made.
+pub fn walks(listing: &Listing) -> bool
+    ensures { result ≡ choices.walks listing.now }
+{
+    listing.others || listing.killed
+}
+
+/// Whether the ignore rules of each directory are asked.
+pub fn asks_rules(listing: &Listing) -> bool
+    ensures { result ≡ choices.asks_rules listing.now }
+{
+    listing.excludes_standard || listing.excludes_directories
+}
+
 /// Whether anything of the index is shown.
 pub fn shows_index(listing: &Listing) -> bool
     ensures { result ≡ choices.shows_index listing.now }
@@ -39,7 +53,7 @@ pub fn shows_index(listing: &Listing) -> bool
     if shows_stages(listing) {
         return true;
     }
-    listing.cached || !listing.others
+    listing.cached || !walks(listing)
 }
 
 /// Whether an entry is of the kind that is shown.

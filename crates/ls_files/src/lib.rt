@@ -3,6 +3,7 @@
 
 mod answer;
 mod cached;
+mod killed;
 mod line;
 mod listed;
 mod listing;

@@ -145,3 +145,18 @@ pub fn add_other(
     add_tag(text, listing, b'?')?;
     add_name(alloc, text, listing, prefix, path)
 }
+
+/// Adds the line of a path that lies in the way of the index.
+pub fn add_killed(
+    alloc: Global,
+    text: &mut Vec<u8>,
+    listing: &Listing,
+    prefix: &[u8],
+    path: &[u8],
+) -> Result<(), OutOfMemory>
+    ensures { OnOk result (text.new.items
+        ≡ text.old.items ++ lines.killed_line listing.now prefix.now path.now) }
+{
+    add_tag(text, listing, b'K')?;
+    add_name(alloc, text, listing, prefix, path)
+}

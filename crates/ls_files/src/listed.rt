@@ -6,9 +6,10 @@ ghost use Rattle.ls_files.specs.Listed as words;
 ghost use Rattle.ls_files.specs.Unmatched.{place_of_entry, place_of_name, places_of};
 
 use crate::cached::{add_index, is_directory, is_next};
+use crate::killed::{add_all_killed, killed};
 use crate::listing::{Listing, NamedSpec};
 use crate::others::{add_others, others};
-use crate::place::Place;
+use crate::place::{Place, ends_in_slash};
 use crate::unmatched::complaint;
 use gitbase_core::{Bytes, IndexEntry, OutOfMemory, State};
 use glob_rules::pathspec::Search;
@@ -31,13 +32,6 @@ impl Listed {
     {
         if self.err.as_bytes().is_empty() { 0 } else { 1 }
     }
-}
-
-/// Whether a name ends in a slash.
-fn ends_in_slash(name: &[u8]) -> bool
-    ensures { result ≡ paths.ends_in_slash name.now }
-{
-    name.last() == Some(&b'/')
 }
 
 /// A name without the slash at its end, if there is one.
@@ -100,15 +94,17 @@ fn told(
     named: &[NamedSpec],
     index: &State,
     names: &[Bytes],
+    ways: &[Bytes],
 ) -> Result<Bytes, OutOfMemory>
     ensures { IfOk result
-        (λ text. text ≡ words.err_text listing.now named.now index.now names.now) }
+        (λ text. text ≡ words.err_text listing.now named.now index.now names.now ways.now) }
 {
     if !listing.error_unmatch {
         return Ok(Bytes::new(alloc));
     }
     let mut places = Vec::new(alloc);
     add_names(&mut places, names)?;
+    add_names(&mut places, ways)?;
     add_entries(&mut places, listing, index.entries())?;
     complaint(alloc, named, &places)
 }
@@ -130,6 +126,23 @@ fn names_for(
     others(alloc, listing, index, specs, found)
 }
 
+/// The names of what lies in the way of the index, where that is asked for.
+fn killed_for(
+    alloc: Global,
+    listing: &Listing,
+    index: &State,
+    specs: &Search,
+    found: &[ReportEntry],
+) -> Result<Vec<Bytes>, OutOfMemory>
+    ensures { IfOk result
+        (λ names. names.items ≡ words.killed_for listing.now index.now specs.now found.now) }
+{
+    if !listing.killed {
+        return Ok(Vec::new(alloc));
+    }
+    killed(alloc, listing, index, specs, found)
+}
+
 /// The lines of names, and behind them those of the index.
 fn shown(
     alloc: Global,
@@ -138,12 +151,14 @@ fn shown(
     specs: &Search,
     index: &State,
     names: &[Bytes],
+    ways: &[Bytes],
 ) -> Result<Bytes, OutOfMemory>
     ensures { IfOk result (λ text. text
-        ≡ words.out_text listing.now prefix.now specs.now index.now names.now) }
+        ≡ words.out_text listing.now prefix.now specs.now index.now names.now ways.now) }
 {
     let mut text = Vec::new(alloc);
     add_others(alloc, &mut text, listing, prefix, names)?;
+    add_all_killed(alloc, &mut text, listing, prefix, ways)?;
     add_index(alloc, &mut text, listing, prefix, specs, index.entries())?;
     Ok(Bytes::from_vec(text))
 }
@@ -167,7 +182,16 @@ pub fn list_found(
         (λ made. made ≡ words.listed listing.now prefix.now named.now setup.now found.now) }
 {
     let names = names_for(alloc, listing, &setup.index, &setup.specs, found)?;
-    let out = shown(alloc, listing, prefix, &setup.specs, &setup.index, &names)?;
-    let err = told(alloc, listing, named, &setup.index, &names)?;
+    let ways = killed_for(alloc, listing, &setup.index, &setup.specs, found)?;
+    let out = shown(
+        alloc,
+        listing,
+        prefix,
+        &setup.specs,
+        &setup.index,
+        &names,
+        &ways,
+    )?;
+    let err = told(alloc, listing, named, &setup.index, &names, &ways)?;
     Ok(Listed { out, err })
 }

@@ -13,7 +13,9 @@ pub struct Listing {
     pub unmerged: bool,
     /// `-o`: what the index does not have.
     pub others: bool,
-    /// `-i`: of that only what an ignore rule excludes.
+    /// `-k`: what lies in the way of the index.
+    pub killed: bool,
+    /// `-i`: of what the index does not have only what an ignore rule excludes.
     pub ignored: bool,
     /// `--directory`: a directory of which the index has nothing in the place of what it holds.
     pub directories: bool,
@@ -21,6 +23,10 @@ pub struct Listing {
     pub empty_directories: bool,
     /// `--exclude-standard`: the rules of each directory, of the repository and of the user.
     pub excludes_standard: bool,
+    /// `--exclude-per-directory=.gitignore`: of these the rules of each directory.
+    pub excludes_directories: bool,
+    /// `-x`: there are rules above all others.
+    pub patterns: bool,
     /// `--error-unmatch`: a path spec that is about no path is an error.
     pub error_unmatch: bool,
     /// `-t`: a letter before each path tells what it is.

@@ -2,7 +2,7 @@
 ghost use Rattle.std.specs.Prelude.{◌≡◌, ◌++◌, ◌<◌, IfOk, OnOk, length, option_copied};
 ghost use Rattle.ls_files.specs.Others as words;
 
-use crate::cached::is_matched;
+use crate::cached::{asks_rules, is_matched};
 use crate::line::add_other;
 use crate::listing::Listing;
 use crate::place::Place;
@@ -48,14 +48,14 @@ fn may_show(listing: &Listing, entry: &Entry) -> bool
 }
 
 /// The path of an entry, and whether a directory stands there.
-fn place_at(entry: &Entry) -> Place<'_>
+pub fn place_at(entry: &Entry) -> Place<'_>
     ensures { result ≡ words.place_at entry.now }
 {
     Place::new(entry.rela_path.as_bytes(), holds_names(entry.disk_kind))
 }
 
 /// The name of what is shown.
-fn name(alloc: Global, place: &Place<'_>) -> Result<Bytes, OutOfMemory>
+pub fn name(alloc: Global, place: &Place<'_>) -> Result<Bytes, OutOfMemory>
     ensures { IfOk result (λ name. name ≡ words.name place.now) }
 {
     let mut name = Bytes::from_slice(alloc, place.path())?;
@@ -125,7 +125,7 @@ fn opens(ignored: bool, found: Option<Match>) -> bool
 }
 
 /// Whether an entry of the index lies beneath a directory, by its name.
-fn has_beneath(index: &State, name: &[u8]) -> bool
+pub fn has_beneath(index: &State, name: &[u8]) -> bool
     ensures { result ≡ words.has_beneath index.now name.now }
 {
     index.prefixed_entries_range(name).is_some()
@@ -168,7 +168,7 @@ fn is_untracked(status: Status) -> bool
 fn may_be_ignored(listing: &Listing, status: Status) -> bool
     ensures { result ≡ words.may_be_ignored listing.now status }
 {
-    listing.excludes_standard && !is_untracked(status)
+    asks_rules(listing) && !is_untracked(status)
 }
 
 /// Whether an entry shows that the directories above it are not empty.
@@ -251,7 +251,7 @@ fn folded<'a>(
 }
 
 /// What is shown for an entry.
-fn place_for<'a>(
+pub fn place_for<'a>(
     alloc: Global,
     listing: &Listing,
     index: &State,
@@ -268,7 +268,7 @@ fn place_for<'a>(
 }
 
 /// Whether an entry of the index stands at a path.
-fn has_entry(index: &State, path: &[u8]) -> bool
+pub fn has_entry(index: &State, path: &[u8]) -> bool
     ensures { result ≡ words.has_entry index.now path.now }
 {
     index.entry_by_path(path).is_some()
@@ -306,7 +306,7 @@ fn name_of(
 }
 
 /// The names of a set, in the order of their bytes.
-fn in_order(alloc: Global, names: BTreeSet<Bytes>) -> Result<Vec<Bytes>, OutOfMemory>
+pub fn in_order(alloc: Global, names: BTreeSet<Bytes>) -> Result<Vec<Bytes>, OutOfMemory>
     ensures { IfOk result (λ list. list.items ≡ names.keys) }
 {
     let mut list = Vec::with_capacity(alloc, names.len())?;

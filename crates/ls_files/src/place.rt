@@ -1,5 +1,6 @@
 //! Paths, and whether directories stand there.
 ghost use Rattle.std.specs.Prelude.{◌≡◌};
+ghost use Rattle.gitbase_core.specs.Path as paths;
 
 use std::marker::Model;
 
@@ -39,4 +40,11 @@ impl<'a> Place<'a> {
     {
         self.holds_names
     }
+}
+
+/// Whether a name ends in a slash, as that of a directory.
+pub fn ends_in_slash(name: &[u8]) -> bool
+    ensures { result ≡ paths.ends_in_slash name.now }
+{
+    name.last() == Some(&b'/')
 }

@@ -3,6 +3,7 @@ ghost use Rattle.std.specs.Prelude.{◌≡◌};
 ghost use Rattle.ls_files.specs.Others.{shows_empty};
 ghost use Rattle.ls_files.specs.Walking as words;
 
+use crate::cached::asks_rules;
 use crate::listing::Listing;
 use dir_classify::{EmissionMode, ForDeletionMode};
 use worktree_report::SetupOptions;
@@ -36,7 +37,7 @@ fn deletion_for(listing: &Listing) -> Option<ForDeletionMode>
 
 /// The options with which a setup is to be found, so that its report has what a listing shows: each
 /// path by itself and none folded, what is left out, directories without names where directories
-/// are shown, and the ignore rules where `--exclude-standard` asks for them. What git does is set;
+/// are shown, and the ignore rules where they are asked for. What git does is set;
 /// all others stay.
 ///
 /// See docs/DECISIONS.md#listing-by-leaves.
@@ -44,7 +45,7 @@ pub fn walk_options(listing: &Listing, options: &SetupOptions) -> SetupOptions
     ensures { result ≡ words.walking listing.now options.now }
 {
     let mut options = *options;
-    options.excludes = listing.excludes_standard;
+    options.excludes = asks_rules(listing);
     options.strict_parents = true;
     options.precious = false;
     options.recurse_repositories = false;

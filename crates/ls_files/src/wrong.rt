@@ -3,7 +3,7 @@ ghost use Rattle.std.specs.Prelude.{◌≡◌};
 ghost use Rattle.std.specs.List.{list_any};
 ghost use Rattle.ls_files.specs.Wrong as words;
 
-use crate::cached::shows_index;
+use crate::cached::{asks_rules, shows_index, walks};
 use crate::listing::Listing;
 use gitbase_core::{IndexEntry, State};
 
@@ -21,6 +21,8 @@ pub enum WrongListing {
     /// What a sparse index has, where an entry stands for all that is beneath a directory: git reads
     /// that from objects.
     SparseIndex,
+    /// `-x` without the rules of each directory, which is not answered here.
+    PatternsAlone,
 }
 
 impl WrongListing {
@@ -34,8 +36,18 @@ impl WrongListing {
             WrongListing::IgnoredIndex => b"ls-files -i is not supported for what the index has",
             WrongListing::IgnoredDirectories => b"ls-files -i is not supported with --directory",
             WrongListing::SparseIndex => b"ls-files is not supported for what a sparse index has",
+            WrongListing::PatternsAlone => {
+                b"ls-files -x is not supported without --exclude-per-directory"
+            }
         }
     }
+}
+
+/// Whether there are rules.
+fn has_rules(listing: &Listing) -> bool
+    ensures { result ≡ words.has_rules listing.now }
+{
+    asks_rules(listing) || listing.patterns
 }
 
 /// Why there is no listing of only what is ignored.
@@ -45,7 +57,7 @@ fn wrong_ignored(listing: &Listing) -> Option<WrongListing>
     if !(listing.others | listing.cached) {
         return Some(WrongListing::IgnoredOfNothing);
     }
-    if !listing.excludes_standard {
+    if !has_rules(listing) {
         return Some(WrongListing::IgnoredWithoutRules);
     }
     if shows_index(listing) {
@@ -53,6 +65,29 @@ fn wrong_ignored(listing: &Listing) -> Option<WrongListing>
     }
     if listing.directories {
         return Some(WrongListing::IgnoredDirectories);
+    }
+    None
+}
+
+/// The same where only what is ignored is asked for.
+fn wrong_if_ignored(listing: &Listing) -> Option<WrongListing>
+    ensures { result ≡ words.wrong_if_ignored listing.now }
+{
+    if listing.ignored {
+        return wrong_ignored(listing);
+    }
+    None
+}
+
+/// Why there is no listing by rules that are asked alone.
+fn wrong_rules(listing: &Listing) -> Option<WrongListing>
+    ensures { result ≡ words.wrong_rules listing.now }
+{
+    if !walks(listing) {
+        return None;
+    }
+    if listing.patterns & !asks_rules(listing) {
+        return Some(WrongListing::PatternsAlone);
     }
     None
 }
@@ -71,11 +106,11 @@ fn has_sparse(entries: &[IndexEntry]) -> bool
     entries.iter().any(|entry| is_sparse(entry))
 }
 
-/// Why there is no listing of what an index has.
+/// Why there is no listing of what an index has, or of what lies in its way.
 fn wrong_index(listing: &Listing, index: &State) -> Option<WrongListing>
     ensures { result ≡ words.wrong_index listing.now index.now }
 {
-    if !shows_index(listing) {
+    if !(shows_index(listing) | listing.killed) {
         return None;
     }
     if has_sparse(index.entries()) {
@@ -89,11 +124,17 @@ fn wrong_index(listing: &Listing, index: &State) -> Option<WrongListing>
 ///
 /// See docs/DIFFERENCES.md#list-ignored-forms.
 /// See docs/DIFFERENCES.md#list-sparse-index.
+/// See docs/DIFFERENCES.md#list-patterns-alone.
 pub fn wrong_in(listing: &Listing, index: &State) -> Option<WrongListing>
     ensures { result ≡ words.wrong_in listing.now index.now }
 {
-    if listing.ignored {
-        return wrong_ignored(listing);
+    let first = wrong_if_ignored(listing);
+    if first.is_some() {
+        return first;
+    }
+    let second = wrong_rules(listing);
+    if second.is_some() {
+        return second;
     }
     wrong_index(listing, index)
 }

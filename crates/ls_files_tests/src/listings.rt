@@ -1,19 +1,30 @@
 //! Listings, each compared with what git prints.
 use crate::answers::{ROWS, TREES};
 use crate::tree::{lines_of, parted, tree_of};
-use crate::words::{all_named, listing_of, specs_of};
+use crate::words::{all_named, listing_of, rules_of, specs_of};
 use bstr::ByteSlice;
+use gitbase_core::Bytes;
 use ls_files::{Listed, Listing, NamedSpec, list_files, walk_options, wrong_in};
 use std::alloc::Global;
 use worktree_fs::PlannedInterrupt;
 use worktree_report::Setup;
 
-/// The setup of a tree, for a listing with these path specs.
-fn setup_for(alloc: Global, text: &[u8], listing: &Listing, specs: &[u8]) -> Option<Setup> {
+/// The setup of a tree, for a listing with these options and path specs.
+fn setup_for(
+    alloc: Global,
+    text: &[u8],
+    listing: &Listing,
+    options: &[u8],
+    specs: &[u8],
+) -> Option<Setup> {
     let lines = lines_of(alloc, text)?;
     let mut setup = Setup::parse(alloc, &lines).ok()?;
     setup.options = walk_options(listing, &setup.options);
     setup.specs = specs_of(alloc, specs)?;
+    setup.overrides = rules_of(alloc, options)?;
+    if !listing.excludes_standard {
+        setup.globals = Bytes::new(alloc);
+    }
     Some(setup)
 }
 
@@ -49,13 +60,14 @@ fn listed_in(
     alloc: Global,
     tree: &[u8],
     prefix: &[u8],
-    listing: &Listing,
+    options: &[u8],
     specs: &[u8],
 ) -> Option<Listed> {
     let (text, steps) = parted(tree, b'^');
-    let setup = setup_for(alloc, text, listing, specs)?;
+    let listing = listing_of(options);
+    let setup = setup_for(alloc, text, &listing, options, specs)?;
     let named = all_named(alloc, specs)?;
-    listed_of(alloc, steps, &setup, listing, prefix, &named)
+    listed_of(alloc, steps, &setup, &listing, prefix, &named)
 }
 
 /// Whether a text is what a row has, with `$` in the place of each line feed.
@@ -85,12 +97,12 @@ fn lists(
     alloc: Global,
     tree: &[u8],
     prefix: &[u8],
-    listing: &Listing,
+    options: &[u8],
     specs: &[u8],
     want: &[u8],
 ) -> bool {
     let (out, err) = parted(want, b'^');
-    match listed_in(alloc, tree, prefix, listing, specs) {
+    match listed_in(alloc, tree, prefix, options, specs) {
         Some(listed) => is_printed(alloc, &listed, out, err),
         None => false,
     }
@@ -103,7 +115,7 @@ fn is_met(alloc: Global, row: &[u8]) -> bool {
     let (options, rest) = parted(rest, b'^');
     let (specs, want) = parted(rest, b'^');
     match tree_at(number) {
-        Some(tree) => lists(alloc, tree, prefix, &listing_of(options), specs, want),
+        Some(tree) => lists(alloc, tree, prefix, options, specs, want),
         None => false,
     }
 }

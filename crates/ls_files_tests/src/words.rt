@@ -12,10 +12,13 @@ fn usual() -> Listing {
         stages: false,
         unmerged: false,
         others: false,
+        killed: false,
         ignored: false,
         directories: false,
         empty_directories: true,
         excludes_standard: false,
+        excludes_directories: false,
+        patterns: false,
         error_unmatch: false,
         tags: false,
         valid: false,
@@ -33,6 +36,7 @@ fn take(listing: &mut Listing, word: &[u8]) {
         b"-s" => listing.stages = true,
         b"-u" => listing.unmerged = true,
         b"-o" => listing.others = true,
+        b"-k" => listing.killed = true,
         b"-i" => listing.ignored = true,
         b"-t" => listing.tags = true,
         b"-v" => listing.valid = true,
@@ -40,10 +44,12 @@ fn take(listing: &mut Listing, word: &[u8]) {
         b"--directory" => listing.directories = true,
         b"--no-empty-directory" => listing.empty_directories = false,
         b"--exclude-standard" => listing.excludes_standard = true,
+        b"--exclude-per-directory=.gitignore" => listing.excludes_directories = true,
         b"--error-unmatch" => listing.error_unmatch = true,
         b"--deduplicate" => listing.deduplicates = true,
         b"--raw" => listing.quote_path = false,
-        _ => listing.full_names = true,
+        b"--full-name" => listing.full_names = true,
+        _ => listing.patterns = true,
     }
 }
 
@@ -56,6 +62,18 @@ pub fn listing_of(words: &[u8]) -> Listing {
         }
     }
     listing
+}
+
+/// The rules of options, each behind a line feed.
+pub fn rules_of(alloc: Global, words: &[u8]) -> Option<Bytes> {
+    let mut rules = Bytes::new(alloc);
+    for word in words.split(|byte| *byte == b'|') {
+        if let Some(rule) = word.strip_prefix(b"--exclude=".as_slice()) {
+            rules.extend(alloc, b"\n").ok()?;
+            rules.extend(alloc, rule).ok()?;
+        }
+    }
+    Some(rules)
 }
 
 fn spec_of(alloc: Global, text: &[u8]) -> Option<Spec> {

@@ -20,7 +20,8 @@ use Rattle.tizhagor.specs.declared.refusal.HereRefusal.TheVariants as errors
 use Rattle.tizhagor.specs.declared.reply.Reply.{Reply}
 use Rattle.tizhagor.specs.declared.writing.Writing.{Writing}
 use Rattle.tizhagor.specs.Answers as answers
-use Rattle.tizhagor.specs.Answers.{AnswersCall, AnswersHere, AnswersTask, AnswersWord, ByFound, IsMisuse, NotFound, Place, Refused, RefusesSaying, Task, ThenSays, Writes, call_of, found_at, offer_of, task_of, word_at, word_of}
+use Rattle.tizhagor.specs.Answers.{AnswersCall, AnswersHere, AnswersTask, AnswersWord, ByFound, IsMisuse, NotFound, Place, Refused, RefusesSaying, Task, ThenSays, Writes, answered_at, call_of, check_of, compare_of, found_at, offer_of, task_of, word_at, word_of}
+use Rattle.tizhagor.specs.Checks.{Checks, IsReply}
 use Rattle.tizhagor.specs.Ends.{EndsHere, IsFatal, IsReplied, IsTold, IsToldOf}
 use Rattle.tizhagor.specs.Output as output
 use Rattle.tizhagor.specs.OwnWords.{IsSayable, OwnWord, RefusesWord, said_for}
@@ -52,10 +53,12 @@ is_high (errors.NotAtTop root) = omega arith
 is_high errors.Elsewhere = omega arith
 is_high (errors.Git refusal) = omega arith
 is_high (errors.Listing wrong) = omega arith
+is_high (errors.Uncompared reason) = omega arith
+is_high (errors.Unchecked reason) = omega arith
 is_high (errors.Cleaning wrong) = omega arith
 is_high (errors.Program r) = program_high r
 
-is_low : (reply : Reply) → status_in reply ≤ 1
+pub is_low : (reply : Reply) → status_in reply ≤ 1
 is_low reply = go reply.is_no
   where
     go : (is_no : Bool) → answer_status is_no ≤ 1
@@ -73,7 +76,7 @@ program_not_misuse refusals.Output is = omega arith
 program_not_misuse refusals.OutOfMemory is = omega arith
 
 -- while a work tree is looked for no word is found wrong, and no interrupt is asked
-finding_not_misuse : (e : HereRefusal) → IsOfFinding e → status_of e ≡ 129 → ⊥
+pub finding_not_misuse : (e : HereRefusal) → IsOfFinding e → status_of e ≡ 129 → ⊥
 finding_not_misuse (errors.Words misuse) of is = absurd of
 finding_not_misuse (errors.Absent directory) of is = omega arith
 finding_not_misuse (errors.NotADirectory directory) of is = omega arith
@@ -81,6 +84,8 @@ finding_not_misuse (errors.NotAtTop root) of is = omega arith
 finding_not_misuse errors.Elsewhere of is = omega arith
 finding_not_misuse (errors.Git refusal) of is = omega arith
 finding_not_misuse (errors.Listing wrong) of is = omega arith
+finding_not_misuse (errors.Uncompared reason) of is = omega arith
+finding_not_misuse (errors.Unchecked reason) of is = omega arith
 finding_not_misuse (errors.Cleaning wrong) of is = omega arith
 finding_not_misuse (errors.Program r) of is = program_not_misuse r is
 
@@ -94,7 +99,7 @@ interrupted_is refusals.Fault is = absurd (omega arith)
 interrupted_is refusals.Output is = absurd (omega arith)
 interrupted_is refusals.OutOfMemory is = absurd (omega arith)
 
-finding_not_interrupted : (e : HereRefusal) → IsOfFinding e → status_of e ≡ 130 → ⊥
+pub finding_not_interrupted : (e : HereRefusal) → IsOfFinding e → status_of e ≡ 130 → ⊥
 finding_not_interrupted (errors.Words misuse) of is = absurd of
 finding_not_interrupted (errors.Absent directory) of is = omega arith
 finding_not_interrupted (errors.NotADirectory directory) of is = omega arith
@@ -102,6 +107,8 @@ finding_not_interrupted (errors.NotAtTop root) of is = omega arith
 finding_not_interrupted errors.Elsewhere of is = omega arith
 finding_not_interrupted (errors.Git refusal) of is = omega arith
 finding_not_interrupted (errors.Listing wrong) of is = omega arith
+finding_not_interrupted (errors.Uncompared reason) of is = omega arith
+finding_not_interrupted (errors.Unchecked reason) of is = omega arith
 finding_not_interrupted (errors.Cleaning wrong) of is = omega arith
 finding_not_interrupted (errors.Program refusals.Interrupted) of is = absurd of
 finding_not_interrupted (errors.Program refusals.Usage) of is = absurd of
@@ -132,7 +139,7 @@ same_refusal e = cc
 not_found : {a : Found} {b : HereRefusal} → ◌≡◌ {A = Result Found HereRefusal} (Ok a) (Err b) → ⊥
 not_found is = absurd cc
 
-no_asking : {directory : Option (List ℕ)} {command : Commands} {topic : Topic} {wrong : Wrong} {word : List ℕ} → ◌≡◌ {A = Asking} (asks directory command) (is_misuse topic wrong word) → ⊥
+pub no_asking : {directory : Option (List ℕ)} {command : Commands} {topic : Topic} {wrong : Wrong} {word : List ℕ} → ◌≡◌ {A = Asking} (asks directory command) (is_misuse topic wrong word) → ⊥
 no_asking is = absurd cc
 
 -- ---- how it ends
@@ -207,18 +214,24 @@ module _ {W I O : Type 0} (w : WorktreeOf W) (i : InterruptOf I) (o : OwnersOf O
   task_unfaulted : (place : Place) (directory : Option (List ℕ)) (task : Task) (reply : Reply) → AnswersTask w i o w0 w1 i0 i1 o0 o1 place directory (Ok reply) task → output.IsUnfaultedFor (w.faults w0) (w.faults w1) task
   task_unfaulted place directory (call_of call asked writing) reply a = call_unfaulted (found_at place directory asked) call writing reply.out a.0
   task_unfaulted place directory (word_of word asked) reply a = word_unfaulted (word_at place directory word asked) word reply a
+  task_unfaulted place directory (check_of wants asked) reply a = a.0.unfaulted
+  task_unfaulted place directory (compare_of comparing asked) reply a = absurd a
   task_unfaulted place directory (offer_of text) reply a = ap w.faults a.0.worktree
 
   -- and the owners failed at nothing
   task_owners : (place : Place) (directory : Option (List ℕ)) (task : Task) (reply : Reply) → AnswersTask w i o w0 w1 i0 i1 o0 o1 place directory (Ok reply) task → o.faults o1 ≡ o.faults o0
   task_owners place directory (call_of call asked writing) reply a = a.0.by.owners_unfaulted
   task_owners place directory (word_of word asked) reply a = a.owners_unfaulted
+  task_owners place directory (check_of wants asked) reply a = a.0.owners_unfaulted
+  task_owners place directory (compare_of comparing asked) reply a = absurd a
   task_owners place directory (offer_of text) reply a = ap o.faults a.0.owners
 
   task_reply : (place : Place) (directory : Option (List ℕ)) (task : Task) (reply : Reply) → AnswersTask w i o w0 w1 i0 i1 o0 o1 place directory (Ok reply) task
       → (t : Names) (owned : Owned) → w.told w0 ≡ Some t → o.told o0 ≡ Some owned → output.IsQuietWith (w.faults w0) (w.faults w1) task → output.IsReplyFor (w.precomposes w0) t owned place directory reply task
   task_reply place directory (call_of call asked writing) reply a t owned told tells quiet = (call_bytes (found_at place directory asked) call writing reply.out a.0 t owned told tells quiet, a.1)
   task_reply place directory (word_of word asked) reply a t owned told tells quiet = word_reply (word_at place directory word asked) word reply a t owned told tells
+  task_reply place directory (check_of wants asked) reply a t owned told tells quiet = a.0.gives t owned told tells
+  task_reply place directory (compare_of comparing asked) reply a t owned told tells quiet = absurd a
   task_reply place directory (offer_of text) reply a t owned told tells quiet = a.1 ∙ ap plain a.0.gives
 
   -- a fault was counted, and none was
@@ -241,6 +254,8 @@ module _ {W I O : Type 0} (w : WorktreeOf W) (i : InterruptOf I) (o : OwnersOf O
         | inl none ↦ finding_not_misuse e none.of is
         | inr refused ↦ program_not_misuse refused.refusal (sym (ap status_of refused.e_is) ∙ is)
       ]
+  task_not_misuse place directory (check_of wants asked) e a is = finding_not_misuse e a.0.of is
+  task_not_misuse place directory (compare_of comparing asked) e a is = absurd a
   task_not_misuse place directory (offer_of text) e a is = absurd (let same = memory_not e 129 a.0.refused is in omega (arith, same))
 
   -- an interrupt was raised
@@ -261,6 +276,8 @@ module _ {W I O : Type 0} (w : WorktreeOf W) (i : InterruptOf I) (o : OwnersOf O
         | inr refused ↦ said.interrupt_cause w i refused.by.loaded w1 i0 i1 refused.by.here word refused.refusal refused.by.made
             (interrupted_is refused.refusal (sym (ap status_of refused.e_is) ∙ is))
       ]
+  task_interrupted place directory (check_of wants asked) e a is = absurd (finding_not_interrupted e a.0.of is)
+  task_interrupted place directory (compare_of comparing asked) e a is = absurd a
   task_interrupted place directory (offer_of text) e a is = absurd (let same = memory_not e 130 a.0.refused is in omega (arith, same))
 
   -- what is refused over a tree
@@ -320,6 +337,16 @@ module _ {W I O : Type 0} (w : WorktreeOf W) (i : InterruptOf I) (o : OwnersOf O
         | inr (inr wants) ↦ inl wants
       ]
 
+  check_refused : (found : Names → Owned → Result Reply HereRefusal) (e : HereRefusal) → Checks w o w0 w1 o0 o1 found (Err e)
+      → (t : Names) (owned : Owned) → w.told w0 ≡ Some t → o.told o0 ≡ Some owned → NotIncreased (w.faults w0) (w.faults w1) → NotIncreased (o.faults o0) (o.faults o1)
+      → (e ≡ memory) ⊎ (found t owned ≡ Err e)
+  check_refused found e a t owned told tells quiet owners_quiet =
+      elim (a.gives t owned told tells) [
+        | inl same ↦ inr same
+        | inr (inl failed) ↦ absurd (no_fault (a.cause (ap Err failed)) quiet owners_quiet)
+        | inr (inr wants) ↦ inl wants
+      ]
+
   task_refused : (place : Place) (directory : Option (List ℕ)) (task : Task) (e : HereRefusal) → AnswersTask w i o w0 w1 i0 i1 o0 o1 place directory (Err e) task
       → (t : Names) (owned : Owned) → w.told w0 ≡ Some t → o.told o0 ≡ Some owned → NotIncreased (w.faults w0) (w.faults w1) → NotIncreased (o.faults o0) (o.faults o1) → status_of e ≡ 128
       → (e ≡ memory) ⊎ output.RefusesFor (w.precomposes w0) t owned place directory e task
@@ -329,6 +356,8 @@ module _ {W I O : Type 0} (w : WorktreeOf W) (i : InterruptOf I) (o : OwnersOf O
         | inl none ↦ elim (none_refused (word_at place directory word asked) e none t owned told tells quiet owners_quiet) [ inl wants ↦ inl wants | inr known ↦ inr (inl known) ]
         | inr refused ↦ elim (word_refused (word_at place directory word asked) word e refused t owned told tells quiet is) [ inl wants ↦ inl wants | inr known ↦ inr (inr known) ]
       ]
+  task_refused place directory (check_of wants asked) e a t owned told tells quiet owners_quiet is = check_refused (answered_at place directory wants asked) e a.0 t owned told tells quiet owners_quiet
+  task_refused place directory (compare_of comparing asked) e a t owned told tells quiet owners_quiet is = absurd a
   task_refused place directory (offer_of text) e a t owned told tells quiet owners_quiet is = inl a.0.refused
 
   -- where nothing is found over a tree, that is the answer, or want of memory
@@ -359,12 +388,21 @@ module _ {W I O : Type 0} (w : WorktreeOf W) (i : InterruptOf I) (o : OwnersOf O
         | inr refused ↦ absurd (not_found (sym (refused.by.is t owned told tells) ∙ known))
       ]
 
+  check_none : (found : Names → Owned → Result Reply HereRefusal) (answer : Result Reply HereRefusal) → Checks w o w0 w1 o0 o1 found answer
+      → (t : Names) (owned : Owned) → w.told w0 ≡ Some t → o.told o0 ≡ Some owned → NotIncreased (w.faults w0) (w.faults w1) → NotIncreased (o.faults o0) (o.faults o1)
+      → (e : HereRefusal) → found t owned ≡ Err e → IsRefusedAs e answer
+  check_none found (Ok reply) a t owned told tells quiet owners_quiet e known = no_reply (sym (a.gives t owned told tells) ∙ known)
+  check_none found (Err other) a t owned told tells quiet owners_quiet e known =
+      elim (check_refused found other a t owned told tells quiet owners_quiet) [ inl wants ↦ inr wants | inr same ↦ inl (same_error (sym same ∙ known)) ]
+
   task_none : (place : Place) (directory : Option (List ℕ)) (task : Task) (answer : Result Reply HereRefusal) → AnswersTask w i o w0 w1 i0 i1 o0 o1 place directory answer task
       → (t : Names) (owned : Owned) → w.told w0 ≡ Some t → o.told o0 ≡ Some owned → NotIncreased (w.faults w0) (w.faults w1) → NotIncreased (o.faults o0) (o.faults o1)
       → (e : HereRefusal) → output.IsNotFoundFor t owned place directory e task → IsRefusedAs e answer
   task_none place directory (call_of call asked writing) (Ok reply) a t owned told tells quiet owners_quiet e known = call_none (found_at place directory asked) call writing (Ok reply.out) a.0 t owned told tells quiet owners_quiet e known
   task_none place directory (call_of call asked writing) (Err other) a t owned told tells quiet owners_quiet e known = call_none (found_at place directory asked) call writing (Err other) a.0 t owned told tells quiet owners_quiet e known
   task_none place directory (word_of word asked) answer a t owned told tells quiet owners_quiet e known = word_none (word_at place directory word asked) word answer a t owned told tells quiet owners_quiet e known
+  task_none place directory (check_of wants asked) answer a t owned told tells quiet owners_quiet e known = check_none (answered_at place directory wants asked) answer a.0 t owned told tells quiet owners_quiet e known
+  task_none place directory (compare_of comparing asked) answer a t owned told tells quiet owners_quiet e known = absurd a
   task_none place directory (offer_of text) answer a t owned told tells quiet owners_quiet e known = absurd known
 
   -- for what can be had only memory may be wanted
@@ -408,11 +446,22 @@ module _ {W I O : Type 0} (w : WorktreeOf W) (i : InterruptOf I) (o : OwnersOf O
             (subst (λ (x : Found). IsSayable (w.precomposes w0) t x word) same ready.ready)))
       ]
 
+  check_complete : (found : Names → Owned → Result Reply HereRefusal) (e : HereRefusal) → Checks w o w0 w1 o0 o1 found (Err e)
+      → (t : Names) (owned : Owned) → w.told w0 ≡ Some t → o.told o0 ≡ Some owned → NotIncreased (w.faults w0) (w.faults w1) → NotIncreased (o.faults o0) (o.faults o1)
+      → IsReply (found t owned) → e ≡ memory
+  check_complete found e a t owned told tells quiet owners_quiet ready =
+      elim (check_refused found e a t owned told tells quiet owners_quiet) [
+        | inl wants ↦ wants
+        | inr is ↦ absurd (subst (λ (r : Result Reply HereRefusal). IsReply r) is ready)
+      ]
+
   task_complete : (place : Place) (directory : Option (List ℕ)) (task : Task) (e : HereRefusal) → AnswersTask w i o w0 w1 i0 i1 o0 o1 place directory (Err e) task
       → (t : Names) (owned : Owned) → w.told w0 ≡ Some t → o.told o0 ≡ Some owned → NotIncreased (w.faults w0) (w.faults w1) → NotIncreased (o.faults o0) (o.faults o1) → NotIncreased (i.raised i0) (i.raised i1)
       → output.IsReadyWith (w.precomposes w0) t owned place directory task → e ≡ memory
   task_complete place directory (call_of call asked writing) e a t owned told tells quiet owners_quiet calm ready = call_complete (found_at place directory asked) call writing e a.0 t owned told tells quiet owners_quiet calm ready
   task_complete place directory (word_of word asked) e a t owned told tells quiet owners_quiet calm ready = word_complete (word_at place directory word asked) word e a t owned told tells quiet owners_quiet calm ready
+  task_complete place directory (check_of wants asked) e a t owned told tells quiet owners_quiet calm ready = check_complete (answered_at place directory wants asked) e a.0 t owned told tells quiet owners_quiet ready
+  task_complete place directory (compare_of comparing asked) e a t owned told tells quiet owners_quiet calm ready = absurd a
   task_complete place directory (offer_of text) e a t owned told tells quiet owners_quiet calm ready = a.0.refused
 
 -- ---- the call

@@ -31,6 +31,10 @@ is_fault (git.SubmoduleCase path) is = absurd cc
 is_fault git.Fault is = refl
 is_fault git.OutOfMemory is = absurd cc
 
+pub finds_any : {W O A : Type 0} (w : WorktreeOf W) (o : OwnersOf O) (w0 w1 : W) (o0 o1 : O) (found : Names → Owned → Result A GitRefusal) (answer : Result A GitRefusal)
+    → FindsWith w o w0 w1 o0 o1 found answer → FindsHereWith w o w0 w1 o0 o1 (λ t owned. as_git (found t owned)) (as_git answer)
+finds_any w o w0 w1 o0 o1 found answer h = as_refused w o w0 w1 o0 o1 of_git git.Fault git.OutOfMemory is_fault found answer h
+
 pub finds_as : {W O : Type 0} (w : WorktreeOf W) (o : OwnersOf O) (w0 w1 : W) (o0 o1 : O) (found : Names → Owned → Result Found GitRefusal) (answer : Result Found GitRefusal)
     → FindsWith w o w0 w1 o0 o1 found answer → FindsHereWith w o w0 w1 o0 o1 (λ t owned. as_git (found t owned)) (as_git answer)
 finds_as w o w0 w1 o0 o1 found answer h = as_refused w o w0 w1 o0 o1 of_git git.Fault git.OutOfMemory is_fault found answer h
@@ -52,6 +56,10 @@ of_git-is (git.Prefix text prefix) = tt
 of_git-is (git.SubmoduleCase path) = tt
 of_git-is git.Fault = tt
 of_git-is git.OutOfMemory = tt
+
+pub any_git-is : {A : Type 0} (answer : Result A GitRefusal) → IfErr (as_git answer) IsOfFinding
+any_git-is (Ok here) = tt
+any_git-is (Err e) = of_git-is e
 
 pub as_git-is : (answer : Result Found GitRefusal) → IfErr (as_git answer) IsOfFinding
 as_git-is (Ok here) = tt

@@ -4,3 +4,6 @@ pub mod Said
 pub mod Finding
 pub mod Here
 pub mod Ended
+pub mod Besides
+pub mod Checked
+pub mod ComparedEnds

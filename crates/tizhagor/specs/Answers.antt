@@ -12,9 +12,11 @@ use Rattle.worktree_report.specs.declared.refusal.Refusal.{Refusal}
 use Rattle.command_line.specs.Forms.{styled}
 use Rattle.command_line.specs.Helps.{help_of, version}
 use Rattle.command_line.specs.Requests.{asks, is_misuse, request_in, seen}
+use Rattle.command_line.specs.declared.checking.CheckAsked.{CheckAsked}
 use Rattle.command_line.specs.declared.command.Command.{Command}
 use Rattle.command_line.specs.declared.command.Command.TheVariants as commands
 use Rattle.command_line.specs.declared.command.Request.{Request}
+use Rattle.command_line.specs.declared.comparing.Comparing.{Comparing}
 use Rattle.command_line.specs.declared.misuse.Misuse.TheVariants.{Word}
 use Rattle.command_line.specs.declared.misuse.Wrong.{Wrong}
 use Rattle.command_line.specs.declared.verb.Topic.{Topic}
@@ -30,6 +32,8 @@ use Rattle.tizhagor.specs.declared.writing.Writing.{Writing}
 use Rattle.tizhagor.specs.declared.writing.Writing.TheVariants as writings
 use Rattle.tizhagor.specs.declared.reply.Reply.{Reply}
 use Rattle.tizhagor.specs.Asking.{asked_for, here_in}
+use Rattle.tizhagor.specs.Checking.{answered_in}
+use Rattle.tizhagor.specs.Checks.{Checks}
 use Rattle.tizhagor.specs.OwnWords.{OwnWord, Says, cleaning_of, listing_of, word_in}
 use Rattle.tizhagor.specs.Replies.{SaysPlainly}
 use Rattle.tizhagor.specs.Refusals.{fault, memory, IsOfFinding}
@@ -122,11 +126,13 @@ pub record Offers {W I O : Type 0} (w0 w1 : W) (i0 i1 : I) (o0 o1 : O) (text : L
 
 -- ---- what the words ask for
 
--- what a command asks for: a call, with what it asks of the work tree and how its text is written; one of git's own words; or a text that
--- is always the same
+-- what a command asks for: a call, with what it asks of the work tree and how its text is written; one of git's own words; `check-ignore`,
+-- which needs no setup; `diff-files`, which is told by stats too; or a text that is always the same
 pub data Task : Type 0 where
   call_of : Call → Asked → Writing → Task
   word_of : OwnWord → Asked → Task
+  check_of : CheckAsked → Asked → Task
+  compare_of : Comparing → Asked → Task
   offer_of : List ℕ → Task
 
 -- `takes_colors` says whether the output takes colours
@@ -135,8 +141,10 @@ task_of takes_colors (commands.Report asked form) = call_of calls.Report (asked_
 task_of takes_colors (commands.Plan asked what finding form) = call_of (calls.Plan what finding) (asked_for (calls.Plan what finding) asked) (writings.Paths form.end)
 task_of takes_colors (commands.Modules asked) = call_of calls.Modules (asked_for calls.Modules asked) writings.AsItIs
 task_of takes_colors (commands.State asked form) = call_of calls.State (asked_for calls.State asked) (writings.Lines (styled form takes_colors))
-task_of takes_colors (commands.Files asked listing) = word_of (listing_of listing) asked
+task_of takes_colors (commands.Files asked wants) = word_of (listing_of wants) asked
 task_of takes_colors (commands.Clean asked wants) = word_of (cleaning_of wants) asked
+task_of takes_colors (commands.Check asked checking) = check_of checking asked
+task_of takes_colors (commands.Compare asked comparing) = compare_of comparing asked
 task_of takes_colors (commands.Help topic) = offer_of (help_of topic)
 task_of takes_colors commands.Version = offer_of version
 
@@ -155,9 +163,15 @@ found_at place directory asked t owned = here_in t owned place.current place.var
 abbrev pub word_at : Place → Option (List ℕ) → OwnWord → Asked → Names → Owned → Result Found HereRefusal
 word_at place directory word asked t owned = word_in t owned place.current place.variables directory asked word
 
+abbrev pub answered_at : Place → Option (List ℕ) → CheckAsked → Asked → Names → Owned → Result Reply HereRefusal
+answered_at place directory wants asked t owned = answered_in t owned place.current place.variables directory asked wants
+
+-- what a task is answered with; `diff-files` is answered beside these
 abbrev pub AnswersTask : {W I O : Type 0} → WorktreeOf W → InterruptOf I → OwnersOf O → W → W → I → I → O → O → Place → Option (List ℕ) → Result Reply HereRefusal → Task → Type 0
 AnswersTask w i o w0 w1 i0 i1 o0 o1 place directory answer (call_of call asked writing) = SaysPlainly (AnswersCall w i o w0 w1 i0 i1 o0 o1 (found_at place directory asked) call writing) answer
 AnswersTask w i o w0 w1 i0 i1 o0 o1 place directory answer (word_of word asked) = AnswersWord w i o w0 w1 i0 i1 o0 o1 (word_at place directory word asked) word answer
+AnswersTask w i o w0 w1 i0 i1 o0 o1 place directory answer (check_of wants asked) = Checks w o w0 w1 o0 o1 (answered_at place directory wants asked) answer × (i1 ≡ i0)
+AnswersTask w i o w0 w1 i0 i1 o0 o1 place directory answer (compare_of comparing asked) = ⊥
 AnswersTask w i o w0 w1 i0 i1 o0 o1 place directory answer (offer_of text) = SaysPlainly (Offers w0 w1 i0 i1 o0 o1 text) answer
 
 -- the words ask for this

@@ -1,6 +1,5 @@
 -- What `clean` names of a work tree that is found.
-use Rattle.std.specs.Prelude.{ℕ, List, [], ◌∷◌, Bool, true, false, ◌||◌, nat_eq, codes, Option, Some, None, Result, Ok, Err, if◌then◌else◌}
-use Rattle.std.specs.List.{flat_map, starts_with}
+use Rattle.std.specs.Prelude.{ℕ, List, [], Bool, true, false, ◌||◌, codes, Option, Some, None, Result, Ok, Err, if◌then◌else◌}
 use Rattle.gitbase_core.specs.Steps.{and_then}
 use Rattle.git_clean.specs.Cleaned.{TellsCleaning, cleaned_in}
 use Rattle.git_clean.specs.Walking.{walking}
@@ -30,6 +29,7 @@ use Rattle.tizhagor.specs.declared.refusal.HereRefusal.{HereRefusal}
 use Rattle.tizhagor.specs.declared.refusal.HereRefusal.TheVariants as errors
 use Rattle.tizhagor.specs.Asking.{around_in}
 use Rattle.tizhagor.specs.Listings.{all_named}
+use Rattle.tizhagor.specs.Patterns.{is_any, rules_of}
 
 -- ---- what the configuration says of `-f`
 
@@ -63,10 +63,6 @@ abbrev pub unforced_here : CleanAsked → Found → Option WrongClean
 unforced_here wants here = unforced wants.cleaning.dry_run wants.force (required_in here.config.sections)
 
 -- ---- what is asked of a cleaning
-
-abbrev pub is_any : List (List ℕ) → Bool
-is_any [] = false
-is_any (pattern ∷ patterns) = true
 
 abbrev pub with_patterns : Cleaning → Bool → Cleaning
 with_patterns cleaning patterns = record cleaning { patterns = patterns }
@@ -110,17 +106,6 @@ cleaning_with cleaning repositories quote_path = record cleaning { repositories 
 
 abbrev pub cleaning_for : CleanAsked → Found → Cleaning
 cleaning_for wants here = cleaning_with (cleaning_said wants) (is_forced_twice wants.force (is_lax_here here)) here.quote_path
-
--- a pattern as a line of a rules file: a `#` in front is a byte like any other
-abbrev pub pattern_line : List ℕ → List ℕ
-pattern_line pattern = if starts_with nat_eq pattern (codes "#") then 92 ∷ pattern else pattern
-
--- each behind a line feed
-abbrev pub rule_line : List ℕ → List ℕ
-rule_line pattern = 10 ∷ pattern_line pattern
-
-abbrev pub rules_of : List (List ℕ) → List ℕ
-rules_of patterns = flat_map rule_line patterns
 
 -- the setup with the patterns before all other rules, and the whole of the work tree to look at
 abbrev pub setup_with : List ℕ → Setup → Setup

@@ -7,6 +7,8 @@ use Rattle.git_places.specs.Variables.{Variable}
 use Rattle.git_setup.specs.declared.asked.Asked.{Asked}
 use Rattle.git_setup.specs.declared.each.AskedSpec.{AskedSpec}
 use Rattle.git_setup.specs.declared.found.Found.{Found}
+use Rattle.command_line.specs.declared.command.FilesAsked.{FilesAsked}
+use Rattle.ls_files.specs.Choices.{walks}
 use Rattle.ls_files.specs.Listed.{ListsFiles, listed, listed_in}
 use Rattle.ls_files.specs.Walking.{walking}
 use Rattle.ls_files.specs.Wrong.{wrong_in}
@@ -25,6 +27,16 @@ use Rattle.tizhagor.specs.declared.refusal.HereRefusal.{HereRefusal}
 use Rattle.tizhagor.specs.declared.refusal.HereRefusal.TheVariants as errors
 use Rattle.tizhagor.specs.declared.reply.Reply.{Reply}
 use Rattle.tizhagor.specs.Asking.{here_in}
+use Rattle.tizhagor.specs.Patterns.{is_any, rules_of}
+
+-- ---- what is asked of a listing
+
+abbrev pub with_patterns : Listing → Bool → Listing
+with_patterns listing patterns = record listing { patterns = patterns }
+
+-- whether there are patterns is said by these
+abbrev pub listing_said : FilesAsked → Listing
+listing_said wants = with_patterns wants.listing (is_any wants.patterns.items)
 
 -- ---- what is found for a listing
 
@@ -33,12 +45,12 @@ wrong_or here None = Ok here
 wrong_or here (Some wrong) = Err (errors.Listing wrong)
 
 -- what is found, unless there is no such listing of its index
-abbrev pub unless_wrong : Listing → Found → Result Found HereRefusal
-unless_wrong listing here = wrong_or here (wrong_in listing here.setup.index)
+abbrev pub unless_wrong : FilesAsked → Found → Result Found HereRefusal
+unless_wrong wants here = wrong_or here (wrong_in (listing_said wants) here.setup.index)
 
 -- The work tree around a directory and its setup, or the first refusal: as for any command, and then of the listing.
-abbrev pub listable_in : Names → Owned → List ℕ → List Variable → Option (List ℕ) → Listing → Asked → Result Found HereRefusal
-listable_in t owned current variables directory listing asked = and_then (unless_wrong listing) (here_in t owned current variables directory asked)
+abbrev pub listable_in : Names → Owned → List ℕ → List Variable → Option (List ℕ) → FilesAsked → Asked → Result Found HereRefusal
+listable_in t owned current variables directory wants asked = and_then (unless_wrong wants) (here_in t owned current variables directory asked)
 
 -- ---- what is listed by it
 
@@ -46,15 +58,20 @@ listable_in t owned current variables directory listing asked = and_then (unless
 abbrev pub listing_with : Listing → Bool → Listing
 listing_with listing quote_path = record listing { quote_path = quote_path }
 
-abbrev pub listing_for : Listing → Found → Listing
-listing_for listing here = listing_with listing here.quote_path
+abbrev pub listing_for : FilesAsked → Found → Listing
+listing_for wants here = listing_with (listing_said wants) here.quote_path
 
--- the setup with the options that a listing needs
-abbrev pub setup_with : Listing → Setup → Setup
-setup_with listing setup = record setup { options = walking listing setup.options }
+-- the rules of the repository and of the user are asked with `--exclude-standard` alone
+abbrev pub globals_for : Listing → List ℕ → List ℕ
+globals_for listing globals = if listing.excludes_standard then globals else []
 
-abbrev pub setup_for : Listing → Found → Setup
-setup_for listing here = setup_with listing here.setup
+-- the setup with the options that a listing needs, and with patterns before all other rules
+abbrev pub setup_with : Listing → List ℕ → Setup → Setup
+setup_with listing rules setup =
+    record setup { options = walking listing setup.options; overrides = rules; globals = globals_for listing setup.globals }
+
+abbrev pub setup_for : FilesAsked → Found → Setup
+setup_for wants here = setup_with (listing_said wants) (rules_of wants.patterns.items) here.setup
 
 abbrev pub named_of : AskedSpec → NamedSpec
 named_of asked = record { text = asked.text; spec = asked.spec }
@@ -62,21 +79,21 @@ named_of asked = record { text = asked.text; spec = asked.spec }
 abbrev pub all_named : Found → List NamedSpec
 all_named here = map named_of here.each
 
--- over a tree: by a report of the work tree, where what the index does not have is listed
-abbrev pub listed_for : Bool → Names → Found → Listing → Option Listed
-listed_for composes t here listing =
-    if listing.others then listed_in composes t here.root (setup_for listing here) (listing_for listing here) here.prefix (all_named here)
-    else Some (listed (listing_for listing here) here.prefix (all_named here) (setup_for listing here) [])
+-- over a tree: by a report of the work tree, where what stands there is listed
+abbrev pub listed_for : Bool → Names → Found → FilesAsked → Option Listed
+listed_for composes t here wants =
+    if walks wants.listing then listed_in composes t here.root (setup_for wants here) (listing_for wants here) here.prefix (all_named here)
+    else Some (listed (listing_for wants here) here.prefix (all_named here) (setup_for wants here) [])
 
 -- it can be had
-abbrev pub IsListable : Bool → Names → Found → Listing → Type 0
-IsListable composes t here listing =
-    MatchBool listing.others (IsValidAt composes (read_in t (setup_for listing here)) here.root (setup_for listing here)) (Unit {0})
+abbrev pub IsListable : Bool → Names → Found → FilesAsked → Type 0
+IsListable composes t here wants =
+    MatchBool (walks wants.listing) (IsValidAt composes (read_in t (setup_for wants here)) here.root (setup_for wants here)) (Unit {0})
 
 -- what making it says, where a worktree was `w0` and is `w1`, and an interrupt was `i0` and is `i1`
-abbrev pub Lists : {W I : Type 0} → WorktreeOf W → InterruptOf I → W → W → I → I → Listing → Found → Result Listed Refusal → Type 0
-Lists w i w0 w1 i0 i1 listing here answer =
-    ListsFiles w i (w.precomposes w0) w0 w1 i0 i1 here.root (setup_for listing here) (listing_for listing here) here.prefix (all_named here) answer
+abbrev pub Lists : {W I : Type 0} → WorktreeOf W → InterruptOf I → W → W → I → I → FilesAsked → Found → Result Listed Refusal → Type 0
+Lists w i w0 w1 i0 i1 wants here answer =
+    ListsFiles w i (w.precomposes w0) w0 w1 i0 i1 here.root (setup_for wants here) (listing_for wants here) here.prefix (all_named here) answer
 
 -- ---- what is said
 

@@ -6,7 +6,7 @@ use Rattle.git_places.specs.Variables.{Variable}
 use Rattle.git_setup.specs.declared.asked.Asked.{Asked}
 use Rattle.git_setup.specs.declared.found.Found.{Found}
 use Rattle.command_line.specs.declared.command.CleanAsked.{CleanAsked}
-use Rattle.ls_files.specs.declared.listing.Listing.{Listing}
+use Rattle.command_line.specs.declared.command.FilesAsked.{FilesAsked}
 use Rattle.worktree_fs.specs.declared.interrupt.Interrupt.{Ghosts as InterruptOf}
 use Rattle.worktree_fs.specs.declared.worktree.Worktree.{Ghosts as WorktreeOf}
 use Rattle.worktree_fs.specs.Owners.{Owned}
@@ -23,27 +23,27 @@ use Rattle.tizhagor.specs.Texts.{RefusesReport}
 
 -- one of git's own words, with what is asked of it
 pub data OwnWord : Type 0 where
-  listing_of : Listing → OwnWord
+  listing_of : FilesAsked → OwnWord
   cleaning_of : CleanAsked → OwnWord
 
 -- the work tree around a directory and its setup, or the first refusal
 abbrev pub word_in : Names → Owned → List ℕ → List Variable → Option (List ℕ) → Asked → OwnWord → Result Found HereRefusal
-word_in t owned current variables directory asked (listing_of listing) = listable_in t owned current variables directory listing asked
+word_in t owned current variables directory asked (listing_of wants) = listable_in t owned current variables directory wants asked
 word_in t owned current variables directory asked (cleaning_of wants) = cleanable_in t owned current variables directory wants asked
 
 -- the reply, over a tree
 abbrev pub said_for : Bool → Names → Found → OwnWord → Option Reply
-said_for composes t here (listing_of listing) = option_map reply_of (listed_for composes t here listing)
+said_for composes t here (listing_of wants) = option_map reply_of (listed_for composes t here wants)
 said_for composes t here (cleaning_of wants) = option_map plain (cleaned_for composes t here wants)
 
 -- it can be had
 abbrev pub IsSayable : Bool → Names → Found → OwnWord → Type 0
-IsSayable composes t here (listing_of listing) = IsListable composes t here listing
+IsSayable composes t here (listing_of wants) = IsListable composes t here wants
 IsSayable composes t here (cleaning_of wants) = IsCleanable composes t here wants
 
 -- it is refused over a tree
 abbrev pub RefusesWord : Bool → Names → Found → Refusal → OwnWord → Type 0
-RefusesWord composes t here refusal (listing_of listing) = RefusesReport composes t here.root (list.setup_for listing here) refusal
+RefusesWord composes t here refusal (listing_of wants) = RefusesReport composes t here.root (list.setup_for wants here) refusal
 RefusesWord composes t here refusal (cleaning_of wants) = RefusesReport composes t here.root (clean.setup_for wants here) refusal
 
 -- The reply is that of something that was made.
@@ -59,5 +59,5 @@ Replies as_reply Makes (Err refusal) = Makes (Err refusal)
 
 -- what making the reply says, where a worktree was `w0` and is `w1`, and an interrupt was `i0` and is `i1`
 abbrev pub Says : {W I : Type 0} → WorktreeOf W → InterruptOf I → W → W → I → I → Found → Result Reply Refusal → OwnWord → Type 0
-Says w i w0 w1 i0 i1 here answer (listing_of listing) = Replies reply_of (Lists w i w0 w1 i0 i1 listing here) answer
+Says w i w0 w1 i0 i1 here answer (listing_of wants) = Replies reply_of (Lists w i w0 w1 i0 i1 wants here) answer
 Says w i w0 w1 i0 i1 here answer (cleaning_of wants) = Replies plain (Cleans w i w0 w1 i0 i1 wants here) answer

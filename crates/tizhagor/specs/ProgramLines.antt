@@ -17,9 +17,9 @@ walk_phrase words.MissingRoot = codes "fatal: nothing is there: '"
 walk_phrase words.AbsentDirectory = codes "fatal: directory is gone: '"
 walk_phrase words.NotADirectory = codes "fatal: no longer a directory: '"
 walk_phrase words.RulesFile = codes "fatal: ignore rules are not read: '"
-walk_phrase words.Blob = codes "fatal: ignore rules are in a file that is not checked out, and objects are not read; check it out: '"
+walk_phrase words.Blob = codes "fatal: a skipped .gitignore is not checked out, and objects are not read; git ls-files -s names it by '"
 walk_phrase words.Lookup = codes "fatal: ignore rules cannot be asked: '"
-walk_phrase words.TooDeep = codes "fatal: deeper than --depth, or than 1000 directories: '"
+walk_phrase words.TooDeep = codes "fatal: deeper than --depth (256 where it is not said, at most 1000): '"
 
 abbrev pub misread_line : Misread → List ℕ
 misread_line (misread.Config at line) = with_number (codes "fatal: bad config line ") line (with_number (codes " in configuration ") at (codes "\n"))

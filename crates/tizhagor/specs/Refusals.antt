@@ -10,10 +10,21 @@ use Rattle.worktree_report.specs.declared.refusal.Refusal.{Refusal}
 use Rattle.worktree_report.specs.declared.refusal.Refusal.TheVariants as refusals
 use Rattle.ls_files.specs.Wrong.{wrong_text}
 use Rattle.command_line.specs.Misuses.{said}
+use Rattle.check_ignore.specs.Told.{told}
+use Rattle.check_ignore.specs.Wrong as checks
+use Rattle.check_ignore.specs.declared.stop.Stop.{Stop}
+use Rattle.check_ignore.specs.declared.stop.Stop.TheVariants as stops
 use Rattle.command_line.specs.declared.misuse.Misuse.{Misuse}
 use Rattle.command_line.specs.declared.misuse.Misuse.TheVariants as misuses
 use Rattle.tizhagor.specs.declared.refusal.HereRefusal.{HereRefusal}
 use Rattle.tizhagor.specs.declared.refusal.HereRefusal.TheVariants as errors
+use Rattle.tizhagor.specs.declared.refusal.Unchecked.{Unchecked}
+use Rattle.tizhagor.specs.declared.refusal.Unchecked.TheVariants as unchecked
+use Rattle.tizhagor.specs.declared.refusal.Uncompared.{Uncompared}
+use Rattle.tizhagor.specs.declared.refusal.Uncompared.TheVariants as reasons
+use Rattle.diff_files.specs.Texts.{unsupported_text}
+use Rattle.diff_files.specs.declared.error.DiffError.{DiffError}
+use Rattle.diff_files.specs.declared.error.DiffError.TheVariants as differences
 use Rattle.tizhagor.specs.CleanLines.{clean_text}
 use Rattle.tizhagor.specs.FilesLines.{files_line}
 use Rattle.tizhagor.specs.IndexLines.{entry_reason, file_reason}
@@ -62,6 +73,28 @@ of_git git.OutOfMemory = memory
 abbrev pub as_git : {A : Type 0} → Result A GitRefusal → Result A HereRefusal
 as_git answer = refused_as of_git answer
 
+-- that a work tree is not compared with its index
+abbrev pub of_diff : DiffError → HereRefusal
+of_diff (differences.Unsupported form) = errors.Uncompared (reasons.Form form)
+of_diff differences.Fault = fault
+of_diff differences.OutOfMemory = memory
+
+-- that nothing is answered of paths in the work tree at `root`
+abbrev pub of_stop : List ℕ → Stop → HereRefusal
+of_stop root stops.SparseIndex = errors.Unchecked (unchecked.Stopped root stops.SparseIndex)
+of_stop root stops.Empty = errors.Unchecked (unchecked.Stopped root stops.Empty)
+of_stop root (stops.Magic text) = errors.Unchecked (unchecked.Stopped root (stops.Magic text))
+of_stop root (stops.Elsewhere text) = errors.Unchecked (unchecked.Stopped root (stops.Elsewhere text))
+of_stop root (stops.Prefix text) = errors.Unchecked (unchecked.Stopped root (stops.Prefix text))
+of_stop root (stops.Outside text) = errors.Unchecked (unchecked.Stopped root (stops.Outside text))
+of_stop root (stops.Beyond text) = errors.Unchecked (unchecked.Stopped root (stops.Beyond text))
+of_stop root (stops.Inside text place) = errors.Unchecked (unchecked.Stopped root (stops.Inside text place))
+of_stop root (stops.Slash text) = errors.Unchecked (unchecked.Stopped root (stops.Slash text))
+of_stop root (stops.Everything text) = errors.Unchecked (unchecked.Stopped root (stops.Everything text))
+of_stop root (stops.Unread text) = errors.Unchecked (unchecked.Stopped root (stops.Unread text))
+of_stop root stops.Fault = fault
+of_stop root stops.OutOfMemory = memory
+
 -- that there is no text by a setup
 abbrev pub as_program : {A : Type 0} → Result A Refusal → Result A HereRefusal
 as_program (Ok text) = Ok text
@@ -76,6 +109,8 @@ IsOfFinding (errors.NotAtTop root) = Unit {0}
 IsOfFinding errors.Elsewhere = Unit {0}
 IsOfFinding (errors.Git refusal) = Unit {0}
 IsOfFinding (errors.Listing wrong) = Unit {0}
+IsOfFinding (errors.Uncompared reason) = Unit {0}
+IsOfFinding (errors.Unchecked reason) = Unit {0}
 IsOfFinding (errors.Cleaning wrong) = Unit {0}
 IsOfFinding (errors.Program refusals.Interrupted) = ⊥
 IsOfFinding (errors.Program refusals.Usage) = ⊥
@@ -96,6 +131,8 @@ status_of (errors.NotAtTop root) = 128
 status_of errors.Elsewhere = 128
 status_of (errors.Git refusal) = 128
 status_of (errors.Listing wrong) = 128
+status_of (errors.Uncompared reason) = 128
+status_of (errors.Unchecked reason) = 128
 status_of (errors.Cleaning wrong) = 128
 status_of (errors.Program refusal) = program_status refusal
 
@@ -123,6 +160,18 @@ git_line (git.SubmoduleCase path) =
 git_line git.Fault = fault_line
 git_line git.OutOfMemory = memory_line
 
+abbrev pub uncompared_text : Uncompared → List ℕ
+uncompared_text reasons.Exclusive = codes "options '--name-only', '--name-status', '--check', and '-s' cannot be used together"
+uncompared_text (reasons.Form form) = unsupported_text form
+
+abbrev pub unchecked_text : Unchecked → List ℕ
+unchecked_text (unchecked.Wrong wrong) = checks.wrong_text wrong
+unchecked_text (unchecked.Stopped root stop) = told root stop
+
+-- control bytes and backslashes of paths are escaped, as in every line
+abbrev pub unchecked_line : Unchecked → List ℕ
+unchecked_line reason = with_path (codes "fatal: ") (unchecked_text reason) (codes "\n")
+
 -- the line on standard error, its line feed included
 abbrev pub line_of : HereRefusal → List ℕ
 line_of (errors.Words misuse) = said misuse
@@ -132,5 +181,7 @@ line_of (errors.NotAtTop root) = with_path (codes "fatal: what is to be deleted 
 line_of errors.Elsewhere = codes "fatal: clean is not supported with -C: it works in the current directory\n"
 line_of (errors.Git refusal) = git_line refusal
 line_of (errors.Listing wrong) = codes "fatal: " ++ wrong_text wrong ++ codes "\n"
+line_of (errors.Uncompared reason) = codes "fatal: " ++ uncompared_text reason ++ codes "\n"
+line_of (errors.Unchecked reason) = unchecked_line reason
 line_of (errors.Cleaning wrong) = codes "fatal: " ++ clean_text wrong ++ codes "\n"
 line_of (errors.Program refusal) = program_line refusal

@@ -3,9 +3,12 @@ ghost use Rattle.std.specs.Prelude.{◌≡◌, ◌≤◌, ◌⊎◌, true, Some,
 ghost use Rattle.worktree_fs.specs.Causes.{Increased, NotIncreased};
 ghost use Rattle.worktree_fs.specs.Owners.{Owned};
 ghost use Rattle.worktree_fs.specs.Tree.{Names};
+ghost use Rattle.diff_files.specs.Stats.{Told};
+ghost use Rattle.std.specs.Prelude.{Result as ResultOf};
 ghost use Rattle.tizhagor.specs.Answers as answers;
 ghost use Rattle.tizhagor.specs.Asking.{asked_for};
-ghost use Rattle.tizhagor.specs.Ends.{IsFatal, IsReplied, IsTold, IsToldOf, RunsHere};
+ghost use Rattle.tizhagor.specs.ComparedHere as compared;
+ghost use Rattle.tizhagor.specs.Ends.{EndsHere, IsFatal, IsReplied, IsTold, IsToldOf, RunsHere};
 ghost use Rattle.tizhagor.specs.Output as output;
 ghost use Rattle.tizhagor.specs.Parts.{memory_line};
 ghost use Rattle.tizhagor.specs.Refusals.{memory};
@@ -13,7 +16,9 @@ ghost use Rattle.tizhagor.specs.Replies.{SaysPlainly, plain};
 ghost use Rattle.tizhagor.specs.declared.reply.Reply.{Reply as ReplyOf};
 
 use crate::call::Call;
+use crate::check::check_here;
 use crate::clean::clean_here;
+use crate::compare::compare_here;
 use crate::ending::finish_here;
 use crate::files::files_here;
 use crate::found::asked_for;
@@ -22,6 +27,7 @@ use crate::reply::{Reply, plainly};
 use crate::texts::text_here;
 use crate::writing::{Writing, written};
 use command_line::{Command, help_of, request_of, styled, version};
+use diff_files::Stats;
 use git_places::Variable;
 use git_setup::Asked;
 use gitbase_core::Bytes;
@@ -96,10 +102,11 @@ fn offered(alloc: Global, text: &[u8]) -> Result<Reply, HereRefusal>
 }
 
 /// What is said of a command, or why nothing is.
-fn reply_of<W: CountsFaults, O: Owners, I: Interrupt>(
+fn reply_of<W: CountsFaults, O: Owners, D: Stats, I: Interrupt>(
     alloc: Global,
     worktree: &mut W,
     owners: &mut O,
+    stats: &mut D,
     interrupt: &mut I,
     current: &[u8],
     variables: &[Variable],
@@ -107,8 +114,8 @@ fn reply_of<W: CountsFaults, O: Owners, I: Interrupt>(
     directory: &Option<Bytes>,
     command: Command,
 ) -> Result<Reply, HereRefusal>
-    ensures { answers.AnswersTask W.Worktree I.Interrupt O.Owners worktree.old worktree.new
-        interrupt.old interrupt.new owners.old owners.new
+    ensures { compared.AnswersAny W.Worktree I.Interrupt O.Owners D.Stats worktree.old worktree.new
+        interrupt.old interrupt.new owners.old owners.new stats.old stats.new
         (answers.placed current.now variables.now takes_colors) directory.now result
         (answers.task_of takes_colors command) }
 {
@@ -150,11 +157,17 @@ fn reply_of<W: CountsFaults, O: Owners, I: Interrupt>(
                 writing,
             )
         }
-        Command::Files { asked, listing } => files_here(
-            alloc, worktree, owners, interrupt, current, variables, directory, &listing, &asked,
+        Command::Files { asked, files } => files_here(
+            alloc, worktree, owners, interrupt, current, variables, directory, &files, &asked,
         ),
         Command::Clean { asked, clean } => clean_here(
             alloc, worktree, owners, interrupt, current, variables, directory, &clean, asked,
+        ),
+        Command::Check { asked, checking } => check_here(
+            alloc, worktree, owners, current, variables, directory, &asked, &checking,
+        ),
+        Command::Compare { asked, comparing } => compare_here(
+            alloc, worktree, owners, stats, current, variables, directory, &asked, &comparing,
         ),
         Command::Help(topic) => offered(alloc, help_of(topic)),
         Command::Version => offered(alloc, version()),
@@ -162,18 +175,19 @@ fn reply_of<W: CountsFaults, O: Owners, I: Interrupt>(
 }
 
 /// What is said of what the words ask for, or why nothing is.
-fn reply_asked<W: CountsFaults, O: Owners, I: Interrupt>(
+fn reply_asked<W: CountsFaults, O: Owners, D: Stats, I: Interrupt>(
     alloc: Global,
     words: &[Bytes],
     worktree: &mut W,
     owners: &mut O,
+    stats: &mut D,
     interrupt: &mut I,
     current: &[u8],
     variables: &[Variable],
     takes_colors: bool,
 ) -> Result<Reply, HereRefusal>
-    ensures { answers.AnswersHere W.Worktree I.Interrupt O.Owners worktree.old worktree.new
-        interrupt.old interrupt.new owners.old owners.new
+    ensures { compared.Answers W.Worktree I.Interrupt O.Owners D.Stats worktree.old worktree.new
+        interrupt.old interrupt.new owners.old owners.new stats.old stats.new
         (answers.placed current.now variables.now takes_colors) words.now result }
 {
     let request = request_of(alloc, words)?;
@@ -182,6 +196,7 @@ fn reply_asked<W: CountsFaults, O: Owners, I: Interrupt>(
         alloc,
         worktree,
         owners,
+        stats,
         interrupt,
         current,
         variables,
@@ -195,25 +210,25 @@ fn reply_asked<W: CountsFaults, O: Owners, I: Interrupt>(
 /// environment: writes what they ask for to `out`, or says to `err` why there is nothing of that, and answers the status that
 /// the program is to end with. `takes_colors` says whether `out` takes colours.
 ///
-/// The words are `[-C DIR] report|plan|modules|state|ls-files|clean [OPTION..] [--] [PATH..]`, `--help` or `--version`, as [`request_of`] reads them. The
+/// The words are `[-C DIR] report|plan|modules|state|ls-files|clean|diff-files|check-ignore [OPTION..] [--] [PATH..]`, `--help` or `--version`, as [`request_of`] reads them. The
 /// work tree is the one around the directory, and the setup the one that its repository gives, as [`git_setup::setup_here`] finds them.
 ///
 /// | status | where |
 /// |---|---|
 /// | 0 | what is asked for was written whole |
-/// | 1 | the same, and the answer is no: `ls-files --error-unmatch`, where a path spec is about nothing; a line for each tells it |
+/// | 1 | the same, and the answer is no: `ls-files --error-unmatch`, where a path spec is about nothing; a line for each tells it; `diff-files` with `--exit-code` or `--quiet`, where something changed; `check-ignore`, where no path is ignored |
 /// | 128 | there is nothing of what is asked for, or `out` refused bytes; the line tells why |
 /// | 129 | a word is wrong; the line names it |
 /// | 130 | the interrupt was raised, and counted it |
 ///
-/// A work tree is read where it is the user's or safe, as `owners` tell whose it is.
+/// A work tree is read where it is the user's or safe, as `owners` tell whose it is. What `diff-files` asks of nodes besides, `stats` tell.
 ///
 /// With a status above 1 nothing goes to `out`, but where `out` itself refused bytes, a front of them. With each status above 1 a line goes
 /// to `err`, with 129 the usage behind it, with 0 none; a refusal of `err` changes no byte of `out`, and no status but to 128. The
 /// interrupt is asked before each directory is read.
 ///
 /// See docs/DECISIONS.md#status-of-an-interrupt.
-pub fn answer_here<W: CountsFaults, O: Owners, I: Interrupt, S: Sink, E: Sink>(
+pub fn answer_here<W: CountsFaults, O: Owners, D: Stats, I: Interrupt, S: Sink, E: Sink>(
     alloc: Global,
     words: &[Bytes],
     current: &[u8],
@@ -221,6 +236,7 @@ pub fn answer_here<W: CountsFaults, O: Owners, I: Interrupt, S: Sink, E: Sink>(
     takes_colors: bool,
     worktree: &mut W,
     owners: &mut O,
+    stats: &mut D,
     interrupt: &mut I,
     out: &mut S,
     err: &mut E,
@@ -228,8 +244,8 @@ pub fn answer_here<W: CountsFaults, O: Owners, I: Interrupt, S: Sink, E: Sink>(
     // What the words ask for came to an answer: bytes, or a refusal with its cause. The status, `out` and `err` are as that answer has
     // it, and what stays is said of each.
     ensures runs { RunsHere S.Sink E.Sink out.old out.new err.old err.new
-        (answers.AnswersHere W.Worktree I.Interrupt O.Owners worktree.old worktree.new
-        interrupt.old interrupt.new owners.old owners.new
+        (compared.Answers W.Worktree I.Interrupt O.Owners D.Stats worktree.old worktree.new
+        interrupt.old interrupt.new owners.old owners.new stats.old stats.new
         (answers.placed current.now variables.now takes_colors) words.now) result }
 
     // Status 0 or 1, but for a report: no fault was counted.
@@ -240,14 +256,19 @@ pub fn answer_here<W: CountsFaults, O: Owners, I: Interrupt, S: Sink, E: Sink>(
     // Status 0 or 1: the owners failed at nothing.
     ensures owners_unfaulted { result ≤ 1 → O.faults owners.new ≡ O.faults owners.old }
 
+    // And so did the stats.
+    ensures stats_unfaulted { result ≤ 1 → D.faults stats.new ≡ D.faults stats.old }
+
     // Status 0 or 1, over a told tree and told owners, and for a report with no fault counted: there is the reply to what the words ask for,
     // from the bytes of `.git` on. What `out` has is what it had, and the reply's bytes; `err` gained its lines; and the status is its own.
     // Where a setup text means the setup that was found, the text of a command is the one by that.
     ensures output { (t : Names) (owned : Owned)
         → W.told worktree.old ≡ Some t → O.told owners.old ≡ Some owned → result ≤ 1
-        → (reply : ReplyOf) × output.IsOutputHere (W.precomposes worktree.old) t owned
+        → (reply : ReplyOf) × (output.IsOutputHere (W.precomposes worktree.old) t owned
         (answers.placed current.now variables.now takes_colors) words.now
         (W.faults worktree.old) (W.faults worktree.new) reply
+        ⊎ compared.IsCompared t owned (D.told stats.old)
+        (answers.placed current.now variables.now takes_colors) words.now reply)
         × IsReplied S.Sink E.Sink out.old out.new err.old err.new reply result }
 
     // Status 129: a word is wrong. And where one is, that is the status, unless memory was wanted, which is told.
@@ -264,8 +285,11 @@ pub fn answer_here<W: CountsFaults, O: Owners, I: Interrupt, S: Sink, E: Sink>(
         → NotIncreased (S.refusals out.old) (S.refusals out.new)
         → IsToldOf E.Sink err.old err.new memory_line 128 result
         ⊎ IsFatal E.Sink err.old err.new
-        (output.RefusesHere (W.precomposes worktree.old) t owned
-        (answers.placed current.now variables.now takes_colors) words.now) }
+        (λ refusal. output.RefusesHere (W.precomposes worktree.old) t owned
+        (answers.placed current.now variables.now takes_colors) words.now refusal
+        ⊎ compared.RefusesCompared t owned (D.told stats.old) (D.faults stats.old)
+        (D.faults stats.new)
+        (answers.placed current.now variables.now takes_colors) words.now refusal) }
 
     // And the other way: where no work tree and no setup is found over them, and no fault was counted, the line says why, or that memory
     // was wanted, with its status.
@@ -291,12 +315,27 @@ pub fn answer_here<W: CountsFaults, O: Owners, I: Interrupt, S: Sink, E: Sink>(
         → NotIncreased (I.raised interrupt.old) (I.raised interrupt.new)
         → NotIncreased (S.refusals out.old) (S.refusals out.new)
         → (result ≤ 1) ⊎ IsToldOf E.Sink err.old err.new memory_line 128 result }
+
+    // `diff-files`, over a told tree, told owners and told stats, with no fault counted: it ends as what is found over them does, with its
+    // reply or with the line of its refusal; or want of memory is told.
+    ensures compared { (t : Names) (owned : Owned) (told : Told)
+        (wanted : ResultOf ReplyOf HereRefusal)
+        → W.told worktree.old ≡ Some t → O.told owners.old ≡ Some owned
+        → D.told stats.old ≡ Some told
+        → compared.ComparesTo t owned told
+        (answers.placed current.now variables.now takes_colors) words.now wanted
+        → NotIncreased (W.faults worktree.old) (W.faults worktree.new)
+        → NotIncreased (O.faults owners.old) (O.faults owners.new)
+        → NotIncreased (D.faults stats.old) (D.faults stats.new)
+        → IsToldOf E.Sink err.old err.new memory_line 128 result
+        ⊎ EndsHere S.Sink E.Sink out.old out.new err.old err.new wanted result }
 {
     let answer = reply_asked(
         alloc,
         words,
         worktree,
         owners,
+        stats,
         interrupt,
         current,
         variables,

@@ -1,5 +1,5 @@
 //! What `clean` names of the work tree around a directory.
-ghost use Rattle.std.specs.Prelude.{◌≡◌, ◌++◌, codes, None, IfOk, IfErr, OnOk};
+ghost use Rattle.std.specs.Prelude.{◌≡◌, codes, None, IfOk, IfErr};
 ghost use Rattle.git_clean.specs.Wrong.{wrong_in};
 ghost use Rattle.tizhagor.specs.Answers as answers;
 ghost use Rattle.tizhagor.specs.Cleanings as words;
@@ -10,6 +10,7 @@ ghost use Rattle.tizhagor.specs.Refusals.{IsOfFinding};
 use crate::cleaning::{WrongClean, is_lax, required_in, unforced_here};
 use crate::files::all_named;
 use crate::found::around_here;
+use crate::patterns::{is_any, rules_of};
 use crate::refusal::HereRefusal;
 use crate::reply::{Reply, of_text, replied};
 use command_line::CleanAsked;
@@ -20,16 +21,6 @@ use gitbase_core::{Bytes, OutOfMemory};
 use std::alloc::Global;
 use worktree_fs::{Interrupt, Owners, Worktree};
 use worktree_report::{CountsFaults, Refusal, Setup};
-
-/// Whether there are patterns.
-fn is_any(patterns: &[Bytes]) -> bool
-    ensures { result ≡ words.is_any patterns.now }
-{
-    match patterns {
-        [] => false,
-        _ => true,
-    }
-}
 
 /// The cleaning, with whether there are patterns.
 fn with_patterns(cleaning: &Cleaning, patterns: bool) -> Cleaning
@@ -95,29 +86,6 @@ fn cleaning_with(cleaning: &Cleaning, repositories: bool, quote_path: bool) -> C
     cleaning.repositories = repositories;
     cleaning.quote_path = quote_path;
     cleaning
-}
-
-/// Adds a pattern as a line of a rules file, behind a line feed.
-fn add_rule(text: &mut Vec<u8>, pattern: &[u8]) -> Result<(), OutOfMemory>
-    ensures { OnOk result (text.new.items ≡ text.old.items ++ words.rule_line pattern.now) }
-{
-    text.push(b'\n')?;
-    if pattern.starts_with(b"#") {
-        text.push(b'\\')?;
-    }
-    text.extend_from_slice(pattern)?;
-    Ok(())
-}
-
-/// Patterns as the text of a rules file.
-fn rules_of(alloc: Global, patterns: &[Bytes]) -> Result<Bytes, OutOfMemory>
-    ensures { IfOk result (λ rules. rules ≡ words.rules_of patterns.now) }
-{
-    let mut text = Vec::new(alloc);
-    for pattern in patterns {
-        add_rule(&mut text, pattern.as_bytes())?;
-    }
-    Ok(Bytes::from_vec(text))
 }
 
 /// A setup with these rules before all others, and the whole of the work tree to look at.

@@ -8,8 +8,10 @@ ghost use Rattle.tizhagor.specs.OwnWords as own;
 ghost use Rattle.tizhagor.specs.Refusals.{IsOfFinding};
 
 use crate::found::found_here;
+use crate::patterns::{is_any, rules_of};
 use crate::refusal::HereRefusal;
 use crate::reply::{Reply, replied};
+use command_line::FilesAsked;
 use git_places::Variable;
 use git_setup::{Asked, AskedSpec, EachSpec, Found};
 use gitbase_core::{Bytes, OutOfMemory};
@@ -17,6 +19,22 @@ use ls_files::{Listed, Listing, NamedSpec, list_files, walk_options, wrong_in};
 use std::alloc::Global;
 use worktree_fs::{Interrupt, Owners, Worktree};
 use worktree_report::{CountsFaults, Refusal, Setup};
+
+/// The listing, with whether there are patterns.
+fn with_patterns(listing: &Listing, patterns: bool) -> Listing
+    ensures { result ≡ words.with_patterns listing.now patterns }
+{
+    let mut listing = *listing;
+    listing.patterns = patterns;
+    listing
+}
+
+/// What is listed. Whether there are patterns is said by these.
+fn listing_said(wants: &FilesAsked) -> Listing
+    ensures { result ≡ words.listing_said wants.now }
+{
+    with_patterns(&wants.listing, is_any(&wants.patterns))
+}
 
 /// The work tree around a directory and its setup, unless there is no such listing of its index.
 fn listable_here<W: Worktree, O: Owners>(
@@ -26,19 +44,20 @@ fn listable_here<W: Worktree, O: Owners>(
     current: &[u8],
     variables: &[Variable],
     directory: &Option<Bytes>,
-    listing: &Listing,
+    wants: &FilesAsked,
     asked: &Asked,
 ) -> Result<Found, HereRefusal>
     ensures finds { FindsHereWith W.Worktree O.Owners worktree.old worktree.new owners.old
         owners.new (λ t owned. words.listable_in t owned current.now variables.now directory.now
-        listing.now asked.now) result }
+        wants.now asked.now) result }
     ensures of { IfErr result IsOfFinding }
-    ensures listable { IfOk result (λ here. wrong_in listing.now here.setup.index ≡ None) }
+    ensures listable { IfOk result
+        (λ here. wrong_in (words.listing_said wants.now) here.setup.index ≡ None) }
 {
     let found = found_here(
         alloc, worktree, owners, current, variables, directory, asked,
     )?;
-    match wrong_in(listing, &found.setup.index) {
+    match wrong_in(&listing_said(wants), &found.setup.index) {
         Some(wrong) => Err(HereRefusal::Listing(wrong)),
         None => Ok(found),
     }
@@ -53,11 +72,17 @@ fn listing_with(listing: &Listing, quote_path: bool) -> Listing
     listing
 }
 
-/// Gives a setup the options that a listing needs.
-fn prepare(setup: &mut Setup, listing: &Listing)
-    ensures { setup.new ≡ words.setup_with listing.now setup.old }
+/// A setup with the options that a listing needs, and with these rules before all others.
+fn setup_with(alloc: Global, listing: &Listing, rules: Bytes, setup: Setup) -> Setup
+    ensures { result ≡ words.setup_with listing.now rules setup }
 {
+    let mut setup = setup;
     setup.options = walk_options(listing, &setup.options);
+    setup.overrides = rules;
+    if !listing.excludes_standard {
+        setup.globals = Bytes::new(alloc);
+    }
+    setup
 }
 
 /// A path spec, as a listing takes it.
@@ -87,11 +112,11 @@ fn list_in<W: CountsFaults, I: Interrupt>(
     worktree: &mut W,
     interrupt: &mut I,
     found: Found,
-    listing: &Listing,
+    wants: &FilesAsked,
 ) -> Result<Listed, Refusal>
-    requires listable { wrong_in listing.now found.setup.index ≡ None }
+    requires listable { wrong_in (words.listing_said wants.now) found.setup.index ≡ None }
     ensures { words.Lists W.Worktree I.Interrupt worktree.old worktree.new interrupt.old
-        interrupt.new listing.now found result }
+        interrupt.new wants.now found result }
 {
     let Found {
         root,
@@ -102,9 +127,9 @@ fn list_in<W: CountsFaults, I: Interrupt>(
         config: _config,
     } = found;
     let named = all_named(alloc, each)?;
-    let quoting = listing_with(listing, quote_path);
-    let mut prepared = setup;
-    prepare(&mut prepared, &quoting);
+    let rules = rules_of(alloc, &wants.patterns)?;
+    let quoting = listing_with(&listing_said(wants), quote_path);
+    let prepared = setup_with(alloc, &quoting, rules, setup);
     list_files(
         alloc,
         worktree,
@@ -143,17 +168,17 @@ pub fn files_here<W: CountsFaults, O: Owners, I: Interrupt>(
     current: &[u8],
     variables: &[Variable],
     directory: &Option<Bytes>,
-    listing: &Listing,
+    wants: &FilesAsked,
     asked: &Asked,
 ) -> Result<Reply, HereRefusal>
     ensures { answers.AnswersWord W.Worktree I.Interrupt O.Owners worktree.old worktree.new
         interrupt.old interrupt.new owners.old owners.new
-        (λ t owned. words.listable_in t owned current.now variables.now directory.now listing.now
-        asked.now) (own.listing_of listing.now) result }
+        (λ t owned. words.listable_in t owned current.now variables.now directory.now wants.now
+        asked.now) (own.listing_of wants.now) result }
 {
     let found = listable_here(
-        alloc, worktree, owners, current, variables, directory, listing, asked,
+        alloc, worktree, owners, current, variables, directory, wants, asked,
     )?;
-    let answer = list_in(alloc, worktree, interrupt, found, listing);
+    let answer = list_in(alloc, worktree, interrupt, found, wants);
     replied(as_reply(answer))
 }

@@ -30,7 +30,7 @@ pub fn asked_for(call: Call, asked: Asked) -> Asked
 }
 
 /// The directory that `-C` names from the current one, if it names one.
-fn directory_in<W: Worktree>(
+pub fn directory_in<W: Worktree>(
     alloc: Global,
     worktree: &mut W,
     current: &[u8],

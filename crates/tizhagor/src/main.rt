@@ -3,14 +3,17 @@
 
 mod answer;
 mod call;
+mod check;
 mod clean;
 mod cleaning;
+mod compare;
 mod directory;
 mod ending;
 mod environment;
 mod files;
 mod found;
 mod lines;
+mod patterns;
 mod progress;
 mod refusal;
 mod reply;
@@ -20,6 +23,7 @@ mod texts;
 mod writing;
 
 use answer::answer_here;
+use diff_files::DiskStats;
 use environment::{Handed, NotGiven, given};
 use progress::Progress;
 use std::alloc::Global;
@@ -41,6 +45,7 @@ fn line_of(refused: NotGiven) -> &'static [u8] {
 fn answered(rt: &HostRuntime, alloc: Global, given: &Handed) -> Result<u8, NotGiven> {
     let mut worktree = DiskWorktree::beside(rt, false, given.beside.as_str());
     let mut owners = DiskOwners::new(rt);
+    let mut stats = DiskStats::new(rt);
     let mut progress = Progress::new(rt, alloc, &given.variables)?;
     let mut out = progress.out()?;
     let mut err = progress.err()?;
@@ -52,6 +57,7 @@ fn answered(rt: &HostRuntime, alloc: Global, given: &Handed) -> Result<u8, NotGi
         rt.stdout().is_terminal(),
         &mut worktree,
         &mut owners,
+        &mut stats,
         &mut progress,
         &mut out,
         &mut err,

@@ -1,11 +1,31 @@
 //! Why there is no text.
 use crate::cleaning::WrongClean;
+use check_ignore::{Stop, WrongCheck};
 use command_line::Misuse;
+use diff_files::{DiffError, Unsupported};
 use git_setup::GitRefusal;
-use gitbase_core::{Bytes, OutOfMemory};
+use gitbase_core::{Bytes, OutOfMemory, PathText};
 use ls_files::WrongListing;
 use worktree_fs::ReadError;
 use worktree_report::Refusal;
+
+/// Why a work tree is not compared with its index.
+#[derive(Clone, Copy, Debug, PartialEq, Eq)]
+pub enum Uncompared {
+    /// Two forms are asked for that git does not print together.
+    Exclusive,
+    /// The form is not answered here.
+    Form(Unsupported),
+}
+
+/// Why nothing is answered of paths that are checked.
+#[derive(Debug, Drop)]
+pub enum Unchecked {
+    /// There are no such words.
+    Wrong(WrongCheck),
+    /// Of a path in the work tree at `root`, or of its index; never as the worktree failed, nor for want of memory.
+    Stopped { root: PathText, stop: Stop },
+}
 
 /// Why there is no text of a work tree.
 #[derive(Debug, Drop)]
@@ -24,6 +44,10 @@ pub enum HereRefusal {
     Git(GitRefusal),
     /// There is no such listing: git has none, or it is not answered here.
     Listing(WrongListing),
+    /// The work tree is not compared with its index.
+    Uncompared(Uncompared),
+    /// Paths are not checked.
+    Unchecked(Unchecked),
     /// There is no such cleaning: git has none, or it is not answered here.
     Cleaning(WrongClean),
     /// There is no text by the setup that was found, or the worktree failed, or memory was wanted.
@@ -80,6 +104,21 @@ impl From<Misuse> for HereRefusal {
         match refused {
             Misuse::OutOfMemory => HereRefusal::Program(Refusal::OutOfMemory),
             refused => HereRefusal::Words(refused),
+        }
+    }
+}
+
+impl From<DiffError> for HereRefusal {
+    ghost use Rattle.std.specs.Prelude.{◌≡◌};
+    ghost use Rattle.tizhagor.specs.Refusals.{of_diff};
+
+    ghost from_gives = { λ refused e. e ≡ of_diff refused };
+
+    fn from(refused: DiffError) -> HereRefusal {
+        match refused {
+            DiffError::Unsupported(form) => HereRefusal::Uncompared(Uncompared::Form(form)),
+            DiffError::Fault => HereRefusal::Program(Refusal::Fault),
+            DiffError::OutOfMemory => HereRefusal::Program(Refusal::OutOfMemory),
         }
     }
 }

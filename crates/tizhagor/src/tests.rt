@@ -2,6 +2,7 @@
 //! git's words, from git version 2.39.5.
 use crate::answer::answer_here;
 use bstr::ByteSlice;
+use diff_files::{MemoryStats, NodeStat, StatNode};
 use git_places::Variable;
 use gitbase_core::Bytes;
 use std::alloc::Global;
@@ -74,6 +75,12 @@ ls-files --error-unmatch^/w/d^^^1^^error: pathspec 'd/' did not match any file(s
 ls-files -o --error-unmatch nope b^/w^^^1^b~^error: pathspec 'nope' did not match any file(s) known to git~Did you forget to 'git add'?~|\
 ls-files -o --error-unmatch :!e^/w^^^0^.gitignore~b~c.o~d/e~^|\
 ls-files -i^/w^^^128^^fatal: ls-files -i must be used with either -o or -c~|\
+ls-files -kt^/w^^/w/.git/index=DIRC\0\0\0\x02\0\0\0\x01\0\0\0\0\0\0\0\0\0\0\0\0\0\0\0\0\0\0\0\0\0\0\0\0\0\0\x81\xa4\
+\0\0\0\0\0\0\0\0\0\0\0\0\x58\x7b\xe6\xb4\xc3\xf9\x3f\x93\xc4\x89\xc0\x11\x1b\xba\x55\x96\x14\x7a\x26\xcb\0\x03b/x\
+\0\0\0\0\0\0\0\0\0\0\0\0\0\0\0\0\0\0\0\0\0\0\0\0\0\0\0^0^K b~^|\
+ls-files -ox b --exclude-standard^/w^^^0^.gitignore~d/e~^|\
+ls-files -o --exclude=#d -x e --exclude-per-directory=.gitignore^/w^^/w/#d=;/w/.git/info/exclude=b~^0^.gitignore~b~^|\
+ls-files -ox b^/w^^^128^^fatal: ls-files -x is not supported without --exclude-per-directory~|\
 ls-files -od^/w^^^129^^error: switch `d' is git's, and is not answered here~usage: tizhagor [-C DIR] ls-files|\
 clean -n^/w^^^0^Would remove .gitignore~Would remove b~^|\
 clean b -X -nd .^/w^^^0^Would remove c.o~^|\
@@ -87,7 +94,46 @@ clean -n \xc3\xa9^/w^^/w/.git/config=[core]~quotePath=false~;/w/\xc3\xa9=^0^Woul
 clean^/w^^^128^^fatal: clean.requireForce defaults to true and neither -i, -n, nor -f given; refusing to clean~|\
 clean -nxX^/w^^^128^^fatal: -x and -X cannot be used together~|\
 clean -fd^/w^^^128^^fatal: clean is not supported without -n: nothing is removed~|\
-clean -ni^/w^^^129^^error: switch `i' is git's, and is not answered here~usage: tizhagor [-C DIR] clean|\
+clean -ni^/w^^^129^^error: switch `i' is git's, and is not answered here~usage: tizhagor clean|\
+diff-files^/w^^^0^:100644 000000 587be6b4c3f93f93c489c0111bba5596147a26cb 0000000000000000000000000000000000000000 D\ta~^|\
+diff-files --exit-code --name-only --raw^/w^^^1^a~^|\
+diff-files --quiet^/w^^^1^^|\
+diff-files -- nowhere^/w^^^0^^|\
+-C d diff-files --name-status -q -- ..^/w^^^0^D\ta~^|\
+diff-files^/w^^%/w/a=f\x05\x02^0^:100644 100644 587be6b4c3f93f93c489c0111bba5596147a26cb 0000000000000000000000000000000000000000 M\ta~^|\
+diff-files^/w^^/w/.git/config=[core]~fileMode=false~;%/w/a=x\x05\x02^0^:100644 100644 587be6b4c3f93f93c489c0111bba5596147a26cb 0000000000000000000000000000000000000000 M\ta~^|\
+diff-files^/w^^/w/.git/index=DIRC\0\0\0\x02\0\0\0\x01\0\0\0\0\0\0\0\0\0\0\0\x05\0\0\0\0\0\0\0\0\0\0\0\0\0\0\x81\xa4\
+\0\0\0\0\0\0\0\0\0\0\0\x02\x58\x7b\xe6\xb4\xc3\xf9\x3f\x93\xc4\x89\xc0\x11\x1b\xba\x55\x96\x14\x7a\x26\xcb\0\x01a\0\
+\0\0\0\0\0\0\0\0\0\0\0\0\0\0\0\0\0\0\0\0;%/w/a=f\x05\x02;%/w/.git/index=f\x06\x68;/w/a=y~^0^^|\
+diff-files --name-status^/w^^/w/.git/index=DIRC\0\0\0\x02\0\0\0\x01\0\0\0\0\0\0\0\0\0\0\0\x05\0\0\0\0\0\0\0\0\0\0\0\0\0\0\x81\xa4\
+\0\0\0\0\0\0\0\0\0\0\0\x02\x58\x7b\xe6\xb4\xc3\xf9\x3f\x93\xc4\x89\xc0\x11\x1b\xba\x55\x96\x14\x7a\x26\xcb\0\x01a\0\
+\0\0\0\0\0\0\0\0\0\0\0\0\0\0\0\0\0\0\0\0;%/w/a=f\x05\x02;%/w/.git/index=f\x05\x68;/w/a=y~^0^M\ta~^|\
+diff-files --exit-code^/w^^/w/.git/index=DIRC\0\0\0\x02\0\0\0\x01\0\0\0\0\0\0\0\0\0\0\0\x05\0\0\0\0\0\0\0\0\0\0\0\0\0\0\x81\xa4\
+\0\0\0\0\0\0\0\0\0\0\0\x02\x58\x7b\xe6\xb4\xc3\xf9\x3f\x93\xc4\x89\xc0\x11\x1b\xba\x55\x96\x14\x7a\x26\xcb\0\x01a\0\
+\0\0\0\0\0\0\0\0\0\0\0\0\0\0\0\0\0\0\0\0;%/w/a=f\x05\x02;%/w/.git/index=f\x05\x68^0^^|\
+diff-files^/w^^/w/.git/index=DIRC\0\0\0\x02\0\0\0\x01\0\0\0\0\0\0\0\0\0\0\0\x05\0\0\0\0\0\0\0\0\0\0\0\0\0\0\x81\xa4\
+\0\0\0\0\0\0\0\0\0\0\0\x02\x58\x7b\xe6\xb4\xc3\xf9\x3f\x93\xc4\x89\xc0\x11\x1b\xba\x55\x96\x14\x7a\x26\xcb\0\x01a\0\
+\0\0\0\0\0\0\0\0\0\0\0\0\0\0\0\0\0\0\0\0;%/w/a=f\x05\x02;%/w/.git/index=f\x05\x68;/w/.git/info/attributes=^128^^fatal: diff-files is not supported where bytes are converted~|\
+diff-files --name-only --name-status^/w^^^128^^fatal: options '--name-only', '--name-status', '--check', and '-s' cannot be used together~|\
+diff-files^/w^^/w/.git/config=[core]~fsmonitor~^128^^fatal: core.fsmonitor is set, which is not heeded; unset it~|\
+diff-files a^/w^^^129^^error: `a' may be a revision; write `--' before paths~usage: tizhagor [-C DIR] diff-files|\
+check-ignore c.o b d/e^/w^^^0^c.o~^|\
+check-ignore -v -n ../c.o x.o b^/w/d^^^0^.gitignore:1:*.o\t../c.o~.gitignore:1:*.o\tx.o~::\tb~^|\
+-C d check-ignore -q x.o^/w^^^0^^|\
+check-ignore b^/w^^^1^^|\
+check-ignore -v x.u n /w/x.v^/w^^/w/.git/config=[core]~excludesFile=u~;/w/u=*.u~;/w/.git/info/exclude=n~/*.v~^0^u:1:*.u\tx.u~.git/info/exclude:1:n\tn~.git/info/exclude:2:/*.v\t/w/x.v~^|\
+check-ignore -v x.u^/w^HOME=/h^/h/.config/git/ignore=~*.u~^0^/h/.config/git/ignore:2:*.u\tx.u~^|\
+check-ignore -v a^/w^^/w/.git/info/exclude=a~^1^^|\
+check-ignore -v --no-index a^/w^^/w/.git/info/exclude=a~^0^.git/info/exclude:1:a\ta~^|\
+check-ignore \xc3\xa9.o^/w^^^0^\"\\303\\251.o\"~^|\
+check-ignore \xc3\xa9.o^/w^^/w/.git/config=[core]~quotePath=no~^0^\xc3\xa9.o~^|\
+check-ignore C.O^/w^^/w/.git/config=[core]~ignoreCase~^0^C.O~^|\
+check-ignore c.o ../x^/w^^^128^^fatal: ../x: '../x' is outside repository at '/w'~|\
+check-ignore -v d/^/w^^^128^^fatal: check-ignore is not supported with a directory that is neither tracked nor ignored: 'd/'~|\
+check-ignore^/w^^^128^^fatal: no path specified~|\
+check-ignore -nq a b^/w^^^128^^fatal: --quiet is only valid with a single pathname~|\
+check-ignore --stdin^/w^^^128^^fatal: check-ignore is not supported with --stdin~|\
+check-ignore --verb a^/w^^^129^^error: unknown option `--verb'~usage: tizhagor [-C DIR] check-ignore|\
 state a^/w^^^129^^error: `a' is a path, and this command takes none~|\
 state^/w^^/w/a=y~;/w/.git/index=DIRC\0\0\0\x04\0\0\0\x01\
 \0\0\0\0\0\0\0\0\0\0\0\0\0\0\0\0\0\0\0\0\0\0\0\0\0\0\x81\xa4\0\0\0\0\0\0\0\0\0\0\0\0\
@@ -105,9 +151,9 @@ fn lines_of(alloc: Global, text: &[u8]) -> Option<Vec<u8>> {
     Some(copy)
 }
 
-/// Whether a step was taken; one that tells an owner adds nothing to the tree.
+/// Whether a step was taken; one that tells an owner or stats adds nothing to the tree.
 fn is_taken(alloc: Global, tree: &mut MemoryWorktree, step: &[u8]) -> bool {
-    if step.starts_with(b"@") {
+    if step.starts_with(b"@") || step.starts_with(b"%") {
         return true;
     }
     match step.split_once_str(b"=") {
@@ -177,6 +223,53 @@ fn owners_of(alloc: Global, steps: &[u8]) -> Option<MemoryOwners> {
     Some(MemoryOwners::new(nodes))
 }
 
+/// What is told of a node: its mode by a letter, when it was written, and its size.
+fn stat_of(kind: u8, mtime: u8, size: u8) -> NodeStat {
+    let mode = match kind {
+        b'f' => 0o100644,
+        b'x' => 0o100755,
+        _ => 0o040755,
+    };
+    NodeStat {
+        mode,
+        mtime: u32::from(mtime),
+        ctime: 0,
+        uid: 0,
+        gid: 0,
+        ino: 0,
+        size: u64::from(size),
+    }
+}
+
+/// Adds what a step tells of a node besides, if it does.
+fn add_stat(alloc: Global, nodes: &mut Vec<StatNode>, step: &[u8]) -> Option<()> {
+    if let Some(told) = step.strip_prefix(b"%".as_slice()) {
+        let (path, said) = told.split_once_str(b"=")?;
+        let [kind, mtime, size] = said else {
+            return None;
+        };
+        let path = Bytes::from_slice(alloc, path).ok()?;
+        let stat = stat_of(*kind, *mtime, *size);
+        nodes
+            .push(StatNode {
+                path,
+                stat,
+                target: None,
+            })
+            .ok()?;
+    }
+    Some(())
+}
+
+/// The stats that these steps tell.
+fn stats_of(alloc: Global, steps: &[u8]) -> Option<MemoryStats> {
+    let mut nodes = Vec::new(alloc);
+    for step in steps.split(|byte| *byte == b';') {
+        add_stat(alloc, &mut nodes, step)?;
+    }
+    Some(MemoryStats::new(nodes))
+}
+
 fn words_of(alloc: Global, text: &[u8]) -> Option<Vec<Bytes>> {
     let mut words = Vec::new(alloc);
     for word in text.split(|byte| *byte == b' ') {
@@ -213,6 +306,7 @@ fn answer_of(
     variables: &[Variable],
     tree: &mut MemoryWorktree,
     owners: &mut MemoryOwners,
+    stats: &mut MemoryStats,
     mut interrupt: PlannedInterrupt,
     nth: u64,
 ) -> Option<Answer> {
@@ -227,6 +321,7 @@ fn answer_of(
         false,
         tree,
         owners,
+        stats,
         &mut interrupt,
         &mut out,
         &mut err,
@@ -265,6 +360,7 @@ fn holds_for(alloc: Global, row: &[u8], interrupt: PlannedInterrupt, nth: u64) -
     let variables = variables_of(alloc, variable)?;
     let mut tree = tree_of(alloc, steps)?;
     let mut owners = owners_of(alloc, steps)?;
+    let mut stats = stats_of(alloc, steps)?;
     let answer = answer_of(
         alloc,
         &words,
@@ -272,6 +368,7 @@ fn holds_for(alloc: Global, row: &[u8], interrupt: PlannedInterrupt, nth: u64) -
         &variables,
         &mut tree,
         &mut owners,
+        &mut stats,
         interrupt,
         nth,
     )?;

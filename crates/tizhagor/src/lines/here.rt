@@ -6,7 +6,8 @@ use crate::cleaning::WrongClean;
 use crate::lines::git::git_line;
 use crate::lines::program::{program_line, program_status};
 use crate::lines::{fixed, with_path};
-use crate::refusal::HereRefusal;
+use crate::refusal::{HereRefusal, Unchecked, Uncompared};
+use check_ignore::told;
 use command_line::said;
 use gitbase_core::{Bytes, OutOfMemory};
 use ls_files::WrongListing;
@@ -24,6 +25,8 @@ pub fn status_of(refusal: &HereRefusal) -> u8
         | HereRefusal::Elsewhere
         | HereRefusal::Git(_)
         | HereRefusal::Listing(_)
+        | HereRefusal::Uncompared(_)
+        | HereRefusal::Unchecked(_)
         | HereRefusal::Cleaning(_) => 128,
         HereRefusal::Program(refusal) => program_status(refusal),
     }
@@ -47,6 +50,48 @@ fn cleaning_line(alloc: Global, wrong: WrongClean) -> Result<Bytes, OutOfMemory>
     line.extend(alloc, wrong.text())?;
     line.extend(alloc, b"\n")?;
     Ok(line)
+}
+
+/// Why a work tree is not compared with its index.
+fn uncompared_text(reason: Uncompared) -> &'static [u8]
+    ensures { result.now ≡ words.uncompared_text reason }
+{
+    match reason {
+        Uncompared::Exclusive => {
+            b"options '--name-only', '--name-status', '--check', and '-s' cannot be used together"
+        }
+        Uncompared::Form(form) => form.text(),
+    }
+}
+
+/// The line that says so.
+fn uncompared_line(alloc: Global, reason: Uncompared) -> Result<Bytes, OutOfMemory>
+    ensures { IfOk result (λ line. line ≡ words.line_of (HereRefusal.Uncompared reason)) }
+{
+    let mut line = Bytes::from_slice(alloc, b"fatal: ")?;
+    line.extend(alloc, uncompared_text(reason))?;
+    line.extend(alloc, b"\n")?;
+    Ok(line)
+}
+
+/// Why paths are not checked.
+fn unchecked_text(alloc: Global, reason: &Unchecked) -> Result<Bytes, OutOfMemory>
+    ensures { IfOk result (λ text. text ≡ words.unchecked_text reason.now) }
+{
+    match reason {
+        Unchecked::Wrong(wrong) => Bytes::from_slice(alloc, wrong.text()),
+        Unchecked::Stopped { root, stop } => told(alloc, root.as_bytes(), stop),
+    }
+}
+
+/// The line that says so.
+///
+/// See docs/DIFFERENCES.md#check-ignore-lines.
+fn unchecked_line(alloc: Global, reason: &Unchecked) -> Result<Bytes, OutOfMemory>
+    ensures { IfOk result (λ line. line ≡ words.unchecked_line reason.now) }
+{
+    let text = unchecked_text(alloc, reason)?;
+    with_path(alloc, b"fatal: ", text.as_bytes(), b"\n")
 }
 
 /// The line on standard error, its line feed included.
@@ -83,6 +128,8 @@ pub fn line_of(alloc: Global, refusal: &HereRefusal) -> Result<Bytes, OutOfMemor
         ),
         HereRefusal::Git(refusal) => git_line(alloc, refusal),
         HereRefusal::Listing(wrong) => listing_line(alloc, *wrong),
+        HereRefusal::Uncompared(reason) => uncompared_line(alloc, *reason),
+        HereRefusal::Unchecked(reason) => unchecked_line(alloc, reason),
         HereRefusal::Cleaning(wrong) => cleaning_line(alloc, *wrong),
         HereRefusal::Program(refusal) => program_line(alloc, refusal),
     }

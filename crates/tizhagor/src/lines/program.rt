@@ -20,10 +20,11 @@ fn walk_phrase(word: WalkWord) -> &'static [u8]
         WalkWord::NotADirectory => b"fatal: no longer a directory: '",
         WalkWord::RulesFile => b"fatal: ignore rules are not read: '",
         WalkWord::Blob => {
-            b"fatal: ignore rules are in a file that is not checked out, and objects are not read; check it out: '"
+            b"fatal: a skipped .gitignore is not checked out, and objects are not read; git ls-files -s names it by '"
         }
         WalkWord::Lookup => b"fatal: ignore rules cannot be asked: '",
-        WalkWord::TooDeep => b"fatal: deeper than --depth, or than 1000 directories: '",
+        WalkWord::TooDeep =>
+            b"fatal: deeper than --depth (256 where it is not said, at most 1000): '",
     }
 }
 

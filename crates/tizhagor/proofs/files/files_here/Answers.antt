@@ -9,7 +9,7 @@ use Rattle.tizhagor.proofs.files.files_here.Goals as goal
 pub returns : goal.returns
 returns g c =
     let read = c.in_ok-found.ensures.finds in
-    by_word g.W.Worktree g.I.Interrupt g.O.Owners _ _ _ _ _ _ (λ t owned. listable_in t owned c.args.current.now c.args.variables.now c.args.directory.now c.args.listing.now c.args.asked.now) (listing_of c.args.listing.now) c.as_reply.result c.replied.result c.replied.ensures
+    by_word g.W.Worktree g.I.Interrupt g.O.Owners _ _ _ _ _ _ (λ t owned. listable_in t owned c.args.current.now c.args.variables.now c.args.directory.now c.args.wants.now c.args.asked.now) (listing_of c.args.wants.now) c.as_reply.result c.replied.result c.replied.ensures
     (record {
       here = c.in_ok-found.found;
       is = read.gives;
@@ -18,7 +18,7 @@ returns g c =
       unfaulted = read.unfaulted;
       owners = read.owners;
       owners_unfaulted = read.owners_unfaulted;
-      made = subst (λ (r : Result Reply Refusal). Replies reply_of (Lists g.W.Worktree g.I.Interrupt c.listable_here.new.worktree c.list_in-answer.new.worktree c.args.interrupt.now c.list_in-answer.new.interrupt c.args.listing.now c.in_ok-found.found) r)
+      made = subst (λ (r : Result Reply Refusal). Replies reply_of (Lists g.W.Worktree g.I.Interrupt c.listable_here.new.worktree c.list_in-answer.new.worktree c.args.interrupt.now c.list_in-answer.new.interrupt c.args.wants.now c.in_ok-found.found) r)
           (sym c.as_reply.ensures)
-          (replies_listed (Lists g.W.Worktree g.I.Interrupt c.listable_here.new.worktree c.list_in-answer.new.worktree c.args.interrupt.now c.list_in-answer.new.interrupt c.args.listing.now c.in_ok-found.found) c.list_in-answer.result c.list_in-answer.ensures);
+          (replies_listed (Lists g.W.Worktree g.I.Interrupt c.listable_here.new.worktree c.list_in-answer.new.worktree c.args.interrupt.now c.list_in-answer.new.interrupt c.args.wants.now c.in_ok-found.found) c.list_in-answer.result c.list_in-answer.ensures);
     })

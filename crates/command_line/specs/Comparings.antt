@@ -1,0 +1,127 @@
+-- The options of `diff-files` by their names: git-diff-files(1), "OPTIONS".
+use Rattle.std.specs.Prelude.{ℕ, List, Bool, true, false, ◌||◌, ◌==◌, nat_eq, drop, codes, Option, Some, None, option_map, if◌then◌else◌}
+use Rattle.std.specs.List.{list_any, starts_with}
+use Rattle.std.specs.Str.{bytes_eq}
+use Rattle.command_line.specs.declared.comparing.CompareChoice.{CompareChoice}
+use Rattle.command_line.specs.declared.comparing.CompareChoice.TheVariants as choices
+use Rattle.command_line.specs.declared.comparing.Comparing.{Comparing}
+use Rattle.command_line.specs.declared.opt.Opt.{Opt}
+use Rattle.command_line.specs.declared.opt.Opt.TheVariants as opts
+use Rattle.command_line.specs.Options.{first_of}
+
+-- no form is said, nothing ends in NULs, and the status tells nothing of changes
+abbrev pub default_comparing : Comparing
+default_comparing =
+    record { raw = false; names = false; statuses = false; ends_in_nul = false; tells_changes = false; is_quiet = false }
+
+-- with one choice made or dropped; `-q` changes nothing
+abbrev pub told_apart : CompareChoice → Bool → Comparing → Comparing
+told_apart choices.Raw on comparing = record comparing { raw = on }
+told_apart choices.Names on comparing = record comparing { names = on }
+told_apart choices.Statuses on comparing = record comparing { statuses = on }
+told_apart choices.Nul on comparing = record comparing { ends_in_nul = on }
+told_apart choices.Silent on comparing = comparing
+told_apart choices.TellsChanges on comparing = record comparing { tells_changes = on }
+told_apart choices.Quiet on comparing = record comparing { is_quiet = on }
+
+-- those that nothing turns off
+abbrev pub form_of : List ℕ → Option CompareChoice
+form_of name =
+    if bytes_eq name (codes "raw") then Some choices.Raw
+    else if bytes_eq name (codes "name-only") then Some choices.Names
+    else if bytes_eq name (codes "name-status") then Some choices.Statuses
+    else None
+
+-- those that `no-` before them turns off
+abbrev pub telling_of : List ℕ → Option CompareChoice
+telling_of name =
+    if bytes_eq name (codes "exit-code") then Some choices.TellsChanges
+    else if bytes_eq name (codes "quiet") then Some choices.Quiet
+    else None
+
+abbrev pub compares : Bool → Option CompareChoice → Option Opt
+compares is_on choice = option_map (λ (c : CompareChoice). opts.Compares c is_on) choice
+
+abbrev pub telling_by : List ℕ → Option Opt
+telling_by name =
+    if starts_with nat_eq name (codes "no-") then compares false (telling_of (drop 3 name)) else compares true (telling_of name)
+
+-- git's, of patches; not answered here
+abbrev pub is_left_patch : List ℕ → Bool
+is_left_patch name =
+    bytes_eq name (codes "patch")
+    || (bytes_eq name (codes "no-patch")
+    || (bytes_eq name (codes "unified")
+    || (bytes_eq name (codes "patch-with-raw")
+    || (bytes_eq name (codes "patch-with-stat")
+    || (bytes_eq name (codes "cc")
+    || (bytes_eq name (codes "check")
+    || (bytes_eq name (codes "binary")
+    || (bytes_eq name (codes "full-index")
+    || bytes_eq name (codes "text")))))))))
+
+-- of counts
+abbrev pub is_left_count : List ℕ → Bool
+is_left_count name =
+    bytes_eq name (codes "stat")
+    || (bytes_eq name (codes "numstat")
+    || (bytes_eq name (codes "shortstat")
+    || (bytes_eq name (codes "dirstat")
+    || (bytes_eq name (codes "compact-summary")
+    || bytes_eq name (codes "summary")))))
+
+-- of which changes are told, and of pairs
+abbrev pub is_left_filter : List ℕ → Bool
+is_left_filter name =
+    bytes_eq name (codes "diff-filter")
+    || (bytes_eq name (codes "find-renames")
+    || (bytes_eq name (codes "find-copies")
+    || (bytes_eq name (codes "find-copies-harder")
+    || (bytes_eq name (codes "no-renames")
+    || (bytes_eq name (codes "break-rewrites")
+    || (bytes_eq name (codes "irreversible-delete")
+    || (bytes_eq name (codes "find-object")
+    || (bytes_eq name (codes "pickaxe-all")
+    || (bytes_eq name (codes "pickaxe-regex")
+    || bytes_eq name (codes "ignore-submodules"))))))))))
+
+-- of stages, and of how paths and ids are written
+abbrev pub is_left_form : List ℕ → Bool
+is_left_form name =
+    bytes_eq name (codes "base")
+    || (bytes_eq name (codes "ours")
+    || (bytes_eq name (codes "theirs")
+    || (bytes_eq name (codes "relative")
+    || (bytes_eq name (codes "no-relative")
+    || (bytes_eq name (codes "abbrev")
+    || (bytes_eq name (codes "no-abbrev")
+    || (bytes_eq name (codes "color")
+    || (bytes_eq name (codes "no-color")
+    || (bytes_eq name (codes "line-prefix")
+    || bytes_eq name (codes "output"))))))))))
+
+abbrev pub is_left : List ℕ → Bool
+is_left name = is_left_patch name || (is_left_count name || (is_left_filter name || is_left_form name))
+
+abbrev pub comparing_by : List ℕ → Option Opt
+comparing_by name = first_of (compares true (form_of name)) (telling_by name)
+
+-- the option of a name, which stands behind `--`
+unfoldable pub comparing_opt_of : List ℕ → Option Opt
+comparing_opt_of name =
+    if bytes_eq name (codes "help") then Some opts.Help
+    else if is_left name then Some opts.Left
+    else comparing_by name
+
+-- git's, and not answered here
+abbrev pub is_left_letter : ℕ → Bool
+is_left_letter letter = list_any (λ left. left == letter) (codes "puUsRMCBDSGOlWabwcIXrmt0123")
+
+-- the option of a letter, which stands behind `-`: h, z, q
+abbrev pub comparing_opt_of_letter : ℕ → Option Opt
+comparing_opt_of_letter letter =
+    if letter == 104 then Some opts.Help
+    else if letter == 122 then Some (opts.Compares choices.Nul true)
+    else if letter == 113 then Some (opts.Compares choices.Silent true)
+    else if is_left_letter letter then Some opts.Left
+    else None

@@ -1,0 +1,171 @@
+-- What is said of paths that are checked, over a worktree, and then behind owners.
+use Rattle.std.proofs.Common.{◌≡◌, ◌⊎◌, inl, inr, ℕ, List, Option, Some, Result, Ok, Err, IfErr, IsErrOf, OnOk, refl, sym, ap, ◌∙◌, subst, arith}
+use Rattle.check_ignore.specs.Finds.{Finds}
+use Rattle.check_ignore.specs.declared.answer.Answered.{Answered}
+use Rattle.check_ignore.specs.declared.stop.Stop.{Stop}
+use Rattle.check_ignore.specs.declared.stop.Stop.TheVariants as stops
+use Rattle.git_places.specs.Answers.{GivesBy, UnlessBy}
+use Rattle.git_places.proofs.Passes.{passes}
+use Rattle.worktree_fs.specs.declared.owners.Owners.{Ghosts as OwnersOf}
+use Rattle.worktree_fs.specs.declared.worktree.Worktree.{Ghosts as WorktreeOf}
+use Rattle.worktree_fs.specs.Causes.{Increased}
+use Rattle.worktree_fs.specs.Kept.{Asks}
+use Rattle.worktree_fs.specs.Owners.{Owned}
+use Rattle.worktree_fs.specs.Tree.{Names}
+use Rattle.tizhagor.specs.declared.refusal.HereRefusal.{HereRefusal}
+use Rattle.tizhagor.specs.declared.reply.Reply.{Reply}
+use Rattle.tizhagor.specs.Checking.{as_reply}
+use Rattle.tizhagor.specs.Checks.{Checks, Looks}
+use Rattle.tizhagor.specs.Finds.{FindsHere, FindsHereWith}
+use Rattle.tizhagor.specs.Refusals.{fault, memory, of_stop, IsOfFinding}
+
+-- ---- answers
+
+err_is : {A : Type 0} (a b : HereRefusal) → ◌≡◌ {A = Result A HereRefusal} (Err a) (Err b) → a ≡ b
+err_is a b e = cc
+
+no_err : {A : Type 0} (a : A) (e : HereRefusal) → ◌≡◌ {A = Result A HereRefusal} (Ok a) (Err e) → ⊥
+no_err a e is = absurd cc
+
+same_err : {A B : Type 0} (a b : HereRefusal) → ◌≡◌ {A = Result A HereRefusal} (Err a) (Err b) → ◌≡◌ {A = Result B HereRefusal} (Err a) (Err b)
+same_err a b e = ap Err (err_is a b e)
+
+unless_any : {A P : Type 0} (answer : Result A HereRefusal) → P → UnlessBy fault answer P
+unless_any (Ok given) holds = holds
+unless_any (Err e) holds = inr holds
+
+on_ok : {A P Q : Type 0} (answer : Result A HereRefusal) → (P → Q) → OnOk answer P → OnOk answer Q
+on_ok (Ok given) to holds = to holds
+on_ok (Err e) to holds = tt
+
+asks_then : {W : Type 0} (w : WorktreeOf W) (w0 w1 w2 : W) → Asks w w0 w1 → Asks w w1 w2 → Asks w w0 w2
+asks_then w w0 w1 w2 first next =
+    let faults0 = first.faults in
+    let faults1 = next.faults in
+    let reads0 = first.reads in
+    let reads1 = next.reads in
+    record {
+      tree = next.tree ∙ first.tree;
+      faults = omega (arith, faults0, faults1);
+      list_faults = next.list_faults ∙ first.list_faults;
+      reads = omega (arith, reads0, reads1);
+      lists = next.lists ∙ first.lists;
+      precomposes = next.precomposes ∙ first.precomposes;
+    }
+
+-- ---- what nothing is answered for
+
+stop_is_fault : (root : List ℕ) (e : Stop) → of_stop root e ≡ fault → e ≡ stops.Fault
+stop_is_fault root stops.SparseIndex is = absurd cc
+stop_is_fault root stops.Empty is = absurd cc
+stop_is_fault root (stops.Magic text) is = absurd cc
+stop_is_fault root (stops.Elsewhere text) is = absurd cc
+stop_is_fault root (stops.Prefix text) is = absurd cc
+stop_is_fault root (stops.Outside text) is = absurd cc
+stop_is_fault root (stops.Beyond text) is = absurd cc
+stop_is_fault root (stops.Inside text place) is = absurd cc
+stop_is_fault root (stops.Slash text) is = absurd cc
+stop_is_fault root (stops.Everything text) is = absurd cc
+stop_is_fault root (stops.Unread text) is = absurd cc
+stop_is_fault root stops.Fault is = refl
+stop_is_fault root stops.OutOfMemory is = absurd cc
+
+of_stop-is : (root : List ℕ) (e : Stop) → IsOfFinding (of_stop root e)
+of_stop-is root stops.SparseIndex = tt
+of_stop-is root stops.Empty = tt
+of_stop-is root (stops.Magic text) = tt
+of_stop-is root (stops.Elsewhere text) = tt
+of_stop-is root (stops.Prefix text) = tt
+of_stop-is root (stops.Outside text) = tt
+of_stop-is root (stops.Beyond text) = tt
+of_stop-is root (stops.Inside text place) = tt
+of_stop-is root (stops.Slash text) = tt
+of_stop-is root (stops.Everything text) = tt
+of_stop-is root (stops.Unread text) = tt
+of_stop-is root stops.Fault = tt
+of_stop-is root stops.OutOfMemory = tt
+
+pub as_reply-is : (root : List ℕ) (answer : Result Answered Stop) → IfErr (as_reply root answer) IsOfFinding
+as_reply-is root (Ok answered) = tt
+as_reply-is root (Err e) = of_stop-is root e
+
+-- ---- over a worktree
+
+module _ {W : Type 0} (w : WorktreeOf W) where
+  -- what is said by an answer
+  pub of_answer : (w0 w1 : W) (root : List ℕ) (found : Names → Result Answered Stop) (answer : Result Answered Stop) → Finds w w0 w1 found answer
+      → Looks w w0 w1 (λ t. as_reply root (found t)) (as_reply root answer)
+  of_answer w0 w1 root found (Ok answered) h =
+      record {
+        gives = λ t told. ap (as_reply root) (h.gives t told);
+        cause = λ is. absurd (no_err _ _ is);
+        unfaulted = h.unfaulted;
+        keeps = h.keeps;
+      }
+  of_answer w0 w1 root found (Err e) h =
+      record {
+        gives = λ t told. elim (h.gives t told) [ inl is ↦ inl (ap (as_reply root) is) | inr (inl is) ↦ inr (inl (ap (of_stop root) is)) | inr (inr is) ↦ inr (inr (ap (of_stop root) is)) ];
+        cause = λ is. h.cause (ap Err (stop_is_fault root e (err_is _ _ is)));
+        unfaulted = tt;
+        keeps = h.keeps;
+      }
+
+  -- where the first gives something, the whole is what the next finds
+  pub goes_on : {A : Type 0} (w0 w1 w2 : W) (given : A) (found : Names → Result A HereRefusal) (next whole : Names → Result Reply HereRefusal) (answer : Result Reply HereRefusal)
+      → ((t : Names) → found t ≡ Ok given → whole t ≡ next t)
+      → FindsHere {A = A} w w0 w1 found (Ok given) → Looks w w1 w2 next answer → Looks w w0 w2 whole answer
+  goes_on w0 w1 w2 given found next whole answer same first then =
+      record {
+        gives = λ t told.
+            subst (λ (r : Result Reply HereRefusal). GivesBy fault memory answer r) (sym (same t (first.gives t told))) (then.gives t (first.keeps.tree ∙ told));
+        cause = λ is. subst (λ (n : ℕ). Increased n (w.faults w2)) first.unfaulted (then.cause is);
+        unfaulted = on_ok answer (λ is. is ∙ first.unfaulted) then.unfaulted;
+        keeps = asks_then w w0 w1 w2 first.keeps then.keeps;
+      }
+
+  -- a refusal of the first is one of the whole
+  pub refused_first : {A : Type 0} (w0 w1 : W) (e : HereRefusal) (found : Names → Result A HereRefusal) (whole : Names → Result Reply HereRefusal)
+      → ((t : Names) → found t ≡ Err e → whole t ≡ Err e)
+      → FindsHere {A = A} w w0 w1 found (Err e) → Looks w w0 w1 whole (Err e)
+  refused_first w0 w1 e found whole to h =
+      record {
+        gives = λ t told. passes fault memory e (found t) (whole t) (h.gives t told) (to t);
+        cause = λ is. h.cause (same_err _ _ is);
+        unfaulted = tt;
+        keeps = h.keeps;
+      }
+
+-- ---- behind owners
+
+module _ {W O : Type 0} (w : WorktreeOf W) (o : OwnersOf O) where
+  pub behind_owners : {A : Type 0} (w0 w1 w2 : W) (o0 o1 : O) (given : A) (found : Names → Owned → Result A HereRefusal) (next : Names → Result Reply HereRefusal)
+      (whole : Names → Owned → Result Reply HereRefusal) (answer : Result Reply HereRefusal)
+      → ((t : Names) (owned : Owned) → found t owned ≡ Ok given → whole t owned ≡ next t)
+      → FindsHereWith {A = A} w o w0 w1 o0 o1 found (Ok given) → Looks w w1 w2 next answer → IfErr answer IsOfFinding
+      → Checks w o w0 w2 o0 o1 whole answer
+  behind_owners w0 w1 w2 o0 o1 given found next whole answer same first then of =
+      record {
+        gives = λ t owned told owns.
+            subst (λ (r : Result Reply HereRefusal). GivesBy fault memory answer r) (sym (same t owned (first.gives t owned told owns)))
+            (then.gives t (first.keeps.tree ∙ told));
+        of = of;
+        cause = λ is. inl (subst (λ (n : ℕ). Increased n (w.faults w2)) first.unfaulted (then.cause is));
+        unfaulted = on_ok answer (λ is. is ∙ first.unfaulted) then.unfaulted;
+        owners_unfaulted = unless_any answer first.owners_unfaulted;
+        keeps = asks_then w w0 w1 w2 first.keeps then.keeps;
+        owners = first.owners;
+      }
+
+  pub stops_before : {A : Type 0} (w0 w1 : W) (o0 o1 : O) (e : HereRefusal) (found : Names → Owned → Result A HereRefusal) (whole : Names → Owned → Result Reply HereRefusal)
+      → ((t : Names) (owned : Owned) → found t owned ≡ Err e → whole t owned ≡ Err e)
+      → FindsHereWith {A = A} w o w0 w1 o0 o1 found (Err e) → IsOfFinding e → Checks w o w0 w1 o0 o1 whole (Err e)
+  stops_before w0 w1 o0 o1 e found whole to h of =
+      record {
+        gives = λ t owned told owns. passes fault memory e (found t owned) (whole t owned) (h.gives t owned told owns) (to t owned);
+        of = of;
+        cause = λ is. h.cause (same_err _ _ is);
+        unfaulted = tt;
+        owners_unfaulted = h.owners_unfaulted;
+        keeps = h.keeps;
+        owners = h.owners;
+      }

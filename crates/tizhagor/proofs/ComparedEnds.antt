@@ -1,0 +1,240 @@
+-- What follows of how the top call ends, with `diff-files` among the commands.
+use Rattle.std.proofs.Common.{◌≡◌, ◌⊎◌, ◌≤◌, ◌<◌, inl, inr, ℕ, List, Bool, true, false, Option, Some, Result, Ok, Err, IfErr, sym, ap, ◌∙◌, subst, refl, arith}
+use Rattle.diff_files.specs.Stats.{Told}
+use Rattle.diff_files.specs.declared.stats.Stats.{Ghosts as StatsOf}
+use Rattle.command_line.specs.declared.command.Request.{Request}
+use Rattle.command_line.specs.declared.comparing.Comparing.{Comparing}
+use Rattle.git_places.specs.Answers.{GivesBy}
+use Rattle.git_setup.specs.declared.asked.Asked.{Asked}
+use Rattle.worktree_fs.specs.declared.interrupt.Interrupt.{Ghosts as InterruptOf}
+use Rattle.worktree_fs.specs.declared.owners.Owners.{Ghosts as OwnersOf}
+use Rattle.worktree_fs.specs.declared.sink.Sink.{Ghosts as SinkOf}
+use Rattle.worktree_fs.specs.declared.worktree.Worktree.{Ghosts as WorktreeOf}
+use Rattle.worktree_fs.specs.Causes.{Increased, NotIncreased}
+use Rattle.worktree_fs.specs.Owners.{Owned}
+use Rattle.worktree_fs.specs.Tree.{Names}
+use Rattle.tizhagor.specs.declared.refusal.HereRefusal.{HereRefusal}
+use Rattle.tizhagor.specs.declared.reply.Reply.{Reply}
+use Rattle.tizhagor.specs.Answers.{AnswersHere, AnswersTask, IsAsked, IsMisuse, Place, Task, call_of, check_of, compare_of, offer_of, task_of, word_of}
+use Rattle.tizhagor.specs.ComparedHere.{Answers, AnswersAny, AnswersComparing, ComparesTo, IsCompared, IsComparing, IsSaidBy, RefusesCompared, replied_at}
+use Rattle.tizhagor.specs.Compares.{Compares, SomeFails}
+use Rattle.tizhagor.specs.Ends.{EndsHere, IsFatal, IsReplied, IsTold, IsToldOf}
+use Rattle.tizhagor.specs.Output as output
+use Rattle.tizhagor.specs.Parts.{memory_line}
+use Rattle.tizhagor.specs.Refusals.{IsOfFinding, fault, memory, status_of}
+use Rattle.tizhagor.proofs.Ended as ended
+
+-- ---- tasks
+
+no_word : {W I O : Type 0} (w : WorktreeOf W) (i : InterruptOf I) (o : OwnersOf O) (w0 w1 : W) (i0 i1 : I) (o0 o1 : O) (place : Place) (directory : Option (List ℕ)) (answer wanted : Result Reply HereRefusal)
+    (t : Names) (owned : Owned) (told : Told) (task : Task) → AnswersTask w i o w0 w1 i0 i1 o0 o1 place directory answer task → IsSaidBy t owned told place directory wanted task → ⊥
+no_word w i o w0 w1 i0 i1 o0 o1 place directory answer wanted t owned told (call_of call asked writing) a said = said
+no_word w i o w0 w1 i0 i1 o0 o1 place directory answer wanted t owned told (word_of word asked) a said = said
+no_word w i o w0 w1 i0 i1 o0 o1 place directory answer wanted t owned told (check_of wants asked) a said = said
+no_word w i o w0 w1 i0 i1 o0 o1 place directory answer wanted t owned told (compare_of comparing asked) a said = a
+no_word w i o w0 w1 i0 i1 o0 o1 place directory answer wanted t owned told (offer_of text) a said = said
+
+-- the words are those of the task
+pub by_request : {W I O D : Type 0} (w : WorktreeOf W) (i : InterruptOf I) (o : OwnersOf O) (d : StatsOf D) (w0 w1 : W) (i0 i1 : I) (o0 o1 : O) (d0 d1 : D) (place : Place) (words : List (List ℕ)) (answer : Result Reply HereRefusal)
+    (request : Request) → IsAsked words request → (task : Task) → task_of place.takes_colors request.command ≡ task → AnswersAny w i o d w0 w1 i0 i1 o0 o1 d0 d1 place request.directory answer task
+    → Answers w i o d w0 w1 i0 i1 o0 o1 d0 d1 place words answer
+by_request w i o d w0 w1 i0 i1 o0 o1 d0 d1 place words answer request asked (call_of call wants writing) is a =
+    inl (inl (record { request = request; asked = asked; answers = subst (λ (x : Task). AnswersTask w i o w0 w1 i0 i1 o0 o1 place request.directory answer x) (sym is) a.0 }), a.1)
+by_request w i o d w0 w1 i0 i1 o0 o1 d0 d1 place words answer request asked (word_of word wants) is a =
+    inl (inl (record { request = request; asked = asked; answers = subst (λ (x : Task). AnswersTask w i o w0 w1 i0 i1 o0 o1 place request.directory answer x) (sym is) a.0 }), a.1)
+by_request w i o d w0 w1 i0 i1 o0 o1 d0 d1 place words answer request asked (check_of checking wants) is a =
+    inl (inl (record { request = request; asked = asked; answers = subst (λ (x : Task). AnswersTask w i o w0 w1 i0 i1 o0 o1 place request.directory answer x) (sym is) a.0 }), a.1)
+by_request w i o d w0 w1 i0 i1 o0 o1 d0 d1 place words answer request asked (compare_of comparing wants) is a =
+    inr (record { request = request; asked = asked; comparing = comparing; wants = wants; task_is = is; compares = a.0; interrupt = a.1 })
+by_request w i o d w0 w1 i0 i1 o0 o1 d0 d1 place words answer request asked (offer_of text) is a =
+    inl (inl (record { request = request; asked = asked; answers = subst (λ (x : Task). AnswersTask w i o w0 w1 i0 i1 o0 o1 place request.directory answer x) (sym is) a.0 }), a.1)
+
+-- ---- the call
+
+module _ {W I O D S E : Type 0} (w : WorktreeOf W) (i : InterruptOf I) (o : OwnersOf O) (d : StatsOf D) (s : SinkOf S) (e : SinkOf E) (w0 w1 : W) (i0 i1 : I) (o0 o1 : O) (d0 d1 : D) (s0 s1 : S) (e0 e1 : E) (place : Place) (words : List (List ℕ)) (status : ℕ) where
+  -- what is said of a comparison where the answer is known
+  as_known : (answer known : Result Reply HereRefusal) (a : AnswersComparing w o d w0 w1 i0 i1 o0 o1 d0 d1 place words answer) → answer ≡ known
+      → Compares w o d w0 w1 o0 o1 d0 d1 (replied_at place a.request.directory a.wants a.comparing) known
+  as_known answer known a is = subst (λ (x : Result Reply HereRefusal). Compares w o d w0 w1 o0 o1 d0 d1 (replied_at place a.request.directory a.wants a.comparing) x) is a.compares
+
+  -- and of its task
+  as_task : (P : Task → Type 0) (answer : Result Reply HereRefusal) (a : AnswersComparing w o d w0 w1 i0 i1 o0 o1 d0 d1 place words answer) → P (compare_of a.comparing a.wants) → P (task_of place.takes_colors a.request.command)
+  as_task P answer a holds = subst P (sym a.task_is) holds
+
+  of_task : (P : Task → Type 0) (answer : Result Reply HereRefusal) (a : AnswersComparing w o d w0 w1 i0 i1 o0 o1 d0 d1 place words answer) → P (task_of place.takes_colors a.request.command) → P (compare_of a.comparing a.wants)
+  of_task P answer a holds = subst P a.task_is holds
+
+  pub unfaulted : (answer : Result Reply HereRefusal) → Answers w i o d w0 w1 i0 i1 o0 o1 d0 d1 place words answer → EndsHere s e s0 s1 e0 e1 answer status
+      → status ≤ 1 → output.IsUnfaultedHere place words (w.faults w0) (w.faults w1)
+  unfaulted answer any ends few =
+      elim any [
+        | inl here ↦ ended.unfaulted w i o s e w0 w1 i0 i1 o0 o1 s0 s1 e0 e1 place words status answer here.0 ends few
+        | inr a ↦
+            let wrote = ended.ends_low s e s0 s1 e0 e1 status answer ends few in
+            record {
+              request = a.request;
+              asked = a.asked;
+              unfaulted = as_task (λ (x : Task). output.IsUnfaultedFor (w.faults w0) (w.faults w1) x) answer a (as_known answer (Ok wrote.0) a wrote.1).unfaulted;
+            }
+      ]
+
+  pub owners_unfaulted : (answer : Result Reply HereRefusal) → Answers w i o d w0 w1 i0 i1 o0 o1 d0 d1 place words answer → EndsHere s e s0 s1 e0 e1 answer status
+      → status ≤ 1 → o.faults o1 ≡ o.faults o0
+  owners_unfaulted answer any ends few =
+      elim any [
+        | inl here ↦ ended.owners_unfaulted w i o s e w0 w1 i0 i1 o0 o1 s0 s1 e0 e1 place words status answer here.0 ends few
+        | inr a ↦ let wrote = ended.ends_low s e s0 s1 e0 e1 status answer ends few in (as_known answer (Ok wrote.0) a wrote.1).owners_unfaulted
+      ]
+
+  pub stats_unfaulted : (answer : Result Reply HereRefusal) → Answers w i o d w0 w1 i0 i1 o0 o1 d0 d1 place words answer → EndsHere s e s0 s1 e0 e1 answer status
+      → status ≤ 1 → d.faults d1 ≡ d.faults d0
+  stats_unfaulted answer any ends few =
+      elim any [
+        | inl here ↦ ap d.faults here.1
+        | inr a ↦ let wrote = ended.ends_low s e s0 s1 e0 e1 status answer ends few in (as_known answer (Ok wrote.0) a wrote.1).stats_unfaulted
+      ]
+
+  pub gives : (answer : Result Reply HereRefusal) → Answers w i o d w0 w1 i0 i1 o0 o1 d0 d1 place words answer → EndsHere s e s0 s1 e0 e1 answer status
+      → (t : Names) (owned : Owned) → w.told w0 ≡ Some t → o.told o0 ≡ Some owned → status ≤ 1
+      → (reply : Reply) × (output.IsOutputHere (w.precomposes w0) t owned place words (w.faults w0) (w.faults w1) reply ⊎ IsCompared t owned (d.told d0) place words reply) × IsReplied s e s0 s1 e0 e1 reply status
+  gives answer any ends t owned tree owns few =
+      elim any [
+        | inl here ↦ let gave = ended.gives w i o s e w0 w1 i0 i1 o0 o1 s0 s1 e0 e1 place words status answer here.0 ends t owned tree owns few in (gave.0, inl gave.1, gave.2)
+        | inr a ↦
+            let wrote = ended.ends_low s e s0 s1 e0 e1 status answer ends few in (
+              wrote.0,
+              inr (record {
+                request = a.request;
+                asked = a.asked;
+                compares = as_task IsComparing answer a tt;
+                is = λ told tells. as_task (λ (x : Task). IsSaidBy t owned told place a.request.directory (Ok wrote.0) x) answer a ((as_known answer (Ok wrote.0) a wrote.1).gives t owned told tree owns tells);
+              }),
+              wrote.2,
+            )
+      ]
+
+  pub misuse : (answer : Result Reply HereRefusal) → Answers w i o d w0 w1 i0 i1 o0 o1 d0 d1 place words answer → EndsHere s e s0 s1 e0 e1 answer status → status ≡ 129 → IsMisuse words
+  misuse answer any ends is =
+      elim any [
+        | inl here ↦ ended.misuse w i o s e w0 w1 i0 i1 o0 o1 s0 s1 e0 e1 place words status answer here.0 ends is
+        | inr a ↦
+            let refused = ended.ends_above s e s0 s1 e0 e1 status answer ends 129 is (omega arith) in
+            absurd (ended.finding_not_misuse refused.0 (as_known answer (Err refused.0) a refused.1).of refused.2)
+      ]
+
+  pub usage : (answer : Result Reply HereRefusal) → Answers w i o d w0 w1 i0 i1 o0 o1 d0 d1 place words answer → EndsHere s e s0 s1 e0 e1 answer status → IsMisuse words
+      → (status ≡ 129) ⊎ IsToldOf e e0 e1 memory_line 128 status
+  usage answer any ends known =
+      elim any [
+        | inl here ↦ ended.usage w i o s e w0 w1 i0 i1 o0 o1 s0 s1 e0 e1 place words status answer here.0 ends known
+        | inr a ↦ absurd (ended.no_asking (sym a.asked ∙ known.is))
+      ]
+
+  pub interrupted : (answer : Result Reply HereRefusal) → Answers w i o d w0 w1 i0 i1 o0 o1 d0 d1 place words answer → EndsHere s e s0 s1 e0 e1 answer status → status ≡ 130
+      → Increased (i.raised i0) (i.raised i1)
+  interrupted answer any ends is =
+      elim any [
+        | inl here ↦ ended.interrupted w i o s e w0 w1 i0 i1 o0 o1 s0 s1 e0 e1 place words status answer here.0 ends is
+        | inr a ↦
+            let refused = ended.ends_above s e s0 s1 e0 e1 status answer ends 130 is (omega arith) in
+            absurd (ended.finding_not_interrupted refused.0 (as_known answer (Err refused.0) a refused.1).of refused.2)
+      ]
+
+  -- nothing failed
+  no_fault : SomeFails w o d w0 w1 o0 o1 d0 d1 → NotIncreased (w.faults w0) (w.faults w1) → NotIncreased (o.faults o0) (o.faults o1) → NotIncreased (d.faults d0) (d.faults d1) → ⊥
+  no_fault failed quiet owners_quiet stats_quiet =
+      elim failed [ inl rose ↦ omega (arith, rose, quiet) | inr (inl rose) ↦ omega (arith, rose, owners_quiet) | inr (inr rose) ↦ omega (arith, rose, stats_quiet) ]
+
+  is_refused : (refusal : HereRefusal) (a : AnswersComparing w o d w0 w1 i0 i1 o0 o1 d0 d1 place words (Err refusal)) (t : Names) (owned : Owned) → w.told w0 ≡ Some t → o.told o0 ≡ Some owned
+      → NotIncreased (w.faults w0) (w.faults w1) → NotIncreased (o.faults o0) (o.faults o1) → (told : Told) → d.told d0 ≡ Some told → NotIncreased (d.faults d0) (d.faults d1)
+      → (refusal ≡ memory) ⊎ (replied_at place a.request.directory a.wants a.comparing t owned told ≡ Err refusal)
+  is_refused refusal a t owned tree owns quiet owners_quiet told tells stats_quiet =
+      elim (a.compares.gives t owned told tree owns tells) [
+        | inl is ↦ inr is
+        | inr (inl failed) ↦ absurd (no_fault (a.compares.cause (ap Err failed)) quiet owners_quiet stats_quiet)
+        | inr (inr wants) ↦ inl wants
+      ]
+
+  refuses : (refusal : HereRefusal) (a : AnswersComparing w o d w0 w1 i0 i1 o0 o1 d0 d1 place words (Err refusal)) (t : Names) (owned : Owned) → w.told w0 ≡ Some t → o.told o0 ≡ Some owned
+      → NotIncreased (w.faults w0) (w.faults w1) → NotIncreased (o.faults o0) (o.faults o1) → RefusesCompared t owned (d.told d0) (d.faults d0) (d.faults d1) place words refusal
+  refuses refusal a t owned tree owns quiet owners_quiet =
+      record {
+        request = a.request;
+        asked = a.asked;
+        compares = as_task IsComparing (Err refusal) a tt;
+        is = λ told tells stats_quiet. elim (is_refused refusal a t owned tree owns quiet owners_quiet told tells stats_quiet) [
+          | inl wants ↦ inl wants
+          | inr said ↦ inr (as_task (λ (x : Task). IsSaidBy t owned told place a.request.directory (Err refusal) x) (Err refusal) a said)
+        ];
+      }
+
+  pub fatal : (answer : Result Reply HereRefusal) → Answers w i o d w0 w1 i0 i1 o0 o1 d0 d1 place words answer → EndsHere s e s0 s1 e0 e1 answer status
+      → (t : Names) (owned : Owned) → w.told w0 ≡ Some t → o.told o0 ≡ Some owned → status ≡ 128 → NotIncreased (w.faults w0) (w.faults w1) → NotIncreased (o.faults o0) (o.faults o1) → NotIncreased (s.refusals s0) (s.refusals s1)
+      → IsToldOf e e0 e1 memory_line 128 status
+      ⊎ IsFatal e e0 e1 (λ refusal. output.RefusesHere (w.precomposes w0) t owned place words refusal ⊎ RefusesCompared t owned (d.told d0) (d.faults d0) (d.faults d1) place words refusal)
+  fatal (Ok reply) any ends t owned tree owns is quiet owners_quiet taken =
+      elim ends.by [
+        | inl whole ↦ absurd (let same = whole.status_is in let low = ended.is_low reply in omega (arith, same, low, is))
+        | inr cut ↦ absurd (let cause = cut.cause in omega (arith, cause, taken))
+      ]
+  fatal (Err refusal) any ends t owned tree owns is quiet owners_quiet taken =
+      elim any [
+        | inl here ↦ elim (ended.fatal w i o s e w0 w1 i0 i1 o0 o1 s0 s1 e0 e1 place words status (Err refusal) here.0 ends t owned tree owns is quiet owners_quiet taken) [
+          | inl wants ↦ inl wants
+          | inr told ↦ inr (record { refusal = told.refusal; refused = inl told.refused; said = told.said })
+        ]
+        | inr a ↦ elim ends.by.1 [
+          | inl told ↦ inr (record { refusal = refusal; refused = inr (refuses refusal a t owned tree owns quiet owners_quiet); said = told.said })
+          | inr untold ↦ inl untold
+        ]
+      ]
+
+  pub refused : (answer : Result Reply HereRefusal) → Answers w i o d w0 w1 i0 i1 o0 o1 d0 d1 place words answer → EndsHere s e s0 s1 e0 e1 answer status
+      → (t : Names) (owned : Owned) (refusal : HereRefusal) → w.told w0 ≡ Some t → o.told o0 ≡ Some owned → output.IsNotFoundHere t owned place words refusal
+      → NotIncreased (w.faults w0) (w.faults w1) → NotIncreased (o.faults o0) (o.faults o1) → IsTold e e0 e1 refusal status
+  refused answer any ends t owned refusal tree owns known quiet owners_quiet =
+      elim any [
+        | inl here ↦ ended.refused w i o s e w0 w1 i0 i1 o0 o1 s0 s1 e0 e1 place words status answer here.0 ends t owned refusal tree owns known quiet owners_quiet
+        | inr a ↦ absurd (of_task (λ (x : Task). output.IsNotFoundFor t owned place a.request.directory refusal x) answer a (known.refused a.request a.asked))
+      ]
+
+  pub complete : (answer : Result Reply HereRefusal) → Answers w i o d w0 w1 i0 i1 o0 o1 d0 d1 place words answer → EndsHere s e s0 s1 e0 e1 answer status
+      → (t : Names) (owned : Owned) → w.told w0 ≡ Some t → o.told o0 ≡ Some owned → output.IsValidHere (w.precomposes w0) t owned place words → NotIncreased (w.faults w0) (w.faults w1) → NotIncreased (o.faults o0) (o.faults o1)
+      → NotIncreased (i.raised i0) (i.raised i1) → NotIncreased (s.refusals s0) (s.refusals s1) → (status ≤ 1) ⊎ IsToldOf e e0 e1 memory_line 128 status
+  complete answer any ends t owned tree owns valid quiet owners_quiet calm taken =
+      elim any [
+        | inl here ↦ ended.complete w i o s e w0 w1 i0 i1 o0 o1 s0 s1 e0 e1 place words status answer here.0 ends t owned tree owns valid quiet owners_quiet calm taken
+        | inr a ↦ absurd (of_task (λ (x : Task). output.IsReadyWith (w.precomposes w0) t owned place a.request.directory x) answer a (valid.ready a.request a.asked))
+      ]
+
+  -- it ends as what is wanted does
+  ends_as : (answer wanted found : Result Reply HereRefusal) → found ≡ answer → found ≡ wanted → EndsHere s e s0 s1 e0 e1 answer status → EndsHere s e s0 s1 e0 e1 wanted status
+  ends_as answer wanted found is said ends = subst (λ (x : Result Reply HereRefusal). EndsHere s e s0 s1 e0 e1 x status) (sym is ∙ said) ends
+
+  comparing_ends : (answer wanted : Result Reply HereRefusal) (a : AnswersComparing w o d w0 w1 i0 i1 o0 o1 d0 d1 place words answer) → EndsHere s e s0 s1 e0 e1 answer status
+      → (t : Names) (owned : Owned) (told : Told) → w.told w0 ≡ Some t → o.told o0 ≡ Some owned → d.told d0 ≡ Some told → ComparesTo t owned told place words wanted
+      → NotIncreased (w.faults w0) (w.faults w1) → NotIncreased (o.faults o0) (o.faults o1) → NotIncreased (d.faults d0) (d.faults d1)
+      → IsToldOf e e0 e1 memory_line 128 status ⊎ EndsHere s e s0 s1 e0 e1 wanted status
+  comparing_ends (Ok reply) wanted a ends t owned told tree owns tells known quiet owners_quiet stats_quiet =
+      let said = of_task (λ (x : Task). IsSaidBy t owned told place a.request.directory wanted x) (Ok reply) a (known.is a.request a.asked) in
+      inr (ends_as (Ok reply) wanted _ (a.compares.gives t owned told tree owns tells) said ends)
+  comparing_ends (Err refusal) wanted a ends t owned told tree owns tells known quiet owners_quiet stats_quiet =
+      let said = of_task (λ (x : Task). IsSaidBy t owned told place a.request.directory wanted x) (Err refusal) a (known.is a.request a.asked) in
+      elim (is_refused refusal a t owned tree owns quiet owners_quiet told tells stats_quiet) [
+        | inl wants ↦ inl (ended.wants_memory s e s0 s1 e0 e1 status refusal wants ends.by.1)
+        | inr is ↦ inr (ends_as (Err refusal) wanted _ is said ends)
+      ]
+
+  pub compared : (answer : Result Reply HereRefusal) → Answers w i o d w0 w1 i0 i1 o0 o1 d0 d1 place words answer → EndsHere s e s0 s1 e0 e1 answer status
+      → (t : Names) (owned : Owned) (told : Told) (wanted : Result Reply HereRefusal) → w.told w0 ≡ Some t → o.told o0 ≡ Some owned → d.told d0 ≡ Some told → ComparesTo t owned told place words wanted
+      → NotIncreased (w.faults w0) (w.faults w1) → NotIncreased (o.faults o0) (o.faults o1) → NotIncreased (d.faults d0) (d.faults d1)
+      → IsToldOf e e0 e1 memory_line 128 status ⊎ EndsHere s e s0 s1 e0 e1 wanted status
+  compared answer any ends t owned told wanted tree owns tells known quiet owners_quiet stats_quiet =
+      elim any [
+        | inl here ↦ elim here.0 [
+          | inl of ↦ absurd (no_word w i o w0 w1 i0 i1 o0 o1 place of.request.directory answer wanted t owned told (task_of place.takes_colors of.request.command) of.answers (known.is of.request of.asked))
+          | inr (inl wrong) ↦ absurd (ended.no_asking (sym known.words_are ∙ wrong.misuse.is))
+          | inr (inr unread) ↦ inl (ended.wants_memory s e s0 s1 e0 e1 status memory refl (subst (λ (x : Result Reply HereRefusal). EndsHere s e s0 s1 e0 e1 x status) unread.answer_is ends).by.1)
+        ]
+        | inr a ↦ comparing_ends answer wanted a ends t owned told tree owns tells known quiet owners_quiet stats_quiet
+      ]

@@ -1,0 +1,19 @@
+-- Patterns that stand before all other ignore rules.
+use Rattle.std.specs.Prelude.{ℕ, List, [], ◌∷◌, Bool, true, false, nat_eq, codes, if◌then◌else◌}
+use Rattle.std.specs.List.{flat_map, starts_with}
+
+-- there are some
+abbrev pub is_any : List (List ℕ) → Bool
+is_any [] = false
+is_any (pattern ∷ patterns) = true
+
+-- a pattern as a line of a rules file: a `#` in front is a byte like any other
+abbrev pub pattern_line : List ℕ → List ℕ
+pattern_line pattern = if starts_with nat_eq pattern (codes "#") then 92 ∷ pattern else pattern
+
+-- each behind a line feed
+abbrev pub rule_line : List ℕ → List ℕ
+rule_line pattern = 10 ∷ pattern_line pattern
+
+abbrev pub rules_of : List (List ℕ) → List ℕ
+rules_of patterns = flat_map rule_line patterns
