@@ -1,8 +1,8 @@
 //! The files of the system as a worktree: the edge of which the counts, the names and the sizes are
 //! proved, and not what it holds.
-ghost use Rattle.std.specs.Prelude.{◌≡◌, ◌≤◌, ◌^◌, ◌&&◌, length, None, Ok, IfOk, IsErrOf, MatchResult, false, All, IsTrue};
+ghost use Rattle.std.specs.Prelude.{◌≡◌, ◌≤◌, ◌^◌, ◌&&◌, length, [], None, Ok, IfOk, IsErrOf, MatchResult, true, false, All, IsTrue};
 ghost use Rattle.worktree_fs.specs.Causes.{Increased, next};
-ghost use Rattle.worktree_fs.specs.Disk.{is_fault, is_listing_fault, has_nul, is_unaskable, more_if, counted_call, counted_read, counted_listing, uncounted, IsGiven};
+ghost use Rattle.worktree_fs.specs.Disk.{is_fault, is_listing_fault, has_nul, is_unaskable, more_if, counted_call, counted_read, counted_listing, naming, NamesFirst, uncounted, IsGiven};
 ghost use Rattle.std.specs.List.Sorted.{IsStrictlySortedBy};
 ghost use Rattle.worktree_fs.specs.Changes.{from_directory};
 ghost use Rattle.worktree_fs.specs.Naming.{AreNames};
@@ -33,7 +33,9 @@ use std::rt::HostRuntime;
 /// `/`, but for `real_path`, which takes it from `cwd`. A path that does not begin with `/` is
 /// taken as the system takes it, from the current directory.
 ///
-/// Contracts see its counts.
+/// It names the path of the first call that failed, as it was asked for, where there was memory for that.
+///
+/// Contracts see its counts and that path.
 #[derive(Drop)]
 pub struct DiskWorktree<'a> {
     rt: &'a HostRuntime,
@@ -44,6 +46,7 @@ pub struct DiskWorktree<'a> {
     list_faults: u64,
     reads: u64,
     lists: u64,
+    first_fault: Bytes,
 }
 
 impl<'a> Model for DiskWorktree<'a> {
@@ -57,6 +60,7 @@ impl<'a> Model for DiskWorktree<'a> {
       list_faults = w.list_faults;
       reads = w.reads;
       lists = w.lists;
+      first_fault = w.first_fault;
     } };
 }
 
@@ -64,8 +68,14 @@ impl<'a> DiskWorktree<'a> {
     /// A worktree over all files of the system; takes no memory before its first listing.
     /// See docs/DECISIONS.md#real-disk-paths.
     pub fn new(rt: &'a HostRuntime, composes: bool) -> DiskWorktree<'a>
-        ensures { result
-            ≡ record { composes = composes; faults = 0; list_faults = 0; reads = 0; lists = 0 } }
+        ensures { result ≡ record {
+          composes = composes;
+          faults = 0;
+          list_faults = 0;
+          reads = 0;
+          lists = 0;
+          first_fault = [];
+        } }
     {
         DiskWorktree::beside(rt, composes, "")
     }
@@ -77,8 +87,14 @@ impl<'a> DiskWorktree<'a> {
     /// What is asked for is the same node as long as no directory on the way to the current one is renamed
     /// or removed meanwhile; then it is one in the directory that was the current one from the start.
     pub fn beside(rt: &'a HostRuntime, composes: bool, current: &'a str) -> DiskWorktree<'a>
-        ensures { result
-            ≡ record { composes = composes; faults = 0; list_faults = 0; reads = 0; lists = 0 } }
+        ensures { result ≡ record {
+          composes = composes;
+          faults = 0;
+          list_faults = 0;
+          reads = 0;
+          lists = 0;
+          first_fault = [];
+        } }
     {
         DiskWorktree {
             rt,
@@ -89,6 +105,7 @@ impl<'a> DiskWorktree<'a> {
             list_faults: 0,
             reads: 0,
             lists: 0,
+            first_fault: Bytes::new(rt.alloc()),
         }
     }
 
@@ -106,10 +123,32 @@ impl<'a> DiskWorktree<'a> {
         self.list_faults
     }
 
-    /// Counts a call that failed: as a fault, and one that lists as a fault of listings too.
-    fn count(&mut self, has_failed: bool, is_listing: bool)
-        ensures state { self.new ≡ record (counted_call has_failed self.old)
-            { list_faults = more_if (is_listing && has_failed) self.old.list_faults } }
+    /// The path of the first call that failed, as it was asked for: no bytes where none failed, or where there was no memory for it.
+    pub fn first_fault(&self) -> &[u8]
+        ensures { result.now ≡ self.now.first_fault }
+    {
+        self.first_fault.as_bytes()
+    }
+
+    /// Names the path of a call that failed, where it is the first.
+    fn name_first(&mut self, path: &[u8])
+        ensures state { self.new ≡ naming self.new.first_fault self.old }
+        ensures named { NamesFirst true path.now self.old self.new.first_fault }
+    {
+        if self.faults == 0 {
+            if let Ok(path) = Bytes::from_slice(self.rt.alloc(), path) {
+                self.first_fault = path;
+            }
+        }
+    }
+
+    /// Counts a call that failed: as a fault, and one that lists as a fault of listings too. The first one is named.
+    fn count(&mut self, path: &[u8], has_failed: bool, is_listing: bool)
+        ensures state { self.new ≡ record (counted_call has_failed self.old) {
+          list_faults = more_if (is_listing && has_failed) self.old.list_faults;
+          first_fault = self.new.first_fault;
+        } }
+        ensures named { NamesFirst has_failed path.now self.old self.new.first_fault }
         ensures later { self.old.faults ≤ self.new.faults }
         ensures list_later { self.old.list_faults ≤ self.new.list_faults }
         ensures cause { IsTrue has_failed → Increased self.old.faults self.new.faults }
@@ -117,6 +156,7 @@ impl<'a> DiskWorktree<'a> {
             → Increased self.old.list_faults self.new.list_faults }
     {
         if has_failed {
+            self.name_first(path);
             self.faults = self.faults.saturating_add(1);
             if is_listing {
                 self.list_faults = self.list_faults.saturating_add(1);
@@ -146,7 +186,9 @@ impl<'a> Worktree for DiskWorktree<'a> {
 
     /// One call of the system. Never answers `OutOfMemory`.
     fn kind(&mut self, _alloc: Global, path: &[u8]) -> Result<Option<NodeKind>, ReadError>
-        ensures state { self.new ≡ counted_call (is_fault result) self.old }
+        ensures state { self.new
+            ≡ naming self.new.first_fault (counted_call (is_fault result) self.old) }
+        ensures named { NamesFirst (is_fault result) path.now self.old self.new.first_fault }
         ensures wants_none { IsErrOf result ReadError.OutOfMemory → ⊥ }
         ensures later { self.old.faults ≤ self.new.faults }
         ensures cause { IsErrOf result ReadError.Fault
@@ -156,13 +198,15 @@ impl<'a> Worktree for DiskWorktree<'a> {
         ensures nowhere { IsTrue (has_nul path.now) → result ≡ Ok None }
     {
         let found = look(self.rt, self.current, path, false);
-        self.count(is_fault(&found), false);
+        self.count(path, is_fault(&found), false);
         found
     }
 
     /// One call of the system. Never answers `OutOfMemory`.
     fn kind_following(&mut self, _alloc: Global, path: &[u8]) -> Result<Option<NodeKind>, ReadError>
-        ensures state { self.new ≡ counted_call (is_fault result) self.old }
+        ensures state { self.new
+            ≡ naming self.new.first_fault (counted_call (is_fault result) self.old) }
+        ensures named { NamesFirst (is_fault result) path.now self.old self.new.first_fault }
         ensures wants_none { IsErrOf result ReadError.OutOfMemory → ⊥ }
         ensures later { self.old.faults ≤ self.new.faults }
         ensures cause { IsErrOf result ReadError.Fault
@@ -172,14 +216,17 @@ impl<'a> Worktree for DiskWorktree<'a> {
         ensures nowhere { IsTrue (has_nul path.now) → result ≡ Ok None }
     {
         let found = look(self.rt, self.current, path, true);
-        self.count(is_fault(&found), false);
+        self.count(path, is_fault(&found), false);
         found
     }
 
     /// Sorted by bytes. The directory is opened once; where the system says that it is absent or no
     /// directory its path is looked at once more.
     fn list(&mut self, alloc: Global, path: &[u8], follow: bool) -> Result<NameList, ListError>
-        ensures state { self.new ≡ counted_listing (is_listing_fault result) self.old }
+        ensures state { self.new
+            ≡ naming self.new.first_fault (counted_listing (is_listing_fault result) self.old) }
+        ensures named { NamesFirst (is_listing_fault result) path.now self.old
+            self.new.first_fault }
         ensures names { IfOk result AreNames }
         ensures kept { IfOk result (All (IsGiven self.old.composes)) }
         ensures few { IfOk result (λ names. length names ≤ 1000000) }
@@ -207,7 +254,7 @@ impl<'a> Worktree for DiskWorktree<'a> {
             path,
             follow,
         );
-        self.count(is_listing_fault(&names), true);
+        self.count(path, is_listing_fault(&names), true);
         names
     }
 
@@ -220,7 +267,9 @@ impl<'a> Worktree for DiskWorktree<'a> {
         follow: bool,
         into: &mut Bytes,
     ) -> Result<ReadAnswer, ReadError>
-        ensures state { self.new ≡ counted_read (is_fault result) self.old }
+        ensures state { self.new
+            ≡ naming self.new.first_fault (counted_read (is_fault result) self.old) }
+        ensures named { NamesFirst (is_fault result) path.now self.old self.new.first_fault }
         ensures later { self.old.faults ≤ self.new.faults }
         ensures cause { IsErrOf result ReadError.Fault
             → Increased self.old.faults self.new.faults }
@@ -234,7 +283,7 @@ impl<'a> Worktree for DiskWorktree<'a> {
     {
         self.reads = self.reads.saturating_add(1);
         let answer = read_into(self.rt, alloc, self.current, path, follow, into);
-        self.count(is_fault(&answer), false);
+        self.count(path, is_fault(&answer), false);
         answer
     }
 
@@ -245,7 +294,9 @@ impl<'a> Worktree for DiskWorktree<'a> {
         path: &[u8],
         cwd: &[u8],
     ) -> Result<Option<PathText>, ReadError>
-        ensures state { self.new ≡ counted_call (is_fault result) self.old }
+        ensures state { self.new
+            ≡ naming self.new.first_fault (counted_call (is_fault result) self.old) }
+        ensures named { NamesFirst (is_fault result) path.now self.old self.new.first_fault }
         ensures later { self.old.faults ≤ self.new.faults }
         ensures cause { IsErrOf result ReadError.Fault
             → Increased self.old.faults self.new.faults }
@@ -256,13 +307,15 @@ impl<'a> Worktree for DiskWorktree<'a> {
             → MatchResult result (λ real. real ≡ None) (λ error. error ≡ ReadError.OutOfMemory) }
     {
         let real = real_path(self.rt, alloc, path, cwd);
-        self.count(is_fault(&real), false);
+        self.count(path, is_fault(&real), false);
         real
     }
 
     /// One call of the system.
     fn make_dir(&mut self, alloc: Global, path: &[u8]) -> Result<MakeAnswer, ReadError>
-        ensures state { self.new ≡ counted_call (is_fault result) self.old }
+        ensures state { self.new
+            ≡ naming self.new.first_fault (counted_call (is_fault result) self.old) }
+        ensures named { NamesFirst (is_fault result) path.now self.old self.new.first_fault }
         ensures later { self.old.faults ≤ self.new.faults }
         ensures cause { IsErrOf result ReadError.Fault
             → Increased self.old.faults self.new.faults }
@@ -271,13 +324,15 @@ impl<'a> Worktree for DiskWorktree<'a> {
         ensures nowhere { IsTrue (has_nul path.now) → result ≡ Ok MakeAnswer.NoParent }
     {
         let answer = make_dir(self.rt, alloc, self.composes, path);
-        self.count(is_fault(&answer), false);
+        self.count(path, is_fault(&answer), false);
         answer
     }
 
     /// The node is looked at before it is removed. Never answers `OutOfMemory`.
     fn remove_node(&mut self, _alloc: Global, path: &[u8]) -> Result<RemoveAnswer, ReadError>
-        ensures state { self.new ≡ counted_call (is_fault result) self.old }
+        ensures state { self.new
+            ≡ naming self.new.first_fault (counted_call (is_fault result) self.old) }
+        ensures named { NamesFirst (is_fault result) path.now self.old self.new.first_fault }
         ensures wants_none { IsErrOf result ReadError.OutOfMemory → ⊥ }
         ensures later { self.old.faults ≤ self.new.faults }
         ensures cause { IsErrOf result ReadError.Fault
@@ -287,7 +342,7 @@ impl<'a> Worktree for DiskWorktree<'a> {
         ensures nowhere { IsTrue (has_nul path.now) → result ≡ Ok RemoveAnswer.Absent }
     {
         let answer = remove_node(self.rt, self.current, path);
-        self.count(is_fault(&answer), false);
+        self.count(path, is_fault(&answer), false);
         answer
     }
 
@@ -304,10 +359,14 @@ impl<'a> Worktree for DiskWorktree<'a> {
             list_faults: 0,
             reads: 0,
             lists: 0,
+            first_fault: Bytes::new(self.rt.alloc()),
         })
     }
 
     fn absorb(&mut self, other: DiskWorktree<'a>) {
+        if other.faults > 0 {
+            self.name_first(other.first_fault.as_bytes());
+        }
         self.faults = self.faults.saturating_add(other.faults);
         self.list_faults = self.list_faults.saturating_add(other.list_faults);
         self.reads = self.reads.saturating_add(other.reads);

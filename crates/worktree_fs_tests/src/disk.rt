@@ -160,6 +160,14 @@ fn listing_faults(want: &[u8], faults: &[u8]) -> u64 {
     }
 }
 
+/// Whether the path of the first fault is named, and none where there is no fault.
+fn names_first(disk: &DiskWorktree<'_>, path: &[u8]) -> bool {
+    match disk.fault_count() {
+        0 => disk.first_fault().is_empty(),
+        _ => disk.first_fault() == path,
+    }
+}
+
 fn holds(rt: &HostRuntime, current: &str, folder: &[u8], row: &[u8]) -> bool {
     let (question, rest) = parted(row);
     let (name, rest) = parted(rest);
@@ -171,6 +179,7 @@ fn holds(rt: &HostRuntime, current: &str, folder: &[u8], row: &[u8]) -> bool {
             answers(rt.alloc(), &mut disk, question, &path, want)
                 && disk.fault_count() == faults.len() as u64
                 && disk.list_fault_count() == listing_faults(want, faults)
+                && names_first(&disk, &path)
         }
         None => false,
     }
@@ -192,6 +201,7 @@ fn refuses_long(rt: &HostRuntime) -> bool {
         && removes(alloc, &mut disk, &name, b"fault")
         && disk.fault_count() == 7
         && disk.list_fault_count() == 0
+        && names_first(&disk, &path)
 }
 
 /// A listing of a path that is too long fails at opening; a fork's counts are added to those of the
@@ -206,7 +216,7 @@ fn counts_long_listing(rt: &HostRuntime) -> bool {
     let name = [b'x'; 300];
     let refused = lists(alloc, &mut fork, &name, false, b"open");
     disk.absorb(fork);
-    refused && disk.fault_count() == 1 && disk.list_fault_count() == 1
+    refused && disk.fault_count() == 1 && disk.list_fault_count() == 1 && names_first(&disk, &name)
 }
 
 /// A directory that is not UTF-8 is a fault for the paths that are taken from it, and for no other.
