@@ -51,7 +51,7 @@ by_request w i o d w0 w1 i0 i1 o0 o1 d0 d1 place words answer request asked (off
 
 -- ---- the call
 
-module _ {W I O D S E : Type 0} (w : WorktreeOf W) (i : InterruptOf I) (o : OwnersOf O) (d : StatsOf D) (s : SinkOf S) (e : SinkOf E) (w0 w1 : W) (i0 i1 : I) (o0 o1 : O) (d0 d1 : D) (s0 s1 : S) (e0 e1 : E) (place : Place) (words : List (List ℕ)) (status : ℕ) where
+module _ {W I O D S E : Type 0} (w : WorktreeOf W) (i : InterruptOf I) (o : OwnersOf O) (d : StatsOf D) (s : SinkOf S) (e : SinkOf E) (w0 w1 : W) (i0 i1 : I) (o0 o1 : O) (d0 d1 : D) (s0 s1 : S) (e0 e1 : E) (first : List ℕ) (place : Place) (words : List (List ℕ)) (status : ℕ) where
   -- what is said of a comparison where the answer is known
   as_known : (answer known : Result Reply HereRefusal) (a : AnswersComparing w o d w0 w1 i0 i1 o0 o1 d0 d1 place words answer) → answer ≡ known
       → Compares w o d w0 w1 o0 o1 d0 d1 (replied_at place a.request.directory a.wants a.comparing) known
@@ -64,13 +64,13 @@ module _ {W I O D S E : Type 0} (w : WorktreeOf W) (i : InterruptOf I) (o : Owne
   of_task : (P : Task → Type 0) (answer : Result Reply HereRefusal) (a : AnswersComparing w o d w0 w1 i0 i1 o0 o1 d0 d1 place words answer) → P (task_of place.takes_colors a.request.command) → P (compare_of a.comparing a.wants)
   of_task P answer a holds = subst P a.task_is holds
 
-  pub unfaulted : (answer : Result Reply HereRefusal) → Answers w i o d w0 w1 i0 i1 o0 o1 d0 d1 place words answer → EndsHere s e s0 s1 e0 e1 answer status
+  pub unfaulted : (answer : Result Reply HereRefusal) → Answers w i o d w0 w1 i0 i1 o0 o1 d0 d1 place words answer → EndsHere s e s0 s1 e0 e1 first answer status
       → status ≤ 1 → output.IsUnfaultedHere place words (w.faults w0) (w.faults w1)
   unfaulted answer any ends few =
       elim any [
-        | inl here ↦ ended.unfaulted w i o s e w0 w1 i0 i1 o0 o1 s0 s1 e0 e1 place words status answer here.0 ends few
+        | inl here ↦ ended.unfaulted w i o s e w0 w1 i0 i1 o0 o1 s0 s1 e0 e1 first place words status answer here.0 ends few
         | inr a ↦
-            let wrote = ended.ends_low s e s0 s1 e0 e1 status answer ends few in
+            let wrote = ended.ends_low s e s0 s1 e0 e1 first status answer ends few in
             record {
               request = a.request;
               asked = a.asked;
@@ -78,30 +78,30 @@ module _ {W I O D S E : Type 0} (w : WorktreeOf W) (i : InterruptOf I) (o : Owne
             }
       ]
 
-  pub owners_unfaulted : (answer : Result Reply HereRefusal) → Answers w i o d w0 w1 i0 i1 o0 o1 d0 d1 place words answer → EndsHere s e s0 s1 e0 e1 answer status
+  pub owners_unfaulted : (answer : Result Reply HereRefusal) → Answers w i o d w0 w1 i0 i1 o0 o1 d0 d1 place words answer → EndsHere s e s0 s1 e0 e1 first answer status
       → status ≤ 1 → o.faults o1 ≡ o.faults o0
   owners_unfaulted answer any ends few =
       elim any [
-        | inl here ↦ ended.owners_unfaulted w i o s e w0 w1 i0 i1 o0 o1 s0 s1 e0 e1 place words status answer here.0 ends few
-        | inr a ↦ let wrote = ended.ends_low s e s0 s1 e0 e1 status answer ends few in (as_known answer (Ok wrote.0) a wrote.1).owners_unfaulted
+        | inl here ↦ ended.owners_unfaulted w i o s e w0 w1 i0 i1 o0 o1 s0 s1 e0 e1 first place words status answer here.0 ends few
+        | inr a ↦ let wrote = ended.ends_low s e s0 s1 e0 e1 first status answer ends few in (as_known answer (Ok wrote.0) a wrote.1).owners_unfaulted
       ]
 
-  pub stats_unfaulted : (answer : Result Reply HereRefusal) → Answers w i o d w0 w1 i0 i1 o0 o1 d0 d1 place words answer → EndsHere s e s0 s1 e0 e1 answer status
+  pub stats_unfaulted : (answer : Result Reply HereRefusal) → Answers w i o d w0 w1 i0 i1 o0 o1 d0 d1 place words answer → EndsHere s e s0 s1 e0 e1 first answer status
       → status ≤ 1 → d.faults d1 ≡ d.faults d0
   stats_unfaulted answer any ends few =
       elim any [
         | inl here ↦ ap d.faults here.1
-        | inr a ↦ let wrote = ended.ends_low s e s0 s1 e0 e1 status answer ends few in (as_known answer (Ok wrote.0) a wrote.1).stats_unfaulted
+        | inr a ↦ let wrote = ended.ends_low s e s0 s1 e0 e1 first status answer ends few in (as_known answer (Ok wrote.0) a wrote.1).stats_unfaulted
       ]
 
-  pub gives : (answer : Result Reply HereRefusal) → Answers w i o d w0 w1 i0 i1 o0 o1 d0 d1 place words answer → EndsHere s e s0 s1 e0 e1 answer status
+  pub gives : (answer : Result Reply HereRefusal) → Answers w i o d w0 w1 i0 i1 o0 o1 d0 d1 place words answer → EndsHere s e s0 s1 e0 e1 first answer status
       → (t : Names) (owned : Owned) → w.told w0 ≡ Some t → o.told o0 ≡ Some owned → status ≤ 1
       → (reply : Reply) × (output.IsOutputHere (w.precomposes w0) t owned place words (w.faults w0) (w.faults w1) reply ⊎ IsCompared t owned (d.told d0) place words reply) × IsReplied s e s0 s1 e0 e1 reply status
   gives answer any ends t owned tree owns few =
       elim any [
-        | inl here ↦ let gave = ended.gives w i o s e w0 w1 i0 i1 o0 o1 s0 s1 e0 e1 place words status answer here.0 ends t owned tree owns few in (gave.0, inl gave.1, gave.2)
+        | inl here ↦ let gave = ended.gives w i o s e w0 w1 i0 i1 o0 o1 s0 s1 e0 e1 first place words status answer here.0 ends t owned tree owns few in (gave.0, inl gave.1, gave.2)
         | inr a ↦
-            let wrote = ended.ends_low s e s0 s1 e0 e1 status answer ends few in (
+            let wrote = ended.ends_low s e s0 s1 e0 e1 first status answer ends few in (
               wrote.0,
               inr (record {
                 request = a.request;
@@ -113,30 +113,30 @@ module _ {W I O D S E : Type 0} (w : WorktreeOf W) (i : InterruptOf I) (o : Owne
             )
       ]
 
-  pub misuse : (answer : Result Reply HereRefusal) → Answers w i o d w0 w1 i0 i1 o0 o1 d0 d1 place words answer → EndsHere s e s0 s1 e0 e1 answer status → status ≡ 129 → IsMisuse words
+  pub misuse : (answer : Result Reply HereRefusal) → Answers w i o d w0 w1 i0 i1 o0 o1 d0 d1 place words answer → EndsHere s e s0 s1 e0 e1 first answer status → status ≡ 129 → IsMisuse words
   misuse answer any ends is =
       elim any [
-        | inl here ↦ ended.misuse w i o s e w0 w1 i0 i1 o0 o1 s0 s1 e0 e1 place words status answer here.0 ends is
+        | inl here ↦ ended.misuse w i o s e w0 w1 i0 i1 o0 o1 s0 s1 e0 e1 first place words status answer here.0 ends is
         | inr a ↦
-            let refused = ended.ends_above s e s0 s1 e0 e1 status answer ends 129 is (omega arith) in
+            let refused = ended.ends_above s e s0 s1 e0 e1 first status answer ends 129 is (omega arith) in
             absurd (ended.finding_not_misuse refused.0 (as_known answer (Err refused.0) a refused.1).of refused.2)
       ]
 
-  pub usage : (answer : Result Reply HereRefusal) → Answers w i o d w0 w1 i0 i1 o0 o1 d0 d1 place words answer → EndsHere s e s0 s1 e0 e1 answer status → IsMisuse words
+  pub usage : (answer : Result Reply HereRefusal) → Answers w i o d w0 w1 i0 i1 o0 o1 d0 d1 place words answer → EndsHere s e s0 s1 e0 e1 first answer status → IsMisuse words
       → (status ≡ 129) ⊎ IsToldOf e e0 e1 memory_line 128 status
   usage answer any ends known =
       elim any [
-        | inl here ↦ ended.usage w i o s e w0 w1 i0 i1 o0 o1 s0 s1 e0 e1 place words status answer here.0 ends known
+        | inl here ↦ ended.usage w i o s e w0 w1 i0 i1 o0 o1 s0 s1 e0 e1 first place words status answer here.0 ends known
         | inr a ↦ absurd (ended.no_asking (sym a.asked ∙ known.is))
       ]
 
-  pub interrupted : (answer : Result Reply HereRefusal) → Answers w i o d w0 w1 i0 i1 o0 o1 d0 d1 place words answer → EndsHere s e s0 s1 e0 e1 answer status → status ≡ 130
+  pub interrupted : (answer : Result Reply HereRefusal) → Answers w i o d w0 w1 i0 i1 o0 o1 d0 d1 place words answer → EndsHere s e s0 s1 e0 e1 first answer status → status ≡ 130
       → Increased (i.raised i0) (i.raised i1)
   interrupted answer any ends is =
       elim any [
-        | inl here ↦ ended.interrupted w i o s e w0 w1 i0 i1 o0 o1 s0 s1 e0 e1 place words status answer here.0 ends is
+        | inl here ↦ ended.interrupted w i o s e w0 w1 i0 i1 o0 o1 s0 s1 e0 e1 first place words status answer here.0 ends is
         | inr a ↦
-            let refused = ended.ends_above s e s0 s1 e0 e1 status answer ends 130 is (omega arith) in
+            let refused = ended.ends_above s e s0 s1 e0 e1 first status answer ends 130 is (omega arith) in
             absurd (ended.finding_not_interrupted refused.0 (as_known answer (Err refused.0) a refused.1).of refused.2)
       ]
 
@@ -168,10 +168,10 @@ module _ {W I O D S E : Type 0} (w : WorktreeOf W) (i : InterruptOf I) (o : Owne
         ];
       }
 
-  pub fatal : (answer : Result Reply HereRefusal) → Answers w i o d w0 w1 i0 i1 o0 o1 d0 d1 place words answer → EndsHere s e s0 s1 e0 e1 answer status
+  pub fatal : (answer : Result Reply HereRefusal) → Answers w i o d w0 w1 i0 i1 o0 o1 d0 d1 place words answer → EndsHere s e s0 s1 e0 e1 first answer status
       → (t : Names) (owned : Owned) → w.told w0 ≡ Some t → o.told o0 ≡ Some owned → status ≡ 128 → NotIncreased (w.faults w0) (w.faults w1) → NotIncreased (o.faults o0) (o.faults o1) → NotIncreased (s.refusals s0) (s.refusals s1)
       → IsToldOf e e0 e1 memory_line 128 status
-      ⊎ IsFatal e e0 e1 (λ refusal. output.RefusesHere (w.precomposes w0) t owned place words refusal ⊎ RefusesCompared t owned (d.told d0) (d.faults d0) (d.faults d1) place words refusal)
+      ⊎ IsFatal e e0 e1 first (λ refusal. output.RefusesHere (w.precomposes w0) t owned place words refusal ⊎ RefusesCompared t owned (d.told d0) (d.faults d0) (d.faults d1) place words refusal)
   fatal (Ok reply) any ends t owned tree owns is quiet owners_quiet taken =
       elim ends.by [
         | inl whole ↦ absurd (let same = whole.status_is in let low = ended.is_low reply in omega (arith, same, low, is))
@@ -179,7 +179,7 @@ module _ {W I O D S E : Type 0} (w : WorktreeOf W) (i : InterruptOf I) (o : Owne
       ]
   fatal (Err refusal) any ends t owned tree owns is quiet owners_quiet taken =
       elim any [
-        | inl here ↦ elim (ended.fatal w i o s e w0 w1 i0 i1 o0 o1 s0 s1 e0 e1 place words status (Err refusal) here.0 ends t owned tree owns is quiet owners_quiet taken) [
+        | inl here ↦ elim (ended.fatal w i o s e w0 w1 i0 i1 o0 o1 s0 s1 e0 e1 first place words status (Err refusal) here.0 ends t owned tree owns is quiet owners_quiet taken) [
           | inl wants ↦ inl wants
           | inr told ↦ inr (record { refusal = told.refusal; refused = inl told.refused; said = told.said })
         ]
@@ -189,52 +189,52 @@ module _ {W I O D S E : Type 0} (w : WorktreeOf W) (i : InterruptOf I) (o : Owne
         ]
       ]
 
-  pub refused : (answer : Result Reply HereRefusal) → Answers w i o d w0 w1 i0 i1 o0 o1 d0 d1 place words answer → EndsHere s e s0 s1 e0 e1 answer status
+  pub refused : (answer : Result Reply HereRefusal) → Answers w i o d w0 w1 i0 i1 o0 o1 d0 d1 place words answer → EndsHere s e s0 s1 e0 e1 first answer status
       → (t : Names) (owned : Owned) (refusal : HereRefusal) → w.told w0 ≡ Some t → o.told o0 ≡ Some owned → output.IsNotFoundHere t owned place words refusal
-      → NotIncreased (w.faults w0) (w.faults w1) → NotIncreased (o.faults o0) (o.faults o1) → IsTold e e0 e1 refusal status
+      → NotIncreased (w.faults w0) (w.faults w1) → NotIncreased (o.faults o0) (o.faults o1) → IsTold e e0 e1 first refusal status
   refused answer any ends t owned refusal tree owns known quiet owners_quiet =
       elim any [
-        | inl here ↦ ended.refused w i o s e w0 w1 i0 i1 o0 o1 s0 s1 e0 e1 place words status answer here.0 ends t owned refusal tree owns known quiet owners_quiet
+        | inl here ↦ ended.refused w i o s e w0 w1 i0 i1 o0 o1 s0 s1 e0 e1 first place words status answer here.0 ends t owned refusal tree owns known quiet owners_quiet
         | inr a ↦ absurd (of_task (λ (x : Task). output.IsNotFoundFor t owned place a.request.directory refusal x) answer a (known.refused a.request a.asked))
       ]
 
-  pub complete : (answer : Result Reply HereRefusal) → Answers w i o d w0 w1 i0 i1 o0 o1 d0 d1 place words answer → EndsHere s e s0 s1 e0 e1 answer status
+  pub complete : (answer : Result Reply HereRefusal) → Answers w i o d w0 w1 i0 i1 o0 o1 d0 d1 place words answer → EndsHere s e s0 s1 e0 e1 first answer status
       → (t : Names) (owned : Owned) → w.told w0 ≡ Some t → o.told o0 ≡ Some owned → output.IsValidHere (w.precomposes w0) t owned place words → NotIncreased (w.faults w0) (w.faults w1) → NotIncreased (o.faults o0) (o.faults o1)
       → NotIncreased (i.raised i0) (i.raised i1) → NotIncreased (s.refusals s0) (s.refusals s1) → (status ≤ 1) ⊎ IsToldOf e e0 e1 memory_line 128 status
   complete answer any ends t owned tree owns valid quiet owners_quiet calm taken =
       elim any [
-        | inl here ↦ ended.complete w i o s e w0 w1 i0 i1 o0 o1 s0 s1 e0 e1 place words status answer here.0 ends t owned tree owns valid quiet owners_quiet calm taken
+        | inl here ↦ ended.complete w i o s e w0 w1 i0 i1 o0 o1 s0 s1 e0 e1 first place words status answer here.0 ends t owned tree owns valid quiet owners_quiet calm taken
         | inr a ↦ absurd (of_task (λ (x : Task). output.IsReadyWith (w.precomposes w0) t owned place a.request.directory x) answer a (valid.ready a.request a.asked))
       ]
 
   -- it ends as what is wanted does
-  ends_as : (answer wanted found : Result Reply HereRefusal) → found ≡ answer → found ≡ wanted → EndsHere s e s0 s1 e0 e1 answer status → EndsHere s e s0 s1 e0 e1 wanted status
-  ends_as answer wanted found is said ends = subst (λ (x : Result Reply HereRefusal). EndsHere s e s0 s1 e0 e1 x status) (sym is ∙ said) ends
+  ends_as : (answer wanted found : Result Reply HereRefusal) → found ≡ answer → found ≡ wanted → EndsHere s e s0 s1 e0 e1 first answer status → EndsHere s e s0 s1 e0 e1 first wanted status
+  ends_as answer wanted found is said ends = subst (λ (x : Result Reply HereRefusal). EndsHere s e s0 s1 e0 e1 first x status) (sym is ∙ said) ends
 
-  comparing_ends : (answer wanted : Result Reply HereRefusal) (a : AnswersComparing w o d w0 w1 i0 i1 o0 o1 d0 d1 place words answer) → EndsHere s e s0 s1 e0 e1 answer status
+  comparing_ends : (answer wanted : Result Reply HereRefusal) (a : AnswersComparing w o d w0 w1 i0 i1 o0 o1 d0 d1 place words answer) → EndsHere s e s0 s1 e0 e1 first answer status
       → (t : Names) (owned : Owned) (told : Told) → w.told w0 ≡ Some t → o.told o0 ≡ Some owned → d.told d0 ≡ Some told → ComparesTo t owned told place words wanted
       → NotIncreased (w.faults w0) (w.faults w1) → NotIncreased (o.faults o0) (o.faults o1) → NotIncreased (d.faults d0) (d.faults d1)
-      → IsToldOf e e0 e1 memory_line 128 status ⊎ EndsHere s e s0 s1 e0 e1 wanted status
+      → IsToldOf e e0 e1 memory_line 128 status ⊎ EndsHere s e s0 s1 e0 e1 first wanted status
   comparing_ends (Ok reply) wanted a ends t owned told tree owns tells known quiet owners_quiet stats_quiet =
       let said = of_task (λ (x : Task). IsSaidBy t owned told place a.request.directory wanted x) (Ok reply) a (known.is a.request a.asked) in
       inr (ends_as (Ok reply) wanted _ (a.compares.gives t owned told tree owns tells) said ends)
   comparing_ends (Err refusal) wanted a ends t owned told tree owns tells known quiet owners_quiet stats_quiet =
       let said = of_task (λ (x : Task). IsSaidBy t owned told place a.request.directory wanted x) (Err refusal) a (known.is a.request a.asked) in
       elim (is_refused refusal a t owned tree owns quiet owners_quiet told tells stats_quiet) [
-        | inl wants ↦ inl (ended.wants_memory s e s0 s1 e0 e1 status refusal wants ends.by.1)
+        | inl wants ↦ inl (ended.wants_memory s e s0 s1 e0 e1 first status refusal wants ends.by.1)
         | inr is ↦ inr (ends_as (Err refusal) wanted _ is said ends)
       ]
 
-  pub compared : (answer : Result Reply HereRefusal) → Answers w i o d w0 w1 i0 i1 o0 o1 d0 d1 place words answer → EndsHere s e s0 s1 e0 e1 answer status
+  pub compared : (answer : Result Reply HereRefusal) → Answers w i o d w0 w1 i0 i1 o0 o1 d0 d1 place words answer → EndsHere s e s0 s1 e0 e1 first answer status
       → (t : Names) (owned : Owned) (told : Told) (wanted : Result Reply HereRefusal) → w.told w0 ≡ Some t → o.told o0 ≡ Some owned → d.told d0 ≡ Some told → ComparesTo t owned told place words wanted
       → NotIncreased (w.faults w0) (w.faults w1) → NotIncreased (o.faults o0) (o.faults o1) → NotIncreased (d.faults d0) (d.faults d1)
-      → IsToldOf e e0 e1 memory_line 128 status ⊎ EndsHere s e s0 s1 e0 e1 wanted status
+      → IsToldOf e e0 e1 memory_line 128 status ⊎ EndsHere s e s0 s1 e0 e1 first wanted status
   compared answer any ends t owned told wanted tree owns tells known quiet owners_quiet stats_quiet =
       elim any [
         | inl here ↦ elim here.0 [
           | inl of ↦ absurd (no_word w i o w0 w1 i0 i1 o0 o1 place of.request.directory answer wanted t owned told (task_of place.takes_colors of.request.command) of.answers (known.is of.request of.asked))
           | inr (inl wrong) ↦ absurd (ended.no_asking (sym known.words_are ∙ wrong.misuse.is))
-          | inr (inr unread) ↦ inl (ended.wants_memory s e s0 s1 e0 e1 status memory refl (subst (λ (x : Result Reply HereRefusal). EndsHere s e s0 s1 e0 e1 x status) unread.answer_is ends).by.1)
+          | inr (inr unread) ↦ inl (ended.wants_memory s e s0 s1 e0 e1 first status memory refl (subst (λ (x : Result Reply HereRefusal). EndsHere s e s0 s1 e0 e1 first x status) unread.answer_is ends).by.1)
         ]
         | inr a ↦ comparing_ends answer wanted a ends t owned told tree owns tells known quiet owners_quiet stats_quiet
       ]

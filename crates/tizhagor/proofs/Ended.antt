@@ -144,9 +144,9 @@ no_asking is = absurd cc
 
 -- ---- how it ends
 
-module _ {S E : Type 0} (s : SinkOf S) (e : SinkOf E) (s0 s1 : S) (e0 e1 : E) (status : ℕ) where
+module _ {S E : Type 0} (s : SinkOf S) (e : SinkOf E) (s0 s1 : S) (e0 e1 : E) (first : List ℕ) (status : ℕ) where
   -- with 0 and 1 there is a reply, and it is written
-  pub ends_low : (answer : Result Reply HereRefusal) → EndsHere s e s0 s1 e0 e1 answer status → status ≤ 1
+  pub ends_low : (answer : Result Reply HereRefusal) → EndsHere s e s0 s1 e0 e1 first answer status → status ≤ 1
       → (reply : Reply) × (answer ≡ Ok reply) × IsReplied s e s0 s1 e0 e1 reply status
   ends_low (Ok reply) ends few = elim ends.by [ inl whole ↦ (reply, refl, whole) | inr cut ↦ absurd (let is = cut.status_is in omega (arith, is, few)) ]
   ends_low (Err refusal) ends few =
@@ -156,7 +156,7 @@ module _ {S E : Type 0} (s : SinkOf S) (e : SinkOf E) (s0 s1 : S) (e0 e1 : E) (s
       ]
 
   -- a status above 128 is that of a refusal
-  pub ends_above : (answer : Result Reply HereRefusal) → EndsHere s e s0 s1 e0 e1 answer status → (n : ℕ) → status ≡ n → 128 < n
+  pub ends_above : (answer : Result Reply HereRefusal) → EndsHere s e s0 s1 e0 e1 first answer status → (n : ℕ) → status ≡ n → 128 < n
       → (refusal : HereRefusal) × (answer ≡ Err refusal) × (status_of refusal ≡ n)
   ends_above (Ok reply) ends n is high =
       elim ends.by [
@@ -167,8 +167,8 @@ module _ {S E : Type 0} (s : SinkOf S) (e : SinkOf E) (s0 s1 : S) (e0 e1 : E) (s
       elim ends.by.1 [ inl told ↦ (refusal, refl, sym told.status_is ∙ is) | inr untold ↦ absurd (let same = untold.status_is in omega (arith, same, is, high)) ]
 
   -- want of memory is told
-  pub wants_memory : (refusal : HereRefusal) → refusal ≡ memory → IsTold e e0 e1 refusal status → IsToldOf e e0 e1 memory_line 128 status
-  wants_memory refusal is told = elim (subst (λ (x : HereRefusal). IsTold e e0 e1 x status) is told) [ inl known ↦ record { status_is = known.status_is; said = known.said } | inr untold ↦ untold ]
+  pub wants_memory : (refusal : HereRefusal) → refusal ≡ memory → IsTold e e0 e1 first refusal status → IsToldOf e e0 e1 memory_line 128 status
+  wants_memory refusal is told = elim (subst (λ (x : HereRefusal). IsTold e e0 e1 first x status) is told) [ inl known ↦ record { status_is = known.status_is; said = known.said } | inr untold ↦ untold ]
 
 -- ---- a task
 
@@ -466,7 +466,7 @@ module _ {W I O : Type 0} (w : WorktreeOf W) (i : InterruptOf I) (o : OwnersOf O
 
 -- ---- the call
 
-module _ {W I O S E : Type 0} (w : WorktreeOf W) (i : InterruptOf I) (o : OwnersOf O) (s : SinkOf S) (e : SinkOf E) (w0 w1 : W) (i0 i1 : I) (o0 o1 : O) (s0 s1 : S) (e0 e1 : E) (place : Place) (words : List (List ℕ)) (status : ℕ) where
+module _ {W I O S E : Type 0} (w : WorktreeOf W) (i : InterruptOf I) (o : OwnersOf O) (s : SinkOf S) (e : SinkOf E) (w0 w1 : W) (i0 i1 : I) (o0 o1 : O) (s0 s1 : S) (e0 e1 : E) (first : List ℕ) (place : Place) (words : List (List ℕ)) (status : ℕ) where
   reply_unfaulted : (reply : Reply) → AnswersHere w i o w0 w1 i0 i1 o0 o1 place words (Ok reply) → output.IsUnfaultedHere place words (w.faults w0) (w.faults w1)
   reply_unfaulted reply a =
       elim a [
@@ -492,23 +492,23 @@ module _ {W I O S E : Type 0} (w : WorktreeOf W) (i : InterruptOf I) (o : Owners
         | inr (inr unread) ↦ absurd (no_reply unread.answer_is)
       ]
 
-  pub unfaulted : (answer : Result Reply HereRefusal) → AnswersHere w i o w0 w1 i0 i1 o0 o1 place words answer → EndsHere s e s0 s1 e0 e1 answer status
+  pub unfaulted : (answer : Result Reply HereRefusal) → AnswersHere w i o w0 w1 i0 i1 o0 o1 place words answer → EndsHere s e s0 s1 e0 e1 first answer status
       → status ≤ 1 → output.IsUnfaultedHere place words (w.faults w0) (w.faults w1)
   unfaulted answer a ends few =
-      let wrote = ends_low s e s0 s1 e0 e1 status answer ends few in
+      let wrote = ends_low s e s0 s1 e0 e1 first status answer ends few in
       reply_unfaulted wrote.0 (subst (λ (x : Result Reply HereRefusal). AnswersHere w i o w0 w1 i0 i1 o0 o1 place words x) wrote.1 a)
 
-  pub owners_unfaulted : (answer : Result Reply HereRefusal) → AnswersHere w i o w0 w1 i0 i1 o0 o1 place words answer → EndsHere s e s0 s1 e0 e1 answer status
+  pub owners_unfaulted : (answer : Result Reply HereRefusal) → AnswersHere w i o w0 w1 i0 i1 o0 o1 place words answer → EndsHere s e s0 s1 e0 e1 first answer status
       → status ≤ 1 → o.faults o1 ≡ o.faults o0
   owners_unfaulted answer a ends few =
-      let wrote = ends_low s e s0 s1 e0 e1 status answer ends few in
+      let wrote = ends_low s e s0 s1 e0 e1 first status answer ends few in
       reply_owners wrote.0 (subst (λ (x : Result Reply HereRefusal). AnswersHere w i o w0 w1 i0 i1 o0 o1 place words x) wrote.1 a)
 
-  pub gives : (answer : Result Reply HereRefusal) → AnswersHere w i o w0 w1 i0 i1 o0 o1 place words answer → EndsHere s e s0 s1 e0 e1 answer status
+  pub gives : (answer : Result Reply HereRefusal) → AnswersHere w i o w0 w1 i0 i1 o0 o1 place words answer → EndsHere s e s0 s1 e0 e1 first answer status
       → (t : Names) (owned : Owned) → w.told w0 ≡ Some t → o.told o0 ≡ Some owned → status ≤ 1
       → (reply : Reply) × output.IsOutputHere (w.precomposes w0) t owned place words (w.faults w0) (w.faults w1) reply × IsReplied s e s0 s1 e0 e1 reply status
   gives answer a ends t owned told tells few =
-      let wrote = ends_low s e s0 s1 e0 e1 status answer ends few in
+      let wrote = ends_low s e s0 s1 e0 e1 first status answer ends few in
       (wrote.0, reply_output wrote.0 (subst (λ (x : Result Reply HereRefusal). AnswersHere w i o w0 w1 i0 i1 o0 o1 place words x) wrote.1 a) t owned told tells, wrote.2)
 
   error_misuse : (refusal : HereRefusal) → AnswersHere w i o w0 w1 i0 i1 o0 o1 place words (Err refusal) → status_of refusal ≡ 129 → IsMisuse words
@@ -519,18 +519,18 @@ module _ {W I O S E : Type 0} (w : WorktreeOf W) (i : InterruptOf I) (o : Owners
         | inr (inr unread) ↦ absurd (let same = memory_not refusal 129 (same_error unread.answer_is) is in omega (arith, same))
       ]
 
-  pub misuse : (answer : Result Reply HereRefusal) → AnswersHere w i o w0 w1 i0 i1 o0 o1 place words answer → EndsHere s e s0 s1 e0 e1 answer status → status ≡ 129 → IsMisuse words
+  pub misuse : (answer : Result Reply HereRefusal) → AnswersHere w i o w0 w1 i0 i1 o0 o1 place words answer → EndsHere s e s0 s1 e0 e1 first answer status → status ≡ 129 → IsMisuse words
   misuse answer a ends is =
-      let refused = ends_above s e s0 s1 e0 e1 status answer ends 129 is (omega arith) in
+      let refused = ends_above s e s0 s1 e0 e1 first status answer ends 129 is (omega arith) in
       error_misuse refused.0 (subst (λ (x : Result Reply HereRefusal). AnswersHere w i o w0 w1 i0 i1 o0 o1 place words x) refused.1 a) refused.2
 
-  pub usage : (answer : Result Reply HereRefusal) → AnswersHere w i o w0 w1 i0 i1 o0 o1 place words answer → EndsHere s e s0 s1 e0 e1 answer status → IsMisuse words
+  pub usage : (answer : Result Reply HereRefusal) → AnswersHere w i o w0 w1 i0 i1 o0 o1 place words answer → EndsHere s e s0 s1 e0 e1 first answer status → IsMisuse words
       → (status ≡ 129) ⊎ IsToldOf e e0 e1 memory_line 128 status
   usage answer a ends known =
       elim a [
         | inl of ↦ absurd (no_asking (sym of.asked ∙ known.is))
-        | inr (inl wrong) ↦ elim (subst (λ (x : Result Reply HereRefusal). EndsHere s e s0 s1 e0 e1 x status) wrong.answer_is ends).by.1 [ inl told ↦ inl told.status_is | inr untold ↦ inr untold ]
-        | inr (inr unread) ↦ inr (wants_memory s e s0 s1 e0 e1 status memory refl (subst (λ (x : Result Reply HereRefusal). EndsHere s e s0 s1 e0 e1 x status) unread.answer_is ends).by.1)
+        | inr (inl wrong) ↦ elim (subst (λ (x : Result Reply HereRefusal). EndsHere s e s0 s1 e0 e1 first x status) wrong.answer_is ends).by.1 [ inl told ↦ inl told.status_is | inr untold ↦ inr untold ]
+        | inr (inr unread) ↦ inr (wants_memory s e s0 s1 e0 e1 first status memory refl (subst (λ (x : Result Reply HereRefusal). EndsHere s e s0 s1 e0 e1 first x status) unread.answer_is ends).by.1)
       ]
 
   error_refused : (refusal : HereRefusal) → AnswersHere w i o w0 w1 i0 i1 o0 o1 place words (Err refusal) → (t : Names) (owned : Owned) → w.told w0 ≡ Some t → o.told o0 ≡ Some owned → NotIncreased (w.faults w0) (w.faults w1) → NotIncreased (o.faults o0) (o.faults o1)
@@ -545,9 +545,9 @@ module _ {W I O S E : Type 0} (w : WorktreeOf W) (i : InterruptOf I) (o : Owners
         | inr (inr unread) ↦ inl (same_error unread.answer_is)
       ]
 
-  pub fatal : (answer : Result Reply HereRefusal) → AnswersHere w i o w0 w1 i0 i1 o0 o1 place words answer → EndsHere s e s0 s1 e0 e1 answer status
+  pub fatal : (answer : Result Reply HereRefusal) → AnswersHere w i o w0 w1 i0 i1 o0 o1 place words answer → EndsHere s e s0 s1 e0 e1 first answer status
       → (t : Names) (owned : Owned) → w.told w0 ≡ Some t → o.told o0 ≡ Some owned → status ≡ 128 → NotIncreased (w.faults w0) (w.faults w1) → NotIncreased (o.faults o0) (o.faults o1) → NotIncreased (s.refusals s0) (s.refusals s1)
-      → IsToldOf e e0 e1 memory_line 128 status ⊎ IsFatal e e0 e1 (output.RefusesHere (w.precomposes w0) t owned place words)
+      → IsToldOf e e0 e1 memory_line 128 status ⊎ IsFatal e e0 e1 first (output.RefusesHere (w.precomposes w0) t owned place words)
   fatal (Ok reply) a ends t owned told tells is quiet owners_quiet taken =
       elim ends.by [
         | inl whole ↦ absurd (let same = whole.status_is in let low = is_low reply in omega (arith, same, low, is))
@@ -556,7 +556,7 @@ module _ {W I O S E : Type 0} (w : WorktreeOf W) (i : InterruptOf I) (o : Owners
   fatal (Err refusal) a ends t owned told tells is quiet owners_quiet taken =
       elim ends.by.1 [
         | inl told_of ↦ elim (error_refused refusal a t owned told tells quiet owners_quiet (sym told_of.status_is ∙ is)) [
-          | inl wants ↦ inl (wants_memory s e s0 s1 e0 e1 status refusal wants ends.by.1)
+          | inl wants ↦ inl (wants_memory s e s0 s1 e0 e1 first status refusal wants ends.by.1)
           | inr refused ↦ inr (record { refusal = refusal; refused = refused; said = told_of.said })
         ]
         | inr untold ↦ inl untold
@@ -572,17 +572,17 @@ module _ {W I O S E : Type 0} (w : WorktreeOf W) (i : InterruptOf I) (o : Owners
         | inr (inr unread) ↦ subst (λ (x : Result Reply HereRefusal). IsRefusedAs e x) (sym unread.answer_is) (inr refl)
       ]
 
-  told_refused : (refusal : HereRefusal) (answer : Result Reply HereRefusal) → IsRefusedAs refusal answer → EndsHere s e s0 s1 e0 e1 answer status → IsTold e e0 e1 refusal status
+  told_refused : (refusal : HereRefusal) (answer : Result Reply HereRefusal) → IsRefusedAs refusal answer → EndsHere s e s0 s1 e0 e1 first answer status → IsTold e e0 e1 first refusal status
   told_refused refusal (Ok reply) is ends = absurd is
   told_refused refusal (Err other) is ends =
       elim is [
-        | inl same ↦ subst (λ (x : HereRefusal). IsTold e e0 e1 x status) same ends.by.1
-        | inr wants ↦ inr (wants_memory s e s0 s1 e0 e1 status other wants ends.by.1)
+        | inl same ↦ subst (λ (x : HereRefusal). IsTold e e0 e1 first x status) same ends.by.1
+        | inr wants ↦ inr (wants_memory s e s0 s1 e0 e1 first status other wants ends.by.1)
       ]
 
-  pub refused : (answer : Result Reply HereRefusal) → AnswersHere w i o w0 w1 i0 i1 o0 o1 place words answer → EndsHere s e s0 s1 e0 e1 answer status
+  pub refused : (answer : Result Reply HereRefusal) → AnswersHere w i o w0 w1 i0 i1 o0 o1 place words answer → EndsHere s e s0 s1 e0 e1 first answer status
       → (t : Names) (owned : Owned) (refusal : HereRefusal) → w.told w0 ≡ Some t → o.told o0 ≡ Some owned → output.IsNotFoundHere t owned place words refusal
-      → NotIncreased (w.faults w0) (w.faults w1) → NotIncreased (o.faults o0) (o.faults o1) → IsTold e e0 e1 refusal status
+      → NotIncreased (w.faults w0) (w.faults w1) → NotIncreased (o.faults o0) (o.faults o1) → IsTold e e0 e1 first refusal status
   refused answer a ends t owned refusal told tells known quiet owners_quiet =
       told_refused refusal answer (answer_none answer a t owned refusal told tells known quiet owners_quiet) ends
 
@@ -594,10 +594,10 @@ module _ {W I O S E : Type 0} (w : WorktreeOf W) (i : InterruptOf I) (o : Owners
         | inr (inr unread) ↦ absurd (let same = memory_not refusal 130 (same_error unread.answer_is) is in omega (arith, same))
       ]
 
-  pub interrupted : (answer : Result Reply HereRefusal) → AnswersHere w i o w0 w1 i0 i1 o0 o1 place words answer → EndsHere s e s0 s1 e0 e1 answer status → status ≡ 130
+  pub interrupted : (answer : Result Reply HereRefusal) → AnswersHere w i o w0 w1 i0 i1 o0 o1 place words answer → EndsHere s e s0 s1 e0 e1 first answer status → status ≡ 130
       → Increased (i.raised i0) (i.raised i1)
   interrupted answer a ends is =
-      let refused = ends_above s e s0 s1 e0 e1 status answer ends 130 is (omega arith) in
+      let refused = ends_above s e s0 s1 e0 e1 first status answer ends 130 is (omega arith) in
       error_interrupted refused.0 (subst (λ (x : Result Reply HereRefusal). AnswersHere w i o w0 w1 i0 i1 o0 o1 place words x) refused.1 a) refused.2
 
   error_complete : (refusal : HereRefusal) → AnswersHere w i o w0 w1 i0 i1 o0 o1 place words (Err refusal) → (t : Names) (owned : Owned) → w.told w0 ≡ Some t → o.told o0 ≡ Some owned → output.IsValidHere (w.precomposes w0) t owned place words
@@ -609,10 +609,10 @@ module _ {W I O S E : Type 0} (w : WorktreeOf W) (i : InterruptOf I) (o : Owners
         | inr (inr unread) ↦ same_error unread.answer_is
       ]
 
-  pub complete : (answer : Result Reply HereRefusal) → AnswersHere w i o w0 w1 i0 i1 o0 o1 place words answer → EndsHere s e s0 s1 e0 e1 answer status
+  pub complete : (answer : Result Reply HereRefusal) → AnswersHere w i o w0 w1 i0 i1 o0 o1 place words answer → EndsHere s e s0 s1 e0 e1 first answer status
       → (t : Names) (owned : Owned) → w.told w0 ≡ Some t → o.told o0 ≡ Some owned → output.IsValidHere (w.precomposes w0) t owned place words → NotIncreased (w.faults w0) (w.faults w1) → NotIncreased (o.faults o0) (o.faults o1)
       → NotIncreased (i.raised i0) (i.raised i1) → NotIncreased (s.refusals s0) (s.refusals s1) → (status ≤ 1) ⊎ IsToldOf e e0 e1 memory_line 128 status
   complete (Ok reply) a ends t owned told tells valid quiet owners_quiet calm taken =
       elim ends.by [ inl whole ↦ inl (let same = whole.status_is in let low = is_low reply in omega (arith, same, low)) | inr cut ↦ absurd (let cause = cut.cause in omega (arith, cause, taken)) ]
   complete (Err refusal) a ends t owned told tells valid quiet owners_quiet calm taken =
-      inr (wants_memory s e s0 s1 e0 e1 status refusal (error_complete refusal a t owned told tells valid quiet owners_quiet calm) ends.by.1)
+      inr (wants_memory s e s0 s1 e0 e1 first status refusal (error_complete refusal a t owned told tells valid quiet owners_quiet calm) ends.by.1)

@@ -8,7 +8,7 @@ use Rattle.tizhagor.specs.declared.refusal.HereRefusal.{HereRefusal}
 use Rattle.tizhagor.specs.declared.reply.Reply.{Reply}
 use Rattle.tizhagor.specs.Parts.{memory_line, output_line}
 use Rattle.tizhagor.specs.Replies.{status_in}
-use Rattle.tizhagor.specs.Refusals.{line_of, status_of}
+use Rattle.tizhagor.specs.Refusals.{line_at, status_of}
 
 -- some lines stand on standard error; where there are none it is not touched
 abbrev pub IsSaidOrNone : {E : Type 0} → SinkOf E → E → E → List ℕ → Type 0
@@ -34,29 +34,30 @@ pub record IsToldOf {E : Type 0} (e : SinkOf E) (e0 e1 : E) (line : List ℕ) (i
   pub status_is : status ≡ is
   pub said : IsSaid e e0 e1 line
 
--- the status with the line of a refusal, or, as a line takes memory, the want of it instead
-abbrev pub IsTold : {E : Type 0} → SinkOf E → E → E → HereRefusal → ℕ → Type 0
-IsTold e e0 e1 refusal status = IsToldOf e e0 e1 (line_of refusal) (status_of refusal) status ⊎ IsToldOf e e0 e1 memory_line 128 status
+-- the status with the line of a refusal, or, as a line takes memory, the want of it instead; `first` is the path that the worktree names
+-- as that of its first fault
+abbrev pub IsTold : {E : Type 0} → SinkOf E → E → E → List ℕ → HereRefusal → ℕ → Type 0
+IsTold e e0 e1 first refusal status = IsToldOf e e0 e1 (line_at first refusal) (status_of refusal) status ⊎ IsToldOf e e0 e1 memory_line 128 status
 
 -- a reply is written, whole or a front of its bytes; a refusal is told, and nothing is written
-abbrev pub EndsBy : {S E : Type 0} → SinkOf S → SinkOf E → S → S → E → E → Result Reply HereRefusal → ℕ → Type 0
-EndsBy s e s0 s1 e0 e1 (Ok reply) status = IsReplied s e s0 s1 e0 e1 reply status ⊎ IsCut s e s0 s1 e0 e1 reply.out status
-EndsBy s e s0 s1 e0 e1 (Err refusal) status = (s1 ≡ s0) × IsTold e e0 e1 refusal status
+abbrev pub EndsBy : {S E : Type 0} → SinkOf S → SinkOf E → S → S → E → E → List ℕ → Result Reply HereRefusal → ℕ → Type 0
+EndsBy s e s0 s1 e0 e1 first (Ok reply) status = IsReplied s e s0 s1 e0 e1 reply status ⊎ IsCut s e s0 s1 e0 e1 reply.out status
+EndsBy s e s0 s1 e0 e1 first (Err refusal) status = (s1 ≡ s0) × IsTold e e0 e1 first refusal status
 
 -- The status, and what stands on the output and on standard error, where these were `s0` and `e0` and are `s1` and `e1`.
-pub record EndsHere {S E : Type 0} (s : SinkOf S) (e : SinkOf E) (s0 s1 : S) (e0 e1 : E) (answer : Result Reply HereRefusal) (status : ℕ) : Type 0 where
-  pub by : EndsBy s e s0 s1 e0 e1 answer status
+pub record EndsHere {S E : Type 0} (s : SinkOf S) (e : SinkOf E) (s0 s1 : S) (e0 e1 : E) (first : List ℕ) (answer : Result Reply HereRefusal) (status : ℕ) : Type 0 where
+  pub by : EndsBy s e s0 s1 e0 e1 first answer status
   pub refusals : s.refusals s0 ≤ s.refusals s1
   pub err_refusals : e.refusals e0 ≤ e.refusals e1
 
 -- A call: what it was asked for came to an answer for which `Answers` holds, and it ends as that answer does.
-pub record RunsHere {S E : Type 0} (s : SinkOf S) (e : SinkOf E) (s0 s1 : S) (e0 e1 : E) (Answers : Result Reply HereRefusal → Type 0) (status : ℕ) : Type 0 where
+pub record RunsHere {S E : Type 0} (s : SinkOf S) (e : SinkOf E) (s0 s1 : S) (e0 e1 : E) (first : List ℕ) (Answers : Result Reply HereRefusal → Type 0) (status : ℕ) : Type 0 where
   pub answer : Result Reply HereRefusal
   pub answers : Answers answer
-  pub ends : EndsHere s e s0 s1 e0 e1 answer status
+  pub ends : EndsHere s e s0 s1 e0 e1 first answer status
 
 -- The line of a refusal was said, for which `Refuses` holds.
-pub record IsFatal {E : Type 0} (e : SinkOf E) (e0 e1 : E) (Refuses : HereRefusal → Type 0) : Type 0 where
+pub record IsFatal {E : Type 0} (e : SinkOf E) (e0 e1 : E) (first : List ℕ) (Refuses : HereRefusal → Type 0) : Type 0 where
   pub refusal : HereRefusal
   pub refused : Refuses refusal
-  pub said : IsSaid e e0 e1 (line_of refusal)
+  pub said : IsSaid e e0 e1 (line_at first refusal)

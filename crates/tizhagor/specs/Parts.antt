@@ -28,9 +28,14 @@ abbrev pub foreign_line : List ℕ → List ℕ
 foreign_line path =
     with_path (codes "fatal: detected dubious ownership in repository at '") path (codes "'; to add an exception, call 'git config --global --add safe.directory DIRECTORY'\n")
 
--- the worktree or the owners failed; which call did is not told
+-- the worktree, the owners or the stats failed, and no path is named
 abbrev pub fault_line : List ℕ
 fault_line = codes "fatal: a file or directory could not be read\n"
+
+-- the same, with the path that the worktree names as that of its first fault
+abbrev pub fault_at : List ℕ → List ℕ
+fault_at [] = fault_line
+fault_at (b ∷ path) = with_path (codes "fatal: a file or directory could not be read: '") (b ∷ path) (codes "'\n")
 
 -- the report's bytes were refused
 abbrev pub output_line : List ℕ

@@ -1,5 +1,5 @@
 -- Why there is no text: the status and the line of each refusal.
-use Rattle.std.specs.Prelude.{ℕ, List, codes, ◌++◌, Result, Ok, Err}
+use Rattle.std.specs.Prelude.{ℕ, List, Bool, true, false, if◌then◌else◌, codes, ◌++◌, Result, Ok, Err}
 use Rattle.git_places.specs.Answers.{refused_as}
 use Rattle.git_setup.specs.declared.error.GitRefusal.{GitRefusal}
 use Rattle.git_setup.specs.declared.error.GitRefusal.TheVariants as git
@@ -28,7 +28,7 @@ use Rattle.diff_files.specs.declared.error.DiffError.TheVariants as differences
 use Rattle.tizhagor.specs.CleanLines.{clean_text}
 use Rattle.tizhagor.specs.FilesLines.{files_line}
 use Rattle.tizhagor.specs.IndexLines.{entry_reason, file_reason}
-use Rattle.tizhagor.specs.Parts.{fault_line, foreign_line, memory_line, value_line, with_path}
+use Rattle.tizhagor.specs.Parts.{fault_at, fault_line, foreign_line, memory_line, value_line, with_path}
 use Rattle.tizhagor.specs.PlacesLines.{places_line}
 use Rattle.tizhagor.specs.ProgramLines.{program_line, program_status}
 
@@ -185,3 +185,28 @@ line_of (errors.Uncompared reason) = codes "fatal: " ++ uncompared_text reason +
 line_of (errors.Unchecked reason) = unchecked_line reason
 line_of (errors.Cleaning wrong) = codes "fatal: " ++ clean_text wrong ++ codes "\n"
 line_of (errors.Program refusal) = program_line refusal
+
+-- whether the worktree, the owners or the stats failed
+abbrev pub is_fault : HereRefusal → Bool
+is_fault (errors.Words misuse) = false
+is_fault (errors.Absent directory) = false
+is_fault (errors.NotADirectory directory) = false
+is_fault (errors.NotAtTop root) = false
+is_fault errors.Elsewhere = false
+is_fault (errors.Git refusal) = false
+is_fault (errors.Listing wrong) = false
+is_fault (errors.Uncompared reason) = false
+is_fault (errors.Unchecked reason) = false
+is_fault (errors.Cleaning wrong) = false
+is_fault (errors.Program refusals.Interrupted) = false
+is_fault (errors.Program refusals.Usage) = false
+is_fault (errors.Program (refusals.Setup line)) = false
+is_fault (errors.Program (refusals.Walk word path)) = false
+is_fault (errors.Program (refusals.Misread which)) = false
+is_fault (errors.Program refusals.Fault) = true
+is_fault (errors.Program refusals.Output) = false
+is_fault (errors.Program refusals.OutOfMemory) = false
+
+-- the line of a refusal; that of a fault names the path of the worktree's first one, where there is a name for it
+abbrev pub line_at : List ℕ → HereRefusal → List ℕ
+line_at first refusal = if is_fault refusal then fault_at first else line_of refusal

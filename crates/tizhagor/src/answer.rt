@@ -20,6 +20,7 @@ use crate::check::check_here;
 use crate::clean::clean_here;
 use crate::compare::compare_here;
 use crate::ending::finish_here;
+use crate::fault::NamesFault;
 use crate::files::files_here;
 use crate::found::asked_for;
 use crate::refusal::HereRefusal;
@@ -224,11 +225,11 @@ fn reply_asked<W: CountsFaults, O: Owners, D: Stats, I: Interrupt>(
 /// A work tree is read where it is the user's or safe, as `owners` tell whose it is. What `diff-files` asks of nodes besides, `stats` tell.
 ///
 /// With a status above 1 nothing goes to `out`, but where `out` itself refused bytes, a front of them. With each status above 1 a line goes
-/// to `err`, with 129 the usage behind it, with 0 none; a refusal of `err` changes no byte of `out`, and no status but to 128. The
+/// to `err`, with 129 the usage behind it, with 0 none; that of a fault names the path of the worktree's first one; a refusal of `err` changes no byte of `out`, and no status but to 128. The
 /// interrupt is asked before each directory is read.
 ///
 /// See docs/DECISIONS.md#status-of-an-interrupt.
-pub fn answer_here<W: CountsFaults, O: Owners, D: Stats, I: Interrupt, S: Sink, E: Sink>(
+pub fn answer_here<W: NamesFault, O: Owners, D: Stats, I: Interrupt, S: Sink, E: Sink>(
     alloc: Global,
     words: &[Bytes],
     current: &[u8],
@@ -244,7 +245,7 @@ pub fn answer_here<W: CountsFaults, O: Owners, D: Stats, I: Interrupt, S: Sink, 
     // What the words ask for came to an answer: bytes, or a refusal with its cause. The status, `out` and `err` are as that answer has
     // it, and what stays is said of each.
     ensures runs { RunsHere S.Sink E.Sink out.old out.new err.old err.new
-        (compared.Answers W.Worktree I.Interrupt O.Owners D.Stats worktree.old worktree.new
+        (W.first_fault worktree.new) (compared.Answers W.Worktree I.Interrupt O.Owners D.Stats worktree.old worktree.new
         interrupt.old interrupt.new owners.old owners.new stats.old stats.new
         (answers.placed current.now variables.now takes_colors) words.now) result }
 
@@ -284,7 +285,7 @@ pub fn answer_here<W: CountsFaults, O: Owners, D: Stats, I: Interrupt, S: Sink, 
         → NotIncreased (O.faults owners.old) (O.faults owners.new)
         → NotIncreased (S.refusals out.old) (S.refusals out.new)
         → IsToldOf E.Sink err.old err.new memory_line 128 result
-        ⊎ IsFatal E.Sink err.old err.new
+        ⊎ IsFatal E.Sink err.old err.new (W.first_fault worktree.new)
         (λ refusal. output.RefusesHere (W.precomposes worktree.old) t owned
         (answers.placed current.now variables.now takes_colors) words.now refusal
         ⊎ compared.RefusesCompared t owned (D.told stats.old) (D.faults stats.old)
@@ -299,7 +300,7 @@ pub fn answer_here<W: CountsFaults, O: Owners, D: Stats, I: Interrupt, S: Sink, 
         words.now e
         → NotIncreased (W.faults worktree.old) (W.faults worktree.new)
         → NotIncreased (O.faults owners.old) (O.faults owners.new)
-        → IsTold E.Sink err.old err.new e result }
+        → IsTold E.Sink err.old err.new (W.first_fault worktree.new) e result }
 
     // Status 130: the interrupt was raised.
     ensures interrupted { result ≡ 130
@@ -328,7 +329,8 @@ pub fn answer_here<W: CountsFaults, O: Owners, D: Stats, I: Interrupt, S: Sink, 
         → NotIncreased (O.faults owners.old) (O.faults owners.new)
         → NotIncreased (D.faults stats.old) (D.faults stats.new)
         → IsToldOf E.Sink err.old err.new memory_line 128 result
-        ⊎ EndsHere S.Sink E.Sink out.old out.new err.old err.new wanted result }
+        ⊎ EndsHere S.Sink E.Sink out.old out.new err.old err.new (W.first_fault worktree.new)
+        wanted result }
 {
     let answer = reply_asked(
         alloc,
@@ -341,5 +343,5 @@ pub fn answer_here<W: CountsFaults, O: Owners, D: Stats, I: Interrupt, S: Sink, 
         variables,
         takes_colors,
     );
-    finish_here(alloc, answer, out, err)
+    finish_here(alloc, answer, worktree.first_fault(), out, err)
 }

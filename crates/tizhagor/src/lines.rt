@@ -19,7 +19,7 @@ pub const MEMORY: &[u8] = b"fatal: out of memory\n";
 /// The line of an output that was refused.
 pub const OUTPUT: &[u8] = b"fatal: write failure on standard output\n";
 
-/// The line of a worktree, or of owners, that failed.
+/// The line of a worktree, owners or stats that failed, where no path is named.
 pub const FAULT: &[u8] = b"fatal: a file or directory could not be read\n";
 
 /// A line that is always the same.
@@ -94,6 +94,21 @@ pub fn foreign_line(alloc: Global, path: &[u8]) -> Result<Bytes, OutOfMemory>
         path,
         b"'; to add an exception, call 'git config --global --add safe.directory DIRECTORY'\n",
     )
+}
+
+/// The line of a worktree, owners or stats that failed, with the path that the worktree names as that of its first fault.
+pub fn fault_line(alloc: Global, first: &[u8]) -> Result<Bytes, OutOfMemory>
+    ensures { IfOk result (λ line. line ≡ words.fault_at first.now) }
+{
+    match first {
+        [] => fixed(alloc, FAULT),
+        _ => with_path(
+            alloc,
+            b"fatal: a file or directory could not be read: '",
+            first,
+            b"'\n",
+        ),
+    }
 }
 
 /// The value of a key or of a variable cannot be read.

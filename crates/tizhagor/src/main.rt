@@ -10,6 +10,7 @@ mod compare;
 mod directory;
 mod ending;
 mod environment;
+mod fault;
 mod files;
 mod found;
 mod lines;

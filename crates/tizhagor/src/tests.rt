@@ -1,6 +1,8 @@
 //! The program over trees in memory, whole: words, a directory and variables in, a status and two texts out. What git has a line for is in
 //! git's words, from git version 2.39.5.
 use crate::answer::answer_here;
+use crate::ending::finish_here;
+use crate::refusal::HereRefusal;
 use bstr::ByteSlice;
 use diff_files::{MemoryStats, NodeStat, StatNode};
 use git_places::Variable;
@@ -9,6 +11,7 @@ use std::alloc::Global;
 use worktree_fs::{
     MemoryOwners, MemorySink, MemoryWorktree, NewNode, OwnedNode, Ownership, PlannedInterrupt,
 };
+use worktree_report::Refusal;
 
 /// More room than any answer here needs.
 const ROOM: usize = 65_536;
@@ -403,4 +406,35 @@ fn stops_with_the_interrupt(rt: HostRuntime) {
     let row = b"report^/w^^^130^^fatal: interrupted~";
     let is = holds_for(rt.alloc(), row, PlannedInterrupt::at(1), u64::MAX);
     assert!(rt; is == Some(true));
+}
+
+/// Whether a refusal ends with 128 and this line where the worktree names a path as that of its first fault.
+fn is_told(alloc: Global, refusal: Refusal, first: &[u8], line: &[u8]) -> Option<bool> {
+    let mut out = MemorySink::new(alloc, ROOM).ok()?;
+    let mut err = MemorySink::new(alloc, ROOM).ok()?;
+    let answer = Err(HereRefusal::Program(refusal));
+    let status = finish_here(alloc, answer, first, &mut out, &mut err);
+    Some(status == 128 && out.written().is_empty() && err.written() == line)
+}
+
+#[test]
+fn names_the_path_of_a_fault(rt: HostRuntime) {
+    let alloc = rt.alloc();
+    for (first, line) in [
+        (
+            b"".as_slice(),
+            b"fatal: a file or directory could not be read\n".as_slice(),
+        ),
+        (
+            b"/w/a\n",
+            b"fatal: a file or directory could not be read: '/w/a\\0a'\n",
+        ),
+    ] {
+        assert!(rt;
+            is_told(alloc, Refusal::Fault, first, line) == Some(true),
+            "{line:?}"
+        );
+    }
+    let memory = b"fatal: out of memory\n";
+    assert!(rt; is_told(alloc, Refusal::OutOfMemory, b"/w/a", memory) == Some(true));
 }

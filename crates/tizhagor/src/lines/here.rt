@@ -5,13 +5,14 @@ ghost use Rattle.tizhagor.specs.Refusals as words;
 use crate::cleaning::WrongClean;
 use crate::lines::git::git_line;
 use crate::lines::program::{program_line, program_status};
-use crate::lines::{fixed, with_path};
+use crate::lines::{fault_line, fixed, with_path};
 use crate::refusal::{HereRefusal, Unchecked, Uncompared};
 use check_ignore::told;
 use command_line::said;
 use gitbase_core::{Bytes, OutOfMemory};
 use ls_files::WrongListing;
 use std::alloc::Global;
+use worktree_report::Refusal;
 
 /// The status that the program ends with.
 pub fn status_of(refusal: &HereRefusal) -> u8
@@ -99,7 +100,7 @@ fn unchecked_line(alloc: Global, reason: &Unchecked) -> Result<Bytes, OutOfMemor
 /// # Errors
 ///
 /// Memory was refused.
-pub fn line_of(alloc: Global, refusal: &HereRefusal) -> Result<Bytes, OutOfMemory>
+fn line_of(alloc: Global, refusal: &HereRefusal) -> Result<Bytes, OutOfMemory>
     ensures { IfOk result (λ line. line ≡ words.line_of refusal.now) }
 {
     match refusal {
@@ -133,4 +134,37 @@ pub fn line_of(alloc: Global, refusal: &HereRefusal) -> Result<Bytes, OutOfMemor
         HereRefusal::Cleaning(wrong) => cleaning_line(alloc, *wrong),
         HereRefusal::Program(refusal) => program_line(alloc, refusal),
     }
+}
+
+/// Whether the worktree, the owners or the stats failed.
+fn is_fault(refusal: &HereRefusal) -> bool
+    ensures { result ≡ words.is_fault refusal.now }
+{
+    match refusal {
+        HereRefusal::Words(_)
+        | HereRefusal::Absent { directory: _ }
+        | HereRefusal::NotADirectory { directory: _ }
+        | HereRefusal::NotAtTop { root: _ }
+        | HereRefusal::Elsewhere
+        | HereRefusal::Git(_)
+        | HereRefusal::Listing(_)
+        | HereRefusal::Uncompared(_)
+        | HereRefusal::Unchecked(_)
+        | HereRefusal::Cleaning(_) => false,
+        HereRefusal::Program(refusal) => matches!(refusal, Refusal::Fault),
+    }
+}
+
+/// The line of a refusal, its line feed included. That of a fault names the path of the worktree's `first` one, where that has bytes.
+///
+/// # Errors
+///
+/// Memory was refused.
+pub fn line_at(alloc: Global, first: &[u8], refusal: &HereRefusal) -> Result<Bytes, OutOfMemory>
+    ensures { IfOk result (λ line. line ≡ words.line_at first.now refusal.now) }
+{
+    if is_fault(refusal) {
+        return fault_line(alloc, first);
+    }
+    line_of(alloc, refusal)
 }
