@@ -10,6 +10,7 @@ use Rattle.dir_classify.specs.declared.entry.Entry.{Entry}
 use Rattle.worktree_report.specs.SetupMeant.{ordered_after}
 use Rattle.worktree_report.specs.declared.report.ReportEntry.{ReportEntry}
 use Rattle.ls_files.specs.declared.listing.Listing.{Listing}
+use Rattle.ls_files.specs.declared.listing.NamedSpec.{NamedSpec}
 use Rattle.ls_files.specs.Choices.{is_of_a_merge}
 use Rattle.ls_files.specs.Lines.{killed_line}
 use Rattle.ls_files.specs.Others.{above, as_directory, has_beneath, has_entry, name, place_at, place_of, shows_empty, with_name}
@@ -97,20 +98,20 @@ name_if_told l entries place = if is_told l entries (name place) then Some (name
 abbrev pub is_looked_at : Listing → List IndexEntry → Entry → Bool
 is_looked_at l entries e = shows_empty l || is_entered l entries (name (place_at e))
 
-abbrev pub name_for : Listing → List IndexEntry → List PathSpec → Entry → Option (List ℕ)
-name_for l entries specs e = option_and_then (name_if_told l entries) (place_of l entries specs e)
+abbrev pub name_for : Listing → List IndexEntry → List PathSpec → List NamedSpec → Entry → Option (List ℕ)
+name_for l entries specs all e = option_and_then (name_if_told l entries) (place_of l entries specs all e)
 
-abbrev pub killed_name : Listing → List IndexEntry → List PathSpec → Entry → Option (List ℕ)
-killed_name l entries specs e =
-    if is_looked_at l entries e then name_for l entries specs e else None
+abbrev pub killed_name : Listing → List IndexEntry → List PathSpec → List NamedSpec → Entry → Option (List ℕ)
+killed_name l entries specs all e =
+    if is_looked_at l entries e then name_for l entries specs all e else None
 
-abbrev pub killed_names : Listing → List IndexEntry → List PathSpec → List ReportEntry → List (List ℕ)
-killed_names l entries specs [] = []
-killed_names l entries specs (e ∷ found) = with_name (killed_name l entries specs e.entry) (killed_names l entries specs found)
+abbrev pub killed_names : Listing → List IndexEntry → List PathSpec → List NamedSpec → List ReportEntry → List (List ℕ)
+killed_names l entries specs all [] = []
+killed_names l entries specs all (e ∷ found) = with_name (killed_name l entries specs all e.entry) (killed_names l entries specs all found)
 
 -- the names of what lies in the way, in the order of their bytes, each once
-abbrev pub killed : Listing → List IndexEntry → List PathSpec → List ReportEntry → List (List ℕ)
-killed l entries specs found = ordered_after [] (killed_names l entries specs found)
+abbrev pub killed : Listing → List IndexEntry → List PathSpec → List NamedSpec → List ReportEntry → List (List ℕ)
+killed l entries specs all found = ordered_after [] (killed_names l entries specs all found)
 
 abbrev pub killed_text : Listing → List ℕ → List (List ℕ) → List ℕ
 killed_text l prefix names = flat_map (killed_line l prefix) names

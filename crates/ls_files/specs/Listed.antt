@@ -29,12 +29,12 @@ use Rattle.ls_files.specs.Unmatched.{complaint, places_of}
 -- ---- by the entries of a report
 
 -- what the index does not have, where it is asked for
-abbrev pub names_for : Listing → List IndexEntry → List PathSpec → List ReportEntry → List (List ℕ)
-names_for l entries specs found = if l.others then others l entries specs found else []
+abbrev pub names_for : Listing → List IndexEntry → List PathSpec → List NamedSpec → List ReportEntry → List (List ℕ)
+names_for l entries specs named found = if l.others then others l entries specs named found else []
 
 -- what lies in its way, where that is asked for
-abbrev pub killed_for : Listing → List IndexEntry → List PathSpec → List ReportEntry → List (List ℕ)
-killed_for l entries specs found = if l.killed then killed l entries specs found else []
+abbrev pub killed_for : Listing → List IndexEntry → List PathSpec → List NamedSpec → List ReportEntry → List (List ℕ)
+killed_for l entries specs named found = if l.killed then killed l entries specs named found else []
 
 -- what the index does not have comes first, and then what lies in its way
 abbrev pub out_text : Listing → List ℕ → List PathSpec → List IndexEntry → List (List ℕ) → List (List ℕ) → List ℕ
@@ -51,7 +51,8 @@ listed_with l prefix named specs entries names ways =
 
 unfoldable pub listed : Listing → List ℕ → List NamedSpec → Setup → List ReportEntry → Listed
 listed l prefix named setup found =
-    listed_with l prefix named setup.specs setup.index (names_for l setup.index setup.specs found) (killed_for l setup.index setup.specs found)
+    listed_with l prefix named setup.specs setup.index (names_for l setup.index setup.specs named found)
+    (killed_for l setup.index setup.specs named found)
 
 -- "--error-unmatch: .. treat this as an error (return 1)"
 abbrev pub status : Listed → ℕ

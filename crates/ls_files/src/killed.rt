@@ -3,7 +3,7 @@ ghost use Rattle.std.specs.Prelude.{◌≡◌, ◌++◌, ◌<◌, IfOk, OnOk, le
 ghost use Rattle.ls_files.specs.Killed as words;
 
 use crate::line::add_killed;
-use crate::listing::Listing;
+use crate::listing::{Listing, NamedSpec};
 use crate::others::{has_beneath, has_entry, in_order, name, place_at, place_for};
 use crate::place::{Place, ends_in_slash};
 use crate::walking::shows_empty;
@@ -215,12 +215,13 @@ fn name_for(
     listing: &Listing,
     index: &State,
     specs: &Search,
+    all: &[NamedSpec],
     entry: &Entry,
 ) -> Result<Option<Bytes>, OutOfMemory>
     ensures { IfOk result
-        (λ name. name ≡ words.name_for listing.now index.now specs.now entry.now) }
+        (λ name. name ≡ words.name_for listing.now index.now specs.now all.now entry.now) }
 {
-    match place_for(alloc, listing, index, specs, entry)? {
+    match place_for(alloc, listing, index, specs, all, entry)? {
         Some(place) => name_if_told(alloc, listing, index, &place),
         None => Ok(None),
     }
@@ -232,15 +233,16 @@ fn killed_name(
     listing: &Listing,
     index: &State,
     specs: &Search,
+    all: &[NamedSpec],
     entry: &Entry,
 ) -> Result<Option<Bytes>, OutOfMemory>
     ensures { IfOk result
-        (λ name. name ≡ words.killed_name listing.now index.now specs.now entry.now) }
+        (λ name. name ≡ words.killed_name listing.now index.now specs.now all.now entry.now) }
 {
     if !is_looked_at(alloc, listing, index, entry)? {
         return Ok(None);
     }
-    name_for(alloc, listing, index, specs, entry)
+    name_for(alloc, listing, index, specs, all, entry)
 }
 
 /// The names of what a report has and what lies in the way of the index, in the order of their
@@ -252,14 +254,15 @@ pub fn killed(
     listing: &Listing,
     index: &State,
     specs: &Search,
+    all: &[NamedSpec],
     found: &[ReportEntry],
 ) -> Result<Vec<Bytes>, OutOfMemory>
-    ensures { IfOk result
-        (λ names. names.items ≡ words.killed listing.now index.now specs.now found.now) }
+    ensures { IfOk result (λ names. names.items
+        ≡ words.killed listing.now index.now specs.now all.now found.now) }
 {
     let mut names = BTreeSet::new(alloc);
     for entry in found {
-        if let Some(name) = killed_name(alloc, listing, index, specs, &entry.entry)? {
+        if let Some(name) = killed_name(alloc, listing, index, specs, all, &entry.entry)? {
             names.insert(name)?;
         }
     }

@@ -115,15 +115,16 @@ fn names_for(
     listing: &Listing,
     index: &State,
     specs: &Search,
+    named: &[NamedSpec],
     found: &[ReportEntry],
 ) -> Result<Vec<Bytes>, OutOfMemory>
-    ensures { IfOk result
-        (λ names. names.items ≡ words.names_for listing.now index.now specs.now found.now) }
+    ensures { IfOk result (λ names. names.items
+        ≡ words.names_for listing.now index.now specs.now named.now found.now) }
 {
     if !listing.others {
         return Ok(Vec::new(alloc));
     }
-    others(alloc, listing, index, specs, found)
+    others(alloc, listing, index, specs, named, found)
 }
 
 /// The names of what lies in the way of the index, where that is asked for.
@@ -132,15 +133,16 @@ fn killed_for(
     listing: &Listing,
     index: &State,
     specs: &Search,
+    named: &[NamedSpec],
     found: &[ReportEntry],
 ) -> Result<Vec<Bytes>, OutOfMemory>
-    ensures { IfOk result
-        (λ names. names.items ≡ words.killed_for listing.now index.now specs.now found.now) }
+    ensures { IfOk result (λ names. names.items
+        ≡ words.killed_for listing.now index.now specs.now named.now found.now) }
 {
     if !listing.killed {
         return Ok(Vec::new(alloc));
     }
-    killed(alloc, listing, index, specs, found)
+    killed(alloc, listing, index, specs, named, found)
 }
 
 /// The lines of names, and behind them those of the index.
@@ -181,8 +183,8 @@ pub fn list_found(
     ensures { IfOk result
         (λ made. made ≡ words.listed listing.now prefix.now named.now setup.now found.now) }
 {
-    let names = names_for(alloc, listing, &setup.index, &setup.specs, found)?;
-    let ways = killed_for(alloc, listing, &setup.index, &setup.specs, found)?;
+    let names = names_for(alloc, listing, &setup.index, &setup.specs, named, found)?;
+    let ways = killed_for(alloc, listing, &setup.index, &setup.specs, named, found)?;
     let out = shown(
         alloc,
         listing,

@@ -4,8 +4,9 @@ ghost use Rattle.ls_files.specs.Others as words;
 
 use crate::cached::{asks_rules, is_matched};
 use crate::line::add_other;
-use crate::listing::Listing;
+use crate::listing::{Listing, NamedSpec};
 use crate::place::Place;
+use crate::unseen::is_unseen;
 use dir_classify::entry::holds_names;
 use dir_classify::{Entry, Kind, Status};
 use gitbase_core::{Bytes, OutOfMemory, State};
@@ -74,31 +75,55 @@ fn is_entry_matched(alloc: Global, specs: &Search, entry: &Entry) -> Result<bool
     Ok(matched)
 }
 
+/// Whether git comes to an entry that the path specs match.
+fn is_seen(
+    alloc: Global,
+    index: &State,
+    specs: &Search,
+    all: &[NamedSpec],
+    entry: &Entry,
+) -> Result<bool, OutOfMemory>
+    ensures { IfOk result
+        (λ seen. seen ≡ words.is_seen index.now specs.now all.now entry.now) }
+{
+    if !is_entry_matched(alloc, specs, entry)? {
+        return Ok(false);
+    }
+    let name = name(alloc, &place_at(entry))?;
+    Ok(!is_unseen(index, all, name.as_bytes()))
+}
+
 /// Whether an entry is shown by itself.
 fn is_shown(
     alloc: Global,
     listing: &Listing,
+    index: &State,
     specs: &Search,
+    all: &[NamedSpec],
     entry: &Entry,
 ) -> Result<bool, OutOfMemory>
-    ensures { IfOk result (λ shown. shown ≡ words.is_shown listing.now specs.now entry.now) }
+    ensures { IfOk result
+        (λ shown. shown ≡ words.is_shown listing.now index.now specs.now all.now entry.now) }
 {
     if !may_show(listing, entry) {
         return Ok(false);
     }
-    is_entry_matched(alloc, specs, entry)
+    is_seen(alloc, index, specs, all, entry)
 }
 
 /// The place of an entry itself, if it is shown.
 fn itself<'a>(
     alloc: Global,
     listing: &Listing,
+    index: &State,
     specs: &Search,
+    all: &[NamedSpec],
     entry: &'a Entry,
 ) -> Result<Option<Place<'a>>, OutOfMemory>
-    ensures { IfOk result (λ place. place ≡ words.itself listing.now specs.now entry.now) }
+    ensures { IfOk result
+        (λ place. place ≡ words.itself listing.now index.now specs.now all.now entry.now) }
 {
-    if is_shown(alloc, listing, specs, entry)? {
+    if is_shown(alloc, listing, index, specs, all, entry)? {
         return Ok(Some(place_at(entry)));
     }
     Ok(None)
@@ -175,10 +200,13 @@ fn may_be_ignored(listing: &Listing, status: Status) -> bool
 fn fills(
     alloc: Global,
     listing: &Listing,
+    index: &State,
     specs: &Search,
+    all: &[NamedSpec],
     entry: &Entry,
 ) -> Result<bool, OutOfMemory>
-    ensures { IfOk result (λ fills. fills ≡ words.fills listing.now specs.now entry.now) }
+    ensures { IfOk result
+        (λ fills. fills ≡ words.fills listing.now index.now specs.now all.now entry.now) }
 {
     if !listing.directories {
         return Ok(false);
@@ -186,7 +214,7 @@ fn fills(
     if listing.empty_directories {
         return Ok(true);
     }
-    is_shown(alloc, listing, specs, entry)
+    is_shown(alloc, listing, index, specs, all, entry)
 }
 
 /// Whether the directory that ends before a byte of a path is shown in the place of what it holds.
@@ -229,23 +257,40 @@ fn top<'a>(
     Ok(None)
 }
 
+/// A directory, unless git does not come to it.
+fn if_seen<'a>(
+    alloc: Global,
+    index: &State,
+    all: &[NamedSpec],
+    directory: &'a [u8],
+) -> Result<Option<Place<'a>>, OutOfMemory>
+    ensures { IfOk result (λ place. place ≡ words.if_seen index.now all.now directory.now) }
+{
+    let name = name(alloc, &Place::new(directory, true))?;
+    if is_unseen(index, all, name.as_bytes()) {
+        return Ok(None);
+    }
+    Ok(Some(Place::new(directory, true)))
+}
+
 /// The directory that is shown in the place of an entry, if one is.
 fn folded<'a>(
     alloc: Global,
     listing: &Listing,
     index: &State,
     specs: &Search,
+    all: &[NamedSpec],
     entry: &'a Entry,
 ) -> Result<Option<Place<'a>>, OutOfMemory>
     ensures { IfOk result
-        (λ place. place ≡ words.folded listing.now index.now specs.now entry.now) }
+        (λ place. place ≡ words.folded listing.now index.now specs.now all.now entry.now) }
 {
-    if !fills(alloc, listing, specs, entry)? {
+    if !fills(alloc, listing, index, specs, all, entry)? {
         return Ok(None);
     }
     let ignored = may_be_ignored(listing, entry.status);
     match top(alloc, index, specs, ignored, entry.rela_path.as_bytes())? {
-        Some(path) => Ok(Some(Place::new(path, true))),
+        Some(path) => if_seen(alloc, index, all, path),
         None => Ok(None),
     }
 }
@@ -256,14 +301,15 @@ pub fn place_for<'a>(
     listing: &Listing,
     index: &State,
     specs: &Search,
+    all: &[NamedSpec],
     entry: &'a Entry,
 ) -> Result<Option<Place<'a>>, OutOfMemory>
     ensures { IfOk result
-        (λ place. place ≡ words.place_of listing.now index.now specs.now entry.now) }
+        (λ place. place ≡ words.place_of listing.now index.now specs.now all.now entry.now) }
 {
-    match folded(alloc, listing, index, specs, entry)? {
+    match folded(alloc, listing, index, specs, all, entry)? {
         Some(place) => Ok(Some(place)),
-        None => itself(alloc, listing, specs, entry),
+        None => itself(alloc, listing, index, specs, all, entry),
     }
 }
 
@@ -294,12 +340,13 @@ fn name_of(
     listing: &Listing,
     index: &State,
     specs: &Search,
+    all: &[NamedSpec],
     entry: &Entry,
 ) -> Result<Option<Bytes>, OutOfMemory>
     ensures { IfOk result
-        (λ name. name ≡ words.name_of listing.now index.now specs.now entry.now) }
+        (λ name. name ≡ words.name_of listing.now index.now specs.now all.now entry.now) }
 {
-    match place_for(alloc, listing, index, specs, entry)? {
+    match place_for(alloc, listing, index, specs, all, entry)? {
         Some(place) => name_unless(alloc, index, &place),
         None => Ok(None),
     }
@@ -322,14 +369,15 @@ pub fn others(
     listing: &Listing,
     index: &State,
     specs: &Search,
+    all: &[NamedSpec],
     found: &[ReportEntry],
 ) -> Result<Vec<Bytes>, OutOfMemory>
-    ensures { IfOk result
-        (λ names. names.items ≡ words.others listing.now index.now specs.now found.now) }
+    ensures { IfOk result (λ names. names.items
+        ≡ words.others listing.now index.now specs.now all.now found.now) }
 {
     let mut names = BTreeSet::new(alloc);
     for entry in found {
-        if let Some(name) = name_of(alloc, listing, index, specs, &entry.entry)? {
+        if let Some(name) = name_of(alloc, listing, index, specs, all, &entry.entry)? {
             names.insert(name)?;
         }
     }

@@ -86,7 +86,7 @@ fn is_printed(alloc: Global, listed: &Listed, out: &[u8], err: &[u8]) -> bool {
         && (listed.status() == 1) == !err.is_empty()
 }
 
-/// The tree of a number, one digit.
+/// The tree of a number, one byte: a digit, and `:` for ten.
 fn tree_at(number: &[u8]) -> Option<&'static [u8]> {
     let digit = *number.first()?;
     TREES.lines().nth(usize::from(digit).checked_sub(48)?)

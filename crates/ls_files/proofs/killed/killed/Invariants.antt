@@ -5,4 +5,5 @@ use Rattle.ls_files.proofs.killed.killed.Given as goal
 
 abbrev pub invariant-loop-entry : goal.invariant-loop-entry
 invariant-loop-entry l =
-    ordered_after l.names.keys (killed_names l.listing l.index l.specs (drop l.entry-index l.found)) ≡ killed l.listing l.index l.specs l.found
+    ordered_after l.names.keys (killed_names l.listing l.index l.specs l.all (drop l.entry-index l.found))
+    ≡ killed l.listing l.index l.specs l.all l.found
