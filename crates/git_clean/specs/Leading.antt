@@ -2,7 +2,7 @@
 --
 -- A directory stands here as its path, and as its name, which has a slash at the end. With `w` the directory may be taken as a whole; with
 -- `w/x/f` beside it git looks further down, and names what lies in `w` by itself. With `w/` or `w*` beside those it takes `w` after all.
-use Rattle.std.specs.Prelude.{ℕ, List, [], ◌∷◌, Bool, true, false, not, ◌==◌, ◌&&◌, ◌||◌, nat_eq, Option, Some, None, is_none, unwrap_or, bytes_eq}
+use Rattle.std.specs.Prelude.{ℕ, List, [], ◌∷◌, Bool, true, false, not, ◌==◌, ◌&&◌, ◌||◌, nat_eq, Option, Some, None, is_none, unwrap_or}
 use Rattle.std.specs.List.{before_first, list_any, starts_with}
 use Rattle.gitbase_core.specs.Path.{basename, relative_to}
 use Rattle.glob_rules.specs.Glob.{is_special}
@@ -13,6 +13,7 @@ use Rattle.glob_rules.specs.declared.pathspec.MatchKind.{MatchKind}
 use Rattle.glob_rules.specs.declared.pathspec.MatchKind.TheVariants.{Always, Prefix, WildcardMatch, Verbatim}
 use Rattle.ls_files.specs.declared.listing.NamedSpec.{NamedSpec}
 use Rattle.ls_files.specs.Cached.{takes}
+use Rattle.ls_files.specs.Others.{ends_in_dots, is_out}
 
 -- ---- matches
 
@@ -43,18 +44,11 @@ abbrev pub is_from_above : Option Match → Bool
 is_from_above None = false
 is_from_above (Some m) = m.excluded || is_above m.kind
 
-abbrev pub is_out : Option Match → Bool
-is_out None = false
-is_out (Some m) = m.excluded
-
 -- ---- specs that settle
-
-abbrev pub is_dots : List ℕ → Bool
-is_dots name = bytes_eq name (46 ∷ []) || bytes_eq name (46 ∷ 46 ∷ [])
 
 -- A spec asks for a directory: it matches no file at this path, or was written with `.` or `..` at the end, where git reads a slash.
 abbrev pub asks_for_directory : List ℕ → NamedSpec → Bool
-asks_for_directory d named = is_dots (basename named.text) || is_none (list_match named.spec d (Some false))
+asks_for_directory d named = ends_in_dots named || is_none (list_match named.spec d (Some false))
 
 -- such a spec is about a directory itself
 abbrev pub is_meant : List ℕ → NamedSpec → Bool

@@ -10,7 +10,7 @@ use Rattle.gitbase_core.specs.declared.kinds.EntryKind.TheVariants as index
 use Rattle.dir_classify.specs.declared.entry.Entry.{Entry}
 use Rattle.worktree_report.specs.SetupMeant.{ordered_after}
 use Rattle.worktree_report.specs.declared.report.ReportEntry.{ReportEntry}
-use Rattle.ls_files.specs.Others.{above, as_directory, has_beneath, is_entry_matched, name, name_unless, place_at, with_name}
+use Rattle.ls_files.specs.Others.{above, as_directory, has_beneath, is_entry_matched, is_unseen, name, name_unless, place_at, with_name}
 use Rattle.ls_files.specs.Places.{Place}
 use Rattle.git_clean.specs.Going.{is_removable}
 use Rattle.git_clean.specs.Leading.{is_taken}
@@ -64,9 +64,16 @@ folds_at s path at = is_slash (slice_index path at) && folds s (take at path)
 abbrev pub top : Scene → List ℕ → Option (List ℕ)
 top s path = find (folds s) (above path)
 
--- With `-X` a directory goes for an ignored path in it that the path specs match, else for whatever they match in it.
+-- git comes to what has a name
+abbrev pub is_seen : Scene → List ℕ → Bool
+is_seen s name = not (is_unseen s.index s.named name)
+
+abbrev pub is_removed : Scene → Entry → Bool
+is_removed s e = is_removable s.cleaning s.specs e && is_seen s (name (place_at e))
+
+-- With `-X` a directory goes for an ignored path in it that the path specs match, and that git comes to, else for whatever they match in it.
 abbrev pub fills : Scene → Entry → Bool
-fills s e = if s.cleaning.ignored_only then is_removable s.cleaning s.specs e else is_entry_matched s.specs e
+fills s e = if s.cleaning.ignored_only then is_removed s e else is_entry_matched s.specs e
 
 abbrev pub folded : Scene → Entry → Option Place
 folded s e = if fills s e then option_map as_directory (top s e.rela_path) else None
@@ -90,9 +97,12 @@ place_if s e = if s.cleaning.directories then folded_or_itself s e else in_view 
 abbrev pub place_of : Scene → Entry → Option Place
 place_of s e = if is_kept s e.rela_path then None else place_if s e
 
--- no path of the index goes
+-- no path of the index goes, nor what git does not come to, since a path spec takes out a directory above it
+abbrev pub name_if : Scene → Place → Option (List ℕ)
+name_if s place = if is_seen s (name place) then name_unless s.index place else None
+
 abbrev pub name_of : Scene → Entry → Option (List ℕ)
-name_of s e = option_and_then (name_unless s.index) (place_of s e)
+name_of s e = option_and_then (name_if s) (place_of s e)
 
 abbrev pub names_of : Scene → List ReportEntry → List (List ℕ)
 names_of s [] = []

@@ -3,6 +3,7 @@ ghost use Rattle.std.specs.Prelude.{◌≡◌, ◌≤◌, length, take};
 ghost use Rattle.std.specs.List.{before_first, list_any, position_or_len};
 ghost use Rattle.glob_rules.specs.Glob as globs;
 ghost use Rattle.ls_files.specs.Cached.{takes};
+ghost use Rattle.ls_files.specs.Others.{is_dots, is_out};
 ghost use Rattle.git_clean.specs.Leading as words;
 
 use gitbase_core::{basename, relative_to};
@@ -65,7 +66,7 @@ fn is_from_above(found: Option<Match>) -> bool
 
 /// Whether path specs take out.
 fn is_out(found: Option<Match>) -> bool
-    ensures { result ≡ words.is_out found }
+    ensures { result ≡ is_out found }
 {
     match found {
         Some(found) => found.is_excluded(),
@@ -85,7 +86,7 @@ fn takes(found: Option<Match>) -> bool
 
 /// Whether a name is `.` or `..`.
 fn is_dots(name: &[u8]) -> bool
-    ensures { result ≡ words.is_dots name.now }
+    ensures { result ≡ is_dots name.now }
 {
     name == b".".as_slice() || name == b"..".as_slice()
 }

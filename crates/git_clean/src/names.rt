@@ -10,15 +10,36 @@ use crate::places::{is_hidden, is_kept, top};
 use crate::scene::Scene;
 use dir_classify::Entry;
 use gitbase_core::{Bytes, OutOfMemory, State};
+use ls_files::is_unseen;
 use std::alloc::Global;
 use std::collections::BTreeSet;
+
+/// Whether git comes to a place.
+fn is_seen(alloc: Global, scene: &Scene<'_>, place: &Place<'_>) -> Result<bool, OutOfMemory>
+    ensures { IfOk result
+        (λ seen. seen ≡ words.is_seen (scene_by scene.now) (others.name place.now)) }
+{
+    let name = name(alloc, place)?;
+    Ok(!is_unseen(scene.index, scene.named, name.as_bytes()))
+}
+
+/// Whether an entry that git comes to may go by itself.
+fn is_removed(alloc: Global, scene: &Scene<'_>, entry: &Entry) -> Result<bool, OutOfMemory>
+    ensures { IfOk result
+        (λ goes. goes ≡ words.is_removed (scene_by scene.now) entry.now) }
+{
+    if !is_removable(alloc, scene.cleaning, scene.specs, entry)? {
+        return Ok(false);
+    }
+    is_seen(alloc, scene, &place_at(entry))
+}
 
 /// Whether a directory goes for an entry that it holds.
 fn fills(alloc: Global, scene: &Scene<'_>, entry: &Entry) -> Result<bool, OutOfMemory>
     ensures { IfOk result (λ fills. fills ≡ words.fills (scene_by scene.now) entry.now) }
 {
     if scene.cleaning.ignored_only {
-        return is_removable(alloc, scene.cleaning, scene.specs, entry);
+        return is_removed(alloc, scene, entry);
     }
     is_entry_matched(alloc, scene.specs, entry)
 }
@@ -120,12 +141,26 @@ fn name_unless(
     Ok(Some(name(alloc, place)?))
 }
 
+/// The name of a place that git comes to, unless the index has the path.
+fn name_if(
+    alloc: Global,
+    scene: &Scene<'_>,
+    place: &Place<'_>,
+) -> Result<Option<Bytes>, OutOfMemory>
+    ensures { IfOk result (λ name. name ≡ words.name_if (scene_by scene.now) place.now) }
+{
+    if is_seen(alloc, scene, place)? {
+        return name_unless(alloc, scene.index, place);
+    }
+    Ok(None)
+}
+
 /// The name of what goes for an entry, if something does.
 fn name_of(alloc: Global, scene: &Scene<'_>, entry: &Entry) -> Result<Option<Bytes>, OutOfMemory>
     ensures { IfOk result (λ name. name ≡ words.name_of (scene_by scene.now) entry.now) }
 {
     match place_of(alloc, scene, entry)? {
-        Some(place) => name_unless(alloc, scene.index, &place),
+        Some(place) => name_if(alloc, scene, &place),
         None => Ok(None),
     }
 }
