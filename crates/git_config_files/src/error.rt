@@ -15,7 +15,8 @@ pub enum FilesError {
     /// What stands at this path is no file and not the null device, or is a link without an end.
     #[error("NoFile")]
     NoFile { path: PathText },
-    /// A path in the file begins with `~`, and there is no home; or with `~USER` or `%(prefix)/`, which are not expanded.
+    /// A path of an include in the file begins with `~`, and there is no home; or with `~USER` or `%(prefix)/`, which are not expanded.
+    /// Or a condition on the git directory begins with one of these two, or with `~`, where the home is empty.
     #[error("Home")]
     Home { path: PathText },
     /// This value, the path that a key names, begins with `~`, and there is no home; or with `~USER` or `%(prefix)/`, which are not
@@ -25,7 +26,7 @@ pub enum FilesError {
     /// The file has an include with the condition `hasconfig:remote.*.url:`, which is not read.
     #[error("Condition")]
     Condition { path: PathText },
-    /// The file is included behind ten others.
+    /// The file is there, and is included behind ten others.
     #[error("Depth")]
     Depth { path: PathText },
     /// The value of this key, or of this variable of the environment, cannot be read.

@@ -219,9 +219,9 @@ fn own_or_safe<W: Worktree, O: Owners>(
 /// and the git directory that a file `.git` names belong to the user, or `safe.directory` names its directory. The user is the owner of
 /// `/proc/self`; for root what belongs to `SUDO_UID` is its own too.
 ///
-/// `safe.directory` counts where no repository has a say: in the configurations of the system and of the user, with what they include. A
-/// `*` names each directory, an empty value takes all back that stand before it. Nothing of the repository is read here, and nothing at
-/// all where it is the user's.
+/// `safe.directory` counts in the configurations of the system and of the user alone, with what they include; no condition of an include
+/// on a repository holds there. A `*` names each directory, an empty value takes all back that stand before it. No file is read where the
+/// repository is the user's.
 ///
 /// # Errors
 ///

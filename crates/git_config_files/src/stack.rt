@@ -126,10 +126,10 @@ pub fn elsewhere(alloc: Global, name: &[u8]) -> Result<FilesError, OutOfMemory>
 /// - `NoFile`: what stands at the path of a configuration, or of an included file, is no file, and not the null device, which is an
 ///   empty one.
 /// - `Include`: a key that includes a file has no value.
-/// - `Home`: the path of an included file, or of a condition, begins with a home that is not known, or a condition with one
-///   that is empty.
+/// - `Home`: the path of an included file begins with `~`, and there is no home; it, or a condition on the git directory, begins with
+///   `~USER` or `%(prefix)/`; or such a condition begins with `~`, and the home is empty.
 /// - `Condition`: an include asks for what the configuration says, by `hasconfig:remote.*.url:`.
-/// - `Depth`: a file is included behind ten others.
+/// - `Depth`: a file that is there is included behind ten others.
 /// - `Value`: `GIT_CONFIG_NOSYSTEM` is no boolean, or the path of an included file has a NUL.
 /// - `Fault`: the worktree failed, which it counted. No fault reads as "nothing is there".
 /// - `OutOfMemory` for want of memory.

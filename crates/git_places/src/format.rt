@@ -12,7 +12,7 @@ use std::alloc::Global;
 /// The version of a repository's format.
 #[derive(Clone, Copy, Debug, PartialEq, Eq)]
 pub enum Version {
-    /// The keys of `[extensions]` have no say, but for `worktreeConfig`.
+    /// The keys of `[extensions]` have no say, but for `worktreeConfig`; `objectFormat` and `noop-v1` may not stand there.
     Zero,
     /// Each key of `[extensions]` has to be known.
     One,

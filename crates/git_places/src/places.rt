@@ -376,7 +376,7 @@ fn layout_said<W: Worktree>(
 /// - `Bare`: `core.bare` says so.
 /// - `Config`: a line of a configuration is outside its grammar.
 /// - `Version`: the format has a version that is neither 0 nor 1.
-/// - `Extension`, `Sha256`: the format asks for what is not known; `objectFormat` in version 0 is such a key, too.
+/// - `Extension`, `Sha256`: the format asks for what is not known; `objectFormat` and `noop-v1` in version 0 are such keys, too.
 /// - `Value`: `extensions.worktreeConfig` or `core.bare` is no boolean, or `core.worktree` is empty.
 /// - `NoWorkTree`: no directory is at the path that `core.worktree` names.
 /// - `Fault`: the worktree failed, which it counted. No fault reads as "nothing is there".

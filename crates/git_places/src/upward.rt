@@ -79,7 +79,8 @@ fn top_above<W: Worktree, O: Owners>(
 /// # Errors
 ///
 /// - `GitFileForm`, `GitFileTarget`: a file `.git` on the way names no git directory. No work tree further up is taken in its place.
-/// - `OddHead`: the `HEAD` of a git directory on the way is one that git and the walk do not read alike, or a link.
+/// - `OddHead`: the `HEAD` of a directory on the way, where a git directory may be, is one that git and the walk do not read alike, a
+///   link, or a device, a pipe or a socket.
 /// - `CommonDir`: the `commondir` of one is no file, is empty, or names no directory.
 /// - `Bare`: a directory on the way is itself a git directory.
 /// - `NoRepository`: no directory up to the top, or up to a ceiling, is the top of a work tree.
