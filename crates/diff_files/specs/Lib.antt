@@ -1,4 +1,5 @@
 pub mod Stats
+pub mod Seconds
 pub mod KeptStats
 pub mod Modes
 pub mod Fields

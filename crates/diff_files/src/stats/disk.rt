@@ -1,6 +1,8 @@
 //! The stats of the files of the system, of which nothing is told.
 ghost use Rattle.std.specs.Prelude.{◌≡◌, ◌↔◌, None, true, false, IsTrue};
+ghost use Rattle.std.specs.Fs.{metadata_len, metadata_mode};
 ghost use Rattle.worktree_fs.specs.Disk.{is_fault};
+ghost use Rattle.diff_files.specs.Seconds.{seconds_of};
 
 use super::Stats;
 use super::node_stat::NodeStat;
@@ -53,12 +55,18 @@ impl<'a> DiskStats<'a> {
 }
 
 /// The lowest 32 bits of a time.
-fn seconds(time: i64) -> u32 {
+fn seconds(time: i64) -> u32
+    ensures { result ≡ seconds_of time }
+{
     (time.cast_unsigned() % LIMIT) as u32
 }
 
-/// What the system's word on a node tells.
-fn stat_of(metadata: &Metadata) -> NodeStat {
+/// What the system's word on a node tells. Of the words that std hands on, its contracts name the mode and the size; that the others are
+/// not taken for one another is tested.
+fn stat_of(metadata: &Metadata) -> NodeStat
+    ensures mode { result.mode ≡ metadata_mode metadata.now }
+    ensures size { result.size ≡ metadata_len metadata.now }
+{
     NodeStat {
         mode: metadata.mode(),
         mtime: seconds(metadata.mtime()),
