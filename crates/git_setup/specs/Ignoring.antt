@@ -1,5 +1,5 @@
 -- Whether some submodule may be left out of a comparison: gitmodules(5), git-config(1).
-use Rattle.std.specs.Prelude.{ℕ, List, Bool, true, false, not, ◌&&◌, ◌||◌, ◌==◌, codes, bytes_eq, is_some, None, Result, Ok, Err}
+use Rattle.std.specs.Prelude.{ℕ, List, Bool, true, false, not, ◌&&◌, ◌||◌, ◌==◌, codes, bytes_eq, Option, Some, None, Result, Ok, Err}
 use Rattle.std.specs.List.{list_any}
 use Rattle.gitbase_core.specs.declared.entry.IndexEntry.{IndexEntry}
 use Rattle.git_config_lite.specs.Grammar.{said}
@@ -10,9 +10,18 @@ use Rattle.git_config_lite.specs.declared.metadata.Source.TheVariants.{Modules}
 use Rattle.worktree_report.specs.Loading.{modules_path}
 use Rattle.worktree_fs.specs.Tree.{Names, Look, found, absent, too_many_links, file, link, directory, other, look}
 
--- "submodule.<name>.ignore", in `.gitmodules` or in a configuration, and "diff.ignoreSubmodules"; such a key of any section counts
+-- by a value of "submodule.<name>.ignore" a submodule may be left out: "none", "untracked" and "dirty" say how far its repository is
+-- looked into, and none is looked into here. "diff.ignoreSubmodules" is for `git diff` alone
+abbrev pub may_leave_out : List ℕ → Bool
+may_leave_out value = not (bytes_eq value (codes "none") || (bytes_eq value (codes "untracked") || bytes_eq value (codes "dirty")))
+
+abbrev pub value_leaves_out : Option (List ℕ) → Bool
+value_leaves_out None = false
+value_leaves_out (Some value) = may_leave_out value
+
+-- in `.gitmodules` or in a configuration; such a key of any section counts
 abbrev pub leaves_out : Section → Bool
-leaves_out section = is_some (section_value (codes "ignore") section) || is_some (section_value (codes "ignoresubmodules") section)
+leaves_out section = value_leaves_out (section_value (codes "ignore") section)
 
 abbrev pub modules_meta : Metadata
 modules_meta = record { source = Modules; path = None }
@@ -37,6 +46,7 @@ modules_leave_out too_many_links = true
 abbrev pub is_unmerged_modules : IndexEntry → Bool
 is_unmerged_modules e = not (e.stage == 0) && bytes_eq e.path (codes ".gitmodules")
 
+-- by a `.gitmodules` that is not merged no submodule is known, and none is left out
 abbrev pub ignores_here : Names → List ℕ → List Section → List IndexEntry → Bool
 ignores_here t root sections entries =
-    list_any leaves_out sections || (list_any is_unmerged_modules entries || modules_leave_out (look t (modules_path root) false))
+    not (list_any is_unmerged_modules entries) && (list_any leaves_out sections || modules_leave_out (look t (modules_path root) false))

@@ -1,5 +1,5 @@
 //! Whether some submodule may be left out of a comparison.
-ghost use Rattle.std.specs.Prelude.{◌≡◌, false, Ok, IfOk};
+ghost use Rattle.std.specs.Prelude.{◌≡◌, false, option_copied, Ok, IfOk};
 ghost use Rattle.std.specs.List.{list_any};
 ghost use Rattle.worktree_fs.specs.Tree.{look};
 ghost use Rattle.worktree_report.specs.Loading.{modules_path};
@@ -12,11 +12,29 @@ use gitbase_core::{Bytes, IndexEntry, OutOfMemory, PathText};
 use std::alloc::Global;
 use worktree_fs::{ReadAnswer, Worktree};
 
+/// Whether a submodule may be left out by a value of its `ignore`.
+fn may_leave_out(value: &[u8]) -> bool
+    ensures { result ≡ words.may_leave_out value.now }
+{
+    !(value == b"none".as_slice()
+        || value == b"untracked".as_slice()
+        || value == b"dirty".as_slice())
+}
+
+fn value_leaves_out(value: Option<&[u8]>) -> bool
+    ensures { result ≡ words.value_leaves_out (option_copied value.entry) }
+{
+    match value {
+        Some(value) => may_leave_out(value),
+        None => false,
+    }
+}
+
 /// Whether a section has a key by which submodules are left out.
 fn leaves_out(section: &Section) -> bool
     ensures { result ≡ words.leaves_out section.now }
 {
-    section.value(b"ignore").is_some() || section.value(b"ignoresubmodules").is_some()
+    value_leaves_out(section.value(b"ignore"))
 }
 
 /// Whether a configuration does.
@@ -90,8 +108,8 @@ fn modules_leave_out<W: Worktree>(
     }
 }
 
-/// Whether some submodule may be left out of a comparison: the configuration or `.gitmodules` has the `ignore` of one, or the latter is not
-/// merged, or is no file of the work tree.
+/// Whether some submodule may be left out of a comparison: the configuration or `.gitmodules` has the `ignore` of one, of another value than
+/// `none`, `untracked` and `dirty`, or the latter is no file of the work tree. While `.gitmodules` is not merged, none is left out.
 ///
 /// See docs/DIFFERENCES.md#diff-ignored-submodule.
 pub fn ignores_here<W: Worktree>(
@@ -104,10 +122,10 @@ pub fn ignores_here<W: Worktree>(
     ensures { Finds W.Worktree worktree.old worktree.new
         (λ t. Ok (words.ignores_here t root.now config.now.sections entries.now)) result }
 {
-    if some_leaves_out(config) {
-        return Ok(true);
-    }
     if some_unmerged(entries) {
+        return Ok(false);
+    }
+    if some_leaves_out(config) {
         return Ok(true);
     }
     modules_leave_out(alloc, worktree, root)
