@@ -19,7 +19,8 @@ _tizhagor_options() {
         --exclude-per-directory=.gitignore --directory --no-empty-directory -t -v
         -z --deduplicate --full-name --error-unmatch -h --help" ;;
     clean) echo "-n --dry-run --no-dry-run -d -x -X -e --exclude= -f --force --no-force -q --quiet --no-quiet -h --help" ;;
-    diff-files) echo "--raw --name-status --name-only -z -q --exit-code --no-exit-code --quiet --no-quiet -h --help" ;;
+    diff-files) echo "--raw --name-status --name-only -z -q --exit-code --no-exit-code --quiet --no-quiet
+        --ignore-submodules --ignore-submodules= -h --help" ;;
     check-ignore) echo "-v --verbose --no-verbose -n --non-matching --no-non-matching -q --quiet --no-quiet --no-index --index -h --help" ;;
     *) echo "-C -h --help --version" ;;
     esac
@@ -35,6 +36,7 @@ _tizhagor_values() {
     --for-deletion) echo "hide nonbare all no" ;;
     --strategy) echo "held at-once" ;;
     --color) echo "auto always never" ;;
+    --ignore-submodules) echo "all dirty untracked none" ;;
     esac
 }
 

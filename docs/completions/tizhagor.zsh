@@ -67,6 +67,7 @@ _tizhagor() {
         '-q[changes nothing]'
         '(--exit-code --no-exit-code)'{--exit-code,--no-exit-code}'[the status tells whether something changed]'
         '(--quiet --no-quiet)'{--quiet,--no-quiet}'[the same, and nothing is written]'
+        '--ignore-submodules=-[submodules are left out, or none is]::when:(all dirty untracked none)'
     )
     checked=(
         '(-q --quiet)'{-v,--verbose}'[the rule that decides]'

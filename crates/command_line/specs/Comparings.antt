@@ -5,6 +5,8 @@ use Rattle.std.specs.Str.{bytes_eq}
 use Rattle.command_line.specs.declared.comparing.CompareChoice.{CompareChoice}
 use Rattle.command_line.specs.declared.comparing.CompareChoice.TheVariants as choices
 use Rattle.command_line.specs.declared.comparing.Comparing.{Comparing}
+use Rattle.command_line.specs.declared.comparing.Ignoring.{Ignoring}
+use Rattle.command_line.specs.declared.comparing.Ignoring.TheVariants as ignorings
 use Rattle.command_line.specs.declared.opt.Opt.{Opt}
 use Rattle.command_line.specs.declared.opt.Opt.TheVariants as opts
 use Rattle.command_line.specs.Options.{first_of}
@@ -12,7 +14,15 @@ use Rattle.command_line.specs.Options.{first_of}
 -- no form is said, nothing ends in NULs, and the status tells nothing of changes
 abbrev pub default_comparing : Comparing
 default_comparing =
-    record { raw = false; names = false; statuses = false; ends_in_nul = false; tells_changes = false; is_quiet = false }
+    record {
+      raw = false;
+      names = false;
+      statuses = false;
+      ends_in_nul = false;
+      tells_changes = false;
+      is_quiet = false;
+      ignoring = ignorings.Configured;
+    }
 
 -- with one choice made or dropped; `-q` changes nothing
 abbrev pub told_apart : CompareChoice → Bool → Comparing → Comparing
@@ -23,6 +33,7 @@ told_apart choices.Nul on comparing = record comparing { ends_in_nul = on }
 told_apart choices.Silent on comparing = comparing
 told_apart choices.TellsChanges on comparing = record comparing { tells_changes = on }
 told_apart choices.Quiet on comparing = record comparing { is_quiet = on }
+told_apart (choices.Ignores ignoring) on comparing = record comparing { ignoring = ignoring }
 
 -- those that nothing turns off
 abbrev pub form_of : List ℕ → Option CompareChoice
@@ -82,8 +93,7 @@ is_left_filter name =
     || (bytes_eq name (codes "irreversible-delete")
     || (bytes_eq name (codes "find-object")
     || (bytes_eq name (codes "pickaxe-all")
-    || (bytes_eq name (codes "pickaxe-regex")
-    || bytes_eq name (codes "ignore-submodules"))))))))))
+    || bytes_eq name (codes "pickaxe-regex")))))))))
 
 -- of stages, and of how paths and ids are written
 abbrev pub is_left_form : List ℕ → Bool
@@ -103,6 +113,16 @@ is_left_form name =
 abbrev pub is_left : List ℕ → Bool
 is_left name = is_left_patch name || (is_left_count name || (is_left_filter name || is_left_form name))
 
+-- "Using "none" will consider the submodule modified when it either contains untracked or modified files or its HEAD differs": what
+-- "untracked" and "dirty" leave out of that is in the repository of a submodule, which is not looked into
+abbrev pub ignoring_of : List ℕ → Option Ignoring
+ignoring_of value =
+    if bytes_eq value (codes "all") then Some ignorings.All
+    else if bytes_eq value (codes "none") then Some ignorings.Nothing
+    else if bytes_eq value (codes "dirty") then Some ignorings.Nothing
+    else if bytes_eq value (codes "untracked") then Some ignorings.Nothing
+    else None
+
 abbrev pub comparing_by : List ℕ → Option Opt
 comparing_by name = first_of (compares true (form_of name)) (telling_by name)
 
@@ -110,6 +130,7 @@ comparing_by name = first_of (compares true (form_of name)) (telling_by name)
 unfoldable pub comparing_opt_of : List ℕ → Option Opt
 comparing_opt_of name =
     if bytes_eq name (codes "help") then Some opts.Help
+    else if bytes_eq name (codes "ignore-submodules") then Some opts.Submodules
     else if is_left name then Some opts.Left
     else comparing_by name
 

@@ -25,7 +25,10 @@ use Rattle.command_line.specs.declared.verb.Verb.{Verb}
 use Rattle.command_line.specs.declared.verb.Verb.TheVariants as verbs
 use Rattle.command_line.specs.Checkings.{checking_opt_of, checking_opt_of_letter}
 use Rattle.command_line.specs.Choices.{listing_opt_of, listing_opt_of_letter}
-use Rattle.command_line.specs.Comparings.{comparing_opt_of, comparing_opt_of_letter}
+use Rattle.command_line.specs.Comparings.{comparing_opt_of, comparing_opt_of_letter, ignoring_of}
+use Rattle.command_line.specs.declared.comparing.CompareChoice.TheVariants as compare_choices
+use Rattle.command_line.specs.declared.comparing.Ignoring.{Ignoring}
+use Rattle.command_line.specs.declared.comparing.Ignoring.TheVariants as ignorings
 use Rattle.command_line.specs.Cleanings.{cleaning_opt_of, cleaning_opt_of_letter, is_line}
 use Rattle.command_line.specs.Drafts.{with_switch, with_untracked, with_ignored, with_collapsed, with_deletion, with_permissions, with_strategy, with_wording, with_end, with_color, with_what, with_finding, with_depth, with_choice, with_clean_choice, with_force, with_compare_choice, with_check_choice, with_help}
 use Rattle.command_line.specs.Options.{opt_of, opt_of_letter, takes, emission_of, collapsed_of, deletion_of}
@@ -34,6 +37,10 @@ use Rattle.command_line.specs.Verbs.{needs_dashes, takes_paths}
 -- something more is said, and the next word may be anything
 abbrev pub on : Draft → Step
 on draft = Said draft nexts.Any
+
+-- this is told of submodules
+abbrev pub ignoring_as : Ignoring → Draft → Step
+ignoring_as ignoring draft = on (with_compare_choice (compare_choices.Ignores ignoring) true draft)
 
 -- an option without a value
 abbrev pub bare : Opt → Draft → Step
@@ -62,6 +69,7 @@ bare opts.Pattern draft = Said draft nexts.Pattern
 bare (opts.Compares choice is_on) draft = on (with_compare_choice choice is_on draft)
 bare (opts.Checks choice is_on) draft = on (with_check_choice choice is_on draft)
 bare opts.RulesFile draft = is_wrong wrongs.Left
+bare opts.Submodules draft = ignoring_as ignorings.All draft
 bare opts.Left draft = is_wrong wrongs.Left
 
 -- ---- values
@@ -131,6 +139,13 @@ abbrev pub rules_file_by : List ℕ → Draft → Step
 rules_file_by value draft =
     if bytes_eq value (codes ".gitignore") then on (with_choice choices.ExcludesDirectories true draft) else is_wrong wrongs.Left
 
+abbrev ignoring_said : Option Ignoring → Draft → Step
+ignoring_said (Some ignoring) draft = ignoring_as ignoring draft
+ignoring_said None draft = is_wrong wrongs.UnknownValue
+
+abbrev pub ignoring_by : List ℕ → Draft → Step
+ignoring_by value draft = ignoring_said (ignoring_of value) draft
+
 -- an option with a value
 abbrev pub valued : Opt → List ℕ → Draft → Step
 valued opts.Untracked value draft = untracked_by value draft
@@ -143,6 +158,7 @@ valued opts.Depth value draft = depth_by value draft
 valued opts.Color value draft = color_by value draft
 valued opts.Pattern value draft = pattern_by value draft
 valued opts.RulesFile value draft = rules_file_by value draft
+valued opts.Submodules value draft = ignoring_by value draft
 valued opts.Left value draft = is_wrong wrongs.Left
 valued other value draft = is_wrong wrongs.TakesNoValue
 

@@ -15,6 +15,9 @@ the current directory, and stands behind --; none means all.
   -q                    taken, and changes nothing
   --exit-code           the status is 1 where something changed
   --quiet               the same, and nothing is written
+  --ignore-submodules[=WHEN]
+                        nothing of submodules; with none, dirty or untracked as WHEN
+                        that which the configuration would leave out, too
   -h, --help            this text
 
 Of options that say the same the last counts; --no-exit-code and --no-quiet take back what

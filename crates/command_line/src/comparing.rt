@@ -5,6 +5,17 @@ ghost use Rattle.command_line.specs.Comparings as comparings;
 
 use crate::opt::Opt;
 
+/// Which submodules are told of, as `--ignore-submodules` has it.
+#[derive(Clone, Copy, Debug, PartialEq, Eq)]
+pub enum Ignoring {
+    /// It is not said: the configuration counts.
+    Configured,
+    /// None is left out, whatever the configuration says.
+    Nothing,
+    /// All are left out.
+    All,
+}
+
 /// What is asked of `diff-files`, as git-diff-files(1) has it.
 #[derive(Clone, Copy, Debug, PartialEq, Eq)]
 pub struct Comparing {
@@ -20,6 +31,8 @@ pub struct Comparing {
     pub tells_changes: bool,
     /// `--quiet`: the same, and nothing is written.
     pub is_quiet: bool,
+    /// `--ignore-submodules`.
+    pub ignoring: Ignoring,
 }
 
 /// What an option of `diff-files` turns on or off.
@@ -39,6 +52,8 @@ pub enum CompareChoice {
     TellsChanges,
     /// Nothing is written.
     Quiet,
+    /// Which submodules are told of.
+    Ignores(Ignoring),
 }
 
 /// What is asked of `diff-files` where no word says any.
@@ -52,6 +67,7 @@ pub fn default_comparing() -> Comparing
         ends_in_nul: false,
         tells_changes: false,
         is_quiet: false,
+        ignoring: Ignoring::Configured,
     }
 }
 
@@ -68,6 +84,7 @@ pub fn told_apart(comparing: Comparing, choice: CompareChoice, on: bool) -> Comp
         CompareChoice::Silent => {}
         CompareChoice::TellsChanges => comparing.tells_changes = on,
         CompareChoice::Quiet => comparing.is_quiet = on,
+        CompareChoice::Ignores(ignoring) => comparing.ignoring = ignoring,
     }
     comparing
 }
@@ -163,7 +180,6 @@ fn is_left_filter(name: &[u8]) -> bool
         || name == b"find-object".as_slice()
         || name == b"pickaxe-all".as_slice()
         || name == b"pickaxe-regex".as_slice()
-        || name == b"ignore-submodules".as_slice()
 }
 
 /// The same of stages and of how paths and ids are written.
@@ -199,6 +215,23 @@ fn is_left(name: &[u8]) -> bool
     is_left_form(name)
 }
 
+/// Which submodules are told of, by the value of `--ignore-submodules`. What only tells how far a submodule is looked into leaves none out.
+pub fn ignoring_of(value: &[u8]) -> Option<Ignoring>
+    ensures { result ≡ comparings.ignoring_of value.now }
+{
+    if value == b"all".as_slice() {
+        Some(Ignoring::All)
+    } else if value == b"none".as_slice() {
+        Some(Ignoring::Nothing)
+    } else if value == b"dirty".as_slice() {
+        Some(Ignoring::Nothing)
+    } else if value == b"untracked".as_slice() {
+        Some(Ignoring::Nothing)
+    } else {
+        None
+    }
+}
+
 /// The option of this name that is a choice, whether it can be turned off or not.
 fn comparing_by(name: &[u8]) -> Option<Opt>
     ensures { result ≡ comparings.comparing_by name.now }
@@ -216,6 +249,9 @@ pub fn comparing_opt_of(name: &[u8]) -> Option<Opt>
 {
     if name == b"help".as_slice() {
         return Some(Opt::Help);
+    }
+    if name == b"ignore-submodules".as_slice() {
+        return Some(Opt::Submodules);
     }
     if is_left(name) {
         return Some(Opt::Left);

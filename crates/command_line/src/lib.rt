@@ -25,7 +25,7 @@ mod verb;
 pub use checking::CheckAsked;
 pub use cleaning::Force;
 pub use command::{CleanAsked, Command, FilesAsked, Request};
-pub use comparing::Comparing;
+pub use comparing::{Comparing, Ignoring};
 pub use form::{Color, Form, LineEnd, Style, Wording, styled};
 pub use help::{help_of, version};
 pub use misuse::{Misuse, Wrong, said};

@@ -91,6 +91,8 @@ pub enum Opt {
     Compares(CompareChoice, bool),
     /// Makes a choice of `check-ignore`, or drops it.
     Checks(CheckChoice, bool),
+    /// Which submodules `diff-files` tells of.
+    Submodules,
     /// It is git's, and is not answered here.
     Left,
 }

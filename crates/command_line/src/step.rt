@@ -5,7 +5,9 @@ ghost use Rattle.command_line.specs.Steps as steps;
 use crate::checking::{checking_opt_of, checking_opt_of_letter};
 use crate::choice::{Choice, listing_opt_of, listing_opt_of_letter};
 use crate::cleaning::{cleaning_opt_of, cleaning_opt_of_letter, is_line};
-use crate::comparing::{comparing_opt_of, comparing_opt_of_letter};
+use crate::comparing::{
+    CompareChoice, Ignoring, comparing_opt_of, comparing_opt_of_letter, ignoring_of,
+};
 use crate::depth::depth_of;
 use crate::draft::Draft;
 use crate::form::{Color, LineEnd, Wording};
@@ -48,6 +50,13 @@ fn on(draft: Draft) -> Step
     Step::Said(draft, Next::Any)
 }
 
+/// That this is told of submodules.
+fn ignoring_as(ignoring: Ignoring, draft: Draft) -> Step
+    ensures { result ≡ steps.ignoring_as ignoring draft }
+{
+    on(draft.with_compare_choice(CompareChoice::Ignores(ignoring), true))
+}
+
 /// An option without a value.
 fn bare(opt: Opt, draft: Draft) -> Step
     ensures { result ≡ steps.bare opt draft }
@@ -77,6 +86,7 @@ fn bare(opt: Opt, draft: Draft) -> Step
         Opt::Compares(choice, is_on) => on(draft.with_compare_choice(choice, is_on)),
         Opt::Checks(choice, is_on) => on(draft.with_check_choice(choice, is_on)),
         Opt::RulesFile => Step::Wrong(Wrong::Left),
+        Opt::Submodules => ignoring_as(Ignoring::All, draft),
         Opt::Left => Step::Wrong(Wrong::Left),
     }
 }
@@ -196,6 +206,16 @@ fn rules_file_by(value: &[u8], draft: Draft) -> Step
     }
 }
 
+/// That this is told of submodules, by the value.
+fn ignoring_by(value: &[u8], draft: Draft) -> Step
+    ensures { result ≡ steps.ignoring_by value.now draft }
+{
+    match ignoring_of(value) {
+        Some(ignoring) => ignoring_as(ignoring, draft),
+        None => Step::Wrong(Wrong::UnknownValue),
+    }
+}
+
 /// An option with a value.
 fn valued(opt: Opt, value: &[u8], draft: Draft) -> Step
     ensures { result ≡ steps.valued opt value.now draft }
@@ -211,6 +231,7 @@ fn valued(opt: Opt, value: &[u8], draft: Draft) -> Step
         Opt::Color => color_by(value, draft),
         Opt::Pattern => pattern_by(value, draft),
         Opt::RulesFile => rules_file_by(value, draft),
+        Opt::Submodules => ignoring_by(value, draft),
         Opt::Left => Step::Wrong(Wrong::Left),
         _ => Step::Wrong(Wrong::TakesNoValue),
     }

@@ -1,6 +1,6 @@
 //! What words ask of `diff-files`. Which words git 2.39.5 takes was asked of it.
 use bstr::ByteSlice;
-use command_line::{Command, Comparing, Topic, Verb, help_of, request_of, said};
+use command_line::{Command, Comparing, Ignoring, Topic, Verb, help_of, request_of, said};
 use gitbase_core::Bytes;
 use std::alloc::Global;
 
@@ -16,6 +16,12 @@ diff-files,--exit-code,--quiet>eq\n\
 diff-files,--exit-code,--quiet,--no-exit-code>q\n\
 diff-files,--quiet,--no-quiet>\n\
 diff-files,-z,--,a,-z,-->z a -z --\n\
+diff-files,--ignore-submodules>a\n\
+diff-files,--ignore-submodules=all,--ignore-submodules=none>o\n\
+diff-files,--ignore-submodules=dirty,-q>o\n\
+diff-files,--ignore-submodules=untracked,--ignore-submodules=all>a\n\
+diff-files,--ignore-submodules=some>!error: option `--ignore-submodules=some' has a value that is not known\n\
+diff-files,--no-ignore-submodules>!error: unknown option `--no-ignore-submodules'\n\
 diff-files,--> \n\
 diff-files,a>!error: `a' may be a revision; write `--' before paths\n\
 diff-files,->!error: `-' may be a revision; write `--' before paths\n\
@@ -50,6 +56,8 @@ fn is_asked(comparing: &Comparing, letters: &[u8]) -> bool {
         && tells(letters, b'z', comparing.ends_in_nul)
         && tells(letters, b'e', comparing.tells_changes)
         && tells(letters, b'q', comparing.is_quiet)
+        && tells(letters, b'a', comparing.ignoring == Ignoring::All)
+        && tells(letters, b'o', comparing.ignoring == Ignoring::Nothing)
 }
 
 /// Whether the paths are these, parted by blanks.
@@ -108,7 +116,8 @@ fn words_of_diff_files_are_read(rt: HostRuntime) {
 #[test]
 fn the_help_text_names_the_options(rt: HostRuntime) {
     let text = help_of(Topic::Of(Verb::Compare));
-    let names = b"--raw ,--name-status ,--name-only ,  -z ,  -q ,--exit-code ,--quiet ,-h, --help";
+    let names =
+        b"--raw ,--name-status ,--name-only ,  -z ,  -q ,--exit-code ,--quiet ,--ignore-submodules[,-h, --help";
     let all = names
         .split(|byte| *byte == b',')
         .all(|name| text.contains_str(name));

@@ -1,5 +1,5 @@
 -- How the path of an entry changed: git-diff-files(1), by what is told of the nodes.
-use Rattle.std.specs.Prelude.{ℕ, List, Bool, false, not, ◌&&◌, ◌||◌, ◌==◌, bytes_eq, Option, Some, None, is_some, Result, Ok, Err, if◌then◌else◌}
+use Rattle.std.specs.Prelude.{ℕ, List, Bool, true, false, not, ◌&&◌, ◌||◌, ◌==◌, bytes_eq, Option, Some, None, is_some, Result, Ok, Err, if◌then◌else◌}
 use Rattle.gitbase_core.specs.Entry.{mode_bits, assume_valid_flag, skip_worktree_flag}
 use Rattle.gitbase_core.specs.Kinds.{has_flag}
 use Rattle.gitbase_core.specs.Path.{joined}
@@ -10,6 +10,8 @@ use Rattle.worktree_fs.specs.Tree.{Names, Look, absent, directory, file, found, 
 use Rattle.diff_files.specs.declared.change.PathChange.{PathChange}
 use Rattle.diff_files.specs.declared.change.PathChange.TheVariants as changes
 use Rattle.diff_files.specs.declared.comparison.Comparison.{Comparison}
+use Rattle.diff_files.specs.declared.comparison.Submodules.{Submodules}
+use Rattle.diff_files.specs.declared.comparison.Submodules.TheVariants as subs
 use Rattle.diff_files.specs.declared.error.Unsupported.{Unsupported}
 use Rattle.diff_files.specs.declared.error.Unsupported.TheVariants as forms
 use Rattle.diff_files.specs.declared.judged.Judged.{Judged}
@@ -97,13 +99,37 @@ is_skipped told o full e = has_flag skip_worktree_flag e && not (o.sparse_checko
 abbrev pub is_left_out : Told → Comparison → List ℕ → IndexEntry → Bool
 is_left_out told o full e = has_flag assume_valid_flag e || is_skipped told o full e
 
+abbrev pub are_told : Submodules → Bool
+are_told subs.Told = true
+are_told subs.MayBeLeftOut = false
+are_told subs.LeftOut = false
+
+abbrev pub are_left_out : Submodules → Bool
+are_left_out subs.Told = false
+are_left_out subs.MayBeLeftOut = false
+are_left_out subs.LeftOut = true
+
+-- submodules are left out: "Using "all" hides all changes to submodules"
+abbrev pub is_ignored : Comparison → IndexEntry → Bool
+is_ignored o e = is_submodule_entry e && are_left_out o.submodules
+
+-- what is new where a submodule is to be added later and none stands
+abbrev pub in_place : Comparison → IndexEntry → Option NodeStat → PathChange
+in_place o e None = changes.Same
+in_place o e (Some at) = if is_directory at.mode then changes.Same else added o e at
+
+-- of a submodule that is left out nothing is told, but for what is new in the place of one
+unfoldable pub ignored : Told → Comparison → List ℕ → IndexEntry → Detail → Judged
+ignored told o root e d = if d.intent_to_add then judge.Known (in_place o e (there told root e.path)) else judge.Known changes.Same
+
 -- a submodule that the configuration may leave out
 abbrev pub is_ignorable : Comparison → IndexEntry → Bool
-is_ignorable o e = is_submodule_entry e && o.ignores_submodules
+is_ignorable o e = is_submodule_entry e && not (are_told o.submodules)
 
 unfoldable pub looked_at : Told → Comparison → List ℕ → IndexEntry → Detail → Judged
 looked_at told o root e d =
     if is_left_out told o (joined root e.path) e then judge.Known changes.Same
+    else if is_ignored o e then ignored told o root e d
     else if is_ignorable o e then judge.Refused forms.IgnoredSubmodule
     else judged told o (joined root e.path) e d (there told root e.path)
 

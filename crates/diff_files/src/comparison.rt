@@ -11,6 +11,18 @@ pub enum Form {
     NameStatus,
 }
 
+/// Which submodules are told of.
+#[derive(Clone, Copy, Debug, PartialEq, Eq)]
+pub enum Submodules {
+    /// Each one, as `--ignore-submodules=none` has it.
+    Told,
+    /// Some may be left out by their `ignore` in the configuration or in `.gitmodules`, or what the
+    /// latter says is not known. A submodule is then refused.
+    MayBeLeftOut,
+    /// None, as `--ignore-submodules=all` has it.
+    LeftOut,
+}
+
 /// The options of `git diff-files`, as git-diff-files(1) has them, and what the configuration says.
 ///
 /// See docs/DECISIONS.md#diff-empty-q.
@@ -37,9 +49,8 @@ pub struct Comparison {
     /// Bytes of some file may be another's in the object: `core.autocrlf` or `core.eol` is set, or
     /// there are attributes anywhere. A file whose bytes have to be compared is then refused.
     pub converts: bool,
-    /// Submodules may be left out: the configuration or `.gitmodules`, in the work tree or in the
-    /// index, sets the `ignore` of one, or `.gitmodules` is not merged. A submodule is then refused.
-    pub ignores_submodules: bool,
+    /// Which submodules are told of.
+    pub submodules: Submodules,
     /// When the file of the index was written, in seconds since 1970, modulo 2^32.
     pub index_time: u32,
 }

@@ -9,7 +9,7 @@ ghost use Rattle.diff_files.specs.States as words;
 ghost use Rattle.diff_files.specs.There.{IsKnown};
 
 use crate::change::PathChange;
-use crate::comparison::Comparison;
+use crate::comparison::{Comparison, Submodules};
 use crate::error::Unsupported;
 use crate::fields::{is_changed, is_racy};
 use crate::judged::Judged;
@@ -269,11 +269,74 @@ fn is_compared(entry: &IndexEntry) -> bool
     entry.stage == 0 || entry.stage == 2
 }
 
-/// Whether an entry is a submodule that may be ignored.
+/// Whether each submodule is told of.
+fn are_told(submodules: Submodules) -> bool
+    ensures { result ≡ words.are_told submodules }
+{
+    matches!(submodules, Submodules::Told)
+}
+
+/// Whether none is.
+fn are_left_out(submodules: Submodules) -> bool
+    ensures { result ≡ words.are_left_out submodules }
+{
+    matches!(submodules, Submodules::LeftOut)
+}
+
+/// Whether an entry is a submodule that is left out.
+fn is_ignored(comparison: &Comparison, entry: &IndexEntry) -> bool
+    ensures { result ≡ words.is_ignored comparison.now entry.now }
+{
+    is_submodule_entry(entry) && are_left_out(comparison.submodules)
+}
+
+/// What is new where a submodule is to be added later and none stands.
+fn in_place(comparison: &Comparison, entry: &IndexEntry, at: Option<NodeStat>) -> PathChange
+    ensures { result ≡ words.in_place comparison.now entry.now at }
+{
+    let Some(at) = at else {
+        return PathChange::Same;
+    };
+    if is_directory(at.mode) {
+        PathChange::Same
+    } else {
+        added(comparison, entry, &at)
+    }
+}
+
+/// How the path of a submodule changed that is left out.
+#[tactic(auto, unfolding(crate::specs::States::ignored))]
+fn ignored<S: Stats>(
+    alloc: Global,
+    stats: &mut S,
+    root: &[u8],
+    comparison: &Comparison,
+    known: &mut Bytes,
+    entry: &IndexEntry,
+    detail: &Detail,
+) -> Result<Judged, ReadError>
+    requires known { IsKnown (S.told stats.old) root.now known.old }
+    ensures judged { (t : Told) → S.told stats.old ≡ Some t → IfOk result (λ judged. judged
+        ≡ words.ignored t comparison.now root.now entry.now detail.now) }
+    ensures known { IsKnown (S.told stats.old) root.now known.new }
+    ensures kept { AsksStats S.Stats stats.old stats.new }
+    ensures cause { IsErrOf result ReadError.Fault
+        → Increased (S.faults stats.old) (S.faults stats.new) }
+    ensures unfaulted { UnlessFault result (S.faults stats.new ≡ S.faults stats.old) }
+{
+    if !detail.intent_to_add {
+        return Ok(Judged::Known(PathChange::Same));
+    }
+    let full = full_path(alloc, root, entry)?;
+    let at = there(alloc, stats, root, known, &full, entry)?;
+    Ok(Judged::Known(in_place(comparison, entry, at)))
+}
+
+/// Whether an entry is a submodule that may be left out.
 fn is_ignorable(comparison: &Comparison, entry: &IndexEntry) -> bool
     ensures { result ≡ words.is_ignorable comparison.now entry.now }
 {
-    is_submodule_entry(entry) && comparison.ignores_submodules
+    is_submodule_entry(entry) && !are_told(comparison.submodules)
 }
 
 /// How the path of an entry changed that is compared.
@@ -301,6 +364,9 @@ fn looked_at<S: Stats>(
     let full = full_path(alloc, root, entry)?;
     if is_left_out(stats, comparison, &full, entry)? {
         return Ok(Judged::Known(PathChange::Same));
+    }
+    if is_ignored(comparison, entry) {
+        return ignored(alloc, stats, root, comparison, known, entry, detail);
     }
     if is_ignorable(comparison, entry) {
         return Ok(Judged::Refused(Unsupported::IgnoredSubmodule));

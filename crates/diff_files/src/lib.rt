@@ -19,7 +19,7 @@ mod taken;
 
 pub use answer::{Differences, diff_files};
 pub use change::PathChange;
-pub use comparison::{Comparison, Form};
+pub use comparison::{Comparison, Form, Submodules};
 pub use error::{DiffError, Unsupported};
 pub use stats::Stats;
 pub use stats::disk::DiskStats;

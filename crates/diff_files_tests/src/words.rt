@@ -1,5 +1,5 @@
 //! What is asked by the words of a row.
-use diff_files::{Comparison, Form};
+use diff_files::{Comparison, Form, Submodules};
 use glob_rules::pathspec::{Defaults, Search, Spec};
 use std::alloc::Global;
 
@@ -15,7 +15,7 @@ fn usual(index_time: u32) -> Comparison {
         check_stat: true,
         sparse_checkout: false,
         converts: false,
-        ignores_submodules: false,
+        submodules: Submodules::Told,
         index_time,
     }
 }
@@ -34,7 +34,13 @@ fn take(comparison: &mut Comparison, word: &[u8]) {
         b"core.sparseCheckout=true" => comparison.sparse_checkout = true,
         b"sparse.expectFilesOutsideOfPatterns=true" => comparison.sparse_checkout = false,
         b"core.autocrlf=true" => comparison.converts = true,
-        b"submodule.a.ignore=all" => comparison.ignores_submodules = true,
+        b"submodule.a.ignore=all" => comparison.submodules = Submodules::MayBeLeftOut,
+        b"--ignore-submodules" | b"--ignore-submodules=all" => {
+            comparison.submodules = Submodules::LeftOut
+        }
+        b"--ignore-submodules=none"
+        | b"--ignore-submodules=dirty"
+        | b"--ignore-submodules=untracked" => comparison.submodules = Submodules::Told,
         _ => {}
     }
 }

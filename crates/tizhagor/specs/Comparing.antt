@@ -3,6 +3,8 @@ use Rattle.std.specs.Prelude.{ℕ, List, [], Bool, true, not, ◌&&◌, ◌||◌
 use Rattle.gitbase_core.specs.Path.{is_empty}
 use Rattle.gitbase_core.specs.Steps.{and_then}
 use Rattle.command_line.specs.declared.comparing.Comparing.{Comparing}
+use Rattle.command_line.specs.declared.comparing.Ignoring.{Ignoring}
+use Rattle.command_line.specs.declared.comparing.Ignoring.TheVariants as ignorings
 use Rattle.diff_files.specs.Differences.{differences_in, out_of}
 use Rattle.diff_files.specs.KeptStats.{Outside}
 use Rattle.diff_files.specs.Stats.{Told}
@@ -10,6 +12,8 @@ use Rattle.diff_files.specs.declared.answer.Differences.{Differences}
 use Rattle.diff_files.specs.declared.comparison.Comparison.{Comparison}
 use Rattle.diff_files.specs.declared.comparison.Form.{Form}
 use Rattle.diff_files.specs.declared.comparison.Form.TheVariants as forms
+use Rattle.diff_files.specs.declared.comparison.Submodules.{Submodules}
+use Rattle.diff_files.specs.declared.comparison.Submodules.TheVariants as subs
 use Rattle.diff_files.specs.declared.error.DiffError.{DiffError}
 use Rattle.diff_files.specs.declared.error.Unsupported.{Unsupported}
 use Rattle.diff_files.specs.declared.stats.node_stat.NodeStat.{NodeStat}
@@ -76,6 +80,12 @@ compared_in t placed asked = as_git (setups.compared_in t placed.places placed.a
 abbrev pub form_of : Comparing → Form
 form_of comparing = if comparing.statuses then forms.NameStatus else if comparing.names then forms.NameOnly else forms.Raw
 
+-- "Using this option overrides any settings of the ignore option in git-config or gitmodules"
+abbrev pub submodules_by : Ignoring → Bool → Submodules
+submodules_by ignorings.Nothing ignores = subs.Told
+submodules_by ignorings.All ignores = subs.LeftOut
+submodules_by ignorings.Configured ignores = if ignores then subs.MayBeLeftOut else subs.Told
+
 abbrev pub comparison_of : Comparing → Settings → ℕ → Comparison
 comparison_of comparing settings time =
     record {
@@ -88,7 +98,7 @@ comparison_of comparing settings time =
       check_stat = settings.nodes.check_stat;
       sparse_checkout = settings.looks_for_skipped;
       converts = settings.converts;
-      ignores_submodules = settings.ignores_submodules;
+      submodules = submodules_by comparing.ignoring settings.ignores_submodules;
       index_time = time;
     }
 

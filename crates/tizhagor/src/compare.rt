@@ -9,8 +9,10 @@ ghost use Rattle.tizhagor.specs.Refusals.{IsOfFinding};
 use crate::found::directory_in;
 use crate::refusal::{HereRefusal, Uncompared};
 use crate::reply::Reply;
-use command_line::Comparing;
-use diff_files::{Comparison, DiffError, Differences, Form, NodeStat, Stats, diff_files};
+use command_line::{Comparing, Ignoring};
+use diff_files::{
+    Comparison, DiffError, Differences, Form, NodeStat, Stats, Submodules, diff_files,
+};
 use git_places::{Places, Surroundings, Variable, surroundings_of};
 use git_setup::{Asked, Compared, GitRefusal, Settings, compared_at, index_path, places_here};
 use gitbase_core::{Bytes, PathText};
@@ -176,6 +178,23 @@ fn form_of(comparing: &Comparing) -> Form
     }
 }
 
+/// Which submodules are told of, by the words, and else by whether the configuration may leave some out.
+fn submodules_by(ignoring: Ignoring, ignores: bool) -> Submodules
+    ensures { result ≡ words.submodules_by ignoring ignores }
+{
+    match ignoring {
+        Ignoring::Nothing => Submodules::Told,
+        Ignoring::All => Submodules::LeftOut,
+        Ignoring::Configured => {
+            if ignores {
+                Submodules::MayBeLeftOut
+            } else {
+                Submodules::Told
+            }
+        }
+    }
+}
+
 /// The comparison that the words ask for, by what the configuration and the files say.
 fn comparison_of(comparing: &Comparing, settings: &Settings, index_time: u32) -> Comparison
     ensures { result ≡ words.comparison_of comparing.now settings.now index_time }
@@ -190,7 +209,7 @@ fn comparison_of(comparing: &Comparing, settings: &Settings, index_time: u32) ->
         check_stat: settings.nodes.check_stat,
         sparse_checkout: settings.looks_for_skipped,
         converts: settings.converts,
-        ignores_submodules: settings.ignores_submodules,
+        submodules: submodules_by(comparing.ignoring, settings.ignores_submodules),
         index_time,
     }
 }

@@ -122,6 +122,12 @@ diff-files^/w^^/w/.git/config=[core]~fsmonitor~^128^^fatal: core.fsmonitor is se
 diff-files^/w^^/w/.git/index=DIRC\0\0\0\x02\0\0\0\x01\0\0\0\0\0\0\0\0\0\0\0\0\0\0\0\0\0\0\0\0\0\0\0\0\0\0\xe0\0\
 \0\0\0\0\0\0\0\0\0\0\0\0\x58\x7b\xe6\xb4\xc3\xf9\x3f\x93\xc4\x89\xc0\x11\x1b\xba\x55\x96\x14\x7a\x26\xcb\0\x01m\0\
 \0\0\0\0\0\0\0\0\0\0\0\0\0\0\0\0\0\0\0\0^128^^fatal: diff-files is not supported for ignored submodules~|\
+diff-files --name-status --ignore-submodules=none^/w^^/w/.git/index=DIRC\0\0\0\x02\0\0\0\x01\0\0\0\0\0\0\0\0\0\0\0\0\0\0\0\0\0\0\0\0\0\0\0\0\0\0\xe0\0\
+\0\0\0\0\0\0\0\0\0\0\0\0\x58\x7b\xe6\xb4\xc3\xf9\x3f\x93\xc4\x89\xc0\x11\x1b\xba\x55\x96\x14\x7a\x26\xcb\0\x01m\0\
+\0\0\0\0\0\0\0\0\0\0\0\0\0\0\0\0\0\0\0\0^0^D\tm~^|\
+diff-files --exit-code --ignore-submodules^/w^^/w/.git/index=DIRC\0\0\0\x02\0\0\0\x01\0\0\0\0\0\0\0\0\0\0\0\0\0\0\0\0\0\0\0\0\0\0\0\0\0\0\xe0\0\
+\0\0\0\0\0\0\0\0\0\0\0\0\x58\x7b\xe6\xb4\xc3\xf9\x3f\x93\xc4\x89\xc0\x11\x1b\xba\x55\x96\x14\x7a\x26\xcb\0\x01m\0\
+\0\0\0\0\0\0\0\0\0\0\0\0\0\0\0\0\0\0\0\0;/w/.gitmodules=[submodule \"n\"]~path=m~ignore=none~^0^^|\
 diff-files --name-status^/w^^/w/.git/index=DIRC\0\0\0\x02\0\0\0\x01\0\0\0\0\0\0\0\0\0\0\0\0\0\0\0\0\0\0\0\0\0\0\0\0\0\0\xe0\0\
 \0\0\0\0\0\0\0\0\0\0\0\0\x58\x7b\xe6\xb4\xc3\xf9\x3f\x93\xc4\x89\xc0\x11\x1b\xba\x55\x96\x14\x7a\x26\xcb\0\x01m\0\
 \0\0\0\0\0\0\0\0\0\0\0\0\0\0\0\0\0\0\0\0;/w/.git/config=[diff]~ignoreSubmodules=all~;/w/.gitmodules=[submodule \"n\"]~path=m~ignore=dirty~^0^D\tm~^|\
