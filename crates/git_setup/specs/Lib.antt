@@ -15,5 +15,6 @@ pub mod Settings
 pub mod Conversions
 pub mod Ignoring
 pub mod Compared
+pub mod FromDirectory
 pub mod Checked
 pub mod SameText

@@ -95,7 +95,7 @@ fn settings_here<W: Worktree>(
 
 /// The same, with the configurations that are read for it.
 #[tactic(auto, unfolding(crate::specs::Compared::settings_by))]
-fn settings_read<W: Worktree>(
+pub fn settings_read<W: Worktree>(
     alloc: Global,
     worktree: &mut W,
     places: &Places,
