@@ -21,7 +21,8 @@ use worktree_fs::{Worktree, from_directory};
 pub struct NamedFile {
     /// The file, as git names it.
     pub name: Bytes,
-    /// What stands there, without the byte order mark at the front, if there is one.
+    /// What stands there, without the byte order mark at the front, if there is one; where a second one follows it, that has another in
+    /// front, which a search takes away.
     pub bytes: Bytes,
 }
 

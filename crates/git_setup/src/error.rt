@@ -53,7 +53,8 @@ pub enum GitRefusal {
     SparseDirectory {
         path: PathText,
     },
-    /// Paths are asked for from a directory that is not in the work tree, whose top is `root`.
+    /// The current directory, `directory`, is not in the work tree, whose top is `root`, and paths are asked for, or the directory itself
+    /// is meant where none are.
     #[error("OutsideRoot")]
     OutsideRoot {
         directory: PathText,

@@ -271,7 +271,7 @@ fn found_at<W: Worktree>(
 /// - `SparseDirectory`: an entry of the index stands for all that is beneath a directory, and something is in its place.
 /// - `IndexEntry`: an entry breaks a rule of [`gitbase_core::State`].
 /// - `Files`: a rules file that the configuration names is not read, as [`git_config_files::rules_files`] says.
-/// - `OutsideRoot`: paths are asked for, and the current directory is not in the work tree.
+/// - `OutsideRoot`: the current directory is not in the work tree, and paths are asked for, or the directory is meant where none are.
 /// - `PathSpec`, `OutsidePath`, `Prefix`: the first path that is no path spec, leads out of the work tree, or is from a directory whose
 ///   bytes would mean something else in front of it.
 /// - `SubmoduleCase`: the options are for deletion, names compare without regard to case, and there is a submodule.

@@ -302,7 +302,9 @@ pub fn ordered(alloc: Global, path: &[u8], entries: Entries) -> Result<State, Gi
 /// The index of the entries of the file at `path`, each as it is seen in the work tree.
 ///
 /// An entry that stands for all that is beneath a directory is refused where something is in its place. Where `looks` says so, a skipped
-/// entry with something in its place is taken as one that is not skipped; there is one look at each.
+/// entry with something in its place is taken as one that is not skipped. Of each such entry there are at most two looks: one at the
+/// directory above it, unless that is the top or is known to be there, and one at the entry, unless that directory is gone. Beneath the
+/// last directory that was looked at there is none, if that is gone. Only what was looked at last is known.
 ///
 /// See docs/DIFFERENCES.md#sparse-index and docs/DECISIONS.md#look-at-skipped.
 pub fn index_seen<W: Worktree>(

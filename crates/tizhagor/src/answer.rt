@@ -225,8 +225,9 @@ fn reply_asked<W: CountsFaults, O: Owners, D: Stats, I: Interrupt>(
 /// A work tree is read where it is the user's or safe, as `owners` tell whose it is. What `diff-files` asks of nodes besides, `stats` tell.
 ///
 /// With a status above 1 nothing goes to `out`, but where `out` itself refused bytes, a front of them. With each status above 1 a line goes
-/// to `err`, with 129 the usage behind it, with 0 none; that of a fault names the path of the worktree's first one; a refusal of `err` changes no byte of `out`, and no status but to 128. The
-/// interrupt is asked before each directory is read.
+/// to `err`, with 129 the usage behind it, with 0 none; that of a fault names the path of the worktree's first one. A refusal of `err`
+/// changes no byte of `out`, and no status but to 128. Where a work tree is walked, the interrupt is asked before each directory is read:
+/// by `report`, `plan`, `state` and `clean`, and by `ls-files` with `-o` or `-k`. `modules`, `diff-files` and `check-ignore` never ask it.
 ///
 /// See docs/DECISIONS.md#status-of-an-interrupt.
 pub fn answer_here<W: NamesFault, O: Owners, D: Stats, I: Interrupt, S: Sink, E: Sink>(
