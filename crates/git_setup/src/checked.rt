@@ -1,12 +1,13 @@
 //! A work tree whose ignore rules are asked about paths.
-ghost use Rattle.std.specs.Prelude.{◌≡◌, None, codes, IfOk};
+ghost use Rattle.std.specs.Prelude.{◌≡◌, None, Ok, codes, IfOk};
 ghost use Rattle.git_config_lite.specs.Lookups.{string};
 ghost use Rattle.git_setup.specs.Checked as words;
 ghost use Rattle.git_setup.specs.Finds.{Finds};
 
 use crate::error::GitRefusal;
 use crate::found::prefix_in;
-use crate::globals::marked;
+use crate::globals::{ended, marked};
+use crate::parts::real_or_same;
 use crate::reading::{Read, read_here};
 use crate::switches::switches_in;
 use git_config_files::{Rules, RulesFile, read_stack, rules_files};
@@ -21,8 +22,8 @@ use worktree_fs::{Worktree, from_directory};
 pub struct NamedFile {
     /// The file, as git names it.
     pub name: Bytes,
-    /// What stands there, without the byte order mark at the front, if there is one; where a second one follows it, that has another in
-    /// front, which a search takes away.
+    /// Its rules as a search takes them, which skips a byte order mark at their front: without that of the file, if it has one; with
+    /// another in front where a second one follows it, which belongs to the first rule; and with a line feed behind the last line.
     pub bytes: Bytes,
 }
 
@@ -53,13 +54,13 @@ pub struct Checked {
     pub quote_path: bool,
 }
 
-/// The rules of a file by a name, as they were before its byte order mark went.
+/// The rules of a file by a name, as a search takes them.
 fn named(alloc: Global, name: &[u8], file: &RulesFile) -> Result<NamedFile, OutOfMemory>
     ensures { IfOk result (λ rules. rules ≡ words.named name.now file.now) }
 {
     Ok(NamedFile {
         name: Bytes::from_slice(alloc, name)?,
-        bytes: marked(alloc, Bytes::from_slice(alloc, file.bytes.as_bytes())?)?,
+        bytes: marked(alloc, ended(alloc, file.bytes.as_bytes())?)?,
     })
 }
 
@@ -111,46 +112,55 @@ fn user_rules(
     Ok(Some(named(alloc, name.as_bytes(), file)?))
 }
 
-/// How git names the file of the repository's rules, which is at a path.
-fn repository_name(alloc: Global, places: &Places, path: &[u8]) -> Result<Bytes, OutOfMemory>
-    ensures { IfOk result (λ name. name ≡ words.repository_name places.now path.now) }
+/// How git names the file of the repository's rules.
+fn repository_name<W: Worktree>(
+    alloc: Global,
+    worktree: &mut W,
+    places: &Places,
+) -> Result<Bytes, GitRefusal>
+    ensures { Finds W.Worktree worktree.old worktree.new
+        (λ t. Ok (words.repository_name t places.now)) result }
 {
     let usual = dot_git(alloc, places.root.as_bytes())?;
     if places.common_dir.as_bytes() == usual.as_bytes() {
-        return Bytes::from_slice(alloc, b".git/info/exclude");
+        return Ok(Bytes::from_slice(alloc, b".git/info/exclude")?);
     }
-    Bytes::from_slice(alloc, path)
+    let common = real_or_same(alloc, worktree, places.common_dir.as_bytes())?;
+    Ok(from_directory(alloc, b"info/exclude", common.as_bytes())?)
 }
 
 /// The rules of the repository, if there are some.
-fn repository_rules(
+fn repository_rules<W: Worktree>(
     alloc: Global,
+    worktree: &mut W,
     places: &Places,
     file: &Option<RulesFile>,
-) -> Result<Option<NamedFile>, OutOfMemory>
-    ensures { IfOk result (λ rules. rules ≡ words.repository_rules places.now file.now) }
+) -> Result<Option<NamedFile>, GitRefusal>
+    ensures { Finds W.Worktree worktree.old worktree.new
+        (λ t. Ok (words.repository_rules t places.now file.now)) result }
 {
     let Some(file) = file else {
         return Ok(None);
     };
-    let name = repository_name(alloc, places, file.path.as_bytes())?;
+    let name = repository_name(alloc, worktree, places)?;
     Ok(Some(named(alloc, name.as_bytes(), file)?))
 }
 
 /// The rules outside the work tree, by the names that git prints.
 ///
 /// See docs/DIFFERENCES.md#check-ignore-names.
-fn outer_of(
+fn outer_of<W: Worktree>(
     alloc: Global,
+    worktree: &mut W,
     places: &Places,
     config: &File,
     rules: &Rules,
-) -> Result<OuterFiles, OutOfMemory>
-    ensures { IfOk result
-        (λ outer. outer ≡ words.outer_of places.now config.now.sections rules.now) }
+) -> Result<OuterFiles, GitRefusal>
+    ensures { Finds W.Worktree worktree.old worktree.new
+        (λ t. Ok (words.outer_of t places.now config.now.sections rules.now)) result }
 {
     let user = user_rules(alloc, places.root.as_bytes(), config, &rules.user)?;
-    let repository = repository_rules(alloc, places, &rules.repository)?;
+    let repository = repository_rules(alloc, worktree, places, &rules.repository)?;
     Ok(OuterFiles { user, repository })
 }
 
@@ -192,17 +202,18 @@ fn read_by<W: Worktree>(
 }
 
 /// A work tree by what was read of it.
-fn checked_with(
+fn checked_with<W: Worktree>(
     alloc: Global,
+    worktree: &mut W,
     places: &Places,
     around: &Surroundings,
     read: Read,
     rules: &Rules,
-) -> Result<Checked, OutOfMemory>
-    ensures { IfOk result
-        (λ checked. checked ≡ words.checked_with places.now around.now read rules.now) }
+) -> Result<Checked, GitRefusal>
+    ensures { Finds W.Worktree worktree.old worktree.new
+        (λ t. Ok (words.checked_with t places.now around.now read rules.now)) result }
 {
-    let outer = outer_of(alloc, places, &read.stack.file, rules)?;
+    let outer = outer_of(alloc, worktree, places, &read.stack.file, rules)?;
     let root = PathText::from_bytes(alloc, places.root.as_bytes())?;
     let prefix = prefix_in(alloc, root.as_bytes(), around.directory.as_bytes())?;
     let Read {
@@ -251,5 +262,5 @@ pub fn checked_at<W: Worktree>(
 {
     let read = read_by(alloc, worktree, places, around, leaves_index)?;
     let rules = rules_files(alloc, worktree, places, around, &read.stack.file)?;
-    Ok(checked_with(alloc, places, around, read, &rules)?)
+    checked_with(alloc, worktree, places, around, read, &rules)
 }

@@ -7,7 +7,7 @@ use gitbase_core::{Bytes, OutOfMemory};
 use std::alloc::Global;
 
 /// Lines, with a line feed behind the last one too.
-fn ended(alloc: Global, bytes: &[u8]) -> Result<Bytes, OutOfMemory>
+pub fn ended(alloc: Global, bytes: &[u8]) -> Result<Bytes, OutOfMemory>
     ensures { IfOk result (λ rules. rules ≡ words.ended bytes.now) }
 {
     let mut rules = Bytes::from_slice(alloc, bytes)?;

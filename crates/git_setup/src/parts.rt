@@ -46,8 +46,8 @@ pub fn is_for_deletion(options: &SetupOptions) -> bool
     options.for_deletion.is_some()
 }
 
-/// The path of a configuration without its links, or as it is where nothing is there.
-fn real_config<W: Worktree>(
+/// A path without its links, or as it is where nothing is there.
+pub fn real_or_same<W: Worktree>(
     alloc: Global,
     worktree: &mut W,
     path: &[u8],
@@ -84,7 +84,7 @@ fn real_configs<W: Worktree>(
 {
     let mut configs = Vec::new(alloc);
     for file in files {
-        let path = real_config(alloc, worktree, file.path.as_bytes())?;
+        let path = real_or_same(alloc, worktree, file.path.as_bytes())?;
         push(&mut configs, file.source, path)?;
     }
     Ok(Configs::from_vec(configs))

@@ -142,6 +142,8 @@ check-ignore b^/w^^^1^^|\
 check-ignore -v x.u n /w/x.v^/w^^/w/.git/config=[core]~excludesFile=u~;/w/u=*.u~;/w/.git/info/exclude=n~/*.v~^0^u:1:*.u\tx.u~.git/info/exclude:1:n\tn~.git/info/exclude:2:/*.v\t/w/x.v~^|\
 check-ignore -v x.u^/w^HOME=/h^/h/.config/git/ignore=~*.u~^0^/h/.config/git/ignore:2:*.u\tx.u~^|\
 check-ignore -v a^/w^^/w/.git/info/exclude=a~^1^^|\
+check-ignore -v x n^/w^^/w/.git/info/exclude=x\r~n\r^0^.git/info/exclude:1:x\tx~.git/info/exclude:2:n\tn~^|\
+check-ignore -v x^/w/n^^/w/n/.git=gitdir: /w/.git/worktrees/t~;/w/.git/worktrees/t/HEAD=ref: refs/heads/t~;/w/.git/worktrees/t/commondir=../..~;/w/.git/info/exclude=x~;@/w/.git/worktrees/t=11^0^/w/.git/info/exclude:1:x\tx~^|\
 check-ignore -v --no-index a^/w^^/w/.git/info/exclude=a~^0^.git/info/exclude:1:a\ta~^|\
 check-ignore \xc3\xa9.o^/w^^^0^\"\\303\\251.o\"~^|\
 check-ignore \xc3\xa9.o^/w^^/w/.git/config=[core]~quotePath=no~^0^\xc3\xa9.o~^|\
