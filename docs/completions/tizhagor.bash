@@ -21,7 +21,7 @@ _tizhagor_options() {
     clean) echo "-n --dry-run --no-dry-run -d -x -X -e --exclude= -f --force --no-force -q --quiet --no-quiet -h --help" ;;
     diff-files) echo "--raw --name-status --name-only -z -q --exit-code --no-exit-code --quiet --no-quiet
         --ignore-submodules --ignore-submodules= -h --help" ;;
-    check-ignore) echo "-v --verbose --no-verbose -n --non-matching --no-non-matching -q --quiet --no-quiet --no-index --index -h --help" ;;
+    check-ignore) echo "-v --verbose --no-verbose -n --non-matching --no-non-matching -q --quiet --no-quiet --stdin --no-stdin -z --no-index --index -h --help" ;;
     *) echo "-C -h --help --version" ;;
     esac
 }

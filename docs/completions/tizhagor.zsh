@@ -76,6 +76,8 @@ _tizhagor() {
         '--no-non-matching[takes -n back]'
         '(-q --quiet -v --verbose)'{-q,--quiet}'[nothing is written]'
         '--no-quiet[takes -q back]'
+        '(--stdin --no-stdin)'{--stdin,--no-stdin}'[the paths of the standard input, or not]'
+        '-z[with --stdin: NULs in place of line feeds]'
         '(--no-index --index)'{--no-index,--index}'[the index is left aside, or asked]'
     )
     help=('(- *)'{-h,--help}'[the help text]')

@@ -8,3 +8,5 @@ pub mod Outer
 pub mod Deciding
 pub mod Lines
 pub mod Checked
+pub mod Unquoted
+pub mod Input

@@ -91,14 +91,22 @@ name_in root source Overrides = source
 name_in root source (Directory depth) = from_root root source
 name_in root source Globals = source
 
--- a path, in quotes where it needs them
+-- a path, in quotes where it needs them; with `-z` as it is
+abbrev pub name_text : Checking → List ℕ → List ℕ
+name_text c path = if c.ends_in_nul then path else quoted c.quote_path path
+
+-- a byte between fields or behind them; with `-z` a NUL stands in its place
+abbrev pub or_nul : Checking → ℕ → ℕ
+or_nul c byte = if c.ends_in_nul then 0 else byte
+
+-- a path and the line feed that ends its line
 abbrev pub path_text : Checking → List ℕ → List ℕ
-path_text c path = quoted c.quote_path path ++ 10 ∷ []
+path_text c path = name_text c path ++ or_nul c 10 ∷ []
 
 -- the rule that decides about a path: where it was read, its line and its pattern, parted by colons
 abbrev pub rule_text : Checking → List ℕ → FoundRule → List ℕ → List ℕ
 rule_text c root rule pattern =
-    quoted c.quote_path (name_in root rule.source rule.group) ++ 58 ∷ decimal rule.line ++ 58 ∷ pattern ++ 9 ∷ []
+    name_text c (name_in root rule.source rule.group) ++ or_nul c 58 ∷ decimal rule.line ++ or_nul c 58 ∷ pattern ++ or_nul c 9 ∷ []
 
 -- a path, and behind a tab before it the rule
 abbrev pub rule_line : Checking → List ℕ → List ℕ → FoundRule → List ℕ → List ℕ
@@ -106,7 +114,7 @@ rule_line c root path rule pattern = rule_text c root rule pattern ++ path_text 
 
 -- a path about which none decides
 abbrev pub unmatched_line : Checking → List ℕ → List ℕ
-unmatched_line c text = if c.non_matching then codes "::\t" ++ path_text c text else []
+unmatched_line c text = if c.non_matching then or_nul c 58 ∷ or_nul c 58 ∷ or_nul c 9 ∷ path_text c text else []
 
 -- with `-v`
 abbrev pub verbose_line : Names → List ℕ → OuterRules → Checking → List ℕ → Option FoundRule → List ℕ

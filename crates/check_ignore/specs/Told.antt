@@ -15,6 +15,7 @@ unsupported why text = (codes "check-ignore is not supported with " ++ why ++ co
 
 -- what git refuses too in git's words
 abbrev pub told : List ℕ → Stop → List ℕ
+told root stops.BadQuotes = codes "line is badly quoted"
 told root stops.Empty = codes "empty string is not a valid pathspec. please use . instead if you meant to match all paths"
 told root (stops.Outside text) = outside root text
 told root (stops.Beyond text) = codes "pathspec '" ++ text ++ codes "' is beyond a symbolic link"

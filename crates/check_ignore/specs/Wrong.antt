@@ -12,7 +12,6 @@ wrong_text wrongs.NoPath = codes "no path specified"
 wrong_text wrongs.QuietOfMany = codes "--quiet is only valid with a single pathname"
 wrong_text wrongs.QuietAndVerbose = codes "cannot have both --quiet and --verbose"
 wrong_text wrongs.NonMatchingAlone = codes "--non-matching is only valid with --verbose"
-wrong_text wrongs.Stdin = codes "check-ignore is not supported with --stdin"
 
 -- paths come from the words, or from the standard input, where a NUL may end them
 abbrev pub wrong_paths : Checking → ℕ → Option WrongCheck
@@ -28,7 +27,6 @@ wrong_writing c count =
     if c.quiet && nat_lt 1 count then Some wrongs.QuietOfMany
     else if c.quiet && c.verbose then Some wrongs.QuietAndVerbose
     else if c.non_matching && not c.verbose then Some wrongs.NonMatchingAlone
-    else if c.stdin then Some wrongs.Stdin
     else None
 
 -- the first that is wrong, in the order in which git looks

@@ -26,7 +26,7 @@ pub struct Answered {
 }
 
 /// Nothing is written, and no rule decides; takes no memory.
-fn nothing(alloc: Global) -> Answered
+pub fn nothing(alloc: Global) -> Answered
     ensures { result ≡ words.nothing }
 {
     Answered {
@@ -36,7 +36,7 @@ fn nothing(alloc: Global) -> Answered
 }
 
 /// Adds what is answered of one path.
-fn add_answer(alloc: Global, done: &mut Answered, now: &Answered) -> Result<(), OutOfMemory>
+pub fn add_answer(alloc: Global, done: &mut Answered, now: &Answered) -> Result<(), OutOfMemory>
     ensures { OnOk result (done.new ≡ words.with_answer done.old now.now) }
 {
     done.text.extend(alloc, now.text.as_bytes())?;
@@ -132,8 +132,6 @@ fn answers<W: Worktree>(
 ///
 /// - `Fault`: the worktree failed, which it counted. No fault reads as "nothing is there".
 /// - `OutOfMemory`: memory was refused.
-///
-/// See docs/DIFFERENCES.md#check-ignore-forms.
 #[tactic(auto, unfolding(crate::specs::Checked::checked))]
 pub fn check_ignore<W: Worktree>(
     alloc: Global,

@@ -11,9 +11,10 @@ pub struct Checking {
     pub verbose: bool,
     /// `-n`: the paths too that no rule decides about.
     pub non_matching: bool,
-    /// `--stdin`; not answered here either.
+    /// `--stdin`: the paths are those of an input.
     pub stdin: bool,
-    /// `-z`; not answered here, as [`wrong_in`](crate::wrong_in) says.
+    /// `-z`: NULs end the lines of the input, and in place of line feeds, colons and tabs what is
+    /// written, in which nothing is quoted.
     pub ends_in_nul: bool,
     /// Whether bytes above 0x7f are quoted, as `core.quotePath` says.
     pub quote_path: bool,

@@ -44,13 +44,32 @@ fn add_number(alloc: Global, text: &mut Vec<u8>, number: usize) -> Result<(), Ou
     Ok(())
 }
 
-/// Adds a path in quotes, where it needs them, and a line feed.
+/// A byte that is written, or with `-z` a NUL in its place.
+fn or_nul(checking: &Checking, byte: u8) -> u8
+    ensures { result ≡ words.or_nul checking.now byte }
+{
+    if checking.ends_in_nul { 0 } else { byte }
+}
+
+/// Adds a path in quotes, where it needs them; with `-z` as it is.
+fn add_name(text: &mut Vec<u8>, checking: &Checking, path: &[u8]) -> Result<(), OutOfMemory>
+    ensures { OnOk result (text.new.items ≡ text.old.items
+        ++ words.name_text checking.now path.now) }
+{
+    if checking.ends_in_nul {
+        text.extend_from_slice(path)?;
+        return Ok(());
+    }
+    add_quoted(text, path, checking.quote_path)
+}
+
+/// Adds a path and what ends its line.
 fn add_path(text: &mut Vec<u8>, checking: &Checking, path: &[u8]) -> Result<(), OutOfMemory>
     ensures { OnOk result (text.new.items ≡ text.old.items
         ++ words.path_text checking.now path.now) }
 {
-    add_quoted(text, path, checking.quote_path)?;
-    text.push(b'\n')?;
+    add_name(text, checking, path)?;
+    text.push(or_nul(checking, b'\n'))?;
     Ok(())
 }
 
@@ -66,12 +85,12 @@ fn add_rule(
     ensures { OnOk result (text.new.items ≡ text.old.items
         ++ words.rule_text checking.now root.now rule.now pattern.now) }
 {
-    add_quoted(text, name_in(root, rule), checking.quote_path)?;
-    text.push(b':')?;
+    add_name(text, checking, name_in(root, rule))?;
+    text.push(or_nul(checking, b':'))?;
     add_number(alloc, text, rule.line)?;
-    text.push(b':')?;
+    text.push(or_nul(checking, b':'))?;
     text.extend_from_slice(pattern)?;
-    text.push(b'\t')?;
+    text.push(or_nul(checking, b'\t'))?;
     Ok(())
 }
 
@@ -101,7 +120,9 @@ fn unmatched_line(alloc: Global, checking: &Checking, path: &[u8]) -> Result<Byt
     if !checking.non_matching {
         return Ok(Bytes::from_vec(text));
     }
-    text.extend_from_slice(b"::\t")?;
+    text.push(or_nul(checking, b':'))?;
+    text.push(or_nul(checking, b':'))?;
+    text.push(or_nul(checking, b'\t'))?;
     add_path(&mut text, checking, path)?;
     Ok(Bytes::from_vec(text))
 }

@@ -10,6 +10,9 @@ pub enum Stop {
     /// The index has directories in the place of what they hold; not answered here.
     #[error("SparseIndex")]
     SparseIndex,
+    /// A line of the input begins with a double quote, and is no path in quotes.
+    #[error("BadQuotes")]
+    BadQuotes,
     /// A path has no bytes.
     #[error("Empty")]
     Empty,

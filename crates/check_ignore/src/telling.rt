@@ -57,6 +57,7 @@ pub fn told(alloc: Global, root: &[u8], stop: &Stop) -> Result<Bytes, OutOfMemor
     ensures { IfOk result (λ told. told ≡ words.told root.now stop.now) }
 {
     match stop {
+        Stop::BadQuotes => Bytes::from_slice(alloc, b"line is badly quoted"),
         Stop::Empty => Bytes::from_slice(
             alloc,
             b"empty string is not a valid pathspec. \

@@ -4,7 +4,7 @@ ghost use Rattle.check_ignore.specs.Wrong as words;
 
 use crate::checking::Checking;
 
-/// Why nothing is asked: git refuses the words, or they are not answered here.
+/// Why nothing is asked: git refuses the words.
 #[derive(Clone, Copy, Debug, PartialEq, Eq)]
 pub enum WrongCheck {
     /// `--stdin` with paths.
@@ -19,12 +19,10 @@ pub enum WrongCheck {
     QuietAndVerbose,
     /// `-n` without `-v`.
     NonMatchingAlone,
-    /// `--stdin`, which is not answered here.
-    Stdin,
 }
 
 impl WrongCheck {
-    /// What is told of it, behind `fatal: `; of what git refuses too in git's words.
+    /// What git tells of it, behind `fatal: `.
     pub fn text(&self) -> &'static [u8]
         ensures { result.now ≡ words.wrong_text self.now }
     {
@@ -35,7 +33,6 @@ impl WrongCheck {
             WrongCheck::QuietOfMany => b"--quiet is only valid with a single pathname",
             WrongCheck::QuietAndVerbose => b"cannot have both --quiet and --verbose",
             WrongCheck::NonMatchingAlone => b"--non-matching is only valid with --verbose",
-            WrongCheck::Stdin => b"check-ignore is not supported with --stdin",
         }
     }
 }
@@ -73,15 +70,10 @@ fn wrong_writing(checking: &Checking, count: usize) -> Option<WrongCheck>
     if checking.non_matching & !checking.verbose {
         return Some(WrongCheck::NonMatchingAlone);
     }
-    if checking.stdin {
-        return Some(WrongCheck::Stdin);
-    }
     None
 }
 
 /// Why nothing is asked of so many paths, the first reason; none where it is.
-///
-/// See docs/DIFFERENCES.md#check-ignore-forms.
 pub fn wrong_in(checking: &Checking, count: usize) -> Option<WrongCheck>
     ensures { result ≡ words.wrong_in checking.now count }
 {

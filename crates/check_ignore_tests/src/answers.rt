@@ -1,8 +1,9 @@
 //! What git answers of paths; made by `scripts/ask-git-check-ignore` with git version 2.39.5.
 //!
-//! A row has the number of the tree, the directory, the options, parted by `|`, how many paths there are, the paths, parted by `|`, the
-//! status, what git prints to its output, with `$` in the place of each LF, and what stands behind `fatal: ` in what it prints besides. A
-//! tree has the rules outside the work tree, parted by `;`: `R` is the repository's, `U` the user's, each with its name and its text; the
+//! A row has the number of the tree, the directory, the options, parted by `|`, how many paths there are, the paths, parted by `|`, or
+//! with `--stdin` what is given on the standard input, the status, what git prints to its output, with `$` in the place of each LF, and what
+//! stands behind `fatal: ` in what it prints besides. Where git refuses a line of the input, what it prints of the lines before is left out.
+//! A tree has the rules outside the work tree, parted by `;`: `R` is the repository's, `U` the user's, each with its name and its text; the
 //! paths of the index: `m` is that of a submodule; and its steps: `d` is a directory, `f` a file with its text, `x` one with its bytes in
 //! hexadecimal digits, and `l` a link.
 
@@ -62,6 +63,83 @@ pub const ROWS: &[u8] = b"\
 0^^^1^zz*^1^^\n\
 0^^^1^top*^1^^\n\
 0^^-v^1^a?^1^^\n\
+0^^--stdin^0^1.o$nothing$a/b$^0^1.o$a/b$^\n\
+0^^--stdin^0^1.o^0^1.o$^\n\
+0^^--stdin^0^^1^^\n\
+0^^--stdin^0^1.o\r$x\x00y^1^^\n\
+0^^--stdin^0^\"1.o\"$\"a\\057b\" c$\"sp\\040\"$^0^1.o$a/b$sp $^\n\
+0^^--stdin^0^1.o\x00a/b\x00\"top\"\x00^0^1.o$^\n\
+0^^--stdin^0^\"1.o$^128^^line is badly quoted\n\
+0^^--stdin^0^\"\\400\"$^128^^line is badly quoted\n\
+0^^--stdin^0^\"\\x\"^128^^line is badly quoted\n\
+0^^--stdin^0^\"\\1\"^128^^line is badly quoted\n\
+0^^--stdin^0^1.o$$x^128^^empty string is not a valid pathspec. please use . instead if you meant to match all paths\n\
+0^^--stdin^0^../1.o^128^^../1.o: '../1.o' is outside repository at '/w/r'\n\
+0^^--stdin^0^\"top\\000x\"$^0^top$^\n\
+0^^--stdin^0^\"to\x00p\"^128^^line is badly quoted\n\
+0^^--stdin^0^keep.o$tracked.o$^1^^\n\
+0^^-v|-n|--stdin^0^1.o$nothing$a/b$^0^.gitignore:1:*.o\t1.o$::\tnothing$.gitignore:5:a/b\ta/b$^\n\
+0^^-v|-n|--stdin^0^1.o^0^.gitignore:1:*.o\t1.o$^\n\
+0^^-v|-n|--stdin^0^^1^^\n\
+0^^-v|-n|--stdin^0^1.o\r$x\x00y^1^::\t\"1.o\\r\"$::\tx$^\n\
+0^^-v|-n|--stdin^0^\"1.o\"$\"a\\057b\" c$\"sp\\040\"$^0^.gitignore:1:*.o\t1.o$.gitignore:5:a/b\ta/b$.gitignore:11:sp\\ \tsp $^\n\
+0^^-v|-n|--stdin^0^1.o\x00a/b\x00\"top\"\x00^0^.gitignore:1:*.o\t1.o$^\n\
+0^^-v|-n|--stdin^0^\"1.o$^128^^line is badly quoted\n\
+0^^-v|-n|--stdin^0^\"\\400\"$^128^^line is badly quoted\n\
+0^^-v|-n|--stdin^0^\"\\x\"^128^^line is badly quoted\n\
+0^^-v|-n|--stdin^0^\"\\1\"^128^^line is badly quoted\n\
+0^^-v|-n|--stdin^0^1.o$$x^128^^empty string is not a valid pathspec. please use . instead if you meant to match all paths\n\
+0^^-v|-n|--stdin^0^../1.o^128^^../1.o: '../1.o' is outside repository at '/w/r'\n\
+0^^-v|-n|--stdin^0^\"top\\000x\"$^0^.gitignore:2:/top\ttop$^\n\
+0^^-v|-n|--stdin^0^\"to\x00p\"^128^^line is badly quoted\n\
+0^^-v|-n|--stdin^0^keep.o$tracked.o$^0^.gitignore:4:!keep.o\tkeep.o$::\ttracked.o$^\n\
+0^^-z|--stdin^0^1.o$nothing$a/b$^1^^\n\
+0^^-z|--stdin^0^1.o^0^1.o\x00^\n\
+0^^-z|--stdin^0^^1^^\n\
+0^^-z|--stdin^0^1.o\r$x\x00y^1^^\n\
+0^^-z|--stdin^0^\"1.o\"$\"a\\057b\" c$\"sp\\040\"$^1^^\n\
+0^^-z|--stdin^0^1.o\x00a/b\x00\"top\"\x00^0^1.o\x00a/b\x00^\n\
+0^^-z|--stdin^0^\"1.o$^1^^\n\
+0^^-z|--stdin^0^\"\\400\"$^1^^\n\
+0^^-z|--stdin^0^\"\\x\"^1^^\n\
+0^^-z|--stdin^0^\"\\1\"^1^^\n\
+0^^-z|--stdin^0^1.o$$x^1^^\n\
+0^^-z|--stdin^0^../1.o^128^^../1.o: '../1.o' is outside repository at '/w/r'\n\
+0^^-z|--stdin^0^\"top\\000x\"$^1^^\n\
+0^^-z|--stdin^0^\"to\x00p\"^1^^\n\
+0^^-z|--stdin^0^keep.o$tracked.o$^1^^\n\
+0^^-z|-v|-n|--stdin^0^1.o$nothing$a/b$^1^\x00\x00\x001.o$nothing$a/b$\x00^\n\
+0^^-z|-v|-n|--stdin^0^1.o^0^.gitignore\x001\x00*.o\x001.o\x00^\n\
+0^^-z|-v|-n|--stdin^0^^1^^\n\
+0^^-z|-v|-n|--stdin^0^1.o\r$x\x00y^1^\x00\x00\x001.o\r$x\x00\x00\x00\x00y\x00^\n\
+0^^-z|-v|-n|--stdin^0^\"1.o\"$\"a\\057b\" c$\"sp\\040\"$^1^\x00\x00\x00\"1.o\"$\"a\\057b\" c$\"sp\\040\"$\x00^\n\
+0^^-z|-v|-n|--stdin^0^1.o\x00a/b\x00\"top\"\x00^0^.gitignore\x001\x00*.o\x001.o\x00.gitignore\x005\x00a/b\x00a/b\x00\x00\x00\x00\"top\"\x00^\n\
+0^^-z|-v|-n|--stdin^0^\"1.o$^1^\x00\x00\x00\"1.o$\x00^\n\
+0^^-z|-v|-n|--stdin^0^\"\\400\"$^1^\x00\x00\x00\"\\400\"$\x00^\n\
+0^^-z|-v|-n|--stdin^0^\"\\x\"^1^\x00\x00\x00\"\\x\"\x00^\n\
+0^^-z|-v|-n|--stdin^0^\"\\1\"^1^\x00\x00\x00\"\\1\"\x00^\n\
+0^^-z|-v|-n|--stdin^0^1.o$$x^1^\x00\x00\x001.o$$x\x00^\n\
+0^^-z|-v|-n|--stdin^0^../1.o^128^^../1.o: '../1.o' is outside repository at '/w/r'\n\
+0^^-z|-v|-n|--stdin^0^\"top\\000x\"$^1^\x00\x00\x00\"top\\000x\"$\x00^\n\
+0^^-z|-v|-n|--stdin^0^\"to\x00p\"^1^\x00\x00\x00\"to\x00\x00\x00\x00p\"\x00^\n\
+0^^-z|-v|-n|--stdin^0^keep.o$tracked.o$^1^\x00\x00\x00keep.o$tracked.o$\x00^\n\
+0^^-q|--stdin^0^1.o$nothing$a/b$^0^^\n\
+0^^-q|--stdin^0^1.o^0^^\n\
+0^^-q|--stdin^0^^1^^\n\
+0^^-q|--stdin^0^1.o\r$x\x00y^1^^\n\
+0^^-q|--stdin^0^\"1.o\"$\"a\\057b\" c$\"sp\\040\"$^0^^\n\
+0^^-q|--stdin^0^1.o\x00a/b\x00\"top\"\x00^0^^\n\
+0^^-q|--stdin^0^\"1.o$^128^^line is badly quoted\n\
+0^^-q|--stdin^0^\"\\400\"$^128^^line is badly quoted\n\
+0^^-q|--stdin^0^\"\\x\"^128^^line is badly quoted\n\
+0^^-q|--stdin^0^\"\\1\"^128^^line is badly quoted\n\
+0^^-q|--stdin^0^1.o$$x^128^^empty string is not a valid pathspec. please use . instead if you meant to match all paths\n\
+0^^-q|--stdin^0^../1.o^128^^../1.o: '../1.o' is outside repository at '/w/r'\n\
+0^^-q|--stdin^0^\"top\\000x\"$^0^^\n\
+0^^-q|--stdin^0^\"to\x00p\"^128^^line is badly quoted\n\
+0^^-q|--stdin^0^keep.o$tracked.o$^1^^\n\
+0^a^-v|--stdin^0^b$../1.o$\"c\\\"d\\n\"$^0^.gitignore:5:a/b\tb$.gitignore:1:*.o\t../1.o$^\n\
+0^a^-v|--stdin^0^c/$x.o^0^.gitignore:17:/a/c/\tc/$.gitignore:1:*.o\tx.o$^\n\
 0^^^0^^128^^no path specified\n\
 0^^-q^0^^128^^no path specified\n\
 0^^-v^0^^128^^no path specified\n\
@@ -191,6 +269,7 @@ pub const ROWS: &[u8] = b"\
 
 /// What git answers of what is refused here by name.
 pub const REFUSED: &[u8] = b"\
+0^^--stdin^0^nowhere/$^1^^\n\
 0^^--no-index^1^a/^1^^\n\
 0^^^1^:/1.o^0^:/1.o$^\n\
 0^^^1^::1.o^0^::1.o$^\n\

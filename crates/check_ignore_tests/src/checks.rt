@@ -3,7 +3,7 @@ use crate::answers::{REFUSED, ROWS, TREES};
 use crate::given::{checking_of, index_of, leaves_index, outer_of, paths_of};
 use crate::tree::{lines_of, parted, tree_of};
 use bstr::ByteSlice;
-use check_ignore::{Answered, OuterRules, Stop, check_ignore, told, wrong_in};
+use check_ignore::{Answered, OuterRules, Stop, check_asked, told, wrong_in};
 use gitbase_core::{Bytes, State};
 use std::alloc::Global;
 use worktree_fs::MemoryWorktree;
@@ -49,12 +49,15 @@ fn text_of(
     outer: &OuterRules,
     options: &[u8],
     paths: &[Bytes],
+    input: &[u8],
 ) -> Option<Vec<u8>> {
     let checking = checking_of(options);
     if let Some(wrong) = wrong_in(&checking, paths.len()) {
         return answer_text(alloc, b"128", b"", wrong.text());
     }
-    match check_ignore(alloc, tree, b"/w/r", prefix, index, outer, &checking, paths) {
+    match check_asked(
+        alloc, tree, b"/w/r", prefix, index, outer, &checking, paths, input,
+    ) {
         Ok(answered) => answered_text(alloc, &answered),
         Err(stop) => stopped_text(alloc, &stop),
     }
@@ -72,6 +75,7 @@ fn text_in(
     prefix: &[u8],
     options: &[u8],
     paths: &[Bytes],
+    input: &[u8],
 ) -> Option<Vec<u8>> {
     let (outer, rest) = parted(given, b'^');
     let (words, steps) = parted(rest, b'^');
@@ -79,7 +83,9 @@ fn text_in(
     let index = index_of(alloc, words)?;
     let outer = outer_of(alloc, outer)?;
     let mut tree = tree_of(alloc, steps)?;
-    text_of(alloc, &mut tree, prefix, &index, &outer, options, paths)
+    text_of(
+        alloc, &mut tree, prefix, &index, &outer, options, paths, input,
+    )
 }
 
 /// What is answered by the words of a row, and what git says.
@@ -90,7 +96,8 @@ fn both(alloc: Global, row: &[u8]) -> Option<(Vec<u8>, Vec<u8>)> {
     let (count, rest) = parted(rest, b'^');
     let (words, want) = parted(rest, b'^');
     let paths = paths_of(alloc, number_of(count), words)?;
-    let text = text_in(alloc, tree_at(number)?, prefix, options, &paths)?;
+    let input = lines_of(alloc, words)?;
+    let text = text_in(alloc, tree_at(number)?, prefix, options, &paths, &input)?;
     Some((text, lines_of(alloc, want)?))
 }
 

@@ -5,7 +5,7 @@ use Rattle.std.specs.List.{flat_map}
 unfoldable pub check : List ℕ
 check =
     flat_map (λ (line : List ℕ). line ++ 10 ∷ [])
-    (codes "usage: tizhagor [-C DIR] check-ignore [OPTION..] [--] PATH.."
+    (codes "usage: tizhagor [-C DIR] check-ignore [OPTION..] [--] [PATH..]"
     ∷ codes ""
     ∷ codes "Writes each PATH that an ignore rule excludes, as git check-ignore does, in the form in"
     ∷ codes "which it is written. A PATH is from the current directory, and need not be there. The"
@@ -14,7 +14,11 @@ check =
     ∷ codes "  -v, --verbose         the rule that decides before each path: its file, its line and its"
     ∷ codes "                        pattern; of a rule with ! in front too"
     ∷ codes "  -n, --non-matching    with -v: the paths too that no rule decides about"
-    ∷ codes "  -q, --quiet           of one path: nothing is written"
+    ∷ codes "  -q, --quiet           of one path, or with --stdin: nothing is written"
+    ∷ codes "  --stdin               the paths of the standard input, one a line, and no PATH; git's"
+    ∷ codes "                        way of quoting paths is understood there"
+    ∷ codes "  -z                    with --stdin: NULs end its lines, and part and end what is written;"
+    ∷ codes "                        nothing is quoted"
     ∷ codes "  --no-index            paths of the index too: else no rule excludes these"
     ∷ codes "  -h, --help            this text"
     ∷ codes ""

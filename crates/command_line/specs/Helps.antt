@@ -17,7 +17,7 @@ usage_of (topics.Of verbs.State) = codes "usage: tizhagor [-C DIR] state [OPTION
 usage_of (topics.Of verbs.Files) = codes "usage: tizhagor [-C DIR] ls-files [OPTION..] [--] [PATH..]\n"
 usage_of (topics.Of verbs.Clean) = codes "usage: tizhagor clean -n [OPTION..] [--] [PATH..]\n"
 usage_of (topics.Of verbs.Compare) = codes "usage: tizhagor [-C DIR] diff-files [OPTION..] [-- PATH..]\n"
-usage_of (topics.Of verbs.Check) = codes "usage: tizhagor [-C DIR] check-ignore [OPTION..] [--] PATH..\n"
+usage_of (topics.Of verbs.Check) = codes "usage: tizhagor [-C DIR] check-ignore [OPTION..] [--] [PATH..]\n"
 
 -- lines, each with a line feed
 abbrev text : List (List ℕ) → List ℕ

@@ -2,7 +2,7 @@
 ghost use Rattle.std.specs.Prelude.{◌≡◌};
 ghost use Rattle.command_line.specs.CheckHelp as helps;
 
-const CHECK: &[u8] = b"usage: tizhagor [-C DIR] check-ignore [OPTION..] [--] PATH..
+const CHECK: &[u8] = b"usage: tizhagor [-C DIR] check-ignore [OPTION..] [--] [PATH..]
 
 Writes each PATH that an ignore rule excludes, as git check-ignore does, in the form in
 which it is written. A PATH is from the current directory, and need not be there. The
@@ -11,7 +11,11 @@ status is 0 where a path is excluded, and 1 where none is.
   -v, --verbose         the rule that decides before each path: its file, its line and its
                         pattern; of a rule with ! in front too
   -n, --non-matching    with -v: the paths too that no rule decides about
-  -q, --quiet           of one path: nothing is written
+  -q, --quiet           of one path, or with --stdin: nothing is written
+  --stdin               the paths of the standard input, one a line, and no PATH; git's
+                        way of quoting paths is understood there
+  -z                    with --stdin: NULs end its lines, and part and end what is written;
+                        nothing is quoted
   --no-index            paths of the index too: else no rule excludes these
   -h, --help            this text
 

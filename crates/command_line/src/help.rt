@@ -264,7 +264,8 @@ pub fn usage_of(topic: Topic) -> &'static [u8]
         Topic::Of(Verb::Files) => b"usage: tizhagor [-C DIR] ls-files [OPTION..] [--] [PATH..]\n",
         Topic::Of(Verb::Clean) => b"usage: tizhagor clean -n [OPTION..] [--] [PATH..]\n",
         Topic::Of(Verb::Compare) => b"usage: tizhagor [-C DIR] diff-files [OPTION..] [-- PATH..]\n",
-        Topic::Of(Verb::Check) => b"usage: tizhagor [-C DIR] check-ignore [OPTION..] [--] PATH..\n",
+        Topic::Of(Verb::Check) =>
+            b"usage: tizhagor [-C DIR] check-ignore [OPTION..] [--] [PATH..]\n",
     }
 }
 

@@ -57,6 +57,7 @@ asks_then w w0 w1 w2 first next =
 
 stop_is_fault : (root : List ℕ) (e : Stop) → of_stop root e ≡ fault → e ≡ stops.Fault
 stop_is_fault root stops.SparseIndex is = absurd cc
+stop_is_fault root stops.BadQuotes is = absurd cc
 stop_is_fault root stops.Empty is = absurd cc
 stop_is_fault root (stops.Magic text) is = absurd cc
 stop_is_fault root (stops.Elsewhere text) is = absurd cc
@@ -72,6 +73,7 @@ stop_is_fault root stops.OutOfMemory is = absurd cc
 
 of_stop-is : (root : List ℕ) (e : Stop) → IsOfFinding (of_stop root e)
 of_stop-is root stops.SparseIndex = tt
+of_stop-is root stops.BadQuotes = tt
 of_stop-is root stops.Empty = tt
 of_stop-is root (stops.Magic text) = tt
 of_stop-is root (stops.Elsewhere text) = tt

@@ -148,14 +148,16 @@ task_of takes_colors (commands.Compare asked comparing) = compare_of comparing a
 task_of takes_colors (commands.Help topic) = offer_of (help_of topic)
 task_of takes_colors commands.Version = offer_of version
 
--- where the program was called: the current directory and the variables of the environment, and whether the output takes colours
+-- where the program was called: the current directory and the variables of the environment, whether the output takes colours, and what
+-- the input holds
 pub record Place : Type 0 where
   pub current : List ℕ
   pub variables : List Variable
   pub takes_colors : Bool
+  pub input : List ℕ
 
-abbrev pub placed : List ℕ → List Variable → Bool → Place
-placed current variables takes_colors = record { current = current; variables = variables; takes_colors = takes_colors }
+abbrev pub placed : List ℕ → List Variable → Bool → List ℕ → Place
+placed current variables takes_colors input = record { current = current; variables = variables; takes_colors = takes_colors; input = input }
 
 abbrev pub found_at : Place → Option (List ℕ) → Asked → Names → Owned → Result Found HereRefusal
 found_at place directory asked t owned = here_in t owned place.current place.variables directory asked
@@ -164,7 +166,7 @@ abbrev pub word_at : Place → Option (List ℕ) → OwnWord → Asked → Names
 word_at place directory word asked t owned = word_in t owned place.current place.variables directory asked word
 
 abbrev pub answered_at : Place → Option (List ℕ) → CheckAsked → Asked → Names → Owned → Result Reply HereRefusal
-answered_at place directory wants asked t owned = answered_in t owned place.current place.variables directory asked wants
+answered_at place directory wants asked t owned = answered_in t owned place.current place.variables directory asked wants place.input
 
 -- what a task is answered with; `diff-files` is answered beside these
 abbrev pub AnswersTask : {W I O : Type 0} → WorktreeOf W → InterruptOf I → OwnersOf O → W → W → I → I → O → O → Place → Option (List ℕ) → Result Reply HereRefusal → Task → Type 0

@@ -1,7 +1,7 @@
 -- What `check-ignore` says of a work tree.
 use Rattle.std.specs.Prelude.{ℕ, List, [], not, length, Option, Some, None, Result, Ok, Err}
 use Rattle.gitbase_core.specs.Steps.{and_then}
-use Rattle.check_ignore.specs.Checked.{checked}
+use Rattle.check_ignore.specs.Input.{asked_or_read}
 use Rattle.check_ignore.specs.Wrong.{wrong_in}
 use Rattle.check_ignore.specs.declared.answer.Answered.{Answered}
 use Rattle.check_ignore.specs.declared.checking.Checking.{Checking}
@@ -47,25 +47,26 @@ rules_of (Some file) = Some (record { name = file.name; bytes = file.bytes })
 abbrev pub outer_of : OuterFiles → OuterRules
 outer_of files = record { user = rules_of files.user; repository = rules_of files.repository }
 
--- what is said of paths, by what was read
-abbrev pub said_of : Names → CheckAsked → List (List ℕ) → Checked → Result Reply HereRefusal
-said_of t wants paths here = as_reply here.root (checked t here.root here.prefix here.index (outer_of here.outer) (checking_by wants.checking here) paths)
+-- what is said of paths, of the words or of an input, by what was read
+abbrev pub said_of : Names → CheckAsked → List (List ℕ) → List ℕ → Checked → Result Reply HereRefusal
+said_of t wants paths input here =
+    as_reply here.root (asked_or_read t here.root here.prefix here.index (outer_of here.outer) (checking_by wants.checking here) paths input)
 
 abbrev pub checked_in : Names → Placed → CheckAsked → Result Checked HereRefusal
 checked_in t placed wants = as_git (setups.checked_in t placed.places placed.around wants.leaves_index)
 
-abbrev pub answered_by : Names → Placed → Asked → CheckAsked → Result Reply HereRefusal
-answered_by t placed asked wants = and_then (λ (here : Checked). said_of t wants asked.paths.items here) (checked_in t placed wants)
+abbrev pub answered_by : Names → Placed → Asked → CheckAsked → List ℕ → Result Reply HereRefusal
+answered_by t placed asked wants input = and_then (λ (here : Checked). said_of t wants asked.paths.items input here) (checked_in t placed wants)
 
-abbrev pub wrong_or : Names → Placed → Asked → CheckAsked → Option WrongCheck → Result Reply HereRefusal
-wrong_or t placed asked wants None = answered_by t placed asked wants
-wrong_or t placed asked wants (Some wrong) = Err (errors.Unchecked (reasons.Wrong wrong))
+abbrev pub wrong_or : Names → Placed → Asked → CheckAsked → List ℕ → Option WrongCheck → Result Reply HereRefusal
+wrong_or t placed asked wants input None = answered_by t placed asked wants input
+wrong_or t placed asked wants input (Some wrong) = Err (errors.Unchecked (reasons.Wrong wrong))
 
-abbrev pub answered_unless : Names → Placed → Asked → CheckAsked → Result Reply HereRefusal
-answered_unless t placed asked wants = wrong_or t placed asked wants (wrong_in wants.checking (length asked.paths.items))
+abbrev pub answered_unless : Names → Placed → Asked → CheckAsked → List ℕ → Result Reply HereRefusal
+answered_unless t placed asked wants input = wrong_or t placed asked wants input (wrong_in wants.checking (length asked.paths.items))
 
 -- What is said in the work tree around a directory, or the first refusal: of the work tree, of the words, of what is read, and then of
 -- the paths.
-abbrev pub answered_in : Names → Owned → List ℕ → List Variable → Option (List ℕ) → Asked → CheckAsked → Result Reply HereRefusal
-answered_in t owned current variables directory asked wants =
-    and_then (λ (placed : Placed). answered_unless t placed asked wants) (placed_in t owned current variables directory)
+abbrev pub answered_in : Names → Owned → List ℕ → List Variable → Option (List ℕ) → Asked → CheckAsked → List ℕ → Result Reply HereRefusal
+answered_in t owned current variables directory asked wants input =
+    and_then (λ (placed : Placed). answered_unless t placed asked wants input) (placed_in t owned current variables directory)

@@ -25,3 +25,4 @@ pub mod Answers
 pub mod Output
 pub mod Ends
 pub mod ComparedHere
+pub mod Input

@@ -82,6 +82,7 @@ of_diff differences.OutOfMemory = memory
 -- that nothing is answered of paths in the work tree at `root`
 abbrev pub of_stop : List ℕ → Stop → HereRefusal
 of_stop root stops.SparseIndex = errors.Unchecked (unchecked.Stopped root stops.SparseIndex)
+of_stop root stops.BadQuotes = errors.Unchecked (unchecked.Stopped root stops.BadQuotes)
 of_stop root stops.Empty = errors.Unchecked (unchecked.Stopped root stops.Empty)
 of_stop root (stops.Magic text) = errors.Unchecked (unchecked.Stopped root (stops.Magic text))
 of_stop root (stops.Elsewhere text) = errors.Unchecked (unchecked.Stopped root (stops.Elsewhere text))

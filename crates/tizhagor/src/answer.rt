@@ -1,5 +1,5 @@
 //! The top call.
-ghost use Rattle.std.specs.Prelude.{◌≡◌, ◌≤◌, ◌⊎◌, true, Some, IfOk, IfErr};
+ghost use Rattle.std.specs.Prelude.{[], ◌≡◌, ◌≤◌, ◌⊎◌, true, Some, IfOk, IfErr};
 ghost use Rattle.worktree_fs.specs.Causes.{Increased, NotIncreased};
 ghost use Rattle.worktree_fs.specs.Owners.{Owned};
 ghost use Rattle.worktree_fs.specs.Tree.{Names};
@@ -51,7 +51,7 @@ fn bytes_for<W: CountsFaults, O: Owners, I: Interrupt>(
 ) -> Result<Bytes, HereRefusal>
     ensures { answers.AnswersCall W.Worktree I.Interrupt O.Owners worktree.old worktree.new
         interrupt.old interrupt.new owners.old owners.new
-        (answers.found_at (answers.placed current.now variables.now true)
+        (answers.found_at (answers.placed current.now variables.now true [])
         directory.now (asked_for call asked)) call writing result }
 {
     let asked = asked_for(call, asked);
@@ -76,7 +76,7 @@ fn reply_for<W: CountsFaults, O: Owners, I: Interrupt>(
 ) -> Result<Reply, HereRefusal>
     ensures { SaysPlainly (answers.AnswersCall W.Worktree I.Interrupt O.Owners worktree.old
         worktree.new interrupt.old interrupt.new owners.old owners.new
-        (answers.found_at (answers.placed current.now variables.now true)
+        (answers.found_at (answers.placed current.now variables.now true [])
         directory.now (asked_for call asked)) call writing) result }
 {
     let answer = bytes_for(
@@ -112,12 +112,13 @@ fn reply_of<W: CountsFaults, O: Owners, D: Stats, I: Interrupt>(
     current: &[u8],
     variables: &[Variable],
     takes_colors: bool,
+    input: &[u8],
     directory: &Option<Bytes>,
     command: Command,
 ) -> Result<Reply, HereRefusal>
     ensures { compared.AnswersAny W.Worktree I.Interrupt O.Owners D.Stats worktree.old worktree.new
         interrupt.old interrupt.new owners.old owners.new stats.old stats.new
-        (answers.placed current.now variables.now takes_colors) directory.now result
+        (answers.placed current.now variables.now takes_colors input.now) directory.now result
         (answers.task_of takes_colors command) }
 {
     match command {
@@ -165,7 +166,7 @@ fn reply_of<W: CountsFaults, O: Owners, D: Stats, I: Interrupt>(
             alloc, worktree, owners, interrupt, current, variables, directory, &clean, asked,
         ),
         Command::Check { asked, checking } => check_here(
-            alloc, worktree, owners, current, variables, directory, &asked, &checking,
+            alloc, worktree, owners, current, variables, directory, &asked, &checking, input,
         ),
         Command::Compare { asked, comparing } => compare_here(
             alloc, worktree, owners, stats, current, variables, directory, &asked, &comparing,
@@ -186,10 +187,11 @@ fn reply_asked<W: CountsFaults, O: Owners, D: Stats, I: Interrupt>(
     current: &[u8],
     variables: &[Variable],
     takes_colors: bool,
+    input: &[u8],
 ) -> Result<Reply, HereRefusal>
     ensures { compared.Answers W.Worktree I.Interrupt O.Owners D.Stats worktree.old worktree.new
         interrupt.old interrupt.new owners.old owners.new stats.old stats.new
-        (answers.placed current.now variables.now takes_colors) words.now result }
+        (answers.placed current.now variables.now takes_colors input.now) words.now result }
 {
     let request = request_of(alloc, words)?;
     let directory = request.directory;
@@ -202,6 +204,7 @@ fn reply_asked<W: CountsFaults, O: Owners, D: Stats, I: Interrupt>(
         current,
         variables,
         takes_colors,
+        input,
         &directory,
         request.command,
     )
@@ -209,7 +212,8 @@ fn reply_asked<W: CountsFaults, O: Owners, D: Stats, I: Interrupt>(
 
 /// Answers the words of a command line, called in the directory `current`, an absolute path without links, with these variables of the
 /// environment: writes what they ask for to `out`, or says to `err` why there is nothing of that, and answers the status that
-/// the program is to end with. `takes_colors` says whether `out` takes colours.
+/// the program is to end with. `takes_colors` says whether `out` takes colours. `input` is what the standard input holds; only
+/// `check-ignore` with `--stdin` asks for it, as [`input_for`](crate::input::input_for) says.
 ///
 /// The words are `[-C DIR] report|plan|modules|state|ls-files|clean|diff-files|check-ignore [OPTION..] [--] [PATH..]`, `--help` or `--version`, as [`request_of`] reads them. The
 /// work tree is the one around the directory, and the setup the one that its repository gives, as [`git_setup::setup_here`] finds them.
@@ -236,6 +240,7 @@ pub fn answer_here<W: NamesFault, O: Owners, D: Stats, I: Interrupt, S: Sink, E:
     current: &[u8],
     variables: &[Variable],
     takes_colors: bool,
+    input: &[u8],
     worktree: &mut W,
     owners: &mut O,
     stats: &mut D,
@@ -248,11 +253,11 @@ pub fn answer_here<W: NamesFault, O: Owners, D: Stats, I: Interrupt, S: Sink, E:
     ensures runs { RunsHere S.Sink E.Sink out.old out.new err.old err.new
         (W.first_fault worktree.new) (compared.Answers W.Worktree I.Interrupt O.Owners D.Stats worktree.old worktree.new
         interrupt.old interrupt.new owners.old owners.new stats.old stats.new
-        (answers.placed current.now variables.now takes_colors) words.now) result }
+        (answers.placed current.now variables.now takes_colors input.now) words.now) result }
 
     // Status 0 or 1, but for a report: no fault was counted.
     ensures unfaulted { result ≤ 1 → output.IsUnfaultedHere
-        (answers.placed current.now variables.now takes_colors) words.now
+        (answers.placed current.now variables.now takes_colors input.now) words.now
         (W.faults worktree.old) (W.faults worktree.new) }
 
     // Status 0 or 1: the owners failed at nothing.
@@ -267,10 +272,10 @@ pub fn answer_here<W: NamesFault, O: Owners, D: Stats, I: Interrupt, S: Sink, E:
     ensures output { (t : Names) (owned : Owned)
         → W.told worktree.old ≡ Some t → O.told owners.old ≡ Some owned → result ≤ 1
         → (reply : ReplyOf) × (output.IsOutputHere (W.precomposes worktree.old) t owned
-        (answers.placed current.now variables.now takes_colors) words.now
+        (answers.placed current.now variables.now takes_colors input.now) words.now
         (W.faults worktree.old) (W.faults worktree.new) reply
         ⊎ compared.IsCompared t owned (D.told stats.old)
-        (answers.placed current.now variables.now takes_colors) words.now reply)
+        (answers.placed current.now variables.now takes_colors input.now) words.now reply)
         × IsReplied S.Sink E.Sink out.old out.new err.old err.new reply result }
 
     // Status 129: a word is wrong. And where one is, that is the status, unless memory was wanted, which is told.
@@ -288,16 +293,16 @@ pub fn answer_here<W: NamesFault, O: Owners, D: Stats, I: Interrupt, S: Sink, E:
         → IsToldOf E.Sink err.old err.new memory_line 128 result
         ⊎ IsFatal E.Sink err.old err.new (W.first_fault worktree.new)
         (λ refusal. output.RefusesHere (W.precomposes worktree.old) t owned
-        (answers.placed current.now variables.now takes_colors) words.now refusal
+        (answers.placed current.now variables.now takes_colors input.now) words.now refusal
         ⊎ compared.RefusesCompared t owned (D.told stats.old) (D.faults stats.old)
         (D.faults stats.new)
-        (answers.placed current.now variables.now takes_colors) words.now refusal) }
+        (answers.placed current.now variables.now takes_colors input.now) words.now refusal) }
 
     // And the other way: where no work tree and no setup is found over them, and no fault was counted, the line says why, or that memory
     // was wanted, with its status.
     ensures refused { (t : Names) (owned : Owned) (e : HereRefusal)
         → W.told worktree.old ≡ Some t → O.told owners.old ≡ Some owned
-        → output.IsNotFoundHere t owned (answers.placed current.now variables.now takes_colors)
+        → output.IsNotFoundHere t owned (answers.placed current.now variables.now takes_colors input.now)
         words.now e
         → NotIncreased (W.faults worktree.old) (W.faults worktree.new)
         → NotIncreased (O.faults owners.old) (O.faults owners.new)
@@ -311,7 +316,7 @@ pub fn answer_here<W: NamesFault, O: Owners, D: Stats, I: Interrupt, S: Sink, E:
     ensures complete { (t : Names) (owned : Owned)
         → W.told worktree.old ≡ Some t → O.told owners.old ≡ Some owned
         → output.IsValidHere (W.precomposes worktree.old) t owned
-        (answers.placed current.now variables.now takes_colors) words.now
+        (answers.placed current.now variables.now takes_colors input.now) words.now
         → NotIncreased (W.faults worktree.old) (W.faults worktree.new)
         → NotIncreased (O.faults owners.old) (O.faults owners.new)
         → NotIncreased (I.raised interrupt.old) (I.raised interrupt.new)
@@ -325,7 +330,7 @@ pub fn answer_here<W: NamesFault, O: Owners, D: Stats, I: Interrupt, S: Sink, E:
         → W.told worktree.old ≡ Some t → O.told owners.old ≡ Some owned
         → D.told stats.old ≡ Some told
         → compared.ComparesTo t owned told
-        (answers.placed current.now variables.now takes_colors) words.now wanted
+        (answers.placed current.now variables.now takes_colors input.now) words.now wanted
         → NotIncreased (W.faults worktree.old) (W.faults worktree.new)
         → NotIncreased (O.faults owners.old) (O.faults owners.new)
         → NotIncreased (D.faults stats.old) (D.faults stats.new)
@@ -343,6 +348,7 @@ pub fn answer_here<W: NamesFault, O: Owners, D: Stats, I: Interrupt, S: Sink, E:
         current,
         variables,
         takes_colors,
+        input,
     );
     finish_here(alloc, answer, worktree.first_fault(), out, err)
 }

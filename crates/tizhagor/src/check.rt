@@ -8,7 +8,7 @@ ghost use Rattle.tizhagor.specs.Refusals.{IsOfFinding, of_stop};
 use crate::compare::{Placed, placed_here};
 use crate::refusal::{HereRefusal, Unchecked};
 use crate::reply::Reply;
-use check_ignore::{Answered, Checking, NamedRules, OuterRules, Stop, check_ignore, wrong_in};
+use check_ignore::{Answered, Checking, NamedRules, OuterRules, Stop, check_asked, wrong_in};
 use command_line::CheckAsked;
 use git_places::Variable;
 use git_setup::{Asked, Checked, NamedFile, OuterFiles, checked_at};
@@ -85,10 +85,11 @@ fn check_with<W: Worktree>(
     worktree: &mut W,
     wants: &CheckAsked,
     paths: &[Bytes],
+    input: &[u8],
     here: Checked,
 ) -> Result<Reply, HereRefusal>
     ensures looks { Looks W.Worktree worktree.old worktree.new
-        (λ t. words.said_of t wants.now paths.now here) result }
+        (λ t. words.said_of t wants.now paths.now input.now here) result }
     ensures of { IfErr result IsOfFinding }
 {
     let checking = checking_by(wants.checking, &here);
@@ -103,8 +104,8 @@ fn check_with<W: Worktree>(
     let outer = outer_of(outer);
     let top = root.as_bytes();
     let place = prefix.as_bytes();
-    let answer = check_ignore(
-        alloc, worktree, top, place, &index, &outer, &checking, paths,
+    let answer = check_asked(
+        alloc, worktree, top, place, &index, &outer, &checking, paths, input,
     );
     as_reply(alloc, root, answer)
 }
@@ -136,13 +137,14 @@ fn check_read<W: Worktree>(
     placed: &Placed,
     asked: &Asked,
     wants: &CheckAsked,
+    input: &[u8],
 ) -> Result<Reply, HereRefusal>
     ensures looks { Looks W.Worktree worktree.old worktree.new
-        (λ t. words.answered_by t placed.now asked.now wants.now) result }
+        (λ t. words.answered_by t placed.now asked.now wants.now input.now) result }
     ensures of { IfErr result IsOfFinding }
 {
     let here = checked_here(alloc, worktree, placed, wants)?;
-    check_with(alloc, worktree, wants, &asked.paths, here)
+    check_with(alloc, worktree, wants, &asked.paths, input, here)
 }
 
 /// The same, unless there are no such words.
@@ -152,14 +154,15 @@ fn check_placed<W: Worktree>(
     placed: &Placed,
     asked: &Asked,
     wants: &CheckAsked,
+    input: &[u8],
 ) -> Result<Reply, HereRefusal>
     ensures looks { Looks W.Worktree worktree.old worktree.new
-        (λ t. words.answered_unless t placed.now asked.now wants.now) result }
+        (λ t. words.answered_unless t placed.now asked.now wants.now input.now) result }
     ensures of { IfErr result IsOfFinding }
 {
     match wrong_in(&wants.checking, asked.paths.len()) {
         Some(wrong) => Err(HereRefusal::Unchecked(Unchecked::Wrong(wrong))),
-        None => check_read(alloc, worktree, placed, asked, wants),
+        None => check_read(alloc, worktree, placed, asked, wants, input),
     }
 }
 
@@ -169,7 +172,7 @@ fn check_placed<W: Worktree>(
 ///
 /// - `Absent`, `NotADirectory`: the directory that `-C` names is none.
 /// - `Git`: there is no work tree, or what is read of it is refused, as [`git_setup::places_here`] and [`checked_at`] say.
-/// - `Unchecked`: there are no such words, as [`wrong_in`] says, or nothing is answered, as [`check_ignore()`] says.
+/// - `Unchecked`: there are no such words, as [`wrong_in`] says, or nothing is answered, as [`check_asked`] says.
 /// - `Program(Fault)`: the worktree or the owners failed, and counted it.
 /// - `Program(OutOfMemory)` for want of memory.
 pub fn check_here<W: Worktree, O: Owners>(
@@ -181,11 +184,12 @@ pub fn check_here<W: Worktree, O: Owners>(
     directory: &Option<Bytes>,
     asked: &Asked,
     wants: &CheckAsked,
+    input: &[u8],
 ) -> Result<Reply, HereRefusal>
     ensures { Checks W.Worktree O.Owners worktree.old worktree.new owners.old owners.new
         (λ t owned. words.answered_in t owned current.now variables.now directory.now asked.now
-        wants.now) result }
+        wants.now input.now) result }
 {
     let placed = placed_here(alloc, worktree, owners, current, variables, directory)?;
-    check_placed(alloc, worktree, &placed, asked, wants)
+    check_placed(alloc, worktree, &placed, asked, wants, input)
 }

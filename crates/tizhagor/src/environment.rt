@@ -34,6 +34,10 @@ pub enum NotGiven {
     TooLong,
     /// There is no current directory.
     Directory,
+    /// The standard input cannot be read.
+    Input,
+    /// The standard input has more bytes than are read of it.
+    LongInput,
     /// Want of memory.
     OutOfMemory,
 }

@@ -13,6 +13,7 @@ mod environment;
 mod fault;
 mod files;
 mod found;
+mod input;
 mod lines;
 mod patterns;
 mod progress;
@@ -26,6 +27,7 @@ mod writing;
 use answer::answer_here;
 use diff_files::DiskStats;
 use environment::{Handed, NotGiven, given};
+use input::input_for;
 use progress::Progress;
 use std::alloc::Global;
 use std::io::IsTerminal;
@@ -38,12 +40,15 @@ fn line_of(refused: NotGiven) -> &'static [u8] {
     match refused {
         NotGiven::TooLong => b"fatal: a word or a variable is too long\n",
         NotGiven::Directory => b"fatal: Unable to read current working directory\n",
+        NotGiven::Input => b"fatal: the standard input could not be read\n",
+        NotGiven::LongInput => b"fatal: the standard input has more than 1 GiB\n",
         NotGiven::OutOfMemory => lines::MEMORY,
     }
 }
 
 /// Answers the words over the real disk.
 fn answered(rt: &HostRuntime, alloc: Global, given: &Handed) -> Result<u8, NotGiven> {
+    let input = input_for(rt, alloc, &given.words)?;
     let mut worktree = DiskWorktree::beside(rt, false, given.beside.as_str());
     let mut owners = DiskOwners::new(rt);
     let mut stats = DiskStats::new(rt);
@@ -56,6 +61,7 @@ fn answered(rt: &HostRuntime, alloc: Global, given: &Handed) -> Result<u8, NotGi
         given.current.as_bytes(),
         &given.variables,
         rt.stdout().is_terminal(),
+        input.as_bytes(),
         &mut worktree,
         &mut owners,
         &mut stats,

@@ -30,7 +30,7 @@ const BEGIN: &[u8] =
 /// one for the file system.
 const OWNED: &[u8] = b"@/proc/self=19;@/=01;@/w=11;@/w/.git=11;@/w/d=11;@/w/n=11;@/w/n/.git=11";
 
-/// Rows, parted by `|`: words, the directory, a variable, more steps, the status, and what stands on the output and on standard error, parted
+/// Rows, parted by `|`: words, the directory, a variable, of which one named `INPUT` has what stands on the standard input, more steps, the status, and what stands on the output and on standard error, parted
 /// by `^`.
 const ROWS: &[u8] = b"\
 report^/w^^^0^untracked file - always - -\t.gitignore~untracked file - always - -\tb~untracked file - always - -\td/e~^|\
@@ -152,7 +152,11 @@ check-ignore c.o ../x^/w^^^128^^fatal: ../x: '../x' is outside repository at '/w
 check-ignore -v d/^/w^^^128^^fatal: check-ignore is not supported with a directory that is neither tracked nor ignored: 'd/'~|\
 check-ignore^/w^^^128^^fatal: no path specified~|\
 check-ignore -nq a b^/w^^^128^^fatal: --quiet is only valid with a single pathname~|\
-check-ignore --stdin^/w^^^128^^fatal: check-ignore is not supported with --stdin~|\
+check-ignore --stdin^/w^INPUT=c.o~b~\"d\\057x.o\"~^^0^c.o~d/x.o~^|\
+check-ignore --stdin -vzn^/w/d^INPUT=x.o\0../b\0^^0^.gitignore\01\0*.o\0x.o\0\0\0\0../b\0^|\
+check-ignore --stdin -q^/w^INPUT=b~^^1^^|\
+check-ignore --stdin^/w^INPUT=c.o~\"c.o~^^128^^fatal: line is badly quoted~|\
+check-ignore --stdin c.o^/w^INPUT=c.o~^^128^^fatal: cannot specify pathnames with --stdin~|\
 check-ignore --verb a^/w^^^129^^error: unknown option `--verb'~usage: tizhagor [-C DIR] check-ignore|\
 state a^/w^^^129^^error: `a' is a path, and this command takes none~|\
 state^/w^^/w/a=y~;/w/.git/index=DIRC\0\0\0\x04\0\0\0\x01\
@@ -310,6 +314,14 @@ fn variables_of(alloc: Global, text: &[u8]) -> Option<Vec<Variable>> {
     Some(variables)
 }
 
+/// What the standard input holds: the value of a variable `INPUT`.
+fn input_of(alloc: Global, text: &[u8]) -> Option<Vec<u8>> {
+    match text.strip_prefix(b"INPUT=".as_slice()) {
+        Some(text) => lines_of(alloc, text),
+        None => Some(Vec::new(alloc)),
+    }
+}
+
 /// What a run answers: its status, and what the sinks have.
 #[derive(Drop)]
 struct Answer {
@@ -324,6 +336,7 @@ fn answer_of(
     words: &[Bytes],
     current: &[u8],
     variables: &[Variable],
+    input: &[u8],
     tree: &mut MemoryWorktree,
     owners: &mut MemoryOwners,
     stats: &mut MemoryStats,
@@ -339,6 +352,7 @@ fn answer_of(
         current,
         variables,
         false,
+        input,
         tree,
         owners,
         stats,
@@ -381,11 +395,13 @@ fn holds_for(alloc: Global, row: &[u8], interrupt: PlannedInterrupt, nth: u64) -
     let mut tree = tree_of(alloc, steps)?;
     let mut owners = owners_of(alloc, steps)?;
     let mut stats = stats_of(alloc, steps)?;
+    let input = input_of(alloc, variable)?;
     let answer = answer_of(
         alloc,
         &words,
         current,
         &variables,
+        &input,
         &mut tree,
         &mut owners,
         &mut stats,
