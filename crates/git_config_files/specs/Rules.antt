@@ -37,12 +37,16 @@ abbrev pub told_excludes : List Section → Result (Option (List ℕ)) FilesErro
 told_excludes sections =
     if list_any lacks_in sections then Err excludes_error else Ok (string (codes "core") None (codes "excludesfile") sections)
 
--- by what is told: an empty text names no file, and another one is a path from the top of the work tree on; where nothing is told, the file is `ignore` in the user's directory of configurations
+-- a path from the top of the work tree on; an empty one, as `~` is where the home is empty, names no file
+abbrev pub unless_empty : List ℕ → List ℕ → Option (List ℕ)
+unless_empty root path = if is_empty path then None else Some (from_directory path root)
+
+-- by what is told: the file that the text names, if it names one; where nothing is told, the file is `ignore` in the user's directory of
+-- configurations
 abbrev pub excludes_by : List ℕ → Surroundings → Option (List ℕ) → Result (Option (List ℕ)) FilesError
 excludes_by root around None = Ok (option_map (λ path. from_directory path root) (in_config_home around (codes "ignore")))
 excludes_by root around (Some text) =
-    if is_empty text then Ok None
-    else and_then (λ path. Ok (Some (from_directory path root))) (path_of_value (codes "core.excludesFile") around.home text)
+    and_then (λ path. Ok (unless_empty root path)) (path_of_value (codes "core.excludesFile") around.home text)
 
 abbrev pub excludes_path : List ℕ → Surroundings → List Section → Result (Option (List ℕ)) FilesError
 excludes_path root around sections = and_then (excludes_by root around) (told_excludes sections)

@@ -104,6 +104,16 @@ fn told_excludes(alloc: Global, config: &File) -> Result<Option<Bytes>, FilesErr
     }
 }
 
+/// A path from the top of the work tree on; none for an empty one.
+fn unless_empty(alloc: Global, root: &[u8], path: &[u8]) -> Result<Option<Bytes>, OutOfMemory>
+    ensures { IfOk result (λ made. made ≡ words.unless_empty root.now path.now) }
+{
+    if path.is_empty() {
+        return Ok(None);
+    }
+    Ok(Some(from_directory(alloc, path, root)?))
+}
+
 /// Where the user's rules lie, by what a configuration tells.
 fn excludes_told(
     alloc: Global,
@@ -113,11 +123,8 @@ fn excludes_told(
 ) -> Result<Option<Bytes>, FilesError>
     ensures { Decides result (words.excludes_by root.now around.now (Some text.now)) }
 {
-    if text.is_empty() {
-        return Ok(None);
-    }
     let path = path_of_value(alloc, b"core.excludesFile", bytes_of(&around.home), text)?;
-    Ok(Some(from_directory(alloc, path.as_bytes(), root)?))
+    Ok(unless_empty(alloc, root, path.as_bytes())?)
 }
 
 /// Where they lie where nothing is told.
@@ -211,8 +218,9 @@ fn repository_rules<W: Worktree>(
 
 /// The ignore rules outside the work tree of a repository: those of the file that `core.excludesFile` names in `config`, which is what
 /// [`read_stack`](crate::read_stack) answers, and `info/exclude` of the repository. A path is taken from the top of the work tree where
-/// it is relative, and a `~` at its front is the home; an empty one names no file. Where `core.excludesFile` does not stand,
-/// the user's rules are in `git/ignore` beneath `XDG_CONFIG_HOME`, or beneath `.config` in the home. What is not there has no rules.
+/// it is relative, and a `~` at its front is the home; an empty one names no file, nor does `~` where the home is empty. Where
+/// `core.excludesFile` does not stand, the user's rules are in `git/ignore` beneath `XDG_CONFIG_HOME`, or beneath `.config` in the home.
+/// What is not there has no rules.
 ///
 /// # Errors
 ///

@@ -353,6 +353,10 @@ pub const RULES: &[u8] = b"\
 !user-dir ~/u^system=/w/etc^g /w/r/.git=main;f /w/r/.git/config=[core]$excludesFile=~/u$;f /w/r/.git/info/exclude=r$\n\
 !user-dir ~^system=/w/etc^g /w/r/.git=main;f /w/r/.git/config=[core]$excludesFile=~$;f /w/r/.git/info/exclude=r$\n\
 !user-dir ~nobody-here^home=/w/h;system=/w/etc^g /w/r/.git=main;f /w/r/.git/config=[core]$excludesFile=~nobody-here$;f /w/r/.git/info/exclude=r$\n\
+- /w/r/.git/info/exclude^home=;system=/w/etc^g /w/r/.git=main;f /w/r/.git/config=[core]$excludesFile=~$;f /w/r/.git/info/exclude=r$;f /w/r/u0=u$\n\
+!no-file^home=;system=/w/etc^g /w/r/.git=main;f /w/r/.git/config=[core]$excludesFile=~/$;f /w/r/.git/info/exclude=r$;f /w/r/u0=u$\n\
+- /w/r/.git/info/exclude^home=;system=/w/etc^g /w/r/.git=main;f /w/r/.git/config=[core]$excludesFile=~/nowhere$;f /w/r/.git/info/exclude=r$;f /w/r/u0=u$\n\
+- /w/r/.git/info/exclude^home=;xdg=/w/x;system=/w/etc^g /w/r/.git=main;f /w/r/.git/config=[core]$excludesFile=~$;f /w/r/.git/info/exclude=r$;f /w/x/git/ignore=u$\n\
 !user-dir ~/a b^system=/w/etc^g /w/r/.git=main;f /w/etc=[core]$excludesFile=\"~/a b\"$\n\
 !value^home=/w/h;system=/w/etc^g /w/r/.git=main;f /w/r/.git/config=[core]$excludesFile$excludesFile=/w/u$;f /w/u=u$\n\
 ";
