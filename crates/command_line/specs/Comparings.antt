@@ -126,13 +126,23 @@ ignoring_of value =
 abbrev pub comparing_by : List ℕ → Option Opt
 comparing_by name = first_of (compares true (form_of name)) (telling_by name)
 
+-- the option of this name that is not answered here, or a choice
+unfoldable pub left_or_choice : List ℕ → Option Opt
+left_or_choice name =
+    if is_left name then Some opts.Left
+    else comparing_by name
+
+-- the option of this name beside the help
+unfoldable pub named_opt : List ℕ → Option Opt
+named_opt name =
+    if bytes_eq name (codes "ignore-submodules") then Some opts.Submodules
+    else left_or_choice name
+
 -- the option of a name, which stands behind `--`
 unfoldable pub comparing_opt_of : List ℕ → Option Opt
 comparing_opt_of name =
     if bytes_eq name (codes "help") then Some opts.Help
-    else if bytes_eq name (codes "ignore-submodules") then Some opts.Submodules
-    else if is_left name then Some opts.Left
-    else comparing_by name
+    else named_opt name
 
 -- git's, and not answered here
 abbrev pub is_left_letter : ℕ → Bool

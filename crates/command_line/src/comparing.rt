@@ -242,6 +242,28 @@ fn comparing_by(name: &[u8]) -> Option<Opt>
     }
 }
 
+/// The option of this name that is not answered here, or a choice.
+#[tactic(auto, unfolding(crate::specs::Comparings::left_or_choice))]
+fn left_or_choice(name: &[u8]) -> Option<Opt>
+    ensures { result ≡ comparings.left_or_choice name.now }
+{
+    if is_left(name) {
+        return Some(Opt::Left);
+    }
+    comparing_by(name)
+}
+
+/// The option of this name beside the help.
+#[tactic(auto, unfolding(crate::specs::Comparings::named_opt))]
+fn named_opt(name: &[u8]) -> Option<Opt>
+    ensures { result ≡ comparings.named_opt name.now }
+{
+    if name == b"ignore-submodules".as_slice() {
+        return Some(Opt::Submodules);
+    }
+    left_or_choice(name)
+}
+
 /// The option of `diff-files` of this name, which stands behind `--`. None where there is none.
 #[tactic(auto, unfolding(crate::specs::Comparings::comparing_opt_of))]
 pub fn comparing_opt_of(name: &[u8]) -> Option<Opt>
@@ -250,13 +272,7 @@ pub fn comparing_opt_of(name: &[u8]) -> Option<Opt>
     if name == b"help".as_slice() {
         return Some(Opt::Help);
     }
-    if name == b"ignore-submodules".as_slice() {
-        return Some(Opt::Submodules);
-    }
-    if is_left(name) {
-        return Some(Opt::Left);
-    }
-    comparing_by(name)
+    named_opt(name)
 }
 
 /// Whether git has an option of this letter that is not answered here.

@@ -94,10 +94,11 @@ fn the_owner_is_not_the_group(rt: HostRuntime) {
 }
 
 fn is_dated(rt: &HostRuntime, path: &str, seconds: u64) -> bool {
+    let Some(time) = UNIX_EPOCH.checked_add(Duration::from_secs(seconds)) else {
+        return false;
+    };
     match File::create(rt, path) {
-        Ok(file) => file
-            .set_modified(UNIX_EPOCH + Duration::from_secs(seconds))
-            .is_ok(),
+        Ok(file) => file.set_modified(time).is_ok(),
         Err(_) => false,
     }
 }

@@ -20,7 +20,7 @@ fn usual(index_time: u32) -> Comparison {
     }
 }
 
-/// Takes a word.
+/// Takes a word, unless it is about submodules.
 fn take(comparison: &mut Comparison, word: &[u8]) {
     match word {
         b"-z" => comparison.ends_in_nul = true,
@@ -34,14 +34,20 @@ fn take(comparison: &mut Comparison, word: &[u8]) {
         b"core.sparseCheckout=true" => comparison.sparse_checkout = true,
         b"sparse.expectFilesOutsideOfPatterns=true" => comparison.sparse_checkout = false,
         b"core.autocrlf=true" => comparison.converts = true,
-        b"submodule.a.ignore=all" => comparison.submodules = Submodules::MayBeLeftOut,
-        b"--ignore-submodules" | b"--ignore-submodules=all" => {
-            comparison.submodules = Submodules::LeftOut
-        }
-        b"--ignore-submodules=none"
-        | b"--ignore-submodules=dirty"
-        | b"--ignore-submodules=untracked" => comparison.submodules = Submodules::Told,
         _ => {}
+    }
+}
+
+/// What a word says of submodules, if it is about them.
+fn submodules_by(word: &[u8]) -> Option<Submodules> {
+    match word {
+        b"submodule.a.ignore=all" => Some(Submodules::MayBeLeftOut),
+        b"--ignore-submodules" => Some(Submodules::LeftOut),
+        b"--ignore-submodules=all" => Some(Submodules::LeftOut),
+        b"--ignore-submodules=none" => Some(Submodules::Told),
+        b"--ignore-submodules=dirty" => Some(Submodules::Told),
+        b"--ignore-submodules=untracked" => Some(Submodules::Told),
+        _ => None,
     }
 }
 
@@ -50,6 +56,9 @@ pub fn comparison_of(index_time: u32, words: &[u8]) -> Comparison {
     let mut comparison = usual(index_time);
     for word in words.split(|byte| *byte == b'|') {
         take(&mut comparison, word);
+        if let Some(submodules) = submodules_by(word) {
+            comparison.submodules = submodules;
+        }
     }
     comparison
 }

@@ -1,5 +1,6 @@
 -- The lines on standard error, for a person: what cannot be had, and where.
-use Rattle.std.specs.Prelude.{ℕ, List, [], ◌∷◌, ◌++◌, codes, decimal}
+use Rattle.std.specs.Prelude.{ℕ, List, [], ◌∷◌, ◌++◌, if◌then◌else◌, codes, decimal}
+use Rattle.gitbase_core.specs.Path.{is_empty}
 use Rattle.worktree_fs.specs.Causes.{next}
 use Rattle.worktree_report.specs.Escapes.{escaped}
 
@@ -34,8 +35,9 @@ fault_line = codes "fatal: a file or directory could not be read\n"
 
 -- the same, with the path that the worktree names as that of its first fault
 abbrev pub fault_at : List ℕ → List ℕ
-fault_at [] = fault_line
-fault_at (b ∷ path) = with_path (codes "fatal: a file or directory could not be read: '") (b ∷ path) (codes "'\n")
+fault_at path =
+    if is_empty path then fault_line
+    else with_path (codes "fatal: a file or directory could not be read: '") path (codes "'\n")
 
 -- the report's bytes were refused
 abbrev pub output_line : List ℕ

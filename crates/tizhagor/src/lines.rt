@@ -100,15 +100,15 @@ pub fn foreign_line(alloc: Global, path: &[u8]) -> Result<Bytes, OutOfMemory>
 pub fn fault_line(alloc: Global, first: &[u8]) -> Result<Bytes, OutOfMemory>
     ensures { IfOk result (λ line. line ≡ words.fault_at first.now) }
 {
-    match first {
-        [] => fixed(alloc, FAULT),
-        _ => with_path(
-            alloc,
-            b"fatal: a file or directory could not be read: '",
-            first,
-            b"'\n",
-        ),
+    if first.is_empty() {
+        return fixed(alloc, FAULT);
     }
+    with_path(
+        alloc,
+        b"fatal: a file or directory could not be read: '",
+        first,
+        b"'\n",
+    )
 }
 
 /// The value of a key or of a variable cannot be read.

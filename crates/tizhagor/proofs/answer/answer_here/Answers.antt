@@ -1,8 +1,10 @@
+use Rattle.std.proofs.Common.{ℕ, List, subst}
+use Rattle.tizhagor.specs.Ends.{EndsHere}
 use Rattle.tizhagor.proofs.ComparedEnds as lemmas
 use Rattle.tizhagor.proofs.answer.answer_here.Goals as goal
 
 pub returns-clause-runs : goal.returns-clause-runs
-returns-clause-runs g c = record { answer = c.reply_asked-answer.result; answers = c.reply_asked-answer.ensures; ends = c.finish_here.ensures }
+returns-clause-runs g c = record { answer = c.reply_asked-answer.result; answers = c.reply_asked-answer.ensures; ends = subst (λ (first : List ℕ). EndsHere g.S.Sink g.E.Sink c.args.out.now c.finish_here.new.out c.args.err.now c.finish_here.new.err first c.reply_asked-answer.result c.finish_here.result) c.first_fault.ensures c.finish_here.ensures }
 
 pub returns-clause-unfaulted : goal.returns-clause-unfaulted
 returns-clause-unfaulted g c = lemmas.unfaulted g.W.Worktree g.I.Interrupt g.O.Owners g.D.Stats g.S.Sink g.E.Sink _ _ _ _ _ _ _ _ _ _ _ _ _ _ _ _ c.reply_asked-answer.result c.reply_asked-answer.ensures c.finish_here.ensures
@@ -20,7 +22,7 @@ pub returns-clause-usage : goal.returns-clause-usage
 returns-clause-usage g c = lemmas.usage g.W.Worktree g.I.Interrupt g.O.Owners g.D.Stats g.S.Sink g.E.Sink _ _ _ _ _ _ _ _ _ _ _ _ _ _ _ _ c.reply_asked-answer.result c.reply_asked-answer.ensures c.finish_here.ensures
 
 pub returns-clause-fatal : goal.returns-clause-fatal
-returns-clause-fatal g c = lemmas.fatal g.W.Worktree g.I.Interrupt g.O.Owners g.D.Stats g.S.Sink g.E.Sink _ _ _ _ _ _ _ _ _ _ _ _ _ _ _ _ c.reply_asked-answer.result c.reply_asked-answer.ensures c.finish_here.ensures
+returns-clause-fatal g c = lemmas.fatal g.W.Worktree g.I.Interrupt g.O.Owners g.D.Stats g.S.Sink g.E.Sink _ _ _ _ _ _ _ _ _ _ _ _ _ _ _ _ c.reply_asked-answer.result c.reply_asked-answer.ensures (subst (λ (first : List ℕ). EndsHere g.S.Sink g.E.Sink c.args.out.now c.finish_here.new.out c.args.err.now c.finish_here.new.err first c.reply_asked-answer.result c.finish_here.result) c.first_fault.ensures c.finish_here.ensures)
 
 pub returns-clause-interrupted : goal.returns-clause-interrupted
 returns-clause-interrupted g c = lemmas.interrupted g.W.Worktree g.I.Interrupt g.O.Owners g.D.Stats g.S.Sink g.E.Sink _ _ _ _ _ _ _ _ _ _ _ _ _ _ _ _ c.reply_asked-answer.result c.reply_asked-answer.ensures c.finish_here.ensures
@@ -29,10 +31,10 @@ pub returns-clause-complete : goal.returns-clause-complete
 returns-clause-complete g c = lemmas.complete g.W.Worktree g.I.Interrupt g.O.Owners g.D.Stats g.S.Sink g.E.Sink _ _ _ _ _ _ _ _ _ _ _ _ _ _ _ _ c.reply_asked-answer.result c.reply_asked-answer.ensures c.finish_here.ensures
 
 pub returns-clause-refused : goal.returns-clause-refused
-returns-clause-refused g c = lemmas.refused g.W.Worktree g.I.Interrupt g.O.Owners g.D.Stats g.S.Sink g.E.Sink _ _ _ _ _ _ _ _ _ _ _ _ _ _ _ _ c.reply_asked-answer.result c.reply_asked-answer.ensures c.finish_here.ensures
+returns-clause-refused g c = lemmas.refused g.W.Worktree g.I.Interrupt g.O.Owners g.D.Stats g.S.Sink g.E.Sink _ _ _ _ _ _ _ _ _ _ _ _ _ _ _ _ c.reply_asked-answer.result c.reply_asked-answer.ensures (subst (λ (first : List ℕ). EndsHere g.S.Sink g.E.Sink c.args.out.now c.finish_here.new.out c.args.err.now c.finish_here.new.err first c.reply_asked-answer.result c.finish_here.result) c.first_fault.ensures c.finish_here.ensures)
 
 pub returns-clause-stats_unfaulted : goal.returns-clause-stats_unfaulted
 returns-clause-stats_unfaulted g c = lemmas.stats_unfaulted g.W.Worktree g.I.Interrupt g.O.Owners g.D.Stats g.S.Sink g.E.Sink _ _ _ _ _ _ _ _ _ _ _ _ _ _ _ _ c.reply_asked-answer.result c.reply_asked-answer.ensures c.finish_here.ensures
 
 pub returns-clause-compared : goal.returns-clause-compared
-returns-clause-compared g c = lemmas.compared g.W.Worktree g.I.Interrupt g.O.Owners g.D.Stats g.S.Sink g.E.Sink _ _ _ _ _ _ _ _ _ _ _ _ _ _ _ _ c.reply_asked-answer.result c.reply_asked-answer.ensures c.finish_here.ensures
+returns-clause-compared g c = lemmas.compared g.W.Worktree g.I.Interrupt g.O.Owners g.D.Stats g.S.Sink g.E.Sink _ _ _ _ _ _ _ _ _ _ _ _ _ _ _ _ c.reply_asked-answer.result c.reply_asked-answer.ensures (subst (λ (first : List ℕ). EndsHere g.S.Sink g.E.Sink c.args.out.now c.finish_here.new.out c.args.err.now c.finish_here.new.err first c.reply_asked-answer.result c.finish_here.result) c.first_fault.ensures c.finish_here.ensures)

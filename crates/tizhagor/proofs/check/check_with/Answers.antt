@@ -1,5 +1,7 @@
 use Rattle.std.proofs.Common.{subst, sym, Result, IfErr}
+use Rattle.check_ignore.specs.Finds.{Finds}
 use Rattle.check_ignore.specs.Input.{asked_or_read}
+use Rattle.check_ignore.specs.declared.checking.Checking.{Checking}
 use Rattle.tizhagor.specs.declared.refusal.HereRefusal.{HereRefusal}
 use Rattle.tizhagor.specs.declared.reply.Reply.{Reply}
 use Rattle.tizhagor.specs.Checking.{checking_by, outer_of, said_of}
@@ -14,7 +16,9 @@ returns-clause-looks g c =
     (sym c.as_reply.ensures)
     (of_answer g.W.Worktree _ _ c.args.here.root
     (λ t. asked_or_read t c.args.here.root c.args.here.prefix c.args.here.index (outer_of c.args.here.outer) (checking_by c.args.wants.now.checking c.args.here) c.args.paths.now c.args.input.now) c.check_asked-answer.result
-    (rw (← c.checking_by-checking.ensures, ← c.outer_of-outer.ensures, ← c.as_bytes-top.ensures, ← c.as_bytes-place.ensures) c.check_asked-answer.ensures))
+    (subst (λ (checking : Checking). Finds g.W.Worktree c.args.worktree.now c.check_asked-answer.new.worktree (λ t. asked_or_read t c.args.here.root c.args.here.prefix c.args.here.index (outer_of c.args.here.outer) checking c.args.paths.now c.args.input.now) c.check_asked-answer.result)
+    c.checking_by-checking.ensures
+    (rw (← c.outer_of-outer.ensures, ← c.as_bytes-top.ensures, ← c.as_bytes-place.ensures) c.check_asked-answer.ensures)))
 
 pub returns-clause-of : goal.returns-clause-of
 returns-clause-of g c = subst (λ (r : Result Reply HereRefusal). IfErr r IsOfFinding) (sym c.as_reply.ensures) (as_reply-is c.args.here.root c.check_asked-answer.result)
