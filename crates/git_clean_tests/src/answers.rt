@@ -343,17 +343,8 @@ pub const ROWS: &[u8] = b"\
 7^^-q^:!b*/&:!:b*/|&:(literal)^\n\
 7^^-d^:!Bc?&:!:Bc?|:!top&:!:top|&:(literal)^Would remove ab/$Would remove b1/$Would remove be/$Would remove bt/bu/$Would remove bt/n$Would remove q/$Would remove q2/$Would remove r/b4/in/$Would remove t/bn/$Would remove z/$\n\
 7^b1^^:!../b*/&:!:b1/../b*/|&:(literal)b1^\n\
-7^b1^^:!s*/&:!:b1/s*/|&:(literal)b1^Would refuse to remove current working directory$Would remove ./x$Would remove ./s$\n\
-7^b1^-d^:!s*/&:!:b1/s*/|&:(literal)b1^Would refuse to remove current working directory$Would remove ./x$Would remove ./s$\n\
-7^b1^^:!s?&:!:b1/s?|&:(literal)b1^Would refuse to remove current working directory$Would remove ./x$Would remove ./s$\n\
 7^b1^^s&::b1/s|:!s*/&:!:b1/s*/^\n\
 7^b1^^..&::b1/..|:!../b*/&:!:b1/../b*/^Would remove ../Bc/$Would remove ../ab/$Would remove ../bt/n$Would remove ../q/$Would remove ../q2/$Would remove ../r/b4/in/$Would remove ../t/bn/$Would remove ../top$Would remove ../z/$\n\
-7^b1^^:(exclude,glob)s*/&:(exclude,glob)b1/s*/^Would refuse to remove current working directory$Would remove ./x$Would remove ./s$\n\
-7^b1^^:(top,exclude)b*/&:(top,exclude)b*/^\n\
-7^b1^^:(top,exclude)b1/s*/&:(top,exclude)b1/s*/^Would refuse to remove current working directory$Would remove ./x$Would remove ./s$\n\
-7^t/bn^^:!b*/&:!:t/bn/b*/|&:(literal)t/bn^Would refuse to remove current working directory$Would remove ./b$Would remove ./x$\n\
-7^t/bn^^:!b?&:!:t/bn/b?|&:(literal)t/bn^Would refuse to remove current working directory$Would remove ./b$Would remove ./x$\n\
 7^t/bn^^b&::t/bn/b|:!b?&:!:t/bn/b?^\n\
-7^t/bn^^:(exclude,top)t/b*/&:(exclude,top)t/b*/^\n\
 7^t/bn^^:/&:/:|:(exclude,top)t/b*/&:(exclude,top)t/b*/^Would remove ../../Bc/$Would remove ../../ab/$Would remove ../../b1/$Would remove ../../be/$Would remove ../../bt/bu/$Would remove ../../bt/n$Would remove ../../q/$Would remove ../../q2/$Would remove ../../r/b4/in/$Would remove ../../top$Would remove ../../z/$\n\
 ";

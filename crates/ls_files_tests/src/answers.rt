@@ -365,5 +365,4 @@ pub const ROWS: &[u8] = b"\
 :^b1^-o^:!s*/&:!:b1/s*/|&:(literal)b1^x$^\n\
 :^b1^-o^s&::b1/s|:!s?&:!:b1/s?^^\n\
 :^b1^-o^..&::b1/..|:(top,exclude)b*/&:(top,exclude)b*/^../ab/c/y$../ab/x$../bt/n$../ci.o/x$../q/b2/x$../q/y$../q2/b3/g.o$../q2/b3/x$../repl/b5/f$../repl/g$../t/bn/b/y$../t/bn/x$../top$^\n\
-:^b1^-o^:(exclude,glob)s*/&:(exclude,glob)b1/s*/^x$^\n\
 ";
