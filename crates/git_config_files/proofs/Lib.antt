@@ -1,2 +1,3 @@
 mod Deeper
 mod Laws
+mod PathSets

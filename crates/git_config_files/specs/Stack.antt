@@ -1,6 +1,7 @@
 -- What all configurations of a work tree say.
-use Rattle.std.specs.Prelude.{ℕ, Bool, true, codes, bytes_eq, List, [], ◌∷◌, ◌++◌, Option, Some, None, option_and_then, unwrap_or, Result, Ok, Err, if◌then◌else◌}
+use Rattle.std.specs.Prelude.{◌≡◌, ℕ, Bool, true, codes, bytes_eq, List, [], ◌∷◌, ◌++◌, Option, Some, None, option_and_then, unwrap_or, Result, Ok, Err, if◌then◌else◌}
 use Rattle.std.specs.List.{list_any}
+use Rattle.gitbase_core.specs.Among as among
 use Rattle.git_config_lite.specs.declared.metadata.Source.{Source}
 use Rattle.git_config_lite.specs.Sections.{Section, Configuration, joint_meta}
 use Rattle.git_places.specs.GitDirectory.{dot_git}
@@ -56,12 +57,19 @@ known_of t layout around = known_with t (Some (repository_of t layout)) layout.r
 -- ---- the files in which keys stand
 
 abbrev pub is_among : List ℕ → List Configured → Bool
-is_among path files = list_any (λ at. bytes_eq at.path path) files
+is_among path files = list_any (λ at. bytes_eq path at.path) files
+
+-- texts are the paths of files, in any order
+abbrev pub ArePathsOf : List (List ℕ) → List Configured → Type 0
+ArePathsOf texts files = (path : List ℕ) → among.is_among path texts ≡ is_among path files
+
+abbrev pub file_at_path : Source → List ℕ → Configured
+file_at_path source path = record { source = source; path = path }
 
 -- files, and another one behind them, unless it is among them
 abbrev pub with_file : List Configured → Source → Option (List ℕ) → List Configured
 with_file files source None = files
-with_file files source (Some path) = if is_among path files then files else files ++ record { source = source; path = path } ∷ []
+with_file files source (Some path) = if is_among path files then files else files ++ file_at_path source path ∷ []
 
 -- files, and behind them those in which keys stand, in the order in which they first appear
 abbrev pub appearing : List Configured → List Section → List Configured

@@ -1,8 +1,7 @@
 //! Configuration files, and what each of them belongs to.
-ghost use Rattle.std.specs.Prelude.{◌≡◌, [], ◌∷◌, ◌++◌, Some, OnOk};
-ghost use Rattle.git_config_files.specs.Stack as words;
+ghost use Rattle.std.specs.Prelude.{◌≡◌, [], ◌∷◌, ◌++◌, OnErr, OnOk};
 
-use git_config_lite::{Metadata, Source};
+use git_config_lite::Source;
 use gitbase_core::{OutOfMemory, PathText};
 use std::alloc::Global;
 use std::marker::Model;
@@ -63,40 +62,15 @@ impl ConfigFiles {
     }
 
     /// Adds a file at the end.
+    ///
+    /// # Errors
+    ///
+    /// `OutOfMemory` for want of memory; then the files are what they were.
     pub fn push(&mut self, file: Configured) -> Result<(), OutOfMemory>
-        ensures { OnOk result (self.new ≡ self.old ++ file ∷ []) }
+        ensures more { OnOk result (self.new ≡ self.old ++ file ∷ []) }
+        ensures refused { OnErr result (self.new ≡ self.old) }
     {
         self.items.push(file)?;
         Ok(())
-    }
-
-    /// Whether a path is that of one of the files.
-    pub fn is_among(&self, path: &[u8]) -> bool
-        ensures { result ≡ words.is_among path.now self.now }
-    {
-        self.items.iter().any(|at| at.path.as_bytes() == path)
-    }
-
-    /// Adds the file in which a key stands, unless it is among these.
-    pub fn add_met(&mut self, alloc: Global, meta: &Metadata) -> Result<(), OutOfMemory>
-        ensures { OnOk result
-            (self.new ≡ words.with_file self.old meta.now.source meta.now.path) }
-    {
-        match &meta.path {
-            Some(path) => self.add_path(alloc, meta.source, path.as_bytes()),
-            None => Ok(()),
-        }
-    }
-
-    fn add_path(&mut self, alloc: Global, source: Source, path: &[u8]) -> Result<(), OutOfMemory>
-        ensures { OnOk result (self.new ≡ words.with_file self.old source (Some path.now)) }
-    {
-        if self.is_among(path) {
-            return Ok(());
-        }
-        self.push(Configured {
-            source,
-            path: PathText::from_bytes(alloc, path)?,
-        })
     }
 }

@@ -4,6 +4,7 @@ ghost use Rattle.git_config_files.specs.Files as joint;
 ghost use Rattle.git_config_files.specs.Finds.{Finds};
 ghost use Rattle.git_config_files.specs.Stack as words;
 
+use crate::appearing::appearing;
 use crate::config_files::{ConfigFiles, Configured};
 use crate::error::FilesError;
 use crate::includes::expanded;
@@ -64,17 +65,6 @@ fn keys_of_stack<W: Worktree>(
         (λ t. joint.stack_in t known.now files.now) result }
 {
     keys_in_turn(alloc, worktree, known, files)
-}
-
-/// The files in which keys stand, in the order in which they first appear.
-fn appearing(alloc: Global, file: &File) -> Result<ConfigFiles, OutOfMemory>
-    ensures { IfOk result (λ files. files ≡ words.appearing [] file.now.sections) }
-{
-    let mut files = ConfigFiles::new(alloc);
-    for key in file.sections() {
-        files.add_met(alloc, key.meta())?;
-    }
-    Ok(files)
 }
 
 /// The stack of some keys.
