@@ -76,6 +76,8 @@ pub const ANSWERS: &[u8] = b"\
 !no-file^home=/w/h;system=/w/etc^g /w/r/.git=main;f /w/r/.git/config=[a]$k=1$[include]$path=$[a]$k=3$\n\
 !no-file^home=/w/h;system=/w/etc^g /w/r/.git=main;f /w/r/.git/config=[a]$k=1$[include]$path=/w/i$[a]$k=3$;d /w/i\n\
 !no-file^home=/w/h;system=/w/etc^g /w/r/.git=main;f /w/r/.git/config=[a]$k=1$[include]$path=/w/i$[a]$k=3$;l /w/i=i\n\
+!depth^home=/w/h;system=/w/etc^g /w/r/.git=main;f /w/r/.git/config=[a]$k=1$[include]$path=l$[a]$k=3$;l /w/r/.git/l=config\n\
+!depth^home=/w/h;system=/w/etc^g /w/r/.git=main;f /w/r/.git/config=[a]$k=1$[include]$path=/w/l$[a]$k=3$;l /w/l=i;f /w/i=[b]$k=2$[include]$path=j$;l /w/j=r/.git/config\n\
 |l /w/r/.git/config a.k=1|l /w/r/.git/config include.path=~|l /w/r/.git/config a.k=3^home=/w/h;system=/w/etc^g /w/r/.git=main;f /w/r/.git/config=[a]$k=1$[include]$path=~$[a]$k=3$\n\
 !home^home=/w/h;system=/w/etc^g /w/r/.git=main;f /w/r/.git/config=[a]$k=1$[include]$path=~nobody-here/x$[a]$k=3$\n\
 !home^system=/w/etc^g /w/r/.git=main;f /w/r/.git/config=[a]$k=1$[include]$path=~/i$[a]$k=3$\n\

@@ -95,12 +95,16 @@ git-file-target^/w/r/a/b^-^g /w/.git;d /w/r/a/b;f /w/r/.git=gitdir: /w/nowhere~\
 git-file-target^/w/r/a/b^-^g /w/.git;d /w/r/a/b;d /w/r/g;f /w/r/.git=gitdir: g~\n\
 git-file-target^/w/r/a/b^-^g /w/.git;d /w/r/a/b;g /w/r/h;f /w/r/g=gitdir: h~;f /w/r/.git=gitdir: g~\n\
 git-file-target^/w/r/a/b^-^g /w/.git;d /w/r/a/b;f /w/r/.git=gitdir: .git~\n\
+git-file-target^/w/r/a/b^-^g /w/.git;d /w/r/a/b;d /w/s;f /w/r/.git=gitdir: ../s/.git~;f /w/s/.git=gitdir: ../r/.git~\n\
+found - /w /w/.git /w/.git^/w/r/a/b^-^g /w/.git;d /w/r/a/b;d /w/s;l /w/r/.git=../s/.git;l /w/s/.git=../r/.git\n\
+git-file-target^/w/r/a/b^-^g /w/.git;d /w/r/a/b;l /w/r/.git=a/.git;f /w/r/a/.git=gitdir: ../.git~\n\
 git-file-target^/w/r/a/b^-^g /w/.git;d /w/r/a/b;g /w/r/.git;f /w/r/a/.git=gitdir: nowhere~\n\
 git-file-target^/w/r^-^g /w/.git;d /w/r/a/b;f /w/r/.git=gitdir: nowhere~\n\
 git-file-target^/w/r^-^g /w/.git;d /w/r/a/b;f /w/x=gitdir: nowhere~;l /w/r/.git=../x\n\
 git-file-target^/w/r/a/b^-^d /w/r/a/b;f /w/r/.git=gitdir: nowhere~\n\
 found - /w/r/a /w/r/a/.git /w/r/a/.git^/w/r/a/b^-^g /w/.git;d /w/r/a/b;g /w/r/a/.git;f /w/r/.git=gitdir: nowhere~\n\
 found - /w/t /w/m/.git/worktrees/t /w/m/.git^/w/t/a^-^g /w/m/.git;d /w/t/a;f /w/t/.git=gitdir: /w/m/.git/worktrees/t~;f /w/m/.git/worktrees/t/HEAD=ref: refs/heads/x~;f /w/m/.git/worktrees/t/commondir=../..~;f /w/m/.git/worktrees/t/gitdir=/w/t/.git~\n\
+found - /w/t /w/m/.git/worktrees/t /w/m/.git/worktrees/u^/w/t/a^-^g /w/m/.git;d /w/t/a;f /w/t/.git=gitdir: /w/m/.git/worktrees/t~;f /w/m/.git/worktrees/t/HEAD=ref: refs/heads/x~;f /w/m/.git/worktrees/t/commondir=../u~;f /w/m/.git/worktrees/t/gitdir=/w/t/.git~;d /w/m/.git/worktrees/u/objects;d /w/m/.git/worktrees/u/refs;f /w/m/.git/worktrees/u/commondir=../..~\n\
 found - /w/t /w/m/.git/worktrees/t /w/m/.git^/w/t^-^g /w/m/.git;d /w/t/a;f /w/t/.git=gitdir: /w/m/.git/worktrees/t~;f /w/m/.git/worktrees/t/HEAD=ref: refs/heads/x~;f /w/m/.git/worktrees/t/commondir=../..~;f /w/m/.git/worktrees/t/gitdir=/w/t/.git~;f /w/m/.git/config=[core]~repositoryformatversion=0~\n\
 found - /w/t /w/m/.git/worktrees/t /w/m/.git^/w/t/a^-^g /w/m/.git;d /w/t/a;f /w/t/.git=gitdir: /w/m/.git/worktrees/t~;f /w/m/.git/worktrees/t/HEAD=ref: refs/heads/x~;f /w/m/.git/worktrees/t/commondir=../..~;f /w/m/.git/worktrees/t/gitdir=/w/t/.git~;f /w/m/.git/config=[core]~repositoryformatversion=0~bare=false~\n\
 found - /w/t /w/m/.git/worktrees/t /w/m/.git^/w/t/a^-^g /w/m/.git;d /w/t/a;f /w/t/.git=gitdir: /w/m/.git/worktrees/t~;f /w/m/.git/worktrees/t/HEAD=ref: refs/heads/x~;f /w/m/.git/worktrees/t/commondir=../..~;f /w/m/.git/worktrees/t/gitdir=/w/t/.git~;f /w/m/.git/config=[core]~repositoryformatversion=0~bare=true~\n\
@@ -329,6 +333,8 @@ no-repository^/w/r/a/b^/w/r^g /w/r;d /w/r/a/b\n\
 /// - git takes a version below 0 as none; here it is refused
 /// - git reads each value of the keys that it looks for; here the last one of those that have a say is read
 /// - git reads all values before it looks at the version and the extensions; here they are looked at first
+/// - git reads a value before a line outside the grammar behind it; here the whole file is read first
+/// - git reads `core.bare` of a repository whose ids are of SHA-256; here that is not read
 /// - git names unknown extensions before it says that ids are of SHA-256; here the first key counts
 /// - git 2.39 does not know this extension; here, where no ref is read, it has no say
 /// - git says of an empty `core.worktree` that no work tree is there; here it is a value that cannot be read
@@ -399,6 +405,9 @@ value extensions.worktreeconfig=>found - /w/r /w/r/.git /w/r/.git^/w/r/a^-^g /w/
 value core.bare=>version 2^/w/r/a^-^g /w/r/.git;d /w/r/a/b;f /w/r/.git/config=[core]~repositoryformatversion=2~bare=maybe~\n\
 value core.bare=>extension x^/w/r/a^-^g /w/r/.git;d /w/r/a/b;f /w/r/.git/config=[core]~repositoryformatversion=1~bare=maybe~[extensions]~x~\n\
 value extensions.worktreeconfig=>extension x^/w/r/a^-^g /w/r/.git;d /w/r/a/b;f /w/r/.git/config=[core]~repositoryformatversion=1~[extensions]~x~worktreeconfig=maybe~\n\
+value core.worktree=>config^/w/r/a^-^g /w/r/.git;d /w/r/a/b;f /w/r/.git/config=[core]~repositoryformatversion=0~worktree~[x~\n\
+value core.bare=>config^/w/r/a^-^g /w/r/.git;d /w/r/a/b;f /w/r/.git/config=[core]~repositoryformatversion=0~bare=maybe~[x~\n\
+bare=>sha256^/w/r/a^-^g /w/r/.git;d /w/r/a/b;f /w/r/.git/config=[core]~repositoryformatversion=1~bare=true~worktree=/w/o~[extensions]~objectformat=sha256~\n\
 extension x=>sha256^/w/r/a^-^g /w/r/.git;d /w/r/a/b;f /w/r/.git/config=[core]~repositoryformatversion=1~[extensions]~objectformat=sha256~x~\n\
 extension refstorage=>found - /w/r /w/r/.git /w/r/.git^/w/r/a^-^g /w/r/.git;d /w/r/a/b;f /w/r/.git/config=[core]~repositoryformatversion=1~[extensions]~refstorage=files~\n\
 extension refstorage=>found - /w/r /w/r/.git /w/r/.git^/w/r/a^-^g /w/r/.git;d /w/r/a/b;f /w/r/.git/config=[core]~repositoryformatversion=1~[extensions]~refStorage=files~\n\
