@@ -1,10 +1,11 @@
 -- The files of ignore rules outside the work tree: gitignore(5).
-use Rattle.std.specs.Prelude.{ℕ, Bool, true, false, ◌&&◌, ◌∷◌, codes, is_none, List, [], Option, Some, None, option_map, Result, Ok, Err, if◌then◌else◌}
+use Rattle.std.specs.Prelude.{ℕ, Bool, true, false, ◌&&◌, ◌∷◌, codes, find, is_none, List, [], Option, Some, None, option_map, Result, Ok, Err, if◌then◌else◌}
 use Rattle.std.specs.List.{list_any}
 use Rattle.gitbase_core.specs.Text.{eq_ignore_case, without_mark}
 use Rattle.git_config_lite.specs.declared.entry.Entry.{Entry}
 use Rattle.git_config_lite.specs.Lookups.{string}
 use Rattle.git_config_lite.specs.Sections.{Section}
+use Rattle.git_places.specs.Format.{file_of}
 use Rattle.git_places.specs.Places.{Layout}
 use Rattle.git_places.specs.Surroundings.{Surroundings}
 use Rattle.worktree_fs.specs.Changes.{from_directory}
@@ -29,27 +30,33 @@ is_core name (Some subsection) = false
 abbrev pub lacks_in : Section → Bool
 lacks_in section = is_core section.name section.subsection && list_any lacks_value section.entries
 
-abbrev pub excludes_error : FilesError
-excludes_error = errors.Value (codes "core.excludesFile")
+-- the last value of `core.excludesFile`, unless a section has it without a value: the first one that does is refused by its file
+abbrev pub told_unless : List Section → Option Section → Result (Option (List ℕ)) FilesError
+told_unless sections (Some lacking) = Err (errors.Value lacking.meta.path (codes "core.excludesFile"))
+told_unless sections None = Ok (string (codes "core") None (codes "excludesfile") sections)
 
 -- the last value of `core.excludesFile`, if there is one; each has to have a value
 abbrev pub told_excludes : List Section → Result (Option (List ℕ)) FilesError
-told_excludes sections =
-    if list_any lacks_in sections then Err excludes_error else Ok (string (codes "core") None (codes "excludesfile") sections)
+told_excludes sections = told_unless sections (find lacks_in sections)
 
 -- a path from the top of the work tree on; an empty one, as `~` is where the home is empty, names no file
 abbrev pub unless_empty : List ℕ → List ℕ → Option (List ℕ)
 unless_empty root path = if is_empty path then None else Some (from_directory path root)
 
--- by what is told: the file that the text names, if it names one; where nothing is told, the file is `ignore` in the user's directory of
+-- where nothing is told: `ignore` in the user's directory of configurations
+abbrev pub default_excludes : List ℕ → Surroundings → Option (List ℕ)
+default_excludes root around = option_map (λ path. from_directory path root) (in_config_home around (codes "ignore"))
+
+-- by what a file tells: the file that the text names, if it names one; where nothing is told, the file is `ignore` in the user's directory of
 -- configurations
-abbrev pub excludes_by : List ℕ → Surroundings → Option (List ℕ) → Result (Option (List ℕ)) FilesError
-excludes_by root around None = Ok (option_map (λ path. from_directory path root) (in_config_home around (codes "ignore")))
-excludes_by root around (Some text) =
-    and_then (λ path. Ok (unless_empty root path)) (path_of_value (codes "core.excludesFile") around.home text)
+abbrev pub excludes_by : List ℕ → Surroundings → Option (List ℕ) → Option (List ℕ) → Result (Option (List ℕ)) FilesError
+excludes_by root around file None = Ok (default_excludes root around)
+excludes_by root around file (Some text) =
+    and_then (λ path. Ok (unless_empty root path)) (path_of_value file (codes "core.excludesFile") around.home text)
 
 abbrev pub excludes_path : List ℕ → Surroundings → List Section → Result (Option (List ℕ)) FilesError
-excludes_path root around sections = and_then (excludes_by root around) (told_excludes sections)
+excludes_path root around sections =
+    and_then (excludes_by root around (file_of (codes "core") (codes "excludesfile") sections)) (told_excludes sections)
 
 -- ---- that of the repository
 

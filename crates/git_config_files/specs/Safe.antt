@@ -56,7 +56,7 @@ abbrev pub safe_after : Option (List ℕ) → List ℕ → Bool → List ℕ →
 safe_after home path safe text =
     if is_empty text then Ok false
     else if bytes_eq text (codes "*") then Ok true
-    else and_then (λ named. Ok (safe || bytes_eq named path)) (path_of_value (codes "safe.directory") home text)
+    else and_then (λ named. Ok (safe || bytes_eq named path)) (path_of_value None (codes "safe.directory") home text)
 
 abbrev pub safe_from : Option (List ℕ) → List ℕ → Bool → List (List ℕ) → Result Bool FilesError
 safe_from home path safe [] = Ok safe

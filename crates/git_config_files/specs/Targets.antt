@@ -30,13 +30,13 @@ expanded_path home path = if is_unknown_home path then None else by_home home pa
 abbrev pub has_nul : List ℕ → Bool
 has_nul text = list_any (λ b. b == 0) text
 
-abbrev pub expanded_or : List ℕ → Option (List ℕ) → Result (List ℕ) FilesError
-expanded_or text None = Err (errors.UserDir text)
-expanded_or text (Some path) = Ok path
+abbrev pub expanded_or : Option (List ℕ) → List ℕ → Option (List ℕ) → Result (List ℕ) FilesError
+expanded_or file text None = Err (errors.UserDir file text)
+expanded_or file text (Some path) = Ok path
 
--- the path that the value of a key is: one with a NUL is refused by the key, and one with a home that is not known by its text
-unfoldable pub path_of_value : List ℕ → Option (List ℕ) → List ℕ → Result (List ℕ) FilesError
-path_of_value key home text = if has_nul text then Err (errors.Value key) else expanded_or text (expanded_path home text)
+-- the path that the value of a key is, in a file: one with a NUL is refused by the key, and one with a home that is not known by its text
+unfoldable pub path_of_value : Option (List ℕ) → List ℕ → Option (List ℕ) → List ℕ → Result (List ℕ) FilesError
+path_of_value file key home text = if has_nul text then Err (errors.Value file key) else expanded_or file text (expanded_path home text)
 
 -- taken from the directory of the file, where it is relative
 abbrev pub beside : List ℕ → List ℕ → List ℕ
@@ -50,7 +50,7 @@ named_at from (Some path) = Ok (Some (beside from path))
 abbrev pub named : Known → List ℕ → Option (List ℕ) → Result (Option (List ℕ)) FilesError
 named known from None = Err (errors.Include from)
 named known from (Some text) =
-    if has_nul text then Err (errors.Value (codes "include.path")) else named_at from (expanded_path known.home text)
+    if has_nul text then Err (errors.Value (Some from) (codes "include.path")) else named_at from (expanded_path known.home text)
 
 abbrev pub if_holds : Known → List ℕ → Entry → Bool → Result (Option (List ℕ)) FilesError
 if_holds known from e does = if does then named known from e.value else Ok None

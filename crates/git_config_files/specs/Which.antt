@@ -24,7 +24,7 @@ maybe_file root source (Some path) = named_file root source path
 -- ---- that of the system
 
 abbrev pub truth_by : Option Bool → Result Bool FilesError
-truth_by None = Err (errors.Value (codes "GIT_CONFIG_NOSYSTEM"))
+truth_by None = Err (errors.Value None (codes "GIT_CONFIG_NOSYSTEM"))
 truth_by (Some b) = Ok b
 
 -- whether `GIT_CONFIG_NOSYSTEM` says, as a boolean, that it is not read

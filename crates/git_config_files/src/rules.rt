@@ -1,5 +1,5 @@
 //! The files of ignore rules outside the work tree.
-ghost use Rattle.std.specs.Prelude.{◌≡◌, Some, None, Ok, IfOk, option_copied};
+ghost use Rattle.std.specs.Prelude.{◌≡◌, codes, find, Some, Ok, IfOk, option_copied};
 ghost use Rattle.std.specs.List.{list_any};
 ghost use Rattle.git_config_files.specs.Answers.{Decides};
 ghost use Rattle.git_config_files.specs.Finds.{Finds};
@@ -11,7 +11,7 @@ use crate::includes::text_at;
 use crate::targets::path_of_value;
 use crate::which::{in_config_home, value_error};
 use git_config_lite::{Entry, File, Section};
-use git_places::{Places, Surroundings};
+use git_places::{Places, Surroundings, file_of};
 use gitbase_core::{Bytes, OutOfMemory, PathText, eq_ignore_case, without_mark};
 use std::alloc::Global;
 use std::marker::Model;
@@ -80,23 +80,32 @@ fn lacks_in(section: &Section) -> bool
     is_core(section) && some_lack(section.entries())
 }
 
-fn some_lacks(config: &File) -> bool
-    ensures { result ≡ list_any words.lacks_in config.now.sections }
+/// The first section that has it so.
+fn first_lacking(config: &File) -> Option<&Section>
+    ensures { option_copied result ≡ find words.lacks_in config.now.sections }
 {
     for section in config.sections() {
         if lacks_in(section) {
-            return true;
+            return Some(section);
         }
     }
-    false
+    None
+}
+
+/// The refusal of `core.excludesFile` in a section that has it without a value.
+fn lacking_error(alloc: Global, section: &Section) -> Result<FilesError, OutOfMemory>
+    ensures { IfOk result
+        (λ e. e ≡ FilesError.Value section.now.meta.path (codes "core.excludesFile")) }
+{
+    value_error(alloc, section.meta().path.as_ref(), b"core.excludesFile")
 }
 
 /// The last value of `core.excludesFile`, if there is one.
 fn told_excludes(alloc: Global, config: &File) -> Result<Option<Bytes>, FilesError>
     ensures { Decides result (words.told_excludes config.now.sections) }
 {
-    if some_lacks(config) {
-        return Err(value_error(alloc, b"core.excludesFile")?);
+    if let Some(section) = first_lacking(config) {
+        return Err(lacking_error(alloc, section)?);
     }
     match config.string(b"core", None, b"excludesfile") {
         Some(text) => Ok(Some(Bytes::from_slice(alloc, text)?)),
@@ -114,16 +123,19 @@ fn unless_empty(alloc: Global, root: &[u8], path: &[u8]) -> Result<Option<Bytes>
     Ok(Some(from_directory(alloc, path, root)?))
 }
 
-/// Where the user's rules lie, by what a configuration tells.
+/// Where the user's rules lie, by what a configuration in a file tells.
 fn excludes_told(
     alloc: Global,
     root: &[u8],
     around: &Surroundings,
+    file: Option<&PathText>,
     text: &[u8],
 ) -> Result<Option<Bytes>, FilesError>
-    ensures { Decides result (words.excludes_by root.now around.now (Some text.now)) }
+    ensures { Decides result (words.excludes_by root.now around.now
+        (option_copied file.entry) (Some text.now)) }
 {
-    let path = path_of_value(alloc, b"core.excludesFile", bytes_of(&around.home), text)?;
+    let home = bytes_of(&around.home);
+    let path = path_of_value(alloc, file, b"core.excludesFile", home, text)?;
     Ok(unless_empty(alloc, root, path.as_bytes())?)
 }
 
@@ -133,7 +145,7 @@ fn excludes_default(
     root: &[u8],
     around: &Surroundings,
 ) -> Result<Option<Bytes>, OutOfMemory>
-    ensures { IfOk result (λ path. words.excludes_by root.now around.now None ≡ Ok path) }
+    ensures { IfOk result (λ path. path ≡ words.default_excludes root.now around.now) }
 {
     match in_config_home(alloc, around, b"ignore")? {
         Some(path) => Ok(Some(from_directory(alloc, path.as_bytes(), root)?)),
@@ -151,7 +163,10 @@ fn excludes_path(
     ensures { Decides result (words.excludes_path root.now around.now config.now.sections) }
 {
     match told_excludes(alloc, config)? {
-        Some(text) => excludes_told(alloc, root, around, text.as_bytes()),
+        Some(text) => {
+            let file = file_of(config, b"core", b"excludesfile");
+            excludes_told(alloc, root, around, file, text.as_bytes())
+        }
         None => Ok(excludes_default(alloc, root, around)?),
     }
 }

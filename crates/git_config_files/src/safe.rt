@@ -128,7 +128,7 @@ fn safe_after(
     if text == b"*".as_slice() {
         return Ok(true);
     }
-    let named = path_of_value(alloc, b"safe.directory", bytes_of(home), text)?;
+    let named = path_of_value(alloc, None, b"safe.directory", bytes_of(home), text)?;
     Ok(safe | (named.as_bytes() == path))
 }
 

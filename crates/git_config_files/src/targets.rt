@@ -9,6 +9,7 @@ use crate::error::FilesError;
 use crate::known::Known;
 use crate::which::value_error;
 use git_config_lite::{Entry, Section};
+use git_places::path_copied;
 use gitbase_core::{Bytes, OutOfMemory, PathText, eq_ignore_case};
 use std::alloc::Global;
 use worktree_fs::{Worktree, beside};
@@ -48,33 +49,41 @@ fn has_nul(text: &[u8]) -> bool
     text.contains(&0)
 }
 
-/// The path that the value of a key is, where it has no NUL.
-fn expanded_or(alloc: Global, home: Option<&[u8]>, text: &[u8]) -> Result<Bytes, FilesError>
-    ensures { Decides result (words.expanded_or text.now
+/// The path that the value of a key in a file is, where it has no NUL.
+fn expanded_or(
+    alloc: Global,
+    file: Option<&PathText>,
+    home: Option<&[u8]>,
+    text: &[u8],
+) -> Result<Bytes, FilesError>
+    ensures { Decides result (words.expanded_or (option_copied file.entry) text.now
         (words.expanded_path (option_copied home.entry) text.now)) }
 {
     match expanded_path(alloc, home, text)? {
         Some(path) => Ok(path),
         None => Err(FilesError::UserDir {
+            path: path_copied(alloc, file)?,
             value: Bytes::from_slice(alloc, text)?,
         }),
     }
 }
 
-/// The path that the value of a key is; a NUL in it is refused by the key, and a home that is not known by the text.
+/// The path that the value of a key in a file is; a NUL in it is refused by the key, and a home that is not known by the text.
 #[tactic(auto, unfolding(crate::specs::Targets::path_of_value))]
 pub fn path_of_value(
     alloc: Global,
+    file: Option<&PathText>,
     key: &[u8],
     home: Option<&[u8]>,
     text: &[u8],
 ) -> Result<Bytes, FilesError>
-    ensures { Decides result (words.path_of_value key.now (option_copied home.entry) text.now) }
+    ensures { Decides result (words.path_of_value (option_copied file.entry) key.now
+        (option_copied home.entry) text.now) }
 {
     if has_nul(text) {
-        return Err(value_error(alloc, key)?);
+        return Err(value_error(alloc, file, key)?);
     }
-    expanded_or(alloc, home, text)
+    expanded_or(alloc, file, home, text)
 }
 
 /// The file that a value names.
@@ -94,6 +103,14 @@ fn named(
     }
 }
 
+/// The refusal of the path of an include that has a NUL.
+fn nul_error(alloc: Global, from: &[u8]) -> Result<FilesError, OutOfMemory>
+    ensures { IfOk result (λ e. e ≡ FilesError.Value (Some from.now) (codes "include.path")) }
+{
+    let path = PathText::from_bytes(alloc, from)?;
+    value_error(alloc, Some(&path), b"include.path")
+}
+
 /// The file that the text of a value names.
 fn named_by(
     alloc: Global,
@@ -104,7 +121,7 @@ fn named_by(
     ensures { Decides result (words.named known.now from.now (Some text.now)) }
 {
     if has_nul(text) {
-        return Err(value_error(alloc, b"include.path")?);
+        return Err(nul_error(alloc, from)?);
     }
     match expanded_path(alloc, bytes_of(&known.home), text)? {
         Some(path) => Ok(Some(beside(alloc, path.as_bytes(), from)?)),

@@ -9,7 +9,7 @@ use crate::conditions::{bytes_of, joined};
 use crate::config_files::{ConfigFiles, Configured};
 use crate::error::FilesError;
 use git_config_lite::Source;
-use git_places::{Places, Surroundings, truth_of_text};
+use git_places::{Places, Surroundings, path_copied, truth_of_text};
 use gitbase_core::{Bytes, OutOfMemory, PathText};
 use std::alloc::Global;
 use worktree_fs::from_directory;
@@ -50,11 +50,16 @@ fn add_maybe(
     }
 }
 
-/// The refusal of a key, or of a variable, by its name.
-pub fn value_error(alloc: Global, key: &[u8]) -> Result<FilesError, OutOfMemory>
-    ensures { IfOk result (λ e. e ≡ FilesError.Value key.now) }
+/// The refusal of a key in a file, or of a variable, by its name.
+pub fn value_error(
+    alloc: Global,
+    file: Option<&PathText>,
+    key: &[u8],
+) -> Result<FilesError, OutOfMemory>
+    ensures { IfOk result (λ e. e ≡ FilesError.Value (option_copied file.entry) key.now) }
 {
     Ok(FilesError::Value {
+        path: path_copied(alloc, file)?,
         key: Bytes::from_slice(alloc, key)?,
     })
 }
@@ -65,7 +70,7 @@ fn truth_of(alloc: Global, text: &[u8]) -> Result<bool, FilesError>
 {
     match truth_of_text(alloc, text)? {
         Some(truth) => Ok(truth),
-        None => Err(value_error(alloc, b"GIT_CONFIG_NOSYSTEM")?),
+        None => Err(value_error(alloc, None, b"GIT_CONFIG_NOSYSTEM")?),
     }
 }
 

@@ -81,7 +81,7 @@ fn is_refused(error: &PlacesError, want: &[u8]) -> bool {
         PlacesError::OddHead { .. } => word == b"odd-head".as_slice(),
         PlacesError::GitFileForm { .. } => word == b"git-file-form".as_slice(),
         PlacesError::Border { path } => word == b"border".as_slice() && path.as_bytes() == named,
-        PlacesError::Value { key } => word == b"value".as_slice() && key.as_bytes() == named,
+        PlacesError::Value { key, .. } => word == b"value".as_slice() && key.as_bytes() == named,
         _ => false,
     }
 }
@@ -91,8 +91,8 @@ fn is_not_read(error: &FilesError, want: &[u8]) -> bool {
     let (word, named) = parted(want, b' ');
     match error {
         FilesError::Foreign { path } => word == b"foreign".as_slice() && path.as_bytes() == named,
-        FilesError::Value { key } => word == b"value".as_slice() && key.as_bytes() == named,
-        FilesError::UserDir { value } => word == b"user-dir".as_slice()
+        FilesError::Value { key, .. } => word == b"value".as_slice() && key.as_bytes() == named,
+        FilesError::UserDir { value, .. } => word == b"user-dir".as_slice()
             && value.as_bytes() == named,
         FilesError::Config { .. } => word == b"config".as_slice(),
         FilesError::Condition { .. } => word == b"condition".as_slice(),

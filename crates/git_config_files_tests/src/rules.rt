@@ -7,6 +7,15 @@ use git_places::{Places, Surroundings};
 use std::alloc::Global;
 use worktree_fs::{MemoryWorktree, Worktree};
 
+/// Rows: the file in which stands what is refused, or `-`; what is set in the environment; and the tree.
+const FILES: &[u8] = b"\
+/w/r/.git/i^home=/w/h^g /w/r/.git=main;f /w/r/.git/config=[include]$path=i$[core]$excludesfile=x$;f /w/r/.git/i=[core]$excludesfile$\n\
+/w/r/.git/i^home=/w/h^g /w/r/.git=main;f /w/r/.git/config=[core]$excludesfile=x$[include]$path=i$;f /w/r/.git/i=[core]$excludesfile=~nobody-here/x$\n\
+/w/h/.gitconfig^home=/w/h^g /w/r/.git=main;f /w/h/.gitconfig=[core]$excludesfile=~nobody-here/x$;f /w/r/.git/config=[core \"a\"]$excludesfile=x$\n\
+/w/r/.git/i^home=/w/h^g /w/r/.git=main;f /w/r/.git/config=[include]$path=i$;f /w/r/.git/i=[include]$path=a\0b$\n\
+-^home=/w/h;nosystem=x^g /w/r/.git=main\n\
+";
+
 /// Whether a file is at the path that is wanted, without links, and has this text; `-` wants no rule.
 fn is_file(
     alloc: Global,
@@ -76,6 +85,49 @@ fn first_lie(alloc: Global, rows: &'static [u8]) -> Option<&'static [u8]> {
         }
     }
     None
+}
+
+/// Whether what is refused stands in the file that is wanted.
+fn stands_in(error: &FilesError, want: &[u8]) -> bool {
+    let path = match error {
+        FilesError::Value { path, .. } => path,
+        FilesError::UserDir { path, .. } => path,
+        _ => return false,
+    };
+    match path {
+        Some(path) => path.as_bytes() == want,
+        None => want == b"-".as_slice(),
+    }
+}
+
+fn is_refused_in(alloc: Global, want: &[u8], words: &[u8], steps: &[u8]) -> bool {
+    let (Some(tree), Some(around)) = (tree_of(alloc, steps), surroundings_of(alloc, words)) else {
+        return false;
+    };
+    let mut tree = tree;
+    let Ok(places) = places_in(alloc, &mut tree) else {
+        return false;
+    };
+    match rules_in(alloc, &mut tree, &places, &around) {
+        Ok(_) => false,
+        Err(error) => stands_in(&error, want),
+    }
+}
+
+fn first_lie_of_files(alloc: Global) -> Option<&'static [u8]> {
+    for row in FILES.split(|byte| *byte == b'\n') {
+        let (want, asked) = parted(row, b'^');
+        let (words, steps) = parted(asked, b'^');
+        if !row.is_empty() && !is_refused_in(alloc, want, words, steps) {
+            return Some(row);
+        }
+    }
+    None
+}
+
+#[test]
+fn refusals_name_the_file_of_the_value(rt: HostRuntime) {
+    assert_eq!(rt; first_lie_of_files(rt.alloc()), None);
 }
 
 #[test]

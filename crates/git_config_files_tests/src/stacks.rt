@@ -125,7 +125,7 @@ fn is_config_line(alloc: Global, line: usize, want: &[u8]) -> bool {
 pub fn is_refused(alloc: Global, error: &FilesError, want: &[u8]) -> bool {
     match error {
         FilesError::Config { line, .. } => is_config_line(alloc, *line, want),
-        FilesError::UserDir { value } => {
+        FilesError::UserDir { value, .. } => {
             let (word, named) = parted(want, b' ');
             word == word_of(error) && value.as_bytes() == named
         }

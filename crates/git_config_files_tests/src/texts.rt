@@ -32,7 +32,7 @@ fn is_depth_shown(alloc: Global, want: &[u8]) -> bool {
 
 fn is_value_shown(alloc: Global, want: &[u8]) -> bool {
     match Bytes::from_slice(alloc, b"k") {
-        Ok(key) => is_shown(alloc, FilesError::Value { key }, want),
+        Ok(key) => is_shown(alloc, FilesError::Value { path: None, key }, want),
         Err(_) => false,
     }
 }

@@ -1,24 +1,41 @@
 -- What the configuration of a repository says of its format.
-use Rattle.std.specs.Prelude.{ℕ, Bool, true, false, not, drop, length, nat_lt, slice_get, take, ◌++◌, ◌||◌, ◌&&◌, codes, bytes_eq, find, List, [], ◌∷◌, Option, Some, None, option_map, Result, Ok, Err, if◌then◌else◌}
+use Rattle.std.specs.Prelude.{ℕ, Bool, true, false, not, drop, length, nat_lt, slice_get, take, ◌++◌, ◌||◌, ◌&&◌, codes, bytes_eq, find, is_none, is_some, List, [], ◌∷◌, Option, Some, None, option_map, Result, Ok, Err, if◌then◌else◌}
 use Rattle.git_config_lite.specs.declared.entry.Entry.{Entry}
 use Rattle.gitbase_core.specs.Text.{eq_ignore_case}
-use Rattle.git_config_lite.specs.Lookups.{boolean, string, text_of}
+use Rattle.git_config_lite.specs.Lookups.{boolean, section_value, string, text_of}
 use Rattle.git_config_lite.specs.Sections.{Section}
 use Rattle.git_places.specs.declared.error.PlacesError.{PlacesError}
 use Rattle.git_places.specs.declared.error.PlacesError.TheVariants as errors
 use Rattle.git_places.specs.declared.format.Version.{Version}
 use Rattle.git_places.specs.declared.format.Version.TheVariants as versions
 
--- the version of the format by `core.repositoryFormatVersion`: 0 or 1; none where nothing says so
-abbrev pub version_of : Option (List ℕ) → Result (Option Version) PlacesError
-version_of None = Ok None
-version_of (Some text) =
+-- ---- in which file it says so
+
+-- whether a section without a subsection, of this name, has a key
+abbrev pub has_key : List ℕ → List ℕ → Section → Bool
+has_key name key section = eq_ignore_case section.name name && (is_none section.subsection && is_some (section_value key section))
+
+-- the file in which the last value of a key stands; where none does, and where it stands in no file, there is none
+abbrev pub file_after : Option (List ℕ) → List ℕ → List ℕ → List Section → Option (List ℕ)
+file_after found name key [] = found
+file_after found name key (section ∷ sections) = file_after (if has_key name key section then section.meta.path else found) name key sections
+
+abbrev pub file_of : List ℕ → List ℕ → List Section → Option (List ℕ)
+file_of name key sections = file_after None name key sections
+
+-- ---- the version
+
+-- the version of the format by `core.repositoryFormatVersion`, which stands in a file: 0 or 1; none where nothing says so
+abbrev pub version_of : Option (List ℕ) → Option (List ℕ) → Result (Option Version) PlacesError
+version_of path None = Ok None
+version_of path (Some text) =
     if bytes_eq text (codes "0") then Ok (Some versions.Zero)
     else if bytes_eq text (codes "1") then Ok (Some versions.One)
-    else Err (errors.Version text)
+    else Err (errors.Version path text)
 
 abbrev pub version_in : List Section → Result (Option Version) PlacesError
-version_in sections = version_of (string (codes "core") None (codes "repositoryformatversion") sections)
+version_in sections =
+    version_of (file_of (codes "core") (codes "repositoryformatversion") sections) (string (codes "core") None (codes "repositoryformatversion") sections)
 
 -- ---- extensions
 
@@ -70,15 +87,15 @@ is_sha256 versions.Zero subsection e = false
 is_sha256 versions.One (Some subsection) e = false
 is_sha256 versions.One None e = is_object_format e.key && bytes_eq (text_of e.value) (codes "sha256")
 
--- the refusal of a key: that the ids of the repository are of SHA-256 has a word of its own
-abbrev pub refusal_of : Version → Option (List ℕ) → Entry → PlacesError
-refusal_of version subsection e =
-    if is_sha256 version subsection e then errors.Sha256 else errors.Extension (behind_section subsection e.key)
+-- the refusal of a key of a file: that the ids of the repository are of SHA-256 has a word of its own
+abbrev pub refusal_of : Option (List ℕ) → Version → Option (List ℕ) → Entry → PlacesError
+refusal_of path version subsection e =
+    if is_sha256 version subsection e then errors.Sha256 path else errors.Extension path (behind_section subsection e.key)
 
 -- the refusal of a section `extensions`: that of its first key that does not leave the repository readable
 abbrev pub refusal_of_section : Version → Section → Option PlacesError
 refusal_of_section version section =
-    option_map (refusal_of version section.subsection) (find (λ e. not (is_readable version section.subsection e)) section.entries)
+    option_map (refusal_of section.meta.path version section.subsection) (find (λ e. not (is_readable version section.subsection e)) section.entries)
 
 -- what stands behind `extensions.` in the name of a section
 abbrev pub behind_dot : List ℕ → Option (List ℕ)
@@ -95,7 +112,7 @@ abbrev pub refusal_of_dotted : Version → Section → Option (List ℕ) → Opt
 refusal_of_dotted version section None = None
 refusal_of_dotted versions.Zero section (Some name) = None
 refusal_of_dotted versions.One section (Some name) =
-    option_map (λ e. errors.Extension (dotted_key name section.subsection e.key)) (slice_get section.entries 0)
+    option_map (λ e. errors.Extension section.meta.path (dotted_key name section.subsection e.key)) (slice_get section.entries 0)
 
 -- the refusal of a section, if it has one
 abbrev pub refusal_in : Version → Section → Option PlacesError
@@ -119,10 +136,10 @@ abbrev pub whole_key : List ℕ → List ℕ → List ℕ
 whole_key section key = section ++ codes "." ++ key
 
 -- the truth of a key, no where nothing is said; a value that is none is refused
-abbrev pub truth_by : List ℕ → Result (Option Bool) (List ℕ) → Result Bool PlacesError
-truth_by key (Ok None) = Ok false
-truth_by key (Ok (Some b)) = Ok b
-truth_by key (Err text) = Err (errors.Value key)
+abbrev pub truth_by : Option (List ℕ) → List ℕ → Result (Option Bool) (List ℕ) → Result Bool PlacesError
+truth_by path key (Ok None) = Ok false
+truth_by path key (Ok (Some b)) = Ok b
+truth_by path key (Err text) = Err (errors.Value path key)
 
 abbrev pub truth_of : List ℕ → List ℕ → List Section → Result Bool PlacesError
-truth_of section key sections = truth_by (whole_key section key) (boolean section None key sections)
+truth_of section key sections = truth_by (file_of section key sections) (whole_key section key) (boolean section None key sections)

@@ -9,7 +9,7 @@ use Rattle.git_config_lite.specs.Writers.{appended}
 use Rattle.worktree_fs.specs.Changes.{from_directory, real_path}
 use Rattle.worktree_fs.specs.Repository.{common_of, file_at, is_directory_at}
 use Rattle.worktree_fs.specs.Tree.{Names, is_empty, look}
-use Rattle.git_places.specs.Format.{readable_in, truth_of, version_in}
+use Rattle.git_places.specs.Format.{file_of, readable_in, truth_of, version_in}
 use Rattle.git_places.specs.GitDirectory.{dot_git}
 use Rattle.gitbase_core.specs.Steps.{and_then}
 use Rattle.git_places.specs.Upward.{Top}
@@ -62,21 +62,22 @@ abbrev pub work_tree_at : List ℕ → Option (List ℕ) → Result (List ℕ) P
 work_tree_at path None = Err (errors.NoWorkTree path)
 work_tree_at path (Some real) = Ok real
 
-abbrev pub work_tree_from : Names → List ℕ → List ℕ → Result (List ℕ) PlacesError
-work_tree_from t git path =
-    if is_empty path then Err (errors.Value (codes "core.worktree"))
+abbrev pub work_tree_from : Names → List ℕ → Option (List ℕ) → List ℕ → Result (List ℕ) PlacesError
+work_tree_from t git file path =
+    if is_empty path then Err (errors.Value file (codes "core.worktree"))
     else if is_directory_at (look t (from_directory path git) true)
     then work_tree_at (from_directory path git) (real_path t (from_directory path git) (47 ∷ []))
     else Err (errors.NoWorkTree (from_directory path git))
 
--- the directory at which the search ended, unless `core.worktree` names another
-abbrev pub work_tree_by : Names → Top → Option (List ℕ) → Result (List ℕ) PlacesError
-work_tree_by t top None = Ok top.directory
-work_tree_by t top (Some path) = work_tree_from t top.git path
+-- the directory at which the search ended, unless `core.worktree`, in a file, names another
+abbrev pub work_tree_by : Names → Top → Option (List ℕ) → Option (List ℕ) → Result (List ℕ) PlacesError
+work_tree_by t top file None = Ok top.directory
+work_tree_by t top file (Some path) = work_tree_from t top.git file path
 
 abbrev pub unless_bare_by : Names → Top → List Section → Bool → Result (List ℕ) PlacesError
 unless_bare_by t top sections true = Err (errors.Bare top.git)
-unless_bare_by t top sections false = work_tree_by t top (string (codes "core") None (codes "worktree") sections)
+unless_bare_by t top sections false =
+    work_tree_by t top (file_of (codes "core") (codes "worktree") sections) (string (codes "core") None (codes "worktree") sections)
 
 abbrev pub work_tree_asked : Names → Top → Configuration → Result (List ℕ) PlacesError
 work_tree_asked t top asked = and_then (unless_bare_by t top asked.sections) (truth_of (codes "core") (codes "bare") asked.sections)

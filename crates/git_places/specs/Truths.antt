@@ -17,7 +17,7 @@ one_key text =
     } ∷ []
 
 abbrev pub truth_said : List ℕ → Option Bool → Result Bool PlacesError
-truth_said name None = Err (errors.Value name)
+truth_said name None = Err (errors.Value None name)
 truth_said name (Some b) = Ok b
 
 -- no where the variable is not set; a text that is no boolean is refused

@@ -1,12 +1,12 @@
 //! What the configuration of a repository says of its format.
-ghost use Rattle.std.specs.Prelude.{◌≡◌, not, find, Some, Ok, IfOk, option_copied, option_map};
+ghost use Rattle.std.specs.Prelude.{◌≡◌, not, find, Some, Ok, IfOk, option_copied, option_map, if◌then◌else◌};
 ghost use Rattle.git_places.specs.Answers.{Decides};
 ghost use Rattle.git_places.specs.Format as words;
 ghost use Rattle.git_config_lite.specs.Lookups as lookups;
 
 use crate::error::PlacesError;
 use git_config_lite::{Entry, File, Section};
-use gitbase_core::{Bytes, OutOfMemory, eq_ignore_case};
+use gitbase_core::{Bytes, OutOfMemory, PathText, eq_ignore_case};
 use std::alloc::Global;
 
 /// The version of a repository's format.
@@ -18,15 +18,69 @@ pub enum Version {
     One,
 }
 
-/// The version that a text says, if there is one.
-fn version_of(alloc: Global, text: Option<&[u8]>) -> Result<Option<Version>, PlacesError>
-    ensures { Decides result (words.version_of (option_copied text.entry)) }
+/// Whether a section without a subsection, of this name, has a key.
+fn has_key(section: &Section, name: &[u8], key: &[u8]) -> bool
+    ensures { result ≡ words.has_key name.now key.now section.now }
+{
+    if !eq_ignore_case(section.name(), name) {
+        return false;
+    }
+    section.subsection_name().is_none() && section.value(key).is_some()
+}
+
+/// The file of a section that has a key, and of one that has it not the one that was found before.
+fn file_at<'a>(
+    section: &'a Section,
+    found: Option<&'a PathText>,
+    name: &[u8],
+    key: &[u8],
+) -> Option<&'a PathText>
+    ensures { option_copied result ≡ (if words.has_key name.now key.now section.now
+        then section.now.meta.path else option_copied found.entry) }
+{
+    if has_key(section, name, key) {
+        return section.meta().path.as_ref();
+    }
+    found
+}
+
+/// The file in which the last value of a key stands, in the sections of a name that have no subsection. None where no value does, or
+/// where it stands in no file.
+pub fn file_of<'a>(config: &'a File, name: &[u8], key: &[u8]) -> Option<&'a PathText>
+    ensures { option_copied result ≡ words.file_of name.now key.now config.now.sections }
+{
+    let mut found = None;
+    for section in config.sections() {
+        found = file_at(section, found, name, key);
+    }
+    found
+}
+
+/// A copy of a path, if there is one.
+pub fn path_copied(alloc: Global, path: Option<&PathText>) -> Result<Option<PathText>, OutOfMemory>
+    ensures { IfOk result (λ copy. copy ≡ option_copied path.entry) }
+{
+    match path {
+        Some(path) => Ok(Some(PathText::from_bytes(alloc, path.as_bytes())?)),
+        None => Ok(None),
+    }
+}
+
+/// The version that a text in a file says, if there is one.
+fn version_of(
+    alloc: Global,
+    file: Option<&PathText>,
+    text: Option<&[u8]>,
+) -> Result<Option<Version>, PlacesError>
+    ensures { Decides result
+        (words.version_of (option_copied file.entry) (option_copied text.entry)) }
 {
     match text {
         None => Ok(None),
         Some(b"0") => Ok(Some(Version::Zero)),
         Some(b"1") => Ok(Some(Version::One)),
         Some(text) => Err(PlacesError::Version {
+            path: path_copied(alloc, file)?,
             value: Bytes::from_slice(alloc, text)?,
         }),
     }
@@ -38,6 +92,7 @@ pub fn version_in(alloc: Global, config: &File) -> Result<Option<Version>, Place
 {
     version_of(
         alloc,
+        file_of(config, b"core", b"repositoryformatversion"),
         config.string(b"core", None, b"repositoryformatversion"),
     )
 }
@@ -151,20 +206,25 @@ fn behind_section(
     Ok(whole)
 }
 
-/// The refusal of a key.
+/// The refusal of a key of a file.
 fn refusal_of(
     alloc: Global,
+    file: Option<&PathText>,
     version: Version,
     subsection: Option<&[u8]>,
     entry: &Entry,
 ) -> Result<PlacesError, OutOfMemory>
     ensures { IfOk result
-        (λ e. e ≡ words.refusal_of version (option_copied subsection.entry) entry.now) }
+        (λ e. e ≡ words.refusal_of (option_copied file.entry) version
+        (option_copied subsection.entry) entry.now) }
 {
     if is_sha256(version, subsection, entry) {
-        return Ok(PlacesError::Sha256);
+        return Ok(PlacesError::Sha256 {
+            path: path_copied(alloc, file)?,
+        });
     }
     Ok(PlacesError::Extension {
+        path: path_copied(alloc, file)?,
         key: behind_section(alloc, subsection, entry.key.as_bytes())?,
     })
 }
@@ -191,8 +251,9 @@ fn refusal_of_section(
 {
     match unreadable(version, section) {
         Some(entry) => {
+            let file = section.meta().path.as_ref();
             let subsection = section.subsection_name();
-            Ok(Some(refusal_of(alloc, version, subsection, entry)?))
+            Ok(Some(refusal_of(alloc, file, version, subsection, entry)?))
         }
         None => Ok(None),
     }
@@ -225,6 +286,7 @@ fn refusal_of_first(
         Some(entry) => {
             let key = behind_section(alloc, section.subsection_name(), entry.key.as_bytes())?;
             Ok(Some(PlacesError::Extension {
+                path: path_copied(alloc, section.meta().path.as_ref())?,
                 key: behind_section(alloc, Some(name), key.as_bytes())?,
             }))
         }
@@ -275,15 +337,23 @@ pub fn readable_in(alloc: Global, version: Version, config: &File) -> Result<boo
     Ok(true)
 }
 
-/// The refusal of the value of a key.
-pub fn value_error(alloc: Global, section: &[u8], key: &[u8]) -> Result<PlacesError, OutOfMemory>
-    ensures { IfOk result
-        (λ e. e ≡ PlacesError.Value (words.whole_key section.now key.now)) }
+/// The refusal of the value of a key in a file.
+fn value_error(
+    alloc: Global,
+    file: Option<&PathText>,
+    section: &[u8],
+    key: &[u8],
+) -> Result<PlacesError, OutOfMemory>
+    ensures { IfOk result (λ e. e
+        ≡ PlacesError.Value (option_copied file.entry) (words.whole_key section.now key.now)) }
 {
     let mut whole = Bytes::from_slice(alloc, section)?;
     whole.extend(alloc, b".")?;
     whole.extend(alloc, key)?;
-    Ok(PlacesError::Value { key: whole })
+    Ok(PlacesError::Value {
+        path: path_copied(alloc, file)?,
+        key: whole,
+    })
 }
 
 /// What a key says as a boolean, no where it does not stand there.
@@ -298,6 +368,6 @@ pub fn truth_of(
     match config.boolean(section, None, key) {
         Ok(None) => Ok(false),
         Ok(Some(truth)) => Ok(truth),
-        Err(_) => Err(value_error(alloc, section, key)?),
+        Err(_) => Err(value_error(alloc, file_of(config, section, key), section, key)?),
     }
 }

@@ -16,7 +16,7 @@ mod whole;
 
 pub use ceilings::{Ceilings, ceilings_of};
 pub use error::PlacesError;
-pub use format::Version;
+pub use format::{Version, file_of, path_copied};
 pub use git_directory::dot_git;
 pub use limits::{Limits, limits_of};
 pub use places::{Places, places_of};

@@ -7,7 +7,7 @@ ghost use Rattle.git_config_lite.specs.Writers.{appended};
 ghost use Rattle.git_places.specs.Places as words;
 
 use crate::error::PlacesError;
-use crate::format::{Version, readable_in, truth_of, version_in};
+use crate::format::{Version, file_of, path_copied, readable_in, truth_of, version_in};
 use crate::git_directory::dot_git;
 use crate::upward::Top;
 use crate::whole::is_directory;
@@ -185,18 +185,20 @@ fn work_tree_at<W: Worktree>(
     }
 }
 
-/// The work tree that `core.worktree` names.
+/// The work tree that `core.worktree` in a file names.
 fn work_tree_from<W: Worktree>(
     alloc: Global,
     worktree: &mut W,
     git: &[u8],
+    file: Option<&PathText>,
     path: &[u8],
 ) -> Result<PathText, PlacesError>
     ensures { Finds W.Worktree worktree.old worktree.new
-        (λ t. words.work_tree_from t git.now path.now) result }
+        (λ t. words.work_tree_from t git.now (option_copied file.entry) path.now) result }
 {
     if path.is_empty() {
         return Err(PlacesError::Value {
+            path: path_copied(alloc, file)?,
             key: Bytes::from_slice(alloc, b"core.worktree")?,
         });
     }
@@ -212,13 +214,14 @@ fn work_tree_by<W: Worktree>(
     alloc: Global,
     worktree: &mut W,
     top: &Top,
+    file: Option<&PathText>,
     path: Option<&[u8]>,
 ) -> Result<PathText, PlacesError>
-    ensures { Finds W.Worktree worktree.old worktree.new
-        (λ t. words.work_tree_by t top.now (option_copied path.entry)) result }
+    ensures { Finds W.Worktree worktree.old worktree.new (λ t. words.work_tree_by t top.now
+        (option_copied file.entry) (option_copied path.entry)) result }
 {
     match path {
-        Some(path) => work_tree_from(alloc, worktree, top.git.as_bytes(), path),
+        Some(path) => work_tree_from(alloc, worktree, top.git.as_bytes(), file, path),
         None => Ok(PathText::from_bytes(alloc, top.directory.as_bytes())?),
     }
 }
@@ -242,6 +245,7 @@ fn work_tree_asked<W: Worktree>(
         alloc,
         worktree,
         top,
+        file_of(asked, b"core", b"worktree"),
         asked.string(b"core", None, b"worktree"),
     )
 }

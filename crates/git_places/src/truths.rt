@@ -52,6 +52,7 @@ pub fn truth_in(alloc: Global, name: &[u8], text: &Option<Bytes>) -> Result<bool
     match truth_of_text(alloc, text.as_bytes())? {
         Some(truth) => Ok(truth),
         None => Err(PlacesError::Value {
+            path: None,
             key: Bytes::from_slice(alloc, name)?,
         }),
     }

@@ -67,7 +67,7 @@ pub fn word_of(error: &PlacesError) -> &'static [u8] {
         PlacesError::CommonDir { .. } => b"common",
         PlacesError::Version { .. } => b"version",
         PlacesError::Extension { .. } => b"extension",
-        PlacesError::Sha256 => b"sha256",
+        PlacesError::Sha256 { .. } => b"sha256",
         PlacesError::Value { .. } => b"value",
         PlacesError::Config { .. } => b"config",
         PlacesError::NoWorkTree { .. } => b"no-work-tree",
@@ -79,9 +79,9 @@ pub fn word_of(error: &PlacesError) -> &'static [u8] {
 /// What a refusal names, where git names it.
 fn named_by(error: &PlacesError) -> &[u8] {
     match error {
-        PlacesError::Version { value } => value.as_bytes(),
-        PlacesError::Extension { key } => key.as_bytes(),
-        PlacesError::Value { key } => key.as_bytes(),
+        PlacesError::Version { value, .. } => value.as_bytes(),
+        PlacesError::Extension { key, .. } => key.as_bytes(),
+        PlacesError::Value { key, .. } => key.as_bytes(),
         _ => b"",
     }
 }
@@ -93,7 +93,7 @@ fn is_refused(error: &PlacesError, want: &[u8]) -> bool {
 }
 
 /// Where the work tree of a directory lies, whoever owns it.
-fn places_in(
+pub fn places_in(
     alloc: Global,
     tree: &mut MemoryWorktree,
     current: &[u8],

@@ -6,6 +6,8 @@ mod answers;
 #[cfg(test)]
 mod layouts;
 #[cfg(test)]
+mod standing;
+#[cfg(test)]
 mod texts;
 #[cfg(test)]
 mod tree;

@@ -29,7 +29,7 @@ fn is_bare_shown(alloc: Global, want: &[u8]) -> bool {
 
 fn is_version_shown(alloc: Global, want: &[u8]) -> bool {
     match Bytes::from_slice(alloc, b"2") {
-        Ok(value) => is_shown(alloc, PlacesError::Version { value }, want),
+        Ok(value) => is_shown(alloc, PlacesError::Version { path: None, value }, want),
         Err(_) => false,
     }
 }
@@ -41,7 +41,7 @@ fn holds(alloc: Global, row: &[u8]) -> bool {
         b"none" => is_shown(alloc, PlacesError::NoRepository, text),
         b"bare" => is_bare_shown(alloc, text),
         b"version" => is_version_shown(alloc, text),
-        b"sha256" => is_shown(alloc, PlacesError::Sha256, text),
+        b"sha256" => is_shown(alloc, PlacesError::Sha256 { path: None }, text),
         b"fault" => is_shown(alloc, PlacesError::Fault, text),
         _ => is_shown(alloc, PlacesError::OutOfMemory, text),
     }

@@ -4,6 +4,7 @@ use Rattle.gitbase_core.specs.Steps.{and_then}
 use Rattle.gitbase_core.specs.Text.{eq_ignore_case}
 use Rattle.git_config_lite.specs.Lookups.{boolean, string}
 use Rattle.git_config_lite.specs.Sections.{Section}
+use Rattle.git_places.specs.Format.{file_of}
 use Rattle.git_setup.specs.Steps.{◌>>=◌}
 use Rattle.git_setup.specs.Switches.{truth_in}
 use Rattle.git_setup.specs.declared.error.GitRefusal.{GitRefusal}
@@ -17,16 +18,16 @@ check_stat_by value =
     else if eq_ignore_case value (codes "minimal") then Some false
     else None
 
-abbrev check_stat_known : Option Bool → Result Bool GitRefusal
-check_stat_known (Some checks) = Ok checks
-check_stat_known None = Err (errors.Boolean (codes "core.checkStat"))
+abbrev check_stat_known : Option (List ℕ) → Option Bool → Result Bool GitRefusal
+check_stat_known file (Some checks) = Ok checks
+check_stat_known file None = Err (errors.Boolean file (codes "core.checkStat"))
 
-abbrev check_stat_said : Option (List ℕ) → Result Bool GitRefusal
-check_stat_said None = Ok true
-check_stat_said (Some value) = check_stat_known (check_stat_by value)
+abbrev check_stat_said : Option (List ℕ) → Option (List ℕ) → Result Bool GitRefusal
+check_stat_said file None = Ok true
+check_stat_said file (Some value) = check_stat_known file (check_stat_by value)
 
 abbrev pub check_stat_in : List Section → Result Bool GitRefusal
-check_stat_in sections = check_stat_said (string (codes "core") None (codes "checkstat") sections)
+check_stat_in sections = check_stat_said (file_of (codes "core") (codes "checkstat") sections) (string (codes "core") None (codes "checkstat") sections)
 
 -- each of `core.fileMode`, `core.symlinks` and `core.trustctime` is usually true
 unfoldable pub nodes_in : List Section → Result NodeSettings GitRefusal

@@ -2,19 +2,21 @@
 use Rattle.std.specs.Prelude.{ℕ, Bool, true, false, not, ◌&&◌, List, codes, Option, Some, None, Result, Ok, Err}
 use Rattle.git_config_lite.specs.Lookups.{boolean}
 use Rattle.git_config_lite.specs.Sections.{Section}
+use Rattle.git_places.specs.Format.{file_of}
 use Rattle.git_setup.specs.Steps.{◌>>=◌}
 use Rattle.git_setup.specs.declared.error.GitRefusal.{GitRefusal}
 use Rattle.git_setup.specs.declared.error.GitRefusal.TheVariants as errors
 use Rattle.git_setup.specs.declared.switches.Switches.{Switches}
 
-abbrev pub truth_said : List ℕ → Bool → Result (Option Bool) (List ℕ) → Result Bool GitRefusal
-truth_said name usual (Ok None) = Ok usual
-truth_said name usual (Ok (Some truth)) = Ok truth
-truth_said name usual (Err text) = Err (errors.Boolean name)
+abbrev pub truth_said : Option (List ℕ) → List ℕ → Bool → Result (Option Bool) (List ℕ) → Result Bool GitRefusal
+truth_said file name usual (Ok None) = Ok usual
+truth_said file name usual (Ok (Some truth)) = Ok truth
+truth_said file name usual (Err text) = Err (errors.Boolean file name)
 
--- what the key `section.key` says as a boolean, the usual answer where nothing does; one that is no boolean is refused by this name
+-- what the key `section.key` says as a boolean, the usual answer where nothing does; one that is no boolean is refused by its file and
+-- this name
 abbrev pub truth_in : List Section → List ℕ → List ℕ → List ℕ → Bool → Result Bool GitRefusal
-truth_in sections section key name usual = truth_said name usual (boolean section None key sections)
+truth_in sections section key name usual = truth_said (file_of section key sections) name usual (boolean section None key sections)
 
 -- `core.ignoreCase`; whether a skipped entry that is in the work tree counts as one that is not skipped; and `core.quotePath`, which is
 -- usually true

@@ -43,9 +43,10 @@ pub enum GitRefusal {
     /// a variant here.
     #[error("Files")]
     Files(FilesError),
-    /// The value of this key of the configuration is no boolean.
+    /// The value of this key of the configuration, in the file at `path`, is no boolean.
     #[error("Boolean")]
     Boolean {
+        path: Option<PathText>,
         key: Bytes,
     },
     /// The index has one entry for all that is beneath this directory, and something is in its place.

@@ -4,8 +4,9 @@ ghost use Rattle.git_setup.specs.Finds.{Decides};
 ghost use Rattle.git_setup.specs.Settings as words;
 
 use crate::error::GitRefusal;
-use crate::switches::truth_in;
+use crate::switches::{boolean_error, truth_in};
 use git_config_lite::File;
+use git_places::file_of;
 use gitbase_core::{Bytes, OutOfMemory, eq_ignore_case};
 use std::alloc::Global;
 
@@ -37,15 +38,6 @@ pub struct Settings {
     pub ignores_submodules: bool,
 }
 
-/// That a key of the configuration has a value that is not known.
-fn value_error(alloc: Global, key: &[u8]) -> Result<GitRefusal, OutOfMemory>
-    ensures { IfOk result (λ e. e ≡ GitRefusal.Boolean key.now) }
-{
-    Ok(GitRefusal::Boolean {
-        key: Bytes::from_slice(alloc, key)?,
-    })
-}
-
 /// Whether all fields of a node count, by the value of `core.checkStat`.
 fn check_stat_by(value: &[u8]) -> Option<bool>
     ensures { result ≡ words.check_stat_by value.now }
@@ -68,7 +60,10 @@ fn check_stat_in(alloc: Global, config: &File) -> Result<bool, GitRefusal>
     };
     match check_stat_by(value) {
         Some(checks) => Ok(checks),
-        None => Err(value_error(alloc, b"core.checkStat")?),
+        None => {
+            let file = file_of(config, b"core", b"checkstat");
+            Err(boolean_error(alloc, file, b"core.checkStat")?)
+        }
     }
 }
 

@@ -1,10 +1,12 @@
 //! What the configuration says of how names compare, of a sparse work tree, and of how paths are written.
+ghost use Rattle.std.specs.Prelude.{◌≡◌, IfOk, option_copied};
 ghost use Rattle.git_setup.specs.Finds.{Decides};
 ghost use Rattle.git_setup.specs.Switches as words;
 
 use crate::error::GitRefusal;
 use git_config_lite::File;
-use gitbase_core::Bytes;
+use git_places::{file_of, path_copied};
+use gitbase_core::{Bytes, OutOfMemory, PathText};
 use std::alloc::Global;
 
 /// What the configuration says of how names compare, of a sparse work tree, and of how paths are written.
@@ -16,6 +18,20 @@ pub struct Switches {
     pub looks_for_skipped: bool,
     /// Whether bytes above 0x7f are quoted in paths that are written.
     pub quote_path: bool,
+}
+
+/// The refusal of the value of a key in a file, by what the key is called.
+pub fn boolean_error(
+    alloc: Global,
+    file: Option<&PathText>,
+    name: &[u8],
+) -> Result<GitRefusal, OutOfMemory>
+    ensures { IfOk result (λ e. e ≡ GitRefusal.Boolean (option_copied file.entry) name.now) }
+{
+    Ok(GitRefusal::Boolean {
+        path: path_copied(alloc, file)?,
+        key: Bytes::from_slice(alloc, name)?,
+    })
 }
 
 /// What a key says as a boolean, and the usual answer where it says nothing; `name` is what it is called where it is refused.
@@ -33,9 +49,7 @@ pub fn truth_in(
     match config.boolean(section, None, key) {
         Ok(Some(truth)) => Ok(truth),
         Ok(None) => Ok(usual),
-        Err(_) => Err(GitRefusal::Boolean {
-            key: Bytes::from_slice(alloc, name)?,
-        }),
+        Err(_) => Err(boolean_error(alloc, file_of(config, section, key), name)?),
     }
 }
 

@@ -83,7 +83,7 @@ fn is_refused(error: &GitRefusal, want: &[u8]) -> bool {
         GitRefusal::IndexFile { path, .. } => is_text(want, b"index", path.as_bytes()),
         GitRefusal::IndexEntry { error, .. } => is_entry(want, error),
         GitRefusal::Files(_) => want == b"files".as_slice(),
-        GitRefusal::Boolean { key } => is_text(want, b"boolean", key.as_bytes()),
+        GitRefusal::Boolean { key, .. } => is_text(want, b"boolean", key.as_bytes()),
         error => is_refused_path(error, want),
     }
 }

@@ -1,5 +1,5 @@
 -- The lines on standard error, for a person: what cannot be had, and where.
-use Rattle.std.specs.Prelude.{ℕ, List, [], ◌∷◌, ◌++◌, if◌then◌else◌, codes, decimal}
+use Rattle.std.specs.Prelude.{ℕ, Option, Some, None, List, [], ◌∷◌, ◌++◌, if◌then◌else◌, codes, decimal}
 use Rattle.gitbase_core.specs.Path.{is_empty}
 use Rattle.worktree_fs.specs.Causes.{next}
 use Rattle.worktree_report.specs.Escapes.{escaped}
@@ -20,9 +20,18 @@ with_place before at after = with_number before (next at) after
 abbrev pub config_line : List ℕ → ℕ → List ℕ
 config_line path line = codes "fatal: bad config line " ++ decimal line ++ (codes " in file " ++ escaped path ++ 10 ∷ [])
 
+-- the end of a line, with the file in which what it is about stands, where one is told
+abbrev pub in_file : Option (List ℕ) → List ℕ
+in_file None = 10 ∷ []
+in_file (Some path) = codes " in file " ++ escaped path ++ 10 ∷ []
+
+-- a text with another one in it, escaped, and the file in which that stands
+abbrev pub with_file : List ℕ → List ℕ → List ℕ → Option (List ℕ) → List ℕ
+with_file before text after path = with_path before text after ++ in_file path
+
 -- the value of a key or of a variable cannot be read
-abbrev pub value_line : List ℕ → List ℕ
-value_line key = with_path (codes "fatal: bad config value for '") key (codes "'\n")
+abbrev pub value_line : Option (List ℕ) → List ℕ → List ℕ
+value_line path key = with_file (codes "fatal: bad config value for '") key (codes "'") path
 
 -- a repository belongs to another user, in git's words; the path is not put into the call, which a person may copy into a shell
 abbrev pub foreign_line : List ℕ → List ℕ

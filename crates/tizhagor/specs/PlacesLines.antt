@@ -1,8 +1,8 @@
 -- Why no work tree is found, or why its repository is not read: the line.
-use Rattle.std.specs.Prelude.{ℕ, List, codes}
+use Rattle.std.specs.Prelude.{ℕ, List, [], ◌++◌, codes}
 use Rattle.git_places.specs.declared.error.PlacesError.{PlacesError}
 use Rattle.git_places.specs.declared.error.PlacesError.TheVariants as errors
-use Rattle.tizhagor.specs.Parts.{config_line, fault_line, memory_line, value_line, with_path}
+use Rattle.tizhagor.specs.Parts.{config_line, fault_line, in_file, memory_line, value_line, with_file, with_path}
 
 abbrev pub places_line : PlacesError → List ℕ
 places_line errors.NoRepository = codes "fatal: not a git repository (or any of the parent directories): .git\n"
@@ -15,10 +15,10 @@ places_line (errors.GitFileTarget path) = with_path (codes "fatal: not a git rep
 places_line (errors.OddHead path) =
     with_path (codes "fatal: '") path (codes "' may be another HEAD to git; make it a file of one line, 'ref: refs/heads/BRANCH' or an id\n")
 places_line (errors.CommonDir path) = with_path (codes "fatal: '") path (codes "' names no directory\n")
-places_line (errors.Version value) = with_path (codes "fatal: Expected git repo version <= 1, found ") value (codes "\n")
-places_line (errors.Extension key) = with_path (codes "fatal: unknown repository extension found: ") key (codes "\n")
-places_line errors.Sha256 = codes "fatal: a repository with ids of SHA-256 is not read\n"
-places_line (errors.Value key) = value_line key
+places_line (errors.Version path value) = with_file (codes "fatal: Expected git repo version <= 1, found ") value [] path
+places_line (errors.Extension path key) = with_file (codes "fatal: unknown repository extension found: ") key [] path
+places_line (errors.Sha256 path) = codes "fatal: a repository with ids of SHA-256 is not read" ++ in_file path
+places_line (errors.Value path key) = value_line path key
 places_line (errors.Config path line) = config_line path line
 places_line (errors.NoWorkTree path) = with_path (codes "fatal: core.worktree names no directory: '") path (codes "'\n")
 places_line errors.Fault = fault_line

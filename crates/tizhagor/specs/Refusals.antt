@@ -60,7 +60,7 @@ of_git (git.IndexNode path) = errors.Git (git.IndexNode path)
 of_git (git.IndexFile path e) = errors.Git (git.IndexFile path e)
 of_git (git.IndexEntry path e) = errors.Git (git.IndexEntry path e)
 of_git (git.Files e) = errors.Git (git.Files e)
-of_git (git.Boolean key) = errors.Git (git.Boolean key)
+of_git (git.Boolean path key) = errors.Git (git.Boolean path key)
 of_git (git.SparseDirectory path) = errors.Git (git.SparseDirectory path)
 of_git (git.OutsideRoot directory root) = errors.Git (git.OutsideRoot directory root)
 of_git (git.PathSpec text) = errors.Git (git.PathSpec text)
@@ -147,7 +147,7 @@ git_line (git.IndexNode path) = with_path (codes "fatal: '") path (codes "' is n
 git_line (git.IndexFile path e) = with_path (codes "fatal: ") path (file_reason e)
 git_line (git.IndexEntry path e) = with_path (codes "fatal: ") path (entry_reason e)
 git_line (git.Files e) = files_line e
-git_line (git.Boolean key) = value_line key
+git_line (git.Boolean path key) = value_line path key
 git_line (git.SparseDirectory path) =
     with_path (codes "fatal: the index leaves out directory '") path (codes "', and something is there; undo it with 'git sparse-checkout reapply --no-sparse-index'\n")
 git_line (git.OutsideRoot directory root) =

@@ -9,7 +9,7 @@ pub mod index;
 pub mod places;
 pub mod program;
 
-use gitbase_core::{Bytes, OutOfMemory};
+use gitbase_core::{Bytes, OutOfMemory, PathText};
 use std::alloc::Global;
 use worktree_report::add_escaped;
 
@@ -111,9 +111,36 @@ pub fn fault_line(alloc: Global, first: &[u8]) -> Result<Bytes, OutOfMemory>
     )
 }
 
-/// The value of a key or of a variable cannot be read.
-pub fn value_line(alloc: Global, key: &[u8]) -> Result<Bytes, OutOfMemory>
-    ensures { IfOk result (λ text. text ≡ words.value_line key.now) }
+/// The end of a line, with the file in which what it is about stands, where one is told.
+pub fn in_file(alloc: Global, path: &Option<PathText>) -> Result<Bytes, OutOfMemory>
+    ensures { IfOk result (λ text. text ≡ words.in_file path.now) }
 {
-    with_path(alloc, b"fatal: bad config value for '", key, b"'\n")
+    match path {
+        Some(path) => with_path(alloc, b" in file ", path.as_bytes(), b"\n"),
+        None => fixed(alloc, b"\n"),
+    }
+}
+
+/// A text with another one in it, escaped, and the file in which that stands.
+pub fn with_file(
+    alloc: Global,
+    before: &[u8],
+    text: &[u8],
+    after: &[u8],
+    path: &Option<PathText>,
+) -> Result<Bytes, OutOfMemory>
+    ensures { IfOk result
+        (λ line. line ≡ words.with_file before.now text.now after.now path.now) }
+{
+    let mut line = with_path(alloc, before, text, after)?;
+    let end = in_file(alloc, path)?;
+    line.extend(alloc, end.as_bytes())?;
+    Ok(line)
+}
+
+/// The value of a key or of a variable cannot be read.
+pub fn value_line(alloc: Global, path: &Option<PathText>, key: &[u8]) -> Result<Bytes, OutOfMemory>
+    ensures { IfOk result (λ text. text ≡ words.value_line path.now key.now) }
+{
+    with_file(alloc, b"fatal: bad config value for '", key, b"'", path)
 }

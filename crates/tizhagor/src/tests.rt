@@ -56,10 +56,10 @@ report^/^^^128^^fatal: not a git repository (or any of the parent directories): 
 report^/w/.git^^^128^^fatal: this operation must be run in a work tree~|\
 report^/w^GIT_DIR=x^^128^^fatal: GIT_DIR is set, which is not heeded; unset it~|\
 report^/w^^/w/.git/config=[core~^128^^fatal: bad config line 1 in file /w/.git/config~|\
-report^/w^^/w/.git/config=[core]~repositoryformatversion=2~^128^^fatal: Expected git repo version <= 1, found 2~|\
+report^/w^^/w/.git/config=[core]~repositoryformatversion=2~^128^^fatal: Expected git repo version <= 1, found 2 in file /w/.git/config~|\
 report^/w/n^^/w/n/.git=x^128^^fatal: invalid gitfile format: /w/n/.git~|\
 report^/w/n^^/w/n/.git=gitdir: x~^128^^fatal: not a git repository: /w/n/x~|\
-report^/w^^/w/.git/config=[core]~repositoryformatversion=0~bare=x~^128^^fatal: bad config value for 'core.bare'~|\
+report^/w^^/w/.git/config=[core]~repositoryformatversion=0~bare=x~^128^^fatal: bad config value for 'core.bare' in file /w/.git/config~|\
 report^/w^^@/w/.git=21^128^^fatal: detected dubious ownership in repository at '/w'; to add an exception, call 'git config --global --add safe.directory DIRECTORY'~|\
 report d^/w^HOME=/h^@/w/.git=21;/h/.gitconfig=[safe]~directory=/w~^0^untracked file - prefix - -\td/e~^|\
 report^/w/d^^@/w/d=12^128^^fatal: not a git repository (or any parent up to mount point /w); stopping at filesystem boundary (GIT_DISCOVERY_ACROSS_FILESYSTEM not set)~|\

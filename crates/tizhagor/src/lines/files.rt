@@ -2,7 +2,9 @@
 ghost use Rattle.std.specs.Prelude.{◌≡◌, IfOk};
 ghost use Rattle.tizhagor.specs.FilesLines as words;
 
-use crate::lines::{FAULT, MEMORY, config_line, fixed, foreign_line, value_line, with_path};
+use crate::lines::{
+    FAULT, MEMORY, config_line, fixed, foreign_line, value_line, with_file, with_path,
+};
 use git_config_files::FilesError;
 use gitbase_core::{Bytes, OutOfMemory};
 use std::alloc::Global;
@@ -31,11 +33,12 @@ pub fn files_line(alloc: Global, error: &FilesError) -> Result<Bytes, OutOfMemor
             path.as_bytes(),
             b"\n",
         ),
-        FilesError::UserDir { value } => with_path(
+        FilesError::UserDir { path, value } => with_file(
             alloc,
             b"fatal: failed to expand user dir in: '",
             value.as_bytes(),
-            b"'\n",
+            b"'",
+            path,
         ),
         FilesError::Condition { path } => with_path(
             alloc,
@@ -49,7 +52,7 @@ pub fn files_line(alloc: Global, error: &FilesError) -> Result<Bytes, OutOfMemor
             path.as_bytes(),
             b"\n",
         ),
-        FilesError::Value { key } => value_line(alloc, key.as_bytes()),
+        FilesError::Value { path, key } => value_line(alloc, path, key.as_bytes()),
         FilesError::Elsewhere { name } => with_path(
             alloc,
             b"fatal: ",

@@ -71,7 +71,7 @@ pub fn git_line(alloc: Global, refusal: &GitRefusal) -> Result<Bytes, OutOfMemor
         GitRefusal::IndexFile { path, error } => file_line(alloc, path.as_bytes(), error),
         GitRefusal::IndexEntry { path, error } => entry_line(alloc, path.as_bytes(), error),
         GitRefusal::Files(error) => files_line(alloc, error),
-        GitRefusal::Boolean { key } => value_line(alloc, key.as_bytes()),
+        GitRefusal::Boolean { path, key } => value_line(alloc, path, key.as_bytes()),
         GitRefusal::SparseDirectory { path } => with_path(
             alloc,
             b"fatal: the index leaves out directory '",

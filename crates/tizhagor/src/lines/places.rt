@@ -2,10 +2,23 @@
 ghost use Rattle.std.specs.Prelude.{◌≡◌, IfOk};
 ghost use Rattle.tizhagor.specs.PlacesLines as words;
 
-use crate::lines::{FAULT, MEMORY, config_line, fixed, value_line, with_path};
+use crate::lines::{FAULT, MEMORY, config_line, fixed, in_file, value_line, with_file, with_path};
 use git_places::PlacesError;
-use gitbase_core::{Bytes, OutOfMemory};
+use gitbase_core::{Bytes, OutOfMemory, PathText};
 use std::alloc::Global;
+
+/// The line of a repository whose ids are of SHA-256.
+fn sha256_line(alloc: Global, path: &Option<PathText>) -> Result<Bytes, OutOfMemory>
+    ensures { IfOk result (λ line. line ≡ words.places_line (PlacesError.Sha256 path.now)) }
+{
+    let mut line = fixed(
+        alloc,
+        b"fatal: a repository with ids of SHA-256 is not read",
+    )?;
+    let end = in_file(alloc, path)?;
+    line.extend(alloc, end.as_bytes())?;
+    Ok(line)
+}
 
 /// The line of a work tree that is not found, or of a repository that is not read.
 pub fn places_line(alloc: Global, error: &PlacesError) -> Result<Bytes, OutOfMemory>
@@ -56,23 +69,22 @@ pub fn places_line(alloc: Global, error: &PlacesError) -> Result<Bytes, OutOfMem
             path.as_bytes(),
             b"' names no directory\n",
         ),
-        PlacesError::Version { value } => with_path(
+        PlacesError::Version { path, value } => with_file(
             alloc,
             b"fatal: Expected git repo version <= 1, found ",
             value.as_bytes(),
-            b"\n",
+            b"",
+            path,
         ),
-        PlacesError::Extension { key } => with_path(
+        PlacesError::Extension { path, key } => with_file(
             alloc,
             b"fatal: unknown repository extension found: ",
             key.as_bytes(),
-            b"\n",
+            b"",
+            path,
         ),
-        PlacesError::Sha256 => fixed(
-            alloc,
-            b"fatal: a repository with ids of SHA-256 is not read\n",
-        ),
-        PlacesError::Value { key } => value_line(alloc, key.as_bytes()),
+        PlacesError::Sha256 { path } => sha256_line(alloc, path),
+        PlacesError::Value { path, key } => value_line(alloc, path, key.as_bytes()),
         PlacesError::Config { path, line } => config_line(alloc, path.as_bytes(), *line),
         PlacesError::NoWorkTree { path } => with_path(
             alloc,
