@@ -150,6 +150,8 @@ check-ignore \xc3\xa9.o^/w^^/w/.git/config=[core]~quotePath=no~^0^\xc3\xa9.o~^|\
 check-ignore C.O^/w^^/w/.git/config=[core]~ignoreCase~^0^C.O~^|\
 check-ignore c.o ../x^/w^^^128^^fatal: ../x: '../x' is outside repository at '/w'~|\
 check-ignore -v d/^/w^^^128^^fatal: check-ignore is not supported with a directory that is neither tracked nor ignored: 'd/'~|\
+check-ignore x^/w^^/w/.git/info/exclude=y~*~^128^^fatal: check-ignore is not supported with a rule outside the work tree that excludes all, line 2 of '.git/info/exclude': 'x'~|\
+check-ignore x^/w^HOME=/h^/h/.config/git/ignore=*~^128^^fatal: check-ignore is not supported with a rule outside the work tree that excludes all, line 1 of '/h/.config/git/ignore': 'x'~|\
 check-ignore^/w^^^128^^fatal: no path specified~|\
 check-ignore -nq a b^/w^^^128^^fatal: --quiet is only valid with a single pathname~|\
 check-ignore --stdin^/w^INPUT=c.o~b~\"d\\057x.o\"~^^0^c.o~d/x.o~^|\
