@@ -5,7 +5,7 @@ pub mod Modes
 pub mod Fields
 pub mod There
 pub mod States
+pub mod Texts
 pub mod Rows
 pub mod Lines
-pub mod Texts
 pub mod Differences

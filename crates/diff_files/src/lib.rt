@@ -20,7 +20,7 @@ mod taken;
 pub use answer::{Differences, diff_files};
 pub use change::PathChange;
 pub use comparison::{Comparison, Form, Submodules};
-pub use error::{DiffError, Unsupported};
+pub use error::{DiffError, Unanswered, Unsupported};
 pub use stats::Stats;
 pub use stats::disk::DiskStats;
 pub use stats::memory::{MemoryStats, StatNode};
