@@ -83,7 +83,9 @@ ls-files -kt^/w^^/w/.git/index=DIRC\0\0\0\x02\0\0\0\x01\0\0\0\0\0\0\0\0\0\0\0\0\
 \0\0\0\0\0\0\0\0\0\0\0\0\0\0\0\0\0\0\0\0\0\0\0\0\0\0\0^0^K b~^|\
 ls-files -ox b --exclude-standard^/w^^^0^.gitignore~d/e~^|\
 ls-files -o --exclude=#d -x e --exclude-per-directory=.gitignore^/w^^/w/#d=;/w/.git/info/exclude=b~^0^.gitignore~b~^|\
-ls-files -ox b^/w^^^128^^fatal: ls-files -x is not supported without --exclude-per-directory~|\
+ls-files -ox b^/w^^^0^.gitignore~c.o~d/e~^|\
+ls-files -oix d^/w^^^0^d/e~^|\
+ls-files -kx b^/w^^^128^^fatal: ls-files -x alone is not supported with -k or --directory~|\
 ls-files -od^/w^^^129^^error: switch `d' is git's, and is not answered here~usage: tizhagor [-C DIR] ls-files|\
 clean -n^/w^^^0^Would remove .gitignore~Would remove b~^|\
 clean b -X -nd .^/w^^^0^Would remove c.o~^|\
