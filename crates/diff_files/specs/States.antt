@@ -5,7 +5,7 @@ use Rattle.gitbase_core.specs.Kinds.{has_flag}
 use Rattle.gitbase_core.specs.Path.{joined}
 use Rattle.gitbase_core.specs.declared.entry.IndexEntry.{IndexEntry}
 use Rattle.git_index.specs.declared.stat.Detail.{Detail}
-use Rattle.index_status.specs.Blobs.{blob_id}
+use Rattle.git_index.specs.Blobs.{blob_id}
 use Rattle.worktree_fs.specs.Tree.{Names, Look, absent, directory, file, found, link, look, other, too_many_links}
 use Rattle.diff_files.specs.declared.change.PathChange.{PathChange}
 use Rattle.diff_files.specs.declared.change.PathChange.TheVariants as changes

@@ -23,7 +23,8 @@ use gitbase_core::{Bytes, Flags, IndexEntry, PathText};
 use std::alloc::Global;
 use worktree_fs::ReadError;
 
-fn is_submodule_entry(entry: &IndexEntry) -> bool
+/// Whether an entry is a submodule.
+pub fn is_submodule_entry(entry: &IndexEntry) -> bool
     ensures { result ≡ words.is_submodule_entry entry.now }
 {
     is_submodule(entry.mode.bits())
@@ -48,14 +49,14 @@ fn changed_to(old: u32, new: u32) -> PathChange
 }
 
 /// How a path changed whose node is not as its entry has it.
-fn changed(comparison: &Comparison, entry: &IndexEntry, at: &NodeStat) -> PathChange
+pub fn changed(comparison: &Comparison, entry: &IndexEntry, at: &NodeStat) -> PathChange
     ensures { result ≡ words.changed comparison.now entry.now at.now }
 {
     changed_to(entry.mode.bits(), new_mode(comparison, entry, at))
 }
 
 /// How a path changed at which an addition is to come.
-fn added(comparison: &Comparison, entry: &IndexEntry, at: &NodeStat) -> PathChange
+pub fn added(comparison: &Comparison, entry: &IndexEntry, at: &NodeStat) -> PathChange
     ensures { result ≡ words.added comparison.now entry.now at.now }
 {
     PathChange::Added {
@@ -132,7 +133,7 @@ fn judged_link<S: Stats>(
 ///
 /// See docs/DIFFERENCES.md#diff-conversion.
 #[tactic(auto, unfolding(crate::specs::States::judged_racy))]
-fn judged_racy<S: Stats>(
+pub fn judged_racy<S: Stats>(
     alloc: Global,
     stats: &mut S,
     comparison: &Comparison,

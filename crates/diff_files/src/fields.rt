@@ -56,7 +56,7 @@ fn differs_from_link(comparison: &Comparison, mode: u32) -> bool
 }
 
 /// Whether a node is not what the mode of an entry says.
-fn differs_in_mode(comparison: &Comparison, old: u32, mode: u32) -> bool
+pub fn differs_in_mode(comparison: &Comparison, old: u32, mode: u32) -> bool
     ensures { result ≡ fields.differs_in_mode comparison.now old mode }
 {
     if is_link(old) {

@@ -5,7 +5,7 @@ ghost use Rattle.worktree_fs.specs.Answers.{UnlessFault};
 ghost use Rattle.worktree_fs.specs.Causes.{Increased};
 ghost use Rattle.worktree_fs.specs.Kept.{Asks};
 ghost use Rattle.worktree_fs.specs.Tree.{Names, look};
-ghost use Rattle.index_status.specs.Blobs.{blob_id};
+ghost use Rattle.git_index.specs.Blobs.{blob_id};
 ghost use Rattle.std.specs.Str.{bytes_eq};
 ghost use Rattle.diff_files.specs.KeptStats.{AsksStats};
 ghost use Rattle.diff_files.specs.Stats.{Told};
@@ -16,8 +16,8 @@ use crate::error::Unsupported;
 use crate::judged::Judged;
 use crate::place::full_path;
 use crate::stats::Stats;
+use git_index::blob_id;
 use gitbase_core::{Bytes, IndexEntry, ObjectId, OutOfMemory, PathText};
-use index_status::blob_id;
 use std::alloc::Global;
 use worktree_fs::{ReadAnswer, ReadError, Worktree};
 

@@ -1,3 +1,4 @@
+pub mod Blobs
 pub mod Parts
 pub mod Varint
 pub mod Head

@@ -2,6 +2,7 @@
 use Rattle.std.specs.Prelude.{ℕ, List, [], ◌∷◌, ◌++◌, ◌-◌, ◌==◌, length, nat_eq, slice_index, Option, Some, None, if◌then◌else◌}
 use Rattle.std.specs.List.{starts_with}
 use Rattle.git_config_files.specs.Rules.{Rules, RulesFile}
+use Rattle.git_setup.specs.BelowTop.{rules_below_top}
 
 -- some lines, with a line feed behind the last one too
 abbrev pub ended : List ℕ → List ℕ
@@ -21,6 +22,6 @@ mark = 239 ∷ 187 ∷ 191 ∷ []
 abbrev pub marked : List ℕ → List ℕ
 marked rules = if starts_with nat_eq rules mark then mark ++ rules else rules
 
--- those of the user, and behind them those of the repository
+-- those of the user, and behind them those of the repository, as they leave the top alone
 abbrev pub globals_of : Rules → List ℕ
-globals_of rules = marked (rules_text rules.user ++ rules_text rules.repository)
+globals_of rules = marked (rules_below_top (rules_text rules.user ++ rules_text rules.repository))

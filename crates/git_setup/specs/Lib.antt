@@ -4,6 +4,7 @@ pub mod Refusals
 pub mod IndexAt
 pub mod Switches
 pub mod Present
+pub mod BelowTop
 pub mod GlobalRules
 pub mod Placed
 pub mod AskedSpecs

@@ -2,6 +2,7 @@
 ghost use Rattle.std.specs.Prelude.{◌≡◌, IfOk, OnOk, ◌++◌};
 ghost use Rattle.git_setup.specs.GlobalRules as words;
 
+use crate::below_top::rules_below_top;
 use git_config_files::{Rules, RulesFile};
 use gitbase_core::{Bytes, OutOfMemory};
 use std::alloc::Global;
@@ -43,12 +44,12 @@ pub fn marked(alloc: Global, rules: Bytes) -> Result<Bytes, OutOfMemory>
     Ok(made)
 }
 
-/// The rules of the user, and behind them those of the repository.
+/// The rules of the user, and behind them those of the repository, as they leave the top alone.
 pub fn globals_of(alloc: Global, rules: &Rules) -> Result<Bytes, OutOfMemory>
     ensures { IfOk result (λ globals. globals ≡ words.globals_of rules.now) }
 {
     let mut globals = rules_text(alloc, &rules.user)?;
     let repository = rules_text(alloc, &rules.repository)?;
     globals.extend(alloc, repository.as_bytes())?;
-    Ok(marked(alloc, globals)?)
+    Ok(marked(alloc, rules_below_top(alloc, globals.as_bytes())?)?)
 }

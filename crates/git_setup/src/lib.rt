@@ -2,6 +2,7 @@
 #![tactic(auto)]
 
 mod asked;
+mod below_top;
 mod checked;
 mod compared;
 mod conversions;
@@ -27,6 +28,7 @@ mod switches;
 mod written;
 
 pub use asked::Asked;
+pub use below_top::rules_below_top;
 pub use checked::{Checked, NamedFile, OuterFiles, checked_at};
 pub use compared::{Compared, compared_at, places_here};
 pub use details::Details;

@@ -1,4 +1,3 @@
-pub mod Blobs
 pub mod Ways
 pub mod States
 pub mod Rows

@@ -9,7 +9,7 @@ use Rattle.gitbase_core.specs.declared.entry.Mode.{Mode}
 use Rattle.worktree_fs.specs.Tree.{Names, Look, absent, directory, file, found, link, look, other, too_many_links}
 use Rattle.index_status.specs.declared.path_state.PathState.{PathState}
 use Rattle.index_status.specs.declared.path_state.PathState.TheVariants as states
-use Rattle.index_status.specs.Blobs.{blob_id}
+use Rattle.git_index.specs.Blobs.{blob_id}
 use Rattle.worktree_report.specs.Looks.{IsLookedAt}
 use Rattle.index_status.specs.Ways.{way}
 

@@ -1,7 +1,6 @@
 //! The state of each index path against the worktree.
 #![tactic(auto)]
 
-mod blob;
 mod compare;
 mod error;
 mod lines;
@@ -11,9 +10,9 @@ mod program;
 mod report_beside;
 mod way;
 
-pub use blob::blob_id;
 pub use compare::states;
 pub use error::{StatesError, StatusError};
+pub use git_index::blob_id;
 pub use path_state::PathState;
 pub use program::{run_status, text_of_status};
 pub use report_beside::{IndexStatus, status};

@@ -3,13 +3,13 @@ ghost use Rattle.std.specs.Prelude.{◌≡◌, ◌≤◌, ◌+◌, false, Some, 
 ghost use Rattle.worktree_fs.specs.Causes.{Increased, with_more};
 ghost use Rattle.worktree_fs.specs.Kept.{Asks};
 ghost use Rattle.worktree_fs.specs.Tree.{Names, look};
-ghost use Rattle.index_status.specs.Blobs.{blob_id};
+ghost use Rattle.git_index.specs.Blobs.{blob_id};
 ghost use Rattle.index_status.specs.States as states;
 ghost use Rattle.index_status.specs.Ways as ways;
 
-use crate::blob::blob_id;
 use crate::error::StatesError;
 use crate::path_state::PathState;
+use git_index::blob_id;
 use gitbase_core::{Bytes, IndexEntry, Mode, ObjectId, OutOfMemory, PathText};
 use std::alloc::Global;
 use worktree_fs::{NodeKind, ReadAnswer, ReadError, Worktree};

@@ -5,6 +5,7 @@ pub mod Places
 pub mod Others
 pub mod Killed
 pub mod Unmatched
+pub mod Alone
 pub mod Walking
 pub mod Listed
 pub mod Wrong

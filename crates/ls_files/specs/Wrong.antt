@@ -7,7 +7,8 @@ use Rattle.gitbase_core.specs.declared.entry.IndexEntry.{IndexEntry}
 use Rattle.ls_files.specs.declared.listing.Listing.{Listing}
 use Rattle.ls_files.specs.declared.wrong.WrongListing.{WrongListing}
 use Rattle.ls_files.specs.declared.wrong.WrongListing.TheVariants as wrong
-use Rattle.ls_files.specs.Choices.{asks_rules, shows_index, walks}
+use Rattle.ls_files.specs.Choices.{asks_rules, shows_index}
+use Rattle.ls_files.specs.Alone.{are_alone}
 
 -- "-i: Show only ignored files in the output. Must be used with either an explicit -c or -o."
 abbrev pub lacks_kind : Listing → Bool
@@ -28,9 +29,9 @@ wrong_ignored l =
 abbrev pub wrong_if_ignored : Listing → Option WrongListing
 wrong_if_ignored l = if l.ignored then wrong_ignored l else None
 
--- rules above all others are asked here only with those of each directory
+-- patterns alone are asked here about what the index does not have, each path by itself
 abbrev pub wrong_rules : Listing → Option WrongListing
-wrong_rules l = if walks l && (l.patterns && not (asks_rules l)) then Some wrong.PatternsAlone else None
+wrong_rules l = if are_alone l && (l.killed || (l.others && l.directories)) then Some wrong.PatternsAlone else None
 
 -- a sparse index has an entry in the place of a directory
 abbrev pub is_sparse : IndexEntry → Bool
@@ -51,4 +52,4 @@ wrong_text wrong.IgnoredWithoutRules = codes "ls-files --ignored needs some excl
 wrong_text wrong.IgnoredIndex = codes "ls-files -i is not supported for what the index has"
 wrong_text wrong.IgnoredDirectories = codes "ls-files -i is not supported with --directory"
 wrong_text wrong.SparseIndex = codes "ls-files is not supported for what a sparse index has"
-wrong_text wrong.PatternsAlone = codes "ls-files -x is not supported without --exclude-per-directory"
+wrong_text wrong.PatternsAlone = codes "ls-files -x alone is not supported with -k or --directory"

@@ -1,6 +1,7 @@
 //! What `git ls-files` prints: the paths of an index, and what else a work tree holds.
 #![tactic(auto)]
 
+mod alone;
 mod answer;
 mod cached;
 mod killed;

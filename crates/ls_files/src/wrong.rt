@@ -3,7 +3,8 @@ ghost use Rattle.std.specs.Prelude.{◌≡◌};
 ghost use Rattle.std.specs.List.{list_any};
 ghost use Rattle.ls_files.specs.Wrong as words;
 
-use crate::cached::{asks_rules, shows_index, walks};
+use crate::alone::are_alone;
+use crate::cached::{asks_rules, shows_index};
 use crate::listing::Listing;
 use gitbase_core::{IndexEntry, State};
 
@@ -21,7 +22,7 @@ pub enum WrongListing {
     /// What a sparse index has, where an entry stands for all that is beneath a directory: git reads
     /// that from objects.
     SparseIndex,
-    /// `-x` without the rules of each directory, which is not answered here.
+    /// `-x` alone with `-k` or `--directory`, which is not answered here.
     PatternsAlone,
 }
 
@@ -37,7 +38,7 @@ impl WrongListing {
             WrongListing::IgnoredDirectories => b"ls-files -i is not supported with --directory",
             WrongListing::SparseIndex => b"ls-files is not supported for what a sparse index has",
             WrongListing::PatternsAlone => {
-                b"ls-files -x is not supported without --exclude-per-directory"
+                b"ls-files -x alone is not supported with -k or --directory"
             }
         }
     }
@@ -79,14 +80,14 @@ fn wrong_if_ignored(listing: &Listing) -> Option<WrongListing>
     None
 }
 
-/// Why there is no listing by rules that are asked alone.
+/// Why there is no listing by patterns alone.
 fn wrong_rules(listing: &Listing) -> Option<WrongListing>
     ensures { result ≡ words.wrong_rules listing.now }
 {
-    if !walks(listing) {
+    if !are_alone(listing) {
         return None;
     }
-    if listing.patterns & !asks_rules(listing) {
+    if listing.killed | (listing.others & listing.directories) {
         return Some(WrongListing::PatternsAlone);
     }
     None

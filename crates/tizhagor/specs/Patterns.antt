@@ -1,6 +1,7 @@
 -- Patterns that stand before all other ignore rules.
 use Rattle.std.specs.Prelude.{ℕ, List, [], ◌∷◌, Bool, true, false, nat_eq, codes, if◌then◌else◌}
 use Rattle.std.specs.List.{flat_map, starts_with}
+use Rattle.git_setup.specs.BelowTop.{rules_below_top}
 
 -- there are some
 abbrev pub is_any : List (List ℕ) → Bool
@@ -15,5 +16,6 @@ pattern_line pattern = if starts_with nat_eq pattern (codes "#") then 92 ∷ pat
 abbrev pub rule_line : List ℕ → List ℕ
 rule_line pattern = 10 ∷ pattern_line pattern
 
+-- as they leave the top of the work tree alone
 abbrev pub rules_of : List (List ℕ) → List ℕ
-rules_of patterns = flat_map rule_line patterns
+rules_of patterns = rules_below_top (flat_map rule_line patterns)

@@ -2,6 +2,7 @@
 ghost use Rattle.std.specs.Prelude.{◌≡◌, ◌++◌, IfOk, OnOk};
 ghost use Rattle.tizhagor.specs.Patterns as words;
 
+use git_setup::rules_below_top;
 use gitbase_core::{Bytes, OutOfMemory};
 use std::alloc::Global;
 
@@ -27,7 +28,7 @@ fn add_rule(text: &mut Vec<u8>, pattern: &[u8]) -> Result<(), OutOfMemory>
     Ok(())
 }
 
-/// Patterns as the text of a rules file.
+/// Patterns as the text of a rules file, as they leave the top of the work tree alone.
 pub fn rules_of(alloc: Global, patterns: &[Bytes]) -> Result<Bytes, OutOfMemory>
     ensures { IfOk result (λ rules. rules ≡ words.rules_of patterns.now) }
 {
@@ -35,5 +36,5 @@ pub fn rules_of(alloc: Global, patterns: &[Bytes]) -> Result<Bytes, OutOfMemory>
     for pattern in patterns {
         add_rule(&mut text, pattern.as_bytes())?;
     }
-    Ok(Bytes::from_vec(text))
+    rules_below_top(alloc, &text)
 }

@@ -1,6 +1,6 @@
 //! The id of a file's bytes.
 ghost use Rattle.std.specs.Prelude.{◌≡◌, ◌++◌, IfOk};
-ghost use Rattle.index_status.specs.Blobs.{blob_head, blob_id};
+ghost use Rattle.git_index.specs.Blobs.{blob_head, blob_id};
 ghost use Rattle.sha1.specs.Sha1.{sha1};
 
 use gitbase_core::{Bytes, ObjectId, OutOfMemory};

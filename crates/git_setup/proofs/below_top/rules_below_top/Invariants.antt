@@ -1,0 +1,7 @@
+use Rattle.std.proofs.Common.{◌≡◌, ◌++◌}
+use Rattle.std.specs.List.{flat_map}
+use Rattle.git_setup.specs.BelowTop as words
+use Rattle.git_setup.proofs.below_top.rules_below_top.Given as goal
+
+abbrev pub invariant-loop-line : goal.invariant-loop-line
+invariant-loop-line l = l.made ++ flat_map words.line l.line-iterator ≡ words.rules_below_top l.fn.rules

@@ -1,0 +1,86 @@
+//! Rules that leave the top of the work tree alone.
+//!
+//! Git asks no rule about the top. Here a rule is asked about it, by a name without bytes, and what
+//! excludes the top excludes all. So a rule of stars alone, which matches that name too, gets a `?`
+//! in front: `?*` matches every other name, as `*` does.
+ghost use Rattle.std.specs.Prelude.{◌≡◌, ◌++◌, [], ◌∷◌, IfOk, OnOk};
+ghost use Rattle.git_setup.specs.BelowTop as words;
+
+use bstr::ByteSlice;
+use gitbase_core::{Bytes, OutOfMemory};
+use std::alloc::Global;
+
+/// What follows a byte at the front of a text, as often as it stands there.
+fn after(mark: u8, text: &[u8]) -> &[u8]
+    ensures { result.now ≡ words.after mark text.now }
+{
+    let mut at = 0;
+    while at < text.len() && text[at] == mark {
+        at += 1;
+    }
+    &text[at..]
+}
+
+/// What follows a slash at the front, if one is there.
+fn past_slash(text: &[u8]) -> &[u8]
+    ensures { result.now ≡ words.past_slash text.now }
+{
+    match text {
+        [b'/', rest @ ..] => rest,
+        _ => text,
+    }
+}
+
+/// Whether nothing is left of a line.
+fn is_end(text: &[u8]) -> bool
+    ensures { result ≡ words.is_end text.now }
+{
+    matches!(text, [] | [b'\n'] | [b'\r', b'\n'])
+}
+
+/// Whether a rule is of stars alone, with a slash or spaces behind them or not.
+fn is_of_stars(rule: &[u8]) -> bool
+    ensures { result ≡ words.is_of_stars rule.now }
+{
+    match rule {
+        [b'*', ..] => is_end(after(b' ', past_slash(after(b'*', rule)))),
+        _ => false,
+    }
+}
+
+/// Adds a rule without its sign.
+fn add_unsigned(alloc: Global, rules: &mut Bytes, rule: &[u8]) -> Result<(), OutOfMemory>
+    ensures { OnOk result (rules.new ≡ rules.old ++ words.unsigned rule.now) }
+{
+    if is_of_stars(rule) {
+        rules.extend(alloc, b"?")?;
+    }
+    rules.extend(alloc, rule)?;
+    Ok(())
+}
+
+/// Adds a line.
+fn add_line(alloc: Global, rules: &mut Bytes, line: &[u8]) -> Result<(), OutOfMemory>
+    ensures { OnOk result (rules.new ≡ rules.old ++ words.line line.now) }
+{
+    match line {
+        [b'!', rest @ ..] => {
+            rules.extend(alloc, b"!")?;
+            add_unsigned(alloc, rules, rest)
+        }
+        _ => add_unsigned(alloc, rules, line),
+    }
+}
+
+/// The same rules, line by line; those of stars alone, with or without a sign, have a `?` in front.
+///
+/// Fails only where memory is refused. See docs/DIFFERENCES.md#empty-match.
+pub fn rules_below_top(alloc: Global, rules: &[u8]) -> Result<Bytes, OutOfMemory>
+    ensures { IfOk result (λ made. made ≡ words.rules_below_top rules.now) }
+{
+    let mut made = Bytes::new(alloc);
+    for line in rules.lines_with_terminator() {
+        add_line(alloc, &mut made, line)?;
+    }
+    Ok(made)
+}
