@@ -36,7 +36,7 @@ told_unless sections (Some lacking) = Err (errors.Value lacking.meta.path (codes
 told_unless sections None = Ok (string (codes "core") None (codes "excludesfile") sections)
 
 -- the last value of `core.excludesFile`, if there is one; each has to have a value
-abbrev pub told_excludes : List Section → Result (Option (List ℕ)) FilesError
+unfoldable pub told_excludes : List Section → Result (Option (List ℕ)) FilesError
 told_excludes sections = told_unless sections (find lacks_in sections)
 
 -- a path from the top of the work tree on; an empty one, as `~` is where the home is empty, names no file
@@ -54,9 +54,13 @@ excludes_by root around file None = Ok (default_excludes root around)
 excludes_by root around file (Some text) =
     and_then (λ path. Ok (unless_empty root path)) (path_of_value file (codes "core.excludesFile") around.home text)
 
+-- the file in which the last value of `core.excludesFile` stands
+unfoldable pub excludes_file : List Section → Option (List ℕ)
+excludes_file sections = file_of (codes "core") (codes "excludesfile") sections
+
 abbrev pub excludes_path : List ℕ → Surroundings → List Section → Result (Option (List ℕ)) FilesError
 excludes_path root around sections =
-    and_then (excludes_by root around (file_of (codes "core") (codes "excludesfile") sections)) (told_excludes sections)
+    and_then (excludes_by root around (excludes_file sections)) (told_excludes sections)
 
 -- ---- that of the repository
 

@@ -101,6 +101,7 @@ fn lacking_error(alloc: Global, section: &Section) -> Result<FilesError, OutOfMe
 }
 
 /// The last value of `core.excludesFile`, if there is one.
+#[tactic(auto, unfolding(crate::specs::Rules::told_excludes))]
 fn told_excludes(alloc: Global, config: &File) -> Result<Option<Bytes>, FilesError>
     ensures { Decides result (words.told_excludes config.now.sections) }
 {
@@ -153,6 +154,14 @@ fn excludes_default(
     }
 }
 
+/// The file in which the last value of `core.excludesFile` stands.
+#[tactic(auto, unfolding(crate::specs::Rules::excludes_file))]
+fn excludes_file(config: &File) -> Option<&PathText>
+    ensures { option_copied result ≡ words.excludes_file config.now.sections }
+{
+    file_of(config, b"core", b"excludesfile")
+}
+
 /// Where the user's rules lie.
 fn excludes_path(
     alloc: Global,
@@ -164,7 +173,7 @@ fn excludes_path(
 {
     match told_excludes(alloc, config)? {
         Some(text) => {
-            let file = file_of(config, b"core", b"excludesfile");
+            let file = excludes_file(config);
             excludes_told(alloc, root, around, file, text.as_bytes())
         }
         None => Ok(excludes_default(alloc, root, around)?),
