@@ -15,6 +15,7 @@ front_of wrongs.UnknownCommand = codes "error: unknown command `"
 front_of wrongs.UnknownOption = codes "error: unknown option `"
 front_of (wrongs.UnknownSwitch letter) = codes "error: unknown switch `"
 front_of wrongs.NoValue = codes "error: option `"
+front_of (wrongs.NoSwitchValue letter) = codes "error: switch `"
 front_of wrongs.TakesNoValue = codes "error: option `"
 front_of wrongs.UnknownValue = codes "error: option `"
 front_of wrongs.NotADepth = codes "error: `"
@@ -32,6 +33,7 @@ back_of wrongs.UnknownCommand = codes "'\n"
 back_of wrongs.UnknownOption = codes "'\n"
 back_of (wrongs.UnknownSwitch letter) = codes "'\n"
 back_of wrongs.NoValue = codes "' requires a value\n"
+back_of (wrongs.NoSwitchValue letter) = codes "' requires a value\n"
 back_of wrongs.TakesNoValue = codes "' takes no value\n"
 back_of wrongs.UnknownValue = codes "' has a value that is not known\n"
 back_of wrongs.NotADepth = codes "' is no depth, which is a number from 0 to 1000\n"
@@ -45,6 +47,7 @@ back_of (wrongs.LeftSwitch letter) = codes "' is git's, and is not answered here
 -- the word, or the letter in it that is wrong, with control bytes escaped
 abbrev pub word_in : Wrong → List ℕ → List ℕ
 word_in (wrongs.UnknownSwitch letter) word = escaped (letter ∷ [])
+word_in (wrongs.NoSwitchValue letter) word = escaped (letter ∷ [])
 word_in (wrongs.LeftSwitch letter) word = escaped (letter ∷ [])
 word_in other word = escaped word
 

@@ -2,7 +2,7 @@
 use Rattle.std.specs.Prelude.{ℕ, ◌-◌, List, [], ◌∷◌, ◌++◌, length, drop, codes}
 use Rattle.command_line.specs.declared.draft.Draft.{Draft}
 use Rattle.command_line.specs.declared.misuse.Wrong.{Wrong}
-use Rattle.command_line.specs.declared.misuse.Wrong.TheVariants.{NoValue}
+use Rattle.command_line.specs.declared.misuse.Wrong.TheVariants.{NoValue, NoSwitchValue}
 use Rattle.command_line.specs.declared.read.Read.{Read}
 use Rattle.command_line.specs.declared.read.Read.TheVariants as reads
 use Rattle.command_line.specs.declared.step.Next.{Next}
@@ -28,6 +28,7 @@ ended draft nexts.Any paths patterns = said draft paths patterns
 ended draft nexts.Paths paths patterns = said draft paths patterns
 ended draft nexts.Depth paths patterns = wrong NoValue (codes "--depth")
 ended draft nexts.Pattern paths patterns = wrong NoValue (codes "--exclude")
+ended draft (nexts.LetterPattern letter) paths patterns = wrong (NoSwitchValue letter) (45 ∷ letter ∷ [])
 
 -- the last bytes of a word, as many as are said
 abbrev pub end_of_word : ℕ → List ℕ → List ℕ

@@ -220,10 +220,10 @@ abbrev pub untracked_letter : List ℕ → Draft → Step
 untracked_letter [] draft = bare opts.Untracked draft
 untracked_letter (b ∷ value) draft = untracked_by (b ∷ value) draft
 
--- `e` and a pattern behind it in its word, or in the next
-abbrev pub pattern_letter : List ℕ → Draft → Step
-pattern_letter [] draft = bare opts.Pattern draft
-pattern_letter (b ∷ value) draft = pattern_by (b ∷ value) draft
+-- a letter and a pattern behind it in its word, or in the next
+abbrev pub pattern_letter : ℕ → List ℕ → Draft → Step
+pattern_letter letter [] draft = Said draft (nexts.LetterPattern letter)
+pattern_letter letter (b ∷ value) draft = pattern_by (b ∷ value) draft
 
 abbrev said_or : Draft → Step → Draft
 said_or draft (Said now next) = now
@@ -238,9 +238,9 @@ takes_rest opts.Untracked = true
 takes_rest opts.Pattern = true
 takes_rest other = false
 
-abbrev pub with_rest : Opt → List ℕ → Draft → Step
-with_rest opts.Pattern text draft = pattern_letter text draft
-with_rest other text draft = untracked_letter text draft
+abbrev pub with_rest : Opt → ℕ → List ℕ → Draft → Step
+with_rest opts.Pattern letter text draft = pattern_letter letter text draft
+with_rest other letter text draft = untracked_letter text draft
 
 abbrev pub is_left : Opt → Bool
 is_left opts.Left = true
@@ -249,7 +249,7 @@ is_left other = false
 abbrev pub by_letter : Option Opt → ℕ → List ℕ → (Draft → Step) → Draft → Step
 by_letter None letter text onward draft = is_wrong (wrongs.UnknownSwitch letter)
 by_letter (Some opt) letter text onward draft =
-    if takes_rest opt then with_rest opt text draft
+    if takes_rest opt then with_rest opt letter text draft
     else if is_left opt then is_wrong (wrongs.LeftSwitch letter)
     else onward (lettered opt draft)
 
@@ -289,4 +289,5 @@ abbrev pub step_of : Verb → Next → List ℕ → Draft → Step
 step_of verb nexts.Any word draft = any verb word draft
 step_of verb nexts.Depth word draft = depth_by word draft
 step_of verb nexts.Pattern word draft = pattern_by word draft
+step_of verb (nexts.LetterPattern letter) word draft = pattern_by word draft
 step_of verb nexts.Paths word draft = path verb

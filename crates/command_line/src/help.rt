@@ -51,9 +51,13 @@ What is shown
                         or isolated, which is that of the repository alone
   --outcome             a last line with the counts of the walk
 How it is looked at
-  --no-excludes         no ignore rule counts, though the files are read
+  --excludes, --no-excludes
+                        ignore rules count, as they do by default; or none does,
+                        though the files are read
   --precious            an ignore rule that begins with $ keeps what it matches
-  --no-strict-parents   rules may take up again what lies in an excluded directory
+  --strict-parents, --no-strict-parents
+                        what lies in an excluded directory stays excluded, as it does
+                        by default; or rules may take it up again
   --recurse-repositories
                         nested repositories are directories like any other
   --bare-repositories   untracked bare repositories are told as repositories
@@ -86,9 +90,13 @@ path of the index goes, no repository whose git directory is whole (bare ones go
   -x                    ignored paths too
   -X                    ignored paths alone
   --nonbare             bare repositories are directories like any other
-  --no-excludes         no ignore rule counts, though the files are read
+  --excludes, --no-excludes
+                        ignore rules count, as they do by default; or none does,
+                        though the files are read
   --precious            an ignore rule that begins with $ keeps what it matches
-  --no-strict-parents   rules may take up again what lies in an excluded directory
+  --strict-parents, --no-strict-parents
+                        what lies in an excluded directory stays excluded, as it does
+                        by default; or rules may take it up again
   --links-as-directories
                         ignore rules see a link as what it leads to
   --strategy=HOW        held, or at-once: a job for each directory at the top
@@ -126,17 +134,21 @@ What is shown
   --collapsed=WHICH     besides a directory that stands for what it holds: what
                         has another status (mismatch), or all; or no
   --tracked, --pruned, --empty-directories
-                        tracked paths; those named .git, left out of a sparse
-                        work tree or meant by no PATH; empty directories
+                        tracked paths; those named .git or left out of a sparse
+                        work tree; empty directories
   --origins             a word more: the ignore rule that decided
   --submodules          a word more: the submodule at the path
   --permissions=WHICH   the configurations that tell of submodules: secure, all,
                         or isolated, which is that of the repository alone
   --outcome             a last line with the counts of the walk
 How it is looked at
-  --no-excludes         no ignore rule counts, though the files are read
+  --excludes, --no-excludes
+                        ignore rules count, as they do by default; or none does,
+                        though the files are read
   --precious            an ignore rule that begins with $ keeps what it matches
-  --no-strict-parents   rules may take up again what lies in an excluded directory
+  --strict-parents, --no-strict-parents
+                        what lies in an excluded directory stays excluded, as it does
+                        by default; or rules may take it up again
   --recurse-repositories
                         nested repositories are directories like any other
   --bare-repositories   untracked bare repositories are told as repositories

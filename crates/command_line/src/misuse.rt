@@ -25,6 +25,11 @@ pub enum Wrong {
     },
     /// The option needs a value, and has none.
     NoValue,
+    /// The option of this letter needs a value, and has none.
+    NoSwitchValue {
+        /// The letter.
+        letter: u8,
+    },
     /// The option has a value, and takes none.
     TakesNoValue,
     /// The option has no such value.
@@ -91,7 +96,7 @@ fn front_of(wrong: Wrong) -> &'static [u8]
         | Wrong::UnknownValue
         | Wrong::SecondDirectory
         | Wrong::Left => b"error: option `",
-        Wrong::LeftSwitch { letter: _ } => b"error: switch `",
+        Wrong::NoSwitchValue { letter: _ } | Wrong::LeftSwitch { letter: _ } => b"error: switch `",
         Wrong::NotADepth | Wrong::Paths | Wrong::Undashed => b"error: `",
         Wrong::Pattern => b"error: the pattern in `",
     }
@@ -104,7 +109,7 @@ fn back_of(wrong: Wrong) -> &'static [u8]
     match wrong {
         Wrong::NoCommand => b"\n",
         Wrong::UnknownCommand | Wrong::UnknownOption | Wrong::UnknownSwitch { letter: _ } => b"'\n",
-        Wrong::NoValue => b"' requires a value\n",
+        Wrong::NoValue | Wrong::NoSwitchValue { letter: _ } => b"' requires a value\n",
         Wrong::TakesNoValue => b"' takes no value\n",
         Wrong::UnknownValue => b"' has a value that is not known\n",
         Wrong::NotADepth => b"' is no depth, which is a number from 0 to 1000\n",
@@ -123,9 +128,9 @@ fn add_word(text: &mut Vec<u8>, wrong: Wrong, word: &[u8]) -> Result<(), OutOfMe
     ensures { OnOk result (text.new.items ≡ text.old.items ++ misuses.word_in wrong word.now) }
 {
     match wrong {
-        Wrong::UnknownSwitch { letter } | Wrong::LeftSwitch { letter } => {
-            add_escaped(text, &[letter])?
-        }
+        Wrong::UnknownSwitch { letter }
+        | Wrong::NoSwitchValue { letter }
+        | Wrong::LeftSwitch { letter } => add_escaped(text, &[letter])?,
         _ => add_escaped(text, word)?,
     }
     Ok(())

@@ -33,6 +33,10 @@ fn ended(
         Next::Any | Next::Paths => Ok(Read::Said(draft, paths, patterns)),
         Next::Depth => Ok(Read::Wrong(Wrong::NoValue, Bytes::from_slice(alloc, b"--depth")?)),
         Next::Pattern => Ok(Read::Wrong(Wrong::NoValue, Bytes::from_slice(alloc, b"--exclude")?)),
+        Next::LetterPattern { letter } => {
+            let word = Bytes::from_slice(alloc, &[b'-', letter])?;
+            Ok(Read::Wrong(Wrong::NoSwitchValue { letter }, word))
+        }
     }
 }
 

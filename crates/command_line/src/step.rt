@@ -27,6 +27,11 @@ pub enum Next {
     Depth,
     /// As a pattern.
     Pattern,
+    /// As the pattern of an option by its letter.
+    LetterPattern {
+        /// The letter.
+        letter: u8,
+    },
     /// As a path, whatever it is.
     Paths,
 }
@@ -327,12 +332,12 @@ fn untracked_letter(value: &[u8], draft: Draft) -> Step
     }
 }
 
-/// `e` and what stands behind it in its word: a pattern, or nothing where that is the next word.
-fn pattern_letter(value: &[u8], draft: Draft) -> Step
-    ensures { result ≡ steps.pattern_letter value.now draft }
+/// A letter and what stands behind it in its word: a pattern, or nothing where that is the next word.
+fn pattern_letter(letter: u8, value: &[u8], draft: Draft) -> Step
+    ensures { result ≡ steps.pattern_letter letter value.now draft }
 {
     match value {
-        [] => bare(Opt::Pattern, draft),
+        [] => Step::Said(draft, Next::LetterPattern { letter }),
         _ => pattern_by(value, draft),
     }
 }
@@ -355,11 +360,11 @@ fn takes_rest(opt: Opt) -> bool
 }
 
 /// What it says with that value.
-fn with_rest(opt: Opt, text: &[u8], draft: Draft) -> Step
-    ensures { result ≡ steps.with_rest opt text.now draft }
+fn with_rest(opt: Opt, letter: u8, text: &[u8], draft: Draft) -> Step
+    ensures { result ≡ steps.with_rest opt letter text.now draft }
 {
     match opt {
-        Opt::Pattern => pattern_letter(text, draft),
+        Opt::Pattern => pattern_letter(letter, text, draft),
         _ => untracked_letter(text, draft),
     }
 }
@@ -383,7 +388,7 @@ fn letters(verb: Verb, text: &[u8], draft: Draft) -> Step
             return Step::Wrong(Wrong::UnknownSwitch { letter: *letter });
         };
         if takes_rest(opt) {
-            return with_rest(opt, after, said);
+            return with_rest(opt, *letter, after, said);
         }
         if is_left(opt) {
             return Step::Wrong(Wrong::LeftSwitch { letter: *letter });
@@ -453,7 +458,7 @@ pub fn step_of(verb: Verb, next: Next, word: &[u8], draft: Draft) -> Step
     match next {
         Next::Any => any(verb, word, draft),
         Next::Depth => depth_by(word, draft),
-        Next::Pattern => pattern_by(word, draft),
+        Next::Pattern | Next::LetterPattern { letter: _ } => pattern_by(word, draft),
         Next::Paths => path(verb),
     }
 }

@@ -5,7 +5,7 @@ use command_line::{Topic, Verb, help_of, version};
 /// The options that each help text names, beside those that a switch of the same name turns off.
 const REPORT: &[u8] =
     b"-u[MODE],--untracked-files,--ignored,--collapsed,--tracked,--pruned,--empty-directories,--origins,\
---submodules,--permissions,--outcome,--no-excludes,--precious,--no-strict-parents,--recurse-repositories,--bare-repositories,\
+--submodules,--permissions,--outcome,--excludes,--no-excludes,--precious,--strict-parents,--no-strict-parents,--recurse-repositories,--bare-repositories,\
 --links-as-directories,--for-deletion,--strategy,--depth,-z, --null,--plain,--color,--no-color,-h, --help";
 
 const FILES: &[u8] =
@@ -24,10 +24,14 @@ fn help_texts_name_the_options(rt: HostRuntime) {
     let report = names_all(Topic::Of(Verb::Report), REPORT);
     let plan = names_all(
         Topic::Of(Verb::Plan),
-        b"  -x , -X , --nonbare ,--depth=,-z, --null",
+        b"  -x , -X , --nonbare ,  --excludes,--no-excludes,  --strict-parents,--no-strict-parents,--depth=,-z, --null",
     );
     let modules = names_all(Topic::Of(Verb::Modules), b"--permissions=,-h, --help");
-    let state = names_all(Topic::Of(Verb::State), b"--ignored,-z, --null,--color");
+    let state = names_all(
+        Topic::Of(Verb::State),
+        b"--ignored,  --excludes,  --strict-parents,-z, --null,--color",
+    );
+    let pathless = !help_of(Topic::Of(Verb::State)).contains_str(b"PATH");
     let files = names_all(Topic::Of(Verb::Files), FILES);
     let clean = names_all(
         Topic::Of(Verb::Clean),
@@ -37,7 +41,7 @@ fn help_texts_name_the_options(rt: HostRuntime) {
         Topic::Whole,
         b"-C DIR,report,plan,modules,state,ls-files,clean,diff-files,check-ignore,--version",
     );
-    assert!(rt; report & plan & modules & state & files & clean & whole);
+    assert!(rt; report & plan & modules & state & pathless & files & clean & whole);
 }
 
 #[test]

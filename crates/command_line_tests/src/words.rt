@@ -104,7 +104,8 @@ ls-files,-od>error: switch `d' is git's, and is not answered here\n\
 ls-files,--eol>error: option `--eol' is git's, and is not answered here\n\
 ls-files,--exclude-per-directory=a>error: option `--exclude-per-directory=a' is git's, and is not answered here\n\
 ls-files,--exclude-from=a>error: option `--exclude-from=a' is git's, and is not answered here\n\
-ls-files,-o,-x>error: option `--exclude' requires a value\n\
+ls-files,-o,-x>error: switch `x' requires a value\n\
+ls-files,-o,--exclude>error: option `--exclude' requires a value\n\
 ls-files,-q>error: unknown switch `q'\n\
 ls-files,--no-full-name>error: unknown option `--no-full-name'\n\
 ls-files,--cached=1>error: option `--cached=1' takes no value\n\
@@ -113,7 +114,8 @@ clean,--interactive>error: option `--interactive' is git's, and is not answered 
 clean,-nz>error: unknown switch `z'\n\
 clean,--no-exclude>error: unknown option `--no-exclude'\n\
 clean,--dry-run=3>error: option `--dry-run=3' takes no value\n\
-clean,-ne>error: option `--exclude' requires a value\n\
+clean,-n,-e>error: switch `e' requires a value\n\
+clean,-ne>error: switch `e' requires a value\n\
 clean,-ea >error: the pattern in `-ea ' has a line feed, or a blank or carriage return at its end\n\
 ls-files,-e>error: unknown switch `e'\n\
 state,--,--plain>error: `--plain' is a path, and this command takes none\n\

@@ -99,6 +99,7 @@ clean -n \xc3\xa9^/w^^/w/.git/config=[core]~quotePath=false~;/w/\xc3\xa9=^0^Woul
 clean^/w^^^128^^fatal: clean.requireForce defaults to true and neither -i, -n, nor -f given; refusing to clean~|\
 clean -nxX^/w^^^128^^fatal: -x and -X cannot be used together~|\
 clean -fd^/w^^^128^^fatal: clean is not supported without -n: nothing is removed~|\
+clean -n -e^/w^^^129^^error: switch `e' requires a value~usage: tizhagor clean|\
 clean -ni^/w^^^129^^error: switch `i' is git's, and is not answered here~usage: tizhagor clean|\
 diff-files^/w^^^0^:100644 000000 587be6b4c3f93f93c489c0111bba5596147a26cb 0000000000000000000000000000000000000000 D\ta~^|\
 diff-files --exit-code --name-only --raw^/w^^^1^a~^|\
