@@ -2,6 +2,7 @@
 ghost use Rattle.std.specs.Prelude.{◌≡◌, ◌==◌, ◌<◌, ◌++◌, length, position, IfOk, IfSome, OnOk};
 ghost use Rattle.tizhagor.specs.Environment as words;
 
+use command_line::{Command, request_of};
 use git_places::Variable;
 use gitbase_core::{Bytes, OutOfMemory};
 use std::alloc::Global;
@@ -21,9 +22,9 @@ pub struct Handed {
     pub words: Vec<Bytes>,
     /// The variables of the environment.
     pub variables: Vec<Variable>,
-    /// The current directory: an absolute path without links.
+    /// The current directory: an absolute path without links. The root, where there is none and the words need none.
     pub current: Bytes,
-    /// The same with a slash at its end; nothing where it is not UTF-8.
+    /// The same with a slash at its end; nothing where there is none, or it is not UTF-8.
     pub beside: String,
 }
 
@@ -32,7 +33,7 @@ pub struct Handed {
 pub enum NotGiven {
     /// A word or a variable is longer than the system hands on.
     TooLong,
-    /// There is no current directory.
+    /// There is no current directory, and the words need one.
     Directory,
     /// The standard input cannot be read.
     Input,
@@ -140,20 +141,56 @@ fn with_slash(alloc: Global, path: &[u8]) -> Result<String, OutOfMemory> {
     Ok(path)
 }
 
+/// Whether a command is answered without a work tree.
+fn is_offered(command: &Command) -> bool {
+    matches!(command, Command::Help(_) | Command::Version)
+}
+
+/// Whether a directory is said by its whole path.
+fn is_absolute(directory: &Option<Bytes>) -> bool {
+    match directory {
+        Some(path) => path.as_bytes().starts_with(b"/"),
+        None => false,
+    }
+}
+
+/// Whether words are answered without the current directory: they ask for a help text or the version, or for another directory by its
+/// whole path, or are wrong.
+fn need_no_directory(alloc: Global, words: &[Bytes]) -> bool {
+    match request_of(alloc, words) {
+        Ok(request) => is_offered(&request.command) | is_absolute(&request.directory),
+        Err(_) => true,
+    }
+}
+
+/// The current directory, and the same with a slash at its end. Where there is none and the words need none, the root stands in its
+/// place, and nothing is beside it.
+fn directory<R: Env>(rt: &R, alloc: Global, words: &[Bytes]) -> Result<(Bytes, String), NotGiven> {
+    match current(rt, alloc) {
+        Ok(current) => {
+            let beside = with_slash(alloc, current.as_bytes())?;
+            Ok((current, beside))
+        }
+        Err(NotGiven::Directory) if need_no_directory(alloc, words) => {
+            Ok((Bytes::from_slice(alloc, b"/")?, String::new(alloc)))
+        }
+        Err(refused) => Err(refused),
+    }
+}
+
 /// All that the system hands to the program.
 ///
 /// # Errors
 ///
 /// - `TooLong`: a word or a variable is longer than the system hands on.
-/// - `Directory`: there is no current directory, or its path is longer.
+/// - `Directory`: there is no current directory, or its path is longer, and the words need one.
 /// - `OutOfMemory` for want of memory.
 pub fn given<R: Env>(rt: &R, alloc: Global) -> Result<Handed, NotGiven> {
     let mut buffer = room(alloc)?;
     let words = words_given(rt, alloc, &mut buffer)?;
     let entries = entries(rt, alloc, &mut buffer)?;
     let variables = variables_of(alloc, &entries)?;
-    let current = current(rt, alloc)?;
-    let beside = with_slash(alloc, current.as_bytes())?;
+    let (current, beside) = directory(rt, alloc, &words)?;
     Ok(Handed {
         words,
         variables,

@@ -64,7 +64,7 @@ report^/w^^@/w/.git=21^128^^fatal: detected dubious ownership in repository at '
 report d^/w^HOME=/h^@/w/.git=21;/h/.gitconfig=[safe]~directory=/w~^0^untracked file - prefix - -\td/e~^|\
 report^/w/d^^@/w/d=12^128^^fatal: not a git repository (or any parent up to mount point /w); stopping at filesystem boundary (GIT_DISCOVERY_ACROSS_FILESYSTEM not set)~|\
 report .^/w/d^GIT_DISCOVERY_ACROSS_FILESYSTEM=1^@/w/d=12^0^untracked file - prefix - -\td/e~^|\
-report^/w^^/w/.git/index=x^128^^fatal: /w/.git/index: index file smaller than expected~|\
+report^/w^^/w/.git/index=x^128^^fatal: /w/.git/index: index file smaller than expected; move it away, and make it anew from HEAD with 'git reset'~|\
 report ../x^/w^^^128^^fatal: '../x' is outside repository~|\
 report^/w^^/w/.git/config=[include]~path=more~;/w/.git/more=[core]~excludesFile=/x~;/x=b~^0^untracked file - always - -\t.gitignore~untracked file - always - -\td/e~^|\
 report b^/w^^/w/.git/config=[includeIf \"onbranch:other\"]~path=more~;/w/.git/more=[core]~excludesFile=/x~;/x=b~^0^untracked file - verbatim - -\tb~^|\

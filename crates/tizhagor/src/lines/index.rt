@@ -1,5 +1,5 @@
 //! Why the index is not read.
-ghost use Rattle.std.specs.Prelude.{◌≡◌, IfOk};
+ghost use Rattle.std.specs.Prelude.{◌≡◌, ◌++◌, IfOk};
 ghost use Rattle.tizhagor.specs.IndexLines as words;
 
 use crate::lines::{MEMORY, fixed, with_number, with_path, with_place};
@@ -7,30 +7,42 @@ use git_index::IndexFileError;
 use gitbase_core::{Bytes, IndexError, OutOfMemory};
 use std::alloc::Global;
 
+/// What mends a broken index file.
+const MEND: &[u8] = b"; move it away, and make it anew from HEAD with 'git reset'\n";
+
+/// How an index file is broken, and what mends it.
+fn broken(alloc: Global, reason: &[u8]) -> Result<Bytes, OutOfMemory>
+    ensures { IfOk result (λ line. line ≡ reason.now ++ words.mend) }
+{
+    let mut line = Bytes::from_slice(alloc, reason)?;
+    line.extend(alloc, MEND)?;
+    Ok(line)
+}
+
 /// How an index file is outside its grammar, behind its path.
 pub fn file_reason(alloc: Global, error: &IndexFileError) -> Result<Bytes, OutOfMemory>
     ensures { IfOk result (λ line. line ≡ words.file_reason error.now) }
 {
     match error {
-        IndexFileError::Short => fixed(alloc, b": index file smaller than expected\n"),
-        IndexFileError::Signature => fixed(alloc, b": index file corrupt: bad signature\n"),
+        IndexFileError::Short => broken(alloc, b": index file smaller than expected"),
+        IndexFileError::Signature => broken(alloc, b": index file corrupt: bad signature"),
         IndexFileError::Version { version } => with_number(
             alloc,
             b": index file corrupt: bad index version ",
             *version as usize,
             b"\n",
         ),
-        IndexFileError::Sum => fixed(
+        IndexFileError::Sum => broken(
             alloc,
-            b": index file corrupt: bad index file sha1 signature\n",
+            b": index file corrupt: bad index file sha1 signature",
         ),
         IndexFileError::Entry { at } => with_place(
             alloc,
             b": index file corrupt: entry ",
             *at,
-            b"\n",
+            MEND,
         ),
-        IndexFileError::Extensions => fixed(alloc, b": index file corrupt: bad extensions\n"),
+        IndexFileError::Extensions => broken(alloc, b": index file corrupt: bad extensions"),
         IndexFileError::Split => fixed(
             alloc,
             b": the index is split; join it with 'git update-index --no-split-index'\n",
@@ -45,7 +57,7 @@ pub fn file_reason(alloc: Global, error: &IndexFileError) -> Result<Bytes, OutOf
             alloc,
             b": index file corrupt: directory at entry ",
             *at,
-            b"\n",
+            MEND,
         ),
         IndexFileError::OutOfMemory => fixed(alloc, MEMORY),
     }
@@ -60,25 +72,25 @@ pub fn entry_reason(alloc: Global, error: &IndexError) -> Result<Bytes, OutOfMem
             alloc,
             b": index file corrupt: bad path at entry ",
             *at,
-            b"\n",
+            MEND,
         ),
         IndexError::ModePath { at } => with_place(
             alloc,
             b": index file corrupt: bad mode at entry ",
             *at,
-            b"\n",
+            MEND,
         ),
         IndexError::NotAscending { at } => with_place(
             alloc,
             b": unordered entries in index: entry ",
             *at,
-            b"\n",
+            MEND,
         ),
         IndexError::Stage { at } => with_place(
             alloc,
             b": unordered stage entries in index: entry ",
             *at,
-            b"\n",
+            MEND,
         ),
     }
 }
