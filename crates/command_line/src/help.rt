@@ -179,13 +179,13 @@ those that OPTION chooses. A PATH is a path spec; none means the current directo
   -u, --unmerged        the same of paths that are not merged, alone
   -o, --others          what the index does not have
   -k, --killed          what lies in the way of the index
-  -i, --ignored         of what the index lacks, what is ignored, alone; with
-                        --exclude-standard
+  -i, --ignored         of what the index lacks, what is ignored, alone; beside one of
+                        the three below
   --exclude-standard    ignore rules are asked: .gitignore, info/exclude, and the
                         excludes file of the user
   --exclude-per-directory=.gitignore
                         of these rules those of each directory
-  -x, --exclude=PATTERN  a rule before all others; beside one of the two above
+  -x, --exclude=PATTERN  a rule before all others; alone without -k and --directory
   --directory           a directory in place of what it holds, where the index has
                         nothing in it
   --no-empty-directory  no directories without files
