@@ -5,6 +5,9 @@ pub mod Places
 pub mod Others
 pub mod Killed
 pub mod Unmatched
+pub mod Alone
 pub mod Walking
 pub mod Listed
+pub mod ChangedErrors
+pub mod Changed
 pub mod Wrong

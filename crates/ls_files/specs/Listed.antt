@@ -20,6 +20,7 @@ use Rattle.worktree_report.specs.Orderly.{IsOrderly}
 use Rattle.ls_files.specs.declared.listed.Listed.{Listed}
 use Rattle.ls_files.specs.declared.listing.Listing.{Listing}
 use Rattle.ls_files.specs.declared.listing.NamedSpec.{NamedSpec}
+use Rattle.ls_files.specs.Alone.{sifted, unsifted}
 use Rattle.ls_files.specs.Cached.{index_text}
 use Rattle.ls_files.specs.Choices.{chosen, walks}
 use Rattle.ls_files.specs.Killed.{killed, killed_text}
@@ -29,8 +30,8 @@ use Rattle.ls_files.specs.Unmatched.{complaint, places_of}
 -- ---- by the entries of a report
 
 -- what the index does not have, where it is asked for
-abbrev pub names_for : Listing → List IndexEntry → List PathSpec → List NamedSpec → List ReportEntry → List (List ℕ)
-names_for l entries specs named found = if l.others then others l entries specs named found else []
+abbrev pub names_for : Listing → Setup → List NamedSpec → List ReportEntry → List (List ℕ)
+names_for l setup named found = if l.others then sifted l setup (others (unsifted l) setup.index setup.specs named found) else []
 
 -- what lies in its way, where that is asked for
 abbrev pub killed_for : Listing → List IndexEntry → List PathSpec → List NamedSpec → List ReportEntry → List (List ℕ)
@@ -51,7 +52,7 @@ listed_with l prefix named specs entries names ways =
 
 unfoldable pub listed : Listing → List ℕ → List NamedSpec → Setup → List ReportEntry → Listed
 listed l prefix named setup found =
-    listed_with l prefix named setup.specs setup.index (names_for l setup.index setup.specs named found)
+    listed_with l prefix named setup.specs setup.index (names_for l setup named found)
     (killed_for l setup.index setup.specs named found)
 
 -- "--error-unmatch: .. treat this as an error (return 1)"

@@ -1,5 +1,5 @@
 -- What the walk is asked for.
-use Rattle.std.specs.Prelude.{true, false, ◌||◌, Option, Some, None, if◌then◌else◌}
+use Rattle.std.specs.Prelude.{Bool, true, false, ◌&&◌, ◌||◌, Option, Some, None, if◌then◌else◌}
 use Rattle.dir_classify.specs.declared.options.EmissionMode.{EmissionMode}
 use Rattle.dir_classify.specs.declared.options.EmissionMode.TheVariants.{Matching}
 use Rattle.dir_classify.specs.declared.options.ForDeletionMode.{ForDeletionMode}
@@ -9,13 +9,17 @@ use Rattle.ls_files.specs.declared.listing.Listing.{Listing}
 use Rattle.ls_files.specs.Choices.{asks_rules}
 use Rattle.ls_files.specs.Others.{shows_empty}
 
+-- ignored paths are asked for, by rules of the walk
+abbrev pub asks_ignored : Listing → Bool
+asks_ignored l = l.ignored && asks_rules l
+
 -- ignored paths are asked for themselves, or since a directory is not empty where they lie in it
 abbrev pub ignored_for : Listing → Option EmissionMode
-ignored_for l = if l.ignored || shows_empty l then Some Matching else None
+ignored_for l = if asks_ignored l || shows_empty l then Some Matching else None
 
 -- Ignored directories are walked, as for a deletion, where what lies in them is asked for.
 abbrev pub deletion_for : Listing → Option ForDeletionMode
-deletion_for l = if l.ignored then Some FindNonBareRepositoriesInIgnoredDirectories else None
+deletion_for l = if asks_ignored l then Some FindNonBareRepositoriesInIgnoredDirectories else None
 
 -- Options with those set that a listing needs: each path by itself and none folded; what is left out, as path specs are asked here
 -- about directories; directories without names, where these are shown; and git's rule that what an ignored directory holds is ignored. All others stay.

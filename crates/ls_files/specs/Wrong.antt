@@ -4,10 +4,13 @@ use Rattle.std.specs.List.{list_any}
 use Rattle.std.specs.Option.{option_or}
 use Rattle.gitbase_core.specs.Entry.{mode_bits, dir_mode}
 use Rattle.gitbase_core.specs.declared.entry.IndexEntry.{IndexEntry}
+use Rattle.diff_files.specs.declared.error.Unsupported.{Unsupported}
+use Rattle.diff_files.specs.declared.error.Unsupported.TheVariants as forms
 use Rattle.ls_files.specs.declared.listing.Listing.{Listing}
 use Rattle.ls_files.specs.declared.wrong.WrongListing.{WrongListing}
 use Rattle.ls_files.specs.declared.wrong.WrongListing.TheVariants as wrong
 use Rattle.ls_files.specs.Choices.{asks_rules, shows_index, walks}
+use Rattle.ls_files.specs.Alone.{are_alone}
 
 -- "-i: Show only ignored files in the output. Must be used with either an explicit -c or -o."
 abbrev pub lacks_kind : Listing → Bool
@@ -28,9 +31,9 @@ wrong_ignored l =
 abbrev pub wrong_if_ignored : Listing → Option WrongListing
 wrong_if_ignored l = if l.ignored then wrong_ignored l else None
 
--- rules above all others are asked here only with those of each directory
+-- patterns alone are asked here about what the index does not have, each path by itself
 abbrev pub wrong_rules : Listing → Option WrongListing
-wrong_rules l = if walks l && (l.patterns && not (asks_rules l)) then Some wrong.PatternsAlone else None
+wrong_rules l = if are_alone l && (l.killed || (l.others && l.directories)) then Some wrong.PatternsAlone else None
 
 -- a sparse index has an entry in the place of a directory
 abbrev pub is_sparse : IndexEntry → Bool
@@ -44,6 +47,18 @@ wrong_index l entries = if (shows_index l || l.killed) && list_any is_sparse ent
 abbrev pub wrong_in : Listing → List IndexEntry → Option WrongListing
 wrong_in l entries = option_or (wrong_if_ignored l) (option_or (wrong_rules l) (wrong_index l entries))
 
+-- the same of a listing with what changed; what else a work tree holds is not listed beside that here
+abbrev pub wrong_beside : Listing → Option WrongListing
+wrong_beside l = option_or (wrong_if_ignored l) (if walks l then Some wrong.ChangedAndOthers else None)
+
+-- what is told of a form that is not answered
+abbrev pub unsupported_text : Unsupported → List ℕ
+unsupported_text forms.Repository = codes "ls-files -m is not supported where a repository stands"
+unsupported_text forms.Conversion = codes "ls-files -m is not supported where bytes are converted"
+unsupported_text forms.IgnoredSubmodule = codes "ls-files -m is not supported for ignored submodules"
+unsupported_text forms.SparseIndex = codes "ls-files is not supported for what a sparse index has"
+unsupported_text forms.Details = codes "ls-files has no stat fields of an entry"
+
 -- what is told of it
 abbrev pub wrong_text : WrongListing → List ℕ
 wrong_text wrong.IgnoredOfNothing = codes "ls-files -i must be used with either -o or -c"
@@ -51,4 +66,6 @@ wrong_text wrong.IgnoredWithoutRules = codes "ls-files --ignored needs some excl
 wrong_text wrong.IgnoredIndex = codes "ls-files -i is not supported for what the index has"
 wrong_text wrong.IgnoredDirectories = codes "ls-files -i is not supported with --directory"
 wrong_text wrong.SparseIndex = codes "ls-files is not supported for what a sparse index has"
-wrong_text wrong.PatternsAlone = codes "ls-files -x is not supported without --exclude-per-directory"
+wrong_text wrong.PatternsAlone = codes "ls-files -x alone is not supported with -k or --directory"
+wrong_text wrong.ChangedAndOthers = codes "ls-files -d and -m are not supported with -o and -k"
+wrong_text (wrong.Unsupported form) = unsupported_text form

@@ -1,8 +1,11 @@
 //! What `git ls-files` prints: the paths of an index, and what else a work tree holds.
 #![tactic(auto)]
 
+mod alone;
 mod answer;
 mod cached;
+mod changed;
+mod changed_error;
 mod killed;
 mod line;
 mod listed;
@@ -10,14 +13,19 @@ mod listing;
 mod naming;
 mod others;
 mod place;
+mod shown;
+mod standings;
 mod unmatched;
 mod unseen;
 mod walking;
 mod wrong;
 
 pub use answer::list_files;
+pub use changed::list_changed;
+pub use changed_error::ChangedError;
 pub use listed::{Listed, list_found};
 pub use listing::{Listing, NamedSpec};
+pub use standings::Standings;
 pub use unseen::is_unseen;
 pub use walking::walk_options;
-pub use wrong::{WrongListing, wrong_in};
+pub use wrong::{WrongListing, wrong_beside, wrong_in};

@@ -1,15 +1,15 @@
 //! What is listed, by the entries of a report.
 ghost use Rattle.std.specs.Prelude.{◌≡◌, ◌++◌, map, IfOk, OnOk};
-ghost use Rattle.gitbase_core.specs.Path as paths;
 ghost use Rattle.ls_files.specs.Choices.{chosen};
 ghost use Rattle.ls_files.specs.Listed as words;
 ghost use Rattle.ls_files.specs.Unmatched.{place_of_entry, place_of_name, places_of};
 
+use crate::alone::{sifted, unsifted};
 use crate::cached::{add_index, is_directory, is_next};
 use crate::killed::{add_all_killed, killed};
 use crate::listing::{Listing, NamedSpec};
 use crate::others::{add_others, others};
-use crate::place::{Place, ends_in_slash};
+use crate::place::{Place, place_of_name};
 use crate::unmatched::complaint;
 use gitbase_core::{Bytes, IndexEntry, OutOfMemory, State};
 use glob_rules::pathspec::Search;
@@ -34,25 +34,8 @@ impl Listed {
     }
 }
 
-/// A name without the slash at its end, if there is one.
-fn without_slash(name: &[u8]) -> &[u8]
-    ensures { result.now ≡ paths.without_slash name.now }
-{
-    if ends_in_slash(name) {
-        return &name[..name.len() - 1];
-    }
-    name
-}
-
-/// The path of a name, and whether it is that of a directory.
-fn place_of_name(name: &[u8]) -> Place<'_>
-    ensures { result ≡ place_of_name name.now }
-{
-    Place::new(without_slash(name), ends_in_slash(name))
-}
-
 /// The path of an entry, and whether it is that of a directory.
-fn place_of_entry(entry: &IndexEntry) -> Place<'_>
+pub fn place_of_entry(entry: &IndexEntry) -> Place<'_>
     ensures { result ≡ place_of_entry entry.now }
 {
     Place::new(entry.path.as_bytes(), is_directory(entry))
@@ -113,18 +96,19 @@ fn told(
 fn names_for(
     alloc: Global,
     listing: &Listing,
-    index: &State,
-    specs: &Search,
+    setup: &Setup,
     named: &[NamedSpec],
     found: &[ReportEntry],
 ) -> Result<Vec<Bytes>, OutOfMemory>
-    ensures { IfOk result (λ names. names.items
-        ≡ words.names_for listing.now index.now specs.now named.now found.now) }
+    ensures { IfOk result
+        (λ names. names.items ≡ words.names_for listing.now setup.now named.now found.now) }
 {
     if !listing.others {
         return Ok(Vec::new(alloc));
     }
-    others(alloc, listing, index, specs, named, found)
+    let all = unsifted(listing);
+    let names = others(alloc, &all, &setup.index, &setup.specs, named, found)?;
+    sifted(alloc, listing, setup, names)
 }
 
 /// The names of what lies in the way of the index, where that is asked for.
@@ -183,7 +167,7 @@ pub fn list_found(
     ensures { IfOk result
         (λ made. made ≡ words.listed listing.now prefix.now named.now setup.now found.now) }
 {
-    let names = names_for(alloc, listing, &setup.index, &setup.specs, named, found)?;
+    let names = names_for(alloc, listing, setup, named, found)?;
     let ways = killed_for(alloc, listing, &setup.index, &setup.specs, named, found)?;
     let out = shown(
         alloc,

@@ -1,6 +1,7 @@
 //! Paths, and whether directories stand there.
 ghost use Rattle.std.specs.Prelude.{◌≡◌};
 ghost use Rattle.gitbase_core.specs.Path as paths;
+ghost use Rattle.ls_files.specs.Unmatched.{place_of_name};
 
 use std::marker::Model;
 
@@ -47,4 +48,21 @@ pub fn ends_in_slash(name: &[u8]) -> bool
     ensures { result ≡ paths.ends_in_slash name.now }
 {
     name.last() == Some(&b'/')
+}
+
+/// A name without the slash at its end, if there is one.
+fn without_slash(name: &[u8]) -> &[u8]
+    ensures { result.now ≡ paths.without_slash name.now }
+{
+    if ends_in_slash(name) {
+        return &name[..name.len() - 1];
+    }
+    name
+}
+
+/// The path of a name, and whether it is that of a directory.
+pub fn place_of_name(name: &[u8]) -> Place<'_>
+    ensures { result ≡ place_of_name name.now }
+{
+    Place::new(without_slash(name), ends_in_slash(name))
 }

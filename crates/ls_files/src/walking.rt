@@ -15,11 +15,18 @@ pub fn shows_empty(listing: &Listing) -> bool
     listing.directories && listing.empty_directories
 }
 
+/// Whether ignored paths are asked for, by rules of the walk.
+fn asks_ignored(listing: &Listing) -> bool
+    ensures { result ≡ words.asks_ignored listing.now }
+{
+    listing.ignored && asks_rules(listing)
+}
+
 /// How ignored paths are reported.
 fn ignored_for(listing: &Listing) -> Option<EmissionMode>
     ensures { result ≡ words.ignored_for listing.now }
 {
-    if listing.ignored | shows_empty(listing) {
+    if asks_ignored(listing) | shows_empty(listing) {
         return Some(EmissionMode::Matching);
     }
     None
@@ -29,7 +36,7 @@ fn ignored_for(listing: &Listing) -> Option<EmissionMode>
 fn deletion_for(listing: &Listing) -> Option<ForDeletionMode>
     ensures { result ≡ words.deletion_for listing.now }
 {
-    if listing.ignored {
+    if asks_ignored(listing) {
         return Some(ForDeletionMode::FindNonBareRepositoriesInIgnoredDirectories);
     }
     None

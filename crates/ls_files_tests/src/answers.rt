@@ -90,6 +90,15 @@ pub const ROWS: &[u8] = b"\
 0^^-o|-i|--exclude-standard^u&::u^u/y.o$^\n\
 0^^-o|-i|--exclude-standard^ign.o&::ign.o^ign.o/in/f$^\n\
 0^^-o|-i|--exclude-standard^build/h.o&::build/h.o^build/h.o$^\n\
+0^^-o|--exclude=rep^^brk/f$build/h.o$build/sub/g$gone/un$ign.o/in/f$ln$lt$nested/deep/rep2/$nested/n$o.o$onlyign/z.o$repl.x$repl/in$top$u/v/x$u/y.o$^\n\
+0^^-o|--exclude=rep/^^brk/f$build/h.o$build/sub/g$gone/un$ign.o/in/f$ln$lt$nested/deep/rep2/$nested/n$o.o$onlyign/z.o$repl.x$repl/in$top$u/v/x$u/y.o$^\n\
+0^^-o|-i|--exclude=rep^^rep/$^\n\
+0^^-o|-i|--exclude=nested^^nested/deep/rep2/$nested/n$^\n\
+0^^-o|--exclude=deep^^brk/f$build/h.o$build/sub/g$gone/un$ign.o/in/f$ln$lt$nested/n$o.o$onlyign/z.o$rep/$repl.x$repl/in$top$u/v/x$u/y.o$^\n\
+0^^-o|--exclude=lt|--exclude=ln/|--exclude=fif^^brk/f$build/h.o$build/sub/g$gone/un$ign.o/in/f$ln$nested/deep/rep2/$nested/n$o.o$onlyign/z.o$rep/$repl.x$repl/in$top$u/v/x$u/y.o$^\n\
+0^^-o|-i|--exclude=gone|--exclude=repl^^gone/un$repl/in$^\n\
+0^^-o|--exclude=t^^brk/f$build/h.o$build/sub/g$gone/un$ign.o/in/f$ln$lt$nested/deep/rep2/$nested/n$o.o$onlyign/z.o$rep/$repl.x$repl/in$top$u/v/x$u/y.o$^\n\
+0^^-o|-i|--exclude=*^rep&::rep|u&::u^rep/$u/v/x$u/y.o$^\n\
 0^u^-o^u/&:(literal)u^v/x$y.o$^\n\
 0^u^-o|--directory^u/&:(literal)u^./$^\n\
 0^u^-o|--full-name^u/&:(literal)u^u/v/x$u/y.o$^\n\
@@ -237,6 +246,41 @@ pub const ROWS: &[u8] = b"\
 8^^-o|--directory|--no-empty-directory|--exclude=#*|--exclude-per-directory=.gitignore^^.gitignore$a/2.x$a/b/$k/$keep.x$^\n\
 8^^-c|--exclude=*^^a/.gitignore$^\n\
 8^^-o|-k|--exclude-per-directory=.gitignore|--exclude=*.u^^.gitignore$a/2.x$a/b/.gitignore$a/b/3.x$k/l/6$k/l/keep.x$keep.x$^\n\
+8^^-o|--exclude=*.x^^.gitignore$a/b/.gitignore$a/b/c/4.u$k/5.u$k/l/6$^\n\
+8^^-o|--exclude=b/^^.gitignore$1.x$a/2.x$k/5.u$k/l/6$k/l/keep.x$keep.x$^\n\
+8^^-o|--exclude=b^^.gitignore$1.x$a/2.x$k/5.u$k/l/6$k/l/keep.x$keep.x$^\n\
+8^^-o|--exclude=/b^^.gitignore$1.x$a/2.x$a/b/.gitignore$a/b/3.x$a/b/c/4.u$k/5.u$k/l/6$k/l/keep.x$keep.x$^\n\
+8^^-o|--exclude=/a/b|--exclude=k^^.gitignore$1.x$a/2.x$keep.x$^\n\
+8^^-o|--exclude=*|--exclude=!1.x^^1.x$^\n\
+8^^-o|--exclude=a/*|--exclude=!a/b^^.gitignore$1.x$a/b/.gitignore$a/b/3.x$a/b/c/4.u$k/5.u$k/l/6$k/l/keep.x$keep.x$^\n\
+8^^-o|--exclude=!a/b|--exclude=a/*^^.gitignore$1.x$k/5.u$k/l/6$k/l/keep.x$keep.x$^\n\
+8^^-o|--exclude=l/6|--exclude=*.u|--exclude=!5.u^^.gitignore$1.x$a/2.x$a/b/.gitignore$a/b/3.x$k/5.u$k/l/6$k/l/keep.x$keep.x$^\n\
+8^^-o|--exclude=**/c^^.gitignore$1.x$a/2.x$a/b/.gitignore$a/b/3.x$k/5.u$k/l/6$k/l/keep.x$keep.x$^\n\
+8^^-o|--exclude=A^^.gitignore$1.x$a/2.x$a/b/.gitignore$a/b/3.x$a/b/c/4.u$k/5.u$k/l/6$k/l/keep.x$keep.x$^\n\
+8^^-o|--exclude=^^.gitignore$1.x$a/2.x$a/b/.gitignore$a/b/3.x$a/b/c/4.u$k/5.u$k/l/6$k/l/keep.x$keep.x$^\n\
+8^^-o|--exclude=!^^.gitignore$1.x$a/2.x$a/b/.gitignore$a/b/3.x$a/b/c/4.u$k/5.u$k/l/6$k/l/keep.x$keep.x$^\n\
+8^^-o|--exclude=1.x/^^.gitignore$1.x$a/2.x$a/b/.gitignore$a/b/3.x$a/b/c/4.u$k/5.u$k/l/6$k/l/keep.x$keep.x$^\n\
+8^^-o|-i|--exclude=*.x^^1.x$a/2.x$a/b/3.x$k/l/keep.x$keep.x$^\n\
+8^^-o|-i|--exclude=b/^^a/b/.gitignore$a/b/3.x$a/b/c/4.u$^\n\
+8^^-o|-i|--exclude=b^^a/b/.gitignore$a/b/3.x$a/b/c/4.u$^\n\
+8^^-o|-i|--exclude=/b^^^\n\
+8^^-o|-i|--exclude=/a/b|--exclude=k^^a/b/.gitignore$a/b/3.x$a/b/c/4.u$k/5.u$k/l/6$k/l/keep.x$^\n\
+8^^-o|-i|--exclude=*|--exclude=!1.x^^.gitignore$a/2.x$a/b/.gitignore$a/b/3.x$a/b/c/4.u$k/5.u$k/l/6$k/l/keep.x$keep.x$^\n\
+8^^-o|-i|--exclude=a/*|--exclude=!a/b^^a/2.x$^\n\
+8^^-o|-i|--exclude=!a/b|--exclude=a/*^^a/2.x$a/b/.gitignore$a/b/3.x$a/b/c/4.u$^\n\
+8^^-o|-i|--exclude=l/6|--exclude=*.u|--exclude=!5.u^^a/b/c/4.u$^\n\
+8^^-o|-i|--exclude=**/c^^a/b/c/4.u$^\n\
+8^^-o|-i|--exclude=A^^^\n\
+8^^-o|-i|--exclude=^^^\n\
+8^^-o|-i|--exclude=!^^^\n\
+8^^-o|-i|--exclude=1.x/^^^\n\
+8^^-o|-c|-t|--exclude=k^^? .gitignore$? 1.x$? a/2.x$? a/b/.gitignore$? a/b/3.x$? a/b/c/4.u$? keep.x$H a/.gitignore$^\n\
+8^^-o|-s|--exclude=*.x^^.gitignore$a/b/.gitignore$a/b/c/4.u$k/5.u$k/l/6$100644 89db367c5fbf568fa02d19447557fb8e1b0ae5e5 0\ta/.gitignore$^\n\
+8^^-o|--error-unmatch|--exclude=a^a&::a|1.x&::1.x^1.x$^error: pathspec 'a' did not match any file(s) known to git$Did you forget to 'git add'?$\n\
+8^^-o|-i|--error-unmatch|--exclude=a^a&::a|1.x&::1.x^a/2.x$a/b/.gitignore$a/b/3.x$a/b/c/4.u$^error: pathspec '1.x' did not match any file(s) known to git$Did you forget to 'git add'?$\n\
+8^^-o|--exclude=k^:!a&:!:a|&:(literal)^.gitignore$1.x$keep.x$^\n\
+8^^-c|--exclude=a^^a/.gitignore$^\n\
+8^^-s|--exclude=*^^100644 89db367c5fbf568fa02d19447557fb8e1b0ae5e5 0\ta/.gitignore$^\n\
 8^^-o^^.gitignore$1.x$a/2.x$a/b/.gitignore$a/b/3.x$a/b/c/4.u$k/5.u$k/l/6$k/l/keep.x$keep.x$^\n\
 8^^-o|--directory^^.gitignore$1.x$a/2.x$a/b/$k/$keep.x$^\n\
 8^^-o|--directory|--no-empty-directory^^.gitignore$1.x$a/2.x$a/b/$k/$keep.x$^\n\
@@ -250,6 +294,11 @@ pub const ROWS: &[u8] = b"\
 8^^-o|-i|--exclude-standard^k/l&::k/l^k/l/6$k/l/keep.x$^\n\
 8^a/b^-o|--exclude-standard^a/b/&:(literal)a/b^.gitignore$3.x$^\n\
 8^k^-o|--exclude-standard^k/&:(literal)k^^\n\
+8^a/b^-o|--exclude=/c^a/b/&:(literal)a/b^.gitignore$3.x$c/4.u$^\n\
+8^a/b^-o|--exclude=/a/b/c^a/b/&:(literal)a/b^.gitignore$3.x$^\n\
+8^a/b^-o|--exclude=c^a/b/&:(literal)a/b^.gitignore$3.x$^\n\
+8^a/b^-o|-i|--exclude=/a^a/b/&:(literal)a/b^.gitignore$3.x$c/4.u$^\n\
+8^a/b^-o|--exclude=c^..&::a/b/..^../2.x$.gitignore$3.x$^\n\
 9^^-k^^deep/er$q$repl/i.o$repl/in$repl2/$s$w$^\n\
 9^^-t|-k^^K deep/er$K q$K repl/i.o$K repl/in$K repl2/$K s$K w$^\n\
 9^^-o|-k|-t^^? a$? d$? deep/er$? m/f$? n$? q$? repl/i.o$? repl/in$? repl/rep/$? repl/sub/sub/y$? repl/sub/x$? s$? u/x$? w$K deep/er$K q$K repl/i.o$K repl/in$K repl/rep/$K repl/sub/sub/y$K repl/sub/x$K repl2/$K s$K w$^\n\
