@@ -1,5 +1,5 @@
 -- By which rule it is decided whether a path is excluded: git-check-ignore(1), gitignore(5).
-use Rattle.std.specs.Prelude.{ℕ, List, [], Bool, true, false, not, ◌&&◌, ◌||◌, Option, Some, None, option_map, unwrap_or, Result, Ok, Err, if◌then◌else◌}
+use Rattle.std.specs.Prelude.{ℕ, List, [], Bool, true, false, not, ◌&&◌, ◌||◌, Option, Some, None, option_map, Result, Ok, Err, if◌then◌else◌}
 use Rattle.std.specs.FinMap.{empty}
 use Rattle.std.specs.List.{list_all}
 use Rattle.gitbase_core.specs.Path.{components, is_empty}
@@ -20,18 +20,15 @@ use Rattle.worktree_stack.specs.declared.error.RulesWhy.{RulesWhy}
 use Rattle.worktree_stack.specs.declared.error.RulesWhy.TheVariants as rules
 use Rattle.check_ignore.specs.Finds.{◌>>=◌}
 use Rattle.check_ignore.specs.Links.{is_directory, kind_at}
-use Rattle.check_ignore.specs.Outer.{excludes_all, made_of as made}
+use Rattle.check_ignore.specs.Outer.{all_excluder, made_of as made, source_of}
 use Rattle.check_ignore.specs.Tracked.{is_tracked}
 use Rattle.check_ignore.specs.declared.asked.AskedPath.{AskedPath}
 use Rattle.check_ignore.specs.declared.checking.Checking.{Checking}
 use Rattle.check_ignore.specs.declared.checking.OuterRules.{OuterRules}
 use Rattle.check_ignore.specs.declared.found_rule.FoundRule.{FoundRule}
+use Rattle.check_ignore.specs.declared.found_rule.RulePlace.{RulePlace}
 use Rattle.check_ignore.specs.declared.stop.Stop.{Stop}
 use Rattle.check_ignore.specs.declared.stop.Stop.TheVariants as stops
-
--- where the list of a rule was read
-abbrev pub source_of : Hit → List ℕ
-source_of hit = unwrap_or hit.source []
 
 -- a rule, with the group of its list
 abbrev pub found_of : RuleGroup → Hit → FoundRule
@@ -89,9 +86,14 @@ wants_more a rule = a.names_directory && (is_empty a.path || not (excludes rule)
 abbrev pub unless_slash : AskedPath → Option FoundRule → Result (Option FoundRule) Stop
 unless_slash a rule = if wants_more a rule then Err (stops.Slash a.text) else Ok rule
 
+-- that no rule excludes all
+abbrev pub unless_excluded : AskedPath → Option RulePlace → Result Bool Stop
+unless_excluded a None = Ok true
+unless_excluded a (Some place) = Err (stops.Everything a.text place.file place.line)
+
 -- A rule that excludes a path without a name would exclude the top too, and all beneath it: this is not answered.
 abbrev pub unless_all : OuterRules → Checking → AskedPath → Result Bool Stop
-unless_all outer c a = if excludes_all outer c.ignore_case then Err (stops.Everything a.text) else Ok true
+unless_all outer c a = unless_excluded a (all_excluder outer c.ignore_case)
 
 -- the rule that decides about a path that the index does not have
 unfoldable pub ruled : Names → List ℕ → List IndexEntry → OuterRules → Checking → AskedPath → Result (Option FoundRule) Stop

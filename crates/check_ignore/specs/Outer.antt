@@ -1,5 +1,5 @@
 -- Ignore rules, and what a stack of them is made with: gitignore(5).
-use Rattle.std.specs.Prelude.{ℕ, List, [], ◌∷◌, ◌++◌, Bool, true, false, not, codes, Option, Some, None}
+use Rattle.std.specs.Prelude.{ℕ, List, [], ◌∷◌, ◌++◌, Bool, true, false, codes, Option, Some, None, unwrap_or, if◌then◌else◌}
 use Rattle.gitbase_core.specs.declared.entry.IndexEntry.{IndexEntry}
 use Rattle.glob_rules.specs.Ignore.{Hit, Rules, entries, search_hit}
 use Rattle.worktree_stack.specs.Mappings.{case_of, mappings_in}
@@ -7,6 +7,7 @@ use Rattle.worktree_stack.specs.Setup.{Setup, Made}
 use Rattle.worktree_stack.specs.declared.ignore_source.Source.TheVariants.{WorktreeThenIdMappingIfNotSkipped}
 use Rattle.check_ignore.specs.declared.checking.NamedRules.{NamedRules}
 use Rattle.check_ignore.specs.declared.checking.OuterRules.{OuterRules}
+use Rattle.check_ignore.specs.declared.found_rule.RulePlace.{RulePlace}
 
 -- the rules of a file outside the work tree: they are for every path
 abbrev pub list_of : NamedRules → Rules
@@ -19,13 +20,22 @@ lists_of (Some given) = list_of given ∷ []
 abbrev pub globals_of : OuterRules → List Rules
 globals_of outer = lists_of outer.user ++ lists_of outer.repository
 
-abbrev pub is_excluding : Option Hit → Bool
-is_excluding None = false
-is_excluding (Some hit) = not hit.pattern.is_negative
+-- where the list of a rule was read
+abbrev pub source_of : Hit → List ℕ
+source_of hit = unwrap_or hit.source []
 
--- a rule outside the work tree excludes a path without a name
-abbrev pub excludes_all : OuterRules → Bool → Bool
-excludes_all outer ignore_case = is_excluding (search_hit (globals_of outer) [] (Some true) (case_of ignore_case))
+-- its file and its line
+abbrev pub place_of : Hit → RulePlace
+place_of hit = record { file = source_of hit; line = hit.line }
+
+-- where a rule stands that excludes
+abbrev pub excluding : Option Hit → Option RulePlace
+excluding None = None
+excluding (Some hit) = if hit.pattern.is_negative then None else Some (place_of hit)
+
+-- where the rule outside the work tree stands that excludes a path without a name
+abbrev pub all_excluder : OuterRules → Bool → Option RulePlace
+all_excluder outer ignore_case = excluding (search_hit (globals_of outer) [] (Some true) (case_of ignore_case))
 
 -- the rules of each directory's `.gitignore`, and below them those of the repository, and then those of the user; an excluded directory
 -- keeps all beneath it excluded

@@ -1,5 +1,5 @@
 -- What is told of a refusal.
-use Rattle.std.specs.Prelude.{ℕ, List, ◌++◌, codes}
+use Rattle.std.specs.Prelude.{ℕ, List, ◌++◌, codes, decimal}
 use Rattle.check_ignore.specs.declared.stop.Stop.{Stop}
 use Rattle.check_ignore.specs.declared.stop.Stop.TheVariants as stops
 
@@ -13,6 +13,10 @@ inside text place = (codes "Pathspec '" ++ text ++ codes "' is in submodule '") 
 abbrev pub unsupported : List ℕ → List ℕ → List ℕ
 unsupported why text = (codes "check-ignore is not supported with " ++ why ++ codes ": '") ++ text ++ codes "'"
 
+-- the rule in this line of a file outside the work tree excludes all
+abbrev pub excluder_text : List ℕ → ℕ → List ℕ
+excluder_text file line = (codes "a rule outside the work tree that excludes all, line " ++ decimal line ++ codes " of '") ++ file ++ codes "'"
+
 -- what git refuses too in git's words
 abbrev pub told : List ℕ → Stop → List ℕ
 told root stops.BadQuotes = codes "line is badly quoted"
@@ -24,7 +28,7 @@ told root (stops.Magic text) = unsupported (codes "path spec magic") text
 told root (stops.Elsewhere text) = unsupported (codes "a path elsewhere") text
 told root (stops.Prefix text) = unsupported (codes "wildcards here") text
 told root (stops.Slash text) = unsupported (codes "a directory that is neither tracked nor ignored") text
-told root (stops.Everything text) = unsupported (codes "a rule outside the work tree that excludes all") text
+told root (stops.Everything text file line) = unsupported (excluder_text file line) text
 told root (stops.Unread text) = unsupported (codes "a rules file that is not read") text
 told root stops.SparseIndex = codes "check-ignore is not supported with a sparse index"
 told root stops.Fault = codes "the work tree could not be read"

@@ -9,7 +9,7 @@ use crate::checking::{Checking, OuterRules};
 use crate::found_rule::FoundRule;
 use crate::links::is_directory_at;
 use crate::lookup::looked_up;
-use crate::outer::{excludes_all, stack_of};
+use crate::outer::{all_excluder, stack_of};
 use crate::stop::Stop;
 use crate::tracked::is_tracked;
 use gitbase_core::{Bytes, State as Index};
@@ -77,12 +77,14 @@ fn unless_all(
 ) -> Result<bool, Stop>
     ensures { Decides result (words.unless_all outer.now checking.now asked.now) }
 {
-    if excludes_all(alloc, outer, checking.ignore_case)? {
-        return Err(Stop::Everything {
+    match all_excluder(alloc, outer, checking.ignore_case)? {
+        None => Ok(true),
+        Some(place) => Err(Stop::Everything {
             text: Bytes::from_slice(alloc, asked.text.as_bytes())?,
-        });
+            file: place.file,
+            line: place.line,
+        }),
     }
-    Ok(true)
 }
 
 /// The rule that decides about a path by rules that are read anew.

@@ -1,4 +1,4 @@
-//! The rule that decides about a path.
+//! The rule that decides about a path, and where a rule stands.
 use gitbase_core::Bytes;
 use glob_rules::ignore::RuleGroup;
 
@@ -17,4 +17,13 @@ pub struct FoundRule {
     pub is_negative: bool,
     /// Whether a slash stands behind it, so that it is for directories alone.
     pub must_be_dir: bool,
+}
+
+/// Where a rule outside the work tree stands.
+#[derive(Debug, Drop)]
+pub struct RulePlace {
+    /// Its file, as git names it.
+    pub file: Bytes,
+    /// The number of its line, from 1.
+    pub line: usize,
 }

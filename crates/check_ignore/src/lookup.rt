@@ -14,22 +14,13 @@ ghost use Rattle.check_ignore.specs.Finds.{Finds};
 
 use crate::asked::AskedPath;
 use crate::found_rule::FoundRule;
+use crate::outer::source_of;
 use crate::stop::Stop;
 use gitbase_core::{Bytes, Find, MemoryStore, Mode, OutOfMemory};
 use glob_rules::ignore::{Match, Origin, RuleGroup};
 use std::alloc::Global;
 use worktree_fs::Worktree;
 use worktree_stack::{AtPathError, BlobWhy, Platform, RulesWhy, Stack};
-
-/// Where the list of a match was read.
-fn source_of<'a>(found: &Match<'a>) -> &'a [u8]
-    ensures { result.now ≡ words.source_of (match_of found.now) }
-{
-    match found.source {
-        Some(source) => source,
-        None => b"",
-    }
-}
 
 /// A match with the group of its list.
 fn found_of(alloc: Global, group: RuleGroup, found: &Match<'_>) -> Result<FoundRule, OutOfMemory>

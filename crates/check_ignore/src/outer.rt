@@ -7,7 +7,8 @@ ghost use Rattle.worktree_stack.specs.Stacked.{IsInStep, made_of};
 ghost use Rattle.check_ignore.specs.Outer as words;
 
 use crate::checking::{NamedRules, OuterRules};
-use gitbase_core::{OutOfMemory, PathText, State as Index};
+use crate::found_rule::RulePlace;
+use gitbase_core::{Bytes, OutOfMemory, PathText, State as Index};
 use glob_rules::Case;
 use glob_rules::ignore::{List, Match, ParseIgnore, Search};
 use std::alloc::Global;
@@ -57,14 +58,38 @@ fn globals_of(alloc: Global, outer: &OuterRules) -> Result<Search, OutOfMemory>
     Ok(search)
 }
 
-/// Whether there is a rule, and it excludes.
-fn is_excluding(found: &Option<Match<'_>>) -> bool
-    ensures { result ≡ words.is_excluding (option_map match_of found.now) }
+/// Where the list of a match was read.
+pub fn source_of<'a>(found: &Match<'a>) -> &'a [u8]
+    ensures { result.now ≡ words.source_of (match_of found.now) }
 {
-    match found {
-        Some(found) => !found.pattern.is_negative(),
-        None => false,
+    match found.source {
+        Some(source) => source,
+        None => b"",
     }
+}
+
+/// Where the rule of a match stands.
+fn place_of(alloc: Global, found: &Match<'_>) -> Result<RulePlace, OutOfMemory>
+    ensures { IfOk result (λ place. place ≡ words.place_of (match_of found.now)) }
+{
+    Ok(RulePlace {
+        file: Bytes::from_slice(alloc, source_of(found))?,
+        line: found.sequence_number,
+    })
+}
+
+/// Where the rule stands, if there is one, and it excludes.
+fn excluding(alloc: Global, found: &Option<Match<'_>>) -> Result<Option<RulePlace>, OutOfMemory>
+    ensures { IfOk result
+        (λ place. place ≡ words.excluding (option_map match_of found.now)) }
+{
+    let Some(found) = found else {
+        return Ok(None);
+    };
+    if found.pattern.is_negative() {
+        return Ok(None);
+    }
+    Ok(Some(place_of(alloc, found)?))
 }
 
 /// How letters compare.
@@ -78,18 +103,19 @@ fn case_of(ignore_case: bool) -> Case
     }
 }
 
-/// Whether a rule outside the work tree excludes a path without a name.
-pub fn excludes_all(
+/// Where the rule outside the work tree stands that excludes a path without a name. None where no
+/// rule does.
+pub fn all_excluder(
     alloc: Global,
     outer: &OuterRules,
     ignore_case: bool,
-) -> Result<bool, OutOfMemory>
-    ensures { IfOk result (λ all. all ≡ words.excludes_all outer.now ignore_case) }
+) -> Result<Option<RulePlace>, OutOfMemory>
+    ensures { IfOk result (λ place. place ≡ words.all_excluder outer.now ignore_case) }
 {
     let globals = globals_of(alloc, outer)?;
     let case = case_of(ignore_case);
     let found = globals.pattern_matching_relative_path(b"", Some(true), case);
-    Ok(is_excluding(&found))
+    excluding(alloc, &found)
 }
 
 /// The rules, before any directory is looked at.

@@ -18,33 +18,54 @@ pub enum Stop {
     Empty,
     /// A path begins with a colon, as a path spec with magic; not answered here.
     #[error("Magic")]
-    Magic { text: Bytes },
+    Magic {
+        text: Bytes,
+    },
     /// An absolute path does not begin with that of the top; not answered here.
     #[error("Elsewhere")]
-    Elsewhere { text: Bytes },
+    Elsewhere {
+        text: Bytes,
+    },
     /// A path has wildcards, and so has the current directory; not answered here.
     #[error("Prefix")]
-    Prefix { text: Bytes },
+    Prefix {
+        text: Bytes,
+    },
     /// A path leads out of the work tree.
     #[error("Outside")]
-    Outside { text: Bytes },
+    Outside {
+        text: Bytes,
+    },
     /// A symbolic link is on the way to a path.
     #[error("Beyond")]
-    Beyond { text: Bytes },
+    Beyond {
+        text: Bytes,
+    },
     /// A path lies in the submodule at `place`.
     #[error("Inside")]
-    Inside { text: Bytes, place: Bytes },
+    Inside {
+        text: Bytes,
+        place: Bytes,
+    },
     /// A path is the top, or ends in a slash, and the index has nothing of it, and no rule excludes
     /// it as a directory; not answered here.
     #[error("Slash")]
-    Slash { text: Bytes },
-    /// A rule outside the work tree matches even a path without a name, as `*` does, and excludes;
-    /// not answered here.
+    Slash {
+        text: Bytes,
+    },
+    /// A rule outside the work tree, in this line of a file, matches even a path without a name, as
+    /// `*` does, and excludes; not answered here.
     #[error("Everything")]
-    Everything { text: Bytes },
+    Everything {
+        text: Bytes,
+        file: Bytes,
+        line: usize,
+    },
     /// A rules file on the way to a path is not read; not answered here.
     #[error("Unread")]
-    Unread { text: Bytes },
+    Unread {
+        text: Bytes,
+    },
     /// The worktree failed, which it counted.
     #[error("Fault")]
     Fault,

@@ -47,6 +47,31 @@ fn unsupported(alloc: Global, why: &[u8], text: &[u8]) -> Result<Bytes, OutOfMem
     Ok(told)
 }
 
+/// What is told of the rule in this line of a file outside the work tree, which excludes all.
+fn excluder_text(alloc: Global, file: &[u8], line: usize) -> Result<Bytes, OutOfMemory>
+    ensures { IfOk result (λ told. told ≡ words.excluder_text file.now line) }
+{
+    let digits = format!(in alloc; "{line}")?;
+    let mut told = between(
+        alloc,
+        b"a rule outside the work tree that excludes all, line ",
+        digits.as_bytes(),
+        b" of '",
+    )?;
+    told.extend(alloc, file)?;
+    told.extend(alloc, b"'")?;
+    Ok(told)
+}
+
+/// What is told of a path that is asked about where that rule stands.
+fn everything(alloc: Global, text: &[u8], file: &[u8], line: usize) -> Result<Bytes, OutOfMemory>
+    ensures { IfOk result
+        (λ told. told ≡ words.unsupported (words.excluder_text file.now line) text.now) }
+{
+    let why = excluder_text(alloc, file, line)?;
+    unsupported(alloc, why.as_bytes(), text)
+}
+
 /// What is told of a refusal in the work tree at `root`, behind `fatal: `; of what git refuses too
 /// in git's words.
 ///
@@ -79,11 +104,9 @@ pub fn told(alloc: Global, root: &[u8], stop: &Stop) -> Result<Bytes, OutOfMemor
             b"a directory that is neither tracked nor ignored",
             text.as_bytes(),
         ),
-        Stop::Everything { text } => unsupported(
-            alloc,
-            b"a rule outside the work tree that excludes all",
-            text.as_bytes(),
-        ),
+        Stop::Everything { text, file, line } => {
+            everything(alloc, text.as_bytes(), file.as_bytes(), *line)
+        }
         Stop::Unread { text } => unsupported(
             alloc,
             b"a rules file that is not read",

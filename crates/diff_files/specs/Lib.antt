@@ -5,8 +5,8 @@ pub mod Modes
 pub mod Fields
 pub mod There
 pub mod States
+pub mod Texts
 pub mod Standing
 pub mod Rows
 pub mod Lines
-pub mod Texts
 pub mod Differences

@@ -13,11 +13,13 @@ use Rattle.diff_files.specs.declared.change.PathChange.TheVariants as changes
 use Rattle.diff_files.specs.declared.comparison.Comparison.{Comparison}
 use Rattle.diff_files.specs.declared.error.DiffError.{DiffError}
 use Rattle.diff_files.specs.declared.error.DiffError.TheVariants as errors
+use Rattle.diff_files.specs.declared.error.Unanswered.{Unanswered}
 use Rattle.diff_files.specs.declared.error.Unsupported.{Unsupported}
 use Rattle.diff_files.specs.declared.error.Unsupported.TheVariants as forms
 use Rattle.diff_files.specs.declared.parts.Parts.{Parts}
 use Rattle.diff_files.specs.KeptStats.{Outside}
 use Rattle.diff_files.specs.States.{compared, is_merged, settled, unmerged}
+use Rattle.diff_files.specs.Texts.{refused_at}
 
 -- an entry, and how its path changed
 pub record Row : Type 0 where
@@ -45,10 +47,15 @@ both (Err form) change = Err form
 both (Ok is_unmerged) (Err form) = Err form
 both (Ok is_unmerged) (Ok change) = Ok (record { unmerged = is_unmerged; change = change })
 
+-- the form that is not answered, with the path of its entry
+abbrev pub at_entry : IndexEntry → Result Parts Unsupported → Result Parts Unanswered
+at_entry e (Ok parts) = Ok parts
+at_entry e (Err form) = Err (refused_at form e)
+
 -- rows with those of an entry, or the form that is not answered
 abbrev pub AddsParts : IndexEntry → Result Parts Unsupported → List Row → List Row → Result ⊤ DiffError → Type 0
 AddsParts e parts before now (Ok done) = (p : Parts) × (parts ≡ Ok p) × (now ≡ before ++ part_rows e p)
-AddsParts e parts before now (Err (errors.Unsupported form)) = parts ≡ Err form
+AddsParts e parts before now (Err (errors.Unsupported refused)) = at_entry e parts ≡ Err refused
 AddsParts e parts before now (Err errors.Fault) = ⊥
 AddsParts e parts before now (Err errors.OutOfMemory) = Unit {0}
 
@@ -80,12 +87,12 @@ abbrev pub unmerged_path : IndexEntry → Option (List ℕ)
 unmerged_path e = if is_merged e then None else Some e.path
 
 -- Rows with those of some entries, in the order of the index, behind an entry of the path `last`, if that is not merged; or the first form
--- that is not answered.
-abbrev pub rows_from : Outside → List ℕ → Comparison → List PathSpec → List Row → Option (List ℕ) → List IndexEntry → List Detail → Result (List Row) Unsupported
+-- that is not answered, with the path of its entry.
+abbrev pub rows_from : Outside → List ℕ → Comparison → List PathSpec → List Row → Option (List ℕ) → List IndexEntry → List Detail → Result (List Row) Unanswered
 rows_from s root o specs rows last [] details = Ok rows
-rows_from s root o specs rows last (e ∷ entries) [] = Err forms.Details
+rows_from s root o specs rows last (e ∷ entries) [] = Err (refused_at forms.Details e)
 rows_from s root o specs rows last (e ∷ entries) (d ∷ details) =
     if is_taken specs last e then
     and_then (λ (parts : Parts). rows_from s root o specs (rows ++ part_rows e parts) (unmerged_path e) entries details)
-    (parts_of s root o (not (is_at last e.path)) e d)
+    (at_entry e (parts_of s root o (not (is_at last e.path)) e d))
     else rows_from s root o specs rows last entries details

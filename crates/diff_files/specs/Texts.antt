@@ -1,17 +1,23 @@
 -- Why no differences are told.
 use Rattle.std.specs.Prelude.{ℕ, List, codes}
+use Rattle.gitbase_core.specs.declared.entry.IndexEntry.{IndexEntry}
 use Rattle.worktree_fs.specs.declared.answers.ReadError.{ReadError}
 use Rattle.worktree_fs.specs.declared.answers.ReadError.TheVariants as reads
 use Rattle.diff_files.specs.declared.error.DiffError.{DiffError}
 use Rattle.diff_files.specs.declared.error.DiffError.TheVariants as errors
+use Rattle.diff_files.specs.declared.error.Unanswered.{Unanswered}
 use Rattle.diff_files.specs.declared.error.Unsupported.{Unsupported}
 use Rattle.diff_files.specs.declared.error.Unsupported.TheVariants as forms
+
+-- a form that is not answered, which an entry has
+abbrev pub refused_at : Unsupported → IndexEntry → Unanswered
+refused_at form e = record { form = form; path = e.path }
 
 abbrev pub of_read : ReadError → DiffError
 of_read reads.Fault = errors.Fault
 of_read reads.OutOfMemory = errors.OutOfMemory
 
--- what is told of a form that is not answered
+-- what is told of a form that is not answered, before the path
 abbrev pub unsupported_text : Unsupported → List ℕ
 unsupported_text forms.Repository = codes "diff-files is not supported where a repository stands"
 unsupported_text forms.Conversion = codes "diff-files is not supported where bytes are converted"

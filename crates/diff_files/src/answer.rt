@@ -8,12 +8,12 @@ ghost use Rattle.diff_files.specs.Lines.{rows_text};
 ghost use Rattle.diff_files.specs.Rows.{rows_from};
 
 use crate::comparison::Comparison;
-use crate::error::{DiffError, Unsupported};
+use crate::error::{DiffError, Unsupported, refused_at};
 use crate::line::add_rows;
 use crate::parts::parts_of;
 use crate::row::{Row, add_parts};
 use crate::stats::Stats;
-use crate::taken::{has_sparse, is_at, is_taken, unmerged_path};
+use crate::taken::{first_sparse, is_at, is_taken, unmerged_path};
 use git_index::Detail;
 use gitbase_core::{Bytes, IndexEntry, OutOfMemory, State};
 use glob_rules::pathspec::Search;
@@ -56,7 +56,8 @@ fn changes_of<'a, W: Worktree, S: Stats>(
     let mut left = details;
     for entry in entries {
         let Some((detail, rest)) = left.split_first() else {
-            return Err(DiffError::Unsupported(Unsupported::Details));
+            let refused = refused_at(alloc, Unsupported::Details, entry)?;
+            return Err(DiffError::Unsupported(refused));
         };
         left = rest;
         if is_taken(specs, last, entry) {
@@ -64,7 +65,7 @@ fn changes_of<'a, W: Worktree, S: Stats>(
             let parts = parts_of(
                 alloc, worktree, stats, root, comparison, &mut known, first, entry, detail,
             )?;
-            add_parts(&mut rows, entry, parts)?;
+            add_parts(alloc, &mut rows, entry, parts)?;
             last = unmerged_path(entry);
         }
     }
@@ -91,7 +92,7 @@ fn text_of(alloc: Global, comparison: &Comparison, rows: &[Row<'_>]) -> Result<B
 /// # Errors
 ///
 /// - `Unsupported`: git answers the form, and here it is not answered; of several the first, in the
-///   order of the index.
+///   order of the index, with the path of its entry.
 /// - `Fault`: the worktree failed, or what is asked for stats did, and counted it.
 /// - `OutOfMemory`: memory was refused.
 ///
@@ -112,8 +113,9 @@ pub fn diff_files<W: Worktree, S: Stats>(
         stats.new root.now index.now details.now comparison.now specs.now result }
 {
     let entries = index.entries();
-    if has_sparse(entries) {
-        return Err(DiffError::Unsupported(Unsupported::SparseIndex));
+    if let Some(entry) = first_sparse(entries) {
+        let refused = refused_at(alloc, Unsupported::SparseIndex, entry)?;
+        return Err(DiffError::Unsupported(refused));
     }
     let rows = changes_of(
         alloc, worktree, stats, root, entries, details, comparison, specs,

@@ -1,9 +1,10 @@
 //! Why no differences are told.
-ghost use Rattle.std.specs.Prelude.{◌≡◌};
-ghost use Rattle.diff_files.specs.declared.error.DiffError.TheVariants.{Unsupported as unsupported, Fault as fault, OutOfMemory as no_memory};
+ghost use Rattle.std.specs.Prelude.{◌≡◌, IfOk};
+ghost use Rattle.diff_files.specs.declared.error.DiffError.TheVariants.{OutOfMemory as no_memory};
 ghost use Rattle.diff_files.specs.Texts as words;
 
-use gitbase_core::OutOfMemory;
+use gitbase_core::{IndexEntry, OutOfMemory, PathText};
+use std::alloc::Global;
 use thiserror::Error;
 use worktree_fs::ReadError;
 
@@ -24,12 +25,21 @@ pub enum Unsupported {
     Details,
 }
 
+/// A form that is not answered here, and the path of the entry that has it.
+#[derive(Debug, Drop, PartialEq, Eq)]
+pub struct Unanswered {
+    /// The form.
+    pub form: Unsupported,
+    /// The path, from the top of the work tree.
+    pub path: PathText,
+}
+
 /// Why no differences are told.
-#[derive(Clone, Copy, Debug, PartialEq, Eq, Error)]
+#[derive(Debug, Drop, PartialEq, Eq, Error)]
 pub enum DiffError {
     /// The form is not answered.
     #[error("Unsupported")]
-    Unsupported(Unsupported),
+    Unsupported(Unanswered),
     /// The worktree failed, or what is asked for stats did, and counted it.
     #[error("Fault")]
     Fault,
@@ -39,7 +49,7 @@ pub enum DiffError {
 }
 
 impl Unsupported {
-    /// What is told of it, behind `fatal: `.
+    /// What is told of it, behind `fatal: ` and before the path.
     pub fn text(&self) -> &'static [u8]
         ensures { result.now ≡ words.unsupported_text self.now }
     {
@@ -61,12 +71,16 @@ impl From<OutOfMemory> for DiffError {
     }
 }
 
-impl From<Unsupported> for DiffError {
-    ghost from_gives = { λ form e. e ≡ unsupported form };
-
-    fn from(form: Unsupported) -> DiffError {
-        DiffError::Unsupported(form)
-    }
+/// That a form is not answered which an entry has.
+pub fn refused_at(
+    alloc: Global,
+    form: Unsupported,
+    entry: &IndexEntry,
+) -> Result<Unanswered, OutOfMemory>
+    ensures { IfOk result (λ refused. refused ≡ words.refused_at form entry.now) }
+{
+    let path = PathText::from_bytes(alloc, entry.path.as_bytes())?;
+    Ok(Unanswered { form, path })
 }
 
 impl From<ReadError> for DiffError {

@@ -21,7 +21,7 @@ mod taken;
 pub use answer::{Differences, diff_files};
 pub use change::PathChange;
 pub use comparison::{Comparison, Form, Submodules};
-pub use error::{DiffError, Unsupported};
+pub use error::{DiffError, Unanswered, Unsupported};
 pub use standing::{is_skipped_in, presence_of, standing_of};
 pub use stats::Stats;
 pub use stats::disk::DiskStats;

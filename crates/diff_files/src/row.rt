@@ -3,9 +3,10 @@ ghost use Rattle.std.specs.Prelude.{◌≡◌, ◌++◌, OnOk};
 ghost use Rattle.diff_files.specs.Rows as rows;
 
 use crate::change::{PathChange, is_same};
-use crate::error::{DiffError, Unsupported};
+use crate::error::{DiffError, Unsupported, refused_at};
 use crate::parts::Parts;
 use gitbase_core::{IndexEntry, OutOfMemory};
+use std::alloc::Global;
 use std::marker::Model;
 
 /// An entry, and how its path changed.
@@ -56,6 +57,7 @@ fn add_row<'a>(
 
 /// Adds the rows of an entry, unless a form is not answered.
 pub fn add_parts<'a>(
+    alloc: Global,
     list: &mut Vec<Row<'a>>,
     entry: &'a IndexEntry,
     parts: Result<Parts, Unsupported>,
@@ -68,6 +70,6 @@ pub fn add_parts<'a>(
             add_row(list, entry, parts.change)?;
             Ok(())
         }
-        Err(form) => Err(DiffError::Unsupported(form)),
+        Err(form) => Err(DiffError::Unsupported(refused_at(alloc, form, entry)?)),
     }
 }

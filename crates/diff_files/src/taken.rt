@@ -1,6 +1,5 @@
 //! Which entries are taken.
-ghost use Rattle.std.specs.Prelude.{◌≡◌, option_copied};
-ghost use Rattle.std.specs.List.{list_any};
+ghost use Rattle.std.specs.Prelude.{◌≡◌, find, option_copied};
 ghost use Rattle.git_index.specs.IndexFile.{is_directory};
 ghost use Rattle.diff_files.specs.Rows as rows;
 
@@ -55,9 +54,9 @@ fn is_sparse(entry: &IndexEntry) -> bool
     entry.mode.is_sparse()
 }
 
-/// Whether an entry does.
-pub fn has_sparse(entries: &[IndexEntry]) -> bool
-    ensures { result ≡ list_any is_directory entries.now }
+/// The first entry that does.
+pub fn first_sparse(entries: &[IndexEntry]) -> Option<&IndexEntry>
+    ensures { option_copied result ≡ find is_directory entries.now }
 {
-    entries.iter().any(|entry| is_sparse(entry))
+    entries.iter().find(|entry| is_sparse(entry))
 }

@@ -54,7 +54,7 @@ fn is_answer(alloc: Global, answer: &Result<Differences, DiffError>, want: &[u8]
             Some(text) => text.as_slice() == made.out.as_bytes(),
             None => false,
         },
-        Err(DiffError::Unsupported(form)) => word_of(*form) == want,
+        Err(DiffError::Unsupported(refused)) => word_of(refused.form) == want,
         Err(_) => false,
     }
 }

@@ -72,7 +72,7 @@ fn add_line(alloc: Global, rules: &mut Bytes, line: &[u8]) -> Result<(), OutOfMe
     }
 }
 
-/// The same rules, line by line, of which none matches the top of the work tree.
+/// The same rules, line by line; those of stars alone, with or without a sign, have a `?` in front.
 ///
 /// Fails only where memory is refused. See docs/DIFFERENCES.md#empty-match.
 pub fn rules_below_top(alloc: Global, rules: &[u8]) -> Result<Bytes, OutOfMemory>

@@ -44,8 +44,7 @@ pub fn marked(alloc: Global, rules: Bytes) -> Result<Bytes, OutOfMemory>
     Ok(made)
 }
 
-/// The rules of the user, and behind them those of the repository; none of them matches the top of
-/// the work tree.
+/// The rules of the user, and behind them those of the repository, as they leave the top alone.
 pub fn globals_of(alloc: Global, rules: &Rules) -> Result<Bytes, OutOfMemory>
     ensures { IfOk result (λ globals. globals ≡ words.globals_of rules.now) }
 {

@@ -118,7 +118,7 @@ module _ {W D : Type 0} (w : WorktreeOf W) (d : StatsOf D) where
         keeps = h.worktree;
         stats = h.stats;
       }
-  of_differences w0 w1 d0 d1 root entries details o specs comparing (Err (differences.Unsupported form)) h =
+  of_differences w0 w1 d0 d1 root entries details o specs comparing (Err (differences.Unsupported refused)) h =
       record {
         gives = λ t told tree tells. inl (ap (as_said comparing) (h.gives (record { tree = t; stats = told }) (tree, tells)));
         cause = λ is. absurd cc;
@@ -148,7 +148,7 @@ module _ {W D : Type 0} (w : WorktreeOf W) (d : StatsOf D) where
 
 pub of_diff-is : (comparing : Comparing) (answer : Result Differences DiffError) → IfErr (as_reply comparing answer) IsOfFinding
 of_diff-is comparing (Ok made) = tt
-of_diff-is comparing (Err (differences.Unsupported form)) = tt
+of_diff-is comparing (Err (differences.Unsupported refused)) = tt
 of_diff-is comparing (Err differences.Fault) = tt
 of_diff-is comparing (Err differences.OutOfMemory) = tt
 

@@ -15,7 +15,7 @@ use Rattle.diff_files.specs.declared.comparison.Form.TheVariants as forms
 use Rattle.diff_files.specs.declared.comparison.Submodules.{Submodules}
 use Rattle.diff_files.specs.declared.comparison.Submodules.TheVariants as subs
 use Rattle.diff_files.specs.declared.error.DiffError.{DiffError}
-use Rattle.diff_files.specs.declared.error.Unsupported.{Unsupported}
+use Rattle.diff_files.specs.declared.error.Unanswered.{Unanswered}
 use Rattle.diff_files.specs.declared.stats.node_stat.NodeStat.{NodeStat}
 use Rattle.git_places.specs.Answers.{refused_as}
 use Rattle.git_places.specs.Places.{Layout}
@@ -117,9 +117,9 @@ abbrev pub as_reply : Comparing → Result Differences DiffError → Result Repl
 as_reply comparing (Ok made) = Ok (reply_of comparing made)
 as_reply comparing (Err e) = Err (of_diff e)
 
-abbrev pub as_said : Comparing → Result Differences Unsupported → Result Reply HereRefusal
+abbrev pub as_said : Comparing → Result Differences Unanswered → Result Reply HereRefusal
 as_said comparing (Ok made) = Ok (reply_of comparing made)
-as_said comparing (Err form) = Err (errors.Uncompared (reasons.Form form))
+as_said comparing (Err refused) = Err (errors.Uncompared (reasons.Form refused))
 
 -- what is said of a work tree and its index, where that was written at a time
 abbrev pub replied : Names → Told → Comparing → Compared → ℕ → Result Reply HereRefusal

@@ -16,6 +16,6 @@ pattern_line pattern = if starts_with nat_eq pattern (codes "#") then 92 ∷ pat
 abbrev pub rule_line : List ℕ → List ℕ
 rule_line pattern = 10 ∷ pattern_line pattern
 
--- and none of the rules matches the top of the work tree
+-- as they leave the top of the work tree alone
 abbrev pub rules_of : List (List ℕ) → List ℕ
 rules_of patterns = rules_below_top (flat_map rule_line patterns)

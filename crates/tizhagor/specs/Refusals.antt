@@ -25,6 +25,7 @@ use Rattle.tizhagor.specs.declared.refusal.Uncompared.TheVariants as reasons
 use Rattle.diff_files.specs.Texts.{unsupported_text}
 use Rattle.diff_files.specs.declared.error.DiffError.{DiffError}
 use Rattle.diff_files.specs.declared.error.DiffError.TheVariants as differences
+use Rattle.diff_files.specs.declared.error.Unanswered.{Unanswered}
 use Rattle.tizhagor.specs.CleanLines.{clean_text}
 use Rattle.tizhagor.specs.FilesLines.{files_line}
 use Rattle.tizhagor.specs.IndexLines.{entry_reason, file_reason}
@@ -75,7 +76,7 @@ as_git answer = refused_as of_git answer
 
 -- that a work tree is not compared with its index
 abbrev pub of_diff : DiffError → HereRefusal
-of_diff (differences.Unsupported form) = errors.Uncompared (reasons.Form form)
+of_diff (differences.Unsupported refused) = errors.Uncompared (reasons.Form refused)
 of_diff differences.Fault = fault
 of_diff differences.OutOfMemory = memory
 
@@ -91,7 +92,7 @@ of_stop root (stops.Outside text) = errors.Unchecked (unchecked.Stopped root (st
 of_stop root (stops.Beyond text) = errors.Unchecked (unchecked.Stopped root (stops.Beyond text))
 of_stop root (stops.Inside text place) = errors.Unchecked (unchecked.Stopped root (stops.Inside text place))
 of_stop root (stops.Slash text) = errors.Unchecked (unchecked.Stopped root (stops.Slash text))
-of_stop root (stops.Everything text) = errors.Unchecked (unchecked.Stopped root (stops.Everything text))
+of_stop root (stops.Everything text file line) = errors.Unchecked (unchecked.Stopped root (stops.Everything text file line))
 of_stop root (stops.Unread text) = errors.Unchecked (unchecked.Stopped root (stops.Unread text))
 of_stop root stops.Fault = fault
 of_stop root stops.OutOfMemory = memory
@@ -161,9 +162,13 @@ git_line (git.SubmoduleCase path) =
 git_line git.Fault = fault_line
 git_line git.OutOfMemory = memory_line
 
-abbrev pub uncompared_text : Uncompared → List ℕ
-uncompared_text reasons.Exclusive = codes "options '--name-only', '--name-status', '--check', and '-s' cannot be used together"
-uncompared_text (reasons.Form form) = unsupported_text form
+-- a form is not answered, at the path of an entry
+abbrev pub form_line : Unanswered → List ℕ
+form_line refused = with_path ((codes "fatal: " ++ unsupported_text refused.form) ++ codes ": '") refused.path (codes "'\n")
+
+abbrev pub uncompared_line : Uncompared → List ℕ
+uncompared_line reasons.Exclusive = codes "fatal: options '--name-only', '--name-status', '--check', and '-s' cannot be used together\n"
+uncompared_line (reasons.Form refused) = form_line refused
 
 abbrev pub unchecked_text : Unchecked → List ℕ
 unchecked_text (unchecked.Wrong wrong) = checks.wrong_text wrong
@@ -182,7 +187,7 @@ line_of (errors.NotAtTop root) = with_path (codes "fatal: what is to be deleted 
 line_of errors.Elsewhere = codes "fatal: clean is not supported with -C: it works in the current directory\n"
 line_of (errors.Git refusal) = git_line refusal
 line_of (errors.Listing wrong) = codes "fatal: " ++ wrong_text wrong ++ codes "\n"
-line_of (errors.Uncompared reason) = codes "fatal: " ++ uncompared_text reason ++ codes "\n"
+line_of (errors.Uncompared reason) = uncompared_line reason
 line_of (errors.Unchecked reason) = unchecked_line reason
 line_of (errors.Cleaning wrong) = codes "fatal: " ++ clean_text wrong ++ codes "\n"
 line_of (errors.Program refusal) = program_line refusal

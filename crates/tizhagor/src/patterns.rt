@@ -28,7 +28,7 @@ fn add_rule(text: &mut Vec<u8>, pattern: &[u8]) -> Result<(), OutOfMemory>
     Ok(())
 }
 
-/// Patterns as the text of a rules file, of which none matches the top of the work tree.
+/// Patterns as the text of a rules file, as they leave the top of the work tree alone.
 pub fn rules_of(alloc: Global, patterns: &[Bytes]) -> Result<Bytes, OutOfMemory>
     ensures { IfOk result (λ rules. rules ≡ words.rules_of patterns.now) }
 {

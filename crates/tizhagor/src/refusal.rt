@@ -2,7 +2,7 @@
 use crate::cleaning::WrongClean;
 use check_ignore::{Stop, WrongCheck};
 use command_line::Misuse;
-use diff_files::{DiffError, Unsupported};
+use diff_files::{DiffError, Unanswered};
 use git_setup::GitRefusal;
 use gitbase_core::{Bytes, OutOfMemory, PathText};
 use ls_files::WrongListing;
@@ -10,12 +10,12 @@ use worktree_fs::ReadError;
 use worktree_report::Refusal;
 
 /// Why a work tree is not compared with its index.
-#[derive(Clone, Copy, Debug, PartialEq, Eq)]
+#[derive(Debug, Drop)]
 pub enum Uncompared {
     /// Two forms are asked for that git does not print together.
     Exclusive,
-    /// The form is not answered here.
-    Form(Unsupported),
+    /// The form is not answered here, at the path of an entry.
+    Form(Unanswered),
 }
 
 /// Why nothing is answered of paths that are checked.
@@ -116,7 +116,7 @@ impl From<DiffError> for HereRefusal {
 
     fn from(refused: DiffError) -> HereRefusal {
         match refused {
-            DiffError::Unsupported(form) => HereRefusal::Uncompared(Uncompared::Form(form)),
+            DiffError::Unsupported(refused) => HereRefusal::Uncompared(Uncompared::Form(refused)),
             DiffError::Fault => HereRefusal::Program(Refusal::Fault),
             DiffError::OutOfMemory => HereRefusal::Program(Refusal::OutOfMemory),
         }

@@ -125,12 +125,12 @@ diff-files --exit-code^/w^^/w/.git/index=DIRC\0\0\0\x02\0\0\0\x01\0\0\0\0\0\0\0\
 \0\0\0\0\0\0\0\0\0\0\0\0\0\0\0\0\0\0\0\0;%/w/a=f\x05\x02;%/w/.git/index=f\x05\x68^0^^|\
 diff-files^/w^^/w/.git/index=DIRC\0\0\0\x02\0\0\0\x01\0\0\0\0\0\0\0\0\0\0\0\x05\0\0\0\0\0\0\0\0\0\0\0\0\0\0\x81\xa4\
 \0\0\0\0\0\0\0\0\0\0\0\x02\x58\x7b\xe6\xb4\xc3\xf9\x3f\x93\xc4\x89\xc0\x11\x1b\xba\x55\x96\x14\x7a\x26\xcb\0\x01a\0\
-\0\0\0\0\0\0\0\0\0\0\0\0\0\0\0\0\0\0\0\0;%/w/a=f\x05\x02;%/w/.git/index=f\x05\x68;/w/.git/info/attributes=^128^^fatal: diff-files is not supported where bytes are converted~|\
+\0\0\0\0\0\0\0\0\0\0\0\0\0\0\0\0\0\0\0\0;%/w/a=f\x05\x02;%/w/.git/index=f\x05\x68;/w/.git/info/attributes=^128^^fatal: diff-files is not supported where bytes are converted: 'a'~|\
 diff-files --name-only --name-status^/w^^^128^^fatal: options '--name-only', '--name-status', '--check', and '-s' cannot be used together~|\
 diff-files^/w^^/w/.git/config=[core]~fsmonitor~^128^^fatal: core.fsmonitor is set, which is not heeded; unset it~|\
 diff-files^/w^^/w/.git/index=DIRC\0\0\0\x02\0\0\0\x01\0\0\0\0\0\0\0\0\0\0\0\0\0\0\0\0\0\0\0\0\0\0\0\0\0\0\xe0\0\
 \0\0\0\0\0\0\0\0\0\0\0\0\x58\x7b\xe6\xb4\xc3\xf9\x3f\x93\xc4\x89\xc0\x11\x1b\xba\x55\x96\x14\x7a\x26\xcb\0\x01m\0\
-\0\0\0\0\0\0\0\0\0\0\0\0\0\0\0\0\0\0\0\0^128^^fatal: diff-files is not supported for ignored submodules~|\
+\0\0\0\0\0\0\0\0\0\0\0\0\0\0\0\0\0\0\0\0^128^^fatal: diff-files is not supported for ignored submodules: 'm'~|\
 diff-files --name-status --ignore-submodules=none^/w^^/w/.git/index=DIRC\0\0\0\x02\0\0\0\x01\0\0\0\0\0\0\0\0\0\0\0\0\0\0\0\0\0\0\0\0\0\0\0\0\0\0\xe0\0\
 \0\0\0\0\0\0\0\0\0\0\0\0\x58\x7b\xe6\xb4\xc3\xf9\x3f\x93\xc4\x89\xc0\x11\x1b\xba\x55\x96\x14\x7a\x26\xcb\0\x01m\0\
 \0\0\0\0\0\0\0\0\0\0\0\0\0\0\0\0\0\0\0\0^0^D\tm~^|\
@@ -142,7 +142,7 @@ diff-files --name-status^/w^^/w/.git/index=DIRC\0\0\0\x02\0\0\0\x01\0\0\0\0\0\0\
 \0\0\0\0\0\0\0\0\0\0\0\0\0\0\0\0\0\0\0\0;/w/.git/config=[diff]~ignoreSubmodules=all~;/w/.gitmodules=[submodule \"n\"]~path=m~ignore=dirty~^0^D\tm~^|\
 diff-files --name-status^/w^^/w/.git/index=DIRC\0\0\0\x02\0\0\0\x01\0\0\0\0\0\0\0\0\0\0\0\0\0\0\0\0\0\0\0\0\0\0\0\0\0\0\xe0\0\
 \0\0\0\0\0\0\0\0\0\0\0\0\x58\x7b\xe6\xb4\xc3\xf9\x3f\x93\xc4\x89\xc0\x11\x1b\xba\x55\x96\x14\x7a\x26\xcb\0\x01m\0\
-\0\0\0\0\0\0\0\0\0\0\0\0\0\0\0\0\0\0\0\0;/w/.gitmodules=[submodule \"n\"]~path=m~ignore=all~^128^^fatal: diff-files is not supported for ignored submodules~|\
+\0\0\0\0\0\0\0\0\0\0\0\0\0\0\0\0\0\0\0\0;/w/.gitmodules=[submodule \"n\"]~path=m~ignore=all~^128^^fatal: diff-files is not supported for ignored submodules: 'm'~|\
 diff-files a^/w^^^129^^error: `a' may be a revision; write `--' before paths~usage: tizhagor [-C DIR] diff-files|\
 check-ignore c.o b d/e^/w^^^0^c.o~^|\
 check-ignore -v -n ../c.o x.o b^/w/d^^^0^.gitignore:1:*.o\t../c.o~.gitignore:1:*.o\tx.o~::\tb~^|\
@@ -159,6 +159,8 @@ check-ignore \xc3\xa9.o^/w^^/w/.git/config=[core]~quotePath=no~^0^\xc3\xa9.o~^|\
 check-ignore C.O^/w^^/w/.git/config=[core]~ignoreCase~^0^C.O~^|\
 check-ignore c.o ../x^/w^^^128^^fatal: ../x: '../x' is outside repository at '/w'~|\
 check-ignore -v d/^/w^^^128^^fatal: check-ignore is not supported with a directory that is neither tracked nor ignored: 'd/'~|\
+check-ignore x^/w^^/w/.git/info/exclude=y~*~^128^^fatal: check-ignore is not supported with a rule outside the work tree that excludes all, line 2 of '.git/info/exclude': 'x'~|\
+check-ignore x^/w^HOME=/h^/h/.config/git/ignore=*~^128^^fatal: check-ignore is not supported with a rule outside the work tree that excludes all, line 1 of '/h/.config/git/ignore': 'x'~|\
 check-ignore^/w^^^128^^fatal: no path specified~|\
 check-ignore -nq a b^/w^^^128^^fatal: --quiet is only valid with a single pathname~|\
 check-ignore --stdin^/w^INPUT=c.o~b~\"d\\057x.o\"~^^0^c.o~d/x.o~^|\

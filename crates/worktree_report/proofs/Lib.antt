@@ -1,4 +1,5 @@
 pub mod Unescaping
+pub mod Escaping
 pub mod Writes
 pub mod Fronts
 pub mod SetupLines
@@ -10,5 +11,6 @@ pub mod Walks
 pub mod Stopping
 pub mod ReportMade
 pub mod Answered
+pub mod Texted
 pub mod Refusing
 pub mod Meanings

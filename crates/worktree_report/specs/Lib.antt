@@ -31,6 +31,7 @@ pub mod SetupIndex
 pub mod Asked
 pub mod Orderly
 pub mod Reported
+pub mod Texted
 pub mod Behind
 pub mod Generate
 pub mod Ends

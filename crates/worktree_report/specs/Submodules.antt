@@ -4,6 +4,8 @@ use Rattle.git_config_lite.specs.Sections.{Section}
 use Rattle.glob_rules.specs.PathSpec.{PathSpec}
 use Rattle.submodule.specs.Access.{name_by_path}
 use Rattle.submodule.specs.Active.{is_active}
+use Rattle.dir_classify.specs.declared.entry.Entry.{Entry}
+use Rattle.dir_classify.specs.declared.entry.Status.{Status}
 use Rattle.dir_walk.specs.declared.report.Report.{Report as WalkReport}
 use Rattle.dir_walk.specs.Emissions.{Emission}
 use Rattle.worktree_report.specs.declared.facts.Activity.{Activity}
@@ -33,9 +35,13 @@ abbrev pub facts_in : Option Known → List ℕ → Option Facts
 facts_in None path = None
 facts_in (Some known) path = facts_at known.platform known.modules path
 
+-- an entry of a report, of its parts
+abbrev pub of_parts : Entry → Option Status → Option Facts → ReportEntry
+of_parts entry collapsed facts = record { entry = entry; collapsed = collapsed; facts = facts }
+
 -- an entry of a walk, with the submodule at its path
 abbrev pub entry_in : Option Known → Emission → ReportEntry
-entry_in known emission = record { entry = emission.0; collapsed = emission.1; facts = facts_in known emission.0.rela_path }
+entry_in known emission = of_parts emission.0 emission.1 (facts_in known emission.0.rela_path)
 
 -- such an entry without what is said of submodules
 abbrev pub emission_in : ReportEntry → Emission

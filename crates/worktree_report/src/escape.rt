@@ -1,5 +1,6 @@
 //! Paths as texts: some bytes stand as a backslash and two hexadecimal digits.
 ghost use Rattle.std.specs.Prelude.{◌≡◌, ◌+◌, ◌*◌, ◌<◌, length, ◌++◌, [], ◌∷◌, drop, option_map, OnOk, IfOk};
+ghost use Rattle.std.specs.List.{list_any};
 ghost use Rattle.worktree_report.specs.Escapes.{hex_digit, is_escaped, spelled_out, escaped_byte, escaped, escaped_byte_in_word, escaped_in_word, digit_value, hex_byte, unescaped};
 ghost use Rattle.worktree_report.specs.Spelled.{Begins};
 
@@ -53,6 +54,23 @@ fn add_byte_in_word(text: &mut Vec<u8>, byte: u8) -> Result<(), OutOfMemory>
     Ok(())
 }
 
+/// Whether a byte of a path stands escaped.
+fn has_escaped(path: &[u8]) -> bool
+    ensures { result ≡ list_any is_escaped path.now }
+{
+    path.iter().any(|byte| is_escaped(*byte))
+}
+
+/// Adds a path as the report writes it, byte by byte.
+fn add_bytes(text: &mut Vec<u8>, path: &[u8]) -> Result<(), OutOfMemory>
+    ensures { OnOk result (text.new.items ≡ text.old.items ++ escaped path.now) }
+{
+    for byte in path {
+        add_byte(text, *byte)?;
+    }
+    Ok(())
+}
+
 /// Adds a path as the report writes it.
 ///
 /// # Errors
@@ -61,9 +79,10 @@ fn add_byte_in_word(text: &mut Vec<u8>, byte: u8) -> Result<(), OutOfMemory>
 pub fn add_escaped(text: &mut Vec<u8>, path: &[u8]) -> Result<(), OutOfMemory>
     ensures { OnOk result (text.new.items ≡ text.old.items ++ escaped path.now) }
 {
-    for byte in path {
-        add_byte(text, *byte)?;
+    if has_escaped(path) {
+        return add_bytes(text, path);
     }
+    text.extend_from_slice(path)?;
     Ok(())
 }
 

@@ -20,6 +20,7 @@ mod reading;
 mod refusal;
 mod report;
 mod setup;
+mod text;
 mod walking;
 mod words;
 mod writing;

@@ -1,6 +1,7 @@
 //! The lines of a report.
 ghost use Rattle.std.specs.Prelude.{◌≡◌, ◌++◌, decimal, if◌then◌else◌, IfOk, OnOk};
 ghost use Rattle.worktree_report.specs.Lines.{status_word, kind_word, match_word, property_word, collapsed_word, activity_word, facts_word, facts_if, rules_file, group_word, origin_word, origin_if, spaced, class_words, line_of, lines_of, outcome_line, text_with};
+ghost use Rattle.worktree_report.specs.Submodules.{of_parts};
 
 use crate::below::below;
 use crate::escape::{add_escaped, add_escaped_in_word};
@@ -211,19 +212,22 @@ fn add_class(
 
 /// Adds the line of an entry.
 #[tactic(auto, unfolding(crate::specs::Lines::line_of))]
-fn add_line(
+pub fn add_line(
     alloc: Global,
     text: &mut Vec<u8>,
     options: &SetupOptions,
-    entry: &ReportEntry,
+    entry: &Entry,
+    collapsed: Option<Status>,
+    facts: &Option<Facts>,
 ) -> Result<(), OutOfMemory>
-    ensures { OnOk result (text.new.items ≡ text.old.items ++ line_of options.now entry.now) }
+    ensures { OnOk result (text.new.items
+        ≡ text.old.items ++ line_of options.now (of_parts entry.now collapsed facts.now)) }
 {
-    add_class(text, &entry.entry, entry.collapsed)?;
-    add_facts_if(text, options.submodules, &entry.facts)?;
-    add_origin_if(alloc, text, options.origins, &entry.entry)?;
+    add_class(text, entry, collapsed)?;
+    add_facts_if(text, options.submodules, facts)?;
+    add_origin_if(alloc, text, options.origins, entry)?;
     text.push(b'\t')?;
-    add_escaped(text, entry.entry.rela_path.as_bytes())?;
+    add_escaped(text, entry.rela_path.as_bytes())?;
     text.push(b'\n')?;
     Ok(())
 }
@@ -238,7 +242,14 @@ fn add_lines(
     ensures { OnOk result (text.new.items ≡ text.old.items ++ lines_of options.now entries.now) }
 {
     for entry in entries {
-        add_line(alloc, text, options, entry)?;
+        add_line(
+            alloc,
+            text,
+            options,
+            &entry.entry,
+            entry.collapsed,
+            &entry.facts,
+        )?;
     }
     Ok(())
 }

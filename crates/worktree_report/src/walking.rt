@@ -15,10 +15,9 @@ ghost use Rattle.worktree_report.specs.Reported.{Reports, Texts};
 
 use crate::converted::of_report;
 use crate::excludes::excludes_of;
-use crate::lines::report_bytes;
-use crate::making::worktree_report;
 use crate::refusal::Refusal;
 use crate::setup::Setup;
+use crate::text::worktree_text;
 use dir_classify::{Context, Error, Options};
 use dir_walk as walk;
 use dir_walk::walk_by_path;
@@ -225,8 +224,8 @@ pub fn walked_text<W: Worktree, I: Interrupt>(
         interrupt.old interrupt.new root.now setup.now result }
 {
     let mut objects = setup.blobs.fork(alloc)?;
-    match worktree_report(alloc, worktree, &mut objects, interrupt, root, setup) {
-        Ok(report) => Ok(report_bytes(alloc, &report, &setup.options)?),
+    match worktree_text(alloc, worktree, &mut objects, interrupt, root, setup) {
+        Ok(text) => Ok(text),
         Err(error) => Err(of_report(alloc, error)?),
     }
 }

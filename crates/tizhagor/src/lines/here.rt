@@ -9,6 +9,7 @@ use crate::lines::{fault_line, fixed, with_path};
 use crate::refusal::{HereRefusal, Unchecked, Uncompared};
 use check_ignore::told;
 use command_line::said;
+use diff_files::Unanswered;
 use gitbase_core::{Bytes, OutOfMemory};
 use ls_files::WrongListing;
 use std::alloc::Global;
@@ -53,26 +54,27 @@ fn cleaning_line(alloc: Global, wrong: WrongClean) -> Result<Bytes, OutOfMemory>
     Ok(line)
 }
 
-/// Why a work tree is not compared with its index.
-fn uncompared_text(reason: Uncompared) -> &'static [u8]
-    ensures { result.now ≡ words.uncompared_text reason }
+/// The line of a form that is not answered, with the path of its entry.
+fn form_line(alloc: Global, refused: &Unanswered) -> Result<Bytes, OutOfMemory>
+    ensures { IfOk result (λ line. line ≡ words.form_line refused.now) }
 {
-    match reason {
-        Uncompared::Exclusive => {
-            b"options '--name-only', '--name-status', '--check', and '-s' cannot be used together"
-        }
-        Uncompared::Form(form) => form.text(),
-    }
+    let mut front = Bytes::from_slice(alloc, b"fatal: ")?;
+    front.extend(alloc, refused.form.text())?;
+    front.extend(alloc, b": '")?;
+    with_path(alloc, front.as_bytes(), refused.path.as_bytes(), b"'\n")
 }
 
-/// The line that says so.
-fn uncompared_line(alloc: Global, reason: Uncompared) -> Result<Bytes, OutOfMemory>
-    ensures { IfOk result (λ line. line ≡ words.line_of (HereRefusal.Uncompared reason)) }
+/// The line that says why a work tree is not compared with its index.
+fn uncompared_line(alloc: Global, reason: &Uncompared) -> Result<Bytes, OutOfMemory>
+    ensures { IfOk result (λ line. line ≡ words.uncompared_line reason.now) }
 {
-    let mut line = Bytes::from_slice(alloc, b"fatal: ")?;
-    line.extend(alloc, uncompared_text(reason))?;
-    line.extend(alloc, b"\n")?;
-    Ok(line)
+    match reason {
+        Uncompared::Exclusive => fixed(
+            alloc,
+            b"fatal: options '--name-only', '--name-status', '--check', and '-s' cannot be used together\n",
+        ),
+        Uncompared::Form(refused) => form_line(alloc, refused),
+    }
 }
 
 /// Why paths are not checked.
@@ -129,7 +131,7 @@ fn line_of(alloc: Global, refusal: &HereRefusal) -> Result<Bytes, OutOfMemory>
         ),
         HereRefusal::Git(refusal) => git_line(alloc, refusal),
         HereRefusal::Listing(wrong) => listing_line(alloc, *wrong),
-        HereRefusal::Uncompared(reason) => uncompared_line(alloc, *reason),
+        HereRefusal::Uncompared(reason) => uncompared_line(alloc, reason),
         HereRefusal::Unchecked(reason) => unchecked_line(alloc, reason),
         HereRefusal::Cleaning(wrong) => cleaning_line(alloc, *wrong),
         HereRefusal::Program(refusal) => program_line(alloc, refusal),
