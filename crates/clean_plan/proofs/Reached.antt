@@ -8,7 +8,7 @@ use Rattle.std.proofs.lemmas.Cmp.{nat_list_eq_equiv}
 use Rattle.std.proofs.lemmas.List.{length-take-le, take_more}
 use Rattle.gitbase_core.specs.Path.{is_empty, is_path_prefix, is_slash, is_top, lies_beneath}
 use Rattle.clean_plan.specs.Above.{IsTarget, fronts, reach, some_above, some_front}
-use Rattle.clean_plan.proofs.Directories.{above-longer, above-same, above-shorter, above-then, front-is, no-front, none-front, some-above}
+use Rattle.clean_plan.proofs.Directories.{above-longer, above-same, above-shorter, above-then, and_both, front-is, no-front, none-front, some-above}
 
 more : (n : ℕ) → suc n ≡ n + 1
 more n = omega arith
@@ -25,6 +25,12 @@ next-front test n path here before =
     neither : (a b : Bool) → a ≡ false → b ≡ false → (a || b) ≡ false
     neither true b e f = absurd (cc e)
     neither false b e f = f
+
+-- a directory above a path that passes
+pub passing-front : (test : List ℕ → Bool) (n : ℕ) (path : List ℕ) → (lies_beneath (take n path) path && test (take n path)) ≡ true → true ≡ some_above test path
+passing-front test n path here =
+    let both = and_both (lies_beneath (take n path) path) (test (take n path)) here in
+    sym (some-above test path (take n path) both.0 both.1)
 
 -- the first directory above a path that passes
 pub target-here : (test : List ℕ → Bool) (n : ℕ) (path : List ℕ) → n < length path → (lies_beneath (take n path) path && test (take n path)) ≡ true → some_front test n path ≡ false → IsTarget test path (take n path)

@@ -18,19 +18,19 @@ use Rattle.worktree_report.proofs.Refusing.{InOrder-made, InOrder-unread}
 use Rattle.worktree_report.proofs.Runs.{HasCauses-refused, HasCauses-unread, Keeps-made, Keeps-unread, lists-walked, opens-walked}
 use Rattle.clean_plan.specs.Prepared.{prepared}
 use Rattle.clean_plan.specs.Safe.{IsSpared}
-use Rattle.clean_plan.specs.Wanted.{with_other_nodes}
+use Rattle.clean_plan.specs.Wanted.{as_reported}
 use Rattle.clean_plan.specs.Run as top
 
 -- ---- the text of a request
 
 output-made : (composes : Bool) (t : Names) (request : Request) (setup : Setup) (answer : Result (List ℕ) Refusal) → setup_at (look t request.places.setup true) ≡ Ok setup
-    → IfOk answer (top.IsTextIn composes t request.places.root (top.made_by request.finding setup) (with_other_nodes request.what)) → IfOk answer (top.IsTextAt composes t request)
+    → IfOk answer (top.IsTextIn composes t request.places.root (top.made_by request.finding setup) (as_reported request.what)) → IfOk answer (top.IsTextAt composes t request)
 output-made composes t request setup (Ok text) read is = record { setup = setup; read = read; text_is = is }
 output-made composes t request setup (Err refusal) read is = tt
 
 by-report-made : (composes : Bool) (told : Option Names) (request : Request) (setup : Setup) (answer : Result (List ℕ) Refusal)
     → ((t : Names) → told ≡ Some t → setup_at (look t request.places.setup true) ≡ Ok setup)
-    → IfOk answer (top.IsTextByReport composes told request.places.root (top.made_by request.finding setup) (with_other_nodes request.what)) → IfOk answer (top.IsTextByReportAt composes told request)
+    → IfOk answer (top.IsTextByReport composes told request.places.root (top.made_by request.finding setup) (as_reported request.what)) → IfOk answer (top.IsTextByReportAt composes told request)
 by-report-made composes told request setup (Ok text) read is = record { setup = setup; read = read; text_is = is }
 by-report-made composes told request setup (Err refusal) read is = tt
 
@@ -84,17 +84,17 @@ module _ {W I : Type 0} {w : WorktreeOf W} {i : InterruptOf I} {w0 w1 w2 : W} {i
   pub AnswersClean-made : (setup : Setup) (options : SetupOptions) (answer : Result (List ℕ) Refusal) → options ≡ prepared request.finding setup.options
       → ((t : Names) → w.told w0 ≡ Some t → setup_at (look t request.places.setup true) ≡ Ok setup)
       → w.told w1 ≡ w.told w0 → w.faults w0 ≤ w.faults w1 → w.faults w1 ≡ w.faults w0 → w.list_faults w1 ≡ w.list_faults w0 → Incremented (w.reads w0) (w.reads w1) → w.lists w1 ≡ w.lists w0
-      → w.precomposes w1 ≡ w.precomposes w0 → top.PlanTexts w i (w.precomposes w1) w1 w2 i0 i1 request.places.root (record setup { options = options }) (with_other_nodes request.what) answer
+      → w.precomposes w1 ≡ w.precomposes w0 → top.PlanTexts w i (w.precomposes w1) w1 w2 i0 i1 request.places.root (record setup { options = options }) (as_reported request.what) answer
       → top.AnswersClean w i w0 w2 i0 i1 request answer
   AnswersClean-made setup options answer set read tree faults unfaulted listed once lists composes told_of =
-      let same : top.PlanTexts w i (w.precomposes w1) w1 w2 i0 i1 request.places.root (top.made_by request.finding setup) (with_other_nodes request.what) answer =
-      subst (λ (o : SetupOptions). top.PlanTexts w i (w.precomposes w1) w1 w2 i0 i1 request.places.root (record setup { options = o }) (with_other_nodes request.what) answer) set told_of in
-      let texts : top.PlanTexts w i (w.precomposes w0) w1 w2 i0 i1 request.places.root (top.made_by request.finding setup) (with_other_nodes request.what) answer =
-      subst (λ b. top.PlanTexts w i b w1 w2 i0 i1 request.places.root (top.made_by request.finding setup) (with_other_nodes request.what) answer) composes same in
+      let same : top.PlanTexts w i (w.precomposes w1) w1 w2 i0 i1 request.places.root (top.made_by request.finding setup) (as_reported request.what) answer =
+      subst (λ (o : SetupOptions). top.PlanTexts w i (w.precomposes w1) w1 w2 i0 i1 request.places.root (record setup { options = o }) (as_reported request.what) answer) set told_of in
+      let texts : top.PlanTexts w i (w.precomposes w0) w1 w2 i0 i1 request.places.root (top.made_by request.finding setup) (as_reported request.what) answer =
+      subst (λ b. top.PlanTexts w i b w1 w2 i0 i1 request.places.root (top.made_by request.finding setup) (as_reported request.what) answer) composes same in
       record {
         gives = λ t told. output-made _ t request setup answer (read t told) (texts.gives t (tree ∙ told));
         unfaulted = subst (λ (n : ℕ). OnOk answer (NotIncreased n (w.faults w2))) unfaulted texts.unfaulted;
-        by_report = by-report-made _ _ request setup answer read (subst (λ (told : Option Names). IfOk answer (top.IsTextByReport (w.precomposes w0) told request.places.root (top.made_by request.finding setup) (with_other_nodes request.what))) tree texts.by_report);
+        by_report = by-report-made _ _ request setup answer read (subst (λ (told : Option Names). IfOk answer (top.IsTextByReport (w.precomposes w0) told request.places.root (top.made_by request.finding setup) (as_reported request.what))) tree texts.by_report);
         outside_git = outside-git _ _ _ (top.made_by request.finding setup) _ answer texts.by_report;
         works = λ t told. works-made _ t request setup answer _ _ _ _ _ (read t told) once (texts.works t (tree ∙ told));
         opens = λ t told. opens-walked (top.made_by request.finding) _ t request.places setup answer _ _ _ (read t told) lists (texts.opens t (tree ∙ told));

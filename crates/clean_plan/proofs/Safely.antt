@@ -18,6 +18,7 @@ use Rattle.clean_plan.specs.declared.what.OtherNodes.TheVariants.{Go}
 use Rattle.clean_plan.specs.declared.what.What.{What}
 use Rattle.clean_plan.specs.Above.{IsTarget, fronts, some_above, some_front}
 use Rattle.clean_plan.specs.Asked.{Asked}
+use Rattle.clean_plan.specs.Closed.{is_closed}
 use Rattle.clean_plan.specs.Kept.{has_dot_git, holds_current, is_indexed, is_kept}
 use Rattle.clean_plan.specs.Paths.{is_among}
 use Rattle.clean_plan.specs.Plans.{IsPlan, is_planned, may_be_planned, removable_paths}
@@ -56,10 +57,17 @@ taken-unguarded what Untracked (Some k) e f = not_true (is_repository (Some k)) 
 
 pub removable-unguarded : (asked : Asked) (e : Entry) → is_removable asked e ≡ true → must_stay e ≡ false
 removable-unguarded asked e h =
-    let one = and_both (may_go asked e) (not (is_kept asked e.rela_path)) h in
+    let one = and_both (may_go asked e) _ h in
     let two = and_both (is_taken asked.what e.status) _ one.0 in
     let three = and_both (is_plain e.disk_kind) _ two.1 in
     taken-unguarded asked.what e.status e.disk_kind two.0 three.0
+
+-- and it does not stay with a directory that the path specs take out, nor is its path kept
+pub removable-says : (asked : Asked) (e : Entry) → is_removable asked e ≡ true → (is_closed asked.taken_out asked.specs e ≡ false) × (is_kept asked e.rela_path ≡ false)
+removable-says asked e h =
+    let one = and_both (may_go asked e) _ h in
+    let two = and_both (not (is_closed asked.taken_out asked.specs e)) (not (is_kept asked e.rela_path)) one.1 in
+    (not_true (is_closed asked.taken_out asked.specs e) two.0, not_true (is_kept asked e.rela_path) two.1)
 
 -- ---- one path
 
@@ -100,7 +108,7 @@ planned-which asked entries path h =
 planned-left : (asked : Asked) (entries : List Entry) (path : List ℕ) → (is_whole asked entries path ≡ true) ⊎ RemovableAt asked entries path → is_kept asked path ≡ false
 planned-left asked entries path (inl e) = (whole-says asked entries path e).left
 planned-left asked entries path (inr at) =
-    ap (is_kept asked) at.path_is ∙ not_true (is_kept asked at.entry.rela_path) (and_both (may_go asked at.entry) (not (is_kept asked at.entry.rela_path)) at.may).1
+    ap (is_kept asked) at.path_is ∙ (removable-says asked at.entry at.may).1
 
 -- a prefix of a path is empty, is that path, or lies above it
 pub prefix-cases : (d path : List ℕ) → is_path_prefix d path ≡ true → (is_top d ≡ true) ⊎ ((d ≡ path) ⊎ (lies_beneath d path ≡ true))
@@ -154,6 +162,8 @@ module _ (asked : Asked) (entries : List Entry) (flat : AreFlat entries) where
         elsewhere = left.elsewhere;
         unguarded = none-any (λ (e : Entry). is_path_prefix path e.rela_path && must_stay e) entries
             (λ e here. by (is_path_prefix path e.rela_path) (must_stay e) (λ over. removable-unguarded asked e (planned-takes path e left.spared.below planned.which here over)));
+        unclosed = none-any (λ (e : Entry). is_path_prefix path e.rela_path && is_closed asked.taken_out asked.specs e) entries
+            (λ e here. by (is_path_prefix path e.rela_path) (is_closed asked.taken_out asked.specs e) (λ over. (removable-says asked e (planned-takes path e left.spared.below planned.which here over)).0));
       }
     where
       by : (a b : Bool) → (a ≡ true → b ≡ false) → (a && b) ≡ false

@@ -4,6 +4,7 @@ use Rattle.gitbase_core.specs.declared.entry.IndexEntry.{IndexEntry}
 use Rattle.glob_rules.specs.PathSpec.{PathSpec}
 use Rattle.clean_plan.specs.declared.cleaning.Cleaning.{Cleaning}
 use Rattle.clean_plan.specs.declared.what.OtherNodes.{OtherNodes}
+use Rattle.clean_plan.specs.declared.what.TakenOut.{TakenOut}
 use Rattle.clean_plan.specs.declared.what.What.{What}
 
 pub record Asked : Type 0 where
@@ -11,6 +12,8 @@ pub record Asked : Type 0 where
   pub what : What
   -- what becomes of nodes that are no files, links or directories
   pub others : OtherNodes
+  -- and of what lies in directories that the path specs take out
+  pub taken_out : TakenOut
   -- letters fold in paths of the index
   pub fold : Bool
   pub index : List IndexEntry
@@ -27,6 +30,7 @@ asked_by cleaning =
     record {
       what = cleaning.what;
       others = cleaning.others;
+      taken_out = cleaning.taken_out;
       fold = is_some cleaning.lookup.now;
       index = cleaning.index.now;
       specs = cleaning.specs.now;

@@ -4,6 +4,7 @@ pub mod Staying
 pub mod Above
 pub mod Asked
 pub mod Kept
+pub mod Closed
 pub mod Removable
 pub mod Whole
 pub mod Plans

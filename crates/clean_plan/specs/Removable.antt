@@ -10,6 +10,7 @@ use Rattle.dir_walk.specs.Emissions.{is_unmatched}
 use Rattle.clean_plan.specs.declared.what.What.{What}
 use Rattle.clean_plan.specs.declared.what.What.TheVariants as what
 use Rattle.clean_plan.specs.Asked.{Asked}
+use Rattle.clean_plan.specs.Closed.{is_closed}
 use Rattle.clean_plan.specs.Kept.{is_kept, takes_out}
 
 abbrev pub takes_untracked : What → Bool
@@ -44,6 +45,7 @@ may_go asked e =
     && (not (is_unmatched e.pathspec_match)
     && not (is_directory e.disk_kind && takes_out asked.specs e.rela_path)))
 
--- An entry may go by itself: what is said of it lets it go, and its path is not kept.
+-- An entry may go by itself: what is said of it lets it go, it does not stay with a directory that the path specs take out, and its path
+-- is not kept.
 abbrev pub is_removable : Asked → Entry → Bool
-is_removable asked e = may_go asked e && not (is_kept asked e.rela_path)
+is_removable asked e = may_go asked e && (not (is_closed asked.taken_out asked.specs e) && not (is_kept asked e.rela_path))

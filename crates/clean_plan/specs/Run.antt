@@ -29,7 +29,7 @@ use Rattle.clean_plan.specs.Paths.{Ascends, is_among}
 use Rattle.clean_plan.specs.Planned.{IsPlanAt, IsPlanBy}
 use Rattle.clean_plan.specs.Prepared.{prepared}
 use Rattle.clean_plan.specs.Safe.{AreSpared}
-use Rattle.clean_plan.specs.Wanted.{with_other_nodes}
+use Rattle.clean_plan.specs.Wanted.{as_reported}
 use Rattle.clean_plan.specs.Words as words
 use Rattle.clean_plan.specs.Words.{Request}
 
@@ -86,7 +86,7 @@ pub record IsTextByReport (composes : Bool) (told : Option Names) (root : List �
 pub record IsTextByReportAt (composes : Bool) (told : Option Names) (request : Request) (text : List ℕ) : Type 0 where
   pub setup : Setup
   pub read : (t : Names) → told ≡ Some t → setup_at (look t request.places.setup true) ≡ Ok setup
-  pub text_is : IsTextByReport composes told request.places.root (made_by request.finding setup) (with_other_nodes request.what) text
+  pub text_is : IsTextByReport composes told request.places.root (made_by request.finding setup) (as_reported request.what) text
 
 -- what making it takes: the setup is read once, and the rest is what the report by the prepared setup takes
 pub record PlanWorks (composes : Bool) (t : Names) (questions0 questions1 reads0 reads1 : ℕ) (request : Request) : Type 0 where
@@ -102,7 +102,7 @@ pub record IsTextFor (composes : Bool) (t : Names) (request : Request) (wanted :
 
 -- it is the text that the request asks for
 abbrev pub IsTextAt : Bool → Names → Request → List ℕ → Type 0
-IsTextAt composes t request text = IsTextFor composes t request (with_other_nodes request.what) text
+IsTextAt composes t request text = IsTextFor composes t request (as_reported request.what) text
 
 -- it is what is asked for, if something is
 abbrev pub IsOutputAt : Bool → Names → Option Request → List ℕ → Type 0
@@ -164,7 +164,7 @@ pub record AnswersClean {W I : Type 0} (w : WorktreeOf W) (i : InterruptOf I) (w
   -- It comes by the setup, which was read once and without a fault, then prepared; or as that was not read. By the setup a refusal, but for
   -- want of memory, comes as the report is made, or behind that, where no file is read.
   pub in_order : InOrder w w0 w1 i0 i1 request.places
-      (λ setup loaded. PlanTexts w i (w.precomposes w0) loaded w1 i0 i1 request.places.root (made_by request.finding setup) (with_other_nodes request.what) answer) answer
+      (λ setup loaded. PlanTexts w i (w.precomposes w0) loaded w1 i0 i1 request.places.root (made_by request.finding setup) (as_reported request.what) answer) answer
   pub keeps : Keeps w i w0 w1 i0 i1 answer
 
 -- the text that is asked for, or why there is none

@@ -10,6 +10,7 @@ use Rattle.dir_walk.specs.Fold.{is_precious, is_pruned}
 use Rattle.clean_plan.specs.declared.what.OtherNodes.TheVariants.{Go}
 use Rattle.clean_plan.specs.Above.{some_above}
 use Rattle.clean_plan.specs.Asked.{Asked}
+use Rattle.clean_plan.specs.Closed.{is_closed}
 use Rattle.clean_plan.specs.Kept.{has_dot_git, holds_current, is_indexed}
 use Rattle.clean_plan.specs.Paths.{Ascends, is_among}
 use Rattle.clean_plan.specs.Staying.{is_staying}
@@ -22,6 +23,10 @@ must_stay e = is_pruned e || (is_precious e || (is_tracked_status e.status || is
 -- at a path or beneath it stands an entry that no plan may take
 abbrev pub takes_what_must_stay : List Entry → List ℕ → Bool
 takes_what_must_stay entries path = list_any (λ (e : Entry). is_path_prefix path e.rela_path && must_stay e) entries
+
+-- at a path or beneath it stands an entry that stays with a directory that the path specs take out
+abbrev pub takes_what_is_closed : Asked → List Entry → List ℕ → Bool
+takes_what_is_closed asked entries path = list_any (λ (e : Entry). is_path_prefix path e.rela_path && is_closed asked.taken_out asked.specs e) entries
 
 -- ---- over any worktree
 
@@ -38,11 +43,13 @@ pub record AreSpared (fold : Bool) (index : List IndexEntry) (paths : List (List
 
 -- ---- by a report
 
--- a planned path is safe: at it or beneath it stands no index entry, nor the current directory, nor an entry that no plan may take
+-- a planned path is safe: at it or beneath it stands no index entry, nor the current directory, nor an entry that no plan may take, nor one
+-- that stays with a directory that the path specs take out
 pub record IsSafe (asked : Asked) (entries : List Entry) (path : List ℕ) : Type 0 where
   pub spared : IsSpared asked.fold asked.index path
   pub elsewhere : holds_current asked.current path ≡ false
   pub unguarded : takes_what_must_stay entries path ≡ false
+  pub unclosed : takes_what_is_closed asked entries path ≡ false
 
 -- a path lies at or beneath exactly one of some paths
 pub record IsCovered (paths : List (List ℕ)) (path : List ℕ) : Type 0 where

@@ -15,6 +15,7 @@ asked_in wanted setup start current =
     record {
       what = wanted.what;
       others = wanted.others;
+      taken_out = wanted.taken_out;
       fold = setup.options.ignore_case;
       index = setup.index;
       specs = setup.specs;

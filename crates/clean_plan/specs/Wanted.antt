@@ -1,11 +1,13 @@
--- Which paths may go, and whether pipes, sockets and devices may go too.
+-- Which paths may go, whether pipes, sockets and devices may go too, and what lies in directories that path specs take out.
 use Rattle.clean_plan.specs.declared.what.OtherNodes.TheVariants.{Go, Stay}
+use Rattle.clean_plan.specs.declared.what.TakenOut.TheVariants.{Open, Closed}
 use Rattle.clean_plan.specs.declared.what.Wanted.{Wanted}
 use Rattle.clean_plan.specs.declared.what.What.{What}
 
-abbrev pub with_other_nodes : What → Wanted
-with_other_nodes what = record { what = what; others = Go }
+-- each entry of the report may, for what is said of it
+abbrev pub as_reported : What → Wanted
+as_reported what = record { what = what; others = Go; taken_out = Open }
 
--- they stay, unless a directory above them goes as a whole
-abbrev pub without_other_nodes : What → Wanted
-without_other_nodes what = record { what = what; others = Stay }
+-- What git does not look at stays too: such nodes, unless a directory above them goes as a whole, and what lies in such directories.
+abbrev pub as_git_sees : What → Wanted
+as_git_sees what = record { what = what; others = Stay; taken_out = Closed }

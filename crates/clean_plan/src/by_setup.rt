@@ -4,7 +4,7 @@ ghost use Rattle.clean_plan.specs.Plans.{IsPlan, entries_of};
 ghost use Rattle.clean_plan.specs.Planned.{AsksAfter, MakesPlan};
 ghost use Rattle.clean_plan.specs.Prepared.{is_prepared};
 ghost use Rattle.clean_plan.specs.Setups.{asked_in, start_of};
-ghost use Rattle.clean_plan.specs.Wanted.{with_other_nodes};
+ghost use Rattle.clean_plan.specs.Wanted.{as_reported};
 
 use crate::cleaning::Cleaning;
 use crate::current::{current_below, current_dir_of, start_of};
@@ -34,6 +34,7 @@ fn plan_by(
     let cleaning = Cleaning {
         what: wanted.what,
         others: wanted.others,
+        taken_out: wanted.taken_out,
         index: &setup.index,
         lookup: &lookup,
         specs: &setup.specs,
@@ -45,7 +46,7 @@ fn plan_by(
 }
 
 /// What may be removed, by a report that was made of the work tree: as [`plan_by_report`], with a
-/// word on other nodes.
+/// word on what git does not look at.
 fn plan_for<W: Worktree>(
     alloc: Global,
     worktree: &mut W,
@@ -87,13 +88,13 @@ pub fn plan_by_report<W: Worktree>(
     report: &Report,
 ) -> Result<Plan, CleanError>
     ensures { AsksAfter W.Worktree worktree.old worktree.new worktree_root.now setup.now
-        (with_other_nodes what) report.now result }
+        (as_reported what) report.now result }
 {
-    let wanted = Wanted::with_other_nodes(what);
+    let wanted = Wanted::as_reported(what);
     plan_for(alloc, worktree, worktree_root, setup, wanted, report)
 }
 
-/// What may be removed from a work tree: as [`plan`], with a word on other nodes.
+/// What may be removed from a work tree: as [`plan`], with a word on what git does not look at.
 pub(crate) fn plan_wanted<W: Worktree, F: Find, I: Interrupt>(
     alloc: Global,
     worktree: &mut W,
@@ -157,7 +158,7 @@ pub fn plan<W: Worktree, F: Find, I: Interrupt>(
 ) -> Result<Plan, CleanError>
     requires prepared { is_prepared finding setup.now.options ≡ true }
     ensures { MakesPlan W.Worktree F.Find I.Interrupt worktree.old worktree.new objects.old
-        objects.new interrupt.old interrupt.new worktree_root.now setup.now (with_other_nodes what)
+        objects.new interrupt.old interrupt.new worktree_root.now setup.now (as_reported what)
         result }
 {
     plan_wanted(
@@ -167,7 +168,7 @@ pub fn plan<W: Worktree, F: Find, I: Interrupt>(
         interrupt,
         worktree_root,
         setup,
-        Wanted::with_other_nodes(what),
+        Wanted::as_reported(what),
         finding,
     )
 }

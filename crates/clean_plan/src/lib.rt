@@ -3,6 +3,7 @@
 
 mod by_setup;
 mod cleaning;
+mod closed;
 mod current;
 mod error;
 mod fronts;
@@ -25,4 +26,4 @@ pub use error::CleanError;
 pub use outcome::Plan;
 pub use prepared::{is_prepared, prepare};
 pub use program::{run_clean, text_of_plan};
-pub use what::{Finding, OtherNodes, Wanted, What};
+pub use what::{Finding, OtherNodes, TakenOut, Wanted, What};

@@ -58,6 +58,9 @@ fn of_clean(alloc: Global, error: CleanError) -> Result<Refusal, OutOfMemory>
 /// The text of the plan for the work tree at `root`, by a setup that [`prepare`](crate::prepare)
 /// made: a line for each path. Blobs that ignore rules are mapped to are those of the setup.
 ///
+/// Where that is wanted, what lies in a directory that the path specs take out stays: they are asked
+/// about each directory above each entry that may go.
+///
 /// # Errors
 ///
 /// - `Walk` has the cause that the walk names.
@@ -123,7 +126,7 @@ fn text_at<W: CountsFaults, I: Interrupt>(
         interrupt,
         places.root,
         &setup,
-        Wanted::with_other_nodes(what),
+        Wanted::as_reported(what),
         finding,
     )
 }

@@ -9,6 +9,7 @@ ghost use Rattle.dir_classify.specs.Layers.{IsLookupIf};
 ghost use Rattle.clean_plan.specs.Removable as removable;
 
 use crate::cleaning::Cleaning;
+use crate::closed::is_closed;
 use crate::kept::{is_kept, takes_out};
 use crate::what::What;
 use dir_classify::{Entry, Kind, PathspecMatch, Status};
@@ -92,6 +93,9 @@ pub(crate) fn is_removable(
     ensures { IfOk result (λ may. may ≡ removable.is_removable (asked_by cleaning.now) entry.now) }
 {
     if !may_go(cleaning, entry) {
+        return Ok(false);
+    }
+    if is_closed(alloc, cleaning, entry)? {
         return Ok(false);
     }
     Ok(!is_path_kept(alloc, cleaning, entry.rela_path.as_bytes())?)

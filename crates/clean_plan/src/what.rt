@@ -1,6 +1,6 @@
 //! What is asked for.
 ghost use Rattle.std.specs.Prelude.{◌≡◌};
-ghost use Rattle.clean_plan.specs.Wanted.{with_other_nodes, without_other_nodes};
+ghost use Rattle.clean_plan.specs.Wanted.{as_git_sees, as_reported};
 
 /// Which paths may be removed.
 ///
@@ -24,31 +24,49 @@ pub enum OtherNodes {
     Stay,
 }
 
-/// Which paths may be removed, and what becomes of other nodes among them.
+/// What becomes of what lies in a directory that the path specs take out: by its path, or by its
+/// name, which has a slash at its end. `:!b*/` and `:!b[1]` take out `b1`, `:!ab?` takes out `ab`.
+///
+/// See docs/DIFFERENCES.md#plan-spec-entered.
+#[derive(Clone, Copy, Debug, PartialEq, Eq, Hash)]
+pub enum TakenOut {
+    /// It may be removed, unless the path specs take it out itself.
+    Open,
+    /// It stays.
+    Closed,
+}
+
+/// Which paths may be removed, what becomes of other nodes among them, and what of those in a
+/// directory that the path specs take out.
 #[derive(Clone, Copy, Debug, PartialEq, Eq, Hash)]
 pub struct Wanted {
     pub what: What,
     pub others: OtherNodes,
+    pub taken_out: TakenOut,
 }
 
 impl Wanted {
-    /// Other nodes may be removed too.
-    pub fn with_other_nodes(what: What) -> Wanted
-        ensures { result ≡ with_other_nodes what }
+    /// Each entry of the report may be removed for what is said of it: other nodes too, and what the
+    /// path specs do not take out itself.
+    pub fn as_reported(what: What) -> Wanted
+        ensures { result ≡ as_reported what }
     {
         Wanted {
             what,
             others: OtherNodes::Go,
+            taken_out: TakenOut::Open,
         }
     }
 
-    /// Other nodes stay, unless a directory above them goes as a whole.
-    pub fn without_other_nodes(what: What) -> Wanted
-        ensures { result ≡ without_other_nodes what }
+    /// What git does not look at stays too: other nodes, unless a directory above them goes as a
+    /// whole, and what lies in a directory that the path specs take out.
+    pub fn as_git_sees(what: What) -> Wanted
+        ensures { result ≡ as_git_sees what }
     {
         Wanted {
             what,
             others: OtherNodes::Stay,
+            taken_out: TakenOut::Closed,
         }
     }
 }

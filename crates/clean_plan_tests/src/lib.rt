@@ -11,6 +11,8 @@ mod plans;
 #[cfg(test)]
 mod prepared;
 #[cfg(test)]
+mod taken_out;
+#[cfg(test)]
 mod texts;
 #[cfg(test)]
 mod tree;

@@ -48,8 +48,8 @@ fn holds(alloc: Global, row: &[u8], reversed: bool) -> bool {
     let Some(setup) = setup_of(alloc, lines, Finding::NonBare) else {
         return false;
     };
-    let with = Wanted::with_other_nodes(What::UntrackedAndIgnored);
-    let without = Wanted::without_other_nodes(What::UntrackedAndIgnored);
+    let with = Wanted::as_reported(What::UntrackedAndIgnored);
+    let without = Wanted::as_git_sees(What::UntrackedAndIgnored);
     text_is(alloc, &mut tree, &setup, with, going)
         && text_is(alloc, &mut tree, &setup, without, staying)
 }

@@ -13,7 +13,7 @@ use Rattle.worktree_report.specs.declared.refusal.Refusal.{Refusal}
 use Rattle.worktree_report.specs.declared.refusal.Refusal.TheVariants as refusals
 use Rattle.worktree_report.specs.declared.setup.Setup.{Setup}
 use Rattle.clean_plan.specs.Run as clean
-use Rattle.clean_plan.specs.Wanted.{without_other_nodes}
+use Rattle.clean_plan.specs.Wanted.{as_git_sees}
 use Rattle.index_status.specs.Run as status
 use Rattle.module_plan.specs.Run as modules
 use Rattle.tizhagor.specs.declared.call.Call.{Call}
@@ -22,7 +22,7 @@ use Rattle.tizhagor.specs.declared.call.Call.TheVariants as calls
 -- it is the text that a call asks for, over the tree `t` by a setup; for a plan of what may be removed by the setup that is prepared
 abbrev pub IsTextOf : Call → Bool → Names → List ℕ → Setup → List ℕ → Type 0
 IsTextOf calls.Report composes t root setup text = text_of composes t root setup ≡ Some text
-IsTextOf (calls.Plan what finding) composes t root setup text = clean.IsTextIn composes t root (clean.made_by finding setup) (without_other_nodes what) text
+IsTextOf (calls.Plan what finding) composes t root setup text = clean.IsTextIn composes t root (clean.made_by finding setup) (as_git_sees what) text
 IsTextOf calls.Modules composes t root setup text = modules.text_in t root setup ≡ Some text
 IsTextOf calls.State composes t root setup text = status.text_in composes t root setup ≡ Some text
 
@@ -30,7 +30,7 @@ IsTextOf calls.State composes t root setup text = status.text_in composes t root
 -- and what stays.
 abbrev pub TextsBy : {W I : Type 0} → WorktreeOf W → InterruptOf I → W → W → I → I → List ℕ → Setup → Result (List ℕ) Refusal → Call → Type 0
 TextsBy w i w0 w1 i0 i1 root setup answer calls.Report = Texts w i (w.precomposes w0) w0 w1 i0 i1 root setup answer
-TextsBy w i w0 w1 i0 i1 root setup answer (calls.Plan what finding) = clean.PlanTexts w i (w.precomposes w0) w0 w1 i0 i1 root (clean.made_by finding setup) (without_other_nodes what) answer
+TextsBy w i w0 w1 i0 i1 root setup answer (calls.Plan what finding) = clean.PlanTexts w i (w.precomposes w0) w0 w1 i0 i1 root (clean.made_by finding setup) (as_git_sees what) answer
 TextsBy w i w0 w1 i0 i1 root setup answer calls.Modules = modules.PlansText w w0 w1 root setup answer × (i1 ≡ i0)
 TextsBy w i w0 w1 i0 i1 root setup answer calls.State = status.StatusTexts w i (w.precomposes w0) w0 w1 i0 i1 root setup answer
 
@@ -98,6 +98,6 @@ RefusesTextOf calls.State composes t root setup refusal = RefusesReport composes
 abbrev pub IsTextAtSetup : Call → Bool → Names → List ℕ → List ℕ → List ℕ → Type 0
 IsTextAtSetup calls.Report composes t root path text = report.output_at composes t (record { root = root; setup = path }) ≡ Some text
 IsTextAtSetup (calls.Plan what finding) composes t root path text =
-    clean.IsTextFor composes t (record { what = what; finding = finding; places = record { root = root; setup = path } }) (without_other_nodes what) text
+    clean.IsTextFor composes t (record { what = what; finding = finding; places = record { root = root; setup = path } }) (as_git_sees what) text
 IsTextAtSetup calls.Modules composes t root path text = modules.output_at t (record { root = root; setup = path }) ≡ Some text
 IsTextAtSetup calls.State composes t root path text = status.output_at composes t (record { root = root; setup = path }) ≡ Some text

@@ -1,7 +1,7 @@
 //! The text of each call, by the root and the setup that were found.
 ghost use Rattle.std.specs.Prelude.{◌≡◌};
 ghost use Rattle.clean_plan.specs.Run as clean;
-ghost use Rattle.clean_plan.specs.Wanted.{without_other_nodes};
+ghost use Rattle.clean_plan.specs.Wanted.{as_git_sees};
 ghost use Rattle.tizhagor.specs.Answers as answers;
 ghost use Rattle.tizhagor.specs.Asking.{here_in};
 ghost use Rattle.tizhagor.specs.Refusals.{as_program};
@@ -21,7 +21,7 @@ use worktree_fs::{Interrupt, Owners, Worktree};
 use worktree_report::{CountsFaults, Refusal, Setup, walked_text};
 
 /// The text of a plan, by a setup that is prepared for it: pipes, sockets and devices stay, unless a
-/// directory above them goes as a whole.
+/// directory above them goes as a whole, and what lies in a directory that path specs take out.
 fn plan_text<W: CountsFaults, I: Interrupt>(
     alloc: Global,
     worktree: &mut W,
@@ -33,10 +33,10 @@ fn plan_text<W: CountsFaults, I: Interrupt>(
 ) -> Result<Bytes, Refusal>
     ensures { clean.PlanTexts W.Worktree I.Interrupt (W.precomposes worktree.old) worktree.old
         worktree.new interrupt.old interrupt.new root.now (clean.made_by finding setup.old)
-        (without_other_nodes what) result }
+        (as_git_sees what) result }
 {
     prepare(&mut setup.options, finding);
-    let wanted = Wanted::without_other_nodes(what);
+    let wanted = Wanted::as_git_sees(what);
     text_of_plan(alloc, worktree, interrupt, root, setup, wanted, finding)
 }
 

@@ -15,4 +15,4 @@ returns-in_err-setup g c =
 pub returns : goal.returns
 returns g c =
     let read = c.in_ok-setup.ensures in
-    AnswersClean-made {w = g.W.Worktree} {i = g.I.Interrupt} {request = requested_by c.args.request} c.in_ok-setup.setup c.prepare.new.options c.text_of_plan.result c.prepare.ensures.set read.gives read.tree read.faults read.unfaulted read.list_faults read.reads read.lists read.precomposes (rw c.with_other_nodes.ensures at c.text_of_plan.ensures)
+    AnswersClean-made {w = g.W.Worktree} {i = g.I.Interrupt} {request = requested_by c.args.request} c.in_ok-setup.setup c.prepare.new.options c.text_of_plan.result c.prepare.ensures.set read.gives read.tree read.faults read.unfaulted read.list_faults read.reads read.lists read.precomposes (rw c.as_reported.ensures at c.text_of_plan.ensures)

@@ -1,0 +1,133 @@
+//! Directories that path specs take out: what becomes of what lies in them.
+use crate::plans::setup_of;
+use crate::tree::tree_of;
+use bstr::ByteSlice;
+use clean_plan::{Finding, Wanted, What, is_prepared, text_of_plan};
+use gitbase_core::{Bytes, is_path_prefix};
+use std::alloc::Global;
+use worktree_fs::PlannedInterrupt;
+use worktree_report::Setup;
+
+/// The tree of each row.
+const NODES: &[u8] = b"\
+file`/w/a;file`/w/ab/v;file`/w/abc/v;directory`/w/ad;file`/w/b/t;file`/w/b/u/w;file`/w/b1/x;file`/w/b1/y;\
+file`/w/b2/c/z;file`/w/d/b1/x;file`/w/d/k";
+
+/// Rows, one a line: the lines of a setup, parted by `;`; the plan of all that the report has; the
+/// plan where what git does not look at stays; and what `git clean -ndx` of 2.39.5 names with these
+/// specs. Fields are parted by `^`, paths by `;`. Git looks into what the third field leaves and
+/// the fourth has: docs/DIFFERENCES.md#plan-spec-entered.
+const ROWS: &[u8] = b"\
+spec :!b*/^a;ab;abc;ad;b/t;b/u/w;b1/x;b1/y;b2/c/z;d^a;ab;abc;ad;d^a;ab;abc;ad;d
+spec :!ab?^a;ab;abc/v;ad;b;b1;b2;d^a;ad;b;b1;b2;d^a;abc;ad;b;b1;b2;d
+spec :(exclude,glob)b/**/^a;ab;abc;ad;b/t;b/u/w;b1;b2;d^a;ab;abc;ad;b1;b2;d^a;ab;abc;ad;b1;b2;d
+spec :!b[1]^a;ab;abc;ad;b;b1/x;b1/y;b2;d^a;ab;abc;ad;b;b2;d^a;ab;abc;ad;b;b1;b2;d
+spec :!b1^a;ab;abc;ad;b;b2;d^a;ab;abc;ad;b;b2;d^a;ab;abc;ad;b;b2;d
+spec :!b1/^a;ab;abc;ad;b;b2;d^a;ab;abc;ad;b;b2;d^a;ab;abc;ad;b;b2;d
+spec :!ad?^a;ab;abc;ad;b;b1;b2;d^a;ab;abc;b;b1;b2;d^a;ab;abc;b;b1;b2;d
+spec :!ab?/^a;ab;abc/v;ad;b;b1;b2;d^a;ad;b;b1;b2;d^a;ab;ad;b;b1;b2;d
+spec :!b?/.^a;ab;abc;ad;b;b1/x;b1/y;b2/c;d^a;ab;abc;ad;d^a;ab;abc;ad;b;d
+spec :!d/b*/^a;ab;abc;ad;b;b1;b2;d/b1/x;d/k^a;ab;abc;ad;b;b1;b2;d/k^a;ab;abc;ad;b;b1;b2;d
+spec :!?^ab;abc;ad;b/t;b/u;b1;b2;d/b1;d/k^ab;abc;ad;b1;b2^ab;abc;ad;b;b1;b2;d
+spec :(exclude,glob)*^ab/v;abc/v;b/t;b/u;b1/x;b1/y;b2/c;d/b1;d/k^^ab;abc;ad;b;b1;b2;d
+spec :!b*/;spec :!ab^a;abc;ad;b/t;b/u/w;b1/x;b1/y;b2/c/z;d^a;abc;ad;d^a;abc;ad;d
+spec b1;spec :!b*/^b1/x;b1/y^^
+spec a;spec b1;spec :!b1^a^a^a
+spec ab*;spec :!ab?^ab;abc/v^^abc
+spec b1/x;spec :!b[1]^b1/x^^b1/x
+spec :!b*/;index 100644 0 - - b1/i^a;ab;abc;ad;b/t;b/u/w;b1/x;b1/y;b2/c/z;d^a;ab;abc;ad;d^a;ab;abc;ad;b1/x;b1/y;d
+spec :!b1;index 100644 0 - - b1/i^a;ab;abc;ad;b;b2;d^a;ab;abc;ad;b;b2;d^a;ab;abc;ad;b;b2;d";
+
+/// The text of the plan that is wanted.
+fn text_of(alloc: Global, setup: &Setup, wanted: Wanted, reversed: bool) -> Option<Bytes> {
+    let finding = Finding::NonBare;
+    if !is_prepared(&setup.options, finding) {
+        return None;
+    }
+    let mut tree = tree_of(alloc, NODES, reversed)?;
+    let mut interrupt = PlannedInterrupt::never();
+    let text = text_of_plan(
+        alloc,
+        &mut tree,
+        &mut interrupt,
+        b"/w",
+        setup,
+        wanted,
+        finding,
+    );
+    text.ok()
+}
+
+/// Whether some of these paths are at or above a path.
+fn is_within(path: &[u8], paths: &[u8]) -> bool {
+    for other in paths.split(|byte| *byte == b';') {
+        if !other.is_empty() && is_path_prefix(other, path) {
+            return true;
+        }
+    }
+    false
+}
+
+/// Whether a text has no line but for paths at or beneath these.
+fn are_within(text: &[u8], paths: &[u8]) -> bool {
+    for line in text.lines() {
+        if !is_within(line, paths) {
+            return false;
+        }
+    }
+    true
+}
+
+/// Whether a text has a line for each of these paths in their order, and no other.
+fn are_lines(text: &[u8], paths: &[u8]) -> bool {
+    let mut rest = text;
+    for path in paths.split(|byte| *byte == b';') {
+        let (line, after) = rest.split_once_str(b"\n").unwrap_or((rest, b""));
+        if line != path {
+            return false;
+        }
+        rest = after;
+    }
+    rest.is_empty()
+}
+
+/// The lines of a setup, parted by `;`.
+fn lines_of(alloc: Global, parted: &[u8]) -> Option<Bytes> {
+    let mut lines = Bytes::new(alloc);
+    for line in parted.split(|byte| *byte == b';') {
+        lines.extend(alloc, line).ok()?;
+        lines.extend(alloc, b"\n").ok()?;
+    }
+    Some(lines)
+}
+
+/// Whether both plans are those that are wanted, and git names whatever the second one has.
+fn holds(alloc: Global, row: &[u8], reversed: bool) -> Option<bool> {
+    let (lines, rest) = row.split_once_str(b"^")?;
+    let (reported, rest) = rest.split_once_str(b"^")?;
+    let (seen, named) = rest.split_once_str(b"^")?;
+    let lines = lines_of(alloc, lines)?;
+    let setup = setup_of(alloc, lines.as_bytes(), Finding::NonBare)?;
+    let what = What::UntrackedAndIgnored;
+    let all = text_of(alloc, &setup, Wanted::as_reported(what), reversed)?;
+    let text = text_of(alloc, &setup, Wanted::as_git_sees(what), reversed)?;
+    let text = text.as_bytes();
+    Some(are_lines(all.as_bytes(), reported) && are_lines(text, seen) && are_within(text, named))
+}
+
+/// The first row that does not hold, with names listed in either order.
+fn first_lie(alloc: Global) -> Option<&'static [u8]> {
+    for row in ROWS.split(|byte| *byte == b'\n') {
+        let told = (holds(alloc, row, false), holds(alloc, row, true));
+        if !matches!(told, (Some(true), Some(true))) {
+            return Some(row);
+        }
+    }
+    None
+}
+
+#[test]
+fn what_lies_in_a_directory_taken_out_stays_where_that_is_wanted(rt: HostRuntime) {
+    let lie = first_lie(rt.alloc());
+    assert!(rt; lie.is_none(), "{lie:?}");
+}
