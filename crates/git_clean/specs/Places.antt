@@ -7,10 +7,11 @@ use Rattle.gitbase_core.specs.Kinds.{kinds}
 use Rattle.gitbase_core.specs.Path.{is_slash}
 use Rattle.gitbase_core.specs.declared.kinds.EntryKind.{EntryKind}
 use Rattle.gitbase_core.specs.declared.kinds.EntryKind.TheVariants as index
+use Rattle.dir_classify.specs.Kinds.{holds_names}
 use Rattle.dir_classify.specs.declared.entry.Entry.{Entry}
 use Rattle.worktree_report.specs.SetupMeant.{ordered_after}
 use Rattle.worktree_report.specs.declared.report.ReportEntry.{ReportEntry}
-use Rattle.ls_files.specs.Others.{above, as_directory, has_beneath, is_entry_matched, is_unseen, name, name_unless, place_at, with_name}
+use Rattle.ls_files.specs.Others.{above, as_directory, has_beneath, is_entry_matched, is_unseen, is_untracked, name, name_unless, place_at, with_name}
 use Rattle.ls_files.specs.Places.{Place}
 use Rattle.git_clean.specs.Going.{is_removable}
 use Rattle.git_clean.specs.Leading.{is_taken}
@@ -80,8 +81,13 @@ folded s e = if fills s e then option_map as_directory (top s e.rela_path) else 
 
 -- ---- what goes
 
+-- An untracked directory that holds nothing, and an untracked repository, go as any directory does: where the path specs take it. So with
+-- `. ?` an empty directory `d/e` stays, since `?` may be about what lies in it.
+abbrev pub is_let_go : Scene → Entry → Bool
+is_let_go s e = if holds_names e.disk_kind && is_untracked e.status then is_taken_by s e.rela_path else true
+
 abbrev pub itself : Scene → Entry → Option Place
-itself s e = if is_removable s.cleaning s.specs e then Some (place_at e) else None
+itself s e = if is_removable s.cleaning s.specs e && is_let_go s e then Some (place_at e) else None
 
 -- by itself, where directories are passed over
 abbrev pub in_view : Scene → Entry → Option Place

@@ -117,7 +117,8 @@ pub fn is_stay(cleaning: &Cleaning, entry: &Entry) -> bool
     is_repository(entry.disk_kind) || is_marked_dot_git(entry.property)
 }
 
-fn is_untracked(status: Status) -> bool
+/// Whether a status is that of an untracked path.
+pub fn is_untracked(status: Status) -> bool
     ensures { result ≡ others.is_untracked status }
 {
     matches!(status, Status::Untracked)

@@ -4,11 +4,12 @@ ghost use Rattle.ls_files.specs.Others as others;
 ghost use Rattle.git_clean.specs.Places as words;
 ghost use Rattle.git_clean.specs.Scenes.{scene_by};
 
-use crate::going::{is_entry_matched, is_removable, name, place_at};
+use crate::going::{is_entry_matched, is_removable, is_untracked, name, place_at};
 use crate::place::Place;
-use crate::places::{is_hidden, is_kept, top};
+use crate::places::{is_hidden, is_kept, is_taken_by, top};
 use crate::scene::Scene;
 use dir_classify::Entry;
+use dir_classify::entry::holds_names;
 use gitbase_core::{Bytes, OutOfMemory, State};
 use ls_files::is_unseen;
 use std::alloc::Global;
@@ -61,6 +62,16 @@ fn folded<'a>(
     }
 }
 
+/// Whether the path specs let an entry go that stands for a directory, if it does.
+fn is_let_go(alloc: Global, scene: &Scene<'_>, entry: &Entry) -> Result<bool, OutOfMemory>
+    ensures { IfOk result (λ goes. goes ≡ words.is_let_go (scene_by scene.now) entry.now) }
+{
+    if holds_names(entry.disk_kind) && is_untracked(entry.status) {
+        return is_taken_by(alloc, scene, entry.rela_path.as_bytes());
+    }
+    Ok(true)
+}
+
 /// The place of an entry itself, if it goes.
 fn itself<'a>(
     alloc: Global,
@@ -69,7 +80,10 @@ fn itself<'a>(
 ) -> Result<Option<Place<'a>>, OutOfMemory>
     ensures { IfOk result (λ place. place ≡ words.itself (scene_by scene.now) entry.now) }
 {
-    if is_removable(alloc, scene.cleaning, scene.specs, entry)? {
+    if !is_removable(alloc, scene.cleaning, scene.specs, entry)? {
+        return Ok(None);
+    }
+    if is_let_go(alloc, scene, entry)? {
         return Ok(Some(place_at(entry)));
     }
     Ok(None)

@@ -101,7 +101,7 @@ pub fn is_hidden(alloc: Global, scene: &Scene<'_>, path: &[u8]) -> Result<bool, 
 }
 
 /// Whether the path specs let a directory go as a whole.
-fn is_taken_by(alloc: Global, scene: &Scene<'_>, directory: &[u8]) -> Result<bool, OutOfMemory>
+pub fn is_taken_by(alloc: Global, scene: &Scene<'_>, directory: &[u8]) -> Result<bool, OutOfMemory>
     ensures { IfOk result (λ taken. taken ≡ words.is_taken_by (scene_by scene.now) directory.now) }
 {
     let name = name(alloc, &Place::new(directory, true))?;

@@ -76,6 +76,13 @@ pub const ROWS: &[u8] = b"\
 0^^-q^w&::w^\n\
 0^^-d^:/&:/:^Would remove empty/$Would remove fd/$Would remove gone/un$Would remove lt$Would remove mix/a/$Would remove t/n$Would remove t/new/$Would remove top$Would remove u/v/$Would remove w/$\n\
 0^^-f|-f^w&::w^Would remove w/$\n\
+0^^^.&::.|?&::?^Would remove gone/un$Would remove lt$Would remove mix/a/k$Would remove repl/in$Would remove t/n$Would remove t/new/f$Would remove top$Would remove u/v/x$Would remove w/x/f$\n\
+0^^-d^.&::.|?&::?^Would remove gone/un$Would remove lt$Would remove mix/a/k$Would remove repl/in$Would remove t/n$Would remove t/new/f$Would remove top$Would remove u/v/x$Would remove w/x/f$\n\
+0^^^empty&::empty|?&::?^\n\
+0^^-d|-x^empty&::empty|?&::?^\n\
+0^^^empty&::empty|?mpty&::?mpty^\n\
+0^^^.&::.|z*&::z*^Would remove empty/$Would remove fd/$Would remove gone/un$Would remove lt$Would remove mix/a/$Would remove t/n$Would remove t/new/$Would remove top$Would remove u/v/$Would remove w/$\n\
+0^^^.&::.|empty/x&::empty/x^Would remove fd/$Would remove gone/un$Would remove lt$Would remove mix/a/$Would remove t/n$Would remove t/new/$Would remove top$Would remove u/v/$Would remove w/$\n\
 0^u^^u/&:(literal)u^\n\
 0^u^-d^u/&:(literal)u^Would remove v/$\n\
 0^u^-X^u/&:(literal)u^Would remove y.o$\n\
@@ -148,6 +155,10 @@ pub const ROWS: &[u8] = b"\
 1^^-d|-f^^Would skip repository j/only$Would remove k/$Would skip repository m/rep$Would remove m/f$Would skip repository p/q/rep$Would remove p/q/r$Would remove p/z$\n\
 1^^^j/only&::j/only^\n\
 1^^-f|-f^j&::j^Would remove j/$\n\
+1^^-f|-f^rep&::rep|?&::?^\n\
+1^^-f|-f^rep&::rep|r*&::r*^Would remove rep/$\n\
+1^^-f|-f^m&::m|?&::?^Would remove m/f$\n\
+1^^-f|-f^rep&::rep|rep/x&::rep/x^\n\
 1^k/l^-d^k/l/&:(literal)k/l^Would refuse to remove current working directory$Would remove ./x$\n\
 1^k/l^-q|-d^..&::k/l/..^Would refuse to remove current working directory$\n\
 1^k/l^^.&::k/l/.^Would refuse to remove current working directory$Would remove ./x$\n\

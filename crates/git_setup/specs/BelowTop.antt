@@ -39,5 +39,5 @@ line [] = []
 line (b ∷ rest) = if b == 33 then 33 ∷ unsigned rest else unsigned (b ∷ rest)
 
 -- the same rules, line by line
-abbrev pub rules_below_top : List ℕ → List ℕ
+unfoldable pub rules_below_top : List ℕ → List ℕ
 rules_below_top rules = flat_map line (lines_of rules)

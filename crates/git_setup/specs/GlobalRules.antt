@@ -23,5 +23,5 @@ abbrev pub marked : List ℕ → List ℕ
 marked rules = if starts_with nat_eq rules mark then mark ++ rules else rules
 
 -- those of the user, and behind them those of the repository, as they leave the top alone
-abbrev pub globals_of : Rules → List ℕ
+unfoldable pub globals_of : Rules → List ℕ
 globals_of rules = marked (rules_below_top (rules_text rules.user ++ rules_text rules.repository))

@@ -75,6 +75,7 @@ fn add_line(alloc: Global, rules: &mut Bytes, line: &[u8]) -> Result<(), OutOfMe
 /// The same rules, line by line; those of stars alone, with or without a sign, have a `?` in front.
 ///
 /// Fails only where memory is refused. See docs/DIFFERENCES.md#empty-match.
+#[tactic(auto, unfolding(crate::specs::BelowTop::rules_below_top))]
 pub fn rules_below_top(alloc: Global, rules: &[u8]) -> Result<Bytes, OutOfMemory>
     ensures { IfOk result (λ made. made ≡ words.rules_below_top rules.now) }
 {

@@ -45,6 +45,7 @@ pub fn marked(alloc: Global, rules: Bytes) -> Result<Bytes, OutOfMemory>
 }
 
 /// The rules of the user, and behind them those of the repository, as they leave the top alone.
+#[tactic(auto, unfolding(crate::specs::GlobalRules::globals_of))]
 pub fn globals_of(alloc: Global, rules: &Rules) -> Result<Bytes, OutOfMemory>
     ensures { IfOk result (λ globals. globals ≡ words.globals_of rules.now) }
 {
