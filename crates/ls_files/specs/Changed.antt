@@ -73,7 +73,7 @@ looked_at s root o standings.Deleted e d = Ok (presence_in s.stats root e)
 looked_at s root o standings.Modified e d = standing_in s root o e d
 looked_at s root o standings.Both e d = standing_in s root o e d
 
-abbrev pub change_of : Outside → List ℕ → Comparison → Standings → Listing → List NamedSpec → List PathSpec → IndexEntry → Detail → Result PathChange Unsupported
+unfoldable pub change_of : Outside → List ℕ → Comparison → Standings → Listing → List NamedSpec → List PathSpec → IndexEntry → Detail → Result PathChange Unsupported
 change_of s root o w l named specs e d = if is_looked_at s root o l named specs e then looked_at s root o w e d else Ok changes.Same
 
 abbrev pub is_deleted : PathChange → Bool
@@ -107,7 +107,7 @@ first_shown w l e change =
     else if is_gone w change then record { entry = e; sign = signs.Gone } ∷ []
     else shown_if (is_modified w change) e signs.Modified
 
-abbrev pub shown_of : Standings → Listing → IndexEntry → PathChange → List Shown
+unfoldable pub shown_of : Standings → Listing → IndexEntry → PathChange → List Shown
 shown_of w l e change = if is_once l then first_shown w l e change else all_shown w l e change
 
 -- any of these
@@ -115,7 +115,7 @@ abbrev pub is_shown : Standings → Listing → IndexEntry → PathChange → Bo
 is_shown w l e change = is_kept l e || (is_gone w change || is_modified w change)
 
 -- the path that was shown last
-abbrev pub last_after : Option (List ℕ) → Standings → Listing → IndexEntry → PathChange → Option (List ℕ)
+unfoldable pub last_after : Option (List ℕ) → Standings → Listing → IndexEntry → PathChange → Option (List ℕ)
 last_after last w l e change = if is_shown w l e change then Some e.path else last
 
 -- What is shown, with what is shown of some entries, in the order of the index, behind one of the path `last`; or the first form that is

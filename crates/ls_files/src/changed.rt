@@ -77,6 +77,7 @@ fn add_first<'a>(
 }
 
 /// Adds what is shown of an entry.
+#[tactic(auto, unfolding(crate::specs::Changed::shown_of))]
 fn add_shown_of<'a>(
     list: &mut Vec<Shown<'a>>,
     asked: Standings,
@@ -124,6 +125,7 @@ fn is_shown(asked: Standings, listing: &Listing, entry: &IndexEntry, change: Pat
 }
 
 /// The path that was shown last.
+#[tactic(auto, unfolding(crate::specs::Changed::last_after))]
 fn last_after<'a>(
     last: Option<&'a [u8]>,
     asked: Standings,

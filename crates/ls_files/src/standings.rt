@@ -143,6 +143,7 @@ fn looked_at<W: Worktree, S: Stats>(
 }
 
 /// How an entry stands; one that is not looked at is the same.
+#[tactic(auto, unfolding(crate::specs::Changed::change_of))]
 pub fn change_of<W: Worktree, S: Stats>(
     alloc: Global,
     worktree: &mut W,
