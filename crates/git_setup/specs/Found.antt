@@ -92,11 +92,15 @@ abbrev pub pieces_of : Names → SetupOptions → List Configured → Rules → 
 pieces_of t options files rules specs worktrees =
     record { globals = globals_of rules; specs = specs; worktrees = worktrees; configs = configs_for t options files }
 
+-- the rules files outside the work tree
+unfoldable pub rules_read : Names → Layout → Surroundings → Read → Result Rules GitRefusal
+rules_read t places around read = as_files (rules_in t places around read.stack.file.sections)
+
 -- What a setup has of the rules files, the path specs and the submodules. Of path specs the letters compare as they are, whatever
 -- `core.ignoreCase` says, unless a spec says `icase`.
 unfoldable pub pieces_by : Names → Layout → Surroundings → Asked → Read → Result Pieces GitRefusal
 pieces_by t places around asked read = do
-  rules ← as_files (rules_in t places around read.stack.file.sections)
+  rules ← rules_read t places around read
   specs ← specs_in asked.prefers_current false places.root around.directory asked.paths.items
   worktrees ← protected_in (is_for_deletion asked.options) read.switches.ignore_case (own_for (is_for_deletion asked.options) t places) read.index
   Ok (pieces_of t asked.options read.stack.files rules specs worktrees)

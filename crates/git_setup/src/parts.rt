@@ -142,6 +142,21 @@ fn pieces_of<W: Worktree>(
     })
 }
 
+/// The rules files outside the work tree.
+#[tactic(auto, unfolding(crate::specs::Found::rules_read))]
+fn rules_here<W: Worktree>(
+    alloc: Global,
+    worktree: &mut W,
+    places: &Places,
+    around: &Surroundings,
+    read: &Read,
+) -> Result<Rules, GitRefusal>
+    ensures { Finds W.Worktree worktree.old worktree.new
+        (λ t. words.rules_read t places.now around.now read.now) result }
+{
+    Ok(rules_files(alloc, worktree, places, around, &read.stack.file)?)
+}
+
 /// What a setup has of rules files, path specs and submodules.
 #[tactic(auto, unfolding(crate::specs::Found::pieces_by))]
 fn pieces_here<W: Worktree>(
@@ -155,7 +170,7 @@ fn pieces_here<W: Worktree>(
     ensures { Finds W.Worktree worktree.old worktree.new
         (λ t. words.pieces_by t places.now around.now asked.now read.now) result }
 {
-    let rules = rules_files(alloc, worktree, places, around, &read.stack.file)?;
+    let rules = rules_here(alloc, worktree, places, around, read)?;
     let root = places.root.as_bytes();
     let directory = around.directory.as_bytes();
     let specs = specs_in(
