@@ -21,6 +21,9 @@ use Rattle.tizhagor.specs.Changing.{as_reply, as_said}
 use Rattle.tizhagor.specs.Compares.{Beside}
 use Rattle.tizhagor.specs.Refusals.{IsOfFinding}
 
+no_err : {A : Type 0} (a : A) (e : HereRefusal) → ◌≡◌ {A = Result A HereRefusal} (Ok a) (Err e) → ⊥
+no_err a e is = absurd cc
+
 module _ {W D : Type 0} (w : WorktreeOf W) (d : StatsOf D) where
   pub of_listing : (w0 w1 : W) (d0 d1 : D) (root : List ℕ) (entries : List IndexEntry) (details : List Detail) (o : Comparison) (asked : Standings) (l : Listing) (prefix : List ℕ) (named : List NamedSpec) (specs : List PathSpec)
       (answer : Result Listed ChangedError) → ListsChanged w d w0 w1 d0 d1 root entries details o asked l prefix named specs answer
@@ -28,7 +31,7 @@ module _ {W D : Type 0} (w : WorktreeOf W) (d : StatsOf D) where
   of_listing w0 w1 d0 d1 root entries details o asked l prefix named specs (Ok made) h =
       record {
         gives = λ t told tree tells. ap as_said (h.gives (record { tree = t; stats = told }) (tree, tells));
-        cause = λ is. absurd cc;
+        cause = λ is. absurd (no_err _ _ is);
         unfaulted = h.unfaulted.0;
         stats_unfaulted = h.unfaulted.1;
         keeps = h.worktree;

@@ -45,7 +45,7 @@ wrong_or compared (Some why) = Err (errors.Listing why)
 abbrev pub unless_wrong : FilesAsked → ComparedFrom → Result ComparedFrom HereRefusal
 unless_wrong wants compared = wrong_or compared (wrong_beside (listing_said wants))
 
-abbrev pub listable_in : Names → Placed → Asked → FilesAsked → Result ComparedFrom HereRefusal
+unfoldable pub listable_in : Names → Placed → Asked → FilesAsked → Result ComparedFrom HereRefusal
 listable_in t placed asked wants = and_then (unless_wrong wants) (compared_in t placed asked)
 
 -- ---- what is asked of it
@@ -74,7 +74,7 @@ as_said (Ok made) = Ok (reply_of made)
 as_said (Err form) = Err (errors.Listing (wrong.Unsupported form))
 
 -- what is listed of a work tree and its index, where that was written at a time, in a directory and with each path spec
-abbrev pub listed_by : Names → Told → FilesAsked → Standings → Compared → List ℕ → List NamedSpec → ℕ → Result Reply HereRefusal
+unfoldable pub listed_by : Names → Told → FilesAsked → Standings → Compared → List ℕ → List NamedSpec → ℕ → Result Reply HereRefusal
 listed_by t told wants standings compared prefix named time =
     as_said
     (changed_in (record { tree = t; stats = told }) compared.root compared.index compared.details (comparison_by compared.settings time) standings

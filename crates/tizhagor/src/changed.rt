@@ -53,6 +53,7 @@ fn unless_wrong(wants: &FilesAsked, compared: ComparedFrom) -> Result<ComparedFr
 }
 
 /// The same of the work tree at a place.
+#[tactic(auto, unfolding(crate::specs::Changing::listable_in))]
 fn listable_here<W: Worktree>(
     alloc: Global,
     worktree: &mut W,

@@ -8,6 +8,7 @@ use Rattle.tizhagor.proofs.Changes.{of_listing, of_listing-is}
 use Rattle.tizhagor.proofs.changed.list_by.Goals as goal
 
 pub returns-clause-finds : goal.returns-clause-finds
+unfolding listed_by
 returns-clause-finds g c =
     subst (λ (r : Result Reply HereRefusal). Beside g.W.Worktree g.D.Stats c.args.worktree.now c.list_changed-answer.new.worktree c.args.stats.now c.list_changed-answer.new.stats (λ t told. listed_by t told c.args.wants.now c.args.standings c.args.compared.now c.args.prefix.now c.args.named.now c.args.index_time) r)
     (sym c.as_reply.ensures)
