@@ -15,7 +15,7 @@ _tizhagor_options() {
     plan) echo "-x -X --nonbare $looked $written -h --help" ;;
     modules) echo "--permissions= -h --help" ;;
     state) echo "$shown $looked $written $colour -h --help" ;;
-    ls-files) echo "-c --cached -s --stage -u --unmerged -o --others -k --killed -i --ignored --exclude-standard -x --exclude=
+    ls-files) echo "-c --cached -s --stage -u --unmerged -o --others -k --killed -d --deleted -m --modified -i --ignored --exclude-standard -x --exclude=
         --exclude-per-directory=.gitignore --directory --no-empty-directory -t -v
         -z --deduplicate --full-name --error-unmatch -h --help" ;;
     clean) echo "-n --dry-run --no-dry-run -d -x -X -e --exclude= -f --force --no-force -q --quiet --no-quiet -h --help" ;;

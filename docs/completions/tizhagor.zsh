@@ -34,6 +34,8 @@ _tizhagor() {
         '(-u --unmerged)'{-u,--unmerged}'[what is not merged]'
         '(-o --others)'{-o,--others}'[what the index does not have]'
         '(-k --killed)'{-k,--killed}'[what lies in the way of the index]'
+        '(-d --deleted)'{-d,--deleted}'[of the index, that of which nothing is there]'
+        '(-m --modified)'{-m,--modified}'[of the index, that of which nothing is there or something else]'
         '(-i --ignored)'{-i,--ignored}'[what is ignored]'
         '--exclude-standard[ignore rules are asked]'
         '--exclude-per-directory=-[those of each directory are]:name:(.gitignore)'

@@ -16,6 +16,8 @@ choice_of name =
     else if bytes_eq name (codes "unmerged") then Some choices.Unmerged
     else if bytes_eq name (codes "others") then Some choices.Others
     else if bytes_eq name (codes "killed") then Some choices.Killed
+    else if bytes_eq name (codes "deleted") then Some choices.Deleted
+    else if bytes_eq name (codes "modified") then Some choices.Modified
     else if bytes_eq name (codes "ignored") then Some choices.Ignored
     else if bytes_eq name (codes "directory") then Some choices.Directories
     else if bytes_eq name (codes "empty-directory") then Some choices.EmptyDirectories
@@ -32,11 +34,7 @@ firm_choice_of name =
 
 -- git's, of what a path is or which rules are asked; not answered here
 abbrev pub is_left_rule : List ℕ → Bool
-is_left_rule name =
-    bytes_eq name (codes "deleted")
-    || (bytes_eq name (codes "modified")
-    || (bytes_eq name (codes "exclude-from")
-    || bytes_eq name (codes "resolve-undo")))
+is_left_rule name = bytes_eq name (codes "exclude-from") || bytes_eq name (codes "resolve-undo")
 
 -- git's, of submodules, objects and forms; not answered here
 abbrev pub is_left_form : List ℕ → Bool
@@ -79,7 +77,7 @@ listing_opt_of name =
     else if is_left name then Some opts.Left
     else first_of (rule_opt_of name) (choosing name)
 
--- the choice of a letter, which stands behind `-`: c, s, u, o, k, i, t, v, z
+-- the choice of a letter, which stands behind `-`: c, s, u, o, k, d, m, i, t, v, z
 abbrev pub choice_of_letter : ℕ → Option Choice
 choice_of_letter letter =
     if letter == 99 then Some choices.Cached
@@ -87,15 +85,17 @@ choice_of_letter letter =
     else if letter == 117 then Some choices.Unmerged
     else if letter == 111 then Some choices.Others
     else if letter == 107 then Some choices.Killed
+    else if letter == 100 then Some choices.Deleted
+    else if letter == 109 then Some choices.Modified
     else if letter == 105 then Some choices.Ignored
     else if letter == 116 then Some choices.Tags
     else if letter == 118 then Some choices.Valid
     else if letter == 122 then Some choices.Nul
     else None
 
--- git's, and not answered here: d, m, X, f
+-- git's, and not answered here: X, f
 abbrev pub is_left_letter : ℕ → Bool
-is_left_letter letter = letter == 100 || (letter == 109 || (letter == 88 || letter == 102))
+is_left_letter letter = letter == 88 || letter == 102
 
 -- x, and h
 abbrev pub listing_opt_of_letter : ℕ → Option Opt

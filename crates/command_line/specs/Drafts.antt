@@ -31,6 +31,7 @@ use Rattle.command_line.specs.declared.form.Wording.{Wording}
 use Rattle.command_line.specs.declared.form.Wording.TheVariants.{Words}
 use Rattle.command_line.specs.declared.opt.Switch.{Switch}
 use Rattle.command_line.specs.declared.opt.Switch.TheVariants as switches
+use Rattle.command_line.specs.ChangeWords.{no_changes, with_change}
 use Rattle.command_line.specs.Checkings.{default_checking, told_of}
 use Rattle.command_line.specs.Cleanings.{forced}
 use Rattle.command_line.specs.Comparings.{default_comparing, told_apart}
@@ -115,6 +116,7 @@ default_draft =
       depth = 256;
       form = default_form;
       listing = default_listing;
+      changes = no_changes;
       cleaning = default_cleaning;
       comparing = default_comparing;
       checking = default_checking;
@@ -137,13 +139,15 @@ turned switches.RecurseRepositories on options = record options { recurse_reposi
 turned switches.BareRepositories on options = record options { classify_untracked_bare_repositories = on }
 turned switches.LinksAsDirectories on options = record options { symlinks_to_directories_are_ignored_like_directories = on }
 
--- a listing with one choice made or dropped
+-- a listing with one choice made or dropped; what changed is told beside it
 abbrev pub chosen : Choice → Bool → Listing → Listing
 chosen choices.Cached on listing = record listing { cached = on }
 chosen choices.Stages on listing = record listing { stages = on }
 chosen choices.Unmerged on listing = record listing { unmerged = on }
 chosen choices.Others on listing = record listing { others = on }
 chosen choices.Killed on listing = record listing { killed = on }
+chosen choices.Deleted on listing = listing
+chosen choices.Modified on listing = listing
 chosen choices.Ignored on listing = record listing { ignored = on }
 chosen choices.Directories on listing = record listing { directories = on }
 chosen choices.EmptyDirectories on listing = record listing { empty_directories = on }
@@ -215,7 +219,7 @@ abbrev pub with_depth : ℕ → Draft → Draft
 with_depth depth draft = record draft { depth = depth }
 
 abbrev pub with_choice : Choice → Bool → Draft → Draft
-with_choice choice on draft = record draft { listing = chosen choice on draft.listing }
+with_choice choice on draft = record draft { listing = chosen choice on draft.listing; changes = with_change choice on draft.changes }
 
 abbrev pub with_clean_choice : CleanChoice → Bool → Draft → Draft
 with_clean_choice choice on draft = record draft { cleaning = swept choice on draft.cleaning }

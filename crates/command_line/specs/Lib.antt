@@ -2,6 +2,7 @@ pub mod Verbs
 pub mod Forms
 pub mod Options
 pub mod Choices
+pub mod ChangeWords
 pub mod Cleanings
 pub mod Comparings
 pub mod Checkings

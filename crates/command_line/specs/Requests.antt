@@ -7,6 +7,7 @@ use Rattle.clean_plan.specs.declared.what.What.{What}
 use Rattle.git_clean.specs.declared.cleaning.Cleaning.{Cleaning}
 use Rattle.git_setup.specs.declared.asked.Asked.{Asked}
 use Rattle.ls_files.specs.declared.listing.Listing.{Listing}
+use Rattle.ls_files.specs.declared.standings.Standings.{Standings}
 use Rattle.worktree_report.specs.declared.setup.SetupOptions.{SetupOptions}
 use Rattle.command_line.specs.declared.checking.CheckAsked.{CheckAsked}
 use Rattle.command_line.specs.declared.cleaning.Force.{Force}
@@ -24,6 +25,7 @@ use Rattle.command_line.specs.declared.verb.Topic.{Topic}
 use Rattle.command_line.specs.declared.verb.Topic.TheVariants as topics
 use Rattle.command_line.specs.declared.verb.Verb.{Verb}
 use Rattle.command_line.specs.declared.verb.Verb.TheVariants as verbs
+use Rattle.command_line.specs.ChangeWords.{standings_of}
 use Rattle.command_line.specs.Readings.{Reading, said, wrong, read_words}
 use Rattle.command_line.specs.Verbs.{prefers_current, verb_of}
 
@@ -44,6 +46,7 @@ pub data Command : Type 0 where
   modules : Want → Command
   state : Want → Form → Command
   files : Want → Listing → List (List ℕ) → Command
+  changed : Want → Listing → List (List ℕ) → Standings → Command
   clean : Want → Cleaning → Force → List (List ℕ) → Command
   compare : Want → Comparing → Command
   check : Want → CheckAsked → Command
@@ -57,6 +60,7 @@ seen (commands.Plan asked what finding form) = plan (want_of asked) what finding
 seen (commands.Modules asked) = modules (want_of asked)
 seen (commands.State asked form) = state (want_of asked) form
 seen (commands.Files asked wants) = files (want_of asked) wants.listing wants.patterns.items
+seen (commands.Changed asked wants standings) = changed (want_of asked) wants.listing wants.patterns.items standings
 seen (commands.Clean asked wants) = clean (want_of asked) wants.cleaning wants.force wants.patterns.items
 seen (commands.Compare asked comparing) = compare (want_of asked) comparing
 seen (commands.Check asked checking) = check (want_of asked) checking
@@ -87,12 +91,17 @@ abbrev pub cleaning_in : Cleaning → List (List ℕ) → Cleaning
 cleaning_in cleaning [] = cleaning
 cleaning_in cleaning (path ∷ paths) = record cleaning { directories = true }
 
+-- what changed is listed too, where that is asked for
+abbrev pub listed : Option Standings → Want → Listing → List (List ℕ) → Command
+listed None want listing patterns = files want listing patterns
+listed (Some standings) want listing patterns = changed want listing patterns standings
+
 abbrev done : Verb → Draft → List (List ℕ) → List (List ℕ) → Command
 done verbs.Report draft paths patterns = report (want_in verbs.Report draft paths) draft.form
 done verbs.Plan draft paths patterns = plan (want_in verbs.Plan draft paths) draft.what draft.finding draft.form
 done verbs.Modules draft paths patterns = modules (want_in verbs.Modules draft paths)
 done verbs.State draft paths patterns = state (want_in verbs.State draft paths) draft.form
-done verbs.Files draft paths patterns = files (want_in verbs.Files draft paths) draft.listing patterns
+done verbs.Files draft paths patterns = listed (standings_of draft.changes) (want_in verbs.Files draft paths) draft.listing patterns
 done verbs.Clean draft paths patterns = clean (want_in verbs.Clean draft paths) (cleaning_in draft.cleaning paths) draft.force patterns
 done verbs.Compare draft paths patterns = compare (want_in verbs.Compare draft paths) draft.comparing
 done verbs.Check draft paths patterns = check (want_in verbs.Check draft paths) draft.checking

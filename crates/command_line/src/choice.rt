@@ -17,6 +17,10 @@ pub enum Choice {
     Others,
     /// What lies in the way of the index.
     Killed,
+    /// Paths of the index of which nothing is there.
+    Deleted,
+    /// Those of which nothing is there, or something else.
+    Modified,
     /// Of what the index does not have what is ignored, alone.
     Ignored,
     /// Directories in place of what they hold.
@@ -55,6 +59,10 @@ fn choice_of(name: &[u8]) -> Option<Choice>
         Some(Choice::Others)
     } else if name == b"killed".as_slice() {
         Some(Choice::Killed)
+    } else if name == b"deleted".as_slice() {
+        Some(Choice::Deleted)
+    } else if name == b"modified".as_slice() {
+        Some(Choice::Modified)
     } else if name == b"ignored".as_slice() {
         Some(Choice::Ignored)
     } else if name == b"directory".as_slice() {
@@ -87,10 +95,7 @@ fn firm_choice_of(name: &[u8]) -> Option<Choice>
 fn is_left_rule(name: &[u8]) -> bool
     ensures { result ≡ choices.is_left_rule name.now }
 {
-    name == b"deleted".as_slice()
-        || name == b"modified".as_slice()
-        || name == b"exclude-from".as_slice()
-        || name == b"resolve-undo".as_slice()
+    name == b"exclude-from".as_slice() || name == b"resolve-undo".as_slice()
 }
 
 /// The same of submodules, objects and forms.
@@ -194,6 +199,10 @@ fn choice_of_letter(letter: u8) -> Option<Choice>
         Some(Choice::Others)
     } else if letter == b'k' {
         Some(Choice::Killed)
+    } else if letter == b'd' {
+        Some(Choice::Deleted)
+    } else if letter == b'm' {
+        Some(Choice::Modified)
     } else if letter == b'i' {
         Some(Choice::Ignored)
     } else if letter == b't' {
@@ -211,7 +220,7 @@ fn choice_of_letter(letter: u8) -> Option<Choice>
 fn is_left_letter(letter: u8) -> bool
     ensures { result ≡ choices.is_left_letter letter }
 {
-    letter == b'd' || letter == b'm' || letter == b'X' || letter == b'f'
+    letter == b'X' || letter == b'f'
 }
 
 /// The option of `ls-files` of this letter, which stands behind `-`. None where there is none.

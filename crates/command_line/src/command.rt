@@ -8,7 +8,7 @@ use clean_plan::{Finding, What};
 use git_clean::Cleaning;
 use git_setup::Asked;
 use gitbase_core::Bytes;
-use ls_files::Listing;
+use ls_files::{Listing, Standings};
 
 /// What is asked of a cleaning.
 #[derive(Debug, Drop)]
@@ -66,12 +66,21 @@ pub enum Command {
         /// How both are written.
         form: Form,
     },
-    /// What `git ls-files` prints is written.
+    /// What `git ls-files` prints is written, with neither `-d` nor `-m`.
     Files {
         /// What is asked of the work tree.
         asked: Asked,
         /// What is asked of the listing.
         files: FilesAsked,
+    },
+    /// What `git ls-files` prints with `-d` or `-m` is written.
+    Changed {
+        /// What is asked of the work tree.
+        asked: Asked,
+        /// What is asked of the listing.
+        files: FilesAsked,
+        /// What is listed by what stands in the work tree.
+        standings: Standings,
     },
     /// What `git clean` would remove is named.
     Clean {

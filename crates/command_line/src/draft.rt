@@ -2,6 +2,7 @@
 ghost use Rattle.std.specs.Prelude.{◌≡◌, Option};
 ghost use Rattle.command_line.specs.Drafts as drafts;
 
+use crate::change_words::{ChangeWords, no_changes, with_change};
 use crate::checking::{CheckAsked, CheckChoice, default_checking, told_of};
 use crate::choice::Choice;
 use crate::cleaning::{CleanChoice, Force};
@@ -33,6 +34,8 @@ pub struct Draft {
     pub form: Form,
     /// What is listed.
     pub listing: Listing,
+    /// What is listed by what stands in the work tree.
+    pub changes: ChangeWords,
     /// What is asked of `clean`.
     pub cleaning: Cleaning,
     /// What is asked of `diff-files`.
@@ -130,6 +133,7 @@ pub fn default_draft() -> Draft
             color: Color::Auto,
         },
         listing: default_listing(),
+        changes: no_changes(),
         cleaning: default_cleaning(),
         comparing: default_comparing(),
         checking: default_checking(),
@@ -173,6 +177,8 @@ fn chosen(listing: Listing, choice: Choice, on: bool) -> Listing
         Choice::Unmerged => listing.unmerged = on,
         Choice::Others => listing.others = on,
         Choice::Killed => listing.killed = on,
+        Choice::Deleted => {}
+        Choice::Modified => {}
         Choice::Ignored => listing.ignored = on,
         Choice::Directories => listing.directories = on,
         Choice::EmptyDirectories => listing.empty_directories = on,
@@ -338,6 +344,7 @@ impl Draft {
     {
         let mut draft = self;
         draft.listing = chosen(draft.listing, choice, on);
+        draft.changes = with_change(draft.changes, choice, on);
         draft
     }
 

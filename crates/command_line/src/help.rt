@@ -179,6 +179,8 @@ those that OPTION chooses. A PATH is a path spec; none means the current directo
   -u, --unmerged        the same of paths that are not merged, alone
   -o, --others          what the index does not have
   -k, --killed          what lies in the way of the index
+  -d, --deleted         of the index, that of which nothing is there; without -o and -k
+  -m, --modified        of the index, that of which nothing is there or something else
   -i, --ignored         of what the index lacks, what is ignored, alone; beside one of
                         the three below
   --exclude-standard    ignore rules are asked: .gitignore, info/exclude, and the
@@ -189,7 +191,8 @@ those that OPTION chooses. A PATH is a path spec; none means the current directo
   --directory           a directory in place of what it holds, where the index has
                         nothing in it
   --no-empty-directory  no directories without files
-  -t                    a letter before each path: H, S, M, ? for -o, or K for -k
+  -t                    a letter before each path: H, S, M, ? for -o, K for -k,
+                        R for -d, C for -m
   -v                    the same, in lower case where a file is assumed unchanged
   -z                    a NUL behind each path, which stands as it is
   --deduplicate         each path of the index once

@@ -1,6 +1,7 @@
 //! The command line of `tizhagor`: what its words ask for, how answers are written, and what is said of words that ask for nothing.
 #![tactic(auto)]
 
+mod change_words;
 mod check_help;
 mod checking;
 mod choice;
@@ -25,7 +26,7 @@ mod verb;
 pub use checking::CheckAsked;
 pub use cleaning::Force;
 pub use command::{CleanAsked, Command, FilesAsked, Request};
-pub use comparing::{Comparing, Ignoring};
+pub use comparing::{Comparing, Ignoring, default_comparing};
 pub use form::{Color, Form, LineEnd, Style, Wording, styled};
 pub use help::{help_of, version};
 pub use misuse::{Misuse, Wrong, said};

@@ -2,6 +2,7 @@
 ghost use Rattle.std.specs.Prelude.{◌≡◌};
 ghost use Rattle.command_line.specs.Requests as requests;
 
+use crate::change_words::standings_of;
 use crate::command::{CleanAsked, Command, FilesAsked, Request};
 use crate::draft::Draft;
 use crate::misuse::{Misuse, Wrong};
@@ -10,6 +11,7 @@ use crate::verb::{Topic, Verb, prefers_current, verb_of};
 use git_clean::Cleaning;
 use git_setup::Asked;
 use gitbase_core::Bytes;
+use ls_files::Standings;
 use std::alloc::Global;
 
 /// How deep `ls-files` and `clean` go: as deep as can be asked for.
@@ -39,6 +41,21 @@ fn cleaning_in(cleaning: Cleaning, paths: &[Bytes]) -> Cleaning
     }
 }
 
+/// What is listed: what changed too, where that is asked for.
+fn listed(standings: Option<Standings>, asked: Asked, files: FilesAsked) -> Command
+    ensures { requests.seen result ≡ requests.listed standings (requests.want_of asked)
+        files.listing files.patterns.items }
+{
+    match standings {
+        Some(standings) => Command::Changed {
+            asked,
+            files,
+            standings,
+        },
+        None => Command::Files { asked, files },
+    }
+}
+
 /// What a command is to do, by what its words say.
 fn told(verb: Verb, draft: Draft, paths: Vec<Bytes>, patterns: Vec<Bytes>) -> Command
     ensures { requests.seen result ≡ requests.told verb draft paths.items patterns.items }
@@ -64,13 +81,14 @@ fn told(verb: Verb, draft: Draft, paths: Vec<Bytes>, patterns: Vec<Bytes>) -> Co
         },
         Verb::Modules => Command::Modules { asked },
         Verb::State => Command::State { asked, form },
-        Verb::Files => Command::Files {
-            asked,
-            files: FilesAsked {
-                listing: draft.listing,
-                patterns,
-            },
-        },
+        Verb::Files => {
+            let listing = draft.listing;
+            listed(
+                standings_of(draft.changes),
+                asked,
+                FilesAsked { listing, patterns },
+            )
+        }
         Verb::Clean => Command::Clean {
             asked,
             clean: CleanAsked {

@@ -8,7 +8,7 @@ use dir_classify::{CollapsedEntriesEmissionMode, EmissionMode, ForDeletionMode};
 use git_clean::Cleaning;
 use git_setup::Asked;
 use gitbase_core::Bytes;
-use ls_files::Listing;
+use ls_files::{Listing, Standings};
 use std::alloc::Global;
 use worktree_report::{SetupOptions, Strategy};
 
@@ -56,6 +56,12 @@ ls-files,-o,--exclude=a b,--exclude-per-directory=.gitignore>pattern a b;rules o
 ls-files,-o,-x,-c,--exclude-standard>pattern -c;rules\n\
 ls-files,-k>killed;not others\n\
 ls-files,--killed,-o,--no-others>killed;not others\n\
+ls-files,-d>gone;not others;from here\n\
+ls-files,-m,--,a>other;not others;path a\n\
+ls-files,-md>gone or other;not others\n\
+ls-files,--deleted,--modified,--no-deleted>other\n\
+ls-files,-dm,--no-deleted,--no-modified>files;not others\n\
+ls-files,-ocd,-xa>gone;others;pattern a\n\
 ls-files,--no-empty-directory,--directory>directories\n\
 ls-files,--full-name,--,-o>not others;from the top;path -o\n\
 ls-files,-sh>help files\n\
@@ -100,7 +106,7 @@ report,--depth=1001>error: `--depth=1001' is no depth, which is a number from 0 
 plan,--tracked>error: unknown option `--tracked'\n\
 modules,-z>error: unknown switch `z'\n\
 modules,a>error: `a' is a path, and this command takes none\n\
-ls-files,-od>error: switch `d' is git's, and is not answered here\n\
+ls-files,-oX>error: switch `X' is git's, and is not answered here\n\
 ls-files,--eol>error: option `--eol' is git's, and is not answered here\n\
 ls-files,--exclude-per-directory=a>error: option `--exclude-per-directory=a' is git's, and is not answered here\n\
 ls-files,--exclude-from=a>error: option `--exclude-from=a' is git's, and is not answered here\n\
@@ -268,6 +274,15 @@ fn is_plan(what: What, finding: Finding, want: &[u8]) -> bool {
     }
 }
 
+/// Whether what changed is listed so.
+fn is_changed(standings: Standings, want: &[u8]) -> bool {
+    match standings {
+        Standings::Deleted => want == b"gone".as_slice(),
+        Standings::Modified => want == b"other".as_slice(),
+        Standings::Both => want == b"gone or other".as_slice(),
+    }
+}
+
 /// Whether a listing is so.
 fn is_listing(listing: &Listing, want: &[u8]) -> bool {
     if want == b"index".as_slice() {
@@ -374,6 +389,16 @@ fn is_command(command: &Command, want: &[u8]) -> bool {
                 || is_asked(asked, want)
                 || is_listing(&files.listing, want)
                 || is_pattern(&files.patterns, want)
+        }
+        Command::Changed {
+            asked,
+            files,
+            standings,
+        } => {
+            is_asked(asked, want)
+                || is_listing(&files.listing, want)
+                || is_pattern(&files.patterns, want)
+                || is_changed(*standings, want)
         }
         Command::Clean { asked, clean } => {
             is_asked(asked, want)

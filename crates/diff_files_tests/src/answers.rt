@@ -8,7 +8,7 @@
 
 /// The trees, one a line.
 pub const TREES: &[u8] = b"\
-1000000100^100644 0 - 78981922613b2afb6025042ff6bd878ac1994e85 1000000000 1 1 1 1 2 a;100644 0 - 61780798228d17af2d34fce4cfbdf35556832472 1000000000 1 1 1 1 2 b;100644 0 - f2ad6c76f0115a6ba5b00456a849810e7ec0af20 1000000000 1 1 1 1 2 c;100644 0 - 4bcfe98e640c8284511312660fb8709b0afa888e 1000000000 2 2 2 2 2 d;100755 0 - d905d9da82c97264ab6f4920e20242e088850ce9 1000000000 1 1 1 1 2 e;100644 0 - 6a69f92020f5df77af6e8813ff1232493383b708 1000000000 1 1 1 1 2 f;100644 0 - 01058d844a98d293a3b03a8615a34700e4ed2be3 1000000000 2 2 2 2 2 g;100644 0 - 6e9f0da13f19b444ec3a9c3d6e795ad35c0554a2 1000000000 1 1 1 1 2 h;100644 0 - a34cbfb7759dcb079eb55487976f586063fd7793 1000000000 2 2 2 2 4 k/x;120000 0 - 2e65efe2a145dda7ee51d1741299f848e5bf752e 1000000000 1 1 1 1 1 l;120000 0 - 2e65efe2a145dda7ee51d1741299f848e5bf752e 1000000000 1 1 1 1 1 m;120000 0 - 2e65efe2a145dda7ee51d1741299f848e5bf752e 1000000000 1 1 1 1 1 o;100644 0 - 1a9cc2b7fbfa834924f4c03780d767ccbecf0c9c 1000000000 1 1 1 1 2 p;100644 0 - 792831e890858c7eeded8ed42262c13ccd991737 1000000000 1 1 1 1 4 s/f;100644 0 - 51251151272086964e133ba78a534e28e089fcfa 1000000000 1 1 1 1 4 t/f^100644 1000000000 2 /r/a=a$;100644 1000000001 2 /r/b=b$;100644 1000000000 2 /r/c=C$;100644 1000000000 2 /r/e=e$;100755 1000000000 2 /r/f=f$;40755 0 0 /r/g=;120777 2 1 /r/h=a;100644 2 2 /r/k=k$;100644 2 2 /r/l=a$;120777 1000000000 2 /r/m=bb;10644 2 0 /r/o=;100644 1000000000 7 /r/p=longer$;120777 2 1 /r/s=t;40755 0 0 /r/t=;100644 1000000000 4 /r/t/f=t/f$\n\
+1000000100^100644 0 - 78981922613b2afb6025042ff6bd878ac1994e85 1000000000 1 1 1 1 2 a;100644 0 - 61780798228d17af2d34fce4cfbdf35556832472 1000000000 1 1 1 1 2 b;100644 0 - f2ad6c76f0115a6ba5b00456a849810e7ec0af20 1000000000 1 1 1 1 2 c;100644 0 - 4bcfe98e640c8284511312660fb8709b0afa888e 1000000000 2 2 2 2 2 d;100755 0 - d905d9da82c97264ab6f4920e20242e088850ce9 1000000000 1 1 1 1 2 e;100644 0 - 6a69f92020f5df77af6e8813ff1232493383b708 1000000000 1 1 1 1 2 f;100644 0 - 01058d844a98d293a3b03a8615a34700e4ed2be3 1000000000 2 2 2 2 2 g;100644 0 - 6e9f0da13f19b444ec3a9c3d6e795ad35c0554a2 1000000000 1 1 1 1 2 h;100644 0 - a34cbfb7759dcb079eb55487976f586063fd7793 1000000000 2 2 2 2 4 k/x;120000 0 - 2e65efe2a145dda7ee51d1741299f848e5bf752e 1000000000 1 1 1 1 1 l;120000 0 - 2e65efe2a145dda7ee51d1741299f848e5bf752e 1000000000 1 1 1 1 1 m;120000 0 - 2e65efe2a145dda7ee51d1741299f848e5bf752e 1000000000 1 1 1 1 1 o;100644 0 - 1a9cc2b7fbfa834924f4c03780d767ccbecf0c9c 1000000000 1 1 1 1 2 p;100644 0 - 792831e890858c7eeded8ed42262c13ccd991737 1000000000 1 1 1 1 4 s/f;100644 0 - 51251151272086964e133ba78a534e28e089fcfa 1000000000 1 1 1 1 4 t/f^100644 1000000000 2 /r/a=a$;100644 1000000001 2 /r/b=b$;100644 1000000000 2 /r/c=C$;100644 1000000000 2 /r/e=e$;100755 1000000000 2 /r/f=f$;40755 0 0 /r/g=;120777 2 1 /r/h=a;100644 2 2 /r/k=k$;100644 2 2 /r/l=a$;120777 1000000000 2 /r/m=bb;10644 2 0 /r/o=;100644 1000000000 7 /r/p=longer$;120777 2 1 /r/s=t;40755 0 0 /r/t=;100644 1000000000 4 /r/t/f=t/f$;@100644 1000000000 4 /r/s/f=\n\
 1000000100^100644 0 - 78981922613b2afb6025042ff6bd878ac1994e85 1000000000 2 1 1 1 2 a;100644 0 - 61780798228d17af2d34fce4cfbdf35556832472 1000000000 1 2 1 1 2 b;100644 0 - f2ad6c76f0115a6ba5b00456a849810e7ec0af20 1000000000 1 1 2 1 2 c;100644 0 - 4bcfe98e640c8284511312660fb8709b0afa888e 1000000000 1 1 1 2 2 d;100644 0 - d905d9da82c97264ab6f4920e20242e088850ce9 1000000000 1 1 1 1 2 e;100644 0 - 6a69f92020f5df77af6e8813ff1232493383b708 1000000000 1 1 1 1 2 f;100644 0 - 01058d844a98d293a3b03a8615a34700e4ed2be3 1000000000 1 1 1 1 3 g;100644 0 - 6e9f0da13f19b444ec3a9c3d6e795ad35c0554a2 1000000001 1 1 1 1 2 h;100644 0 - 0ddf2bae71d08623786db120996eea00b75f8237 1000000000 1 1 1 1 2 i^100644 1000000000 2 /r/a=a$;100644 1000000000 2 /r/b=b$;100644 1000000000 2 /r/c=c$;100644 1000000000 2 /r/d=d$;100644 1000000000 2 /r/e=e$;100644 1000000000 2 /r/f=f$;100644 1000000000 2 /r/g=g$;100644 1000000000 2 /r/h=h$;100644 1000000000 2 /r/i=i$\n\
 1000000100^100644 0 - 78981922613b2afb6025042ff6bd878ac1994e85 1000000000 1 1 1 1 2 a;100644 0 - 61780798228d17af2d34fce4cfbdf35556832472 1000000000 1 1 1 1 2 b;100644 0 - f2ad6c76f0115a6ba5b00456a849810e7ec0af20 1000000000 1 1 1 1 2 c;100644 0 - 4bcfe98e640c8284511312660fb8709b0afa888e 1000000000 1 1 1 1 2 d^100644 1000000000 4294967298 /r/a=;100644 1000000000 4294967299 /r/b=;100644 4294967291 2 /r/c=c$;100644 5 2 /r/d=d$\n\
 1000000000^100644 0 - 78981922613b2afb6025042ff6bd878ac1994e85 1000000000 1 1 1 1 2 a;100644 0 - 61780798228d17af2d34fce4cfbdf35556832472 1000000000 1 1 1 1 2 b;100755 0 - 4bcfe98e640c8284511312660fb8709b0afa888e 1000000000 1 1 1 1 2 d;120000 0 - 2e65efe2a145dda7ee51d1741299f848e5bf752e 1000000000 1 1 1 1 1 l;120000 0 - 63d8dbd40c23542e740659a7168a0ce3138ea748 1000000000 1 1 1 1 1 m;120000 0 - 2e65efe2a145dda7ee51d1741299f848e5bf752e 1000000000 1 1 1 1 0 n;100644 0 - db14662e0d9ae688d472c43694942422e6761df1 1000000000 1 1 1 1 4 x/c;100644 0 - e69de29bb2d1d6434b8b29ae775ad8c2e48c5391 1000000000 1 1 1 1 0 z^100644 1000000000 2 /r/a=a$;100644 1000000000 2 /r/b=B$;100644 1000000000 2 /r/d=d$;120777 1000000000 1 /r/l=a;120777 1000000000 1 /r/m=c;120777 1000000000 1 /r/n=a;40755 0 0 /r/x=;100644 1000000000 0 /r/z=;100644 1000000000 4 /r/x/c=Y/c$\n\
@@ -134,4 +134,161 @@ pub const ROWS: &[u8] = b"\
 18^^^!Repository\n\
 19^core.autocrlf=true^^!Conversion\n\
 20^submodule.a.ignore=all^^!IgnoredSubmodule\n\
+";
+
+/// What `git ls-files` prints of the same trees to its output and to standard error, with path specs as they are told, `&`, and as they are from the top; behind `!` the form that is refused.
+pub const LISTED: &[u8] = b"\
+0^-t|-d|-m^^R d$C d$C e$C f$C g$C h$R k/x$C k/x$C l$C m$C o$C p$^\n\
+0^-d^^d$k/x$^\n\
+0^-m^^d$e$f$g$h$k/x$l$m$o$p$^\n\
+0^-t|-d|-m|core.fileMode=false^^R d$C d$C g$C h$R k/x$C k/x$C l$C m$C o$C p$^\n\
+0^-t|-d|-m|core.symlinks=false^^R d$C d$C e$C f$C g$C h$R k/x$C k/x$C l$C m$C o$C p$^\n\
+0^-t|-d|-m|core.fileMode=false|core.symlinks=false^^R d$C d$C g$C h$R k/x$C k/x$C l$C m$C o$C p$^\n\
+0^-c|-t|-d|-m^^H a$H b$H c$H d$R d$C d$H e$C e$H f$C f$H g$C g$H h$C h$H k/x$R k/x$C k/x$H l$C l$H m$C m$H o$C o$H p$C p$H s/f$H t/f$^\n\
+0^-d|-m^^d$d$e$f$g$h$k/x$k/x$l$m$o$p$^\n\
+0^-d|-m|--deduplicate^^d$e$f$g$h$k/x$l$m$o$p$^\n\
+0^-c|-d|-m|--deduplicate^^a$b$c$d$e$f$g$h$k/x$l$m$o$p$s/f$t/f$^\n\
+0^-t|-d|-m|--deduplicate^^R d$C d$C e$C f$C g$C h$R k/x$C k/x$C l$C m$C o$C p$^\n\
+0^-s|-d|-m^^100644 78981922613b2afb6025042ff6bd878ac1994e85 0\ta$100644 61780798228d17af2d34fce4cfbdf35556832472 0\tb$100644 f2ad6c76f0115a6ba5b00456a849810e7ec0af20 0\tc$100644 4bcfe98e640c8284511312660fb8709b0afa888e 0\td$100644 4bcfe98e640c8284511312660fb8709b0afa888e 0\td$100644 4bcfe98e640c8284511312660fb8709b0afa888e 0\td$100755 d905d9da82c97264ab6f4920e20242e088850ce9 0\te$100755 d905d9da82c97264ab6f4920e20242e088850ce9 0\te$100644 6a69f92020f5df77af6e8813ff1232493383b708 0\tf$100644 6a69f92020f5df77af6e8813ff1232493383b708 0\tf$100644 01058d844a98d293a3b03a8615a34700e4ed2be3 0\tg$100644 01058d844a98d293a3b03a8615a34700e4ed2be3 0\tg$100644 6e9f0da13f19b444ec3a9c3d6e795ad35c0554a2 0\th$100644 6e9f0da13f19b444ec3a9c3d6e795ad35c0554a2 0\th$100644 a34cbfb7759dcb079eb55487976f586063fd7793 0\tk/x$100644 a34cbfb7759dcb079eb55487976f586063fd7793 0\tk/x$100644 a34cbfb7759dcb079eb55487976f586063fd7793 0\tk/x$120000 2e65efe2a145dda7ee51d1741299f848e5bf752e 0\tl$120000 2e65efe2a145dda7ee51d1741299f848e5bf752e 0\tl$120000 2e65efe2a145dda7ee51d1741299f848e5bf752e 0\tm$120000 2e65efe2a145dda7ee51d1741299f848e5bf752e 0\tm$120000 2e65efe2a145dda7ee51d1741299f848e5bf752e 0\to$120000 2e65efe2a145dda7ee51d1741299f848e5bf752e 0\to$100644 1a9cc2b7fbfa834924f4c03780d767ccbecf0c9c 0\tp$100644 1a9cc2b7fbfa834924f4c03780d767ccbecf0c9c 0\tp$100644 792831e890858c7eeded8ed42262c13ccd991737 0\ts/f$100644 51251151272086964e133ba78a534e28e089fcfa 0\tt/f$^\n\
+0^-u|-t|-m^^C 100644 4bcfe98e640c8284511312660fb8709b0afa888e 0\td$C 100755 d905d9da82c97264ab6f4920e20242e088850ce9 0\te$C 100644 6a69f92020f5df77af6e8813ff1232493383b708 0\tf$C 100644 01058d844a98d293a3b03a8615a34700e4ed2be3 0\tg$C 100644 6e9f0da13f19b444ec3a9c3d6e795ad35c0554a2 0\th$C 100644 a34cbfb7759dcb079eb55487976f586063fd7793 0\tk/x$C 120000 2e65efe2a145dda7ee51d1741299f848e5bf752e 0\tl$C 120000 2e65efe2a145dda7ee51d1741299f848e5bf752e 0\tm$C 120000 2e65efe2a145dda7ee51d1741299f848e5bf752e 0\to$C 100644 1a9cc2b7fbfa834924f4c03780d767ccbecf0c9c 0\tp$^\n\
+0^-u|-d^^100644 4bcfe98e640c8284511312660fb8709b0afa888e 0\td$100644 a34cbfb7759dcb079eb55487976f586063fd7793 0\tk/x$^\n\
+0^-c|-v|-d|-m^^H a$H b$H c$H d$R d$C d$H e$C e$H f$C f$H g$C g$H h$C h$H k/x$R k/x$C k/x$H l$C l$H m$C m$H o$C o$H p$C p$H s/f$H t/f$^\n\
+0^-v|-m^^C d$C e$C f$C g$C h$C k/x$C l$C m$C o$C p$^\n\
+0^-z|-m^^d\x00e\x00f\x00g\x00h\x00k/x\x00l\x00m\x00o\x00p\x00^\n\
+0^-s|-z|-d^^100644 78981922613b2afb6025042ff6bd878ac1994e85 0\ta\x00100644 61780798228d17af2d34fce4cfbdf35556832472 0\tb\x00100644 f2ad6c76f0115a6ba5b00456a849810e7ec0af20 0\tc\x00100644 4bcfe98e640c8284511312660fb8709b0afa888e 0\td\x00100644 4bcfe98e640c8284511312660fb8709b0afa888e 0\td\x00100755 d905d9da82c97264ab6f4920e20242e088850ce9 0\te\x00100644 6a69f92020f5df77af6e8813ff1232493383b708 0\tf\x00100644 01058d844a98d293a3b03a8615a34700e4ed2be3 0\tg\x00100644 6e9f0da13f19b444ec3a9c3d6e795ad35c0554a2 0\th\x00100644 a34cbfb7759dcb079eb55487976f586063fd7793 0\tk/x\x00100644 a34cbfb7759dcb079eb55487976f586063fd7793 0\tk/x\x00120000 2e65efe2a145dda7ee51d1741299f848e5bf752e 0\tl\x00120000 2e65efe2a145dda7ee51d1741299f848e5bf752e 0\tm\x00120000 2e65efe2a145dda7ee51d1741299f848e5bf752e 0\to\x00100644 1a9cc2b7fbfa834924f4c03780d767ccbecf0c9c 0\tp\x00100644 792831e890858c7eeded8ed42262c13ccd991737 0\ts/f\x00100644 51251151272086964e133ba78a534e28e089fcfa 0\tt/f\x00^\n\
+0^-m|--full-name^^d$e$f$g$h$k/x$l$m$o$p$^\n\
+0^-t|-d|-m^a&::a^^\n\
+0^-t|-d|-m^b&::b|d&::d^R d$C d$^\n\
+0^-t|-d|-m^:!b&:!:b|&:(literal)^R d$C d$C e$C f$C g$C h$R k/x$C k/x$C l$C m$C o$C p$^\n\
+0^-t|-d|-m^nowhere&::nowhere^^\n\
+0^-t|-d|-m^[a-d]&::[a-d]^R d$C d$^\n\
+0^-d|--error-unmatch^a&::a^^error: pathspec 'a' did not match any file(s) known to git$Did you forget to 'git add'?$\n\
+0^-d|--error-unmatch^b&::b|d&::d^d$^error: pathspec 'b' did not match any file(s) known to git$Did you forget to 'git add'?$\n\
+0^-d|--error-unmatch^d&::d|:!d&:!:d^^\n\
+0^-d|--error-unmatch^nowhere&::nowhere|b&::b^^error: pathspec 'nowhere' did not match any file(s) known to git$error: pathspec 'b' did not match any file(s) known to git$Did you forget to 'git add'?$\n\
+0^-d|--error-unmatch^:!b&:!:b|&:(literal)^d$k/x$^\n\
+0^-m|--error-unmatch^a&::a^^error: pathspec 'a' did not match any file(s) known to git$Did you forget to 'git add'?$\n\
+0^-m|--error-unmatch^b&::b|d&::d^d$^error: pathspec 'b' did not match any file(s) known to git$Did you forget to 'git add'?$\n\
+0^-m|--error-unmatch^d&::d|:!d&:!:d^^\n\
+0^-m|--error-unmatch^nowhere&::nowhere|b&::b^^error: pathspec 'nowhere' did not match any file(s) known to git$error: pathspec 'b' did not match any file(s) known to git$Did you forget to 'git add'?$\n\
+0^-m|--error-unmatch^:!b&:!:b|&:(literal)^d$e$f$g$h$k/x$l$m$o$p$^\n\
+0^-c|-d|-m|--error-unmatch^[a]&::[a]^a$^\n\
+0^-c|-d|-m|--error-unmatch^[b]&::[b]|[d]&::[d]^b$d$d$d$^\n\
+0^-c|-d|-m|--error-unmatch^nowhere&::nowhere|?&::?^a$b$c$d$d$d$e$e$f$f$g$g$h$h$l$l$m$m$o$o$p$p$^error: pathspec 'nowhere' did not match any file(s) known to git$Did you forget to 'git add'?$\n\
+1^-t|-d|-m^^C g$^\n\
+1^-d^^^\n\
+1^-m^^g$^\n\
+1^-t|-d|-m|core.trustctime=false^^C g$^\n\
+1^-t|-d|-m|core.checkStat=minimal^^C g$^\n\
+1^-t|-d|-m|core.checkStat=minimal|core.trustctime=false^^C g$^\n\
+2^-t|-d|-m^^C b$^\n\
+2^-d^^^\n\
+2^-m^^b$^\n\
+3^-t|-d|-m^^C b$C d$C m$C x/c$^\n\
+3^-d^^^\n\
+3^-m^^b$d$m$x/c$^\n\
+3^-t|-d|-m|core.fileMode=false^^C b$C m$C x/c$^\n\
+3^-t|-d|-m|core.symlinks=false^^C b$C d$C m$C x/c$^\n\
+4^-t|-d|-m^^C b$C d$C m$C x/c$^\n\
+4^-d^^^\n\
+4^-m^^b$d$m$x/c$^\n\
+5^-t|-d|-m^^C d$^\n\
+5^-d^^^\n\
+5^-m^^d$^\n\
+6^-t|-d|-m^^C d$^\n\
+6^-d^^^\n\
+6^-m^^d$^\n\
+7^-t|-d|-m^^C d$^\n\
+7^-d^^^\n\
+7^-m^^d$^\n\
+8^-t|-d|-m^^C b$C c$^\n\
+8^-d^^^\n\
+8^-m^^b$c$^\n\
+9^-t|-d|-m^^C a$^\n\
+9^-d^^^\n\
+9^-m^^a$^\n\
+10^-t|-d|-m^^C l$C m$C n$^\n\
+10^-d^^^\n\
+10^-m^^l$m$n$^\n\
+10^-t|-d|-m|core.symlinks=false^^C m$C n$^\n\
+10^-t|-d|-m|core.symlinks=false|core.fileMode=false^^C m$C n$^\n\
+11^-t|-d|-m^^C a$C b$C b$C c$R d$C d$C e$R f$C f$R f$C f$C g$C g$C h$^\n\
+11^-d^^d$f$f$^\n\
+11^-m^^a$b$b$c$d$e$f$f$g$g$h$^\n\
+11^-t|-d|-m|core.fileMode=false^^C b$C b$C c$R d$C d$C e$R f$C f$R f$C f$C g$C g$C h$^\n\
+11^-t|-d|-m|core.symlinks=false^^C a$C b$C b$C c$R d$C d$C e$R f$C f$R f$C f$C g$C g$C h$^\n\
+11^-c|-t|-d|-m^^M a$M a$C a$M a$M b$C b$M b$C b$M c$C c$M d$R d$C d$M e$C e$M f$R f$C f$M f$R f$C f$M g$C g$M g$C g$M h$M h$C h$M i$^\n\
+11^-d|-m^^a$b$b$c$d$d$e$f$f$f$f$g$g$h$^\n\
+11^-d|-m|--deduplicate^^a$b$c$d$e$f$g$h$^\n\
+11^-c|-d|-m|--deduplicate^^a$b$c$d$e$f$g$h$i$^\n\
+11^-t|-d|-m|--deduplicate^^C a$C b$C b$C c$R d$C d$C e$R f$C f$R f$C f$C g$C g$C h$^\n\
+11^-s|-d|-m^^100644 78981922613b2afb6025042ff6bd878ac1994e85 1\ta$100755 78981922613b2afb6025042ff6bd878ac1994e85 2\ta$100755 78981922613b2afb6025042ff6bd878ac1994e85 2\ta$100644 78981922613b2afb6025042ff6bd878ac1994e85 3\ta$100644 78981922613b2afb6025042ff6bd878ac1994e85 1\tb$100644 78981922613b2afb6025042ff6bd878ac1994e85 1\tb$100644 78981922613b2afb6025042ff6bd878ac1994e85 3\tb$100644 78981922613b2afb6025042ff6bd878ac1994e85 3\tb$100644 78981922613b2afb6025042ff6bd878ac1994e85 2\tc$100644 78981922613b2afb6025042ff6bd878ac1994e85 2\tc$100644 78981922613b2afb6025042ff6bd878ac1994e85 1\td$100644 78981922613b2afb6025042ff6bd878ac1994e85 1\td$100644 78981922613b2afb6025042ff6bd878ac1994e85 1\td$120000 78981922613b2afb6025042ff6bd878ac1994e85 3\te$120000 78981922613b2afb6025042ff6bd878ac1994e85 3\te$120000 78981922613b2afb6025042ff6bd878ac1994e85 2\tf$120000 78981922613b2afb6025042ff6bd878ac1994e85 2\tf$120000 78981922613b2afb6025042ff6bd878ac1994e85 2\tf$100644 78981922613b2afb6025042ff6bd878ac1994e85 3\tf$100644 78981922613b2afb6025042ff6bd878ac1994e85 3\tf$100644 78981922613b2afb6025042ff6bd878ac1994e85 3\tf$100755 78981922613b2afb6025042ff6bd878ac1994e85 1\tg$100755 78981922613b2afb6025042ff6bd878ac1994e85 1\tg$100644 78981922613b2afb6025042ff6bd878ac1994e85 2\tg$100644 78981922613b2afb6025042ff6bd878ac1994e85 2\tg$160000 78981922613b2afb6025042ff6bd878ac1994e85 2\th$100644 78981922613b2afb6025042ff6bd878ac1994e85 3\th$100644 78981922613b2afb6025042ff6bd878ac1994e85 3\th$160000 78981922613b2afb6025042ff6bd878ac1994e85 3\ti$^\n\
+11^-u|-t|-m^^M 100644 78981922613b2afb6025042ff6bd878ac1994e85 1\ta$M 100755 78981922613b2afb6025042ff6bd878ac1994e85 2\ta$C 100755 78981922613b2afb6025042ff6bd878ac1994e85 2\ta$M 100644 78981922613b2afb6025042ff6bd878ac1994e85 3\ta$M 100644 78981922613b2afb6025042ff6bd878ac1994e85 1\tb$C 100644 78981922613b2afb6025042ff6bd878ac1994e85 1\tb$M 100644 78981922613b2afb6025042ff6bd878ac1994e85 3\tb$C 100644 78981922613b2afb6025042ff6bd878ac1994e85 3\tb$M 100644 78981922613b2afb6025042ff6bd878ac1994e85 2\tc$C 100644 78981922613b2afb6025042ff6bd878ac1994e85 2\tc$M 100644 78981922613b2afb6025042ff6bd878ac1994e85 1\td$C 100644 78981922613b2afb6025042ff6bd878ac1994e85 1\td$M 120000 78981922613b2afb6025042ff6bd878ac1994e85 3\te$C 120000 78981922613b2afb6025042ff6bd878ac1994e85 3\te$M 120000 78981922613b2afb6025042ff6bd878ac1994e85 2\tf$C 120000 78981922613b2afb6025042ff6bd878ac1994e85 2\tf$M 100644 78981922613b2afb6025042ff6bd878ac1994e85 3\tf$C 100644 78981922613b2afb6025042ff6bd878ac1994e85 3\tf$M 100755 78981922613b2afb6025042ff6bd878ac1994e85 1\tg$C 100755 78981922613b2afb6025042ff6bd878ac1994e85 1\tg$M 100644 78981922613b2afb6025042ff6bd878ac1994e85 2\tg$C 100644 78981922613b2afb6025042ff6bd878ac1994e85 2\tg$M 160000 78981922613b2afb6025042ff6bd878ac1994e85 2\th$M 100644 78981922613b2afb6025042ff6bd878ac1994e85 3\th$C 100644 78981922613b2afb6025042ff6bd878ac1994e85 3\th$M 160000 78981922613b2afb6025042ff6bd878ac1994e85 3\ti$^\n\
+11^-u|-d^^100644 78981922613b2afb6025042ff6bd878ac1994e85 1\ta$100755 78981922613b2afb6025042ff6bd878ac1994e85 2\ta$100644 78981922613b2afb6025042ff6bd878ac1994e85 3\ta$100644 78981922613b2afb6025042ff6bd878ac1994e85 1\tb$100644 78981922613b2afb6025042ff6bd878ac1994e85 3\tb$100644 78981922613b2afb6025042ff6bd878ac1994e85 2\tc$100644 78981922613b2afb6025042ff6bd878ac1994e85 1\td$100644 78981922613b2afb6025042ff6bd878ac1994e85 1\td$120000 78981922613b2afb6025042ff6bd878ac1994e85 3\te$120000 78981922613b2afb6025042ff6bd878ac1994e85 2\tf$120000 78981922613b2afb6025042ff6bd878ac1994e85 2\tf$100644 78981922613b2afb6025042ff6bd878ac1994e85 3\tf$100644 78981922613b2afb6025042ff6bd878ac1994e85 3\tf$100755 78981922613b2afb6025042ff6bd878ac1994e85 1\tg$100644 78981922613b2afb6025042ff6bd878ac1994e85 2\tg$160000 78981922613b2afb6025042ff6bd878ac1994e85 2\th$100644 78981922613b2afb6025042ff6bd878ac1994e85 3\th$160000 78981922613b2afb6025042ff6bd878ac1994e85 3\ti$^\n\
+11^-c|-v|-d|-m^^M a$M a$C a$M a$M b$C b$M b$C b$M c$C c$M d$R d$C d$M e$C e$M f$R f$C f$M f$R f$C f$M g$C g$M g$C g$M h$M h$C h$M i$^\n\
+11^-v|-m^^C a$C b$C b$C c$C d$C e$C f$C f$C g$C g$C h$^\n\
+11^-z|-m^^a\x00b\x00b\x00c\x00d\x00e\x00f\x00f\x00g\x00g\x00h\x00^\n\
+11^-s|-z|-d^^100644 78981922613b2afb6025042ff6bd878ac1994e85 1\ta\x00100755 78981922613b2afb6025042ff6bd878ac1994e85 2\ta\x00100644 78981922613b2afb6025042ff6bd878ac1994e85 3\ta\x00100644 78981922613b2afb6025042ff6bd878ac1994e85 1\tb\x00100644 78981922613b2afb6025042ff6bd878ac1994e85 3\tb\x00100644 78981922613b2afb6025042ff6bd878ac1994e85 2\tc\x00100644 78981922613b2afb6025042ff6bd878ac1994e85 1\td\x00100644 78981922613b2afb6025042ff6bd878ac1994e85 1\td\x00120000 78981922613b2afb6025042ff6bd878ac1994e85 3\te\x00120000 78981922613b2afb6025042ff6bd878ac1994e85 2\tf\x00120000 78981922613b2afb6025042ff6bd878ac1994e85 2\tf\x00100644 78981922613b2afb6025042ff6bd878ac1994e85 3\tf\x00100644 78981922613b2afb6025042ff6bd878ac1994e85 3\tf\x00100755 78981922613b2afb6025042ff6bd878ac1994e85 1\tg\x00100644 78981922613b2afb6025042ff6bd878ac1994e85 2\tg\x00160000 78981922613b2afb6025042ff6bd878ac1994e85 2\th\x00100644 78981922613b2afb6025042ff6bd878ac1994e85 3\th\x00160000 78981922613b2afb6025042ff6bd878ac1994e85 3\ti\x00^\n\
+11^-m|--full-name^^a$b$b$c$d$e$f$f$g$g$h$^\n\
+11^-t|-d|-m^a&::a^C a$^\n\
+11^-t|-d|-m^b&::b|d&::d^C b$C b$R d$C d$^\n\
+11^-t|-d|-m^:!b&:!:b|&:(literal)^C a$C c$R d$C d$C e$R f$C f$R f$C f$C g$C g$C h$^\n\
+11^-t|-d|-m^nowhere&::nowhere^^\n\
+11^-t|-d|-m^[a-d]&::[a-d]^C a$C b$C b$C c$R d$C d$^\n\
+12^-t|-d|-m^^R d$C d$C e$R f$C f$C g$C i$R n/x$C n/x$^\n\
+12^-d^^d$f$n/x$^\n\
+12^-m^^d$e$f$g$i$n/x$^\n\
+12^-t|-d|-m|core.sparseCheckout=true^^C a$R d$C d$C e$R f$C f$C g$C i$R n/x$C n/x$^\n\
+12^-t|-d|-m|core.sparseCheckout=true|sparse.expectFilesOutsideOfPatterns=true^^R d$C d$C e$R f$C f$C g$C i$R n/x$C n/x$^\n\
+12^-t|-d|-m|core.fileMode=false^^R d$C d$C e$R f$C f$C g$C i$R n/x$C n/x$^\n\
+12^-c|-t|-d|-m^^S a$S b$H c$H d$R d$C d$H e$C e$H f$R f$C f$H g$C g$H i$C i$H n/x$R n/x$C n/x$^\n\
+12^-d|-m^^d$d$e$f$f$g$i$n/x$n/x$^\n\
+12^-d|-m|--deduplicate^^d$e$f$g$i$n/x$^\n\
+12^-c|-d|-m|--deduplicate^^a$b$c$d$e$f$g$i$n/x$^\n\
+12^-t|-d|-m|--deduplicate^^R d$C d$C e$R f$C f$C g$C i$R n/x$C n/x$^\n\
+12^-s|-d|-m^^100644 78981922613b2afb6025042ff6bd878ac1994e85 0\ta$100644 61780798228d17af2d34fce4cfbdf35556832472 0\tb$100644 f2ad6c76f0115a6ba5b00456a849810e7ec0af20 0\tc$100644 4bcfe98e640c8284511312660fb8709b0afa888e 0\td$100644 4bcfe98e640c8284511312660fb8709b0afa888e 0\td$100644 4bcfe98e640c8284511312660fb8709b0afa888e 0\td$100644 e69de29bb2d1d6434b8b29ae775ad8c2e48c5391 0\te$100644 e69de29bb2d1d6434b8b29ae775ad8c2e48c5391 0\te$100644 e69de29bb2d1d6434b8b29ae775ad8c2e48c5391 0\tf$100644 e69de29bb2d1d6434b8b29ae775ad8c2e48c5391 0\tf$100644 e69de29bb2d1d6434b8b29ae775ad8c2e48c5391 0\tf$120000 e69de29bb2d1d6434b8b29ae775ad8c2e48c5391 0\tg$120000 e69de29bb2d1d6434b8b29ae775ad8c2e48c5391 0\tg$100644 e69de29bb2d1d6434b8b29ae775ad8c2e48c5391 0\ti$100644 e69de29bb2d1d6434b8b29ae775ad8c2e48c5391 0\ti$100644 e69de29bb2d1d6434b8b29ae775ad8c2e48c5391 0\tn/x$100644 e69de29bb2d1d6434b8b29ae775ad8c2e48c5391 0\tn/x$100644 e69de29bb2d1d6434b8b29ae775ad8c2e48c5391 0\tn/x$^\n\
+12^-u|-t|-m^^C 100644 4bcfe98e640c8284511312660fb8709b0afa888e 0\td$C 100644 e69de29bb2d1d6434b8b29ae775ad8c2e48c5391 0\te$C 100644 e69de29bb2d1d6434b8b29ae775ad8c2e48c5391 0\tf$C 120000 e69de29bb2d1d6434b8b29ae775ad8c2e48c5391 0\tg$C 100644 e69de29bb2d1d6434b8b29ae775ad8c2e48c5391 0\ti$C 100644 e69de29bb2d1d6434b8b29ae775ad8c2e48c5391 0\tn/x$^\n\
+12^-u|-d^^100644 4bcfe98e640c8284511312660fb8709b0afa888e 0\td$100644 e69de29bb2d1d6434b8b29ae775ad8c2e48c5391 0\tf$100644 e69de29bb2d1d6434b8b29ae775ad8c2e48c5391 0\tn/x$^\n\
+12^-c|-v|-d|-m^^S a$S b$h c$h d$r d$c d$H e$C e$H f$R f$C f$H g$C g$H i$C i$H n/x$R n/x$C n/x$^\n\
+12^-v|-m^^c d$C e$C f$C g$C i$C n/x$^\n\
+12^-z|-m^^d\x00e\x00f\x00g\x00i\x00n/x\x00^\n\
+12^-s|-z|-d^^100644 78981922613b2afb6025042ff6bd878ac1994e85 0\ta\x00100644 61780798228d17af2d34fce4cfbdf35556832472 0\tb\x00100644 f2ad6c76f0115a6ba5b00456a849810e7ec0af20 0\tc\x00100644 4bcfe98e640c8284511312660fb8709b0afa888e 0\td\x00100644 4bcfe98e640c8284511312660fb8709b0afa888e 0\td\x00100644 e69de29bb2d1d6434b8b29ae775ad8c2e48c5391 0\te\x00100644 e69de29bb2d1d6434b8b29ae775ad8c2e48c5391 0\tf\x00100644 e69de29bb2d1d6434b8b29ae775ad8c2e48c5391 0\tf\x00120000 e69de29bb2d1d6434b8b29ae775ad8c2e48c5391 0\tg\x00100644 e69de29bb2d1d6434b8b29ae775ad8c2e48c5391 0\ti\x00100644 e69de29bb2d1d6434b8b29ae775ad8c2e48c5391 0\tn/x\x00100644 e69de29bb2d1d6434b8b29ae775ad8c2e48c5391 0\tn/x\x00^\n\
+12^-m|--full-name^^d$e$f$g$i$n/x$^\n\
+12^-t|-d|-m^a&::a^^\n\
+12^-t|-d|-m^b&::b|d&::d^R d$C d$^\n\
+12^-t|-d|-m^:!b&:!:b|&:(literal)^R d$C d$C e$R f$C f$C g$C i$R n/x$C n/x$^\n\
+12^-t|-d|-m^nowhere&::nowhere^^\n\
+12^-t|-d|-m^[a-d]&::[a-d]^R d$C d$^\n\
+12^-d|--error-unmatch^a&::a^^error: pathspec 'a' did not match any file(s) known to git$Did you forget to 'git add'?$\n\
+12^-d|--error-unmatch^b&::b|d&::d^d$^error: pathspec 'b' did not match any file(s) known to git$Did you forget to 'git add'?$\n\
+12^-d|--error-unmatch^d&::d|:!d&:!:d^^\n\
+12^-d|--error-unmatch^nowhere&::nowhere|b&::b^^error: pathspec 'nowhere' did not match any file(s) known to git$error: pathspec 'b' did not match any file(s) known to git$Did you forget to 'git add'?$\n\
+12^-d|--error-unmatch^:!b&:!:b|&:(literal)^d$f$n/x$^\n\
+12^-m|--error-unmatch^a&::a^^error: pathspec 'a' did not match any file(s) known to git$Did you forget to 'git add'?$\n\
+12^-m|--error-unmatch^b&::b|d&::d^d$^error: pathspec 'b' did not match any file(s) known to git$Did you forget to 'git add'?$\n\
+12^-m|--error-unmatch^d&::d|:!d&:!:d^^\n\
+12^-m|--error-unmatch^nowhere&::nowhere|b&::b^^error: pathspec 'nowhere' did not match any file(s) known to git$error: pathspec 'b' did not match any file(s) known to git$Did you forget to 'git add'?$\n\
+12^-m|--error-unmatch^:!b&:!:b|&:(literal)^d$e$f$g$i$n/x$^\n\
+12^-c|-d|-m|--error-unmatch^[a]&::[a]^a$^\n\
+12^-c|-d|-m|--error-unmatch^[b]&::[b]|[d]&::[d]^b$d$d$d$^\n\
+12^-c|-d|-m|--error-unmatch^nowhere&::nowhere|?&::?^a$b$c$d$d$d$e$e$f$f$f$g$g$i$i$^error: pathspec 'nowhere' did not match any file(s) known to git$Did you forget to 'git add'?$\n\
+13^-t|-d|-m^^C b$C c$C d$R e$C e$^\n\
+13^-d^^e$^\n\
+13^-m^^b$c$d$e$^\n\
+13^-t|-d|-m|core.symlinks=false^^C b$C c$C d$R e$C e$^\n\
+13^-t|-d|-m|submodule.a.ignore=all^^C b$C c$C d$R e$C e$^\n\
+13^-t|-d|-m|submodule.a.ignore=none^^C b$C c$C d$R e$C e$^\n\
+14^-t|-d|-m^^C p$R q$C q$C r$C s$^\n\
+14^-d^^q$^\n\
+14^-m^^p$q$r$s$^\n\
+15^-t|-d|-m^^R a b$C a b$R \"a\\\"b\"$C \"a\\\"b\"$R \"d\\\\e/z\"$C \"d\\\\e/z\"$R \"q\\tt\"$C \"q\\tt\"$R \"\\303\\251\"$C \"\\303\\251\"$^\n\
+15^-d^^a b$\"a\\\"b\"$\"d\\\\e/z\"$\"q\\tt\"$\"\\303\\251\"$^\n\
+15^-m^^a b$\"a\\\"b\"$\"d\\\\e/z\"$\"q\\tt\"$\"\\303\\251\"$^\n\
+15^-t|-d|-m|core.quotePath=false^^R a b$C a b$R \"a\\\"b\"$C \"a\\\"b\"$R \"d\\\\e/z\"$C \"d\\\\e/z\"$R \"q\\tt\"$C \"q\\tt\"$R \xc3\xa9$C \xc3\xa9$^\n\
+16^-t|-d|-m^^^\n\
+16^-d^^^\n\
+16^-m^^^\n\
+17^-m^^a$^\n\
+18^-m^^!Repository^\n\
+19^-m|core.autocrlf=true^^!Conversion^\n\
 ";

@@ -37,7 +37,7 @@ fn answered_in(
 }
 
 /// The word of a form that is refused.
-fn word_of(form: Unsupported) -> &'static [u8] {
+pub fn word_of(form: Unsupported) -> &'static [u8] {
     match form {
         Unsupported::Repository => b"!Repository",
         Unsupported::Conversion => b"!Conversion",
@@ -60,7 +60,7 @@ fn is_answer(alloc: Global, answer: &Result<Differences, DiffError>, want: &[u8]
 }
 
 /// The tree of a number.
-fn tree_at(number: u64) -> &'static [u8] {
+pub fn tree_at(number: u64) -> &'static [u8] {
     let mut left = number;
     for line in TREES.lines() {
         if left == 0 {

@@ -8,6 +8,10 @@ mod differences;
 #[cfg(test)]
 mod disk;
 #[cfg(test)]
+mod listing_words;
+#[cfg(test)]
+mod listings;
+#[cfg(test)]
 mod tree;
 #[cfg(test)]
 mod words;

@@ -179,12 +179,25 @@ fn target_of(alloc: Global, mode: u32, holds: &[u8]) -> Option<Bytes> {
     Bytes::from_slice(alloc, holds).ok()
 }
 
-/// A node, put at its path of a tree.
+/// A node, put at its path of a tree unless a `@` stands in front.
 fn made_node(alloc: Global, tree: &mut MemoryWorktree, text: &[u8]) -> Option<StatNode> {
     let (words, rest) = parted(text, b'=');
     let holds = meant(alloc, rest)?;
-    let node = node_of(alloc, words, &holds)?;
-    if !is_put(alloc, tree, node.path.as_bytes(), node.stat.mode, &holds) {
+    let Some(words) = words.strip_prefix(b"@".as_slice()) else {
+        return put_node(alloc, tree, words, &holds);
+    };
+    node_of(alloc, words, &holds)
+}
+
+/// The same of what a tree has.
+fn put_node(
+    alloc: Global,
+    tree: &mut MemoryWorktree,
+    words: &[u8],
+    holds: &[u8],
+) -> Option<StatNode> {
+    let node = node_of(alloc, words, holds)?;
+    if !is_put(alloc, tree, node.path.as_bytes(), node.stat.mode, holds) {
         return None;
     }
     Some(node)

@@ -63,7 +63,7 @@ pub fn comparison_of(index_time: u32, words: &[u8]) -> Comparison {
     comparison
 }
 
-fn spec_of(alloc: Global, text: &[u8]) -> Option<Spec> {
+pub fn spec_of(alloc: Global, text: &[u8]) -> Option<Spec> {
     Spec::parse(alloc, text, Defaults { ignore_case: false }).ok()
 }
 

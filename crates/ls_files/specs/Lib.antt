@@ -8,4 +8,6 @@ pub mod Unmatched
 pub mod Alone
 pub mod Walking
 pub mod Listed
+pub mod ChangedErrors
+pub mod Changed
 pub mod Wrong

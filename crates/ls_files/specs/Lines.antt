@@ -7,6 +7,9 @@ use Rattle.gitbase_core.specs.declared.entry.IndexEntry.{IndexEntry}
 use Rattle.git_paths.specs.QuotedNames.{quoted}
 use Rattle.git_paths.specs.RelativeNames.{relative_from}
 use Rattle.ls_files.specs.declared.listing.Listing.{Listing}
+use Rattle.ls_files.specs.declared.shown.Sign.{Sign}
+use Rattle.ls_files.specs.declared.shown.Sign.TheVariants as signs
+use Rattle.ls_files.specs.Places.{Shown}
 use Rattle.ls_files.specs.Choices.{is_of_a_merge, shows_stages}
 
 -- ---- names
@@ -76,3 +79,16 @@ other_line l prefix path = tag l 63 ++ name_text l prefix path
 -- of what lies in its way: `K`, and the path
 abbrev pub killed_line : Listing → List ℕ → List ℕ → List ℕ
 killed_line l prefix path = tag l 75 ++ name_text l prefix path
+
+-- `R` for an entry of which nothing is there, `C` for one of which nothing is there or something else
+abbrev pub letter_by : Sign → IndexEntry → ℕ
+letter_by signs.Kept e = letter e
+letter_by signs.Gone e = 82
+letter_by signs.Modified e = 67
+
+abbrev pub letter_of : Listing → Shown → ℕ
+letter_of l shown = if is_small l shown.entry then letter_by shown.sign shown.entry + 32 else letter_by shown.sign shown.entry
+
+-- the line of an entry, by as what it is shown
+unfoldable pub shown_line : Listing → List ℕ → Shown → List ℕ
+shown_line l prefix shown = tag l (letter_of l shown) ++ stages_if l shown.entry ++ name_text l prefix shown.entry.path

@@ -1,6 +1,13 @@
--- Paths, and whether directories stand there.
+-- Paths, and whether directories stand there; and entries of an index as they are shown.
 use Rattle.std.specs.Prelude.{ℕ, List, Bool}
+use Rattle.gitbase_core.specs.declared.entry.IndexEntry.{IndexEntry}
+use Rattle.ls_files.specs.declared.shown.Sign.{Sign}
 
 pub record Place : Type 0 where
   pub path : List ℕ
   pub holds_names : Bool
+
+-- an entry, and as what it is shown
+pub record Shown : Type 0 where
+  pub entry : IndexEntry
+  pub sign : Sign

@@ -4,10 +4,12 @@ use Rattle.std.specs.List.{list_any}
 use Rattle.std.specs.Option.{option_or}
 use Rattle.gitbase_core.specs.Entry.{mode_bits, dir_mode}
 use Rattle.gitbase_core.specs.declared.entry.IndexEntry.{IndexEntry}
+use Rattle.diff_files.specs.declared.error.Unsupported.{Unsupported}
+use Rattle.diff_files.specs.declared.error.Unsupported.TheVariants as forms
 use Rattle.ls_files.specs.declared.listing.Listing.{Listing}
 use Rattle.ls_files.specs.declared.wrong.WrongListing.{WrongListing}
 use Rattle.ls_files.specs.declared.wrong.WrongListing.TheVariants as wrong
-use Rattle.ls_files.specs.Choices.{asks_rules, shows_index}
+use Rattle.ls_files.specs.Choices.{asks_rules, shows_index, walks}
 use Rattle.ls_files.specs.Alone.{are_alone}
 
 -- "-i: Show only ignored files in the output. Must be used with either an explicit -c or -o."
@@ -45,6 +47,18 @@ wrong_index l entries = if (shows_index l || l.killed) && list_any is_sparse ent
 abbrev pub wrong_in : Listing → List IndexEntry → Option WrongListing
 wrong_in l entries = option_or (wrong_if_ignored l) (option_or (wrong_rules l) (wrong_index l entries))
 
+-- the same of a listing with what changed; what else a work tree holds is not listed beside that here
+abbrev pub wrong_beside : Listing → Option WrongListing
+wrong_beside l = option_or (wrong_if_ignored l) (if walks l then Some wrong.ChangedAndOthers else None)
+
+-- what is told of a form that is not answered
+abbrev pub unsupported_text : Unsupported → List ℕ
+unsupported_text forms.Repository = codes "ls-files -m is not supported where a repository stands"
+unsupported_text forms.Conversion = codes "ls-files -m is not supported where bytes are converted"
+unsupported_text forms.IgnoredSubmodule = codes "ls-files -m is not supported for ignored submodules"
+unsupported_text forms.SparseIndex = codes "ls-files is not supported for what a sparse index has"
+unsupported_text forms.Details = codes "ls-files has no stat fields of an entry"
+
 -- what is told of it
 abbrev pub wrong_text : WrongListing → List ℕ
 wrong_text wrong.IgnoredOfNothing = codes "ls-files -i must be used with either -o or -c"
@@ -53,3 +67,5 @@ wrong_text wrong.IgnoredIndex = codes "ls-files -i is not supported for what the
 wrong_text wrong.IgnoredDirectories = codes "ls-files -i is not supported with --directory"
 wrong_text wrong.SparseIndex = codes "ls-files is not supported for what a sparse index has"
 wrong_text wrong.PatternsAlone = codes "ls-files -x alone is not supported with -k or --directory"
+wrong_text wrong.ChangedAndOthers = codes "ls-files -d and -m are not supported with -o and -k"
+wrong_text (wrong.Unsupported form) = unsupported_text form

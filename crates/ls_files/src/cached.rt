@@ -26,7 +26,7 @@ pub fn is_directory(entry: &IndexEntry) -> bool
     entry.mode.is_submodule() || entry.mode.is_sparse()
 }
 
-fn is_entry_matched(specs: &Search, entry: &IndexEntry) -> bool
+pub fn is_entry_matched(specs: &Search, entry: &IndexEntry) -> bool
     ensures { result ≡ cached.is_entry_matched specs.now entry.now }
 {
     is_matched(specs, entry.path.as_bytes(), is_directory(entry))
@@ -57,7 +57,7 @@ pub fn shows_index(listing: &Listing) -> bool
 }
 
 /// Whether an entry is of the kind that is shown.
-fn is_of_kind(listing: &Listing, entry: &IndexEntry) -> bool
+pub fn is_of_kind(listing: &Listing, entry: &IndexEntry) -> bool
     ensures { result ≡ choices.is_of_kind listing.now entry.now }
 {
     !listing.unmerged | (entry.stage != 0)
@@ -71,7 +71,7 @@ pub fn is_chosen(listing: &Listing, entry: &IndexEntry) -> bool
 }
 
 /// Whether each path of the index is shown once.
-fn is_once(listing: &Listing) -> bool
+pub fn is_once(listing: &Listing) -> bool
     ensures { result ≡ choices.is_once listing.now }
 {
     if listing.tags {
@@ -99,7 +99,7 @@ fn add_entry_if(
 }
 
 /// Whether each path is shown once, and this is the last one.
-fn is_again(listing: &Listing, last: Option<&[u8]>, entry: &IndexEntry) -> bool
+pub fn is_again(listing: &Listing, last: Option<&[u8]>, entry: &IndexEntry) -> bool
     ensures { result ≡ choices.is_again listing.now (option_copied last.entry) entry.now }
 {
     match last {

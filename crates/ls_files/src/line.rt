@@ -6,6 +6,7 @@ ghost use Rattle.ls_files.specs.Lines as lines;
 
 use crate::listing::Listing;
 use crate::naming::add_name;
+use crate::shown::{Shown, Sign};
 use gitbase_core::{Flags, IndexEntry, Mode, OutOfMemory};
 use std::alloc::Global;
 
@@ -159,4 +160,54 @@ pub fn add_killed(
 {
     add_tag(text, listing, b'K')?;
     add_name(alloc, text, listing, prefix, path)
+}
+
+/// The letter of an entry, by as what it is shown.
+fn letter_by(sign: Sign, entry: &IndexEntry) -> u8
+    ensures { result ≡ lines.letter_by sign entry.now }
+{
+    match sign {
+        Sign::Kept => letter(entry),
+        Sign::Gone => b'R',
+        Sign::Modified => b'C',
+    }
+}
+
+/// The same as a small one.
+fn small_by(sign: Sign, entry: &IndexEntry) -> u8
+    ensures { result ≡ lines.letter_by sign entry.now + 32 }
+{
+    match sign {
+        Sign::Kept => small(entry),
+        Sign::Gone => b'r',
+        Sign::Modified => b'c',
+    }
+}
+
+/// The letter of an entry, as it is shown.
+fn letter_of(listing: &Listing, shown: &Shown<'_>) -> u8
+    ensures { result ≡ lines.letter_of listing.now shown.now }
+{
+    if is_small(listing, shown.entry()) {
+        return small_by(shown.sign(), shown.entry());
+    }
+    letter_by(shown.sign(), shown.entry())
+}
+
+/// Adds the line of an entry, by as what it is shown.
+#[tactic(auto, unfolding(crate::specs::Lines::shown_line))]
+pub fn add_shown(
+    alloc: Global,
+    text: &mut Vec<u8>,
+    listing: &Listing,
+    prefix: &[u8],
+    shown: &Shown<'_>,
+) -> Result<(), OutOfMemory>
+    ensures { OnOk result (text.new.items
+        ≡ text.old.items ++ lines.shown_line listing.now prefix.now shown.now) }
+{
+    let entry = shown.entry();
+    add_tag(text, listing, letter_of(listing, shown))?;
+    add_stage_if(alloc, text, listing, entry)?;
+    add_name(alloc, text, listing, prefix, entry.path.as_bytes())
 }

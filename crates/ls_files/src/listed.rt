@@ -35,7 +35,7 @@ impl Listed {
 }
 
 /// The path of an entry, and whether it is that of a directory.
-fn place_of_entry(entry: &IndexEntry) -> Place<'_>
+pub fn place_of_entry(entry: &IndexEntry) -> Place<'_>
     ensures { result ≡ place_of_entry entry.now }
 {
     Place::new(entry.path.as_bytes(), is_directory(entry))

@@ -36,7 +36,7 @@ fn matches_alone(place: &Place<'_>, named: &NamedSpec) -> bool
 }
 
 /// Whether one of some specs does.
-fn is_named(all: &[NamedSpec], place: &Place<'_>) -> bool
+pub fn is_named(all: &[NamedSpec], place: &Place<'_>) -> bool
     ensures { result ≡ words.is_named all.now place.now }
 {
     all.iter().any(|named| matches_alone(place, named))

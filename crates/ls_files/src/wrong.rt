@@ -4,8 +4,9 @@ ghost use Rattle.std.specs.List.{list_any};
 ghost use Rattle.ls_files.specs.Wrong as words;
 
 use crate::alone::are_alone;
-use crate::cached::{asks_rules, shows_index};
+use crate::cached::{asks_rules, shows_index, walks};
 use crate::listing::Listing;
+use diff_files::Unsupported;
 use gitbase_core::{IndexEntry, State};
 
 /// Why there is no such listing: in git, or not here.
@@ -24,6 +25,23 @@ pub enum WrongListing {
     SparseIndex,
     /// `-x` alone with `-k` or `--directory`, which is not answered here.
     PatternsAlone,
+    /// `-d` or `-m` with `-o` or `-k`, which is not answered here.
+    ChangedAndOthers,
+    /// What stands at a path has a form that is not answered here; only with `-d` and `-m`.
+    Unsupported(Unsupported),
+}
+
+/// What is told of a form that is not answered.
+fn unsupported_text(form: Unsupported) -> &'static [u8]
+    ensures { result.now ≡ words.unsupported_text form }
+{
+    match form {
+        Unsupported::Repository => b"ls-files -m is not supported where a repository stands",
+        Unsupported::Conversion => b"ls-files -m is not supported where bytes are converted",
+        Unsupported::IgnoredSubmodule => b"ls-files -m is not supported for ignored submodules",
+        Unsupported::SparseIndex => b"ls-files is not supported for what a sparse index has",
+        Unsupported::Details => b"ls-files has no stat fields of an entry",
+    }
 }
 
 impl WrongListing {
@@ -40,6 +58,10 @@ impl WrongListing {
             WrongListing::PatternsAlone => {
                 b"ls-files -x alone is not supported with -k or --directory"
             }
+            WrongListing::ChangedAndOthers => {
+                b"ls-files -d and -m are not supported with -o and -k"
+            }
+            WrongListing::Unsupported(form) => unsupported_text(*form),
         }
     }
 }
@@ -138,4 +160,22 @@ pub fn wrong_in(listing: &Listing, index: &State) -> Option<WrongListing>
         return second;
     }
     wrong_index(listing, index)
+}
+
+/// Why there is no listing with what changed of an index, the first reason that git asks for; none
+/// where there is one.
+///
+/// See docs/DIFFERENCES.md#list-ignored-forms.
+/// See docs/DIFFERENCES.md#list-changed-and-others.
+pub fn wrong_beside(listing: &Listing) -> Option<WrongListing>
+    ensures { result ≡ words.wrong_beside listing.now }
+{
+    let first = wrong_if_ignored(listing);
+    if first.is_some() {
+        return first;
+    }
+    if walks(listing) {
+        return Some(WrongListing::ChangedAndOthers);
+    }
+    None
 }

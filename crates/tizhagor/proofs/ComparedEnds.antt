@@ -1,9 +1,8 @@
--- What follows of how the top call ends, with `diff-files` among the commands.
+-- What follows of how the top call ends, with what is told by stats among the commands.
 use Rattle.std.proofs.Common.{◌≡◌, ◌⊎◌, ◌≤◌, ◌<◌, inl, inr, ℕ, List, Bool, true, false, Option, Some, Result, Ok, Err, IfErr, sym, ap, ◌∙◌, subst, refl, arith}
 use Rattle.diff_files.specs.Stats.{Told}
 use Rattle.diff_files.specs.declared.stats.Stats.{Ghosts as StatsOf}
 use Rattle.command_line.specs.declared.command.Request.{Request}
-use Rattle.command_line.specs.declared.comparing.Comparing.{Comparing}
 use Rattle.git_places.specs.Answers.{GivesBy}
 use Rattle.git_setup.specs.declared.asked.Asked.{Asked}
 use Rattle.worktree_fs.specs.declared.interrupt.Interrupt.{Ghosts as InterruptOf}

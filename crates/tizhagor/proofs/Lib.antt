@@ -5,5 +5,6 @@ pub mod Finding
 pub mod Here
 pub mod Ended
 pub mod Besides
+pub mod Changes
 pub mod Checked
 pub mod ComparedEnds

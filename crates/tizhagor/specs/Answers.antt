@@ -16,7 +16,6 @@ use Rattle.command_line.specs.declared.checking.CheckAsked.{CheckAsked}
 use Rattle.command_line.specs.declared.command.Command.{Command}
 use Rattle.command_line.specs.declared.command.Command.TheVariants as commands
 use Rattle.command_line.specs.declared.command.Request.{Request}
-use Rattle.command_line.specs.declared.comparing.Comparing.{Comparing}
 use Rattle.command_line.specs.declared.misuse.Misuse.TheVariants.{Word}
 use Rattle.command_line.specs.declared.misuse.Wrong.{Wrong}
 use Rattle.command_line.specs.declared.verb.Topic.{Topic}
@@ -36,6 +35,7 @@ use Rattle.tizhagor.specs.Checking.{answered_in}
 use Rattle.tizhagor.specs.Checks.{Checks}
 use Rattle.tizhagor.specs.OwnWords.{OwnWord, Says, cleaning_of, listing_of, word_in}
 use Rattle.tizhagor.specs.Replies.{SaysPlainly}
+use Rattle.tizhagor.specs.StatWords.{StatWord, changes_of, differences_of}
 use Rattle.tizhagor.specs.Refusals.{fault, memory, IsOfFinding}
 use Rattle.tizhagor.specs.Texts.{TextsBy}
 use Rattle.tizhagor.specs.Writing.{written}
@@ -127,12 +127,12 @@ pub record Offers {W I O : Type 0} (w0 w1 : W) (i0 i1 : I) (o0 o1 : O) (text : L
 -- ---- what the words ask for
 
 -- what a command asks for: a call, with what it asks of the work tree and how its text is written; one of git's own words; `check-ignore`,
--- which needs no setup; `diff-files`, which is told by stats too; or a text that is always the same
+-- which needs no setup; a word that is told by stats too; or a text that is always the same
 pub data Task : Type 0 where
   call_of : Call → Asked → Writing → Task
   word_of : OwnWord → Asked → Task
   check_of : CheckAsked → Asked → Task
-  compare_of : Comparing → Asked → Task
+  compare_of : StatWord → Asked → Task
   offer_of : List ℕ → Task
 
 -- `takes_colors` says whether the output takes colours
@@ -142,9 +142,10 @@ task_of takes_colors (commands.Plan asked what finding form) = call_of (calls.Pl
 task_of takes_colors (commands.Modules asked) = call_of calls.Modules (asked_for calls.Modules asked) writings.AsItIs
 task_of takes_colors (commands.State asked form) = call_of calls.State (asked_for calls.State asked) (writings.Lines (styled form takes_colors))
 task_of takes_colors (commands.Files asked wants) = word_of (listing_of wants) asked
+task_of takes_colors (commands.Changed asked wants standings) = compare_of (changes_of wants standings) asked
 task_of takes_colors (commands.Clean asked wants) = word_of (cleaning_of wants) asked
 task_of takes_colors (commands.Check asked checking) = check_of checking asked
-task_of takes_colors (commands.Compare asked comparing) = compare_of comparing asked
+task_of takes_colors (commands.Compare asked comparing) = compare_of (differences_of comparing) asked
 task_of takes_colors (commands.Help topic) = offer_of (help_of topic)
 task_of takes_colors commands.Version = offer_of version
 
@@ -168,7 +169,7 @@ word_at place directory word asked t owned = word_in t owned place.current place
 abbrev pub answered_at : Place → Option (List ℕ) → CheckAsked → Asked → Names → Owned → Result Reply HereRefusal
 answered_at place directory wants asked t owned = answered_in t owned place.current place.variables directory asked wants place.input
 
--- what a task is answered with; `diff-files` is answered beside these
+-- what a task is answered with; what is told by stats too is answered beside these
 abbrev pub AnswersTask : {W I O : Type 0} → WorktreeOf W → InterruptOf I → OwnersOf O → W → W → I → I → O → O → Place → Option (List ℕ) → Result Reply HereRefusal → Task → Type 0
 AnswersTask w i o w0 w1 i0 i1 o0 o1 place directory answer (call_of call asked writing) = SaysPlainly (AnswersCall w i o w0 w1 i0 i1 o0 o1 (found_at place directory asked) call writing) answer
 AnswersTask w i o w0 w1 i0 i1 o0 o1 place directory answer (word_of word asked) = AnswersWord w i o w0 w1 i0 i1 o0 o1 (word_at place directory word asked) word answer

@@ -16,6 +16,7 @@ reads (commands.Plan asked what finding form) = false
 reads (commands.Modules asked) = false
 reads (commands.State asked form) = false
 reads (commands.Files asked wants) = false
+reads (commands.Changed asked wants standings) = false
 reads (commands.Clean asked wants) = false
 reads (commands.Compare asked comparing) = false
 reads (commands.Check asked wants) = check_reads asked wants

@@ -19,6 +19,8 @@ pub mod Writing
 pub mod Written
 pub mod Compares
 pub mod Comparing
+pub mod Changing
+pub mod StatWords
 pub mod Checks
 pub mod Checking
 pub mod Answers

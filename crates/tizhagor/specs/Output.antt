@@ -37,7 +37,7 @@ pub record IsSaidOf (composes : Bool) (t : Names) (found : Result Found HereRefu
   pub found_is : found ≡ Ok here
   pub reply_is : said_for composes t here word ≡ Some reply
 
--- the reply is the one that is asked for over the tree; what `diff-files` says is told beside these, as it is by stats too
+-- the reply is the one that is asked for over the tree; what is told by stats too is told beside these
 abbrev pub IsReplyFor : Bool → Names → Owned → Place → Option (List ℕ) → Reply → Task → Type 0
 IsReplyFor composes t owned place directory reply (call_of call asked writing) = IsBytesOf composes t (found_at place directory asked t owned) call writing reply.out × IsPlain reply
 IsReplyFor composes t owned place directory reply (word_of word asked) = IsSaidOf composes t (word_at place directory word asked t owned) word reply

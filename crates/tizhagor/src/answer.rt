@@ -16,6 +16,7 @@ ghost use Rattle.tizhagor.specs.Replies.{SaysPlainly, plain};
 ghost use Rattle.tizhagor.specs.declared.reply.Reply.{Reply as ReplyOf};
 
 use crate::call::Call;
+use crate::changed::changed_here;
 use crate::check::check_here;
 use crate::clean::clean_here;
 use crate::compare::compare_here;
@@ -162,6 +163,14 @@ fn reply_of<W: CountsFaults, O: Owners, D: Stats, I: Interrupt>(
         Command::Files { asked, files } => files_here(
             alloc, worktree, owners, interrupt, current, variables, directory, &files, &asked,
         ),
+        Command::Changed {
+            asked,
+            files,
+            standings,
+        } => changed_here(
+            alloc, worktree, owners, stats, current, variables, directory, &asked, &files,
+            standings,
+        ),
         Command::Clean { asked, clean } => clean_here(
             alloc, worktree, owners, interrupt, current, variables, directory, &clean, asked,
         ),
@@ -226,7 +235,8 @@ fn reply_asked<W: CountsFaults, O: Owners, D: Stats, I: Interrupt>(
 /// | 129 | a word is wrong; the line names it |
 /// | 130 | the interrupt was raised, and counted it |
 ///
-/// A work tree is read where it is the user's or safe, as `owners` tell whose it is. What `diff-files` asks of nodes besides, `stats` tell.
+/// A work tree is read where it is the user's or safe, as `owners` tell whose it is. What `diff-files`, and `ls-files` with `-d` or
+/// `-m`, ask of nodes besides, `stats` tell.
 ///
 /// With a status above 1 nothing goes to `out`, but where `out` itself refused bytes, a front of them. With each status above 1 a line goes
 /// to `err`, with 129 the usage behind it, with 0 none; that of a fault names the path of the worktree's first one. A refusal of `err`
@@ -323,7 +333,7 @@ pub fn answer_here<W: NamesFault, O: Owners, D: Stats, I: Interrupt, S: Sink, E:
         → NotIncreased (S.refusals out.old) (S.refusals out.new)
         → (result ≤ 1) ⊎ IsToldOf E.Sink err.old err.new memory_line 128 result }
 
-    // `diff-files`, over a told tree, told owners and told stats, with no fault counted: it ends as what is found over them does, with its
+    // What is told by stats, over a told tree, told owners and told stats, with no fault counted: it ends as what is found over them does, with its
     // reply or with the line of its refusal; or want of memory is told.
     ensures compared { (t : Names) (owned : Owned) (told : Told)
         (wanted : ResultOf ReplyOf HereRefusal)

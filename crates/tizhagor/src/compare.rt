@@ -131,7 +131,7 @@ fn index_time<W: Worktree, D: Stats>(
 }
 
 /// The same of the git directory of a work tree.
-fn time_of_index<W: Worktree, D: Stats>(
+pub fn time_of_index<W: Worktree, D: Stats>(
     alloc: Global,
     worktree: &mut W,
     stats: &mut D,
@@ -196,7 +196,7 @@ fn submodules_by(ignoring: Ignoring, ignores: bool) -> Submodules
 }
 
 /// The comparison that the words ask for, by what the configuration and the files say.
-fn comparison_of(comparing: &Comparing, settings: &Settings, index_time: u32) -> Comparison
+pub fn comparison_of(comparing: &Comparing, settings: &Settings, index_time: u32) -> Comparison
     ensures { result ≡ words.comparison_of comparing.now settings.now index_time }
 {
     Comparison {

@@ -30,7 +30,7 @@ fn with_patterns(listing: &Listing, patterns: bool) -> Listing
 }
 
 /// What is listed. Whether there are patterns is said by these.
-fn listing_said(wants: &FilesAsked) -> Listing
+pub fn listing_said(wants: &FilesAsked) -> Listing
     ensures { result ≡ words.listing_said wants.now }
 {
     with_patterns(&wants.listing, is_any(&wants.patterns))
@@ -64,7 +64,7 @@ fn listable_here<W: Worktree, O: Owners>(
 }
 
 /// The listing, with what the configuration says of how paths are written.
-fn listing_with(listing: &Listing, quote_path: bool) -> Listing
+pub fn listing_with(listing: &Listing, quote_path: bool) -> Listing
     ensures { result ≡ words.listing_with listing.now quote_path }
 {
     let mut listing = *listing;

@@ -35,6 +35,11 @@ fn reads(command: &Command) -> bool
         Command::Modules { asked: _ } => false,
         Command::State { asked: _, form: _ } => false,
         Command::Files { asked: _, files: _ } => false,
+        Command::Changed {
+            asked: _,
+            files: _,
+            standings: _,
+        } => false,
         Command::Clean { asked: _, clean: _ } => false,
         Command::Compare {
             asked: _,

@@ -3,6 +3,7 @@
 
 mod answer;
 mod call;
+mod changed;
 mod check;
 mod clean;
 mod cleaning;

@@ -86,7 +86,7 @@ ls-files -o --exclude=#d -x e --exclude-per-directory=.gitignore^/w^^/w/#d=;/w/.
 ls-files -ox b^/w^^^0^.gitignore~c.o~d/e~^|\
 ls-files -oix d^/w^^^0^d/e~^|\
 ls-files -kx b^/w^^^128^^fatal: ls-files -x alone is not supported with -k or --directory~|\
-ls-files -od^/w^^^129^^error: switch `d' is git's, and is not answered here~usage: tizhagor [-C DIR] ls-files|\
+ls-files -oX^/w^^^129^^error: switch `X' is git's, and is not answered here~usage: tizhagor [-C DIR] ls-files|\
 clean -n^/w^^^0^Would remove .gitignore~Would remove b~^|\
 clean b -X -nd .^/w^^^0^Would remove c.o~^|\
 clean -ndx ..^/w/d^^^0^Would remove ../.gitignore~Would remove ../b~Would remove ../c.o~Would refuse to remove current working directory~Would remove ./e~^|\
@@ -105,6 +105,13 @@ diff-files^/w^^^0^:100644 000000 587be6b4c3f93f93c489c0111bba5596147a26cb 000000
 diff-files --exit-code --name-only --raw^/w^^^1^a~^|\
 diff-files --quiet^/w^^^1^^|\
 diff-files -- nowhere^/w^^^0^^|\
+ls-files -m^/w^^^0^a~^|\
+-C d ls-files -t -d -m -- ..^/w^^^0^R ../a~C ../a~^|\
+ls-files -d^/w/d^^^0^^|\
+ls-files -m -c^/w^^%/w/a=f\x05\x02^0^a~^|\
+ls-files -m^/w^^%/w/a=f\x05\x02;/w/a=y~^0^a~^|\
+ls-files -d --error-unmatch b^/w^^^1^^error: pathspec 'b' did not match any file(s) known to git~Did you forget to 'git add'?~|\
+ls-files -m -o^/w^^^128^^fatal: ls-files -d and -m are not supported with -o and -k~|\
 -C d diff-files --name-status -q -- ..^/w^^^0^D\ta~^|\
 diff-files^/w^^%/w/a=f\x05\x02^0^:100644 100644 587be6b4c3f93f93c489c0111bba5596147a26cb 0000000000000000000000000000000000000000 M\ta~^|\
 diff-files^/w^^/w/.git/config=[core]~fileMode=false~;%/w/a=x\x05\x02^0^:100644 100644 587be6b4c3f93f93c489c0111bba5596147a26cb 0000000000000000000000000000000000000000 M\ta~^|\

@@ -1,0 +1,69 @@
+//! Which paths of an index `ls-files` shows by what stands in the work tree.
+ghost use Rattle.std.specs.Prelude.{◌≡◌};
+ghost use Rattle.command_line.specs.ChangeWords as words;
+
+use crate::choice::Choice;
+use ls_files::Standings;
+
+/// Whether `-d` and `-m` stand among the words.
+#[derive(Clone, Copy, Debug, PartialEq, Eq)]
+pub struct ChangeWords {
+    /// `-d`.
+    pub deleted: bool,
+    /// `-m`.
+    pub modified: bool,
+}
+
+/// Neither stands where no word says any.
+pub fn no_changes() -> ChangeWords
+    ensures { result ≡ words.no_changes }
+{
+    ChangeWords {
+        deleted: false,
+        modified: false,
+    }
+}
+
+/// The same with one choice made or dropped; all but two choices are about something else.
+pub fn with_change(changes: ChangeWords, choice: Choice, on: bool) -> ChangeWords
+    ensures { result ≡ words.with_change choice on changes }
+{
+    let mut changes = changes;
+    match choice {
+        Choice::Deleted => changes.deleted = on,
+        Choice::Modified => changes.modified = on,
+        Choice::Cached => {}
+        Choice::Stages => {}
+        Choice::Unmerged => {}
+        Choice::Others => {}
+        Choice::Killed => {}
+        Choice::Ignored => {}
+        Choice::Directories => {}
+        Choice::EmptyDirectories => {}
+        Choice::ExcludesStandard => {}
+        Choice::ExcludesDirectories => {}
+        Choice::ErrorUnmatch => {}
+        Choice::Tags => {}
+        Choice::Valid => {}
+        Choice::Nul => {}
+        Choice::Deduplicates => {}
+        Choice::FullNames => {}
+    }
+    changes
+}
+
+/// Which paths are shown so; none where neither stands.
+pub fn standings_of(changes: ChangeWords) -> Option<Standings>
+    ensures { result ≡ words.standings_of changes }
+{
+    if changes.deleted {
+        if changes.modified {
+            return Some(Standings::Both);
+        }
+        return Some(Standings::Deleted);
+    }
+    if changes.modified {
+        return Some(Standings::Modified);
+    }
+    None
+}

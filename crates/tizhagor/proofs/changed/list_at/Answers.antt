@@ -1,0 +1,22 @@
+use Rattle.std.proofs.Common.{ℕ, ap}
+use Rattle.std.proofs.lemmas.Result.{err_from_is_err_and}
+use Rattle.gitbase_core.specs.Steps.{and_then}
+use Rattle.tizhagor.specs.Changing.{listed_at, listed_read}
+use Rattle.tizhagor.specs.Comparing.{index_time}
+use Rattle.tizhagor.proofs.Besides.{goes_on, stops}
+use Rattle.tizhagor.proofs.changed.list_at.Goals as goal
+
+pub returns-in_err-time-clause-finds : goal.returns-in_err-time-clause-finds
+returns-in_err-time-clause-finds g c =
+    let p = err_from_is_err_and c.from_residual.result c.from_residual.ensures.1 in
+    rw (p.1, p.2)
+    (stops g.W.Worktree g.D.Stats _ _ _ _ c.in_err-time.field-0.0 (λ t told. index_time t told c.args.placed.now.places.git) (λ t told. listed_at t told c.args.placed.now c.args.asked.now c.args.wants.now c.args.standings)
+    (λ t told h. ap (and_then (λ (time : ℕ). listed_read t told c.args.placed.now c.args.asked.now c.args.wants.now c.args.standings time)) h)
+    c.in_err-time.ensures.finds)
+
+pub returns-clause-finds : goal.returns-clause-finds
+returns-clause-finds g c =
+    goes_on g.W.Worktree g.D.Stats _ _ _ _ _ _ c.in_ok-time.time (λ t told. index_time t told c.args.placed.now.places.git) (λ t told. listed_read t told c.args.placed.now c.args.asked.now c.args.wants.now c.args.standings c.in_ok-time.time)
+    (λ t told. listed_at t told c.args.placed.now c.args.asked.now c.args.wants.now c.args.standings) c.list_read.result
+    (λ t told h. ap (and_then (λ (time : ℕ). listed_read t told c.args.placed.now c.args.asked.now c.args.wants.now c.args.standings time)) h)
+    c.in_ok-time.ensures.finds c.list_read.ensures.finds

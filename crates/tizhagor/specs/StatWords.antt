@@ -1,0 +1,24 @@
+-- The words whose answer is told by stats too.
+use Rattle.std.specs.Prelude.{ℕ, List, Option, Result}
+use Rattle.command_line.specs.declared.command.FilesAsked.{FilesAsked}
+use Rattle.command_line.specs.declared.comparing.Comparing.{Comparing}
+use Rattle.diff_files.specs.Stats.{Told}
+use Rattle.git_places.specs.Variables.{Variable}
+use Rattle.git_setup.specs.declared.asked.Asked.{Asked}
+use Rattle.ls_files.specs.declared.standings.Standings.{Standings}
+use Rattle.worktree_fs.specs.Owners.{Owned}
+use Rattle.worktree_fs.specs.Tree.{Names}
+use Rattle.tizhagor.specs.declared.refusal.HereRefusal.{HereRefusal}
+use Rattle.tizhagor.specs.declared.reply.Reply.{Reply}
+use Rattle.tizhagor.specs.Changing.{listed_in}
+use Rattle.tizhagor.specs.Comparing.{replied_in}
+
+-- `diff-files`, and `ls-files` with `-d` or `-m`, each with what is asked of it
+pub data StatWord : Type 0 where
+  differences_of : Comparing → StatWord
+  changes_of : FilesAsked → Standings → StatWord
+
+-- what is said of the work tree around a directory, or the first refusal
+abbrev pub told_in : Names → Owned → Told → List ℕ → List Variable → Option (List ℕ) → Asked → StatWord → Result Reply HereRefusal
+told_in t owned told current variables directory asked (differences_of comparing) = replied_in t owned told current variables directory asked comparing
+told_in t owned told current variables directory asked (changes_of wants standings) = listed_in t owned told current variables directory asked wants standings
