@@ -4,12 +4,13 @@ use crate::tree::{parted, tree_of};
 use git_places::{Ceilings, Limits, PlacesError};
 use std::alloc::Global;
 
-/// Rows: the word of the refusal and the file in which its cause stands, and the tree, in whose directory `/w/t` is asked.
+/// Rows: the word of the refusal and the file in which its cause stands, and the tree, in whose directory `/w/t` is asked. A file of
+/// the common directory is spelled as `commondir` leads to it.
 const ROWS: &[u8] = b"\
 version /w/t/.git/config^g /w/t/.git;f /w/t/.git/config=[core]~repositoryformatversion=2~\n\
-version /w/m/.git/config^g /w/m/.git;d /w/t/a;f /w/t/.git=gitdir: /w/m/.git/worktrees/t~;f /w/m/.git/worktrees/t/HEAD=ref: refs/heads/x~;f /w/m/.git/worktrees/t/commondir=../..~;f /w/m/.git/config=[core]~repositoryformatversion=x~\n\
+version /w/m/.git/worktrees/t/../../config^g /w/m/.git;d /w/t/a;f /w/t/.git=gitdir: /w/m/.git/worktrees/t~;f /w/m/.git/worktrees/t/HEAD=ref: refs/heads/x~;f /w/m/.git/worktrees/t/commondir=../..~;f /w/m/.git/config=[core]~repositoryformatversion=x~\n\
 extension /w/t/.git/config^g /w/t/.git;f /w/t/.git/config=[core]~repositoryformatversion=1~[extensions]~x=1~\n\
-extension /w/m/.git/config^g /w/m/.git;d /w/t/a;f /w/t/.git=gitdir: /w/m/.git/worktrees/t~;f /w/m/.git/worktrees/t/HEAD=ref: refs/heads/x~;f /w/m/.git/worktrees/t/commondir=../..~;f /w/m/.git/config=[core]~repositoryformatversion=1~[extensions.a]~x=1~\n\
+extension /w/m/.git/worktrees/t/../../config^g /w/m/.git;d /w/t/a;f /w/t/.git=gitdir: /w/m/.git/worktrees/t~;f /w/m/.git/worktrees/t/HEAD=ref: refs/heads/x~;f /w/m/.git/worktrees/t/commondir=../..~;f /w/m/.git/config=[core]~repositoryformatversion=1~[extensions.a]~x=1~\n\
 sha256 /w/t/.git/config^g /w/t/.git;f /w/t/.git/config=[core]~repositoryformatversion=1~[extensions]~objectformat=sha256~\n\
 value /w/t/.git/config^g /w/t/.git;f /w/t/.git/config=[core]~repositoryformatversion=0~bare=maybe~\n\
 value /w/t/.git/config^g /w/t/.git;f /w/t/.git/config=[core]~repositoryformatversion=0~worktree=~\n\
