@@ -23,3 +23,5 @@ pub mod Sayings
 pub mod StandingStates
 pub mod Bodies
 pub mod Hearing
+pub mod Cores
+pub mod Tabled

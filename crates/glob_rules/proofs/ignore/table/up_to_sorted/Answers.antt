@@ -1,0 +1,22 @@
+use Rattle.std.proofs.Common.{ℕ, ◌≡◌, List, Option, Some, sym, ap, ◌∙◌, option_copied, arith}
+use Rattle.glob_rules.proofs.Tabled.{all_found, other_path, same_path}
+use Rattle.glob_rules.proofs.ignore.table.up_to_sorted.Goals as goal
+
+pub returns-in-Some-clause-all : goal.returns-in-Some-clause-all
+returns-in-Some-clause-all c =
+    let more = c.up_to_core.ensures.more in
+    let before = c.up_to_ending-found.ensures.more in
+    all_found c.args.name.now (option_copied c.args.relative) c.args.is_dir c.args.entries.now c.args.sorted.now c.up_to_core.result c.requires.cores
+    (λ k there same pass. omega (arith, c.up_to_core-found.ensures.all k there same pass, more, before))
+    (λ k i there up low dot same pass. omega (arith, c.up_to_ending-found.ensures.all k i there up low dot same pass, more))
+    (λ path is k there same pass.
+    let here : path ≡ c.in-Some.path.now = same_path path c.in-Some.path.now (sym is ∙ ap (λ o. option_copied o) c.in-Some.is) in
+    c.up_to_core.ensures.all k there (same ∙ here) pass)
+
+pub returns-in-None-clause-all : goal.returns-in-None-clause-all
+returns-in-None-clause-all c =
+    let before = c.up_to_ending-found.ensures.more in
+    all_found c.args.name.now (option_copied c.args.relative) c.args.is_dir c.args.entries.now c.args.sorted.now c.up_to_ending-found.result c.requires.cores
+    (λ k there same pass. omega (arith, c.up_to_core-found.ensures.all k there same pass, before))
+    c.up_to_ending-found.ensures.all
+    (λ path is. absurd (other_path (option_copied c.args.relative) path (ap (λ o. option_copied o) c.in-None.is) is))
