@@ -1,13 +1,12 @@
 -- What a rule that is found by its core matches tells the core.
-use Rattle.std.proofs.Common.{◌≡◌, ℕ, suc, ◌+◌, ◌-◌, ◌≤◌, ◌<◌, ◌⊎◌, inl, inr, Bool, true, false, cond, not, ◌&&◌, ◌||◌, ◌==◌, List, [], ◌∷◌, map, length, take, drop, get_or, Option, Some, None, IsTrue, refl, ap, sym, ◌∙◌, subst, arith}
+use Rattle.std.proofs.Common.{◌≡◌, ℕ, ◌+◌, ◌-◌, ◌<◌, ◌⊎◌, inl, inr, Bool, true, false, cond, not, ◌||◌, ◌==◌, List, [], ◌∷◌, length, drop, get_or, Option, Some, None, refl, ap, sym, ◌∙◌, subst, arith}
 use Rattle.std.specs.Str.{bytes_eq}
-use Rattle.std.proofs.lemmas.Bool.{and_parts, eqb-true, or_parts, false≢true}
-use Rattle.std.proofs.lemmas.List.{get_or-drop, length-drop}
+use Rattle.std.proofs.lemmas.Bool.{and_parts, eqb-true, or_parts}
+use Rattle.std.proofs.lemmas.List.{get_or-drop}
 use Rattle.std.proofs.lemmas.Slice.Eq.{bytes_eq-Decides}
 use Rattle.glob_rules.specs.declared.Case.TheVariants.{Sensitive}
 use Rattle.glob_rules.specs.declared.pattern.Shape.{Shape}
 use Rattle.glob_rules.specs.declared.pattern.Shape.TheVariants.{Plain, Ending, Wild}
-use Rattle.glob_rules.specs.Class.{folded}
 use Rattle.glob_rules.specs.Glob.{is_special, matches}
 use Rattle.glob_rules.specs.Rule.{Rule, mode_of, some_and, is_known_dir, rule_matches_parts}
 use Rattle.glob_rules.specs.Shape.{has_wildcards, shape_of, EndsSo}

@@ -1,18 +1,18 @@
 -- What the tables of a list find.
 use mathlib.Core.List.{reverse-cons}
-use Rattle.std.proofs.Common.{◌≡◌, ℕ, zero, suc, ◌+◌, ◌-◌, ◌<◌, ◌≤◌, ◌⊎◌, inl, inr, Bool, true, false, cond, not, List, [], ◌∷◌, ◌++◌, length, drop, get_or, reverse, Option, Some, None, refl, sym, ap, ◌∙◌, subst, arith}
+use Rattle.std.proofs.Common.{◌≡◌, ℕ, zero, suc, ◌+◌, ◌-◌, ◌<◌, ◌≤◌, ◌⊎◌, inl, inr, Bool, true, false, cond, not, List, [], ◌∷◌, ◌++◌, length, get_or, reverse, Option, Some, None, refl, sym, ap, ◌∙◌, subst, arith}
 use Rattle.std.specs.Prelude.{find, slice_get}
 use Rattle.std.specs.Cmp.{IsTotalOrder}
 use Rattle.std.specs.List.{Contains, filter, range_with_len}
-use Rattle.std.specs.List.Sorted.{IsPermutation, IsSorted, IsPartitionedBy, IsPartitionPoint, IsStrictlyIncreasing}
+use Rattle.std.specs.List.Sorted.{IsSorted, IsPartitionedBy, IsPartitionPoint, IsStrictlyIncreasing}
 use Rattle.std.specs.Option.{option_or}
 use Rattle.std.specs.Ordering.{MatchOrdering, nat_cmp, is_lt, is_le, ordering_then, ordering_reverse}
 use Rattle.std.specs.declared.cmp.Ordering.{Ordering}
 use Rattle.std.specs.declared.cmp.Ordering.TheVariants.{Less, Equal, Greater}
-use Rattle.std.proofs.lemmas.Bool.{cases_lt, cases_Bool, false≢true}
+use Rattle.std.proofs.lemmas.Bool.{cases_lt, false≢true}
 use Rattle.std.proofs.lemmas.Cmp.{nat_list_cmp_total, nat_cmp_total, on_total, then_total, ranked, tied_itself}
 use Rattle.std.proofs.lemmas.List.{get_or_default}
-use Rattle.std.proofs.lemmas.List.Elements.{All-contains, Contains-get_or, Contains-append_cases, filter_passes, filter-append}
+use Rattle.std.proofs.lemmas.List.Elements.{All-contains, Contains-append_cases, filter_passes, filter-append}
 use Rattle.std.proofs.lemmas.List.Folds.{find-append}
 use Rattle.std.proofs.lemmas.List.FromFn.{length-range_with_len, get_or-range_with_len}
 use Rattle.std.proofs.lemmas.List.Kept.{AllPairs-from_increasing, IsStrictlyIncreasing-filter}
@@ -25,8 +25,8 @@ use Rattle.glob_rules.specs.declared.Case.TheVariants.{Sensitive}
 use Rattle.glob_rules.specs.declared.ignore.line.Entry.{Entry}
 use Rattle.glob_rules.specs.Ignore.{last_match}
 use Rattle.glob_rules.specs.Rule.{rule_matches_parts}
-use Rattle.glob_rules.specs.Tables.{core, core_in, core_at, is_found_in, is_found_at, matches_in, matches_at, number_cmp, IsTable, AreFound, EndsWell, HasCore, HasEndings, HasAll}
-use Rattle.glob_rules.proofs.Cores.{TellsCore, IsDotted, tells_core}
+use Rattle.glob_rules.specs.Tables.{core_in, core_at, is_found_in, is_found_at, matches_in, matches_at, number_cmp, IsTable, AreFound, EndsWell, HasCore, HasEndings, HasAll}
+use Rattle.glob_rules.proofs.Cores.{TellsCore, tells_core}
 
 -- ---- the order of the numbers
 

@@ -237,11 +237,7 @@ fn with_number(
 }
 
 /// The numbers of the rules that are found by their cores, or of those that are not, ascending.
-fn numbers_of(
-    alloc: Global,
-    entries: &[Entry],
-    is_found: bool,
-) -> Result<Vec<usize>, OutOfMemory>
+fn numbers_of(alloc: Global, entries: &[Entry], is_found: bool) -> Result<Vec<usize>, OutOfMemory>
     ensures { IfOk result (λ numbers. numbers.items
         ≡ filter (tables.is_kept entries.now is_found) (range_with_len 0 (length entries.now))) }
 {

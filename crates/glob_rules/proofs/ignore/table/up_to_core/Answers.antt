@@ -1,4 +1,4 @@
-use Rattle.std.proofs.Common.{ℕ, ◌≡◌, ◌-◌, ◌<◌, List, Bool, rules, sym, ◌∙◌, subst, option_copied, arith}
+use Rattle.std.proofs.Common.{ℕ, ◌-◌, Bool, rules, sym, ◌∙◌, option_copied, arith}
 use Rattle.std.specs.Ordering.{is_le}
 use Rattle.std.proofs.lemmas.Bool.{false≢true}
 use Rattle.std.proofs.lemmas.List.Sorted.{IsPartitionPoint-from_clause}

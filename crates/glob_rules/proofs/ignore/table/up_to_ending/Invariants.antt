@@ -1,4 +1,4 @@
-use Rattle.std.proofs.Common.{ℕ, length, ◌≤◌, ◌<◌, ◌≡◌, option_copied}
+use Rattle.std.proofs.Common.{length, ◌≤◌, option_copied}
 use Rattle.glob_rules.specs.Tables.{core_at, matches_at, EndsWell, HasEndings}
 use Rattle.glob_rules.proofs.ignore.table.up_to_ending.Given as goal
 

@@ -1,4 +1,4 @@
-use Rattle.std.proofs.Common.{ℕ, ◌≡◌, ◌-◌, ◌<◌, List, Bool, rules, sym, ◌∙◌, subst, option_copied, arith}
+use Rattle.std.proofs.Common.{ℕ, ◌-◌, sym, ◌∙◌, option_copied, arith}
 use Rattle.glob_rules.specs.Tables.{matches_at}
 use Rattle.glob_rules.proofs.Tabled.{past_none, past_below, within}
 use Rattle.glob_rules.proofs.ignore.table.up_to_rest.Goals as goal

@@ -1,4 +1,4 @@
-use Rattle.std.proofs.Common.{ℕ, ◌≡◌, List, Option, Some, sym, ap, ◌∙◌, option_copied, arith}
+use Rattle.std.proofs.Common.{◌≡◌, sym, ap, ◌∙◌, option_copied, arith}
 use Rattle.glob_rules.proofs.Tabled.{all_found, other_path, same_path}
 use Rattle.glob_rules.proofs.ignore.table.up_to_sorted.Goals as goal
 

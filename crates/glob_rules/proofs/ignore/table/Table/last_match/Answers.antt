@@ -1,4 +1,4 @@
-use Rattle.std.proofs.Common.{ℕ, ◌≡◌, ◌-◌, List, sym, ◌∙◌, subst, option_copied, arith}
+use Rattle.std.proofs.Common.{ℕ, ◌-◌, List, sym, ◌∙◌, subst, option_copied, arith}
 use Rattle.std.specs.List.{Contains}
 use Rattle.std.specs.List.Sorted.{IsStrictlyIncreasing}
 use Rattle.gitbase_core.proofs.PathSearch.{got}
