@@ -1,7 +1,7 @@
 -- The traversal root, name by name: as any directory, but of what is opened the worktree counts only itself.
-use Rattle.std.proofs.Common.{◌≡◌, inl, ◌+◌, ap, sym, refl, ◌∙◌, length, arith, eqb-true, rules, ◌-◌, true, false}
+use Rattle.std.proofs.Common.{◌≡◌, inl, ◌+◌, ap, sym, refl, ◌∙◌, length, arith, eqb-true, rules}
 use Rattle.std.proofs.lemmas.Result.{err_from_is_err_and}
-use Rattle.gitbase_core.specs.Path.{joined, is_empty}
+use Rattle.gitbase_core.specs.Path.{joined}
 use Rattle.worktree_fs.specs.Answers.{ListsNames}
 use Rattle.worktree_fs.specs.Causes.{NotIncreased}
 use Rattle.dir_classify.specs.Chosen.{chosen}
@@ -23,7 +23,6 @@ use Rattle.dir_walk.proofs.Rooms.{Hands-none, Hands-empty, Hands-refused, Hands-
 use Rattle.dir_walk.proofs.Refusals.{IsInTree-open, memory-only}
 use Rattle.dir_walk.specs.Unopened.{unlisted_one}
 use Rattle.dir_walk.proofs.Shallow.{shallow-memory}
-use Rattle.dir_classify.specs.Class.{class}
 use Rattle.dir_walk.proofs.children.walk_children.Goals as goal
 
 pub returns-in_err-names-clause-walks : goal.returns-in_err-names-clause-walks

@@ -1,4 +1,4 @@
-use Rattle.std.proofs.Common.{arith, refl, rules}
+use Rattle.std.proofs.Common.{arith, refl}
 use Rattle.dir_walk.proofs.open.open.Goals as goal
 
 pub returns-then-is_raised-clause-interrupt : goal.returns-then-is_raised-clause-interrupt
