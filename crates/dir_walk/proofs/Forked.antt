@@ -12,6 +12,7 @@ use Rattle.dir_classify.specs.declared.classify.Outcome.{Outcome as Class}
 use Rattle.dir_classify.specs.declared.error.Error.{Error}
 use Rattle.dir_classify.specs.declared.error.Error.TheVariants as errors
 use Rattle.dir_classify.specs.declared.error.ReadWhy.TheVariants as whys
+use Rattle.dir_classify.specs.Chosen.{Chosen}
 use Rattle.dir_classify.specs.Excludes.{made_with, InStepIf}
 use Rattle.dir_classify.specs.Layers.{Setting}
 use Rattle.dir_classify.specs.Refused.{OnFault}
@@ -24,8 +25,10 @@ use Rattle.dir_walk.specs.declared.outcome.Outcome.{Outcome}
 use Rattle.dir_walk.specs.Given.{OnRefused, UnlessRefused}
 use Rattle.dir_walk.specs.Jobs.{WalksJob}
 use Rattle.dir_walk.specs.Kept.{OnInterrupt, OnListingFault}
+use Rattle.dir_walk.specs.Moments.{Moment}
 use Rattle.dir_walk.specs.Refused.{DirectoryRefuses}
 use Rattle.dir_walk.specs.Told.{Stands}
+use Rattle.dir_walk.specs.WalkSteps.{EntersStep, WalksAny, WalksTold, at_directory, over_worktree}
 use Rattle.dir_walk.proofs.Emitting.{Within-none}
 use Rattle.dir_walk.proofs.HandedOn.{DirectoryRefuses-weaker}
 use Rattle.dir_walk.proofs.Keeping.{AsksStore-same, KeepsDelegate-same}
@@ -90,6 +93,13 @@ listing-weaker : {T : Type 0} (P Q : Type 0) (result : Result T Stop) → (P →
 listing-weaker P Q (Ok done) f h = tt
 listing-weaker P Q (Err Broken) f h = tt
 listing-weaker P Q (Err (Refused e)) f h = listing-more P Q e f h
+
+-- a directory that is walked is a job, of which the walk alone counts what is opened
+pub job-directory : {W F I D : Type 0} {w : WorktreeOf W} {f : FindOf F} {i : InterruptOf I} {d : DelegateOf D} {before now : Moment W F I D} {given : Setting} {blocked : Option (List ℕ)} {levels : ℕ} {path : List ℕ} {class : Class} {result : Result Handed Stop} {o : Chosen} {names : List (List ℕ)} {own : ℕ}
+    → WalksTold w f d before now given blocked levels (at_directory path class) result → WalksAny w f i d before now given levels (at_directory path class) result
+    → over_worktree w i o names own before now result (EntersStep w f d before now given blocked levels (at_directory path class) result)
+    → WalksJob w f i d before now given blocked levels path class result
+job-directory told walks opens = record { told = told; walks = walks; opens = record { opened = opens.opened; counted = opens.opens.counted; asked = opens.opens.asked; within = opens.within } }
 
 module _ {W F I D : Type 0} (w : WorktreeOf W) (f : FindOf F) (i : InterruptOf I) (d : DelegateOf D) where
   -- ---- no memory for a fork
@@ -236,9 +246,9 @@ module _ {W F I D : Type 0} (w : WorktreeOf W) (f : FindOf F) (i : InterruptOf I
 
   -- ---- with rules that are made alike
 
-  pub job-rules : {w0 w1 : W} {o0 o1 : F} {i0 i1 : I} {rules fresh fresh_now : Option Stacked} {d0 d1 : D} {start stop : Outcome} {given : Setting} {blocked : Option (List ℕ)} {levels : ℕ} {path : List ℕ} {class : Class} {result : Result Handed Stop}
+  pub job-rules : {w0 w1 : W} {o0 o1 : F} {i0 i1 : I} {rules rules_now fresh fresh_now : Option Stacked} {d0 d1 : D} {start stop : Outcome} {given : Setting} {blocked : Option (List ℕ)} {levels : ℕ} {path : List ℕ} {class : Class} {result : Result Handed Stop}
       → made_with fresh ≡ made_with rules → ((s : Sources) → InStepIf s fresh)
-      → WalksJob w f i d (record { worktree = w0; objects = o0; interrupt = i0; delegate = d0; rules = fresh; outcome = start }) (record { worktree = w1; objects = o1; interrupt = i1; delegate = d1; rules = fresh_now; outcome = stop }) given blocked levels path class result → WalksJob w f i d (record { worktree = w0; objects = o0; interrupt = i0; delegate = d0; rules = rules; outcome = start }) (record { worktree = w1; objects = o1; interrupt = i1; delegate = d1; rules = rules; outcome = stop }) given blocked levels path class result
+      → WalksJob w f i d (record { worktree = w0; objects = o0; interrupt = i0; delegate = d0; rules = fresh; outcome = start }) (record { worktree = w1; objects = o1; interrupt = i1; delegate = d1; rules = fresh_now; outcome = stop }) given blocked levels path class result → WalksJob w f i d (record { worktree = w0; objects = o0; interrupt = i0; delegate = d0; rules = rules; outcome = start }) (record { worktree = w1; objects = o1; interrupt = i1; delegate = d1; rules = rules_now; outcome = stop }) given blocked levels path class result
   job-rules {w0} {o0 = o0} {rules = rules} {fresh = fresh} {given = given} {blocked = blocked} alike step job =
       let with_fresh : (made : Option Made) (s : Sources) → Stands given (w.told w0) (f.holds o0) rules blocked made s → Stands given (w.told w0) (f.holds o0) fresh blocked made s =
       λ made s stands. record { tree = stands.tree; objects = stands.objects; made_is = alike ∙ stands.made_is; in_step = step s; blocked_is = stands.blocked_is } in

@@ -14,6 +14,7 @@ pub mod Coverage
 pub mod CoveredWalks
 pub mod Covering
 pub mod CurrentDirectory
+pub mod DirectorySteps
 pub mod DistinctPaths
 pub mod Distinctly
 pub mod Emitting
@@ -39,6 +40,7 @@ pub mod Lists
 pub mod Located
 pub mod Matching
 pub mod Members
+pub mod NameEnds
 pub mod NameSteps
 pub mod Named
 pub mod NormalRoots
@@ -53,6 +55,7 @@ pub mod Refusals
 pub mod Reported
 pub mod Rooms
 pub mod RootRows
+pub mod RootSteps
 pub mod Rootward
 pub mod Rows
 pub mod Safety

@@ -10,6 +10,7 @@ pub mod Guarded
 pub mod Jobs
 pub mod Kept
 pub mod Moments
+pub mod Opened
 pub mod Opens
 pub mod Placed
 pub mod Puts
@@ -17,6 +18,7 @@ pub mod Refused
 pub mod Report
 pub mod Reports
 pub mod Root
+pub mod RootSteps
 pub mod Rooting
 pub mod Safe
 pub mod Starts

@@ -7,10 +7,10 @@ ghost use Rattle.dir_walk.specs.WalkRefused.{by_default};
 ghost use Rattle.dir_walk.specs.Walks.{root_in, Collects, WalksWorktree};
 
 use crate::collect::Collect;
-use crate::function::walk_parts;
+use crate::function::walk_as;
 use crate::outcome::Outcome;
 use crate::strategy::Strategy;
-use dir_classify::{Context, Error, Options, Shared};
+use dir_classify::{Context, Error, Options};
 use gitbase_core::{Find, PathText};
 use glob_rules::pathspec::Matcher;
 use std::alloc::Global;
@@ -57,39 +57,13 @@ pub fn walk_at_once<W: Worktree, F: Find, I: Interrupt, M: Matcher>(
         ctx.entry.explicit_traversal_root.now ctx.entry.depth_limit by_default (λ r. r.0) root_in
         result }
 {
-    let Context {
-        worktree,
-        objects,
-        interrupt,
-        pathspec,
-        excludes,
-        index,
-        ignore_case_index_lookup,
-        git_dir_realpath,
-        current_dir,
-        explicit_traversal_root,
-        depth_limit,
-    } = ctx;
-    let shared = Shared {
-        worktree_root,
-        pathspec,
-        index,
-        ignore_case_index_lookup,
-        git_dir_realpath,
-        current_dir,
-        options,
-    };
     let mut delegate = Collect::new(alloc);
-    let (outcome, root) = walk_parts(
+    let (outcome, root) = walk_as(
         alloc,
-        &shared,
-        explicit_traversal_root,
-        depth_limit,
+        worktree_root,
+        ctx,
+        options,
         Strategy::AtOnce,
-        excludes,
-        worktree,
-        objects,
-        interrupt,
         &mut delegate,
     )?;
     Ok((outcome, root, delegate))

@@ -94,21 +94,25 @@ fn walk_name<W: Worktree, F: Find, I: Interrupt, M: Matcher, D: Delegate>(
     ensures walks { WalksAny W.Worktree F.Find I.Interrupt D.Delegate
         (moment parts.old) (moment parts.new)
         (setting_of M.Matcher shared.now) levels (at_name place.old.path name.now) result }
-    // Over what is told, the name gives all that is there, or a part of it, and is refused for what is there.
+    // Over what is told, it gives all that is there or a part, and is refused for what is there.
     ensures told { WalksTold W.Worktree F.Find D.Delegate
         (moment parts.old) (moment parts.new)
-        (setting_of M.Matcher shared.now) blocked.now levels (at_name place.old.path name.now) result }
+        (setting_of M.Matcher shared.now) blocked.now levels
+        (at_name place.old.path name.now) result }
     // How the directories that are opened are counted, and how many they are at most.
-    ensures opens { over_worktree W.Worktree I.Interrupt (chosen shared.now.options) (components place.old.path) 0
+    ensures opens { over_worktree W.Worktree I.Interrupt (chosen shared.now.options)
+        (components place.old.path) 0
         (moment parts.old) (moment parts.new)
         result (EntersStep W.Worktree F.Find D.Delegate
         (moment parts.old) (moment parts.new)
-        (setting_of M.Matcher shared.now) blocked.now levels (at_name place.old.path name.now) result) }
+        (setting_of M.Matcher shared.now) blocked.now levels
+        (at_name place.old.path name.now) result) }
     // A store that no rules file is mapped to is not asked.
-    ensures unmapped { maps_blobs (made_with parts.old.excludes.now) ≡ false → parts.new.objects.now ≡ parts.old.objects.now }
+    ensures unmapped { maps_blobs (made_with parts.old.excludes.now) ≡ false
+        → parts.new.objects.now ≡ parts.old.objects.now }
     // The rules that were handed in stay in step.
-    ensures rules { KeepsRules W.Worktree F.Find parts.old.worktree.now parts.new.worktree.now parts.old.objects.now parts.old.excludes.now
-        parts.new.excludes.now }
+    ensures rules { KeepsRules W.Worktree F.Find parts.old.worktree.now parts.new.worktree.now
+        parts.old.objects.now parts.old.excludes.now parts.new.excludes.now }
     // The place is the same when all is done.
     ensures stays { OnOk result (place.new ≡ place.old) }
 {
@@ -169,7 +173,7 @@ fn walk_name<W: Worktree, F: Find, I: Interrupt, M: Matcher, D: Delegate>(
 /// - with `TooDeep`: a directory that is to be entered lies deeper than the levels allow.
 /// - with `OutOfMemory`: memory was refused.
 #[cycle(walk)]
-fn walk_directory<W: Worktree, F: Find, I: Interrupt, M: Matcher, D: Delegate>(
+pub(crate) fn walk_directory<W: Worktree, F: Find, I: Interrupt, M: Matcher, D: Delegate>(
     alloc: Global,
     shared: &Shared<'_, M>,
     blocked: &Option<PathText>,
@@ -187,21 +191,25 @@ fn walk_directory<W: Worktree, F: Find, I: Interrupt, M: Matcher, D: Delegate>(
     ensures walks { WalksAny W.Worktree F.Find I.Interrupt D.Delegate
         (moment parts.old) (moment parts.new)
         (setting_of M.Matcher shared.now) levels (at_directory place.old.path class.now) result }
-    // Over what is told, the directory gives all that is there, or a part of it, and is refused for what is there.
+    // Over what is told, it gives all that is there or a part, and is refused for what is there.
     ensures told { WalksTold W.Worktree F.Find D.Delegate
         (moment parts.old) (moment parts.new)
-        (setting_of M.Matcher shared.now) blocked.now levels (at_directory place.old.path class.now) result }
+        (setting_of M.Matcher shared.now) blocked.now levels
+        (at_directory place.old.path class.now) result }
     // How the directories that are opened are counted, and how many they are at most.
-    ensures opens { over_worktree W.Worktree I.Interrupt (chosen shared.now.options) (components place.old.path) 1
+    ensures opens { over_worktree W.Worktree I.Interrupt (chosen shared.now.options)
+        (components place.old.path) 1
         (moment parts.old) (moment parts.new)
         result (EntersStep W.Worktree F.Find D.Delegate
         (moment parts.old) (moment parts.new)
-        (setting_of M.Matcher shared.now) blocked.now levels (at_directory place.old.path class.now) result) }
+        (setting_of M.Matcher shared.now) blocked.now levels
+        (at_directory place.old.path class.now) result) }
     // A store that no rules file is mapped to is not asked.
-    ensures unmapped { maps_blobs (made_with parts.old.excludes.now) ≡ false → parts.new.objects.now ≡ parts.old.objects.now }
+    ensures unmapped { maps_blobs (made_with parts.old.excludes.now) ≡ false
+        → parts.new.objects.now ≡ parts.old.objects.now }
     // The rules that were handed in stay in step.
-    ensures rules { KeepsRules W.Worktree F.Find parts.old.worktree.now parts.new.worktree.now parts.old.objects.now parts.old.excludes.now
-        parts.new.excludes.now }
+    ensures rules { KeepsRules W.Worktree F.Find parts.old.worktree.now parts.new.worktree.now
+        parts.old.objects.now parts.old.excludes.now parts.new.excludes.now }
     // The place is the same when all is done.
     ensures stays { OnOk result (place.new ≡ place.old) }
 {
@@ -243,115 +251,4 @@ fn walk_directory<W: Worktree, F: Find, I: Interrupt, M: Matcher, D: Delegate>(
         parts.delegate,
         parts.outcome,
     )
-}
-
-/// Walks a directory as [`walk_directory`] does, where the parts stand apart.
-pub(crate) fn walk_tree<W: Worktree, F: Find, I: Interrupt, M: Matcher, D: Delegate>(
-    alloc: Global,
-    shared: &Shared<'_, M>,
-    blocked: &Option<PathText>,
-    place: &mut Place,
-    class: &classify::Outcome,
-    levels: usize,
-    excludes: &mut Option<Stack>,
-    worktree: &mut W,
-    objects: &mut F,
-    interrupt: &mut I,
-    delegate: &mut D,
-    outcome: &mut Outcome,
-) -> Result<Handed, Stop>
-    requires root { place.old.root ≡ shared.now.worktree_root.now }
-    requires lookup { IsLookupIf shared.now.index.now shared.now.ignore_case_index_lookup.now }
-    requires excludes { tells_excludes (made_with excludes.old) ≡ true }
-    // Over any worktree, each refusal has its cause; what stays, and what the delegate is given.
-    ensures walks { WalksAny W.Worktree F.Find I.Interrupt D.Delegate
-        (record {
-          worktree = worktree.old;
-          objects = objects.old;
-          interrupt = interrupt.old;
-          delegate = delegate.old;
-          rules = excludes.old;
-          outcome = outcome.old;
-        })
-        (record {
-          worktree = worktree.new;
-          objects = objects.new;
-          interrupt = interrupt.new;
-          delegate = delegate.new;
-          rules = excludes.new;
-          outcome = outcome.new;
-        })
-        (setting_of M.Matcher shared.now) levels (at_directory place.old.path class.now) result }
-    // Over what is told, the directory gives all that is there, or a part of it, and is refused for what is there.
-    ensures told { WalksTold W.Worktree F.Find D.Delegate
-        (record {
-          worktree = worktree.old;
-          objects = objects.old;
-          interrupt = interrupt.old;
-          delegate = delegate.old;
-          rules = excludes.old;
-          outcome = outcome.old;
-        })
-        (record {
-          worktree = worktree.new;
-          objects = objects.new;
-          interrupt = interrupt.new;
-          delegate = delegate.new;
-          rules = excludes.new;
-          outcome = outcome.new;
-        })
-        (setting_of M.Matcher shared.now) blocked.now levels (at_directory place.old.path class.now) result }
-    // How the directories that are opened are counted, and how many they are at most.
-    ensures opens { over_worktree W.Worktree I.Interrupt (chosen shared.now.options) (components place.old.path) 1
-        (record {
-          worktree = worktree.old;
-          objects = objects.old;
-          interrupt = interrupt.old;
-          delegate = delegate.old;
-          rules = excludes.old;
-          outcome = outcome.old;
-        })
-        (record {
-          worktree = worktree.new;
-          objects = objects.new;
-          interrupt = interrupt.new;
-          delegate = delegate.new;
-          rules = excludes.new;
-          outcome = outcome.new;
-        })
-        result (EntersStep W.Worktree F.Find D.Delegate
-        (record {
-          worktree = worktree.old;
-          objects = objects.old;
-          interrupt = interrupt.old;
-          delegate = delegate.old;
-          rules = excludes.old;
-          outcome = outcome.old;
-        })
-        (record {
-          worktree = worktree.new;
-          objects = objects.new;
-          interrupt = interrupt.new;
-          delegate = delegate.new;
-          rules = excludes.new;
-          outcome = outcome.new;
-        })
-        (setting_of M.Matcher shared.now) blocked.now levels (at_directory place.old.path class.now) result) }
-    // A store that no rules file is mapped to is not asked.
-    ensures unmapped { maps_blobs (made_with excludes.old) ≡ false → objects.new ≡ objects.old }
-    // The rules that were handed in stay in step.
-    ensures rules { KeepsRules W.Worktree F.Find worktree.old worktree.new objects.old excludes.old
-        excludes.new }
-    // The place is the same when all is done.
-    ensures stays { OnOk result (place.new ≡ place.old) }
-{
-    let mut parts = Parts {
-        excludes,
-        worktree,
-        objects,
-        interrupt,
-        delegate,
-        outcome,
-    };
-    walk_directory(alloc, shared, blocked, place, class, levels, &mut parts)
 }

@@ -1,34 +1,30 @@
 //! Entering the traversal root.
 ghost use Rattle.std.specs.Prelude.{◌≡◌, ◌+◌, ℕ, List, [], Option, Some, true, false, length, option_copied, option_to_list, IfOk, IfErr, OnOk, OnErr};
 ghost use Rattle.gitbase_core.specs.Path.{components, ends_in_slash};
-ghost use Rattle.worktree_fs.specs.Causes.{NotIncreased, Increased};
-ghost use Rattle.worktree_fs.specs.Kept.{Asks, AsksStore};
+ghost use Rattle.worktree_fs.specs.Causes.{NotIncreased};
+ghost use Rattle.worktree_fs.specs.Kept.{Asks};
 ghost use Rattle.worktree_fs.specs.Paths.{is_normal, spelled};
 ghost use Rattle.worktree_stack.specs.Reading.{Sources};
 ghost use Rattle.worktree_stack.specs.Setup.{Made};
 ghost use Rattle.dir_classify.specs.Chosen.{chosen};
 ghost use Rattle.dir_classify.specs.Excludes.{made_with, maps_blobs, tells_excludes};
-ghost use Rattle.dir_classify.specs.Kept.{KeepsRules};
 ghost use Rattle.dir_classify.specs.Layers.{setting_of, evidence, rest_behind, IsLookupIf};
 ghost use Rattle.dir_walk.specs.declared.strategy.Strategy.TheVariants.{Held};
-ghost use Rattle.dir_walk.specs.Emits.{Emits, Gives, GivesAll, IsPart, IsPartOfAll, Within, put_plain};
-ghost use Rattle.dir_walk.specs.Given.{OnRefused};
-ghost use Rattle.dir_walk.specs.Kept.{KeepsTree, AsksInterrupt, KeepsDelegate, Heeds, Caused, WantsMemory};
-ghost use Rattle.dir_walk.specs.Opens.{EntersAtMost, OpensRoot, refused_walk};
-ghost use Rattle.dir_walk.specs.Puts.{AddsShown, Hands, Puts, held_at, once_within};
-ghost use Rattle.dir_walk.specs.Refused.{IsAboutFrom, IsInTree, DirectoryRefuses};
+ghost use Rattle.dir_walk.specs.Emits.{Emits, Within, put_plain};
+ghost use Rattle.dir_walk.specs.Kept.{KeepsDelegate, Heeds, WantsMemory};
+ghost use Rattle.dir_walk.specs.Moments.{AreSame, moment};
+ghost use Rattle.dir_walk.specs.Puts.{AddsShown, Puts, held_at};
 ghost use Rattle.dir_walk.specs.Report.{depth_of};
-ghost use Rattle.dir_walk.specs.Told.{Stands, directory_told};
-ghost use Rattle.dir_walk.specs.Unopened.{deep_walk, unlisted_walk};
-ghost use Rattle.dir_walk.specs.Walks.{Ends, EntersWalked, Tells};
+ghost use Rattle.dir_walk.specs.RootSteps.{EnteredCaused, EnteredLeaves, EnteredTold, EntersRoot, EntersThere, OpensAtRoot, RootAny, RootTold};
 
 use crate::children::walk_children;
 use crate::delegate::Delegate;
-use crate::directory::walk_tree;
+use crate::directory::walk_directory;
 use crate::emit::emit;
 use crate::handed::{Handed, Stop};
 use crate::open::{deletion_mode, too_deep};
 use crate::outcome::Outcome;
+use crate::parts::Parts;
 use crate::place::Place;
 use crate::strategy::Strategy;
 use dir_classify::{Options, Shared, classify};
@@ -36,7 +32,6 @@ use gitbase_core::{Find, OutOfMemory, PathText, past_slashes, relative_to};
 use glob_rules::pathspec::Matcher;
 use std::alloc::Global;
 use worktree_fs::{Interrupt, ReadError, Worktree, next_component};
-use worktree_stack::Stack;
 
 /// How many components a path has.
 fn depth_of(path: &[u8]) -> usize
@@ -130,76 +125,37 @@ fn walk_deep<W: Worktree, F: Find, I: Interrupt, M: Matcher, D: Delegate>(
     class: &classify::Outcome,
     depth_limit: usize,
     strategy: Strategy,
-    excludes: &mut Option<Stack>,
-    worktree: &mut W,
-    objects: &mut F,
-    interrupt: &mut I,
-    delegate: &mut D,
-    outcome: &mut Outcome,
+    parts: &mut Parts<'_, '_, '_, '_, '_, '_, W, F, I, D>,
 ) -> Result<Handed, Stop>
     requires root { place.old.root ≡ shared.now.worktree_root.now }
     requires lookup { IsLookupIf shared.now.index.now shared.now.ignore_case_index_lookup.now }
-    requires excludes { tells_excludes (made_with excludes.old) ≡ true }
-    ensures gives { (made : Option Made) (s : Sources)
-        → Stands (setting_of M.Matcher shared.now) (W.told worktree.old) (F.holds objects.old)
-        excludes.old blocked.now made s
-        → NotIncreased (W.faults worktree.old) (W.faults worktree.new)
-        → D.is_default delegate.old ≡ true
-        → IfOk result (Gives (chosen shared.now.options) depth_limit
-        (evidence (setting_of M.Matcher shared.now) made s)
-        (directory_told (setting_of M.Matcher shared.now) made s place.old.path class.now)
-        (D.given delegate.old) (D.given delegate.new) outcome.old outcome.new) }
-    ensures part { (made : Option Made) (s : Sources)
-        → Stands (setting_of M.Matcher shared.now) (W.told worktree.old) (F.holds objects.old)
-        excludes.old blocked.now made s
-        → NotIncreased (W.faults worktree.old) (W.faults worktree.new)
-        → D.is_default delegate.old ≡ true
-        → OnErr result (IsPart (chosen shared.now.options)
-        (directory_told (setting_of M.Matcher shared.now) made s place.old.path class.now)
-        (D.given delegate.old) (D.given delegate.new) outcome.old outcome.new) }
-    ensures refused { (made : Option Made) (s : Sources)
-        → Stands (setting_of M.Matcher shared.now) (W.told worktree.old) (F.holds objects.old)
-        excludes.old blocked.now made s
-        → D.is_default delegate.old ≡ true
-        → IfErr result (OnRefused (DirectoryRefuses (setting_of M.Matcher shared.now) made s
-        depth_limit (Increased (W.faults worktree.old) (W.faults worktree.new)) place.old.path
-        class.now)) }
-    ensures about { IfErr result (OnRefused (IsAboutFrom (made_with excludes.old)
-        shared.now.worktree_root.now place.old.path depth_limit)) }
-    ensures found { (s : Sources) → W.told worktree.old ≡ Some s.tree
-        → IfErr result (OnRefused (IsInTree shared.now.worktree_root.now
-        (F.holds objects.old) s (made_with excludes.old))) }
-    ensures opens { OpensRoot W.Worktree I.Interrupt worktree.old worktree.new interrupt.old
-        interrupt.new outcome.old outcome.new strategy (chosen shared.now.options) excludes.old
-        excludes.new (components place.old.path) (refused_walk result) (deep_walk result)
-        (EntersAtMost W.Worktree F.Find D.Delegate worktree.old worktree.new objects.old
-        excludes.old delegate.old (setting_of M.Matcher shared.now) blocked.now depth_limit
-        (λ made s. directory_told (setting_of M.Matcher shared.now) made s place.old.path
-        class.now) (unlisted_walk result)) }
-    ensures hands { Hands place.old.path (once_within place.old.path) (D.given delegate.old)
-        (D.given delegate.new) outcome.old outcome.new result }
-    ensures filtered { AddsShown (chosen shared.now.options) (D.given delegate.old)
-        (D.given delegate.new) }
-    ensures unmapped { strategy ≡ Held → maps_blobs (made_with excludes.old) ≡ false
-        → objects.new ≡ objects.old }
-    ensures ends { Ends W.Worktree F.Find I.Interrupt D.Delegate worktree.old worktree.new
-        objects.old objects.new interrupt.old interrupt.new excludes.old excludes.new delegate.old
-        delegate.new result }
+    requires excludes { tells_excludes (made_with parts.old.excludes.now) ≡ true }
+    // The parts are behind the same references.
+    ensures same { AreSame parts.old parts.new }
+    // Over what is told, it gives all that is there or a part, and is refused for what is there.
+    ensures told { RootTold W.Worktree F.Find D.Delegate (moment parts.old) (moment parts.new)
+        (setting_of M.Matcher shared.now) blocked.now depth_limit place.old.path class.now result }
+    // Over any worktree, what a refusal is about, what is given, what stays, and how it ends.
+    ensures walks { RootAny W.Worktree F.Find I.Interrupt D.Delegate
+        (moment parts.old) (moment parts.new)
+        (setting_of M.Matcher shared.now) depth_limit place.old.path result }
+    // How the directories that are opened are counted, and how many they are at most.
+    ensures opens { OpensAtRoot W.Worktree I.Interrupt (moment parts.old) (moment parts.new)
+        strategy (setting_of M.Matcher shared.now) place.old.path result
+        (EntersRoot W.Worktree F.Find D.Delegate (moment parts.old) (moment parts.new)
+        (setting_of M.Matcher shared.now) blocked.now depth_limit place.old.path class.now result) }
+    // A store that no rules file is mapped to is not asked where all is walked over it.
+    ensures unmapped { strategy ≡ Held → maps_blobs (made_with parts.old.excludes.now) ≡ false
+        → parts.new.objects.now ≡ parts.old.objects.now }
 {
     let depth = depth_of(place.path());
     if depth > depth_limit {
-        return Err(Stop::Refused(too_deep(alloc, place, interrupt)));
+        return Err(Stop::Refused(too_deep(alloc, place, parts.interrupt)));
     }
     let levels = depth_limit - depth;
     match strategy {
-        Strategy::Held => walk_tree(
-            alloc, shared, blocked, place, class, levels, excludes, worktree, objects, interrupt,
-            delegate, outcome,
-        ),
-        Strategy::AtOnce => walk_children(
-            alloc, shared, blocked, place, class, levels, excludes, worktree, objects, interrupt,
-            delegate, outcome,
-        ),
+        Strategy::Held => walk_directory(alloc, shared, blocked, place, class, levels, parts),
+        Strategy::AtOnce => walk_children(alloc, shared, blocked, place, class, levels, parts),
     }
 }
 
@@ -211,63 +167,35 @@ pub(crate) fn walk_entered<W: Worktree, F: Find, I: Interrupt, M: Matcher, D: De
     class: &classify::Outcome,
     depth_limit: usize,
     strategy: Strategy,
-    excludes: &mut Option<Stack>,
-    worktree: &mut W,
-    objects: &mut F,
-    interrupt: &mut I,
-    delegate: &mut D,
-    outcome: &mut Outcome,
+    parts: &mut Parts<'_, '_, '_, '_, '_, '_, W, F, I, D>,
 ) -> Result<(), Stop>
     requires normal { is_normal path.now ≡ true }
     requires plain { ends_in_slash path.now ≡ false }
     requires spelled { path.now ≡ spelled (components path.now) }
     requires lookup { IsLookupIf shared.now.index.now shared.now.ignore_case_index_lookup.now }
-    requires excludes { tells_excludes (made_with excludes.old) ≡ true }
-    ensures gives { (s : Sources)
-        → Tells W.Worktree F.Find worktree.old objects.old excludes.old s
-        → NotIncreased (W.faults worktree.old) (W.faults worktree.new)
-        → D.is_default delegate.old ≡ true
-        → OnOk result (GivesAll (chosen shared.now.options) depth_limit
-        (evidence (setting_of M.Matcher shared.now) (made_with excludes.old) s)
-        (directory_told (setting_of M.Matcher shared.now) (made_with excludes.old) s path.now
-        class.now) (D.given delegate.old) (D.given delegate.new) outcome.old outcome.new) }
-    ensures part { (s : Sources)
-        → Tells W.Worktree F.Find worktree.old objects.old excludes.old s
-        → NotIncreased (W.faults worktree.old) (W.faults worktree.new)
-        → D.is_default delegate.old ≡ true
-        → OnErr result (IsPartOfAll (chosen shared.now.options)
-        (directory_told (setting_of M.Matcher shared.now) (made_with excludes.old) s
-        path.now class.now) (D.given delegate.old) (D.given delegate.new) outcome.old
-        outcome.new) }
-    ensures refused { (s : Sources)
-        → Tells W.Worktree F.Find worktree.old objects.old excludes.old s
-        → NotIncreased (W.faults worktree.old) (W.faults worktree.new)
-        → D.is_default delegate.old ≡ true
-        → IfErr result (OnRefused (DirectoryRefuses (setting_of M.Matcher shared.now)
-        (made_with excludes.old) s depth_limit ⊥ path.now class.now)) }
-    ensures about { IfErr result (OnRefused (IsAboutFrom (made_with excludes.old)
-        shared.now.worktree_root.now path.now depth_limit)) }
-    ensures found { (s : Sources) → W.told worktree.old ≡ Some s.tree
-        → IfErr result (OnRefused (IsInTree shared.now.worktree_root.now
-        (F.holds objects.old) s (made_with excludes.old))) }
-    ensures opens { OpensRoot W.Worktree I.Interrupt worktree.old worktree.new interrupt.old
-        interrupt.new outcome.old outcome.new strategy (chosen shared.now.options) excludes.old
-        excludes.new (components path.now) (refused_walk result) (deep_walk result)
-        (EntersWalked W.Worktree F.Find D.Delegate worktree.old worktree.new objects.old
-        excludes.old delegate.old depth_limit (λ s. directory_told (setting_of M.Matcher shared.now)
-        (made_with excludes.old) s path.now class.now) (unlisted_walk result)) }
-    ensures puts { Puts (once_within path.now) (D.given delegate.old) (D.given delegate.new)
-        outcome.old outcome.new [] }
-    ensures filtered { AddsShown (chosen shared.now.options) (D.given delegate.old)
-        (D.given delegate.new) }
-    ensures unmapped { strategy ≡ Held → maps_blobs (made_with excludes.old) ≡ false
-        → objects.new ≡ objects.old }
-    ensures ends { Ends W.Worktree F.Find I.Interrupt D.Delegate worktree.old worktree.new
-        objects.old objects.new interrupt.old interrupt.new excludes.old excludes.new delegate.old
-        delegate.new result }
+    requires excludes { tells_excludes (made_with parts.old.excludes.now) ≡ true }
+    // The parts are behind the same references.
+    ensures same { AreSame parts.old parts.new }
+    // Over what is told, it gives all that is there or a part, and is refused for what is there.
+    ensures told { EnteredTold W.Worktree F.Find D.Delegate (moment parts.old) (moment parts.new)
+        (setting_of M.Matcher shared.now) depth_limit path.now class.now result }
+    // Over any worktree, what a refusal is about, and what it says of what is told.
+    ensures caused { EnteredCaused W.Worktree F.Find (moment parts.old)
+        (setting_of M.Matcher shared.now) depth_limit path.now result }
+    // How the directories that are opened are counted, and how many they are at most.
+    ensures opens { OpensAtRoot W.Worktree I.Interrupt (moment parts.old) (moment parts.new)
+        strategy (setting_of M.Matcher shared.now) path.now result
+        (EntersThere W.Worktree F.Find D.Delegate (moment parts.old) (moment parts.new)
+        (setting_of M.Matcher shared.now) depth_limit path.now class.now result) }
+    // A store that no rules file is mapped to is not asked where all is walked over it.
+    ensures unmapped { strategy ≡ Held → maps_blobs (made_with parts.old.excludes.now) ≡ false
+        → parts.new.objects.now ≡ parts.old.objects.now }
+    // Over any worktree, what the delegate is given, what stays, and how it ends.
+    ensures leaves { EnteredLeaves W.Worktree F.Find I.Interrupt D.Delegate
+        (moment parts.old) (moment parts.new) (setting_of M.Matcher shared.now) path.now result }
 {
     let mut place = Place::at(alloc, shared.worktree_root, path)?;
-    let blocked = blocked_directory(alloc, shared, worktree)?;
+    let blocked = blocked_directory(alloc, shared, parts.worktree)?;
     let handed = walk_deep(
         alloc,
         shared,
@@ -276,12 +204,13 @@ pub(crate) fn walk_entered<W: Worktree, F: Find, I: Interrupt, M: Matcher, D: De
         class,
         depth_limit,
         strategy,
-        excludes,
-        worktree,
-        objects,
-        interrupt,
-        delegate,
-        outcome,
+        parts,
     )?;
-    put_handed(alloc, &shared.options, &handed, delegate, outcome)
+    put_handed(
+        alloc,
+        &shared.options,
+        &handed,
+        parts.delegate,
+        parts.outcome,
+    )
 }

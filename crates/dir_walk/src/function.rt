@@ -3,11 +3,13 @@ ghost use Rattle.std.specs.Prelude.{◌≡◌, true};
 ghost use Rattle.dir_classify.specs.Excludes.{made_with, tells_excludes};
 ghost use Rattle.dir_classify.specs.Layers.{setting_in, setting_of, IsLookupIf};
 ghost use Rattle.dir_walk.specs.declared.strategy.Strategy.TheVariants.{Held};
+ghost use Rattle.dir_walk.specs.Moments.{AreSame};
 ghost use Rattle.dir_walk.specs.Walks.{WalksFor};
 
 use crate::delegate::Delegate;
 use crate::handed::Stop;
 use crate::outcome::Outcome;
+use crate::parts::Parts;
 use crate::root::traversal_root;
 use crate::start::walk_from;
 use crate::strategy::Strategy;
@@ -16,7 +18,6 @@ use gitbase_core::{Bytes, Find, PathText};
 use glob_rules::pathspec::Matcher;
 use std::alloc::Global;
 use worktree_fs::{Interrupt, Worktree};
-use worktree_stack::Stack;
 
 /// Walks a worktree and gives `delegate` each entry that the options do not hide, in an order of
 /// the worktree's own, as gitoxide's `gix_dir::walk`. The answer's path is the worktree root and
@@ -136,57 +137,52 @@ pub(crate) fn walk_as<W: Worktree, F: Find, I: Interrupt, M: Matcher, D: Delegat
         current_dir,
         options,
     };
+    let mut outcome = Outcome::default();
+    let mut parts = Parts {
+        excludes,
+        worktree,
+        objects,
+        interrupt,
+        delegate,
+        outcome: &mut outcome,
+    };
     walk_parts(
         alloc,
         &shared,
         explicit_traversal_root,
         depth_limit,
         strategy,
-        excludes,
-        worktree,
-        objects,
-        interrupt,
-        delegate,
+        &mut parts,
     )
 }
 
-/// The same over the parts of a context, as a strategy says.
-pub(crate) fn walk_parts<W: Worktree, F: Find, I: Interrupt, M: Matcher, D: Delegate>(
+/// The same over the parts of a context, as a strategy says. What is counted is counted from
+/// nothing on.
+fn walk_parts<W: Worktree, F: Find, I: Interrupt, M: Matcher, D: Delegate>(
     alloc: Global,
     shared: &Shared<'_, M>,
     explicit: &Option<Bytes>,
     depth_limit: usize,
     strategy: Strategy,
-    excludes: &mut Option<Stack>,
-    worktree: &mut W,
-    objects: &mut F,
-    interrupt: &mut I,
-    delegate: &mut D,
+    parts: &mut Parts<'_, '_, '_, '_, '_, '_, W, F, I, D>,
 ) -> Result<(Outcome, PathText), Error>
-    requires excludes { tells_excludes (made_with excludes.old) ≡ true }
+    requires excludes { tells_excludes (made_with parts.old.excludes.now) ≡ true }
     requires lookup { IsLookupIf shared.now.index.now shared.now.ignore_case_index_lookup.now }
-    ensures { WalksFor W.Worktree F.Find I.Interrupt D.Delegate worktree.old worktree.new
-        objects.old objects.new interrupt.old interrupt.new excludes.old excludes.new delegate.old
-        delegate.new strategy (setting_of M.Matcher shared.now) explicit.now depth_limit result }
+    // The parts are behind the same references.
+    ensures same { AreSame parts.old parts.new }
+    // Why it is refused, what it leaves, and what the delegate is given.
+    ensures walks { WalksFor W.Worktree F.Find I.Interrupt D.Delegate
+        parts.old.worktree.now parts.new.worktree.now parts.old.objects.now parts.new.objects.now
+        parts.old.interrupt.now parts.new.interrupt.now parts.old.excludes.now
+        parts.new.excludes.now parts.old.delegate.now parts.new.delegate.now
+        strategy (setting_of M.Matcher shared.now) explicit.now depth_limit result }
 {
-    let root = traversal_root(alloc, shared, explicit, worktree)?;
+    let root = traversal_root(alloc, shared, explicit, parts.worktree)?;
     let full = full_path(alloc, shared.worktree_root, root.as_bytes())?;
-    let mut outcome = Outcome::default();
-    match walk_from(
-        alloc,
-        shared,
-        root.as_bytes(),
-        depth_limit,
-        strategy,
-        excludes,
-        worktree,
-        objects,
-        interrupt,
-        delegate,
-        &mut outcome,
-    ) {
-        Ok(()) => Ok((outcome, full)),
-        Err(Stop::Broken) => Ok((outcome, full)),
+    *parts.outcome = Outcome::default();
+    match walk_from(alloc, shared, root.as_bytes(), depth_limit, strategy, parts) {
+        Ok(()) => Ok((Outcome { ..*parts.outcome }, full)),
+        Err(Stop::Broken) => Ok((Outcome { ..*parts.outcome }, full)),
         Err(Stop::Refused(error)) => Err(error),
     }
 }

@@ -4,11 +4,12 @@ ghost use Rattle.worktree_stack.specs.Reading.{Sources};
 ghost use Rattle.dir_classify.specs.Excludes.{made_with, tells_excludes, InStepIf};
 ghost use Rattle.dir_classify.specs.Layers.{setting_of, IsLookupIf};
 ghost use Rattle.dir_walk.specs.Jobs.{WalksJob};
+ghost use Rattle.dir_walk.specs.Moments.{AreSame, moment};
 
 use crate::delegate::Delegate;
-use crate::directory::walk_tree;
+use crate::directory::walk_directory;
 use crate::handed::{Handed, Stop};
-use crate::outcome::Outcome;
+use crate::parts::Parts;
 use crate::place::Place;
 use dir_classify::{Shared, classify};
 use gitbase_core::{Find, OutOfMemory, PathText};
@@ -18,9 +19,9 @@ use worktree_fs::{Interrupt, Worktree};
 use worktree_stack::Stack;
 
 /// Walks a directory that is entered, at `place` and of the class `class`, as a job: over a fork of
-/// the worktree, the store and the interrupt, and with rules that are made as `excludes` were and
-/// of which nothing is pushed. Each fork is absorbed when the job is done, and where it is refused
-/// too.
+/// the worktree, the store and the interrupt, and with rules that are made as those of the parts
+/// were and of which nothing is pushed. Each fork is absorbed when the job is done, and where it is
+/// refused too.
 pub(crate) fn walk_job<W: Worktree, F: Find, I: Interrupt, M: Matcher, D: Delegate>(
     alloc: Global,
     shared: &Shared<'_, M>,
@@ -28,42 +29,29 @@ pub(crate) fn walk_job<W: Worktree, F: Find, I: Interrupt, M: Matcher, D: Delega
     place: &mut Place,
     class: &classify::Outcome,
     levels: usize,
-    excludes: &Option<Stack>,
-    worktree: &mut W,
-    objects: &mut F,
-    interrupt: &mut I,
-    delegate: &mut D,
-    outcome: &mut Outcome,
+    parts: &mut Parts<'_, '_, '_, '_, '_, '_, W, F, I, D>,
 ) -> Result<Handed, Stop>
     requires root { place.old.root ≡ shared.now.worktree_root.now }
     requires lookup { IsLookupIf shared.now.index.now shared.now.ignore_case_index_lookup.now }
-    requires excludes { tells_excludes (made_with excludes.now) ≡ true }
+    requires excludes { tells_excludes (made_with parts.old.excludes.now) ≡ true }
+    ensures same { AreSame parts.old parts.new }
     ensures job { WalksJob W.Worktree F.Find I.Interrupt D.Delegate
-        (record {
-          worktree = worktree.old;
-          objects = objects.old;
-          interrupt = interrupt.old;
-          delegate = delegate.old;
-          rules = excludes.now;
-          outcome = outcome.old;
-        })
-        (record {
-          worktree = worktree.new;
-          objects = objects.new;
-          interrupt = interrupt.new;
-          delegate = delegate.new;
-          rules = excludes.now;
-          outcome = outcome.new;
-        })
+        (moment parts.old) (moment parts.new)
         (setting_of M.Matcher shared.now) blocked.now levels place.old.path class.now result }
+    ensures rules { parts.new.excludes.now ≡ parts.old.excludes.now }
+    ensures lists { W.lists parts.new.worktree.now ≡ W.lists parts.old.worktree.now }
     ensures stays { OnOk result (place.new ≡ place.old) }
-    ensures lists { W.lists worktree.new ≡ W.lists worktree.old }
 {
-    let mut rules = fresh_rules(alloc, excludes)?;
-    on_worktree(
-        alloc, shared, blocked, place, class, levels, &mut rules, worktree, objects, interrupt,
-        delegate, outcome,
-    )
+    let mut rules = fresh_rules(alloc, parts.excludes)?;
+    let mut forked = Parts {
+        excludes: &mut rules,
+        worktree: parts.worktree,
+        objects: parts.objects,
+        interrupt: parts.interrupt,
+        delegate: parts.delegate,
+        outcome: parts.outcome,
+    };
+    on_worktree(alloc, shared, blocked, place, class, levels, &mut forked)
 }
 
 /// Rules that are made as these were, and of which nothing is pushed.
@@ -85,43 +73,29 @@ fn on_worktree<W: Worktree, F: Find, I: Interrupt, M: Matcher, D: Delegate>(
     place: &mut Place,
     class: &classify::Outcome,
     levels: usize,
-    rules: &mut Option<Stack>,
-    worktree: &mut W,
-    objects: &mut F,
-    interrupt: &mut I,
-    delegate: &mut D,
-    outcome: &mut Outcome,
+    parts: &mut Parts<'_, '_, '_, '_, '_, '_, W, F, I, D>,
 ) -> Result<Handed, Stop>
     requires root { place.old.root ≡ shared.now.worktree_root.now }
     requires lookup { IsLookupIf shared.now.index.now shared.now.ignore_case_index_lookup.now }
-    requires excludes { tells_excludes (made_with rules.old) ≡ true }
+    requires excludes { tells_excludes (made_with parts.old.excludes.now) ≡ true }
+    ensures same { AreSame parts.old parts.new }
     ensures job { WalksJob W.Worktree F.Find I.Interrupt D.Delegate
-        (record {
-          worktree = worktree.old;
-          objects = objects.old;
-          interrupt = interrupt.old;
-          delegate = delegate.old;
-          rules = rules.old;
-          outcome = outcome.old;
-        })
-        (record {
-          worktree = worktree.new;
-          objects = objects.new;
-          interrupt = interrupt.new;
-          delegate = delegate.new;
-          rules = rules.new;
-          outcome = outcome.new;
-        })
+        (moment parts.old) (moment parts.new)
         (setting_of M.Matcher shared.now) blocked.now levels place.old.path class.now result }
+    ensures lists { W.lists parts.new.worktree.now ≡ W.lists parts.old.worktree.now }
     ensures stays { OnOk result (place.new ≡ place.old) }
-    ensures lists { W.lists worktree.new ≡ W.lists worktree.old }
 {
-    let mut fork = worktree.fork(alloc)?;
-    let result = on_store(
-        alloc, shared, blocked, place, class, levels, rules, &mut fork, objects, interrupt,
-        delegate, outcome,
-    );
-    worktree.absorb(fork);
+    let mut fork = parts.worktree.fork(alloc)?;
+    let mut forked = Parts {
+        excludes: parts.excludes,
+        worktree: &mut fork,
+        objects: parts.objects,
+        interrupt: parts.interrupt,
+        delegate: parts.delegate,
+        outcome: parts.outcome,
+    };
+    let result = on_store(alloc, shared, blocked, place, class, levels, &mut forked);
+    parts.worktree.absorb(fork);
     result
 }
 
@@ -133,42 +107,28 @@ fn on_store<W: Worktree, F: Find, I: Interrupt, M: Matcher, D: Delegate>(
     place: &mut Place,
     class: &classify::Outcome,
     levels: usize,
-    rules: &mut Option<Stack>,
-    worktree: &mut W,
-    objects: &mut F,
-    interrupt: &mut I,
-    delegate: &mut D,
-    outcome: &mut Outcome,
+    parts: &mut Parts<'_, '_, '_, '_, '_, '_, W, F, I, D>,
 ) -> Result<Handed, Stop>
     requires root { place.old.root ≡ shared.now.worktree_root.now }
     requires lookup { IsLookupIf shared.now.index.now shared.now.ignore_case_index_lookup.now }
-    requires excludes { tells_excludes (made_with rules.old) ≡ true }
+    requires excludes { tells_excludes (made_with parts.old.excludes.now) ≡ true }
+    ensures same { AreSame parts.old parts.new }
     ensures job { WalksJob W.Worktree F.Find I.Interrupt D.Delegate
-        (record {
-          worktree = worktree.old;
-          objects = objects.old;
-          interrupt = interrupt.old;
-          delegate = delegate.old;
-          rules = rules.old;
-          outcome = outcome.old;
-        })
-        (record {
-          worktree = worktree.new;
-          objects = objects.new;
-          interrupt = interrupt.new;
-          delegate = delegate.new;
-          rules = rules.new;
-          outcome = outcome.new;
-        })
+        (moment parts.old) (moment parts.new)
         (setting_of M.Matcher shared.now) blocked.now levels place.old.path class.now result }
     ensures stays { OnOk result (place.new ≡ place.old) }
 {
-    let mut fork = objects.fork(alloc)?;
-    let result = on_interrupt(
-        alloc, shared, blocked, place, class, levels, rules, worktree, &mut fork, interrupt,
-        delegate, outcome,
-    );
-    objects.absorb(fork);
+    let mut fork = parts.objects.fork(alloc)?;
+    let mut forked = Parts {
+        excludes: parts.excludes,
+        worktree: parts.worktree,
+        objects: &mut fork,
+        interrupt: parts.interrupt,
+        delegate: parts.delegate,
+        outcome: parts.outcome,
+    };
+    let result = on_interrupt(alloc, shared, blocked, place, class, levels, &mut forked);
+    parts.objects.absorb(fork);
     result
 }
 
@@ -180,41 +140,27 @@ fn on_interrupt<W: Worktree, F: Find, I: Interrupt, M: Matcher, D: Delegate>(
     place: &mut Place,
     class: &classify::Outcome,
     levels: usize,
-    rules: &mut Option<Stack>,
-    worktree: &mut W,
-    objects: &mut F,
-    interrupt: &mut I,
-    delegate: &mut D,
-    outcome: &mut Outcome,
+    parts: &mut Parts<'_, '_, '_, '_, '_, '_, W, F, I, D>,
 ) -> Result<Handed, Stop>
     requires root { place.old.root ≡ shared.now.worktree_root.now }
     requires lookup { IsLookupIf shared.now.index.now shared.now.ignore_case_index_lookup.now }
-    requires excludes { tells_excludes (made_with rules.old) ≡ true }
+    requires excludes { tells_excludes (made_with parts.old.excludes.now) ≡ true }
+    ensures same { AreSame parts.old parts.new }
     ensures job { WalksJob W.Worktree F.Find I.Interrupt D.Delegate
-        (record {
-          worktree = worktree.old;
-          objects = objects.old;
-          interrupt = interrupt.old;
-          delegate = delegate.old;
-          rules = rules.old;
-          outcome = outcome.old;
-        })
-        (record {
-          worktree = worktree.new;
-          objects = objects.new;
-          interrupt = interrupt.new;
-          delegate = delegate.new;
-          rules = rules.new;
-          outcome = outcome.new;
-        })
+        (moment parts.old) (moment parts.new)
         (setting_of M.Matcher shared.now) blocked.now levels place.old.path class.now result }
     ensures stays { OnOk result (place.new ≡ place.old) }
 {
-    let mut fork = interrupt.fork(alloc)?;
-    let result = walk_tree(
-        alloc, shared, blocked, place, class, levels, rules, worktree, objects, &mut fork,
-        delegate, outcome,
-    );
-    interrupt.absorb(fork);
+    let mut fork = parts.interrupt.fork(alloc)?;
+    let mut forked = Parts {
+        excludes: parts.excludes,
+        worktree: parts.worktree,
+        objects: parts.objects,
+        interrupt: &mut fork,
+        delegate: parts.delegate,
+        outcome: parts.outcome,
+    };
+    let result = walk_directory(alloc, shared, blocked, place, class, levels, &mut forked);
+    parts.interrupt.absorb(fork);
     result
 }

@@ -1,5 +1,5 @@
 //! Entering a directory.
-ghost use Rattle.std.specs.Prelude.{◌≡◌, ◌≤◌, ◌-◌, ◌+◌, ◌^◌, min, ℕ, List, Option, Some, true, false, IfOk, IfErr, OnOk};
+ghost use Rattle.std.specs.Prelude.{◌≡◌, ◌≤◌, ◌-◌, ◌+◌, Some, true, IfOk, IfErr};
 ghost use Rattle.gitbase_core.specs.Path.{is_empty};
 ghost use Rattle.worktree_fs.specs.Answers.{ListsNames};
 ghost use Rattle.worktree_fs.specs.Causes.{Increased, with_more};
@@ -7,18 +7,13 @@ ghost use Rattle.worktree_fs.specs.Kept.{Lists};
 ghost use Rattle.worktree_fs.specs.Naming.{AreNames};
 ghost use Rattle.worktree_fs.specs.Paths.{full_path};
 ghost use Rattle.worktree_fs.specs.Tree.{Names, look};
-ghost use Rattle.worktree_stack.specs.Setup.{Made};
 ghost use Rattle.dir_classify.specs.Chosen.{chosen};
 ghost use Rattle.dir_classify.specs.Class.{enters};
-ghost use Rattle.dir_classify.specs.Refused.{OnFault};
-ghost use Rattle.dir_walk.specs.Emissions.{Emission};
-ghost use Rattle.dir_walk.specs.Emits.{Emits};
 ghost use Rattle.dir_walk.specs.Given.{IsAnswered};
-ghost use Rattle.dir_walk.specs.Kept.{AsksInterrupt, OnInterrupt, OnListingFault};
-ghost use Rattle.dir_walk.specs.Opens.{Opens};
-ghost use Rattle.dir_walk.specs.Refused.{IsAbout, OpenRefuses, IsDeep, read_error};
-ghost use Rattle.dir_walk.specs.Report.{depth_of};
-ghost use Rattle.dir_walk.specs.Unopened.{deep_one, unlisted_one};
+ghost use Rattle.dir_walk.specs.Kept.{AsksInterrupt};
+ghost use Rattle.dir_walk.specs.Opened.{OpenCaused, OpenCounts};
+ghost use Rattle.dir_walk.specs.Refused.{OpenRefuses, IsDeep, read_error};
+ghost use Rattle.dir_walk.specs.Unopened.{deep_one};
 
 use crate::delegate::Delegate;
 use crate::outcome::Outcome;
@@ -42,35 +37,25 @@ pub(crate) fn open<W: Worktree, I: Interrupt>(
     interrupt: &mut I,
     outcome: &mut Outcome,
 ) -> Result<NameList, Error>
+    // What is given are names.
     ensures names { IfOk result AreNames }
+    // Over a told tree they are those of the directory.
     ensures lists { (t : Names) → W.told worktree.old ≡ Some t → IfOk result (ListsNames
         (look t (full_path place.now.root place.now.path) (is_empty place.now.path))) }
+    // There it is refused for what the tree has at the directory.
     ensures refused { (t : Names) → W.told worktree.old ≡ Some t
         → IfErr result (OpenRefuses (full_path place.now.root place.now.path)
         (look t (full_path place.now.root place.now.path) (is_empty place.now.path))) }
-    ensures about { (made : Option Made) (limit : ℕ) → depth_of place.now.path ≤ limit
-        → IfErr result (IsAbout made place.now.root limit) }
-    ensures counted { (given : Option (List Emission))
-        → OnOk result (Emits given given outcome.old outcome.new (λ p. 0) 0 1) }
+    // The worktree is listed.
     ensures worktree { Lists W.Worktree worktree.old worktree.new }
+    // The interrupt is asked.
     ensures interrupt { AsksInterrupt I.Interrupt interrupt.old interrupt.new }
-    ensures opens { OnOk result (Opens W.Worktree I.Interrupt worktree.old worktree.new
-        interrupt.old interrupt.new outcome.old outcome.new 1 0) }
-    ensures tried { IfErr result (λ e. Opens W.Worktree I.Interrupt worktree.old worktree.new
-        interrupt.old interrupt.new outcome.old outcome.new (unlisted_one e) (deep_one e)) }
-    ensures once { W.lists worktree.new ≤ W.lists worktree.old + 1 }
-    ensures returned { outcome.new.returned_entries ≡ outcome.old.returned_entries }
-    ensures seen { outcome.new.seen_entries ≡ outcome.old.seen_entries }
-    ensures reads { W.reads worktree.new ≡ W.reads worktree.old }
-    ensures fault { (before now : ℕ)
-        → IfErr result (OnFault (Increased (W.faults worktree.old) (W.faults worktree.new))
-        (Increased before now)) }
-    ensures raised { IfErr result (OnInterrupt (Increased (I.raised interrupt.old)
-        (I.raised interrupt.new))) }
-    ensures listing { IfErr result (OnListingFault (Increased (W.list_faults worktree.old)
-        (W.list_faults worktree.new))) }
-    ensures listed { OnOk result (W.list_faults worktree.new ≡ W.list_faults worktree.old) }
-    ensures calm { OnOk result (I.raised interrupt.new ≡ I.raised interrupt.old) }
+    // What is counted, by the worktree, by the interrupt and by the walk.
+    ensures counts { OpenCounts W.Worktree I.Interrupt worktree.old worktree.new
+        interrupt.old interrupt.new outcome.old outcome.new result }
+    // Over any worktree, what a refusal is about, and who counted its cause.
+    ensures caused { OpenCaused W.Worktree I.Interrupt worktree.old worktree.new
+        interrupt.old interrupt.new place.now.root place.now.path result }
 {
     if interrupt.is_raised() {
         return Err(Error::Interrupted);

@@ -12,18 +12,15 @@ ghost use Rattle.dir_classify.specs.Layers.{setting_of, evidence, IsLookupIf};
 ghost use Rattle.dir_classify.specs.Rooted.{reached_by, way_to};
 ghost use Rattle.dir_walk.specs.declared.strategy.Strategy.TheVariants.{Held};
 ghost use Rattle.dir_walk.specs.Emissions.{plain};
-ghost use Rattle.dir_walk.specs.Emits.{Emits, IsPartOfAll, shown_by};
+ghost use Rattle.dir_walk.specs.Emits.{Emits, shown_by};
 ghost use Rattle.dir_walk.specs.Given.{IsAnswered, OnRefused};
 ghost use Rattle.dir_walk.specs.Kept.{KeepsDelegate, Heeds};
-ghost use Rattle.dir_walk.specs.Opens.{OpensFrom};
-ghost use Rattle.dir_walk.specs.Puts.{AddsShown, Puts, PutsFrom, once_at};
-ghost use Rattle.dir_walk.specs.Root.{is_root_entered, root_kind, walked_at};
+ghost use Rattle.dir_walk.specs.Moments.{AreSame, moment};
+ghost use Rattle.dir_walk.specs.Puts.{AddsShown, Puts, once_at};
+ghost use Rattle.dir_walk.specs.Root.{is_root_entered, root_kind};
+ghost use Rattle.dir_walk.specs.RootSteps.{EntersStart, OpensStart, StartCaused, StartLeaves, StartTold, StartsNothing, StartsNowhere};
 ghost use Rattle.dir_walk.specs.Rooting.{IsRoot};
-ghost use Rattle.dir_walk.specs.Starts.{StartGives, PutsRoot};
-ghost use Rattle.dir_walk.specs.Unopened.{unlisted_walk};
-ghost use Rattle.dir_walk.specs.Walked.{Walked};
-ghost use Rattle.dir_walk.specs.WalkRefused.{IsNoTop, OnNoRoot, OnNoStart, StartAbout, StartFound, StartRefuses, recursion_of};
-ghost use Rattle.dir_walk.specs.Walks.{Ends, EntersFrom, Tells};
+ghost use Rattle.dir_walk.specs.Starts.{PutsRoot};
 
 use crate::delegate::Delegate;
 use crate::emit::emit;
@@ -31,6 +28,7 @@ use crate::enter::walk_entered;
 use crate::handed::Stop;
 use crate::open::is_entered;
 use crate::outcome::Outcome;
+use crate::parts::Parts;
 use crate::root::leads_to_directory;
 use crate::strategy::Strategy;
 use dir_classify::classify::RootOutcome;
@@ -40,7 +38,6 @@ use gitbase_core::{Find, OutOfMemory, PathText};
 use glob_rules::pathspec::Matcher;
 use std::alloc::Global;
 use worktree_fs::{Interrupt, Worktree};
-use worktree_stack::Stack;
 
 /// The kind by which a traversal root is entered or not: for the worktree root a link to a
 /// directory counts as one. A fault of the question where it leads reads as no directory.
@@ -183,67 +180,46 @@ pub(crate) fn walk_from<W: Worktree, F: Find, I: Interrupt, M: Matcher, D: Deleg
     root: &[u8],
     depth_limit: usize,
     strategy: Strategy,
-    excludes: &mut Option<Stack>,
-    worktree: &mut W,
-    objects: &mut F,
-    interrupt: &mut I,
-    delegate: &mut D,
-    outcome: &mut Outcome,
+    parts: &mut Parts<'_, '_, '_, '_, '_, '_, W, F, I, D>,
 ) -> Result<(), Stop>
     requires root { IsRoot root.now }
     requires lookup { IsLookupIf shared.now.index.now shared.now.ignore_case_index_lookup.now }
-    requires excludes { tells_excludes (made_with excludes.old) ≡ true }
-    ensures gives { (s : Sources)
-        → Tells W.Worktree F.Find worktree.old objects.old excludes.old s
-        → NotIncreased (W.faults worktree.old) (W.faults worktree.new)
-        → D.is_default delegate.old ≡ true
-        → OnOk result (StartGives (setting_of M.Matcher shared.now) (made_with excludes.old) s
-        root.now depth_limit (D.given delegate.old) (D.given delegate.new) outcome.old
-        outcome.new) }
-    ensures part { (s : Sources)
-        → Tells W.Worktree F.Find worktree.old objects.old excludes.old s
-        → NotIncreased (W.faults worktree.old) (W.faults worktree.new)
-        → D.is_default delegate.old ≡ true
-        → (w : Walked) → walked_at (setting_of M.Matcher shared.now) (made_with excludes.old) s
-        root.now ≡ Some w
-        → OnErr result (IsPartOfAll (chosen shared.now.options) w (D.given delegate.old)
-        (D.given delegate.new) outcome.old outcome.new) }
-    ensures refused { (s : Sources)
-        → Tells W.Worktree F.Find worktree.old objects.old excludes.old s
-        → NotIncreased (W.faults worktree.old) (W.faults worktree.new)
-        → D.is_default delegate.old ≡ true
-        → IfErr result (OnRefused (StartRefuses (setting_of M.Matcher shared.now)
-        (made_with excludes.old) s root.now depth_limit
-        (Increased (F.faults objects.old) (F.faults objects.new)))) }
-    ensures no_root { (s : Sources) → W.told worktree.old ≡ Some s.tree
-        → NotIncreased (W.faults worktree.old) (W.faults worktree.new)
-        → IfErr result (OnRefused (OnNoRoot (IsNoTop (setting_of M.Matcher shared.now)
-        (made_with excludes.old) s (recursion_of D.Delegate delegate.old delegate.new)))) }
-    ensures unstarted { IfErr result (OnRefused (OnNoStart
-        ((W.lists worktree.new ≡ W.lists worktree.old) × (interrupt.new ≡ interrupt.old)
-        × (D.given delegate.new ≡ D.given delegate.old)))) }
-    ensures about { IfErr result (OnRefused (StartAbout (made_with excludes.old)
-        shared.now.worktree_root.now root.now depth_limit)) }
-    ensures found { (s : Sources) → W.told worktree.old ≡ Some s.tree
-        → IfErr result (OnRefused (StartFound shared.now.worktree_root.now
-        (F.holds objects.old) s (made_with excludes.old))) }
-    ensures opens { OpensFrom W.Worktree I.Interrupt worktree.old worktree.new interrupt.old
-        interrupt.new outcome.old outcome.new strategy (chosen shared.now.options)
-        (made_with excludes.old) root.now result (EntersFrom W.Worktree F.Find D.Delegate
-        worktree.old worktree.new objects.old excludes.old delegate.old
-        (setting_of M.Matcher shared.now) root.now depth_limit (unlisted_walk result)) }
-    ensures puts { PutsFrom root.now (D.given delegate.old) (D.given delegate.new) outcome.old
-        outcome.new }
-    ensures filtered { AddsShown (chosen shared.now.options) (D.given delegate.old)
-        (D.given delegate.new) }
-    ensures unmapped { strategy ≡ Held → maps_blobs (made_with excludes.old) ≡ false
-        → objects.new ≡ objects.old }
-    ensures ends { Ends W.Worktree F.Find I.Interrupt D.Delegate worktree.old worktree.new
-        objects.old objects.new interrupt.old interrupt.new excludes.old excludes.new delegate.old
-        delegate.new result }
+    requires excludes { tells_excludes (made_with parts.old.excludes.now) ≡ true }
+    // The parts are behind the same references.
+    ensures same { AreSame parts.old parts.new }
+    // Over what is told, it gives all that is walked or a part, and is refused for what is there.
+    ensures told { StartTold W.Worktree F.Find D.Delegate (moment parts.old) (moment parts.new)
+        (setting_of M.Matcher shared.now) depth_limit root.now result }
+    // Where the worktree root is refused, nothing is there to be walked.
+    ensures no_root { StartsNowhere W.Worktree D.Delegate (moment parts.old) (moment parts.new)
+        (setting_of M.Matcher shared.now) result }
+    // Where there is nothing to start from, nothing was listed or asked before, and nothing given.
+    ensures unstarted { StartsNothing W.Worktree D.Delegate
+        (moment parts.old) (moment parts.new) result }
+    // Over any worktree, what a refusal is about, and what it says of what is told.
+    ensures caused { StartCaused W.Worktree F.Find (moment parts.old)
+        (setting_of M.Matcher shared.now) depth_limit root.now result }
+    // How the directories that are opened are counted, and how many they are at most.
+    ensures opens { OpensStart W.Worktree I.Interrupt (moment parts.old) (moment parts.new) strategy
+        (setting_of M.Matcher shared.now) root.now result (EntersStart W.Worktree F.Find D.Delegate
+        (moment parts.old) (moment parts.new)
+        (setting_of M.Matcher shared.now) depth_limit root.now result) }
+    // A store that no rules file is mapped to is not asked where all is walked over it.
+    ensures unmapped { strategy ≡ Held → maps_blobs (made_with parts.old.excludes.now) ≡ false
+        → parts.new.objects.now ≡ parts.old.objects.now }
+    // Over any worktree, what the delegate is given, what stays, and how it ends.
+    ensures leaves { StartLeaves W.Worktree F.Find I.Interrupt D.Delegate
+        (moment parts.old) (moment parts.new) (setting_of M.Matcher shared.now) root.now result }
 {
-    let reached = classify::root_at(alloc, root, shared, excludes, worktree, objects)?;
-    if is_root_entered(alloc, shared, &reached, worktree, delegate)? {
+    let reached = classify::root_at(
+        alloc,
+        root,
+        shared,
+        parts.excludes,
+        parts.worktree,
+        parts.objects,
+    )?;
+    if is_root_entered(alloc, shared, &reached, parts.worktree, parts.delegate)? {
         return walk_entered(
             alloc,
             shared,
@@ -251,13 +227,8 @@ pub(crate) fn walk_from<W: Worktree, F: Find, I: Interrupt, M: Matcher, D: Deleg
             &reached.outcome,
             depth_limit,
             strategy,
-            excludes,
-            worktree,
-            objects,
-            interrupt,
-            delegate,
-            outcome,
+            parts,
         );
     }
-    put_root(alloc, shared, root, &reached, delegate, outcome)
+    put_root(alloc, shared, root, &reached, parts.delegate, parts.outcome)
 }

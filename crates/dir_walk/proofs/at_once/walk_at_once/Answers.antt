@@ -25,11 +25,11 @@ pub returns-clause-collects : goal.returns-clause-collects
 returns-clause-collects g c =
     let a = c.args in
     let feeds = c.in_ok-outcome.ensures.feeds in
-    collects-given g.W.Worktree g.F.Find (setting_in g.M.Matcher a.worktree_root.now a.options a.ctx) a.ctx.explicit_traversal_root.now a.ctx.depth_limit c.in_ok-outcome.outcome c.in_ok-outcome.root c.walk_parts.new.delegate
+    collects-given g.W.Worktree g.F.Find (setting_in g.M.Matcher a.worktree_root.now a.options a.ctx) a.ctx.explicit_traversal_root.now a.ctx.depth_limit c.in_ok-outcome.outcome c.in_ok-outcome.root c.walk_as.new.delegate
     c.new-delegate.result.unorded_entries c.new-delegate.ensures (λ s tells quiet. feeds.gives s tells refl quiet (omega arith)) feeds.filtered feeds.once (feeds.returned refl) feeds.seen
 
 pub returns-clause-walks_worktree : goal.returns-clause-walks_worktree
 returns-clause-walks_worktree g c =
     let a = c.args in
     walks-more g.W.Worktree g.F.Find g.I.Interrupt AtOnce (setting_in g.M.Matcher a.worktree_root.now a.options a.ctx) a.ctx.explicit_traversal_root.now a.ctx.depth_limit by_default (λ r. r.0) (λ r. r.1) (λ r. r.0) root_in
-    (c.in_ok-outcome.outcome, c.in_ok-outcome.root) (c.in_ok-outcome.outcome, c.in_ok-outcome.root, c.walk_parts.new.delegate) refl refl c.in_ok-outcome.ensures.walks_worktree
+    (c.in_ok-outcome.outcome, c.in_ok-outcome.root) (c.in_ok-outcome.outcome, c.in_ok-outcome.root, c.walk_as.new.delegate) refl refl c.in_ok-outcome.ensures.walks_worktree

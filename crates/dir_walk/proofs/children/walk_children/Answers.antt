@@ -1,24 +1,26 @@
+-- The traversal root, name by name: as any directory, but of what is opened the worktree counts only itself.
 use Rattle.std.proofs.Common.{◌≡◌, inl, ◌+◌, ap, sym, refl, ◌∙◌, length, arith, eqb-true, rules}
-use Rattle.std.proofs.lemmas.Result.{IfOk-weaker, on_err_weaker, err_from_is_err_and}
+use Rattle.std.proofs.lemmas.Result.{err_from_is_err_and}
 use Rattle.gitbase_core.specs.Path.{joined}
 use Rattle.worktree_fs.specs.Answers.{ListsNames}
-use Rattle.worktree_fs.specs.Causes.{Increased, NotIncreased}
+use Rattle.worktree_fs.specs.Causes.{NotIncreased}
 use Rattle.dir_classify.specs.Chosen.{chosen}
 use Rattle.dir_classify.specs.Excludes.{made_with}
 use Rattle.dir_classify.specs.Layers.{setting_of, evidence}
 use Rattle.dir_walk.specs.Report.{depth_of}
 use Rattle.dir_walk.specs.Emits.{Gives}
 use Rattle.dir_walk.specs.Told.{look_directory, item_told}
-use Rattle.dir_walk.proofs.Emitting.{Within-all}
+use Rattle.dir_walk.specs.Moments.{moment}
+use Rattle.dir_walk.proofs.DirectorySteps.{told-closed, told-empty, told-ended, told-unheld}
 use Rattle.dir_walk.proofs.Ending.{Caused-later, Caused-memory}
-use Rattle.dir_walk.proofs.Keeping.{Heeds-after, KeepsDelegate-same, KeepsDelegate-then, KeepsRules-same, KeepsRules-then, AsksStore-same, AsksStore-then, KeepsTree-then, AsksInterrupt-then, KeepsDelegate-asked}
+use Rattle.dir_walk.proofs.Keeping.{Heeds-after, KeepsDelegate-same, KeepsDelegate-then, KeepsRules-same, KeepsRules-then, AsksStore-same, AsksStore-then, KeepsTree-then, AsksInterrupt-then}
 use Rattle.dir_walk.proofs.Apart.{apart-end, apart-one, apart-then, apart-tried}
 use Rattle.dir_walk.proofs.Entered.{enters-all, enters-last, enters-more}
-use Rattle.dir_walk.proofs.Listed.{entered-empty, HasNames-listed, HasPaths-name, Gives-empty, Gives-listed, part-empty, part-name, part-close}
+use Rattle.dir_walk.proofs.Listed.{entered-empty, HasNames-listed}
 use Rattle.dir_walk.proofs.Named.{SoFar-none, SoFar-more}
-use Rattle.dir_walk.proofs.Steps.{IsEvidence-told, Stands-later}
+use Rattle.dir_walk.proofs.Steps.{Stands-later}
 use Rattle.dir_walk.proofs.Rooms.{Hands-none, Hands-empty, Hands-refused, Hands-closed, Puts-start, Puts-name}
-use Rattle.dir_walk.proofs.Refusals.{IsInTree-open, DirectoryRefuses-name, memory-only}
+use Rattle.dir_walk.proofs.Refusals.{IsInTree-open, memory-only}
 use Rattle.dir_walk.specs.Unopened.{unlisted_one}
 use Rattle.dir_walk.proofs.Shallow.{shallow-memory}
 use Rattle.dir_walk.proofs.children.walk_children.Goals as goal
@@ -28,18 +30,18 @@ returns-in_err-names-clause-walks g c =
     record {
       about = λ limit level.
           let p = err_from_is_err_and c.from_residual.result c.from_residual.ensures.1 in
-          rw (p.1, p.2) (rw c.requires.root at (c.in_err-names.ensures.about (made_with c.args.excludes.now) limit (omega (arith, level))));
+          rw (p.1, p.2) (rw c.requires.root at (c.in_err-names.ensures.caused.about (made_with c.args.parts.now.excludes.now) limit (omega (arith, level))));
       found = λ s told.
           let a = c.args in let p = err_from_is_err_and c.from_residual.result c.from_residual.ensures.1 in
-          rw (p.1, p.2) (IsInTree-open (g.F.Find.holds a.objects.now) s (made_with a.excludes.now) a.shared.now.worktree_root.now a.place.now.path _ (rw c.requires.root at (c.in_err-names.ensures.refused s.tree told)));
+          rw (p.1, p.2) (IsInTree-open (g.F.Find.holds a.parts.now.objects.now) s (made_with a.parts.now.excludes.now) a.shared.now.worktree_root.now a.place.now.path _ (rw c.requires.root at (c.in_err-names.ensures.refused s.tree told)));
       caused =
-          let p = err_from_is_err_and c.from_residual.result c.from_residual.ensures.1 in let stored = g.F.Find.faults c.args.objects.now in
-          rw (p.1, p.2) (record { fault = c.in_err-names.ensures.fault stored stored; interrupt = c.in_err-names.ensures.raised; listing = c.in_err-names.ensures.listing; listed = tt; calm = tt });
+          let p = err_from_is_err_and c.from_residual.result c.from_residual.ensures.1 in let stored = g.F.Find.faults c.args.parts.now.objects.now in
+          rw (p.1, p.2) (record { fault = c.in_err-names.ensures.caused.fault stored stored; interrupt = c.in_err-names.ensures.caused.raised; listing = c.in_err-names.ensures.caused.listing; listed = tt; calm = tt });
       worktree = search rules;
       store = search rules;
       interrupt = search rules;
       hands =
-          let p = err_from_is_err_and c.from_residual.result c.from_residual.ensures.1 in rw p.1 (Hands-none refl c.open.ensures.returned c.open.ensures.seen);
+          let p = err_from_is_err_and c.from_residual.result c.from_residual.ensures.1 in rw p.1 (Hands-none refl c.open.ensures.counts.returned c.open.ensures.counts.seen);
       delegate = KeepsDelegate-same;
       filtered = search rules;
       heeds = search rules;
@@ -47,73 +49,41 @@ returns-in_err-names-clause-walks g c =
 
 pub returns-then-is_empty-clause-told : goal.returns-then-is_empty-clause-told
 returns-then-is_empty-clause-told g c =
-    record {
-      gives = λ made s stands quiet default limit level.
-          let a = c.args in let told = g.D.Delegate.given in let given = setting_of g.M.Matcher a.shared.now in
-          let d = a.place.now.path in let ev = evidence given made s in let names = c.in_ok-names.names in
-          let bare : length names ≡ 0 = ap length (sym c.as_slice.ensures) ∙ eqb-true (length c.as_slice.result.now) 0 (sym c.is_empty.ensures ∙ c.if-is_empty.true) in
-          let lists : ListsNames (look_directory given s.tree d) names = rw c.requires.root at (c.in_ok-names.ensures.lists s.tree stands.tree) in
-          let opened = c.in_ok-names.ensures.counted (told a.delegate.now) in let is = IsEvidence-told given made s a.blocked.now stands.blocked_is in
-          IfOk-weaker c.close_empty.result _ _ (λ h closes. Gives-empty given made s d a.class.now names lists bare limit _ _ _ _ _ _ h (omega (arith, level)) opened closes)
-          (rw c.path-path.ensures.path at (c.close_empty.ensures.gives ev is));
-      part = λ made s stands quiet default.
-          let a = c.args in let given = setting_of g.M.Matcher a.shared.now in let d = a.place.now.path in let ev = evidence given made s in
-          let names = c.in_ok-names.names in
-          let bare : length names ≡ 0 = ap length (sym c.as_slice.ensures) ∙ eqb-true (length c.as_slice.result.now) 0 (sym c.is_empty.ensures ∙ c.if-is_empty.true) in
-          let lists : ListsNames (look_directory given s.tree d) names = rw c.requires.root at (c.in_ok-names.ensures.lists s.tree stands.tree) in
-          let opened = c.in_ok-names.ensures.counted (g.D.Delegate.given a.delegate.now) in
-          let is = IsEvidence-told given made s a.blocked.now stands.blocked_is in
-          on_err_weaker c.close_empty.result (λ part. part-empty given made s d a.class.now names lists bare _ _ _ a.outcome.now c.open.new.outcome c.close_empty.new.outcome opened part) (rw c.path-path.ensures.path at (c.close_empty.ensures.part ev is));
-      refused = λ made s stands default limit level. memory-only c.close_empty.result _ (inl tt) c.close_empty.ensures.memory;
-    }
+    let a = c.args in let names = c.in_ok-names.names in
+    let bare : length names ≡ 0 = ap length (sym c.as_slice.ensures) ∙ eqb-true (length c.as_slice.result.now) 0 (sym c.is_empty.ensures ∙ c.if-is_empty.true) in
+    told-empty g.W.Worktree g.F.Find g.D.Delegate (setting_of g.M.Matcher a.shared.now) a.place.now.path a.class.now names c.close_empty.result bare
+    (λ s told. rw c.requires.root at (c.in_ok-names.ensures.lists s.tree told)) (c.in_ok-names.ensures.counts.counted (g.D.Delegate.given a.parts.now.delegate.now))
+    (rw c.path-path.ensures.path at c.close_empty.ensures.gives) (rw c.path-path.ensures.path at c.close_empty.ensures.part) c.close_empty.ensures.memory
 
 pub loop-name-init : goal.loop-name-init
 loop-name-init g c =
     let a = c.args in let told = g.D.Delegate.given in let given = setting_of g.M.Matcher a.shared.now in
     record {
+      same = search rules;
       worktree = let opened = c.open.ensures.worktree in record { tree = opened.tree; faults = opened.faults; list_faults = opened.list_faults; reads = opened.reads; lists = opened.lists; precomposes = opened.precomposes };
       store = AsksStore-same;
       rules = KeepsRules-same;
       interrupt = c.open.ensures.interrupt;
-      opens = apart-end (λ n one made s stands quiet default. omega (arith, one)) (apart-one c.in_ok-names.ensures.opens c.open.ensures.once) refl refl;
-      puts = Puts-start a.place.now.path c.as_slice-name-items.result.now c.open.ensures.returned c.open.ensures.seen c.new-held.ensures.entries;
+      opens = apart-end (λ n one made s stands quiet default. omega (arith, one)) (apart-one c.in_ok-names.ensures.counts.opens c.open.ensures.counts.once) refl refl;
+      puts = Puts-start a.place.now.path c.as_slice-name-items.result.now c.open.ensures.counts.returned c.open.ensures.counts.seen c.new-held.ensures.entries;
       delegate = KeepsDelegate-same;
       filtered = refl;
-      listed = c.in_ok-names.ensures.listed;
-      calm = c.in_ok-names.ensures.calm;
+      listed = c.in_ok-names.ensures.caused.listed;
+      calm = c.in_ok-names.ensures.caused.calm;
       kept_on = refl;
       stays = refl;
       so_far = λ made s stands quiet default limit level.
-          rw (c.new-held.ensures.entries, c.new-held.ensures.blocked) (SoFar-none given made s limit a.place.now.path (told a.delegate.now) (told a.delegate.now) a.outcome.now c.open.new.outcome (c.in_ok-names.ensures.counted (told a.delegate.now)));
+          rw (c.new-held.ensures.entries, c.new-held.ensures.blocked) (SoFar-none given made s limit a.place.now.path (told a.parts.now.delegate.now) (told a.parts.now.delegate.now) a.parts.now.outcome.now c.open.new.outcome (c.in_ok-names.ensures.counts.counted (told a.parts.now.delegate.now)));
     }
 
 pub returns-in_err-handed-clause-told : goal.returns-in_err-handed-clause-told
 returns-in_err-handed-clause-told g c =
-    record {
-      gives = search rules;
-      part = λ made s stands quiet default.
-          let a = c.args in let w = g.W.Worktree in let given = setting_of g.M.Matcher a.shared.now in let d = a.place.now.path in
-          let has = HasNames-listed given s.tree d c.as_slice.ensures c.is_empty.ensures c.if-is_empty.false c.as_slice-name-items.ensures c.in_ok-names.ensures.names (rw c.requires.root at (c.in_ok-names.ensures.lists s.tree stands.tree)) in
-          let kept = c.loop-name.invariant in
-          let now = Stands-later given c.loop-name.excludes kept.worktree.tree kept.store.holds kept.rules.made kept.rules.in_step stands in
-          let before : NotIncreased (w.faults a.worktree.now) (w.faults c.loop-name.worktree) = omega (arith, quiet, c.walk_child.ensures.walks.worktree.faults) in
-          let here : NotIncreased (w.faults c.loop-name.worktree) (w.faults c.walk_child.new.worktree) = omega (arith, quiet, kept.worktree.faults) in
-          let so_far = kept.so_far made s stands before default (a.levels + depth_of d) refl in
-          let p = err_from_is_err_and c.from_residual-in_err-handed.result c.from_residual-in_err-handed.ensures.1 in
-          rw p.1 (part-name given made s d a.class.now c.as_slice-name-items.result.now has.lists has.are c.path-path.ensures.plain has.some (a.levels + depth_of d) c.loop-name.name-index c.name-item.result _ _ _ _ _ _ _ _ c.loop-name-test.true c.name-item.is so_far
-          (rw (c.as_bytes.ensures, c.loop-name.invariant.stays) at (c.in_err-handed.ensures.told.part made s now here (kept.delegate.default ∙ default))));
-      refused = λ made s stands default limit level.
-          let a = c.args in let w = g.W.Worktree in let given = setting_of g.M.Matcher a.shared.now in let d = a.place.now.path in
-          let kept = c.loop-name.invariant in
-          let has = HasNames-listed given s.tree d c.as_slice.ensures c.is_empty.ensures c.if-is_empty.false c.as_slice-name-items.ensures c.in_ok-names.ensures.names (rw c.requires.root at (c.in_ok-names.ensures.lists s.tree stands.tree)) in
-          let now = Stands-later given c.loop-name.excludes kept.worktree.tree kept.store.holds kept.rules.made kept.rules.in_step stands in
-          let name = c.name-item.result in let v = item_told given made s (joined d name) in
-          let within = HasPaths-name given made s d a.class.now c.as_slice-name-items.result.now has.lists has.are c.path-path.ensures.plain has.some c.loop-name.name-index name c.loop-name-test.true c.name-item.is in
-          let here : Type 0 = Increased (w.faults c.loop-name.worktree) (w.faults c.walk_child.new.worktree) in
-          let whole : Type 0 = Increased (w.faults a.worktree.now) (w.faults c.walk_child.new.worktree) in
-          let p = err_from_is_err_and c.from_residual-in_err-handed.result c.from_residual-in_err-handed.ensures.1 in
-          rw (p.1, p.2) (DirectoryRefuses-name given made s limit here whole v d a.class.now within (λ rose. omega (arith, rose, kept.worktree.faults)) _ (rw (c.as_bytes.ensures, c.loop-name.invariant.stays) at (c.in_err-handed.ensures.told.refused made s now (kept.delegate.default ∙ default) limit (rw kept.stays level))));
-    }
+    let a = c.args in let kept = c.loop-name.invariant in let p = err_from_is_err_and c.from_residual-in_err-handed.result c.from_residual-in_err-handed.ensures.1 in
+    rw (p.1, p.2)
+    (told-ended (moment c.loop-name.parts) a.class.now c.as_slice-name-items.result.now c.loop-name.name-index c.name-item.result
+    (λ s told. HasNames-listed (setting_of g.M.Matcher a.shared.now) s.tree a.place.now.path c.as_slice.ensures c.is_empty.ensures c.if-is_empty.false c.as_slice-name-items.ensures c.in_ok-names.ensures.names (rw c.requires.root at (c.in_ok-names.ensures.lists s.tree told)))
+    c.path-path.ensures.plain c.loop-name-test.true c.name-item.is kept.worktree kept.store kept.rules kept.delegate kept.so_far c.walk_child.ensures.walks.worktree.faults
+    c.in_err-handed.field-0.0 (rw (c.as_bytes.ensures, kept.stays) at c.in_err-handed.ensures.told))
 
 pub returns-in_err-handed-clause-rules : goal.returns-in_err-handed-clause-rules
 returns-in_err-handed-clause-rules g c = let kept = c.loop-name.invariant in KeepsRules-then kept.worktree.tree kept.store.holds kept.rules c.walk_child.ensures.rules
@@ -130,9 +100,9 @@ returns-in_err-handed-clause-walks g c =
       caused =
           let kept = c.loop-name.invariant in let p = err_from_is_err_and c.from_residual-in_err-handed.result c.from_residual-in_err-handed.ensures.1 in
           rw (p.1, p.2) (Caused-later _ kept.worktree.faults kept.store.faults kept.calm kept.listed c.in_err-handed.ensures.walks.caused);
-      worktree = search rules;
-      store = search rules;
-      interrupt = search rules;
+      worktree = KeepsTree-then c.loop-name.invariant.worktree c.walk_child.ensures.walks.worktree;
+      store = AsksStore-then c.loop-name.invariant.store c.walk_child.ensures.walks.store;
+      interrupt = AsksInterrupt-then c.loop-name.invariant.interrupt c.walk_child.ensures.walks.interrupt;
       hands =
           let p = err_from_is_err_and c.from_residual-in_err-handed.result c.from_residual-in_err-handed.ensures.1 in
           rw p.1 (Hands-refused c.args.place.now.path c.as_slice-name-items.result.now c.loop-name.name-index c.name-item.result c.loop-name-test.true c.name-item.is c.loop-name.invariant.puts (rw (c.as_bytes.ensures, c.loop-name.invariant.stays) at c.in_err-handed.ensures.walks.hands.puts) (rw c.as_slice-name-items.ensures c.in_ok-names.ensures.names)
@@ -146,25 +116,12 @@ returns-in_err-handed-clause-walks g c =
 
 pub returns-in_err-take-clause-told : goal.returns-in_err-take-clause-told
 returns-in_err-take-clause-told g c =
-    record {
-      gives = search rules;
-      part = λ made s stands quiet default.
-          let a = c.args in let w = g.W.Worktree in let told = g.D.Delegate.given in let o = chosen a.shared.now.options in
-          let given = setting_of g.M.Matcher a.shared.now in let d = a.place.now.path in let ev = evidence given made s in
-          let has = HasNames-listed given s.tree d c.as_slice.ensures c.is_empty.ensures c.if-is_empty.false c.as_slice-name-items.ensures c.in_ok-names.ensures.names (rw c.requires.root at (c.in_ok-names.ensures.lists s.tree stands.tree)) in
-          let kept = c.loop-name.invariant in
-          let now = Stands-later given c.loop-name.excludes kept.worktree.tree kept.store.holds kept.rules.made kept.rules.in_step stands in
-          let before : NotIncreased (w.faults a.worktree.now) (w.faults c.loop-name.worktree) = omega (arith, quiet, c.walk_child.ensures.walks.worktree.faults) in
-          let here : NotIncreased (w.faults c.loop-name.worktree) (w.faults c.walk_child.new.worktree) = omega (arith, quiet, kept.worktree.faults) in
-          let name = c.name-item.result in
-          let gives : Gives o (a.levels + depth_of d) ev (item_told given made s (joined d name)) (told c.loop-name.delegate) (told c.walk_child.new.delegate) c.loop-name.outcome c.walk_child.new.outcome c.in_ok-handed.handed =
-          rw (c.as_bytes.ensures, c.loop-name.invariant.stays) at (c.in_ok-handed.ensures.told.gives made s now here (kept.delegate.default ∙ default) (a.levels + depth_of d) (rw kept.stays refl)) in
-          let so_far = kept.so_far made s stands before default (a.levels + depth_of d) refl in
-          let p = err_from_is_err_and c.from_residual-in_err-take.result c.from_residual-in_err-take.ensures.1 in
-          rw p.1 (part-name given made s d a.class.now c.as_slice-name-items.result.now has.lists has.are c.path-path.ensures.plain has.some (a.levels + depth_of d) c.loop-name.name-index name _ _ _ _ _ _ _ _ c.loop-name-test.true c.name-item.is so_far (Within-all _ _ _ _ _ _ _ _ _ gives.emits (λ q. omega arith) (omega arith)));
-      refused = λ made s stands default limit level.
-          let p = err_from_is_err_and c.from_residual-in_err-take.result c.from_residual-in_err-take.ensures.1 in rw (p.1, p.2) (inl tt);
-    }
+    let a = c.args in let kept = c.loop-name.invariant in let p = err_from_is_err_and c.from_residual-in_err-take.result c.from_residual-in_err-take.ensures.1 in
+    rw (p.1, p.2)
+    (told-unheld (moment c.loop-name.parts) a.class.now c.as_slice-name-items.result.now c.loop-name.name-index c.name-item.result
+    (λ s told. HasNames-listed (setting_of g.M.Matcher a.shared.now) s.tree a.place.now.path c.as_slice.ensures c.is_empty.ensures c.if-is_empty.false c.as_slice-name-items.ensures c.in_ok-names.ensures.names (rw c.requires.root at (c.in_ok-names.ensures.lists s.tree told)))
+    c.path-path.ensures.plain c.loop-name-test.true c.name-item.is kept.worktree kept.store kept.rules kept.delegate kept.so_far c.walk_child.ensures.walks.worktree.faults
+    c.in_ok-handed.handed (rw (c.as_bytes.ensures, kept.stays) at c.in_ok-handed.ensures.told))
 
 pub returns-in_err-take-clause-rules : goal.returns-in_err-take-clause-rules
 returns-in_err-take-clause-rules g c = let kept = c.loop-name.invariant in KeepsRules-then kept.worktree.tree kept.store.holds kept.rules c.walk_child.ensures.rules
@@ -176,10 +133,10 @@ returns-in_err-take-clause-walks g c =
           let p = err_from_is_err_and c.from_residual-in_err-take.result c.from_residual-in_err-take.ensures.1 in rw (p.1, p.2) tt;
       found = λ s told.
           let p = err_from_is_err_and c.from_residual-in_err-take.result c.from_residual-in_err-take.ensures.1 in rw (p.1, p.2) tt;
-      caused = search rules;
-      worktree = search rules;
-      store = search rules;
-      interrupt = search rules;
+      caused = let p = err_from_is_err_and c.from_residual-in_err-take.result c.from_residual-in_err-take.ensures.1 in rw (p.1, p.2) (record { fault = tt; interrupt = tt; listing = tt; listed = tt; calm = tt });
+      worktree = KeepsTree-then c.loop-name.invariant.worktree c.walk_child.ensures.walks.worktree;
+      store = AsksStore-then c.loop-name.invariant.store c.walk_child.ensures.walks.store;
+      interrupt = AsksInterrupt-then c.loop-name.invariant.interrupt c.walk_child.ensures.walks.interrupt;
       hands =
           let p = err_from_is_err_and c.from_residual-in_err-take.result c.from_residual-in_err-take.ensures.1 in
           rw p.1 (Hands-refused c.args.place.now.path c.as_slice-name-items.result.now c.loop-name.name-index c.name-item.result c.loop-name-test.true c.name-item.is c.loop-name.invariant.puts (rw (c.as_bytes.ensures, c.loop-name.invariant.stays) at c.in_ok-handed.ensures.walks.hands.puts) (rw c.as_slice-name-items.ensures c.in_ok-names.ensures.names)
@@ -193,6 +150,7 @@ pub loop-name-preserved : goal.loop-name-preserved
 loop-name-preserved g c =
     let kept = c.loop-name.invariant in
     record {
+      same = search rules;
       worktree = KeepsTree-then kept.worktree c.walk_child.ensures.walks.worktree;
       store = AsksStore-then kept.store c.walk_child.ensures.walks.store;
       rules = KeepsRules-then kept.worktree.tree kept.store.holds kept.rules c.walk_child.ensures.rules;
@@ -208,35 +166,21 @@ loop-name-preserved g c =
       so_far = λ made s stands quiet default limit level.
           let a = c.args in let w = g.W.Worktree in let told = g.D.Delegate.given in let o = chosen a.shared.now.options in
           let given = setting_of g.M.Matcher a.shared.now in let d = a.place.now.path in let ev = evidence given made s in
-          let now = Stands-later given c.loop-name.excludes kept.worktree.tree kept.store.holds kept.rules.made kept.rules.in_step stands in
-          let before : NotIncreased (w.faults a.worktree.now) (w.faults c.loop-name.worktree) = omega (arith, quiet, c.walk_child.ensures.walks.worktree.faults) in
-          let here : NotIncreased (w.faults c.loop-name.worktree) (w.faults c.walk_child.new.worktree) = omega (arith, quiet, kept.worktree.faults) in
+          let now = Stands-later given c.loop-name.parts.excludes.now kept.worktree.tree kept.store.holds kept.rules.made kept.rules.in_step stands in
+          let before : NotIncreased (w.faults a.parts.now.worktree.now) (w.faults c.loop-name.parts.worktree.now) = omega (arith, quiet, c.walk_child.ensures.walks.worktree.faults) in
+          let here : NotIncreased (w.faults c.loop-name.parts.worktree.now) (w.faults c.walk_child.new.parts.worktree.now) = omega (arith, quiet, kept.worktree.faults) in
           let name = c.name-item.result in
-          let gives : Gives o limit ev (item_told given made s (joined d name)) (told c.loop-name.delegate) (told c.walk_child.new.delegate) c.loop-name.outcome c.walk_child.new.outcome c.in_ok-handed.handed =
+          let gives : Gives o limit ev (item_told given made s (joined d name)) (told c.loop-name.parts.delegate.now) (told c.walk_child.new.parts.delegate.now) c.loop-name.parts.outcome.now c.walk_child.new.parts.outcome.now c.in_ok-handed.handed =
           rw (c.as_bytes.ensures, c.loop-name.invariant.stays) at (c.in_ok-handed.ensures.told.gives made s now here (kept.delegate.default ∙ default) limit (rw kept.stays level)) in
           SoFar-more given made s limit d c.as_slice-name-items.result.now c.loop-name.name-index name _ _ _ _ _ _ _ _ _ _ c.in_ok-handed.handed c.loop-name-test.true c.name-item.is (kept.so_far made s stands before default limit level) gives c.in_ok-take.ensures.entries c.in_ok-take.ensures.blocked;
     }
 
 pub returns-clause-told : goal.returns-clause-told
 returns-clause-told g c =
-    record {
-      gives = λ made s stands quiet default limit level.
-          let a = c.args in let given = setting_of g.M.Matcher a.shared.now in
-          let d = a.place.now.path in let ev = evidence given made s in
-          let has = HasNames-listed given s.tree d c.as_slice.ensures c.is_empty.ensures c.if-is_empty.false c.as_slice-name-items.ensures c.in_ok-names.ensures.names (rw c.requires.root at (c.in_ok-names.ensures.lists s.tree stands.tree)) in
-          let held = c.loop-name.held in let is = IsEvidence-told given made s a.blocked.now stands.blocked_is in
-          IfOk-weaker c.close.result _ _ (λ h closes. Gives-listed given made s d a.class.now c.as_slice-name-items.result.now has.lists has.are c.path-path.ensures.plain has.some limit c.loop-name.name-index _ _ _ _ _ held.entries.items held.blocked c.loop-name-test.false (c.loop-name.invariant.so_far made s stands quiet default limit level) _ h (omega (arith, level)) closes)
-          (rw (c.path.ensures.path, c.loop-name.invariant.stays) at (c.close.ensures.gives ev is));
-      part = λ made s stands quiet default.
-          let a = c.args in let told = g.D.Delegate.given in let given = setting_of g.M.Matcher a.shared.now in let d = a.place.now.path in
-          let ev = evidence given made s in
-          let has = HasNames-listed given s.tree d c.as_slice.ensures c.is_empty.ensures c.if-is_empty.false c.as_slice-name-items.ensures c.in_ok-names.ensures.names (rw c.requires.root at (c.in_ok-names.ensures.lists s.tree stands.tree)) in
-          let held = c.loop-name.held in let is = IsEvidence-told given made s a.blocked.now stands.blocked_is in
-          let so_far = c.loop-name.invariant.so_far made s stands quiet default (a.levels + depth_of d) refl in
-          on_err_weaker c.close.result (λ part. part-close given made s d a.class.now c.as_slice-name-items.result.now has.lists has.are c.path-path.ensures.plain has.some (a.levels + depth_of d) c.loop-name.name-index (told a.delegate.now) (told c.loop-name.delegate) (told c.close.new.delegate) a.outcome.now c.loop-name.outcome held.entries.items held.blocked c.loop-name-test.false so_far c.close.new.outcome part)
-          (rw (c.path.ensures.path, c.loop-name.invariant.stays) at (c.close.ensures.part ev is));
-      refused = λ made s stands default limit level. memory-only c.close.result _ (inl tt) c.close.ensures.memory;
-    }
+    let a = c.args in let kept = c.loop-name.invariant in let held = c.loop-name.held in
+    told-closed g.W.Worktree g.F.Find g.D.Delegate (moment c.loop-name.parts) (setting_of g.M.Matcher a.shared.now) a.place.now.path a.class.now c.as_slice-name-items.result.now c.loop-name.name-index held.entries.items held.blocked c.close.result
+    (λ s told. HasNames-listed (setting_of g.M.Matcher a.shared.now) s.tree a.place.now.path c.as_slice.ensures c.is_empty.ensures c.if-is_empty.false c.as_slice-name-items.ensures c.in_ok-names.ensures.names (rw c.requires.root at (c.in_ok-names.ensures.lists s.tree told)))
+    c.path-path.ensures.plain c.loop-name-test.false kept.so_far (rw (c.path.ensures.path, kept.stays) at c.close.ensures.gives) (rw (c.path.ensures.path, kept.stays) at c.close.ensures.part) c.close.ensures.memory
 
 pub returns-clause-walks : goal.returns-clause-walks
 returns-clause-walks g c =
@@ -275,7 +219,7 @@ returns-then-is_empty-clause-walks g c =
       worktree = search rules;
       store = search rules;
       interrupt = search rules;
-      hands = Hands-empty c.open.ensures.returned c.open.ensures.seen (rw c.path-path.ensures.path at c.close_empty.ensures.hands);
+      hands = Hands-empty c.open.ensures.counts.returned c.open.ensures.counts.seen (rw c.path-path.ensures.path at c.close_empty.ensures.hands);
       delegate = search rules;
       filtered = search rules;
       heeds = search rules;
@@ -283,7 +227,7 @@ returns-then-is_empty-clause-walks g c =
 
 pub returns-in_err-names-clause-opens : goal.returns-in_err-names-clause-opens
 returns-in_err-names-clause-opens g c =
-    let p = err_from_is_err_and c.from_residual.result c.from_residual.ensures.1 in rw (p.1, p.2) (apart-tried {opened = unlisted_one c.in_err-names.field-0.0} (λ made s stands quiet default. omega arith) c.in_err-names.ensures.tried c.open.ensures.once)
+    let p = err_from_is_err_and c.from_residual.result c.from_residual.ensures.1 in rw (p.1, p.2) (apart-tried {opened = unlisted_one c.in_err-names.field-0.0} (λ made s stands quiet default. omega arith) c.in_err-names.ensures.counts.tried c.open.ensures.counts.once)
 
 pub returns-then-is_empty-clause-opens : goal.returns-then-is_empty-clause-opens
 returns-then-is_empty-clause-opens g c =
@@ -293,7 +237,7 @@ returns-then-is_empty-clause-opens g c =
     (λ n one made s stands quiet default.
     let lists : ListsNames (look_directory given s.tree d) names = rw c.requires.root at (c.in_ok-names.ensures.lists s.tree stands.tree) in
     let itself = entered-empty given made s d a.class.now names lists bare (a.levels + depth_of d) (omega arith) in omega (arith, one, itself))
-    (apart-one c.in_ok-names.ensures.opens c.open.ensures.once) c.close_empty.ensures.entered (shallow-memory c.close_empty.result c.close_empty.ensures.memory)
+    (apart-one c.in_ok-names.ensures.counts.opens c.open.ensures.counts.once) c.close_empty.ensures.entered (shallow-memory c.close_empty.result c.close_empty.ensures.memory)
 
 pub returns-in_err-handed-clause-opens : goal.returns-in_err-handed-clause-opens
 returns-in_err-handed-clause-opens g c =
@@ -316,6 +260,6 @@ returns-in_err-take-clause-opens g c =
 pub returns-clause-opens : goal.returns-clause-opens
 returns-clause-opens g c =
     apart-end
-    (enters-all g.W.Worktree g.F.Find g.D.Delegate c.args.worktree.now c.loop-name.worktree c.args.objects.now c.args.excludes.now c.args.delegate.now (setting_of g.M.Matcher c.args.shared.now) c.args.blocked.now (c.args.levels + depth_of c.args.place.now.path) c.args.place.now.path c.as_slice-name-items.result.now c.loop-name.name-index (omega arith) c.loop-name-test.false c.args.class.now _
+    (enters-all g.W.Worktree g.F.Find g.D.Delegate c.args.parts.now.worktree.now c.loop-name.parts.worktree.now c.args.parts.now.objects.now c.args.parts.now.excludes.now c.args.parts.now.delegate.now (setting_of g.M.Matcher c.args.shared.now) c.args.blocked.now (c.args.levels + depth_of c.args.place.now.path) c.args.place.now.path c.as_slice-name-items.result.now c.loop-name.name-index (omega arith) c.loop-name-test.false c.args.class.now _
     (λ s told. HasNames-listed (setting_of g.M.Matcher c.args.shared.now) s.tree c.args.place.now.path c.as_slice.ensures c.is_empty.ensures c.if-is_empty.false c.as_slice-name-items.ensures c.in_ok-names.ensures.names (rw c.requires.root at (c.in_ok-names.ensures.lists s.tree told))) c.path-path.ensures.plain)
     c.loop-name.invariant.opens c.close.ensures.entered (shallow-memory c.close.result c.close.ensures.memory)

@@ -7,6 +7,7 @@ use Rattle.dir_classify.specs.Chosen.{chosen}
 use Rattle.dir_classify.specs.Kept.{KeepsRules}
 use Rattle.dir_classify.specs.Layers.{setting_of}
 use Rattle.dir_walk.specs.Kept.{KeepsTree, AsksInterrupt, KeepsDelegate}
+use Rattle.dir_walk.specs.Moments.{AreSame}
 use Rattle.dir_walk.specs.Opens.{OpensApart}
 use Rattle.dir_walk.specs.Puts.{AddsShown, Puts}
 use Rattle.dir_walk.specs.Report.{depth_of}
@@ -24,20 +25,21 @@ invariant-loop-name g l =
     let d = g.D.Delegate in
     let given = setting_of g.M.Matcher l.shared in
     record {
-      worktree : KeepsTree w l.fn.worktree l.worktree;
-      store : AsksStore f l.fn.objects l.objects;
-      rules : KeepsRules w f l.fn.worktree l.worktree l.fn.objects l.fn.excludes l.excludes;
-      interrupt : AsksInterrupt i l.fn.interrupt l.interrupt;
-      opens : OpensApart w i l.fn.worktree l.worktree l.fn.interrupt l.interrupt l.fn.outcome l.outcome 1 0
-          (EntersSoFar w f d l.fn.worktree l.worktree l.fn.objects l.fn.excludes l.fn.delegate given l.blocked (l.levels + depth_of l.fn.place.path) l.fn.place.path (take l.name-index l.name-items));
-      puts : Puts (once_below l.fn.place.path (take l.name-index l.name-items)) (d.given l.fn.delegate) (d.given l.delegate) l.fn.outcome l.outcome l.held.entries.items;
-      delegate : KeepsDelegate d l.fn.delegate l.delegate;
-      filtered : AddsShown (chosen l.shared.options) (d.given l.fn.delegate) (d.given l.delegate);
-      listed : w.list_faults l.worktree ≡ w.list_faults l.fn.worktree;
-      calm : i.raised l.interrupt ≡ i.raised l.fn.interrupt;
-      kept_on : d.breaks l.delegate ≡ d.breaks l.fn.delegate;
+      same : AreSame l.fn.parts l.parts;
+      worktree : KeepsTree w l.fn.parts.worktree.now l.parts.worktree.now;
+      store : AsksStore f l.fn.parts.objects.now l.parts.objects.now;
+      rules : KeepsRules w f l.fn.parts.worktree.now l.parts.worktree.now l.fn.parts.objects.now l.fn.parts.excludes.now l.parts.excludes.now;
+      interrupt : AsksInterrupt i l.fn.parts.interrupt.now l.parts.interrupt.now;
+      opens : OpensApart w i l.fn.parts.worktree.now l.parts.worktree.now l.fn.parts.interrupt.now l.parts.interrupt.now l.fn.parts.outcome.now l.parts.outcome.now 1 0
+          (EntersSoFar w f d l.fn.parts.worktree.now l.parts.worktree.now l.fn.parts.objects.now l.fn.parts.excludes.now l.fn.parts.delegate.now given l.blocked (l.levels + depth_of l.fn.place.path) l.fn.place.path (take l.name-index l.name-items));
+      puts : Puts (once_below l.fn.place.path (take l.name-index l.name-items)) (d.given l.fn.parts.delegate.now) (d.given l.parts.delegate.now) l.fn.parts.outcome.now l.parts.outcome.now l.held.entries.items;
+      delegate : KeepsDelegate d l.fn.parts.delegate.now l.parts.delegate.now;
+      filtered : AddsShown (chosen l.shared.options) (d.given l.fn.parts.delegate.now) (d.given l.parts.delegate.now);
+      listed : w.list_faults l.parts.worktree.now ≡ w.list_faults l.fn.parts.worktree.now;
+      calm : i.raised l.parts.interrupt.now ≡ i.raised l.fn.parts.interrupt.now;
+      kept_on : d.breaks l.parts.delegate.now ≡ d.breaks l.fn.parts.delegate.now;
       stays : l.place ≡ l.fn.place;
-      so_far : (made : Option Made) (s : Sources) → Stands given (w.told l.fn.worktree) (f.holds l.fn.objects) l.fn.excludes l.blocked made s → NotIncreased (w.faults l.fn.worktree) (w.faults l.worktree)
-          → d.is_default l.fn.delegate ≡ true → (limit : ℕ) → l.levels + depth_of l.fn.place.path ≡ limit
-          → SoFar given made s limit l.fn.place.path (take l.name-index l.name-items) (d.given l.fn.delegate) (d.given l.delegate) l.fn.outcome l.outcome l.held.entries.items l.held.blocked;
+      so_far : (made : Option Made) (s : Sources) → Stands given (w.told l.fn.parts.worktree.now) (f.holds l.fn.parts.objects.now) l.fn.parts.excludes.now l.blocked made s → NotIncreased (w.faults l.fn.parts.worktree.now) (w.faults l.parts.worktree.now)
+          → d.is_default l.fn.parts.delegate.now ≡ true → (limit : ℕ) → l.levels + depth_of l.fn.place.path ≡ limit
+          → SoFar given made s limit l.fn.place.path (take l.name-index l.name-items) (d.given l.fn.parts.delegate.now) (d.given l.parts.delegate.now) l.fn.parts.outcome.now l.parts.outcome.now l.held.entries.items l.held.blocked;
     }

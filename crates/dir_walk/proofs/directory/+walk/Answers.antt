@@ -1,42 +1,38 @@
-use Rattle.std.proofs.Common.{◌≡◌, ◌⊎◌, inl, inr, Bool, ◌<◌, ◌≤◌, ◌+◌, ◌-◌, ◌&&◌, ℕ, List, None, ap, sym, refl, ◌∙◌, length, arith, eqb-true, true, false, subst, rules}
-use Rattle.std.proofs.lemmas.Result.{IfOk-weaker, IfErr-weaker, on_ok_weaker, on_err_weaker, err_from_is_err_and}
+-- A name of a directory and the directory itself, which call each other: exit by exit, what is told, what stays, and what is opened.
+use Rattle.std.proofs.Common.{◌≡◌, inl, ◌≤◌, ◌+◌, ◌-◌, ◌&&◌, ℕ, None, ap, sym, refl, ◌∙◌, length, arith, eqb-true, true, false, subst, rules}
+use Rattle.std.proofs.lemmas.Result.{IfOk-weaker, on_ok_weaker, on_err_weaker, err_from_is_err_and}
 use Rattle.gitbase_core.specs.Path.{is_empty, joined}
 use Rattle.worktree_fs.specs.Answers.{ListsNames}
-use Rattle.worktree_fs.specs.Causes.{Increased, NotIncreased}
-use Rattle.worktree_fs.specs.Paths.{full_path}
-use Rattle.worktree_fs.specs.Tree.{look}
-use Rattle.dir_classify.specs.declared.error.Error.{Error}
+use Rattle.worktree_fs.specs.Causes.{NotIncreased}
 use Rattle.dir_classify.specs.Chosen.{chosen}
 use Rattle.dir_classify.specs.Class.{class, asks, enters, leaf_class}
 use Rattle.dir_classify.specs.Excludes.{made_with}
-use Rattle.dir_classify.specs.Faults.{IsJudged}
 use Rattle.dir_classify.specs.Layers.{setting_of, evidence, on_disk}
-use Rattle.dir_walk.specs.Given.{OnRefused}
 use Rattle.dir_walk.specs.Placed.{Standing, IsPushed}
-use Rattle.dir_walk.specs.Refused.{Refuses, DirectoryRefuses}
 use Rattle.dir_walk.specs.Opens.{count_within}
 use Rattle.dir_walk.specs.Report.{depth_of}
 use Rattle.dir_walk.specs.Emits.{Gives}
-use Rattle.dir_walk.specs.Told.{look_name, look_directory, item_told, directory_told}
+use Rattle.dir_walk.specs.Told.{look_directory, item_told, directory_told}
 use Rattle.dir_walk.specs.Unopened.{unlisted_one}
-use Rattle.dir_classify.proofs.Classed.{asked-quiet}
-use Rattle.dir_walk.proofs.Emitting.{Within-all}
+use Rattle.dir_walk.specs.Moments.{moment}
+use Rattle.dir_walk.proofs.NameEnds.{Before-same, any-entered, any-leaf, any-memory}
+use Rattle.dir_walk.proofs.CallByCall.{Before-asked, Before-classed, Before-then}
+use Rattle.dir_walk.proofs.DirectorySteps.{told-closed, told-empty, told-ended, told-unheld}
 use Rattle.dir_walk.proofs.Ending.{Caused-later, Caused-memory}
 use Rattle.dir_walk.proofs.Keeping.{Heeds-after, KeepsDelegate-same, KeepsDelegate-then, KeepsRules-same, KeepsRules-then, AsksStore-same, AsksStore-then, KeepsTree-then, AsksInterrupt-then, unmapped-then, KeepsDelegate-asked}
 use Rattle.dir_walk.proofs.Entered.{enters-all, enters-last, enters-more}
 use Rattle.dir_walk.proofs.Opening.{opens-none, opens-then, opens-still, opens-end, opens-least, opens-one, opens-refused, opens-below, opens-class, hides-none}
-use Rattle.dir_walk.proofs.Listed.{entered-empty, HasNames-listed, HasPaths-name, Gives-empty, Gives-listed, part-empty, part-name, part-close}
+use Rattle.dir_walk.proofs.Listed.{entered-empty, HasNames-listed}
 use Rattle.dir_walk.proofs.Named.{SoFar-none, SoFar-more}
 use Rattle.dir_walk.proofs.JoinedPaths.{joined-some}
 use Rattle.dir_walk.proofs.Placed.{depth_of-joined}
 use Rattle.dir_walk.proofs.Standing.{OnOk-always}
-use Rattle.dir_walk.proofs.Steps.{entered-directory, IsEvidence-told, telling, Stands-later, Gives-leaf, Gives-directory, Gives-put, HasPaths-told, enter-told, among-asked, part-leaf, part-directory, part-put}
-use Rattle.dir_walk.proofs.Rooms.{Hands-none, Hands-leaf, Hands-empty, Hands-refused, Hands-closed, Puts-start, Puts-name}
+use Rattle.dir_walk.proofs.Steps.{entered-directory, telling, Stands-later, Gives-leaf, Gives-put, part-leaf, part-put}
+use Rattle.dir_walk.proofs.Rooms.{Hands-none, Hands-empty, Hands-refused, Hands-closed, Puts-start, Puts-name}
 use Rattle.dir_walk.proofs.Hiding.{AddsShown-same}
-use Rattle.dir_walk.proofs.Judged.{indexed-unlisted}
-use Rattle.dir_walk.proofs.Refusals.{HasPaths, IsAbout-class, IsAbout-deep, IsInTree-class, IsInTree-open, Refuses-class, Refuses-deep, Refuses-directory, DirectoryRefuses-name, memory-only, refused-any, rose-or, either}
+use Rattle.dir_walk.proofs.Refusals.{IsAbout-class, IsAbout-deep, IsInTree-class, IsInTree-open, memory-only}
 use Rattle.dir_walk.proofs.Shallow.{shallow-class, shallow-memory}
-use Rattle.dir_walk.proofs.NameSteps.{told-entered}
+use Rattle.dir_walk.proofs.NameSteps.{told-deep, told-entered, told-unclassed}
 use Rattle.dir_walk.proofs.directory.+walk.Goals as goal
 
 pub walk_directory-returns-in_err-names-clause-walks : goal.walk_directory-returns-in_err-names-clause-walks
@@ -44,18 +40,18 @@ walk_directory-returns-in_err-names-clause-walks g t c =
     record {
       about = λ limit level.
           let p = err_from_is_err_and c.from_residual.result c.from_residual.ensures.1 in
-          rw (p.1, p.2) (rw c.requires.root at (c.in_err-names.ensures.about (made_with c.args.parts.now.excludes.now) limit (omega (arith, level))));
+          rw (p.1, p.2) (rw c.requires.root at (c.in_err-names.ensures.caused.about (made_with c.args.parts.now.excludes.now) limit (omega (arith, level))));
       found = λ s told.
           let a = c.args in let p = err_from_is_err_and c.from_residual.result c.from_residual.ensures.1 in
           rw (p.1, p.2) (IsInTree-open (g.F.Find.holds a.parts.now.objects.now) s (made_with a.parts.now.excludes.now) a.shared.now.worktree_root.now a.place.now.path _ (rw c.requires.root at (c.in_err-names.ensures.refused s.tree told)));
       caused =
           let p = err_from_is_err_and c.from_residual.result c.from_residual.ensures.1 in let stored = g.F.Find.faults c.args.parts.now.objects.now in
-          rw (p.1, p.2) (record { fault = c.in_err-names.ensures.fault stored stored; interrupt = c.in_err-names.ensures.raised; listing = c.in_err-names.ensures.listing; listed = tt; calm = tt });
+          rw (p.1, p.2) (record { fault = c.in_err-names.ensures.caused.fault stored stored; interrupt = c.in_err-names.ensures.caused.raised; listing = c.in_err-names.ensures.caused.listing; listed = tt; calm = tt });
       worktree = search rules;
       store = search rules;
       interrupt = search rules;
       hands =
-          let p = err_from_is_err_and c.from_residual.result c.from_residual.ensures.1 in rw p.1 (Hands-none refl c.open.ensures.returned c.open.ensures.seen);
+          let p = err_from_is_err_and c.from_residual.result c.from_residual.ensures.1 in rw p.1 (Hands-none refl c.open.ensures.counts.returned c.open.ensures.counts.seen);
       delegate = KeepsDelegate-same;
       filtered = search rules;
       heeds = search rules;
@@ -63,25 +59,11 @@ walk_directory-returns-in_err-names-clause-walks g t c =
 
 pub walk_directory-returns-then-is_empty-clause-told : goal.walk_directory-returns-then-is_empty-clause-told
 walk_directory-returns-then-is_empty-clause-told g t c =
-    record {
-      gives = λ made s stands quiet default limit level.
-          let a = c.args in let told = g.D.Delegate.given in let given = setting_of g.M.Matcher a.shared.now in
-          let d = a.place.now.path in let ev = evidence given made s in let names = c.in_ok-names.names in
-          let bare : length names ≡ 0 = ap length (sym c.as_slice.ensures) ∙ eqb-true (length c.as_slice.result.now) 0 (sym c.is_empty.ensures ∙ c.if-is_empty.true) in
-          let lists : ListsNames (look_directory given s.tree d) names = rw c.requires.root at (c.in_ok-names.ensures.lists s.tree stands.tree) in
-          let opened = c.in_ok-names.ensures.counted (told a.parts.now.delegate.now) in let is = IsEvidence-told given made s a.blocked.now stands.blocked_is in
-          IfOk-weaker c.close_empty.result _ _ (λ h closes. Gives-empty given made s d a.class.now names lists bare limit _ _ _ _ _ _ h (omega (arith, level)) opened closes)
-          (rw c.path-path.ensures.path at (c.close_empty.ensures.gives ev is));
-      part = λ made s stands quiet default.
-          let a = c.args in let given = setting_of g.M.Matcher a.shared.now in let d = a.place.now.path in let ev = evidence given made s in
-          let names = c.in_ok-names.names in
-          let bare : length names ≡ 0 = ap length (sym c.as_slice.ensures) ∙ eqb-true (length c.as_slice.result.now) 0 (sym c.is_empty.ensures ∙ c.if-is_empty.true) in
-          let lists : ListsNames (look_directory given s.tree d) names = rw c.requires.root at (c.in_ok-names.ensures.lists s.tree stands.tree) in
-          let opened = c.in_ok-names.ensures.counted (g.D.Delegate.given a.parts.now.delegate.now) in
-          let is = IsEvidence-told given made s a.blocked.now stands.blocked_is in
-          on_err_weaker c.close_empty.result (λ part. part-empty given made s d a.class.now names lists bare _ _ _ a.parts.now.outcome.now c.open.new.outcome c.close_empty.new.outcome opened part) (rw c.path-path.ensures.path at (c.close_empty.ensures.part ev is));
-      refused = λ made s stands default limit level. memory-only c.close_empty.result _ (inl tt) c.close_empty.ensures.memory;
-    }
+    let a = c.args in let names = c.in_ok-names.names in
+    let bare : length names ≡ 0 = ap length (sym c.as_slice.ensures) ∙ eqb-true (length c.as_slice.result.now) 0 (sym c.is_empty.ensures ∙ c.if-is_empty.true) in
+    told-empty g.W.Worktree g.F.Find g.D.Delegate (setting_of g.M.Matcher a.shared.now) a.place.now.path a.class.now names c.close_empty.result bare
+    (λ s told. rw c.requires.root at (c.in_ok-names.ensures.lists s.tree told)) (c.in_ok-names.ensures.counts.counted (g.D.Delegate.given a.parts.now.delegate.now))
+    (rw c.path-path.ensures.path at c.close_empty.ensures.gives) (rw c.path-path.ensures.path at c.close_empty.ensures.part) c.close_empty.ensures.memory
 
 pub walk_directory-loop-name-init : goal.walk_directory-loop-name-init
 walk_directory-loop-name-init g t c =
@@ -93,45 +75,26 @@ walk_directory-loop-name-init g t c =
       unmapped = λ none. refl;
       rules = KeepsRules-same;
       interrupt = c.open.ensures.interrupt;
-      opens = opens-end (λ n one made s stands quiet default. omega (arith, one)) (opens-one c.in_ok-names.ensures.opens c.open.ensures.reads) refl refl;
-      puts = Puts-start a.place.now.path c.as_slice-name-items.result.now c.open.ensures.returned c.open.ensures.seen c.new-held.ensures.entries;
+      opens = opens-end (λ n one made s stands quiet default. omega (arith, one)) (opens-one c.in_ok-names.ensures.counts.opens c.open.ensures.counts.reads) refl refl;
+      puts = Puts-start a.place.now.path c.as_slice-name-items.result.now c.open.ensures.counts.returned c.open.ensures.counts.seen c.new-held.ensures.entries;
       delegate = KeepsDelegate-same;
       filtered = refl;
-      listed = c.in_ok-names.ensures.listed;
-      calm = c.in_ok-names.ensures.calm;
+      listed = c.in_ok-names.ensures.caused.listed;
+      calm = c.in_ok-names.ensures.caused.calm;
       kept_on = refl;
       stays = refl;
       so_far = λ made s stands quiet default limit level.
-          rw (c.new-held.ensures.entries, c.new-held.ensures.blocked) (SoFar-none given made s limit a.place.now.path (told a.parts.now.delegate.now) (told a.parts.now.delegate.now) a.parts.now.outcome.now c.open.new.outcome (c.in_ok-names.ensures.counted (told a.parts.now.delegate.now)));
+          rw (c.new-held.ensures.entries, c.new-held.ensures.blocked) (SoFar-none given made s limit a.place.now.path (told a.parts.now.delegate.now) (told a.parts.now.delegate.now) a.parts.now.outcome.now c.open.new.outcome (c.in_ok-names.ensures.counts.counted (told a.parts.now.delegate.now)));
     }
 
 pub walk_directory-returns-in_err-handed-clause-told : goal.walk_directory-returns-in_err-handed-clause-told
 walk_directory-returns-in_err-handed-clause-told g t c =
-    record {
-      gives = λ made s stands quiet default limit level. let p = err_from_is_err_and c.from_residual-in_err-handed.result c.from_residual-in_err-handed.ensures.1 in rw p.1 tt;
-      part = λ made s stands quiet default.
-          let a = c.args in let w = g.W.Worktree in let given = setting_of g.M.Matcher a.shared.now in let d = a.place.now.path in
-          let has = HasNames-listed given s.tree d c.as_slice.ensures c.is_empty.ensures c.if-is_empty.false c.as_slice-name-items.ensures c.in_ok-names.ensures.names (rw c.requires.root at (c.in_ok-names.ensures.lists s.tree stands.tree)) in
-          let kept = c.loop-name.invariant in
-          let now = Stands-later given c.loop-name.parts.excludes.now kept.worktree.tree kept.store.holds kept.rules.made kept.rules.in_step stands in
-          let before : NotIncreased (w.faults a.parts.now.worktree.now) (w.faults c.loop-name.parts.worktree.now) = omega (arith, quiet, c.walk_name.ensures.walks.worktree.faults) in
-          let here : NotIncreased (w.faults c.loop-name.parts.worktree.now) (w.faults c.walk_name.new.parts.worktree.now) = omega (arith, quiet, kept.worktree.faults) in
-          let so_far = kept.so_far made s stands before default (a.levels + depth_of d) refl in
-          let p = err_from_is_err_and c.from_residual-in_err-handed.result c.from_residual-in_err-handed.ensures.1 in
-          rw p.1 (part-name given made s d a.class.now c.as_slice-name-items.result.now has.lists has.are c.path-path.ensures.plain has.some (a.levels + depth_of d) c.loop-name.name-index c.name-item.result _ _ _ _ _ _ _ _ c.loop-name-test.true c.name-item.is so_far
-          (rw (c.as_bytes.ensures, c.loop-name.invariant.stays) at (c.in_err-handed.ensures.told.part made s now here (kept.delegate.default ∙ default))));
-      refused = λ made s stands default limit level.
-          let a = c.args in let w = g.W.Worktree in let given = setting_of g.M.Matcher a.shared.now in let d = a.place.now.path in
-          let kept = c.loop-name.invariant in
-          let has = HasNames-listed given s.tree d c.as_slice.ensures c.is_empty.ensures c.if-is_empty.false c.as_slice-name-items.ensures c.in_ok-names.ensures.names (rw c.requires.root at (c.in_ok-names.ensures.lists s.tree stands.tree)) in
-          let now = Stands-later given c.loop-name.parts.excludes.now kept.worktree.tree kept.store.holds kept.rules.made kept.rules.in_step stands in
-          let name = c.name-item.result in let v = item_told given made s (joined d name) in
-          let within = HasPaths-name given made s d a.class.now c.as_slice-name-items.result.now has.lists has.are c.path-path.ensures.plain has.some c.loop-name.name-index name c.loop-name-test.true c.name-item.is in
-          let here : Type 0 = Increased (w.faults c.loop-name.parts.worktree.now) (w.faults c.walk_name.new.parts.worktree.now) in
-          let whole : Type 0 = Increased (w.faults a.parts.now.worktree.now) (w.faults c.walk_name.new.parts.worktree.now) in
-          let p = err_from_is_err_and c.from_residual-in_err-handed.result c.from_residual-in_err-handed.ensures.1 in
-          rw (p.1, p.2) (DirectoryRefuses-name given made s limit here whole v d a.class.now within (λ rose. omega (arith, rose, kept.worktree.faults)) _ (rw (c.as_bytes.ensures, c.loop-name.invariant.stays) at (c.in_err-handed.ensures.told.refused made s now (kept.delegate.default ∙ default) limit (rw kept.stays level))));
-    }
+    let a = c.args in let kept = c.loop-name.invariant in let p = err_from_is_err_and c.from_residual-in_err-handed.result c.from_residual-in_err-handed.ensures.1 in
+    rw (p.1, p.2)
+    (told-ended (moment c.loop-name.parts) a.class.now c.as_slice-name-items.result.now c.loop-name.name-index c.name-item.result
+    (λ s told. HasNames-listed (setting_of g.M.Matcher a.shared.now) s.tree a.place.now.path c.as_slice.ensures c.is_empty.ensures c.if-is_empty.false c.as_slice-name-items.ensures c.in_ok-names.ensures.names (rw c.requires.root at (c.in_ok-names.ensures.lists s.tree told)))
+    c.path-path.ensures.plain c.loop-name-test.true c.name-item.is kept.worktree kept.store kept.rules kept.delegate kept.so_far c.walk_name.ensures.walks.worktree.faults
+    c.in_err-handed.field-0.0 (rw (c.as_bytes.ensures, kept.stays) at c.in_err-handed.ensures.told))
 
 pub walk_directory-returns-in_err-handed-clause-rules : goal.walk_directory-returns-in_err-handed-clause-rules
 walk_directory-returns-in_err-handed-clause-rules g t c = let kept = c.loop-name.invariant in KeepsRules-then kept.worktree.tree kept.store.holds kept.rules c.walk_name.ensures.rules
@@ -164,25 +127,12 @@ walk_directory-returns-in_err-handed-clause-walks g t c =
 
 pub walk_directory-returns-in_err-take-clause-told : goal.walk_directory-returns-in_err-take-clause-told
 walk_directory-returns-in_err-take-clause-told g t c =
-    record {
-      gives = λ made s stands quiet default limit level. let p = err_from_is_err_and c.from_residual-in_err-take.result c.from_residual-in_err-take.ensures.1 in rw p.1 tt;
-      part = λ made s stands quiet default.
-          let a = c.args in let w = g.W.Worktree in let told = g.D.Delegate.given in let o = chosen a.shared.now.options in
-          let given = setting_of g.M.Matcher a.shared.now in let d = a.place.now.path in let ev = evidence given made s in
-          let has = HasNames-listed given s.tree d c.as_slice.ensures c.is_empty.ensures c.if-is_empty.false c.as_slice-name-items.ensures c.in_ok-names.ensures.names (rw c.requires.root at (c.in_ok-names.ensures.lists s.tree stands.tree)) in
-          let kept = c.loop-name.invariant in
-          let now = Stands-later given c.loop-name.parts.excludes.now kept.worktree.tree kept.store.holds kept.rules.made kept.rules.in_step stands in
-          let before : NotIncreased (w.faults a.parts.now.worktree.now) (w.faults c.loop-name.parts.worktree.now) = omega (arith, quiet, c.walk_name.ensures.walks.worktree.faults) in
-          let here : NotIncreased (w.faults c.loop-name.parts.worktree.now) (w.faults c.walk_name.new.parts.worktree.now) = omega (arith, quiet, kept.worktree.faults) in
-          let name = c.name-item.result in
-          let gives : Gives o (a.levels + depth_of d) ev (item_told given made s (joined d name)) (told c.loop-name.parts.delegate.now) (told c.walk_name.new.parts.delegate.now) c.loop-name.parts.outcome.now c.walk_name.new.parts.outcome.now c.in_ok-handed.handed =
-          rw (c.as_bytes.ensures, c.loop-name.invariant.stays) at (c.in_ok-handed.ensures.told.gives made s now here (kept.delegate.default ∙ default) (a.levels + depth_of d) (rw kept.stays refl)) in
-          let so_far = kept.so_far made s stands before default (a.levels + depth_of d) refl in
-          let p = err_from_is_err_and c.from_residual-in_err-take.result c.from_residual-in_err-take.ensures.1 in
-          rw p.1 (part-name given made s d a.class.now c.as_slice-name-items.result.now has.lists has.are c.path-path.ensures.plain has.some (a.levels + depth_of d) c.loop-name.name-index name _ _ _ _ _ _ _ _ c.loop-name-test.true c.name-item.is so_far (Within-all _ _ _ _ _ _ _ _ _ gives.emits (λ q. omega arith) (omega arith)));
-      refused = λ made s stands default limit level.
-          let p = err_from_is_err_and c.from_residual-in_err-take.result c.from_residual-in_err-take.ensures.1 in rw (p.1, p.2) (inl tt);
-    }
+    let a = c.args in let kept = c.loop-name.invariant in let p = err_from_is_err_and c.from_residual-in_err-take.result c.from_residual-in_err-take.ensures.1 in
+    rw (p.1, p.2)
+    (told-unheld (moment c.loop-name.parts) a.class.now c.as_slice-name-items.result.now c.loop-name.name-index c.name-item.result
+    (λ s told. HasNames-listed (setting_of g.M.Matcher a.shared.now) s.tree a.place.now.path c.as_slice.ensures c.is_empty.ensures c.if-is_empty.false c.as_slice-name-items.ensures c.in_ok-names.ensures.names (rw c.requires.root at (c.in_ok-names.ensures.lists s.tree told)))
+    c.path-path.ensures.plain c.loop-name-test.true c.name-item.is kept.worktree kept.store kept.rules kept.delegate kept.so_far c.walk_name.ensures.walks.worktree.faults
+    c.in_ok-handed.handed (rw (c.as_bytes.ensures, kept.stays) at c.in_ok-handed.ensures.told))
 
 pub walk_directory-returns-in_err-take-clause-rules : goal.walk_directory-returns-in_err-take-clause-rules
 walk_directory-returns-in_err-take-clause-rules g t c = let kept = c.loop-name.invariant in KeepsRules-then kept.worktree.tree kept.store.holds kept.rules c.walk_name.ensures.rules
@@ -239,24 +189,10 @@ walk_directory-loop-name-preserved g t c =
 
 pub walk_directory-returns-clause-told : goal.walk_directory-returns-clause-told
 walk_directory-returns-clause-told g t c =
-    record {
-      gives = λ made s stands quiet default limit level.
-          let a = c.args in let given = setting_of g.M.Matcher a.shared.now in
-          let d = a.place.now.path in let ev = evidence given made s in
-          let has = HasNames-listed given s.tree d c.as_slice.ensures c.is_empty.ensures c.if-is_empty.false c.as_slice-name-items.ensures c.in_ok-names.ensures.names (rw c.requires.root at (c.in_ok-names.ensures.lists s.tree stands.tree)) in
-          let held = c.loop-name.held in let is = IsEvidence-told given made s a.blocked.now stands.blocked_is in
-          IfOk-weaker c.close.result _ _ (λ h closes. Gives-listed given made s d a.class.now c.as_slice-name-items.result.now has.lists has.are c.path-path.ensures.plain has.some limit c.loop-name.name-index _ _ _ _ _ held.entries.items held.blocked c.loop-name-test.false (c.loop-name.invariant.so_far made s stands quiet default limit level) _ h (omega (arith, level)) closes)
-          (rw (c.path.ensures.path, c.loop-name.invariant.stays) at (c.close.ensures.gives ev is));
-      part = λ made s stands quiet default.
-          let a = c.args in let told = g.D.Delegate.given in let given = setting_of g.M.Matcher a.shared.now in let d = a.place.now.path in
-          let ev = evidence given made s in
-          let has = HasNames-listed given s.tree d c.as_slice.ensures c.is_empty.ensures c.if-is_empty.false c.as_slice-name-items.ensures c.in_ok-names.ensures.names (rw c.requires.root at (c.in_ok-names.ensures.lists s.tree stands.tree)) in
-          let held = c.loop-name.held in let is = IsEvidence-told given made s a.blocked.now stands.blocked_is in
-          let so_far = c.loop-name.invariant.so_far made s stands quiet default (a.levels + depth_of d) refl in
-          on_err_weaker c.close.result (λ part. part-close given made s d a.class.now c.as_slice-name-items.result.now has.lists has.are c.path-path.ensures.plain has.some (a.levels + depth_of d) c.loop-name.name-index (told a.parts.now.delegate.now) (told c.loop-name.parts.delegate.now) (told c.close.new.delegate) a.parts.now.outcome.now c.loop-name.parts.outcome.now held.entries.items held.blocked c.loop-name-test.false so_far c.close.new.outcome part)
-          (rw (c.path.ensures.path, c.loop-name.invariant.stays) at (c.close.ensures.part ev is));
-      refused = λ made s stands default limit level. memory-only c.close.result _ (inl tt) c.close.ensures.memory;
-    }
+    let a = c.args in let kept = c.loop-name.invariant in let held = c.loop-name.held in
+    told-closed g.W.Worktree g.F.Find g.D.Delegate (moment c.loop-name.parts) (setting_of g.M.Matcher a.shared.now) a.place.now.path a.class.now c.as_slice-name-items.result.now c.loop-name.name-index held.entries.items held.blocked c.close.result
+    (λ s told. HasNames-listed (setting_of g.M.Matcher a.shared.now) s.tree a.place.now.path c.as_slice.ensures c.is_empty.ensures c.if-is_empty.false c.as_slice-name-items.ensures c.in_ok-names.ensures.names (rw c.requires.root at (c.in_ok-names.ensures.lists s.tree told)))
+    c.path-path.ensures.plain c.loop-name-test.false kept.so_far (rw (c.path.ensures.path, kept.stays) at c.close.ensures.gives) (rw (c.path.ensures.path, kept.stays) at c.close.ensures.part) c.close.ensures.memory
 
 pub walk_directory-returns-clause-walks : goal.walk_directory-returns-clause-walks
 walk_directory-returns-clause-walks g t c =
@@ -334,7 +270,7 @@ walk_directory-returns-then-is_empty-clause-walks g t c =
       worktree = search rules;
       store = search rules;
       interrupt = search rules;
-      hands = Hands-empty c.open.ensures.returned c.open.ensures.seen (rw c.path-path.ensures.path at c.close_empty.ensures.hands);
+      hands = Hands-empty c.open.ensures.counts.returned c.open.ensures.counts.seen (rw c.path-path.ensures.path at c.close_empty.ensures.hands);
       delegate = search rules;
       filtered = search rules;
       heeds = search rules;
@@ -366,23 +302,10 @@ walk_name-returns-in_err-class-clause-walks g t c =
 
 pub walk_name-returns-in_err-class-clause-told : goal.walk_name-returns-in_err-class-clause-told
 walk_name-returns-in_err-class-clause-told g t c =
-    record {
-      gives = search rules;
-      part = search rules;
-      refused = λ made s stands default limit level.
-          let a = c.args in let w = g.W.Worktree in let given = setting_of g.M.Matcher a.shared.now in let p = c.push.new.self.path in
-          let at = ap (λ (x : Standing). x.path) c.in_ok-cut.ensures.pushed in let ev = evidence given made s in
-          let some : is_empty p ≡ false = ap is_empty at ∙ joined-some a.place.now.path a.name.now c.requires.name in
-          let Asks : Type 0 = asks (chosen a.shared.now.options) ev p None (on_disk given s.tree p true) ≡ true in
-          let failed : Type 0 = Increased (w.faults a.parts.now.worktree.now) (w.faults c.class_of.new.worktree) in
-          let r = err_from_is_err_and c.from_residual-in_err-class.result c.from_residual-in_err-class.ensures.1 in
-          let P : List ℕ → Type 0 = λ x. Refuses given made s limit failed (item_told given made s x) c.in_err-class.field-0.0 in
-          rw (r.1, r.2) (subst P at (Refuses-class given made s limit failed Asks (item_told given made s p) p c.in_err-class.field-0.0 c.path-path.ensures.normal (rw (c.path-path.ensures.path, stands.made_is) at c.in_err-class.ensures.about)
-          (rw (c.path-path.ensures.path, stands.made_is) at (c.in_err-class.ensures.refused s (telling stands)))
-          (either (λ quiet. inl (asked-quiet (w.faults a.parts.now.worktree.now) (w.faults c.class_of.new.worktree) (λ k. asks (chosen a.shared.now.options) ev p None k) (on_disk given s.tree p true) c.in_err-class.field-0.0 quiet
-          (rw (c.path-path.ensures.path, stands.made_is) at (c.in_err-class.ensures.asked s stands.tree)))) (λ rose. inr rose) (rose-or (w.faults a.parts.now.worktree.now) (w.faults c.class_of.new.worktree)))
-          (among-asked given made s p some)));
-    }
+    let r = err_from_is_err_and c.from_residual-in_err-class.result c.from_residual-in_err-class.ensures.1 in
+    rw (r.1, r.2)
+    (told-unclassed g.W.Worktree g.F.Find g.D.Delegate (setting_of g.M.Matcher c.args.shared.now) c.push.new.self.path c.in_err-class.field-0.0 c.requires.name c.path-path.ensures.normal (ap (λ (x : Standing). x.path) c.in_ok-cut.ensures.pushed)
+    (rw c.path-path.ensures.path at c.in_err-class.ensures) refl refl)
 
 pub walk_name-returns-then-levels-eq0-clause-walks : goal.walk_name-returns-then-levels-eq0-clause-walks
 walk_name-returns-then-levels-eq0-clause-walks g t c =
@@ -406,62 +329,28 @@ walk_name-returns-then-levels-eq0-clause-walks g t c =
 
 pub walk_name-returns-then-levels-eq0-clause-told : goal.walk_name-returns-then-levels-eq0-clause-told
 walk_name-returns-then-levels-eq0-clause-told g t c =
-    record {
-      gives = search rules;
-      part = search rules;
-      refused = λ made s stands default limit level.
-          let a = c.args in let w = g.W.Worktree in let given = setting_of g.M.Matcher a.shared.now in let d = a.place.now.path in
-          let p = c.push.new.self.path in let at = ap (λ (x : Standing). x.path) c.in_ok-cut.ensures.pushed in
-          let base : c.push.new.self.root ≡ a.shared.now.worktree_root.now = ap (λ (x : Standing). x.root) c.in_ok-cut.ensures.pushed ∙ c.requires.root in
-          let deep : limit < depth_of p = omega (arith, level, c.if-levels-eq0.true, ap depth_of at, depth_of-joined d a.name.now c.requires.name) in
-          let k = c.in_ok-class.class in let some : is_empty p ≡ false = ap is_empty at ∙ joined-some d a.name.now c.requires.name in
-          let into : enters (chosen a.shared.now.options) k false ≡ true = sym (c.is_entered.ensures.entered default) ∙ c.if-is_entered.true in
-          let exact = λ (quiet : NotIncreased (w.faults a.parts.now.worktree.now) (w.faults c.class_of.new.worktree)). (rw (c.path-path.ensures.path, stands.made_is) at (c.in_ok-class.ensures.class s (telling stands) stands.in_step quiet)) in
-          let failed : Type 0 = Increased (w.faults a.parts.now.worktree.now) (w.faults c.class_of.new.worktree) in
-          let P : List ℕ → Type 0 = λ x. Refuses given made s limit failed (item_told given made s x) c.too_deep.result in
-          subst P at (Refuses-deep given made s limit failed _ (item_told given made s p) p c.too_deep.result deep
-          (either (λ quiet. inl (enter-told given made s p k (exact quiet) some into)) (λ rose. inr rose) (rose-or (w.faults a.parts.now.worktree.now) (w.faults c.class_of.new.worktree))) (rw base at c.too_deep.ensures.deep));
-    }
+    let a = c.args in let at = ap (λ (x : Standing). x.path) c.in_ok-cut.ensures.pushed in
+    let base : c.push.new.self.root ≡ a.shared.now.worktree_root.now = ap (λ (x : Standing). x.root) c.in_ok-cut.ensures.pushed ∙ c.requires.root in
+    told-deep g.W.Worktree g.F.Find g.D.Delegate (setting_of g.M.Matcher a.shared.now) c.push.new.self.path c.in_ok-class.class _ c.too_deep.result c.requires.name at
+    (omega (arith, c.if-levels-eq0.true, ap depth_of at, depth_of-joined a.place.now.path a.name.now c.requires.name))
+    (rw c.path-path.ensures.path at c.in_ok-class.ensures) (λ default. sym (c.is_entered.ensures.entered default) ∙ c.if-is_entered.true) c.is_entered.ensures.given refl (rw base at c.too_deep.ensures.deep)
 
 pub walk_name-returns-then-is_entered-clause-walks : goal.walk_name-returns-then-is_entered-clause-walks
 walk_name-returns-then-is_entered-clause-walks g t c =
-    record {
-      about = λ limit level.
-          let a = c.args in let at = ap (λ (x : Standing). x.path) c.in_ok-cut.ensures.pushed in
-          let deeper : (a.levels - 1) + depth_of c.push.new.self.path ≡ limit = omega (arith, level, c.if-levels-eq0.false, ap depth_of at, depth_of-joined a.place.now.path a.name.now c.requires.name) in
-          rw c.class_of.ensures.rules.made at (c.walk_directory-handed.ensures.walks.about limit deeper);
-      found = λ s told. rw (c.class_of.ensures.store.holds, c.class_of.ensures.rules.made) at (c.walk_directory-handed.ensures.walks.found s (c.class_of.ensures.keeps.tree ∙ told));
-      caused = Caused-later c.walk_directory-handed.result c.class_of.ensures.keeps.faults c.class_of.ensures.store.faults refl c.class_of.ensures.keeps.list_faults c.walk_directory-handed.ensures.walks.caused;
-      worktree = record { tree = c.walk_directory-handed.ensures.walks.worktree.tree ∙ c.class_of.ensures.keeps.tree; faults = omega (arith, c.class_of.ensures.keeps.faults, c.walk_directory-handed.ensures.walks.worktree.faults); list_faults = omega (arith, c.class_of.ensures.keeps.list_faults, c.walk_directory-handed.ensures.walks.worktree.list_faults); reads = omega (arith, c.class_of.ensures.keeps.reads, c.walk_directory-handed.ensures.walks.worktree.reads); lists = omega (arith, c.class_of.ensures.keeps.lists, c.walk_directory-handed.ensures.walks.worktree.lists); precomposes = c.walk_directory-handed.ensures.walks.worktree.precomposes ∙ c.class_of.ensures.keeps.precomposes };
-      store = AsksStore-then c.class_of.ensures.store c.walk_directory-handed.ensures.walks.store;
-      interrupt = c.walk_directory-handed.ensures.walks.interrupt;
-      hands =
-          let path = ap (λ (x : Standing). x.path) c.in_ok-cut.ensures.pushed in rw (path, c.is_entered.ensures.given) at c.walk_directory-handed.ensures.walks.hands;
-      delegate = KeepsDelegate-then (KeepsDelegate-asked c.is_entered.ensures.default c.is_entered.ensures.given c.is_entered.ensures.breaks c.is_entered.ensures.refusals) c.walk_directory-handed.ensures.walks.delegate;
-      filtered = c.walk_directory-handed.ensures.walks.filtered ∙ AddsShown-same (chosen c.args.shared.now.options) c.is_entered.ensures.given;
-      heeds = Heeds-after g.D.Delegate _ _ _ c.walk_directory-handed.result c.is_entered.ensures.breaks c.walk_directory-handed.ensures.walks.heeds;
-    }
+    let a = c.args in let at = ap (λ (x : Standing). x.path) c.in_ok-cut.ensures.pushed in
+    any-entered (record { worktree = c.class_of.new.worktree; objects = c.class_of.new.objects; interrupt = a.parts.now.interrupt.now; delegate = c.is_entered.new.delegate; rules = c.class_of.new.excludes; outcome = a.parts.now.outcome.now })
+    (Before-classed c.class_of.ensures.keeps c.class_of.ensures.store c.class_of.ensures.rules) c.is_entered.ensures.default c.is_entered.ensures.given c.is_entered.ensures.breaks c.is_entered.ensures.refusals at
+    (omega (arith, c.if-levels-eq0.false, ap depth_of at, depth_of-joined a.place.now.path a.name.now c.requires.name)) c.walk_directory-handed.ensures.walks
 
 pub walk_name-returns-clause-walks : goal.walk_name-returns-clause-walks
 walk_name-returns-clause-walks g t c =
-    record {
-      about = λ limit level. memory-only c.put_leaf-handed.result _ tt c.put_leaf-handed.ensures.memory;
-      found = λ s told. memory-only c.put_leaf-handed.result _ tt c.put_leaf-handed.ensures.memory;
-      caused = search rules;
-      worktree = search rules;
-      store = search rules;
-      interrupt = search rules;
-      hands =
-          let path = ap (λ (x : Standing). x.path) c.in_ok-cut.ensures.pushed in
-          Hands-leaf (rw (c.path-path.ensures.path, path, c.is_entered.ensures.given) at c.put_leaf-handed.ensures.hands);
-      delegate = search rules;
-      filtered = c.put_leaf-handed.ensures.filtered ∙ AddsShown-same (chosen c.args.shared.now.options) c.is_entered.ensures.given;
-      heeds = search rules;
-    }
+    any-leaf c.is_entered.new.delegate c.put_leaf-handed.result (Before-then (Before-classed c.class_of.ensures.keeps c.class_of.ensures.store c.class_of.ensures.rules) (Before-asked c.leaf_class.ensures.worktree))
+    c.is_entered.ensures.default c.is_entered.ensures.given c.is_entered.ensures.breaks c.is_entered.ensures.refusals c.put_leaf-handed.ensures.delegate c.put_leaf-handed.ensures.filtered c.put_leaf-handed.ensures.heeds
+    (ap (λ (x : Standing). x.path) c.in_ok-cut.ensures.pushed) (rw c.path-path.ensures.path at c.put_leaf-handed.ensures.hands) c.put_leaf-handed.ensures.memory
 
 pub walk_directory-returns-in_err-names-clause-opens : goal.walk_directory-returns-in_err-names-clause-opens
 walk_directory-returns-in_err-names-clause-opens g t c =
-    let p = err_from_is_err_and c.from_residual.result c.from_residual.ensures.1 in rw (p.1, p.2) (opens-refused {opened = unlisted_one c.in_err-names.field-0.0} (λ made s stands quiet default. omega arith) c.in_err-names.ensures.tried c.open.ensures.reads)
+    let p = err_from_is_err_and c.from_residual.result c.from_residual.ensures.1 in rw (p.1, p.2) (opens-refused {opened = unlisted_one c.in_err-names.field-0.0} (λ made s stands quiet default. omega arith) c.in_err-names.ensures.counts.tried c.open.ensures.counts.reads)
 
 pub walk_directory-returns-then-is_empty-clause-opens : goal.walk_directory-returns-then-is_empty-clause-opens
 walk_directory-returns-then-is_empty-clause-opens g t c =
@@ -471,7 +360,7 @@ walk_directory-returns-then-is_empty-clause-opens g t c =
     (λ n one made s stands quiet default.
     let lists : ListsNames (look_directory given s.tree d) names = rw c.requires.root at (c.in_ok-names.ensures.lists s.tree stands.tree) in
     let itself = entered-empty given made s d a.class.now names lists bare (a.levels + depth_of d) (omega arith) in omega (arith, one, itself))
-    (opens-one c.in_ok-names.ensures.opens c.open.ensures.reads) c.close_empty.ensures.entered (shallow-memory c.close_empty.result c.close_empty.ensures.memory)
+    (opens-one c.in_ok-names.ensures.counts.opens c.open.ensures.counts.reads) c.close_empty.ensures.entered (shallow-memory c.close_empty.result c.close_empty.ensures.memory)
 
 pub walk_directory-returns-in_err-handed-clause-opens : goal.walk_directory-returns-in_err-handed-clause-opens
 walk_directory-returns-in_err-handed-clause-opens g t c =
@@ -505,10 +394,8 @@ walk_name-returns-in_err-cut-clause-opens g t c =
 
 pub walk_name-returns-in_err-class-clause-opens : goal.walk_name-returns-in_err-class-clause-opens
 walk_name-returns-in_err-class-clause-opens g t c =
-    let path = ap (λ (x : Standing). x.path) c.in_ok-cut.ensures.pushed in
-    let r = err_from_is_err_and c.from_residual-in_err-class.result c.from_residual-in_err-class.ensures.1 in
-    rw (r.1, r.2)
-    (opens-least (λ n none made s stands quiet default. omega (arith, none)) (shallow-class _ _ c.in_err-class.field-0.0 c.in_err-class.ensures.about)
+    let path = ap (λ (x : Standing). x.path) c.in_ok-cut.ensures.pushed in let r = err_from_is_err_and c.from_residual-in_err-class.result c.from_residual-in_err-class.ensures.1 in
+    rw (r.1, r.2) (opens-least (λ n none made s stands quiet default. omega (arith, none)) (shallow-class _ _ c.in_err-class.field-0.0 c.in_err-class.ensures.about)
     (opens-class c.args.place.now.path c.args.name.now c.requires.name c.class_of.ensures.keeps.lists (rw (c.path-path.ensures.path, path) at c.in_err-class.ensures.reads)))
 
 pub walk_name-returns-then-levels-eq0-clause-opens : goal.walk_name-returns-then-levels-eq0-clause-opens
@@ -519,8 +406,7 @@ walk_name-returns-then-levels-eq0-clause-opens g t c =
 
 pub walk_name-returns-then-is_entered-clause-opens : goal.walk_name-returns-then-is_entered-clause-opens
 walk_name-returns-then-is_entered-clause-opens g t c =
-    let path = ap (λ (x : Standing). x.path) c.in_ok-cut.ensures.pushed in
-    let a = c.args in let w = g.W.Worktree in let o = chosen a.shared.now.options in let given = setting_of g.M.Matcher a.shared.now in
+    let path = ap (λ (x : Standing). x.path) c.in_ok-cut.ensures.pushed in let a = c.args in let w = g.W.Worktree in let o = chosen a.shared.now.options in let given = setting_of g.M.Matcher a.shared.now in
     let d = a.place.now.path in let q = joined d a.name.now in let p = c.push.new.self.path in let k = c.in_ok-class.class in
     opens-then
     (λ m n none below made s stands quiet default.
@@ -543,8 +429,7 @@ pub walk_name-returns-in_err-class-2-clause-opens : goal.walk_name-returns-in_er
 walk_name-returns-in_err-class-2-clause-opens g t c =
     let path = ap (λ (x : Standing). x.path) c.in_ok-cut.ensures.pushed in let o = chosen c.args.shared.now.options in
     let r = err_from_is_err_and c.from_residual-in_err-class-2.result c.from_residual-in_err-class-2.ensures.1 in
-    rw (r.1, r.2)
-    (opens-still (λ n none made s stands quiet default. omega (arith, none))
+    rw (r.1, r.2) (opens-still (λ n none made s stands quiet default. omega (arith, none))
     (opens-class c.args.place.now.path c.args.name.now c.requires.name c.class_of.ensures.keeps.lists (rw (c.path-path.ensures.path, path) at c.in_ok-class.ensures.reads)) c.leaf_class.ensures.worktree.lists refl (omega arith) (λ on. c.leaf_class.ensures.reads (hides-none o on)))
 
 pub walk_name-returns-clause-opens : goal.walk_name-returns-clause-opens
@@ -556,35 +441,12 @@ walk_name-returns-clause-opens g t c =
 
 pub walk_name-returns-in_err-cut-clause-walks : goal.walk_name-returns-in_err-cut-clause-walks
 walk_name-returns-in_err-cut-clause-walks g t c =
-    record {
-      about = search rules;
-      found = search rules;
-      caused = search rules;
-      worktree = search rules;
-      store = search rules;
-      interrupt = search rules;
-      hands =
-          let r = err_from_is_err_and c.from_residual.result c.from_residual.ensures.1 in rw r.1 (Hands-none refl refl refl);
-      delegate = KeepsDelegate-same;
-      filtered = refl;
-      heeds = let p = err_from_is_err_and c.from_residual.result c.from_residual.ensures.1 in rw (p.1, p.2) (record { broken = tt; stopped = tt; unbroken = refl; kept_on = tt });
-    }
+    let r = err_from_is_err_and c.from_residual.result c.from_residual.ensures.1 in rw (r.1, r.2) (any-memory Before-same refl refl refl (omega arith))
 
 pub walk_name-returns-in_err-class-2-clause-walks : goal.walk_name-returns-in_err-class-2-clause-walks
 walk_name-returns-in_err-class-2-clause-walks g t c =
-    record {
-      about = search rules;
-      found = search rules;
-      caused = search rules;
-      worktree = search rules;
-      store = search rules;
-      interrupt = search rules;
-      hands =
-          let r = err_from_is_err_and c.from_residual-in_err-class-2.result c.from_residual-in_err-class-2.ensures.1 in rw r.1 (Hands-none c.is_entered.ensures.given refl refl);
-      delegate = KeepsDelegate-asked c.is_entered.ensures.default c.is_entered.ensures.given c.is_entered.ensures.breaks c.is_entered.ensures.refusals;
-      filtered = AddsShown-same (chosen c.args.shared.now.options) c.is_entered.ensures.given;
-      heeds = search rules;
-    }
+    let r = err_from_is_err_and c.from_residual-in_err-class-2.result c.from_residual-in_err-class-2.ensures.1 in
+    rw (r.1, r.2) (any-memory (Before-then (Before-classed c.class_of.ensures.keeps c.class_of.ensures.store c.class_of.ensures.rules) (Before-asked c.leaf_class.ensures.worktree)) c.is_entered.ensures.default c.is_entered.ensures.given c.is_entered.ensures.breaks c.is_entered.ensures.refusals)
 
 pub walk_name-returns-then-is_entered-clause-rules : goal.walk_name-returns-then-is_entered-clause-rules
 walk_name-returns-then-is_entered-clause-rules g t c = KeepsRules-then c.class_of.ensures.keeps.tree c.class_of.ensures.store.holds c.class_of.ensures.rules c.walk_directory-handed.ensures.rules
@@ -613,18 +475,14 @@ walk_name-returns-in_err-class-2-clause-unmapped g t c = c.class_of.ensures.unma
 pub walk_name-returns-clause-unmapped : goal.walk_name-returns-clause-unmapped
 walk_name-returns-clause-unmapped g t c = c.class_of.ensures.unmapped
 
--- ---- the place is the directory's again
-
 pub walk_name-leave-requires : goal.walk_name-leave-requires
 walk_name-leave-requires g t c =
-    let within = c.in_ok-cut.ensures.within in
-    let P : Standing → Type 0 = λ x. IsPushed c.in_ok-cut.cut c.args.place.now x in
+    let within = c.in_ok-cut.ensures.within in let P : Standing → Type 0 = λ x. IsPushed c.in_ok-cut.cut c.args.place.now x in
     (c.args.place.now, on_ok_weaker c.walk_directory-handed.result (λ same. subst P (sym same) within) c.walk_directory-handed.ensures.stays)
 
 pub walk_name-returns-then-is_entered-clause-stays : goal.walk_name-returns-then-is_entered-clause-stays
 walk_name-returns-then-is_entered-clause-stays g t c =
-    let within = c.in_ok-cut.ensures.within in
-    let P : Standing → Type 0 = λ x. IsPushed c.in_ok-cut.cut c.args.place.now x in
+    let within = c.in_ok-cut.ensures.within in let P : Standing → Type 0 = λ x. IsPushed c.in_ok-cut.cut c.args.place.now x in
     c.leave.ensures c.args.place.now (on_ok_weaker c.walk_directory-handed.result (λ same. subst P (sym same) within) c.walk_directory-handed.ensures.stays)
 
 pub walk_name-leave-requires-2 : goal.walk_name-leave-requires-2

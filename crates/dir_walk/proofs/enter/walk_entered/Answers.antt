@@ -1,4 +1,5 @@
-use Rattle.std.proofs.Common.{arith, refl, ◌∙◌, option_to_list, Err}
+-- The directory that must not go is asked for, which leaves told what was told; then the root is walked, and what it hands up is put out.
+use Rattle.std.proofs.Common.{arith, inl, refl, ◌∙◌, option_to_list, Err}
 use Rattle.std.proofs.lemmas.Result.{err_from_is_err_and, on_err_weaker, on_ok_weaker}
 use Rattle.worktree_fs.specs.Causes.{Increased, NotIncreased}
 use Rattle.dir_classify.specs.Chosen.{chosen}
@@ -10,77 +11,11 @@ use Rattle.dir_walk.specs.Told.{directory_told}
 use Rattle.dir_walk.proofs.CallByCall.{Before-asked, Ends-after, Ends-err, Ends-then}
 use Rattle.dir_walk.proofs.FromRoot.{Puts-out, deep-same, opens-around, opens-not, refused-same, unlisted-same}
 use Rattle.dir_walk.proofs.HandedOn.{DirectoryRefuses-weaker, Stands-asked, gives-all, part-all, part-out}
-use Rattle.dir_walk.proofs.Refusals.{refused-any}
+use Rattle.dir_walk.proofs.Refusals.{memory-only, refused-any}
 use Rattle.dir_walk.proofs.Shallow.{shallow-memory}
 use Rattle.dir_walk.proofs.enter.walk_entered.Goals as goal
 
-pub returns-in_err-handed-clause-part : goal.returns-in_err-handed-clause-part
-returns-in_err-handed-clause-part g c = λ s tells quiet default.
-    let a = c.args in
-    let w = g.W.Worktree in
-    let given = setting_of g.M.Matcher a.shared.now in
-    let made = made_with a.excludes.now in
-    let asked = c.in_ok-blocked.ensures in
-    let before : NotIncreased (w.faults a.worktree.now) (w.faults c.blocked_directory.new.worktree) = omega (arith, quiet, c.walk_deep.ensures.ends.worktree.faults) in
-    let here : NotIncreased (w.faults c.blocked_directory.new.worktree) (w.faults c.walk_deep.new.worktree) = omega (arith, quiet, asked.keeps.faults) in
-    let stands = Stands-asked given tells asked.keeps (asked.blocked made s tells.tells.tree_is before) in
-    let p = err_from_is_err_and c.from_residual-in_err-handed.result c.from_residual-in_err-handed.ensures.1 in
-    rw p.1 (part-out (chosen a.shared.now.options) (directory_told given made s a.path.now a.class.now) _ _ _ _ (rw c.in_ok-place.ensures at (c.in_err-handed.ensures.part made s stands here default)))
-
-pub returns-in_err-handed-clause-refused : goal.returns-in_err-handed-clause-refused
-returns-in_err-handed-clause-refused g c = λ s tells quiet default.
-    let a = c.args in
-    let w = g.W.Worktree in
-    let given = setting_of g.M.Matcher a.shared.now in
-    let made = made_with a.excludes.now in
-    let asked = c.in_ok-blocked.ensures in
-    let before : NotIncreased (w.faults a.worktree.now) (w.faults c.blocked_directory.new.worktree) = omega (arith, quiet, c.walk_deep.ensures.ends.worktree.faults) in
-    let Failed = Increased (w.faults c.blocked_directory.new.worktree) (w.faults c.walk_deep.new.worktree) in
-    let stands = Stands-asked given tells asked.keeps (asked.blocked made s tells.tells.tree_is before) in
-    let p = err_from_is_err_and c.from_residual-in_err-handed.result c.from_residual-in_err-handed.ensures.1 in
-    rw (p.1, p.2)
-    (refused-any (DirectoryRefuses given made s a.depth_limit Failed a.path.now a.class.now) (DirectoryRefuses given made s a.depth_limit ⊥ a.path.now a.class.now)
-    (λ e. DirectoryRefuses-weaker given made s a.depth_limit Failed ⊥ a.path.now a.class.now e (λ rose. let k = asked.keeps.faults in omega (arith, quiet, rose, k))) c.in_err-handed.field-0.0
-    (rw c.in_ok-place.ensures at (c.in_err-handed.ensures.refused made s stands default)))
-
-pub returns-clause-gives : goal.returns-clause-gives
-returns-clause-gives g c = λ s tells quiet default.
-    let a = c.args in
-    let w = g.W.Worktree in
-    let given = setting_of g.M.Matcher a.shared.now in
-    let made = made_with a.excludes.now in
-    let asked = c.in_ok-blocked.ensures in
-    let before : NotIncreased (w.faults a.worktree.now) (w.faults c.blocked_directory.new.worktree) = omega (arith, quiet, c.walk_deep.ensures.ends.worktree.faults) in
-    let here : NotIncreased (w.faults c.blocked_directory.new.worktree) (w.faults c.walk_deep.new.worktree) = omega (arith, quiet, asked.keeps.faults) in
-    let stands = Stands-asked given tells asked.keeps (asked.blocked made s tells.tells.tree_is before) in
-    on_ok_weaker c.put_handed.result
-    (gives-all (chosen a.shared.now.options) (directory_told given made s a.path.now a.class.now) a.depth_limit (evidence given made s) c.in_ok-handed.handed _ _ _ a.outcome.now c.walk_deep.new.outcome
-    (rw c.in_ok-place.ensures at (c.in_ok-handed.ensures.gives made s stands here default)) c.put_handed.new.outcome)
-    c.put_handed.ensures.gives
-
-pub returns-clause-part : goal.returns-clause-part
-returns-clause-part g c = λ s tells quiet default.
-    let a = c.args in
-    let w = g.W.Worktree in
-    let given = setting_of g.M.Matcher a.shared.now in
-    let made = made_with a.excludes.now in
-    let asked = c.in_ok-blocked.ensures in
-    let before : NotIncreased (w.faults a.worktree.now) (w.faults c.blocked_directory.new.worktree) = omega (arith, quiet, c.walk_deep.ensures.ends.worktree.faults) in
-    let here : NotIncreased (w.faults c.blocked_directory.new.worktree) (w.faults c.walk_deep.new.worktree) = omega (arith, quiet, asked.keeps.faults) in
-    let stands = Stands-asked given tells asked.keeps (asked.blocked made s tells.tells.tree_is before) in
-    on_err_weaker c.put_handed.result
-    (part-all (chosen a.shared.now.options) (directory_told given made s a.path.now a.class.now) a.depth_limit (evidence given made s) c.in_ok-handed.handed _ _ _ a.outcome.now c.walk_deep.new.outcome
-    (rw c.in_ok-place.ensures at (c.in_ok-handed.ensures.gives made s stands here default)) c.put_handed.new.outcome)
-    c.put_handed.ensures.part
-
-pub returns-clause-ends : goal.returns-clause-ends
-returns-clause-ends g c =
-    let w = g.W.Worktree in
-    let f = g.F.Find in
-    let i = g.I.Interrupt in
-    let d = g.D.Delegate in
-    let told = c.put_handed.ensures in
-    Ends-then w f i d c.in_ok-handed.handed c.put_handed.result (Ends-after w f i d _ (Before-asked c.in_ok-blocked.ensures.keeps) c.in_ok-handed.ensures.ends) told.delegate told.heeds told.memory
+-- ---- there is no room for its place, or for the directory that must not go
 
 pub returns-in_err-place-clause-opens : goal.returns-in_err-place-clause-opens
 returns-in_err-place-clause-opens g c =
@@ -92,18 +27,49 @@ returns-in_err-blocked-clause-opens g c =
     let p = err_from_is_err_and c.from_residual-in_err-blocked.result c.from_residual-in_err-blocked.ensures.1 in
     rw (p.1, p.2) (opens-not c.args.strategy _ _ _ _ _ _ _ _ _ _ _ (λ n none s tells default quiet. omega (arith, none)) c.in_err-blocked.ensures.keeps.lists c.in_err-blocked.ensures.reads (omega arith))
 
-pub returns-clause-puts : goal.returns-clause-puts
-returns-clause-puts g c = Puts-out (option_to_list c.in_ok-handed.handed.entry) (rw c.in_ok-place.ensures at c.in_ok-handed.ensures.hands.puts) c.put_handed.ensures.puts
+-- ---- the walk ended there
 
-pub returns-in_err-handed-clause-ends : goal.returns-in_err-handed-clause-ends
-returns-in_err-handed-clause-ends g c =
-    let w = g.W.Worktree in
-    let f = g.F.Find in
-    let i = g.I.Interrupt in
-    let d = g.D.Delegate in
-    let p = err_from_is_err_and c.from_residual-in_err-handed.result c.from_residual-in_err-handed.ensures.1 in
-    let stop = c.in_err-handed.field-0.0 in
-    rw (p.1, p.2) (Ends-err w f i d stop (Ends-after w f i d (Err stop) (Before-asked c.in_ok-blocked.ensures.keeps) c.in_err-handed.ensures.ends))
+pub returns-in_err-handed-clause-told : goal.returns-in_err-handed-clause-told
+returns-in_err-handed-clause-told g c =
+    record {
+      gives = λ s tells quiet default. let p = err_from_is_err_and c.from_residual-in_err-handed.result c.from_residual-in_err-handed.ensures.1 in rw p.1 tt;
+      part = λ s tells quiet default.
+          let a = c.args in
+          let w = g.W.Worktree in
+          let given = setting_of g.M.Matcher a.shared.now in
+          let made = made_with a.parts.now.excludes.now in
+          let asked = c.in_ok-blocked.ensures in
+          let before : NotIncreased (w.faults a.parts.now.worktree.now) (w.faults c.blocked_directory.new.worktree) = omega (arith, quiet, c.walk_deep.ensures.walks.ends.worktree.faults) in
+          let here : NotIncreased (w.faults c.blocked_directory.new.worktree) (w.faults c.walk_deep.new.parts.worktree.now) = omega (arith, quiet, asked.keeps.faults) in
+          let stands = Stands-asked given tells asked.keeps (asked.blocked made s tells.tells.tree_is before) in
+          let p = err_from_is_err_and c.from_residual-in_err-handed.result c.from_residual-in_err-handed.ensures.1 in
+          rw p.1 (part-out (chosen a.shared.now.options) (directory_told given made s a.path.now a.class.now) _ _ _ _ (rw c.in_ok-place.ensures at (c.in_err-handed.ensures.told.part made s stands here default)));
+      refused = λ s tells quiet default.
+          let a = c.args in
+          let w = g.W.Worktree in
+          let given = setting_of g.M.Matcher a.shared.now in
+          let made = made_with a.parts.now.excludes.now in
+          let asked = c.in_ok-blocked.ensures in
+          let before : NotIncreased (w.faults a.parts.now.worktree.now) (w.faults c.blocked_directory.new.worktree) = omega (arith, quiet, c.walk_deep.ensures.walks.ends.worktree.faults) in
+          let Failed = Increased (w.faults c.blocked_directory.new.worktree) (w.faults c.walk_deep.new.parts.worktree.now) in
+          let stands = Stands-asked given tells asked.keeps (asked.blocked made s tells.tells.tree_is before) in
+          let p = err_from_is_err_and c.from_residual-in_err-handed.result c.from_residual-in_err-handed.ensures.1 in
+          rw (p.1, p.2)
+          (refused-any (DirectoryRefuses given made s a.depth_limit Failed a.path.now a.class.now) (DirectoryRefuses given made s a.depth_limit ⊥ a.path.now a.class.now)
+          (λ e. DirectoryRefuses-weaker given made s a.depth_limit Failed ⊥ a.path.now a.class.now e (λ rose. let k = asked.keeps.faults in omega (arith, quiet, rose, k))) c.in_err-handed.field-0.0
+          (rw c.in_ok-place.ensures at (c.in_err-handed.ensures.told.refused made s stands default)));
+    }
+
+pub returns-in_err-handed-clause-caused : goal.returns-in_err-handed-clause-caused
+returns-in_err-handed-clause-caused g c =
+    record {
+      about =
+          let p = err_from_is_err_and c.from_residual-in_err-handed.result c.from_residual-in_err-handed.ensures.1 in
+          rw (p.1, p.2) (rw c.in_ok-place.ensures at c.in_err-handed.ensures.walks.about);
+      found = λ s told.
+          let p = err_from_is_err_and c.from_residual-in_err-handed.result c.from_residual-in_err-handed.ensures.1 in
+          rw (p.1, p.2) (c.in_err-handed.ensures.walks.found s (c.in_ok-blocked.ensures.keeps.tree ∙ told));
+    }
 
 pub returns-in_err-handed-clause-opens : goal.returns-in_err-handed-clause-opens
 returns-in_err-handed-clause-opens g c =
@@ -115,12 +81,71 @@ returns-in_err-handed-clause-opens g c =
     rw (p.1, p.2)
     (opens-around c.args.strategy _ _ _ _ _ _ _ _ _ _ _ _ _ _ _ _ _ _
     (λ n few s tells default quiet.
-    let made = made_with a.excludes.now in
-    let before : NotIncreased (w.faults a.worktree.now) (w.faults c.blocked_directory.new.worktree) = omega (arith, quiet, c.walk_deep.ensures.ends.worktree.faults) in
-    let here : NotIncreased (w.faults c.blocked_directory.new.worktree) (w.faults c.walk_deep.new.worktree) = omega (arith, quiet, asked.keeps.faults) in
+    let made = made_with a.parts.now.excludes.now in
+    let before : NotIncreased (w.faults a.parts.now.worktree.now) (w.faults c.blocked_directory.new.worktree) = omega (arith, quiet, c.walk_deep.ensures.walks.ends.worktree.faults) in
+    let here : NotIncreased (w.faults c.blocked_directory.new.worktree) (w.faults c.walk_deep.new.parts.worktree.now) = omega (arith, quiet, asked.keeps.faults) in
     let stands = Stands-asked given tells asked.keeps (asked.blocked made s tells.tells.tree_is before) in
     let most = few made s stands here default in omega (arith, most, unlisted-same Handed (Unit {0}) c.in_err-handed.field-0.0))
     asked.keeps.lists asked.reads refl (refused-same Handed (Unit {0}) c.in_err-handed.field-0.0) (deep-same Handed (Unit {0}) c.in_err-handed.field-0.0) (rw c.in_ok-place.ensures at c.in_err-handed.ensures.opens))
+
+pub returns-in_err-handed-clause-unmapped : goal.returns-in_err-handed-clause-unmapped
+returns-in_err-handed-clause-unmapped g c = c.walk_deep.ensures.unmapped
+
+pub returns-in_err-handed-clause-leaves : goal.returns-in_err-handed-clause-leaves
+returns-in_err-handed-clause-leaves g c =
+    record {
+      puts = rw c.in_ok-place.ensures at c.in_err-handed.ensures.walks.hands.puts;
+      filtered = c.walk_deep.ensures.walks.filtered;
+      ends =
+          let w = g.W.Worktree in
+          let f = g.F.Find in
+          let i = g.I.Interrupt in
+          let d = g.D.Delegate in
+          let p = err_from_is_err_and c.from_residual-in_err-handed.result c.from_residual-in_err-handed.ensures.1 in
+          let stop = c.in_err-handed.field-0.0 in
+          rw (p.1, p.2) (Ends-err w f i d stop (Ends-after w f i d (Err stop) (Before-asked c.in_ok-blocked.ensures.keeps) c.in_err-handed.ensures.walks.ends));
+    }
+
+-- ---- what is handed up is put out
+
+pub returns-clause-told : goal.returns-clause-told
+returns-clause-told g c =
+    record {
+      gives = λ s tells quiet default.
+          let a = c.args in
+          let w = g.W.Worktree in
+          let given = setting_of g.M.Matcher a.shared.now in
+          let made = made_with a.parts.now.excludes.now in
+          let asked = c.in_ok-blocked.ensures in
+          let before : NotIncreased (w.faults a.parts.now.worktree.now) (w.faults c.blocked_directory.new.worktree) = omega (arith, quiet, c.walk_deep.ensures.walks.ends.worktree.faults) in
+          let here : NotIncreased (w.faults c.blocked_directory.new.worktree) (w.faults c.walk_deep.new.parts.worktree.now) = omega (arith, quiet, asked.keeps.faults) in
+          let stands = Stands-asked given tells asked.keeps (asked.blocked made s tells.tells.tree_is before) in
+          on_ok_weaker c.put_handed.result
+          (gives-all (chosen a.shared.now.options) (directory_told given made s a.path.now a.class.now) a.depth_limit (evidence given made s) c.in_ok-handed.handed _ _ _ a.parts.now.outcome.now c.walk_deep.new.parts.outcome.now
+          (rw c.in_ok-place.ensures at (c.in_ok-handed.ensures.told.gives made s stands here default)) c.put_handed.new.outcome)
+          c.put_handed.ensures.gives;
+      part = λ s tells quiet default.
+          let a = c.args in
+          let w = g.W.Worktree in
+          let given = setting_of g.M.Matcher a.shared.now in
+          let made = made_with a.parts.now.excludes.now in
+          let asked = c.in_ok-blocked.ensures in
+          let before : NotIncreased (w.faults a.parts.now.worktree.now) (w.faults c.blocked_directory.new.worktree) = omega (arith, quiet, c.walk_deep.ensures.walks.ends.worktree.faults) in
+          let here : NotIncreased (w.faults c.blocked_directory.new.worktree) (w.faults c.walk_deep.new.parts.worktree.now) = omega (arith, quiet, asked.keeps.faults) in
+          let stands = Stands-asked given tells asked.keeps (asked.blocked made s tells.tells.tree_is before) in
+          on_err_weaker c.put_handed.result
+          (part-all (chosen a.shared.now.options) (directory_told given made s a.path.now a.class.now) a.depth_limit (evidence given made s) c.in_ok-handed.handed _ _ _ a.parts.now.outcome.now c.walk_deep.new.parts.outcome.now
+          (rw c.in_ok-place.ensures at (c.in_ok-handed.ensures.told.gives made s stands here default)) c.put_handed.new.outcome)
+          c.put_handed.ensures.part;
+      refused = λ s tells quiet default. memory-only c.put_handed.result _ (inl tt) c.put_handed.ensures.memory;
+    }
+
+pub returns-clause-caused : goal.returns-clause-caused
+returns-clause-caused g c =
+    record {
+      about = memory-only c.put_handed.result _ (inl tt) c.put_handed.ensures.memory;
+      found = λ s told. memory-only c.put_handed.result _ tt c.put_handed.ensures.memory;
+    }
 
 pub returns-clause-opens : goal.returns-clause-opens
 returns-clause-opens g c =
@@ -130,21 +155,26 @@ returns-clause-opens g c =
     let given = setting_of g.M.Matcher a.shared.now in
     opens-around c.args.strategy _ _ _ _ _ _ _ _ _ _ _ _ _ _ _ _ _ _
     (λ n few s tells default quiet.
-    let made = made_with a.excludes.now in
-    let before : NotIncreased (w.faults a.worktree.now) (w.faults c.blocked_directory.new.worktree) = omega (arith, quiet, c.walk_deep.ensures.ends.worktree.faults) in
-    let here : NotIncreased (w.faults c.blocked_directory.new.worktree) (w.faults c.walk_deep.new.worktree) = omega (arith, quiet, asked.keeps.faults) in
+    let made = made_with a.parts.now.excludes.now in
+    let before : NotIncreased (w.faults a.parts.now.worktree.now) (w.faults c.blocked_directory.new.worktree) = omega (arith, quiet, c.walk_deep.ensures.walks.ends.worktree.faults) in
+    let here : NotIncreased (w.faults c.blocked_directory.new.worktree) (w.faults c.walk_deep.new.parts.worktree.now) = omega (arith, quiet, asked.keeps.faults) in
     let stands = Stands-asked given tells asked.keeps (asked.blocked made s tells.tells.tree_is before) in
     let most = few made s stands here default in omega (arith, most))
     asked.keeps.lists asked.reads c.put_handed.ensures.entered (omega arith) (omega (arith, shallow-memory c.put_handed.result c.put_handed.ensures.memory)) (rw c.in_ok-place.ensures at c.in_ok-handed.ensures.opens)
 
-pub returns-in_err-handed-clause-filtered : goal.returns-in_err-handed-clause-filtered
-returns-in_err-handed-clause-filtered g c = c.walk_deep.ensures.filtered
-
-pub returns-clause-filtered : goal.returns-clause-filtered
-returns-clause-filtered g c = c.put_handed.ensures.filtered ∙ c.walk_deep.ensures.filtered
-
-pub returns-in_err-handed-clause-unmapped : goal.returns-in_err-handed-clause-unmapped
-returns-in_err-handed-clause-unmapped g c = c.walk_deep.ensures.unmapped
-
 pub returns-clause-unmapped : goal.returns-clause-unmapped
 returns-clause-unmapped g c = c.walk_deep.ensures.unmapped
+
+pub returns-clause-leaves : goal.returns-clause-leaves
+returns-clause-leaves g c =
+    record {
+      puts = Puts-out (option_to_list c.in_ok-handed.handed.entry) (rw c.in_ok-place.ensures at c.in_ok-handed.ensures.walks.hands.puts) c.put_handed.ensures.puts;
+      filtered = c.put_handed.ensures.filtered ∙ c.walk_deep.ensures.walks.filtered;
+      ends =
+          let w = g.W.Worktree in
+          let f = g.F.Find in
+          let i = g.I.Interrupt in
+          let d = g.D.Delegate in
+          let told = c.put_handed.ensures in
+          Ends-then w f i d c.in_ok-handed.handed c.put_handed.result (Ends-after w f i d _ (Before-asked c.in_ok-blocked.ensures.keeps) c.in_ok-handed.ensures.walks.ends) told.delegate told.heeds told.memory;
+    }

@@ -1,3 +1,4 @@
+-- A whole walk: there is no traversal root or no room for its path, or the walk from there was done, broken off or refused.
 use Rattle.std.proofs.Common.{◌≡◌, List, ℕ, ◌≤◌, ◌∙◌, ap, sym, refl, arith, Some, Ok, Err}
 use Rattle.std.proofs.lemmas.Result.{err_from_is_err_and}
 use Rattle.worktree_fs.specs.Causes.{NotIncreased}
@@ -19,8 +20,8 @@ use Rattle.dir_walk.proofs.Unstarted.{no-start-weaker}
 use Rattle.dir_walk.proofs.WalksSo.{walks-done, walks-outside, walks-refused}
 use Rattle.dir_walk.proofs.function.walk_parts.Goals as goal
 
-pub returns-in_err-root : goal.returns-in_err-root
-returns-in_err-root g c =
+pub returns-in_err-root-clause-walks : goal.returns-in_err-root-clause-walks
+returns-in_err-root-clause-walks g c =
     let a = c.args in
     let p = err_from_is_err_and c.from_residual.result c.from_residual.ensures.1 in
     let refused = c.in_err-root.ensures in
@@ -28,13 +29,13 @@ returns-in_err-root g c =
     rw (p.1, p.2)
     (record {
       walks_worktree =
-          walks-outside g.W.Worktree g.F.Find g.I.Interrupt a.strategy given a.explicit.now a.depth_limit (recursion_of g.D.Delegate a.delegate.now a.delegate.now) (λ r. r.0) (λ r. r.1) refused.keeps refused.reads c.in_err-root.field-0.0
+          walks-outside g.W.Worktree g.F.Find g.I.Interrupt a.strategy given a.explicit.now a.depth_limit (recursion_of g.D.Delegate a.parts.now.delegate.now a.parts.now.delegate.now) (λ r. r.0) (λ r. r.1) refused.keeps refused.reads c.in_err-root.field-0.0
           refused.about refused.refused refused.fault;
       feeds = feeds-nothing g.W.Worktree g.F.Find g.D.Delegate given a.explicit.now a.depth_limit c.in_err-root.field-0.0;
     })
 
-pub returns-in_err-full : goal.returns-in_err-full
-returns-in_err-full g c =
+pub returns-in_err-full-clause-walks : goal.returns-in_err-full-clause-walks
+returns-in_err-full-clause-walks g c =
     let a = c.args in
     let p = err_from_is_err_and c.from_residual-in_err-full.result c.from_residual-in_err-full.ensures.1 in
     let found = c.in_ok-root.ensures in
@@ -42,88 +43,88 @@ returns-in_err-full g c =
     rw (p.1, p.2)
     (record {
       walks_worktree =
-          walks-outside g.W.Worktree g.F.Find g.I.Interrupt a.strategy given a.explicit.now a.depth_limit (recursion_of g.D.Delegate a.delegate.now a.delegate.now) (λ r. r.0) (λ r. r.1) found.keeps found.reads errors.OutOfMemory tt
+          walks-outside g.W.Worktree g.F.Find g.I.Interrupt a.strategy given a.explicit.now a.depth_limit (recursion_of g.D.Delegate a.parts.now.delegate.now a.parts.now.delegate.now) (λ r. r.0) (λ r. r.1) found.keeps found.reads errors.OutOfMemory tt
           (λ t told. tt) (λ before now. tt);
       feeds = feeds-nothing g.W.Worktree g.F.Find g.D.Delegate given a.explicit.now a.depth_limit errors.OutOfMemory;
     })
 
-pub returns-in-Ok : goal.returns-in-Ok
-returns-in-Ok g c =
+pub returns-in-Ok-clause-walks : goal.returns-in-Ok-clause-walks
+returns-in-Ok-clause-walks g c =
     let a = c.args in
     let w = g.W.Worktree in
     let f = g.F.Find in
     let i = g.I.Interrupt in
     let d = g.D.Delegate in
-    let recursion = recursion_of d a.delegate.now c.walk_from.new.delegate in
+    let recursion = recursion_of d a.parts.now.delegate.now c.walk_from.new.parts.delegate.now in
     let given = setting_of g.M.Matcher a.shared.now in
     let root = c.as_bytes-2.result.now in
     let found = c.in_ok-root.ensures in
     let normal : IsNormalized given a.explicit.now root = rw c.as_bytes-2.ensures found.asked in
-    let rooted_is : (t : Names) → w.told a.worktree.now ≡ Some t → NotIncreased (w.faults a.worktree.now) (w.faults c.traversal_root.new.worktree) → traversal_root given t a.explicit.now ≡ rooted root =
+    let rooted_is : (t : Names) → w.told a.parts.now.worktree.now ≡ Some t → NotIncreased (w.faults a.parts.now.worktree.now) (w.faults c.traversal_root.new.worktree) → traversal_root given t a.explicit.now ≡ rooted root =
     λ t told quiet. found.root t told quiet ∙ ap rooted (sym c.as_bytes-2.ensures) in
     let from = c.in-Ok.ensures in
-    let zeros = c.default-outcome.ensures in
+    let zeros = c.default-parts.ensures in
     let full_is : c.in_ok-full.full ≡ full_path given.root root = c.in_ok-full.ensures ∙ ap (full_path given.root) (c.as_bytes.ensures ∙ sym c.as_bytes-2.ensures) in
-    let is_root : IsRootOf given a.explicit.now (λ (r : Outcome × List ℕ). r.1) (Ok (c.walk_from.new.outcome, c.in_ok-full.full)) root = record { normalized = normal; named = full_is } in
+    let is_root : IsRootOf given a.explicit.now (λ (r : Outcome × List ℕ). r.1) (Ok (c.walk_from.new.parts.outcome.now, c.in_ok-full.full)) root = record { normalized = normal; named = full_is } in
     let none : refused_walk c.walk_from.result ≤ 0 = rw c.in-Ok.is (omega arith) in
     let listed : unlisted_walk c.walk_from.result ≤ 0 = rw c.in-Ok.is (omega arith) in
     record {
       walks_worktree =
-          walks-done w f i d a.strategy given a.explicit.now a.depth_limit recursion (λ r. r.0) (λ r. r.1) root found.keeps normal rooted_is (c.walk_from.new.outcome, c.in_ok-full.full) full_is (rw c.as_bytes-2.ensures found.way) (Ok tt) from.ends from.ends.caused.listed from.ends.caused.calm c.walk_from.ensures.unmapped
+          walks-done w f i d a.strategy given a.explicit.now a.depth_limit recursion (λ r. r.0) (λ r. r.1) root found.keeps normal rooted_is (c.walk_from.new.parts.outcome.now, c.in_ok-full.full) full_is (rw c.as_bytes-2.ensures found.way) (Ok tt) from.leaves.ends from.leaves.ends.caused.listed from.leaves.ends.caused.calm c.walk_from.ensures.unmapped
           (opens-whole a.strategy found.keeps.lists found.reads
-          (enters-walk {T = Outcome × List ℕ} w f d recursion given a.explicit.now a.depth_limit root (Ok (c.walk_from.new.outcome, c.in_ok-full.full)) (unlisted_walk c.walk_from.result) found.keeps from.ends.worktree.faults refl rooted_is listed)
-          c.walk_from.result (Ok (c.walk_from.new.outcome, c.in_ok-full.full)) zeros.0 is_root refl none (omega arith) c.walk_from.ensures.opens);
+          (enters-walk {T = Outcome × List ℕ} w f d recursion given a.explicit.now a.depth_limit root (Ok (c.walk_from.new.parts.outcome.now, c.in_ok-full.full)) (unlisted_walk c.walk_from.result) found.keeps from.leaves.ends.worktree.faults refl rooted_is listed)
+          c.walk_from.result (Ok (c.walk_from.new.parts.outcome.now, c.in_ok-full.full)) zeros.0 is_root refl none (omega arith) c.walk_from.ensures.opens);
       feeds =
-          feeds-done w f d a.worktree.now c.traversal_root.new.worktree c.walk_from.new.worktree a.objects.now a.excludes.now a.delegate.now c.walk_from.new.delegate given a.explicit.now a.depth_limit root c.default-outcome.result c.walk_from.new.outcome
-          found.keeps from.ends.worktree.faults normal rooted_is from.ends.delegate c.walk_from.ensures.puts c.walk_from.ensures.filtered zeros.0 zeros.1.0 zeros.1.1 c.in_ok-full.full full_is from.ends.heeds.kept_on
-          (λ s told. g.met.W.Worktree.is_tree a.worktree.now s.tree told) from.gives;
+          feeds-done w f d a.parts.now.worktree.now c.traversal_root.new.worktree c.walk_from.new.parts.worktree.now a.parts.now.objects.now a.parts.now.excludes.now a.parts.now.delegate.now c.walk_from.new.parts.delegate.now given a.explicit.now a.depth_limit root c.default-parts.result c.walk_from.new.parts.outcome.now
+          found.keeps from.leaves.ends.worktree.faults normal rooted_is from.leaves.ends.delegate c.walk_from.ensures.leaves.puts c.walk_from.ensures.leaves.filtered zeros.0 zeros.1.0 zeros.1.1 c.in_ok-full.full full_is from.leaves.ends.heeds.kept_on
+          (λ s told. g.met.W.Worktree.is_tree a.parts.now.worktree.now s.tree told) from.told.gives;
     }
 
-pub returns-in-Err-Broken : goal.returns-in-Err-Broken
-returns-in-Err-Broken g c =
+pub returns-in-Err-Broken-clause-walks : goal.returns-in-Err-Broken-clause-walks
+returns-in-Err-Broken-clause-walks g c =
     let a = c.args in
     let w = g.W.Worktree in
     let f = g.F.Find in
     let i = g.I.Interrupt in
     let d = g.D.Delegate in
-    let recursion = recursion_of d a.delegate.now c.walk_from.new.delegate in
+    let recursion = recursion_of d a.parts.now.delegate.now c.walk_from.new.parts.delegate.now in
     let given = setting_of g.M.Matcher a.shared.now in
     let root = c.as_bytes-2.result.now in
     let found = c.in_ok-root.ensures in
     let normal : IsNormalized given a.explicit.now root = rw c.as_bytes-2.ensures found.asked in
-    let rooted_is : (t : Names) → w.told a.worktree.now ≡ Some t → NotIncreased (w.faults a.worktree.now) (w.faults c.traversal_root.new.worktree) → traversal_root given t a.explicit.now ≡ rooted root =
+    let rooted_is : (t : Names) → w.told a.parts.now.worktree.now ≡ Some t → NotIncreased (w.faults a.parts.now.worktree.now) (w.faults c.traversal_root.new.worktree) → traversal_root given t a.explicit.now ≡ rooted root =
     λ t told quiet. found.root t told quiet ∙ ap rooted (sym c.as_bytes-2.ensures) in
     let from = rw c.in-Err-Broken.field-0-is at c.in-Err-Broken.ensures in
-    let zeros = c.default-outcome.ensures in
+    let zeros = c.default-parts.ensures in
     let full_is : c.in_ok-full.full ≡ full_path given.root root = c.in_ok-full.ensures ∙ ap (full_path given.root) (c.as_bytes.ensures ∙ sym c.as_bytes-2.ensures) in
-    let is_root : IsRootOf given a.explicit.now (λ (r : Outcome × List ℕ). r.1) (Ok (c.walk_from.new.outcome, c.in_ok-full.full)) root = record { normalized = normal; named = full_is } in
+    let is_root : IsRootOf given a.explicit.now (λ (r : Outcome × List ℕ). r.1) (Ok (c.walk_from.new.parts.outcome.now, c.in_ok-full.full)) root = record { normalized = normal; named = full_is } in
     let none : refused_walk c.walk_from.result ≤ 0 = rw (c.in-Err-Broken.is, c.in-Err-Broken.field-0-is) (omega arith) in
     let listed : unlisted_walk c.walk_from.result ≤ 0 = rw (c.in-Err-Broken.is, c.in-Err-Broken.field-0-is) (omega arith) in
     record {
       walks_worktree =
-          walks-done w f i d a.strategy given a.explicit.now a.depth_limit recursion (λ r. r.0) (λ r. r.1) root found.keeps normal rooted_is (c.walk_from.new.outcome, c.in_ok-full.full) full_is (rw c.as_bytes-2.ensures found.way) (Err Broken) from.ends from.ends.caused.listed from.ends.caused.calm c.walk_from.ensures.unmapped
+          walks-done w f i d a.strategy given a.explicit.now a.depth_limit recursion (λ r. r.0) (λ r. r.1) root found.keeps normal rooted_is (c.walk_from.new.parts.outcome.now, c.in_ok-full.full) full_is (rw c.as_bytes-2.ensures found.way) (Err Broken) from.leaves.ends from.leaves.ends.caused.listed from.leaves.ends.caused.calm c.walk_from.ensures.unmapped
           (opens-whole a.strategy found.keeps.lists found.reads
-          (enters-walk {T = Outcome × List ℕ} w f d recursion given a.explicit.now a.depth_limit root (Ok (c.walk_from.new.outcome, c.in_ok-full.full)) (unlisted_walk c.walk_from.result) found.keeps from.ends.worktree.faults refl rooted_is listed)
-          c.walk_from.result (Ok (c.walk_from.new.outcome, c.in_ok-full.full)) zeros.0 is_root refl none (omega arith) c.walk_from.ensures.opens);
+          (enters-walk {T = Outcome × List ℕ} w f d recursion given a.explicit.now a.depth_limit root (Ok (c.walk_from.new.parts.outcome.now, c.in_ok-full.full)) (unlisted_walk c.walk_from.result) found.keeps from.leaves.ends.worktree.faults refl rooted_is listed)
+          c.walk_from.result (Ok (c.walk_from.new.parts.outcome.now, c.in_ok-full.full)) zeros.0 is_root refl none (omega arith) c.walk_from.ensures.opens);
       feeds =
-          feeds-broken w f d a.worktree.now c.traversal_root.new.worktree c.walk_from.new.worktree a.objects.now a.excludes.now a.delegate.now c.walk_from.new.delegate given a.explicit.now a.depth_limit root c.default-outcome.result c.walk_from.new.outcome
-          found.keeps from.ends.worktree.faults normal rooted_is from.ends.delegate c.walk_from.ensures.puts c.walk_from.ensures.filtered zeros.0 zeros.1.0 zeros.1.1 c.in_ok-full.full full_is from.ends.heeds
-          (λ s tells by quiet v is. from.part s tells quiet by v is);
+          feeds-broken w f d a.parts.now.worktree.now c.traversal_root.new.worktree c.walk_from.new.parts.worktree.now a.parts.now.objects.now a.parts.now.excludes.now a.parts.now.delegate.now c.walk_from.new.parts.delegate.now given a.explicit.now a.depth_limit root c.default-parts.result c.walk_from.new.parts.outcome.now
+          found.keeps from.leaves.ends.worktree.faults normal rooted_is from.leaves.ends.delegate c.walk_from.ensures.leaves.puts c.walk_from.ensures.leaves.filtered zeros.0 zeros.1.0 zeros.1.1 c.in_ok-full.full full_is from.leaves.ends.heeds
+          (λ s tells by quiet v is. from.told.part s tells quiet by v is);
     }
 
-pub returns : goal.returns
-returns g c =
+pub returns-clause-walks : goal.returns-clause-walks
+returns-clause-walks g c =
     let a = c.args in
     let w = g.W.Worktree in
     let f = g.F.Find in
     let i = g.I.Interrupt in
     let d = g.D.Delegate in
-    let recursion = recursion_of d a.delegate.now c.walk_from.new.delegate in
+    let recursion = recursion_of d a.parts.now.delegate.now c.walk_from.new.parts.delegate.now in
     let given = setting_of g.M.Matcher a.shared.now in
     let root = c.as_bytes-2.result.now in
     let found = c.in_ok-root.ensures in
     let normal : IsNormalized given a.explicit.now root = rw c.as_bytes-2.ensures found.asked in
-    let rooted_is : (t : Names) → w.told a.worktree.now ≡ Some t → NotIncreased (w.faults a.worktree.now) (w.faults c.traversal_root.new.worktree) → traversal_root given t a.explicit.now ≡ rooted root =
+    let rooted_is : (t : Names) → w.told a.parts.now.worktree.now ≡ Some t → NotIncreased (w.faults a.parts.now.worktree.now) (w.faults c.traversal_root.new.worktree) → traversal_root given t a.explicit.now ≡ rooted root =
     λ t told quiet. found.root t told quiet ∙ ap rooted (sym c.as_bytes-2.ensures) in
     let from = rw c.in-Err-Refused.field-0-is at c.in-Err-Refused.ensures in
     let e = c.in-Err-Refused.error in
@@ -131,13 +132,13 @@ returns g c =
     let low : deep_one e ≤ deep_walk c.walk_from.result = rw (c.in-Err-Refused.is, c.in-Err-Refused.field-0-is) (omega arith) in
     record {
       walks_worktree =
-          walks-refused w f i d a.strategy given a.explicit.now a.depth_limit recursion (λ r. r.0) (λ r. r.1) root found.keeps normal rooted_is e from.ends from.about from.found
-          (λ s tells by quiet. from.refused s tells quiet by) from.no_root (no-start-weaker (λ same. (same.0, same.1)) e from.unstarted) c.walk_from.ensures.unmapped
+          walks-refused w f i d a.strategy given a.explicit.now a.depth_limit recursion (λ r. r.0) (λ r. r.1) root found.keeps normal rooted_is e from.leaves.ends from.caused.about from.caused.found
+          (λ s tells by quiet. from.told.refused s tells quiet by) from.no_root (no-start-weaker (λ same. (same.0, same.1)) e from.unstarted) c.walk_from.ensures.unmapped
           (opens-whole a.strategy found.keeps.lists found.reads
-          (enters-walk {T = Outcome × List ℕ} w f d recursion given a.explicit.now a.depth_limit root (Err e) (unlisted_walk c.walk_from.result) found.keeps from.ends.worktree.faults refl rooted_is unlisted)
-          c.walk_from.result (Err e) c.default-outcome.ensures.0 (record { normalized = normal; named = tt }) tt (refused-most c.walk_from.result) low c.walk_from.ensures.opens);
+          (enters-walk {T = Outcome × List ℕ} w f d recursion given a.explicit.now a.depth_limit root (Err e) (unlisted_walk c.walk_from.result) found.keeps from.leaves.ends.worktree.faults refl rooted_is unlisted)
+          c.walk_from.result (Err e) c.default-parts.ensures.0 (record { normalized = normal; named = tt }) tt (refused-most c.walk_from.result) low c.walk_from.ensures.opens);
       feeds =
-          feeds-refused w f d a.worktree.now c.traversal_root.new.worktree c.walk_from.new.worktree a.objects.now a.excludes.now a.delegate.now c.walk_from.new.delegate given a.explicit.now a.depth_limit root c.default-outcome.result c.walk_from.new.outcome
-          found.keeps from.ends.worktree.faults normal rooted_is from.ends.delegate c.walk_from.ensures.puts c.walk_from.ensures.filtered e from.ends.heeds
-          (λ s tells by quiet v is. from.part s tells quiet by v is) (no-start-weaker (λ same. same.2) e from.unstarted);
+          feeds-refused w f d a.parts.now.worktree.now c.traversal_root.new.worktree c.walk_from.new.parts.worktree.now a.parts.now.objects.now a.parts.now.excludes.now a.parts.now.delegate.now c.walk_from.new.parts.delegate.now given a.explicit.now a.depth_limit root c.default-parts.result c.walk_from.new.parts.outcome.now
+          found.keeps from.leaves.ends.worktree.faults normal rooted_is from.leaves.ends.delegate c.walk_from.ensures.leaves.puts c.walk_from.ensures.leaves.filtered e from.leaves.ends.heeds
+          (λ s tells by quiet v is. from.told.part s tells quiet by v is) (no-start-weaker (λ same. same.2) e from.unstarted);
     }

@@ -1,6 +1,7 @@
+use Rattle.std.proofs.Common.{rules}
 use Rattle.std.proofs.lemmas.Result.{err_from_is_err_and}
 use Rattle.dir_classify.specs.Layers.{setting_of}
-use Rattle.dir_walk.proofs.Forked.{job-interrupt, job-memory}
+use Rattle.dir_walk.proofs.Forked.{job-directory, job-interrupt, job-memory}
 use Rattle.dir_walk.proofs.jobs.on_interrupt.Goals as goal
 
 pub returns-in_err-fork-clause-job : goal.returns-in_err-fork-clause-job
@@ -12,7 +13,6 @@ returns-clause-job g c =
     let a = c.args in
     let forked = c.in_ok-fork.ensures in
     let absorbed = c.absorb.ensures in
-    let walked = c.walk_tree-result.ensures in
-    job-interrupt g.W.Worktree g.F.Find g.I.Interrupt g.D.Delegate a.interrupt.now (setting_of g.M.Matcher a.shared.now) a.place.now.path a.class.now c.walk_tree-result.result
-    forked.questions forked.raised absorbed.questions absorbed.raised absorbed.later
-    (record { told = walked.told; walks = walked.walks; opens = record { opened = walked.opens.opened; counted = walked.opens.opens.counted; asked = walked.opens.opens.asked; within = walked.opens.within } })
+    let walked = job-directory c.walk_directory-result.ensures.told c.walk_directory-result.ensures.walks c.walk_directory-result.ensures.opens in
+    job-interrupt g.W.Worktree g.F.Find g.I.Interrupt g.D.Delegate a.parts.now.interrupt.now (setting_of g.M.Matcher a.shared.now) a.place.now.path a.class.now c.walk_directory-result.result
+    forked.questions forked.raised absorbed.questions absorbed.raised absorbed.later (search rules)

@@ -1,3 +1,4 @@
+use Rattle.std.proofs.Common.{rules}
 use Rattle.std.proofs.lemmas.Result.{err_from_is_err_and}
 use Rattle.dir_classify.specs.Layers.{setting_of}
 use Rattle.dir_walk.proofs.Forked.{job-memory, job-store}
@@ -12,5 +13,5 @@ returns-clause-job g c =
     let a = c.args in
     let forked = c.in_ok-fork.ensures in
     let absorbed = c.absorb.ensures in
-    job-store g.W.Worktree g.F.Find g.I.Interrupt g.D.Delegate a.objects.now (setting_of g.M.Matcher a.shared.now) a.place.now.path a.class.now c.on_interrupt-result.result
-    forked.held forked.faults absorbed.held absorbed.faults absorbed.later c.on_interrupt-result.ensures.job
+    job-store g.W.Worktree g.F.Find g.I.Interrupt g.D.Delegate a.parts.now.objects.now (setting_of g.M.Matcher a.shared.now) a.place.now.path a.class.now c.on_interrupt-result.result
+    forked.held forked.faults absorbed.held absorbed.faults absorbed.later (search rules)

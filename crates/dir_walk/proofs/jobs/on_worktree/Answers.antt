@@ -1,3 +1,4 @@
+use Rattle.std.proofs.Common.{rules}
 use Rattle.std.proofs.lemmas.Result.{err_from_is_err_and}
 use Rattle.dir_classify.specs.Layers.{setting_of}
 use Rattle.dir_walk.proofs.Forked.{job-memory, job-worktree}
@@ -12,6 +13,5 @@ returns-clause-job g c =
     let a = c.args in
     let forked = c.in_ok-fork.ensures in
     let absorbed = c.absorb.ensures in
-    job-worktree g.W.Worktree g.F.Find g.I.Interrupt g.D.Delegate a.worktree.now (setting_of g.M.Matcher a.shared.now) a.place.now.path a.class.now c.on_store-result.result
-    forked.tree forked.faults forked.list_faults absorbed.tree absorbed.faults absorbed.later absorbed.list_faults absorbed.list_faults_later absorbed.reads_later absorbed.lists absorbed.precomposes
-    c.on_store-result.ensures.job
+    job-worktree g.W.Worktree g.F.Find g.I.Interrupt g.D.Delegate a.parts.now.worktree.now (setting_of g.M.Matcher a.shared.now) a.place.now.path a.class.now c.on_store-result.result
+    forked.tree forked.faults forked.list_faults absorbed.tree absorbed.faults absorbed.later absorbed.list_faults absorbed.list_faults_later absorbed.reads_later absorbed.lists absorbed.precomposes (search rules)

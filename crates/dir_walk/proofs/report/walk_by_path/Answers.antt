@@ -1,3 +1,4 @@
+-- What was collected is sorted by its paths; each clause on what was given is one on the sorted entries.
 use Rattle.std.proofs.Common.{Some, refl, ap, subst, List, ℕ, length, cond, not, arith}
 use Rattle.std.proofs.lemmas.List.Sorted.{length_permutation, sum_by-IsPermutation}
 use Rattle.std.proofs.lemmas.Result.{err_from_is_err_and}

@@ -1,4 +1,6 @@
-use Rattle.std.proofs.Common.{◌≡◌, ◌∙◌, ap, refl, sym, arith, ℕ, List, [], Option, Bool, true, false, subst}
+-- From the way to the traversal root on: the way is refused, or the root is entered, or one entry is put out. What was asked before
+-- raises no count that an end names, and leaves told what was told.
+use Rattle.std.proofs.Common.{◌≡◌, ◌∙◌, ap, inl, refl, rules, sym, arith, ℕ, List, [], Option, Bool, true, false, subst}
 use Rattle.std.proofs.lemmas.Result.{IfErr-weaker, err_from_is_err_and, on_err_weaker, on_ok_weaker}
 use Rattle.worktree_fs.specs.Causes.{Increased, NotIncreased}
 use Rattle.dir_classify.specs.Chosen.{chosen}
@@ -27,177 +29,62 @@ use Rattle.dir_walk.proofs.WayRefused.{only-no_root, only-refuses, way-about, wa
 use Rattle.dir_walk.proofs.Shallow.{shallow-put, shallow-way}
 use Rattle.dir_walk.proofs.start.walk_from.Goals as goal
 
-pub returns-in_err-reached-clause-refused : goal.returns-in_err-reached-clause-refused
-returns-in_err-reached-clause-refused g c = λ s tells quiet default.
-    let a = c.args in
-    let f = g.F.Find in
-    let p = err_from_is_err_and c.from_residual.result c.from_residual.ensures.1 in
-    let way = c.in_err-reached.ensures in
-    rw (p.1, p.2)
-    (way-refuses (setting_of g.M.Matcher a.shared.now) (made_with a.excludes.now) s a.root.now a.depth_limit (Increased (f.faults a.objects.now) (f.faults c.root_at.new.objects)) c.in_err-reached.field-0.0
-    (way.refused s tells.tells) (way.asked s tells.tells tells.in_step quiet))
+-- ---- the way there is refused
 
-pub returns-in_err-reached-clause-about : goal.returns-in_err-reached-clause-about
-returns-in_err-reached-clause-about g c =
-    let a = c.args in
-    let p = err_from_is_err_and c.from_residual.result c.from_residual.ensures.1 in
-    rw (p.1, p.2) (way-about (made_with a.excludes.now) a.shared.now.worktree_root.now a.root.now a.depth_limit c.in_err-reached.field-0.0 c.requires.root c.in_err-reached.ensures.about)
+pub returns-in_err-reached-clause-told : goal.returns-in_err-reached-clause-told
+returns-in_err-reached-clause-told g c =
+    record {
+      gives = λ s tells quiet default. let p = err_from_is_err_and c.from_residual.result c.from_residual.ensures.1 in rw p.1 tt;
+      part = λ s tells quiet default walked walk. let p = err_from_is_err_and c.from_residual.result c.from_residual.ensures.1 in rw p.1 (Within-none _ _ _ _ _ _ refl refl);
+      refused = λ s tells quiet default.
+          let a = c.args in
+          let f = g.F.Find in
+          let p = err_from_is_err_and c.from_residual.result c.from_residual.ensures.1 in
+          let way = c.in_err-reached.ensures in
+          rw (p.1, p.2)
+          (way-refuses (setting_of g.M.Matcher a.shared.now) (made_with a.parts.now.excludes.now) s a.root.now a.depth_limit (Increased (f.faults a.parts.now.objects.now) (f.faults c.root_at.new.objects)) c.in_err-reached.field-0.0
+          (way.refused s tells.tells) (way.asked s tells.tells tells.in_step quiet));
+    }
 
-pub returns-in_err-reached-clause-found : goal.returns-in_err-reached-clause-found
-returns-in_err-reached-clause-found g c = λ s told.
-    let a = c.args in
-    let p = err_from_is_err_and c.from_residual.result c.from_residual.ensures.1 in
-    let way = c.in_err-reached.ensures in
-    rw (p.1, p.2)
-    (way-found a.shared.now.worktree_root.now (g.F.Find.holds a.objects.now) s (made_with a.excludes.now) a.root.now c.in_err-reached.field-0.0 c.requires.root way.about
-    (λ some. way.refused s (record { tree_is = told; objects_are = some })))
+pub returns-in_err-reached-clause-unstarted : goal.returns-in_err-reached-clause-unstarted
+returns-in_err-reached-clause-unstarted g c =
+    let p = err_from_is_err_and c.from_residual.result c.from_residual.ensures.1 in rw (p.1, p.2) (on-no-start (c.in_err-reached.ensures.keeps.lists, refl, refl) c.in_err-reached.field-0.0)
 
-pub returns-then-branch-clause-gives : goal.returns-then-branch-clause-gives
-returns-then-branch-clause-gives g c = λ s tells quiet default.
-    let a = c.args in
-    let w = g.W.Worktree in
-    let given = setting_of g.M.Matcher a.shared.now in
-    let made = made_with a.excludes.now in
-    let way = c.in_ok-reached.ensures in
-    let r = c.in_ok-reached.reached in
-    let asked = c.in_ok-is_root_entered.ensures in
-    let ends = c.walk_entered.ensures.ends in
-    let first : NotIncreased (w.faults a.worktree.now) (w.faults c.root_at.new.worktree) = omega (arith, quiet, asked.keeps.faults, ends.worktree.faults) in
-    let second : NotIncreased (w.faults c.root_at.new.worktree) (w.faults c.is_root_entered.new.worktree) = omega (arith, quiet, way.keeps.faults, ends.worktree.faults) in
-    let third : NotIncreased (w.faults c.is_root_entered.new.worktree) (w.faults c.walk_entered.new.worktree) = omega (arith, quiet, way.keeps.faults, asked.keeps.faults) in
-    let is = way.reached s tells.tells tells.in_step first in
-    let into : is_root_entered given.options (evidence given made s) (reached_by r false) ≡ true = sym (asked.entered made s (way.keeps.tree ∙ tells.tells.tree_is) second default) ∙ c.if-branch.true in
-    let here = Tells-later (Before-then (Before-classed way.keeps way.store way.rules) (Before-asked asked.keeps)) tells in
-    on_ok_weaker c.walk_entered.result (gives-entered given made s a.root.now c.requires.root r is into a.depth_limit _ _ _ _)
-    (rw (way.rules.made, asked.given) at (c.walk_entered.ensures.gives s here third (asked.delegate.default ∙ default)))
-
-pub returns-then-branch-clause-part : goal.returns-then-branch-clause-part
-returns-then-branch-clause-part g c = λ s tells quiet default walked walk.
-    let a = c.args in
-    let w = g.W.Worktree in
-    let given = setting_of g.M.Matcher a.shared.now in
-    let made = made_with a.excludes.now in
-    let way = c.in_ok-reached.ensures in
-    let r = c.in_ok-reached.reached in
-    let asked = c.in_ok-is_root_entered.ensures in
-    let ends = c.walk_entered.ensures.ends in
-    let first : NotIncreased (w.faults a.worktree.now) (w.faults c.root_at.new.worktree) = omega (arith, quiet, asked.keeps.faults, ends.worktree.faults) in
-    let second : NotIncreased (w.faults c.root_at.new.worktree) (w.faults c.is_root_entered.new.worktree) = omega (arith, quiet, way.keeps.faults, ends.worktree.faults) in
-    let third : NotIncreased (w.faults c.is_root_entered.new.worktree) (w.faults c.walk_entered.new.worktree) = omega (arith, quiet, way.keeps.faults, asked.keeps.faults) in
-    let is = way.reached s tells.tells tells.in_step first in
-    let into : is_root_entered given.options (evidence given made s) (reached_by r false) ≡ true = sym (asked.entered made s (way.keeps.tree ∙ tells.tells.tree_is) second default) ∙ c.if-branch.true in
-    let here = Tells-later (Before-then (Before-classed way.keeps way.store way.rules) (Before-asked asked.keeps)) tells in
-    on_err_weaker c.walk_entered.result (part-entered given made s a.root.now c.requires.root r is into walked _ _ _ _ walk)
-    (rw (way.rules.made, asked.given) at (c.walk_entered.ensures.part s here third (asked.delegate.default ∙ default)))
-
-pub returns-then-branch-clause-refused : goal.returns-then-branch-clause-refused
-returns-then-branch-clause-refused g c = λ s tells quiet default.
-    let a = c.args in
-    let w = g.W.Worktree in
-    let given = setting_of g.M.Matcher a.shared.now in
-    let made = made_with a.excludes.now in
-    let way = c.in_ok-reached.ensures in
-    let r = c.in_ok-reached.reached in
-    let asked = c.in_ok-is_root_entered.ensures in
-    let ends = c.walk_entered.ensures.ends in
-    let first : NotIncreased (w.faults a.worktree.now) (w.faults c.root_at.new.worktree) = omega (arith, quiet, asked.keeps.faults, ends.worktree.faults) in
-    let second : NotIncreased (w.faults c.root_at.new.worktree) (w.faults c.is_root_entered.new.worktree) = omega (arith, quiet, way.keeps.faults, ends.worktree.faults) in
-    let third : NotIncreased (w.faults c.is_root_entered.new.worktree) (w.faults c.walk_entered.new.worktree) = omega (arith, quiet, way.keeps.faults, asked.keeps.faults) in
-    let is = way.reached s tells.tells tells.in_step first in
-    let into : is_root_entered given.options (evidence given made s) (reached_by r false) ≡ true = sym (asked.entered made s (way.keeps.tree ∙ tells.tells.tree_is) second default) ∙ c.if-branch.true in
-    let here = Tells-later (Before-then (Before-classed way.keeps way.store way.rules) (Before-asked asked.keeps)) tells in
-    let stored : Type 0 = Increased (g.F.Find.faults a.objects.now) (g.F.Find.faults c.walk_entered.new.objects) in
-    IfErr-weaker c.walk_entered.result (OnRefused (DirectoryRefuses given made s a.depth_limit ⊥ a.root.now r.outcome)) (OnRefused (StartRefuses given made s a.root.now a.depth_limit stored))
-    (refused-any (DirectoryRefuses given made s a.depth_limit ⊥ a.root.now r.outcome) (StartRefuses given made s a.root.now a.depth_limit stored)
-    (refuses-entered given made s a.root.now c.requires.root r is into a.depth_limit stored))
-    (rw way.rules.made at (c.walk_entered.ensures.refused s here third (asked.delegate.default ∙ default)))
-
-pub returns-then-branch-clause-ends : goal.returns-then-branch-clause-ends
-returns-then-branch-clause-ends g c =
-    let w = g.W.Worktree in
-    let f = g.F.Find in
-    let i = g.I.Interrupt in
-    let d = g.D.Delegate in
-    let way = c.in_ok-reached.ensures in
-    let asked = c.in_ok-is_root_entered.ensures in
-    Ends-after w f i d c.walk_entered.result (Before-then (Before-classed way.keeps way.store way.rules) (Before-asked asked.keeps))
-    (Ends-asked w f i d c.walk_entered.result asked.delegate asked.breaks c.walk_entered.ensures.ends)
-
-pub returns-clause-gives : goal.returns-clause-gives
-returns-clause-gives g c = λ s tells quiet default.
-    let a = c.args in
-    let w = g.W.Worktree in
-    let given = setting_of g.M.Matcher a.shared.now in
-    let made = made_with a.excludes.now in
-    let way = c.in_ok-reached.ensures in
-    let r = c.in_ok-reached.reached in
-    let asked = c.in_ok-is_root_entered.ensures in
-    let first : NotIncreased (w.faults a.worktree.now) (w.faults c.root_at.new.worktree) = omega (arith, quiet, asked.keeps.faults) in
-    let second : NotIncreased (w.faults c.root_at.new.worktree) (w.faults c.is_root_entered.new.worktree) = omega (arith, quiet, way.keeps.faults) in
-    let is = way.reached s tells.tells tells.in_step first in
-    let out : is_root_entered given.options (evidence given made s) (reached_by r false) ≡ false = sym (asked.entered made s (way.keeps.tree ∙ tells.tells.tree_is) second default) ∙ c.if-branch.false in
-    rw asked.given at
-    (gives-put given made s a.root.now c.requires.root r is out g.D.Delegate a.depth_limit a.shared.now.worktree_root.now c.is_root_entered.new.delegate c.put_root.new.delegate a.outcome.now c.put_root.new.outcome c.put_root.result c.put_root.ensures.puts)
-
-pub returns-clause-refused : goal.returns-clause-refused
-returns-clause-refused g c = λ s tells quiet default.
-    let a = c.args in
-    let w = g.W.Worktree in
-    let given = setting_of g.M.Matcher a.shared.now in
-    let made = made_with a.excludes.now in
-    let way = c.in_ok-reached.ensures in
-    let r = c.in_ok-reached.reached in
-    let asked = c.in_ok-is_root_entered.ensures in
-    let top = a.shared.now.worktree_root.now in
-    let first : NotIncreased (w.faults a.worktree.now) (w.faults c.root_at.new.worktree) = omega (arith, quiet, asked.keeps.faults) in
-    let second : NotIncreased (w.faults c.root_at.new.worktree) (w.faults c.is_root_entered.new.worktree) = omega (arith, quiet, way.keeps.faults) in
-    let is = way.reached s tells.tells tells.in_step first in
-    let out : is_root_entered given.options (evidence given made s) (reached_by r false) ≡ false = sym (asked.entered made s (way.keeps.tree ∙ tells.tells.tree_is) second default) ∙ c.if-branch.false in
-    let stored : Type 0 = Increased (g.F.Find.faults a.objects.now) (g.F.Find.faults c.root_at.new.objects) in
-    IfErr-weaker c.put_root.result (OnRefused (OnlyRoot top a.root.now r)) (OnRefused (StartRefuses given made s a.root.now a.depth_limit stored))
-    (refused-any (OnlyRoot top a.root.now r) (StartRefuses given made s a.root.now a.depth_limit stored) (λ e. only-refuses given made s top a.root.now a.depth_limit stored r e (no-root given made s a.root.now c.requires.root r is out)))
-    c.put_root.ensures.puts.refused
-
-pub returns-clause-no_root : goal.returns-clause-no_root
-returns-clause-no_root g c = λ s told quiet.
-    let a = c.args in
-    let w = g.W.Worktree in
-    let given = setting_of g.M.Matcher a.shared.now in
-    let made = made_with a.excludes.now in
-    let way = c.in_ok-reached.ensures in
-    let r = c.in_ok-reached.reached in
-    let top = a.shared.now.worktree_root.now in
-    let first : NotIncreased (w.faults a.worktree.now) (w.faults c.root_at.new.worktree) = (let k = c.in_ok-is_root_entered.ensures.keeps.faults in omega (arith, quiet, k)) in
-    let second : NotIncreased (w.faults c.root_at.new.worktree) (w.faults c.is_root_entered.new.worktree) = omega (arith, quiet, way.keeps.faults) in
-    let asked = c.in_ok-is_root_entered.ensures in
-    let shape = c.requires.root in
-    let none : Type 0 = IsNoTop given made s (recursion_of g.D.Delegate a.delegate.now c.put_root.new.delegate) in
-    let way_is : is_empty a.root.now ≡ true → is_root_entered given.options (evidence given made s) (way_to given made s []) ≡ is_root_entered given.options (evidence given made s) (reached_by r false) =
-    λ empty.
-    ap (λ (p : List ℕ). is_root_entered given.options (evidence given made s) (way_to given made s p)) (sym (bare a.root.now empty))
-    ∙ ap (is_root_entered given.options (evidence given made s)) (sym (way.top (bare a.root.now empty) s told first)) in
-    let unentered : is_empty a.root.now ≡ true → g.D.Delegate.is_default a.delegate.now ≡ true → is_root_entered given.options (evidence given made s) (way_to given made s []) ≡ false =
-    λ empty default.
-    way_is empty
-    ∙ sym (asked.entered made s (way.keeps.tree ∙ told) second default)
-    ∙ c.if-branch.false in
-    let answered : is_empty a.root.now ≡ true
-    → IsAnswered (is_root_entered given.options (evidence given made s) (way_to given made s [])) false (g.D.Delegate.refusals a.delegate.now) (g.D.Delegate.refusals c.put_root.new.delegate) =
-    λ empty.
-    let r0 = g.D.Delegate.refusals a.delegate.now in
-    let r1 = g.D.Delegate.refusals c.is_root_entered.new.delegate in
-    let shut = subst (λ (b : Bool). IsAnswered (is_root_entered given.options (evidence given made s) (reached_by r false)) b r0 r1) c.if-branch.false (asked.answered made s (way.keeps.tree ∙ told) second) in
-    subst (λ (n : ℕ). IsAnswered (is_root_entered given.options (evidence given made s) (way_to given made s [])) false r0 n) (sym c.put_root.ensures.refusals)
-    (subst (λ (b : Bool). IsAnswered b false r0 r1) (sym (way_is empty)) shut) in
-    IfErr-weaker c.put_root.result (OnRefused (OnlyRoot top a.root.now r)) (OnRefused (OnNoRoot none))
-    (refused-any (OnlyRoot top a.root.now r) (OnNoRoot none) (λ e. only-no_root none top a.root.now r e
-    (λ empty holds. record { node = no-node given made s a.root.now shape r (way.top (bare a.root.now empty) s told first) empty holds; unentered = unentered empty; answered = answered empty })))
-    c.put_root.ensures.puts.refused
+pub returns-in_err-reached-clause-caused : goal.returns-in_err-reached-clause-caused
+returns-in_err-reached-clause-caused g c =
+    record {
+      about =
+          let a = c.args in
+          let p = err_from_is_err_and c.from_residual.result c.from_residual.ensures.1 in
+          rw (p.1, p.2) (way-about (made_with a.parts.now.excludes.now) a.shared.now.worktree_root.now a.root.now a.depth_limit c.in_err-reached.field-0.0 c.requires.root c.in_err-reached.ensures.about);
+      found = λ s told.
+          let a = c.args in
+          let p = err_from_is_err_and c.from_residual.result c.from_residual.ensures.1 in
+          let way = c.in_err-reached.ensures in
+          rw (p.1, p.2)
+          (way-found a.shared.now.worktree_root.now (g.F.Find.holds a.parts.now.objects.now) s (made_with a.parts.now.excludes.now) a.root.now c.in_err-reached.field-0.0 c.requires.root way.about
+          (λ some. way.refused s (record { tree_is = told; objects_are = some })));
+    }
 
 pub returns-in_err-reached-clause-opens : goal.returns-in_err-reached-clause-opens
 returns-in_err-reached-clause-opens g c =
     let p = err_from_is_err_and c.from_residual.result c.from_residual.ensures.1 in
-    rw (p.1, p.2) (opens-short c.root_at.new.worktree c.args.strategy c.in_err-reached.ensures.reads (λ s tells default quiet. omega arith) _ (shallow-way (made_with c.args.excludes.now) c.args.root.now c.in_err-reached.field-0.0 c.in_err-reached.ensures.about) c.in_err-reached.ensures.keeps.lists refl refl (omega arith))
+    rw (p.1, p.2) (opens-short c.root_at.new.worktree c.args.strategy c.in_err-reached.ensures.reads (λ s tells default quiet. omega arith) _ (shallow-way (made_with c.args.parts.now.excludes.now) c.args.root.now c.in_err-reached.field-0.0 c.in_err-reached.ensures.about) c.in_err-reached.ensures.keeps.lists refl refl (omega arith))
+
+pub returns-in_err-reached-clause-unmapped : goal.returns-in_err-reached-clause-unmapped
+returns-in_err-reached-clause-unmapped g c = λ held. c.in_err-reached.ensures.unmapped
+
+-- ---- there is no room for the question whether it is entered
+
+pub returns-in_err-is_root_entered-clause-told : goal.returns-in_err-is_root_entered-clause-told
+returns-in_err-is_root_entered-clause-told g c =
+    record {
+      gives = λ s tells quiet default. let p = err_from_is_err_and c.from_residual-in_err-is_root_entered.result c.from_residual-in_err-is_root_entered.ensures.1 in rw p.1 tt;
+      part = λ s tells quiet default walked walk.
+          let p = err_from_is_err_and c.from_residual-in_err-is_root_entered.result c.from_residual-in_err-is_root_entered.ensures.1 in
+          rw p.1 (Within-none _ _ _ _ _ _ c.in_err-is_root_entered.ensures.given refl);
+      refused = search rules;
+    }
 
 pub returns-in_err-is_root_entered-clause-opens : goal.returns-in_err-is_root_entered-clause-opens
 returns-in_err-is_root_entered-clause-opens g c =
@@ -207,6 +94,91 @@ returns-in_err-is_root_entered-clause-opens g c =
     rw (p.1, p.2)
     (opens-short c.root_at.new.worktree c.args.strategy (asks-from way.prefix way.reads) (λ s tells default quiet. omega arith) _ refl (asked.keeps.lists ∙ way.keeps.lists) asked.reads refl (omega arith))
 
+pub returns-in_err-is_root_entered-clause-unmapped : goal.returns-in_err-is_root_entered-clause-unmapped
+returns-in_err-is_root_entered-clause-unmapped g c = λ held. c.in_ok-reached.ensures.unmapped
+
+pub returns-in_err-is_root_entered-clause-leaves : goal.returns-in_err-is_root_entered-clause-leaves
+returns-in_err-is_root_entered-clause-leaves g c =
+    record {
+      puts = search rules;
+      filtered = AddsShown-same (chosen c.args.shared.now.options) c.in_err-is_root_entered.ensures.given;
+      ends = search rules;
+    }
+
+-- ---- it is entered
+
+pub returns-then-branch-clause-told : goal.returns-then-branch-clause-told
+returns-then-branch-clause-told g c =
+    record {
+      gives = λ s tells quiet default.
+          let a = c.args in
+          let w = g.W.Worktree in
+          let given = setting_of g.M.Matcher a.shared.now in
+          let made = made_with a.parts.now.excludes.now in
+          let way = c.in_ok-reached.ensures in
+          let r = c.in_ok-reached.reached in
+          let asked = c.in_ok-is_root_entered.ensures in
+          let ends = c.walk_entered.ensures.leaves.ends in
+          let first : NotIncreased (w.faults a.parts.now.worktree.now) (w.faults c.root_at.new.worktree) = omega (arith, quiet, asked.keeps.faults, ends.worktree.faults) in
+          let second : NotIncreased (w.faults c.root_at.new.worktree) (w.faults c.is_root_entered.new.worktree) = omega (arith, quiet, way.keeps.faults, ends.worktree.faults) in
+          let third : NotIncreased (w.faults c.is_root_entered.new.worktree) (w.faults c.walk_entered.new.parts.worktree.now) = omega (arith, quiet, way.keeps.faults, asked.keeps.faults) in
+          let is = way.reached s tells.tells tells.in_step first in
+          let into : is_root_entered given.options (evidence given made s) (reached_by r false) ≡ true = sym (asked.entered made s (way.keeps.tree ∙ tells.tells.tree_is) second default) ∙ c.if-branch.true in
+          let here = Tells-later (Before-then (Before-classed way.keeps way.store way.rules) (Before-asked asked.keeps)) tells in
+          on_ok_weaker c.walk_entered.result (gives-entered given made s a.root.now c.requires.root r is into a.depth_limit _ _ _ _)
+          (rw (way.rules.made, asked.given) at (c.walk_entered.ensures.told.gives s here third (asked.delegate.default ∙ default)));
+      part = λ s tells quiet default walked walk.
+          let a = c.args in
+          let w = g.W.Worktree in
+          let given = setting_of g.M.Matcher a.shared.now in
+          let made = made_with a.parts.now.excludes.now in
+          let way = c.in_ok-reached.ensures in
+          let r = c.in_ok-reached.reached in
+          let asked = c.in_ok-is_root_entered.ensures in
+          let ends = c.walk_entered.ensures.leaves.ends in
+          let first : NotIncreased (w.faults a.parts.now.worktree.now) (w.faults c.root_at.new.worktree) = omega (arith, quiet, asked.keeps.faults, ends.worktree.faults) in
+          let second : NotIncreased (w.faults c.root_at.new.worktree) (w.faults c.is_root_entered.new.worktree) = omega (arith, quiet, way.keeps.faults, ends.worktree.faults) in
+          let third : NotIncreased (w.faults c.is_root_entered.new.worktree) (w.faults c.walk_entered.new.parts.worktree.now) = omega (arith, quiet, way.keeps.faults, asked.keeps.faults) in
+          let is = way.reached s tells.tells tells.in_step first in
+          let into : is_root_entered given.options (evidence given made s) (reached_by r false) ≡ true = sym (asked.entered made s (way.keeps.tree ∙ tells.tells.tree_is) second default) ∙ c.if-branch.true in
+          let here = Tells-later (Before-then (Before-classed way.keeps way.store way.rules) (Before-asked asked.keeps)) tells in
+          on_err_weaker c.walk_entered.result (part-entered given made s a.root.now c.requires.root r is into walked _ _ _ _ walk)
+          (rw (way.rules.made, asked.given) at (c.walk_entered.ensures.told.part s here third (asked.delegate.default ∙ default)));
+      refused = λ s tells quiet default.
+          let a = c.args in
+          let w = g.W.Worktree in
+          let given = setting_of g.M.Matcher a.shared.now in
+          let made = made_with a.parts.now.excludes.now in
+          let way = c.in_ok-reached.ensures in
+          let r = c.in_ok-reached.reached in
+          let asked = c.in_ok-is_root_entered.ensures in
+          let ends = c.walk_entered.ensures.leaves.ends in
+          let first : NotIncreased (w.faults a.parts.now.worktree.now) (w.faults c.root_at.new.worktree) = omega (arith, quiet, asked.keeps.faults, ends.worktree.faults) in
+          let second : NotIncreased (w.faults c.root_at.new.worktree) (w.faults c.is_root_entered.new.worktree) = omega (arith, quiet, way.keeps.faults, ends.worktree.faults) in
+          let third : NotIncreased (w.faults c.is_root_entered.new.worktree) (w.faults c.walk_entered.new.parts.worktree.now) = omega (arith, quiet, way.keeps.faults, asked.keeps.faults) in
+          let is = way.reached s tells.tells tells.in_step first in
+          let into : is_root_entered given.options (evidence given made s) (reached_by r false) ≡ true = sym (asked.entered made s (way.keeps.tree ∙ tells.tells.tree_is) second default) ∙ c.if-branch.true in
+          let here = Tells-later (Before-then (Before-classed way.keeps way.store way.rules) (Before-asked asked.keeps)) tells in
+          let stored : Type 0 = Increased (g.F.Find.faults a.parts.now.objects.now) (g.F.Find.faults c.walk_entered.new.parts.objects.now) in
+          IfErr-weaker c.walk_entered.result (OnRefused (DirectoryRefuses given made s a.depth_limit ⊥ a.root.now r.outcome)) (OnRefused (StartRefuses given made s a.root.now a.depth_limit stored))
+          (refused-any (DirectoryRefuses given made s a.depth_limit ⊥ a.root.now r.outcome) (StartRefuses given made s a.root.now a.depth_limit stored)
+          (refuses-entered given made s a.root.now c.requires.root r is into a.depth_limit stored))
+          (rw way.rules.made at (c.walk_entered.ensures.told.refused s here third (asked.delegate.default ∙ default)));
+    }
+
+pub returns-then-branch-clause-unstarted : goal.returns-then-branch-clause-unstarted
+returns-then-branch-clause-unstarted g c =
+    let a = c.args in
+    let way = c.in_ok-reached.ensures in
+    let made = made_with a.parts.now.excludes.now in
+    let top = a.shared.now.worktree_root.now in
+    let told = g.D.Delegate.given in
+    let lists = g.W.Worktree.lists in
+    let Same : Type 0 = (lists c.walk_entered.new.parts.worktree.now ≡ lists a.parts.now.worktree.now) × (c.walk_entered.new.parts.interrupt.now ≡ a.parts.now.interrupt.now) × (told c.walk_entered.new.parts.delegate.now ≡ told a.parts.now.delegate.now) in
+    let From = IsAboutFrom made top a.root.now a.depth_limit in
+    IfErr-weaker c.walk_entered.result (OnRefused From) (OnRefused (OnNoStart Same)) (refused-any From (OnNoStart Same) (no-start-from Same made top a.root.now a.depth_limit))
+    (rw way.rules.made at c.walk_entered.ensures.caused.about)
+
 pub returns-then-branch-clause-opens : goal.returns-then-branch-clause-opens
 returns-then-branch-clause-opens g c =
     let way = c.in_ok-reached.ensures in
@@ -214,14 +186,14 @@ returns-then-branch-clause-opens g c =
     let a = c.args in
     let w = g.W.Worktree in
     let given = setting_of g.M.Matcher a.shared.now in
-    let made = made_with a.excludes.now in
+    let made = made_with a.parts.now.excludes.now in
     let r = c.in_ok-reached.reached in
-    let ends = c.walk_entered.ensures.ends in
-    opens-entered c.root_at.new.worktree c.is_root_entered.new.worktree c.args.strategy (asks-from way.prefix way.reads) c.walk_entered.new.excludes c.walk_entered.result
+    let ends = c.walk_entered.ensures.leaves.ends in
+    opens-entered c.root_at.new.worktree c.is_root_entered.new.worktree c.args.strategy (asks-from way.prefix way.reads) c.walk_entered.new.parts.excludes.now c.walk_entered.result
     (λ n few s tells default quiet.
-    let first : NotIncreased (w.faults a.worktree.now) (w.faults c.root_at.new.worktree) = omega (arith, quiet, asked.keeps.faults, ends.worktree.faults) in
+    let first : NotIncreased (w.faults a.parts.now.worktree.now) (w.faults c.root_at.new.worktree) = omega (arith, quiet, asked.keeps.faults, ends.worktree.faults) in
     let second : NotIncreased (w.faults c.root_at.new.worktree) (w.faults c.is_root_entered.new.worktree) = omega (arith, quiet, way.keeps.faults, ends.worktree.faults) in
-    let third : NotIncreased (w.faults c.is_root_entered.new.worktree) (w.faults c.walk_entered.new.worktree) = omega (arith, quiet, way.keeps.faults, asked.keeps.faults) in
+    let third : NotIncreased (w.faults c.is_root_entered.new.worktree) (w.faults c.walk_entered.new.parts.worktree.now) = omega (arith, quiet, way.keeps.faults, asked.keeps.faults) in
     let is = way.reached s tells.tells tells.in_step first in
     let into : is_root_entered given.options (evidence given made s) (reached_by r false) ≡ true = sym (asked.entered made s (way.keeps.tree ∙ tells.tells.tree_is) second default) ∙ c.if-branch.true in
     let here = Tells-later (Before-then (Before-classed way.keeps way.store way.rules) (Before-asked asked.keeps)) tells in
@@ -230,28 +202,114 @@ returns-then-branch-clause-opens g c =
     omega (arith, most, all))
     way.rules.made (asked.keeps.lists ∙ way.keeps.lists) asked.reads refl c.walk_entered.ensures.opens
 
-pub returns-clause-opens : goal.returns-clause-opens
-returns-clause-opens g c =
-    let way = c.in_ok-reached.ensures in
-    let asked = c.in_ok-is_root_entered.ensures in
-    opens-short c.root_at.new.worktree c.args.strategy (asks-from way.prefix way.reads) (λ s tells default quiet. omega arith) c.put_root.result (shallow-put c.args.shared.now.worktree_root.now c.args.root.now c.in_ok-reached.reached c.put_root.result c.put_root.ensures.puts.refused) (asked.keeps.lists ∙ way.keeps.lists) asked.reads c.put_root.ensures.entered (omega arith)
+pub returns-then-branch-clause-unmapped : goal.returns-then-branch-clause-unmapped
+returns-then-branch-clause-unmapped g c =
+    λ held. let way = c.in_ok-reached.ensures in unmapped-then c.args.parts.now.excludes.now c.root_at.new.excludes way.rules.made way.unmapped (c.walk_entered.ensures.unmapped held)
 
-pub returns-in_err-reached-clause-unstarted : goal.returns-in_err-reached-clause-unstarted
-returns-in_err-reached-clause-unstarted g c =
-    let p = err_from_is_err_and c.from_residual.result c.from_residual.ensures.1 in rw (p.1, p.2) (on-no-start (c.in_err-reached.ensures.keeps.lists, refl, refl) c.in_err-reached.field-0.0)
+pub returns-then-branch-clause-leaves : goal.returns-then-branch-clause-leaves
+returns-then-branch-clause-leaves g c =
+    record {
+      puts = inl (rw c.in_ok-is_root_entered.ensures.given at c.walk_entered.ensures.leaves.puts);
+      filtered = c.walk_entered.ensures.leaves.filtered ∙ AddsShown-same (chosen c.args.shared.now.options) c.in_ok-is_root_entered.ensures.given;
+      ends =
+          let w = g.W.Worktree in
+          let f = g.F.Find in
+          let i = g.I.Interrupt in
+          let d = g.D.Delegate in
+          let way = c.in_ok-reached.ensures in
+          let asked = c.in_ok-is_root_entered.ensures in
+          Ends-after w f i d c.walk_entered.result (Before-then (Before-classed way.keeps way.store way.rules) (Before-asked asked.keeps))
+          (Ends-asked w f i d c.walk_entered.result asked.delegate asked.breaks c.walk_entered.ensures.leaves.ends);
+    }
 
-pub returns-then-branch-clause-unstarted : goal.returns-then-branch-clause-unstarted
-returns-then-branch-clause-unstarted g c =
+-- ---- nothing is entered, and its one entry is put out
+
+pub returns-clause-told : goal.returns-clause-told
+returns-clause-told g c =
+    record {
+      gives = λ s tells quiet default.
+          let a = c.args in
+          let w = g.W.Worktree in
+          let given = setting_of g.M.Matcher a.shared.now in
+          let made = made_with a.parts.now.excludes.now in
+          let way = c.in_ok-reached.ensures in
+          let r = c.in_ok-reached.reached in
+          let asked = c.in_ok-is_root_entered.ensures in
+          let first : NotIncreased (w.faults a.parts.now.worktree.now) (w.faults c.root_at.new.worktree) = omega (arith, quiet, asked.keeps.faults) in
+          let second : NotIncreased (w.faults c.root_at.new.worktree) (w.faults c.is_root_entered.new.worktree) = omega (arith, quiet, way.keeps.faults) in
+          let is = way.reached s tells.tells tells.in_step first in
+          let out : is_root_entered given.options (evidence given made s) (reached_by r false) ≡ false = sym (asked.entered made s (way.keeps.tree ∙ tells.tells.tree_is) second default) ∙ c.if-branch.false in
+          rw asked.given at
+          (gives-put given made s a.root.now c.requires.root r is out g.D.Delegate a.depth_limit a.shared.now.worktree_root.now c.is_root_entered.new.delegate c.put_root.new.delegate a.parts.now.outcome.now c.put_root.new.outcome c.put_root.result c.put_root.ensures.puts);
+      part = λ s tells quiet default walked walk.
+          let a = c.args in
+          let w = g.W.Worktree in
+          let given = setting_of g.M.Matcher a.shared.now in
+          let made = made_with a.parts.now.excludes.now in
+          let way = c.in_ok-reached.ensures in
+          let r = c.in_ok-reached.reached in
+          let asked = c.in_ok-is_root_entered.ensures in
+          let told = g.D.Delegate.given in
+          let first : NotIncreased (w.faults a.parts.now.worktree.now) (w.faults c.root_at.new.worktree) = omega (arith, quiet, asked.keeps.faults) in
+          let second : NotIncreased (w.faults c.root_at.new.worktree) (w.faults c.is_root_entered.new.worktree) = omega (arith, quiet, way.keeps.faults) in
+          let is = way.reached s tells.tells tells.in_step first in
+          let out : is_root_entered given.options (evidence given made s) (reached_by r false) ≡ false = sym (asked.entered made s (way.keeps.tree ∙ tells.tells.tree_is) second default) ∙ c.if-branch.false in
+          rw asked.given at
+          (on_err_weaker c.put_root.result (part-only given made s a.root.now c.requires.root r is out walked (told c.is_root_entered.new.delegate) (told c.put_root.new.delegate) a.parts.now.outcome.now c.put_root.new.outcome walk) c.put_root.ensures.puts.part);
+      refused = λ s tells quiet default.
+          let a = c.args in
+          let w = g.W.Worktree in
+          let given = setting_of g.M.Matcher a.shared.now in
+          let made = made_with a.parts.now.excludes.now in
+          let way = c.in_ok-reached.ensures in
+          let r = c.in_ok-reached.reached in
+          let asked = c.in_ok-is_root_entered.ensures in
+          let top = a.shared.now.worktree_root.now in
+          let first : NotIncreased (w.faults a.parts.now.worktree.now) (w.faults c.root_at.new.worktree) = omega (arith, quiet, asked.keeps.faults) in
+          let second : NotIncreased (w.faults c.root_at.new.worktree) (w.faults c.is_root_entered.new.worktree) = omega (arith, quiet, way.keeps.faults) in
+          let is = way.reached s tells.tells tells.in_step first in
+          let out : is_root_entered given.options (evidence given made s) (reached_by r false) ≡ false = sym (asked.entered made s (way.keeps.tree ∙ tells.tells.tree_is) second default) ∙ c.if-branch.false in
+          let stored : Type 0 = Increased (g.F.Find.faults a.parts.now.objects.now) (g.F.Find.faults c.root_at.new.objects) in
+          IfErr-weaker c.put_root.result (OnRefused (OnlyRoot top a.root.now r)) (OnRefused (StartRefuses given made s a.root.now a.depth_limit stored))
+          (refused-any (OnlyRoot top a.root.now r) (StartRefuses given made s a.root.now a.depth_limit stored) (λ e. only-refuses given made s top a.root.now a.depth_limit stored r e (no-root given made s a.root.now c.requires.root r is out)))
+          c.put_root.ensures.puts.refused;
+    }
+
+pub returns-clause-no_root : goal.returns-clause-no_root
+returns-clause-no_root g c = λ s told quiet.
     let a = c.args in
+    let w = g.W.Worktree in
+    let given = setting_of g.M.Matcher a.shared.now in
+    let made = made_with a.parts.now.excludes.now in
     let way = c.in_ok-reached.ensures in
-    let made = made_with a.excludes.now in
+    let r = c.in_ok-reached.reached in
     let top = a.shared.now.worktree_root.now in
-    let told = g.D.Delegate.given in
-    let lists = g.W.Worktree.lists in
-    let Same : Type 0 = (lists c.walk_entered.new.worktree ≡ lists a.worktree.now) × (c.walk_entered.new.interrupt ≡ a.interrupt.now) × (told c.walk_entered.new.delegate ≡ told a.delegate.now) in
-    let From = IsAboutFrom made top a.root.now a.depth_limit in
-    IfErr-weaker c.walk_entered.result (OnRefused From) (OnRefused (OnNoStart Same)) (refused-any From (OnNoStart Same) (no-start-from Same made top a.root.now a.depth_limit))
-    (rw way.rules.made at c.walk_entered.ensures.about)
+    let first : NotIncreased (w.faults a.parts.now.worktree.now) (w.faults c.root_at.new.worktree) = (let k = c.in_ok-is_root_entered.ensures.keeps.faults in omega (arith, quiet, k)) in
+    let second : NotIncreased (w.faults c.root_at.new.worktree) (w.faults c.is_root_entered.new.worktree) = omega (arith, quiet, way.keeps.faults) in
+    let asked = c.in_ok-is_root_entered.ensures in
+    let shape = c.requires.root in
+    let none : Type 0 = IsNoTop given made s (recursion_of g.D.Delegate a.parts.now.delegate.now c.put_root.new.delegate) in
+    let way_is : is_empty a.root.now ≡ true → is_root_entered given.options (evidence given made s) (way_to given made s []) ≡ is_root_entered given.options (evidence given made s) (reached_by r false) =
+    λ empty.
+    ap (λ (p : List ℕ). is_root_entered given.options (evidence given made s) (way_to given made s p)) (sym (bare a.root.now empty))
+    ∙ ap (is_root_entered given.options (evidence given made s)) (sym (way.top (bare a.root.now empty) s told first)) in
+    let unentered : is_empty a.root.now ≡ true → g.D.Delegate.is_default a.parts.now.delegate.now ≡ true → is_root_entered given.options (evidence given made s) (way_to given made s []) ≡ false =
+    λ empty default.
+    way_is empty
+    ∙ sym (asked.entered made s (way.keeps.tree ∙ told) second default)
+    ∙ c.if-branch.false in
+    let answered : is_empty a.root.now ≡ true
+    → IsAnswered (is_root_entered given.options (evidence given made s) (way_to given made s [])) false (g.D.Delegate.refusals a.parts.now.delegate.now) (g.D.Delegate.refusals c.put_root.new.delegate) =
+    λ empty.
+    let r0 = g.D.Delegate.refusals a.parts.now.delegate.now in
+    let r1 = g.D.Delegate.refusals c.is_root_entered.new.delegate in
+    let shut = subst (λ (b : Bool). IsAnswered (is_root_entered given.options (evidence given made s) (reached_by r false)) b r0 r1) c.if-branch.false (asked.answered made s (way.keeps.tree ∙ told) second) in
+    subst (λ (n : ℕ). IsAnswered (is_root_entered given.options (evidence given made s) (way_to given made s [])) false r0 n) (sym c.put_root.ensures.refusals)
+    (subst (λ (b : Bool). IsAnswered b false r0 r1) (sym (way_is empty)) shut) in
+    IfErr-weaker c.put_root.result (OnRefused (OnlyRoot top a.root.now r)) (OnRefused (OnNoRoot none))
+    (refused-any (OnlyRoot top a.root.now r) (OnNoRoot none) (λ e. only-no_root none top a.root.now r e
+    (λ empty holds. record { node = no-node given made s a.root.now shape r (way.top (bare a.root.now empty) s told first) empty holds; unentered = unentered empty; answered = answered empty })))
+    c.put_root.ensures.puts.refused
 
 pub returns-clause-unstarted : goal.returns-clause-unstarted
 returns-clause-unstarted g c =
@@ -261,50 +319,23 @@ returns-clause-unstarted g c =
     let told = g.D.Delegate.given in
     let lists = g.W.Worktree.lists in
     let Unfed : Type 0 = told c.put_root.new.delegate ≡ told c.is_root_entered.new.delegate in
-    let Same : Type 0 = (lists c.is_root_entered.new.worktree ≡ lists a.worktree.now) × (a.interrupt.now ≡ a.interrupt.now) × (told c.put_root.new.delegate ≡ told a.delegate.now) in
+    let Same : Type 0 = (lists c.is_root_entered.new.worktree ≡ lists a.parts.now.worktree.now) × (a.parts.now.interrupt.now ≡ a.parts.now.interrupt.now) × (told c.put_root.new.delegate ≡ told a.parts.now.delegate.now) in
     IfErr-weaker c.put_root.result (OnRefused (OnNoStart Unfed)) (OnRefused (OnNoStart Same)) (refused-any (OnNoStart Unfed) (OnNoStart Same) (no-start-weaker (λ unfed. (asked.keeps.lists ∙ way.keeps.lists, refl, unfed ∙ asked.given))))
     c.put_root.ensures.puts.unfed
 
-pub returns-in_err-is_root_entered-clause-part : goal.returns-in_err-is_root_entered-clause-part
-returns-in_err-is_root_entered-clause-part g c = λ s tells quiet default walked walk.
-    let p = err_from_is_err_and c.from_residual-in_err-is_root_entered.result c.from_residual-in_err-is_root_entered.ensures.1 in
-    rw p.1 (Within-none _ _ _ _ _ _ c.in_err-is_root_entered.ensures.given refl)
-
-pub returns-in_err-is_root_entered-clause-filtered : goal.returns-in_err-is_root_entered-clause-filtered
-returns-in_err-is_root_entered-clause-filtered g c = AddsShown-same (chosen c.args.shared.now.options) c.in_err-is_root_entered.ensures.given
-
-pub returns-then-branch-clause-filtered : goal.returns-then-branch-clause-filtered
-returns-then-branch-clause-filtered g c = c.walk_entered.ensures.filtered ∙ AddsShown-same (chosen c.args.shared.now.options) c.in_ok-is_root_entered.ensures.given
-
-pub returns-clause-filtered : goal.returns-clause-filtered
-returns-clause-filtered g c = c.put_root.ensures.filtered ∙ AddsShown-same (chosen c.args.shared.now.options) c.in_ok-is_root_entered.ensures.given
-
-pub returns-in_err-reached-clause-unmapped : goal.returns-in_err-reached-clause-unmapped
-returns-in_err-reached-clause-unmapped g c = λ held. c.in_err-reached.ensures.unmapped
-
-pub returns-in_err-is_root_entered-clause-unmapped : goal.returns-in_err-is_root_entered-clause-unmapped
-returns-in_err-is_root_entered-clause-unmapped g c = λ held. c.in_ok-reached.ensures.unmapped
-
-pub returns-then-branch-clause-unmapped : goal.returns-then-branch-clause-unmapped
-returns-then-branch-clause-unmapped g c =
-    λ held. let way = c.in_ok-reached.ensures in unmapped-then c.args.excludes.now c.root_at.new.excludes way.rules.made way.unmapped (c.walk_entered.ensures.unmapped held)
+pub returns-clause-opens : goal.returns-clause-opens
+returns-clause-opens g c =
+    let way = c.in_ok-reached.ensures in
+    let asked = c.in_ok-is_root_entered.ensures in
+    opens-short c.root_at.new.worktree c.args.strategy (asks-from way.prefix way.reads) (λ s tells default quiet. omega arith) c.put_root.result (shallow-put c.args.shared.now.worktree_root.now c.args.root.now c.in_ok-reached.reached c.put_root.result c.put_root.ensures.puts.refused) (asked.keeps.lists ∙ way.keeps.lists) asked.reads c.put_root.ensures.entered (omega arith)
 
 pub returns-clause-unmapped : goal.returns-clause-unmapped
 returns-clause-unmapped g c = λ held. c.in_ok-reached.ensures.unmapped
 
-pub returns-clause-part : goal.returns-clause-part
-returns-clause-part g c = λ s tells quiet default walked walk.
-    let a = c.args in
-    let w = g.W.Worktree in
-    let given = setting_of g.M.Matcher a.shared.now in
-    let made = made_with a.excludes.now in
-    let way = c.in_ok-reached.ensures in
-    let r = c.in_ok-reached.reached in
-    let asked = c.in_ok-is_root_entered.ensures in
-    let told = g.D.Delegate.given in
-    let first : NotIncreased (w.faults a.worktree.now) (w.faults c.root_at.new.worktree) = omega (arith, quiet, asked.keeps.faults) in
-    let second : NotIncreased (w.faults c.root_at.new.worktree) (w.faults c.is_root_entered.new.worktree) = omega (arith, quiet, way.keeps.faults) in
-    let is = way.reached s tells.tells tells.in_step first in
-    let out : is_root_entered given.options (evidence given made s) (reached_by r false) ≡ false = sym (asked.entered made s (way.keeps.tree ∙ tells.tells.tree_is) second default) ∙ c.if-branch.false in
-    rw asked.given at
-    (on_err_weaker c.put_root.result (part-only given made s a.root.now c.requires.root r is out walked (told c.is_root_entered.new.delegate) (told c.put_root.new.delegate) a.outcome.now c.put_root.new.outcome walk) c.put_root.ensures.puts.part)
+pub returns-clause-leaves : goal.returns-clause-leaves
+returns-clause-leaves g c =
+    record {
+      puts = search rules;
+      filtered = c.put_root.ensures.filtered ∙ AddsShown-same (chosen c.args.shared.now.options) c.in_ok-is_root_entered.ensures.given;
+      ends = search rules;
+    }
