@@ -268,6 +268,55 @@ fn many(alloc: Global, part: &[u8], times: u32, end: &[u8]) -> Option<Vec<u8>> {
     joined(alloc, &[&text, end])
 }
 
+/// Rules of each kind, some of one text, that stand behind a hundred others, so that the list has
+/// tables.
+const LONG_LIST: &[u8] = b"\
+*.o\n!k.o\n*.tar.gz\n/p/q\np/r\nn\nn/\n!n\nn/\n**/deep\ncl[ab]*\n!clax\n.dot\n*.dot\n\\#x\nm/\nm/\n\
+*.d/\nx*y.o\n!filler2\n*~\ns/*.c\n!s/k.c\n";
+
+/// Paths, `d` where it is a directory, and the line that decides as `git check-ignore -v` has it: a
+/// backquote for the hundredth, `a` for the next, and so on, and `-` for none.
+const LONG_ASKED: &[u8] = b"\
+x.o;f;a|k.o;f;b|a.tar.gz;f;c|a.gz;f;-|a.b.o;f;a|p/q;f;d|z/p/q;f;-|p/r;f;e|n;d;i|s/n;f;h|s/deep;f;j|\
+clac;f;k|clax;f;l|.dot;f;n|a.dot;f;n|#x;f;o|m;f;-|s/m;d;q|q.d;d;r|s/q.d;f;-|xzy.o;f;s|filler;f;`|\
+filler2;f;t|.o;f;a|a~;f;u|s/a.c;f;v|s/k.c;f;w|t/s/a.c;f;-|*.o;f;a";
+
+/// A copy of a search with the long list.
+fn long_search(alloc: Global) -> Option<Search> {
+    let Some(text) = many(alloc, b"filler\n", 100, LONG_LIST) else {
+        return None;
+    };
+    let mut search = Search::new(alloc);
+    if is_pushed(alloc, &mut search, list_of(alloc, &text, b"", AS_GIT)) {
+        return search.copy(alloc).ok();
+    }
+    None
+}
+
+/// Whether the line of a row decides about its path.
+fn is_decided_by(search: &Search, row: &[u8]) -> bool {
+    let (path, rest) = parted(row);
+    let (kind, want) = parted(rest);
+    let line = line_of(search, path, kind == b"d".as_slice(), Case::Sensitive);
+    match want.first() {
+        Some(b'-') => line == 0,
+        Some(letter) => line.checked_sub(4) == Some(usize::from(*letter)),
+        None => false,
+    }
+}
+
+#[test]
+fn a_long_list(rt: HostRuntime) {
+    let found = long_search(rt.alloc());
+    assert!(rt; found.is_some());
+    let Some(search) = found else {
+        return;
+    };
+    for row in LONG_ASKED.split(|byte| *byte == b'|') {
+        assert!(rt; is_decided_by(&search, row), "{row:?}");
+    }
+}
+
 /// Whether a pattern matches the text with `x` behind it alone, where both begin with many parts.
 fn ends_in_x(alloc: Global, part: &[u8], piece: &[u8], times: u32) -> bool {
     match (
