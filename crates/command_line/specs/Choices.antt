@@ -28,13 +28,11 @@ choice_of name =
 -- those that nothing turns off
 abbrev pub firm_choice_of : List ℕ → Option Choice
 firm_choice_of name =
-    if bytes_eq name (codes "exclude-standard") then Some choices.ExcludesStandard
-    else if bytes_eq name (codes "full-name") then Some choices.FullNames
-    else None
+    if bytes_eq name (codes "full-name") then Some choices.FullNames else None
 
 -- git's, of what a path is or which rules are asked; not answered here
 abbrev pub is_left_rule : List ℕ → Bool
-is_left_rule name = bytes_eq name (codes "exclude-from") || bytes_eq name (codes "resolve-undo")
+is_left_rule name = bytes_eq name (codes "resolve-undo")
 
 -- git's, of submodules, objects and forms; not answered here
 abbrev pub is_left_form : List ℕ → Bool
@@ -63,10 +61,12 @@ chosen_by name = if starts_with nat_eq name (codes "no-") then dropped (choice_o
 abbrev pub choosing : List ℕ → Option Opt
 choosing name = first_of (made (firm_choice_of name)) (chosen_by name)
 
--- those of rules that have a value
+-- those of rules
 abbrev pub rule_opt_of : List ℕ → Option Opt
 rule_opt_of name =
     if bytes_eq name (codes "exclude") then Some opts.Pattern
+    else if bytes_eq name (codes "exclude-from") then Some opts.ExcludeFrom
+    else if bytes_eq name (codes "exclude-standard") then Some opts.Standard
     else if bytes_eq name (codes "exclude-per-directory") then Some opts.RulesFile
     else None
 
@@ -93,14 +93,15 @@ choice_of_letter letter =
     else if letter == 122 then Some choices.Nul
     else None
 
--- git's, and not answered here: X, f
+-- git's, and not answered here: f
 abbrev pub is_left_letter : ℕ → Bool
-is_left_letter letter = letter == 88 || letter == 102
+is_left_letter letter = letter == 102
 
--- x, and h
+-- x, X, and h
 abbrev pub listing_opt_of_letter : ℕ → Option Opt
 listing_opt_of_letter letter =
     if letter == 104 then Some opts.Help
     else if letter == 120 then Some opts.Pattern
+    else if letter == 88 then Some opts.ExcludeFrom
     else if is_left_letter letter then Some opts.Left
     else made (choice_of_letter letter)

@@ -7,6 +7,7 @@ pub mod Cleanings
 pub mod Comparings
 pub mod Checkings
 pub mod Drafts
+pub mod RulesGiven
 pub mod Steps
 pub mod Readings
 pub mod Requests

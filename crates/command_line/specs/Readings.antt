@@ -1,5 +1,5 @@
 -- The words of a command, one after the other.
-use Rattle.std.specs.Prelude.{ℕ, ◌-◌, List, [], ◌∷◌, ◌++◌, length, drop, codes}
+use Rattle.std.specs.Prelude.{ℕ, List, [], ◌∷◌, ◌++◌, codes}
 use Rattle.command_line.specs.declared.draft.Draft.{Draft}
 use Rattle.command_line.specs.declared.misuse.Wrong.{Wrong}
 use Rattle.command_line.specs.declared.misuse.Wrong.TheVariants.{NoValue, NoSwitchValue}
@@ -11,42 +11,41 @@ use Rattle.command_line.specs.declared.step.Step.{Step}
 use Rattle.command_line.specs.declared.step.Step.TheVariants as steps
 use Rattle.command_line.specs.declared.verb.Verb.{Verb}
 use Rattle.command_line.specs.Drafts.{default_draft}
+use Rattle.command_line.specs.RulesGiven.{RulesGiven, no_rules, with_ruling}
 use Rattle.command_line.specs.Steps.{step_of}
 
--- what the options say, the paths as they are written, and the patterns; or the first word that is wrong, and how
+-- what the options say, the paths as they are written, and the rules; or the first word that is wrong, and how
 pub data Reading : Type 0 where
-  said : Draft → List (List ℕ) → List (List ℕ) → Reading
+  said : Draft → List (List ℕ) → RulesGiven → Reading
   wrong : Wrong → List ℕ → Reading
 
 abbrev pub seen : Read → Reading
-seen (reads.Said draft paths patterns) = said draft paths.items patterns.items
+seen (reads.Said draft paths rules) = said draft paths.items rules
 seen (reads.Wrong how word) = wrong how word
 
 -- no more words: an option may want a value still
-abbrev pub ended : Draft → Next → List (List ℕ) → List (List ℕ) → Reading
-ended draft nexts.Any paths patterns = said draft paths patterns
-ended draft nexts.Paths paths patterns = said draft paths patterns
-ended draft nexts.Depth paths patterns = wrong NoValue (codes "--depth")
-ended draft nexts.Pattern paths patterns = wrong NoValue (codes "--exclude")
-ended draft (nexts.LetterPattern letter) paths patterns = wrong (NoSwitchValue letter) (45 ∷ letter ∷ [])
+abbrev pub ended : Draft → Next → List (List ℕ) → RulesGiven → Reading
+ended draft nexts.Any paths rules = said draft paths rules
+ended draft nexts.Paths paths rules = said draft paths rules
+ended draft nexts.Depth paths rules = wrong NoValue (codes "--depth")
+ended draft nexts.Pattern paths rules = wrong NoValue (codes "--exclude")
+ended draft (nexts.LetterPattern letter) paths rules = wrong (NoSwitchValue letter) (45 ∷ letter ∷ [])
+ended draft nexts.File paths rules = wrong NoValue (codes "--exclude-from")
+ended draft (nexts.LetterFile letter) paths rules = wrong (NoSwitchValue letter) (45 ∷ letter ∷ [])
 
--- the last bytes of a word, as many as are said
-abbrev pub end_of_word : ℕ → List ℕ → List ℕ
-end_of_word left word = drop (length word - left) word
-
--- what is said with one more word: it says something, it is a path, it ends in a pattern, or it is wrong
-abbrev pub stepped : Step → List ℕ → (Draft → Next → List (List ℕ) → List (List ℕ) → Reading) → Draft → Next → List (List ℕ) → List (List ℕ) → Reading
-stepped (steps.Said now then) word onward draft next paths patterns = onward now then paths patterns
-stepped steps.Path word onward draft next paths patterns = onward draft next (paths ++ word ∷ []) patterns
-stepped (steps.Pattern now left) word onward draft next paths patterns = onward now nexts.Any paths (patterns ++ end_of_word left word ∷ [])
-stepped (steps.Wrong how) word onward draft next paths patterns = wrong how word
+-- what is said with one more word: it says something, it is a path, it says something of rules, or it is wrong
+abbrev pub stepped : Step → List ℕ → (Draft → Next → List (List ℕ) → RulesGiven → Reading) → Draft → Next → List (List ℕ) → RulesGiven → Reading
+stepped (steps.Said now then) word onward draft next paths rules = onward now then paths rules
+stepped steps.Path word onward draft next paths rules = onward draft next (paths ++ word ∷ []) rules
+stepped (steps.Rules now ruling) word onward draft next paths rules = onward now nexts.Any paths (with_ruling ruling word rules)
+stepped (steps.Wrong how) word onward draft next paths rules = wrong how word
 
 -- the words left, by what was said before them
-unfoldable pub read_on : Verb → List (List ℕ) → Draft → Next → List (List ℕ) → List (List ℕ) → Reading
-read_on verb [] draft next paths patterns = ended draft next paths patterns
-read_on verb (word ∷ words) draft next paths patterns =
-    stepped (step_of verb next word draft) word (λ d n p q. read_on verb words d n p q) draft next paths patterns
+unfoldable pub read_on : Verb → List (List ℕ) → Draft → Next → List (List ℕ) → RulesGiven → Reading
+read_on verb [] draft next paths rules = ended draft next paths rules
+read_on verb (word ∷ words) draft next paths rules =
+    stepped (step_of verb next word draft) word (λ d n p q. read_on verb words d n p q) draft next paths rules
 
 -- what the words of a command say together
 abbrev pub read_words : Verb → List (List ℕ) → Reading
-read_words verb words = read_on verb words default_draft nexts.Any [] []
+read_words verb words = read_on verb words default_draft nexts.Any [] no_rules

@@ -26,6 +26,7 @@ use Rattle.command_line.specs.declared.verb.Topic.TheVariants as topics
 use Rattle.command_line.specs.declared.verb.Verb.{Verb}
 use Rattle.command_line.specs.declared.verb.Verb.TheVariants as verbs
 use Rattle.command_line.specs.ChangeWords.{standings_of}
+use Rattle.command_line.specs.RulesGiven.{RulesGiven}
 use Rattle.command_line.specs.Readings.{Reading, said, wrong, read_words}
 use Rattle.command_line.specs.Verbs.{prefers_current, verb_of}
 
@@ -45,8 +46,8 @@ pub data Command : Type 0 where
   plan : Want → What → Finding → Form → Command
   modules : Want → Command
   state : Want → Form → Command
-  files : Want → Listing → List (List ℕ) → Command
-  changed : Want → Listing → List (List ℕ) → Standings → Command
+  files : Want → Listing → RulesGiven → Command
+  changed : Want → Listing → RulesGiven → Standings → Command
   clean : Want → Cleaning → Force → List (List ℕ) → Command
   compare : Want → Comparing → Command
   check : Want → CheckAsked → Command
@@ -59,8 +60,8 @@ seen (commands.Report asked form) = report (want_of asked) form
 seen (commands.Plan asked what finding form) = plan (want_of asked) what finding form
 seen (commands.Modules asked) = modules (want_of asked)
 seen (commands.State asked form) = state (want_of asked) form
-seen (commands.Files asked wants) = files (want_of asked) wants.listing wants.patterns.items
-seen (commands.Changed asked wants standings) = changed (want_of asked) wants.listing wants.patterns.items standings
+seen (commands.Files asked wants) = files (want_of asked) wants.listing wants.rules
+seen (commands.Changed asked wants standings) = changed (want_of asked) wants.listing wants.rules standings
 seen (commands.Clean asked wants) = clean (want_of asked) wants.cleaning wants.force wants.patterns.items
 seen (commands.Compare asked comparing) = compare (want_of asked) comparing
 seen (commands.Check asked checking) = check (want_of asked) checking
@@ -92,26 +93,26 @@ cleaning_in cleaning [] = cleaning
 cleaning_in cleaning (path ∷ paths) = record cleaning { directories = true }
 
 -- what changed is listed too, where that is asked for
-abbrev pub listed : Option Standings → Want → Listing → List (List ℕ) → Command
-listed None want listing patterns = files want listing patterns
-listed (Some standings) want listing patterns = changed want listing patterns standings
+abbrev pub listed : Option Standings → Want → Listing → RulesGiven → Command
+listed None want listing rules = files want listing rules
+listed (Some standings) want listing rules = changed want listing rules standings
 
-abbrev done : Verb → Draft → List (List ℕ) → List (List ℕ) → Command
-done verbs.Report draft paths patterns = report (want_in verbs.Report draft paths) draft.form
-done verbs.Plan draft paths patterns = plan (want_in verbs.Plan draft paths) draft.what draft.finding draft.form
-done verbs.Modules draft paths patterns = modules (want_in verbs.Modules draft paths)
-done verbs.State draft paths patterns = state (want_in verbs.State draft paths) draft.form
-done verbs.Files draft paths patterns = listed (standings_of draft.changes) (want_in verbs.Files draft paths) draft.listing patterns
-done verbs.Clean draft paths patterns = clean (want_in verbs.Clean draft paths) (cleaning_in draft.cleaning paths) draft.force patterns
-done verbs.Compare draft paths patterns = compare (want_in verbs.Compare draft paths) draft.comparing
-done verbs.Check draft paths patterns = check (want_in verbs.Check draft paths) draft.checking
+abbrev done : Verb → Draft → List (List ℕ) → RulesGiven → Command
+done verbs.Report draft paths rules = report (want_in verbs.Report draft paths) draft.form
+done verbs.Plan draft paths rules = plan (want_in verbs.Plan draft paths) draft.what draft.finding draft.form
+done verbs.Modules draft paths rules = modules (want_in verbs.Modules draft paths)
+done verbs.State draft paths rules = state (want_in verbs.State draft paths) draft.form
+done verbs.Files draft paths rules = listed (standings_of draft.changes) (want_in verbs.Files draft paths) draft.listing rules
+done verbs.Clean draft paths rules = clean (want_in verbs.Clean draft paths) (cleaning_in draft.cleaning paths) draft.force rules.patterns
+done verbs.Compare draft paths rules = compare (want_in verbs.Compare draft paths) draft.comparing
+done verbs.Check draft paths rules = check (want_in verbs.Check draft paths) draft.checking
 
 -- what a command is to do, by what its words say
-abbrev pub told : Verb → Draft → List (List ℕ) → List (List ℕ) → Command
-told verb draft paths patterns = if draft.is_help then help (topics.Of verb) else done verb draft paths patterns
+abbrev pub told : Verb → Draft → List (List ℕ) → RulesGiven → Command
+told verb draft paths rules = if draft.is_help then help (topics.Of verb) else done verb draft paths rules
 
 abbrev answer_by : Verb → Reading → Answer
-answer_by verb (said draft paths patterns) = does (told verb draft paths patterns)
+answer_by verb (said draft paths rules) = does (told verb draft paths rules)
 answer_by verb (wrong how word) = misuses_word (topics.Of verb) how word
 
 -- the words behind a command

@@ -17,10 +17,11 @@ use Rattle.command_line.specs.declared.form.Wording.TheVariants.{Letters}
 use Rattle.command_line.specs.declared.misuse.Wrong.TheVariants as wrongs
 use Rattle.command_line.specs.declared.opt.Opt.{Opt}
 use Rattle.command_line.specs.declared.opt.Opt.TheVariants as opts
+use Rattle.command_line.specs.declared.rules_given.Ruling.TheVariants as rulings
 use Rattle.command_line.specs.declared.step.Next.{Next}
 use Rattle.command_line.specs.declared.step.Next.TheVariants as nexts
 use Rattle.command_line.specs.declared.step.Step.{Step}
-use Rattle.command_line.specs.declared.step.Step.TheVariants.{Said, Path, Pattern, Wrong as is_wrong}
+use Rattle.command_line.specs.declared.step.Step.TheVariants.{Said, Path, Rules, Wrong as is_wrong}
 use Rattle.command_line.specs.declared.verb.Verb.{Verb}
 use Rattle.command_line.specs.declared.verb.Verb.TheVariants as verbs
 use Rattle.command_line.specs.Checkings.{checking_opt_of, checking_opt_of_letter}
@@ -66,6 +67,8 @@ bare (opts.Drops choice) draft = on (with_choice choice false draft)
 bare (opts.Cleans choice is_on) draft = on (with_clean_choice choice is_on draft)
 bare (opts.Forces is_on) draft = on (with_force is_on draft)
 bare opts.Pattern draft = Said draft nexts.Pattern
+bare opts.ExcludeFrom draft = Said draft nexts.File
+bare opts.Standard draft = Rules (with_choice choices.ExcludesStandard true draft) rulings.Standard
 bare (opts.Compares choice is_on) draft = on (with_compare_choice choice is_on draft)
 bare (opts.Checks choice is_on) draft = on (with_check_choice choice is_on draft)
 bare opts.RulesFile draft = is_wrong wrongs.Left
@@ -132,7 +135,11 @@ depth_by value draft = depth_as (depth_of value) draft
 
 -- a pattern, which is the end of a word
 abbrev pub pattern_by : List ℕ → Draft → Step
-pattern_by value draft = if is_line value then Pattern draft (length value) else is_wrong wrongs.Pattern
+pattern_by value draft = if is_line value then Rules draft (rulings.Pattern (length value)) else is_wrong wrongs.Pattern
+
+-- the name of a file of rules, which is the end of a word
+abbrev pub file_by : List ℕ → Draft → Step
+file_by value draft = Rules draft (rulings.File (length value))
 
 -- the name of the rules files of directories: `.gitignore`, or another, which is not answered here
 abbrev pub rules_file_by : List ℕ → Draft → Step
@@ -157,6 +164,7 @@ valued opts.Strategy value draft = strategy_by value draft
 valued opts.Depth value draft = depth_by value draft
 valued opts.Color value draft = color_by value draft
 valued opts.Pattern value draft = pattern_by value draft
+valued opts.ExcludeFrom value draft = file_by value draft
 valued opts.RulesFile value draft = rules_file_by value draft
 valued opts.Submodules value draft = ignoring_by value draft
 valued opts.Left value draft = is_wrong wrongs.Left
@@ -225,6 +233,11 @@ abbrev pub pattern_letter : ℕ → List ℕ → Draft → Step
 pattern_letter letter [] draft = Said draft (nexts.LetterPattern letter)
 pattern_letter letter (b ∷ value) draft = pattern_by (b ∷ value) draft
 
+-- a letter and the name of a file of rules behind it in its word, or in the next
+abbrev pub file_letter : ℕ → List ℕ → Draft → Step
+file_letter letter [] draft = Said draft (nexts.LetterFile letter)
+file_letter letter (b ∷ value) draft = file_by (b ∷ value) draft
+
 abbrev said_or : Draft → Step → Draft
 said_or draft (Said now next) = now
 said_or draft other = draft
@@ -236,10 +249,12 @@ lettered opt draft = said_or draft (bare opt draft)
 abbrev pub takes_rest : Opt → Bool
 takes_rest opts.Untracked = true
 takes_rest opts.Pattern = true
+takes_rest opts.ExcludeFrom = true
 takes_rest other = false
 
 abbrev pub with_rest : Opt → ℕ → List ℕ → Draft → Step
 with_rest opts.Pattern letter text draft = pattern_letter letter text draft
+with_rest opts.ExcludeFrom letter text draft = file_letter letter text draft
 with_rest other letter text draft = untracked_letter text draft
 
 abbrev pub is_left : Opt → Bool
@@ -253,7 +268,7 @@ by_letter (Some opt) letter text onward draft =
     else if is_left opt then is_wrong (wrongs.LeftSwitch letter)
     else onward (lettered opt draft)
 
--- letters, each an option; `u` and `e` take what is behind them as their value
+-- letters, each an option; `u`, `e`, `x` and `X` take what is behind them as their value
 unfoldable pub letters : Verb → List ℕ → Draft → Step
 letters verb [] draft = on draft
 letters verb (letter ∷ text) draft = by_letter (known_letter verb letter) letter text (λ d. letters verb text d) draft
@@ -290,4 +305,6 @@ step_of verb nexts.Any word draft = any verb word draft
 step_of verb nexts.Depth word draft = depth_by word draft
 step_of verb nexts.Pattern word draft = pattern_by word draft
 step_of verb (nexts.LetterPattern letter) word draft = pattern_by word draft
+step_of verb nexts.File word draft = file_by word draft
+step_of verb (nexts.LetterFile letter) word draft = file_by word draft
 step_of verb nexts.Paths word draft = path verb

@@ -82,9 +82,7 @@ fn choice_of(name: &[u8]) -> Option<Choice>
 fn firm_choice_of(name: &[u8]) -> Option<Choice>
     ensures { result ≡ choices.firm_choice_of name.now }
 {
-    if name == b"exclude-standard".as_slice() {
-        Some(Choice::ExcludesStandard)
-    } else if name == b"full-name".as_slice() {
+    if name == b"full-name".as_slice() {
         Some(Choice::FullNames)
     } else {
         None
@@ -95,7 +93,7 @@ fn firm_choice_of(name: &[u8]) -> Option<Choice>
 fn is_left_rule(name: &[u8]) -> bool
     ensures { result ≡ choices.is_left_rule name.now }
 {
-    name == b"exclude-from".as_slice() || name == b"resolve-undo".as_slice()
+    name == b"resolve-undo".as_slice()
 }
 
 /// The same of submodules, objects and forms.
@@ -155,12 +153,16 @@ fn choosing(name: &[u8]) -> Option<Opt>
     }
 }
 
-/// The option of rules of this name, which has a value.
+/// The option of rules of this name.
 fn rule_opt_of(name: &[u8]) -> Option<Opt>
     ensures { result ≡ choices.rule_opt_of name.now }
 {
     if name == b"exclude".as_slice() {
         Some(Opt::Pattern)
+    } else if name == b"exclude-from".as_slice() {
+        Some(Opt::ExcludeFrom)
+    } else if name == b"exclude-standard".as_slice() {
+        Some(Opt::Standard)
     } else if name == b"exclude-per-directory".as_slice() {
         Some(Opt::RulesFile)
     } else {
@@ -220,7 +222,7 @@ fn choice_of_letter(letter: u8) -> Option<Choice>
 fn is_left_letter(letter: u8) -> bool
     ensures { result ≡ choices.is_left_letter letter }
 {
-    letter == b'X' || letter == b'f'
+    letter == b'f'
 }
 
 /// The option of `ls-files` of this letter, which stands behind `-`. None where there is none.
@@ -232,6 +234,9 @@ pub fn listing_opt_of_letter(letter: u8) -> Option<Opt>
     }
     if letter == b'x' {
         return Some(Opt::Pattern);
+    }
+    if letter == b'X' {
+        return Some(Opt::ExcludeFrom);
     }
     if is_left_letter(letter) {
         return Some(Opt::Left);

@@ -3,6 +3,7 @@ use crate::checking::CheckAsked;
 use crate::cleaning::Force;
 use crate::comparing::Comparing;
 use crate::form::Form;
+use crate::rules_given::RulesGiven;
 use crate::verb::Topic;
 use clean_plan::{Finding, What};
 use git_clean::Cleaning;
@@ -26,11 +27,11 @@ pub struct CleanAsked {
 /// What is asked of a listing.
 #[derive(Debug, Drop)]
 pub struct FilesAsked {
-    /// What is listed. Whether there are patterns is left to `patterns`, and whether bytes above 0x7f
+    /// What is listed. Whether there are patterns is left to `rules`, and whether bytes above 0x7f
     /// are quoted to the configuration.
     pub listing: Listing,
-    /// The rules before all others, as those of a cleaning.
-    pub patterns: Vec<Bytes>,
+    /// The rules that the words give, and the files of rules that they name.
+    pub rules: RulesGiven,
 }
 
 /// What is to be done.

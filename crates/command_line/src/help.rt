@@ -179,15 +179,17 @@ those that OPTION chooses. A PATH is a path spec; none means the current directo
   -u, --unmerged        the same of paths that are not merged, alone
   -o, --others          what the index does not have
   -k, --killed          what lies in the way of the index
-  -d, --deleted         of the index, that of which nothing is there; without -o and -k
+  -d, --deleted         of the index, that of which nothing is there
   -m, --modified        of the index, that of which nothing is there or something else
   -i, --ignored         of what the index lacks, what is ignored, alone; beside one of
-                        the three below
+                        the four below
   --exclude-standard    ignore rules are asked: .gitignore, info/exclude, and the
                         excludes file of the user
   --exclude-per-directory=.gitignore
                         of these rules those of each directory
   -x, --exclude=PATTERN  a rule before all others; alone without -k and --directory
+  -X, --exclude-from=FILE  its rules, weaker than .gitignore, and than those of an
+                        --exclude-standard behind it; FILE is read from the top
   --directory           a directory in place of what it holds, where the index has
                         nothing in it
   --no-empty-directory  no directories without files

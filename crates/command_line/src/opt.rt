@@ -87,6 +87,10 @@ pub enum Opt {
     Pattern,
     /// The name of the rules files of directories.
     RulesFile,
+    /// A file of rules of `ls-files`.
+    ExcludeFrom,
+    /// The rules of the repository, of the user and of each directory.
+    Standard,
     /// Makes a choice of `diff-files`, or drops it.
     Compares(CompareChoice, bool),
     /// Makes a choice of `check-ignore`, or drops it.

@@ -4,6 +4,7 @@ ghost use Rattle.command_line.specs.Readings as readings;
 
 use crate::draft::{Draft, default_draft};
 use crate::misuse::Wrong;
+use crate::rules_given::RulesGiven;
 use crate::step::{Next, Step, step_of};
 use crate::verb::Verb;
 use gitbase_core::{Bytes, OutOfMemory};
@@ -12,8 +13,8 @@ use std::alloc::Global;
 /// What the words of a command say together.
 #[derive(Debug, Drop)]
 pub enum Read {
-    /// What the options say, the paths as they are written, and the patterns.
-    Said(Draft, Vec<Bytes>, Vec<Bytes>),
+    /// What the options say, the paths as they are written, and the rules.
+    Said(Draft, Vec<Bytes>, RulesGiven),
     /// The first word that is wrong, and how.
     Wrong(Wrong, Bytes),
 }
@@ -24,28 +25,23 @@ fn ended(
     draft: Draft,
     next: Next,
     paths: Vec<Bytes>,
-    patterns: Vec<Bytes>,
+    rules: RulesGiven,
 ) -> Result<Read, OutOfMemory>
     ensures { IfOk result
-        (λ read. readings.seen read ≡ readings.ended draft next paths.items patterns.items) }
+        (λ read. readings.seen read ≡ readings.ended draft next paths.items rules) }
 {
     match next {
-        Next::Any | Next::Paths => Ok(Read::Said(draft, paths, patterns)),
+        Next::Any | Next::Paths => Ok(Read::Said(draft, paths, rules)),
         Next::Depth => Ok(Read::Wrong(Wrong::NoValue, Bytes::from_slice(alloc, b"--depth")?)),
         Next::Pattern => Ok(Read::Wrong(Wrong::NoValue, Bytes::from_slice(alloc, b"--exclude")?)),
-        Next::LetterPattern { letter } => {
+        Next::File => {
+            Ok(Read::Wrong(Wrong::NoValue, Bytes::from_slice(alloc, b"--exclude-from")?))
+        }
+        Next::LetterPattern { letter } | Next::LetterFile { letter } => {
             let word = Bytes::from_slice(alloc, &[b'-', letter])?;
             Ok(Read::Wrong(Wrong::NoSwitchValue { letter }, word))
         }
     }
-}
-
-/// The last bytes of a word, as many as are said.
-fn end_of_word(alloc: Global, left: usize, word: &[u8]) -> Result<Bytes, OutOfMemory>
-    ensures { IfOk result (λ text. text ≡ readings.end_of_word left word.now) }
-{
-    let (_, text) = word.split_at(word.len().saturating_sub(left));
-    Bytes::from_slice(alloc, text)
 }
 
 /// What the words of a command say together.
@@ -56,7 +52,7 @@ pub fn read_words(alloc: Global, verb: Verb, words: &[Bytes]) -> Result<Read, Ou
     let mut draft = default_draft();
     let mut next = Next::Any;
     let mut paths = Vec::new(alloc);
-    let mut patterns = Vec::new(alloc);
+    let mut rules = RulesGiven::new(alloc);
     let mut rest = words;
     while let Some((word, after)) = rest.split_first() {
         match step_of(verb, next, word.as_bytes(), draft) {
@@ -65,10 +61,10 @@ pub fn read_words(alloc: Global, verb: Verb, words: &[Bytes]) -> Result<Read, Ou
                 next = then;
             }
             Step::Path => paths.push(Bytes::from_slice(alloc, word.as_bytes())?)?,
-            Step::Pattern(now, left) => {
+            Step::Rules(now, ruling) => {
                 draft = now;
                 next = Next::Any;
-                patterns.push(end_of_word(alloc, left, word.as_bytes())?)?;
+                rules = rules.with(alloc, ruling, word.as_bytes())?;
             }
             Step::Wrong(wrong) => {
                 return Ok(Read::Wrong(wrong, Bytes::from_slice(alloc, word.as_bytes())?));
@@ -76,5 +72,5 @@ pub fn read_words(alloc: Global, verb: Verb, words: &[Bytes]) -> Result<Read, Ou
         }
         rest = after;
     }
-    ended(alloc, draft, next, paths, patterns)
+    ended(alloc, draft, next, paths, rules)
 }

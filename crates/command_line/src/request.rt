@@ -7,6 +7,7 @@ use crate::command::{CleanAsked, Command, FilesAsked, Request};
 use crate::draft::Draft;
 use crate::misuse::{Misuse, Wrong};
 use crate::read::{Read, read_words};
+use crate::rules_given::RulesGiven;
 use crate::verb::{Topic, Verb, prefers_current, verb_of};
 use git_clean::Cleaning;
 use git_setup::Asked;
@@ -44,7 +45,7 @@ fn cleaning_in(cleaning: Cleaning, paths: &[Bytes]) -> Cleaning
 /// What is listed: what changed too, where that is asked for.
 fn listed(standings: Option<Standings>, asked: Asked, files: FilesAsked) -> Command
     ensures { requests.seen result ≡ requests.listed standings (requests.want_of asked)
-        files.listing files.patterns.items }
+        files.listing files.rules }
 {
     match standings {
         Some(standings) => Command::Changed {
@@ -57,8 +58,8 @@ fn listed(standings: Option<Standings>, asked: Asked, files: FilesAsked) -> Comm
 }
 
 /// What a command is to do, by what its words say.
-fn told(verb: Verb, draft: Draft, paths: Vec<Bytes>, patterns: Vec<Bytes>) -> Command
-    ensures { requests.seen result ≡ requests.told verb draft paths.items patterns.items }
+fn told(verb: Verb, draft: Draft, paths: Vec<Bytes>, rules: RulesGiven) -> Command
+    ensures { requests.seen result ≡ requests.told verb draft paths.items rules }
 {
     if draft.is_help {
         return Command::Help(Topic::Of(verb));
@@ -86,7 +87,7 @@ fn told(verb: Verb, draft: Draft, paths: Vec<Bytes>, patterns: Vec<Bytes>) -> Co
             listed(
                 standings_of(draft.changes),
                 asked,
-                FilesAsked { listing, patterns },
+                FilesAsked { listing, rules },
             )
         }
         Verb::Clean => Command::Clean {
@@ -94,7 +95,7 @@ fn told(verb: Verb, draft: Draft, paths: Vec<Bytes>, patterns: Vec<Bytes>) -> Co
             clean: CleanAsked {
                 cleaning,
                 force: draft.force,
-                patterns,
+                patterns: rules.into_patterns(),
             },
         },
         Verb::Compare => Command::Compare {
@@ -113,7 +114,7 @@ fn of_verb(alloc: Global, verb: Verb, words: &[Bytes]) -> Result<Command, Misuse
     ensures { requests.Commands result (requests.of_verb verb words.now) }
 {
     match read_words(alloc, verb, words)? {
-        Read::Said(draft, paths, patterns) => Ok(told(verb, draft, paths, patterns)),
+        Read::Said(draft, paths, rules) => Ok(told(verb, draft, paths, rules)),
         Read::Wrong(wrong, word) => Err(Misuse::Word {
             topic: Topic::Of(verb),
             wrong,

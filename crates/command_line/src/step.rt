@@ -13,6 +13,7 @@ use crate::draft::Draft;
 use crate::form::{Color, LineEnd, Wording};
 use crate::misuse::Wrong;
 use crate::opt::{Opt, collapsed_of, deletion_of, emission_of, opt_of, opt_of_letter, takes};
+use crate::rules_given::Ruling;
 use crate::verb::{Verb, needs_dashes, takes_paths};
 use clean_plan::{Finding, What};
 use dir_classify::EmissionMode;
@@ -32,6 +33,13 @@ pub enum Next {
         /// The letter.
         letter: u8,
     },
+    /// As the name of a file of rules.
+    File,
+    /// As that of an option by its letter.
+    LetterFile {
+        /// The letter.
+        letter: u8,
+    },
     /// As a path, whatever it is.
     Paths,
 }
@@ -43,8 +51,8 @@ pub enum Step {
     Said(Draft, Next),
     /// It is a path.
     Path,
-    /// An option whose value is a pattern: what is said now, and how many bytes at the end of the word are the pattern.
-    Pattern(Draft, usize),
+    /// An option of rules: what is said now, and what the word says of them. The next word is any.
+    Rules(Draft, Ruling),
     /// It is wrong.
     Wrong(Wrong),
 }
@@ -88,6 +96,11 @@ fn bare(opt: Opt, draft: Draft) -> Step
         Opt::Cleans(choice, is_on) => on(draft.with_clean_choice(choice, is_on)),
         Opt::Forces(is_on) => on(draft.with_force(is_on)),
         Opt::Pattern => Step::Said(draft, Next::Pattern),
+        Opt::ExcludeFrom => Step::Said(draft, Next::File),
+        Opt::Standard => Step::Rules(
+            draft.with_choice(Choice::ExcludesStandard, true),
+            Ruling::Standard,
+        ),
         Opt::Compares(choice, is_on) => on(draft.with_compare_choice(choice, is_on)),
         Opt::Checks(choice, is_on) => on(draft.with_check_choice(choice, is_on)),
         Opt::RulesFile => Step::Wrong(Wrong::Left),
@@ -194,10 +207,17 @@ fn pattern_by(value: &[u8], draft: Draft) -> Step
     ensures { result ≡ steps.pattern_by value.now draft }
 {
     if is_line(value) {
-        Step::Pattern(draft, value.len())
+        Step::Rules(draft, Ruling::Pattern { left: value.len() })
     } else {
         Step::Wrong(Wrong::Pattern)
     }
+}
+
+/// The name of a file of rules, which is the end of a word.
+fn file_by(value: &[u8], draft: Draft) -> Step
+    ensures { result ≡ steps.file_by value.now draft }
+{
+    Step::Rules(draft, Ruling::File { left: value.len() })
 }
 
 /// The name of the rules files of directories: `.gitignore`, or another, which is not answered here.
@@ -235,6 +255,7 @@ fn valued(opt: Opt, value: &[u8], draft: Draft) -> Step
         Opt::Depth => depth_by(value, draft),
         Opt::Color => color_by(value, draft),
         Opt::Pattern => pattern_by(value, draft),
+        Opt::ExcludeFrom => file_by(value, draft),
         Opt::RulesFile => rules_file_by(value, draft),
         Opt::Submodules => ignoring_by(value, draft),
         Opt::Left => Step::Wrong(Wrong::Left),
@@ -342,6 +363,17 @@ fn pattern_letter(letter: u8, value: &[u8], draft: Draft) -> Step
     }
 }
 
+/// A letter and what stands behind it in its word: the name of a file of rules, or nothing where that
+/// is the next word.
+fn file_letter(letter: u8, value: &[u8], draft: Draft) -> Step
+    ensures { result ≡ steps.file_letter letter value.now draft }
+{
+    match value {
+        [] => Step::Said(draft, Next::LetterFile { letter }),
+        _ => file_by(value, draft),
+    }
+}
+
 /// What an option of a letter says, by what was said before it. None of these has a value.
 fn lettered(opt: Opt, draft: Draft) -> Draft
     ensures { result ≡ steps.lettered opt draft }
@@ -356,7 +388,7 @@ fn lettered(opt: Opt, draft: Draft) -> Draft
 fn takes_rest(opt: Opt) -> bool
     ensures { result ≡ steps.takes_rest opt }
 {
-    matches!(opt, Opt::Untracked | Opt::Pattern)
+    matches!(opt, Opt::Untracked | Opt::Pattern | Opt::ExcludeFrom)
 }
 
 /// What it says with that value.
@@ -365,6 +397,7 @@ fn with_rest(opt: Opt, letter: u8, text: &[u8], draft: Draft) -> Step
 {
     match opt {
         Opt::Pattern => pattern_letter(letter, text, draft),
+        Opt::ExcludeFrom => file_letter(letter, text, draft),
         _ => untracked_letter(text, draft),
     }
 }
@@ -459,6 +492,7 @@ pub fn step_of(verb: Verb, next: Next, word: &[u8], draft: Draft) -> Step
         Next::Any => any(verb, word, draft),
         Next::Depth => depth_by(word, draft),
         Next::Pattern | Next::LetterPattern { letter: _ } => pattern_by(word, draft),
+        Next::File | Next::LetterFile { letter: _ } => file_by(word, draft),
         Next::Paths => path(verb),
     }
 }

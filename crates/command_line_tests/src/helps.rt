@@ -9,7 +9,7 @@ const REPORT: &[u8] =
 --links-as-directories,--for-deletion,--strategy,--depth,-z, --null,--plain,--color,--no-color,-h, --help";
 
 const FILES: &[u8] =
-    b"-c, --cached,-s, --stage,-u, --unmerged,-o, --others,-k, --killed,-d, --deleted,-m, --modified,-i, --ignored,--exclude-standard,--directory,--no-empty-directory,\
+    b"-c, --cached,-s, --stage,-u, --unmerged,-o, --others,-k, --killed,-d, --deleted,-m, --modified,-i, --ignored,-x, --exclude=,-X, --exclude-from=,--exclude-standard,--directory,--no-empty-directory,\
   -t ,  -v ,  -z ,--deduplicate,--full-name,--error-unmatch,-h, --help";
 
 fn names_all(topic: Topic, names: &[u8]) -> bool {

@@ -2,7 +2,8 @@
 use bstr::ByteSlice;
 use clean_plan::{Finding, What};
 use command_line::{
-    Color, Command, Force, Form, LineEnd, Misuse, Request, Topic, Verb, Wording, request_of, said,
+    Color, Command, Force, Form, LineEnd, Misuse, Request, RulesGiven, Topic, Verb, Wording,
+    request_of, said,
 };
 use dir_classify::{CollapsedEntriesEmissionMode, EmissionMode, ForDeletionMode};
 use git_clean::Cleaning;
@@ -63,6 +64,10 @@ ls-files,--deleted,--modified,--no-deleted>other\n\
 ls-files,-dm,--no-deleted,--no-modified>files;not others\n\
 ls-files,-ocd,-xa>gone;others;pattern a\n\
 ls-files,--no-empty-directory,--directory>directories\n\
+ls-files,-oX,a,--exclude-from=b>others;stronger a b;weaker;no pattern\n\
+ls-files,-X,a,--exclude-standard,-Xb>rules;weaker a;stronger b\n\
+ls-files,-Xa,--exclude-standard,--exclude-from,-o,--exclude-standard>weaker a -o;stronger;not others\n\
+ls-files,-o,-X,,-x,b>stronger ;pattern b\n\
 ls-files,--full-name,--,-o>not others;from the top;path -o\n\
 ls-files,-sh>help files\n\
 clean,-n>clean;dry;spares;current;depth 1000;no path;no pattern;unforced\n\
@@ -106,10 +111,12 @@ report,--depth=1001>error: `--depth=1001' is no depth, which is a number from 0 
 plan,--tracked>error: unknown option `--tracked'\n\
 modules,-z>error: unknown switch `z'\n\
 modules,a>error: `a' is a path, and this command takes none\n\
-ls-files,-oX>error: switch `X' is git's, and is not answered here\n\
+ls-files,-oX>error: switch `X' requires a value\n\
+ls-files,-o,--exclude-from>error: option `--exclude-from' requires a value\n\
+ls-files,--no-exclude-from>error: unknown option `--no-exclude-from'\n\
+ls-files,--exclude-standard=a>error: option `--exclude-standard=a' takes no value\n\
 ls-files,--eol>error: option `--eol' is git's, and is not answered here\n\
 ls-files,--exclude-per-directory=a>error: option `--exclude-per-directory=a' is git's, and is not answered here\n\
-ls-files,--exclude-from=a>error: option `--exclude-from=a' is git's, and is not answered here\n\
 ls-files,-o,-x>error: switch `x' requires a value\n\
 ls-files,-o,--exclude>error: option `--exclude' requires a value\n\
 ls-files,-q>error: unknown switch `q'\n\
@@ -356,6 +363,44 @@ fn is_pattern(patterns: &[Bytes], want: &[u8]) -> bool {
     want.starts_with(b"pattern ") && patterns.len() == 1 && patterns[0].as_bytes() == &want[8..]
 }
 
+/// What follows a text at the front, if it stands there.
+fn behind<'a>(text: &'a [u8], front: &[u8]) -> Option<&'a [u8]> {
+    if !text.starts_with(front) {
+        return None;
+    }
+    let (_, rest) = text.split_at(front.len());
+    Some(rest)
+}
+
+/// What follows a blank and a name.
+fn behind_name<'a>(text: &'a [u8], name: &[u8]) -> Option<&'a [u8]> {
+    match behind(text, b" ") {
+        Some(rest) => behind(rest, name),
+        None => None,
+    }
+}
+
+/// Whether these are the names behind a word, each behind a blank.
+fn are_named(names: &[Bytes], word: &[u8], want: &[u8]) -> bool {
+    let Some(mut rest) = behind(want, word) else {
+        return false;
+    };
+    for name in names {
+        let Some(after) = behind_name(rest, name.as_bytes()) else {
+            return false;
+        };
+        rest = after;
+    }
+    rest.is_empty()
+}
+
+/// Whether the rules of a listing are these.
+fn is_ruled(rules: &RulesGiven, want: &[u8]) -> bool {
+    is_pattern(&rules.patterns, want)
+        || are_named(&rules.weaker, b"weaker", want)
+        || are_named(&rules.stronger, b"stronger", want)
+}
+
 /// Whether the help text is about this.
 fn is_help(topic: Topic, want: &[u8]) -> bool {
     match topic {
@@ -388,7 +433,7 @@ fn is_command(command: &Command, want: &[u8]) -> bool {
             want == b"files".as_slice()
                 || is_asked(asked, want)
                 || is_listing(&files.listing, want)
-                || is_pattern(&files.patterns, want)
+                || is_ruled(&files.rules, want)
         }
         Command::Changed {
             asked,
@@ -397,7 +442,7 @@ fn is_command(command: &Command, want: &[u8]) -> bool {
         } => {
             is_asked(asked, want)
                 || is_listing(&files.listing, want)
-                || is_pattern(&files.patterns, want)
+                || is_ruled(&files.rules, want)
                 || is_changed(*standings, want)
         }
         Command::Clean { asked, clean } => {

@@ -15,12 +15,17 @@ use Rattle.worktree_report.specs.Orderly.{IsOrderly}
 use Rattle.ls_files.specs.declared.listing.NamedSpec.{NamedSpec}
 use Rattle.git_clean.specs.declared.cleaning.Cleaning.{Cleaning}
 use Rattle.git_clean.specs.Lines.{text}
+use Rattle.git_clean.specs.Ruled.{all_ruled}
 use Rattle.git_clean.specs.Scenes.{scene}
 
 -- ---- by the entries of a report
 
+unfoldable pub cleaned_by_ruled : Cleaning → List ℕ → List NamedSpec → Setup → List ReportEntry → List ℕ
+cleaned_by_ruled c prefix named setup found = text (scene c prefix named setup found)
+
+-- with `-x` the patterns of `-e` are the only rules
 unfoldable pub cleaned : Cleaning → List ℕ → List NamedSpec → Setup → List ReportEntry → List ℕ
-cleaned c prefix named setup found = text (scene c prefix named setup found)
+cleaned c prefix named setup found = cleaned_by_ruled c prefix named setup (all_ruled c setup found)
 
 -- ---- over a tree
 

@@ -2,6 +2,7 @@ pub mod Wrong
 pub mod Walking
 pub mod Going
 pub mod Directories
+pub mod Ruled
 pub mod Scenes
 pub mod Leading
 pub mod Places

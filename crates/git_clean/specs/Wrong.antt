@@ -10,7 +10,6 @@ abbrev pub wrong_in : Cleaning → Setup → Option WrongCleaning
 wrong_in c setup =
     if not c.dry_run then Some wrong.Removes
     else if c.ignored_too && c.ignored_only then Some wrong.BothIgnored
-    else if c.ignored_too && c.patterns then Some wrong.PatternsAlone
     else if setup.options.ignore_case then Some wrong.FoldedCase
     else None
 
@@ -18,5 +17,4 @@ wrong_in c setup =
 abbrev pub wrong_text : WrongCleaning → List ℕ
 wrong_text wrong.Removes = codes "clean is not supported without -n: nothing is removed"
 wrong_text wrong.BothIgnored = codes "-x and -X cannot be used together"
-wrong_text wrong.PatternsAlone = codes "clean -e is not supported with -x"
 wrong_text wrong.FoldedCase = codes "clean is not supported with core.ignoreCase"

@@ -53,7 +53,7 @@ pub fn dry_clean<W: CountsFaults, I: Interrupt>(
             if has_failed_since(worktree, before) {
                 return Err(Refusal::Fault);
             }
-            let found = report.entries.as_slice();
+            let found = report.entries.into_vec();
             Ok(clean_found(alloc, cleaning, prefix, named, setup, found)?)
         }
         Err(error) => Err(of_report(alloc, error)?),

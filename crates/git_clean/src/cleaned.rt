@@ -12,6 +12,7 @@ use crate::cleaning::Cleaning;
 use crate::inside::add_inside;
 use crate::line::{add_line, removes};
 use crate::names::names;
+use crate::ruled::all_ruled;
 use crate::scene::Scene;
 use crate::sets::{guarded, held, marked};
 use git_paths::relative_from;
@@ -91,18 +92,9 @@ fn text_of(alloc: Global, scene: &Scene<'_>, rise: bool) -> Result<Bytes, OutOfM
     Ok(Bytes::from_vec(text))
 }
 
-/// What would go by the entries of a report, in the directory `prefix` of the work tree: the setup
-/// has the index and the path specs, and `named` has each of these alone.
-///
-/// The entries are gone over once. For each directory that goes but for a repository in it, or for
-/// the current directory, those beneath it are gone over twice more; they are found by a search
-/// where paths do not fall along the entries, as in a report, else all are gone over.
-///
-/// # Errors
-///
-/// Memory was refused.
-#[tactic(auto, unfolding(crate::specs::Cleaned::cleaned))]
-pub fn clean_found(
+/// What would go by entries, as the patterns have them.
+#[tactic(auto, unfolding(crate::specs::Cleaned::cleaned_by_ruled))]
+fn clean_ruled(
     alloc: Global,
     cleaning: &Cleaning,
     prefix: &[u8],
@@ -110,8 +102,8 @@ pub fn clean_found(
     setup: &Setup,
     found: &[ReportEntry],
 ) -> Result<Bytes, OutOfMemory>
-    ensures { IfOk result
-        (λ text. text ≡ words.cleaned cleaning.now prefix.now named.now setup.now found.now) }
+    ensures { IfOk result (λ text. text
+        ≡ words.cleaned_by_ruled cleaning.now prefix.now named.now setup.now found.now) }
 {
     let guarded = guarded(alloc, found)?;
     let marked = marked(alloc, cleaning, &guarded, found)?;
@@ -128,4 +120,30 @@ pub fn clean_found(
         held: &held,
     };
     text_of(alloc, &scene, rise(found))
+}
+
+/// What would go by the entries of a report, in the directory `prefix` of the work tree: the setup
+/// has the index, the path specs and the patterns of `-e`, and `named` has each of the specs alone.
+///
+/// The entries are gone over once. For each directory that goes but for a repository in it, or for
+/// the current directory, those beneath it are gone over twice more; they are found by a search
+/// where paths do not fall along the entries, as in a report, else all are gone over.
+///
+/// # Errors
+///
+/// Memory was refused.
+#[tactic(auto, unfolding(crate::specs::Cleaned::cleaned))]
+pub fn clean_found(
+    alloc: Global,
+    cleaning: &Cleaning,
+    prefix: &[u8],
+    named: &[NamedSpec],
+    setup: &Setup,
+    found: Vec<ReportEntry>,
+) -> Result<Bytes, OutOfMemory>
+    ensures { IfOk result (λ text. text
+        ≡ words.cleaned cleaning.now prefix.now named.now setup.now found.items) }
+{
+    let ruled = all_ruled(alloc, cleaning, setup, found)?;
+    clean_ruled(alloc, cleaning, prefix, named, setup, &ruled)
 }

@@ -14,6 +14,7 @@ mod names;
 mod parts;
 mod place;
 mod places;
+mod ruled;
 mod scene;
 mod sets;
 mod walking;

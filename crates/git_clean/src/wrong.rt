@@ -12,8 +12,6 @@ pub enum WrongCleaning {
     Removes,
     /// `-x` with `-X`, which git refuses.
     BothIgnored,
-    /// `-e` with `-x`, where the rules of `-e` stand alone, which is not answered here.
-    PatternsAlone,
     /// Letters compare without regard to their case, which is not answered here.
     FoldedCase,
 }
@@ -26,7 +24,6 @@ impl WrongCleaning {
         match self {
             WrongCleaning::Removes => b"clean is not supported without -n: nothing is removed",
             WrongCleaning::BothIgnored => b"-x and -X cannot be used together",
-            WrongCleaning::PatternsAlone => b"clean -e is not supported with -x",
             WrongCleaning::FoldedCase => b"clean is not supported with core.ignoreCase",
         }
     }
@@ -44,9 +41,6 @@ pub fn wrong_in(cleaning: &Cleaning, setup: &Setup) -> Option<WrongCleaning>
     }
     if cleaning.ignored_too & cleaning.ignored_only {
         return Some(WrongCleaning::BothIgnored);
-    }
-    if cleaning.ignored_too & cleaning.patterns {
-        return Some(WrongCleaning::PatternsAlone);
     }
     if setup.options.ignore_case {
         return Some(WrongCleaning::FoldedCase);

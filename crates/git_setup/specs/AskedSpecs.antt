@@ -33,10 +33,10 @@ abbrev pub means_here : List ℕ → List (List ℕ) → Bool
 means_here prefix [] = not (is_empty prefix)
 means_here prefix (text ∷ texts) = not (list_any is_positive (text ∷ texts))
 
--- it is told by its path, or, behind texts that exclude, by no bytes
+-- it is told by its path, or, behind texts that exclude, as a dot
 abbrev pub told_here : List ℕ → List (List ℕ) → List ℕ
 told_here prefix [] = prefix ++ 47 ∷ []
-told_here prefix (text ∷ texts) = []
+told_here prefix (text ∷ texts) = codes "."
 
 abbrev pub here : List ℕ → List (List ℕ) → Written
 here prefix texts = record { told = told_here prefix texts; text = codes ":(literal)." }

@@ -50,7 +50,7 @@ fn told_here(alloc: Global, prefix: &[u8], texts: &[Bytes]) -> Result<Bytes, Out
     ensures { IfOk result (λ told. told ≡ words.told_here prefix.now texts.now) }
 {
     if !texts.is_empty() {
-        return Ok(Bytes::new(alloc));
+        return Bytes::from_slice(alloc, b".");
     }
     let mut told = Bytes::from_slice(alloc, prefix)?;
     told.extend(alloc, b"/")?;

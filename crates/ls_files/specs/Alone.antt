@@ -1,4 +1,4 @@
--- The patterns of the command line, where no other rules stand beside them: git-ls-files(1), "-x".
+-- The patterns of `-x` and those of files of `-X`, where no other rules stand beside them: git-ls-files(1).
 use Rattle.std.specs.Prelude.{ℕ, List, [], ◌∷◌, Bool, false, not, ◌&&◌, ◌||◌, filter, slice_index, take, Option, Some, None, if◌then◌else◌}
 use Rattle.std.specs.List.{list_any}
 use Rattle.gitbase_core.specs.Path.{is_slash}
@@ -48,9 +48,9 @@ abbrev pub is_left : Listing → List Rules → Case → List ℕ → Bool
 is_left l rules case name =
     if l.ignored then is_excluded rules case (place_of_name name) else not (is_excluded rules case (place_of_name name))
 
--- the patterns of a setup, in their order
+-- those of a setup: those of files, and above them those of the command line
 abbrev pub patterns_of : Setup → List Rules
-patterns_of setup = rules_in false setup.overrides ∷ []
+patterns_of setup = rules_in false setup.globals ∷ rules_in false setup.overrides ∷ []
 
 abbrev pub left_of : Listing → Setup → List (List ℕ) → List (List ℕ)
 left_of l setup names = filter (is_left l (patterns_of setup) (case_of setup.options.ignore_case)) names

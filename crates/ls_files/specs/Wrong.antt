@@ -47,9 +47,17 @@ wrong_index l entries = if (shows_index l || l.killed) && list_any is_sparse ent
 abbrev pub wrong_in : Listing → List IndexEntry → Option WrongListing
 wrong_in l entries = option_or (wrong_if_ignored l) (option_or (wrong_rules l) (wrong_index l entries))
 
--- the same of a listing with what changed; what else a work tree holds is not listed beside that here
+-- of what changed, which the index has, those that are ignored are not listed here
+abbrev pub wrong_changed : Listing → Option WrongListing
+wrong_changed l =
+    if l.ignored then Some wrong.IgnoredIndex
+    else if walks l && l.error_unmatch then Some wrong.UnmatchedOfBoth
+    else None
+
+-- The same of a listing with what changed. A path spec is about something if it is about what changed or about what else a work tree holds,
+-- which is not told here.
 abbrev pub wrong_beside : Listing → Option WrongListing
-wrong_beside l = option_or (wrong_if_ignored l) (if walks l then Some wrong.ChangedAndOthers else None)
+wrong_beside l = option_or (wrong_if_ignored l) (wrong_changed l)
 
 -- what is told of a form that is not answered
 abbrev pub unsupported_text : Unsupported → List ℕ
@@ -67,5 +75,5 @@ wrong_text wrong.IgnoredIndex = codes "ls-files -i is not supported for what the
 wrong_text wrong.IgnoredDirectories = codes "ls-files -i is not supported with --directory"
 wrong_text wrong.SparseIndex = codes "ls-files is not supported for what a sparse index has"
 wrong_text wrong.PatternsAlone = codes "ls-files -x alone is not supported with -k or --directory"
-wrong_text wrong.ChangedAndOthers = codes "ls-files -d and -m are not supported with -o and -k"
+wrong_text wrong.UnmatchedOfBoth = codes "ls-files --error-unmatch is not supported with -d or -m beside -o or -k"
 wrong_text (wrong.Unsupported form) = unsupported_text form

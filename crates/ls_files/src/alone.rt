@@ -1,4 +1,4 @@
-//! The patterns of the command line, where no other rules stand beside them.
+//! The patterns of `-x` and those of files of `-X`, where no other rules stand beside them.
 ghost use Rattle.std.specs.Prelude.{◌≡◌, ◌∷◌, ◌<◌, [], false, filter, length, IfOk};
 ghost use Rattle.worktree_report.specs.Excluding.{rules_in};
 ghost use Rattle.worktree_stack.specs.Mappings.{case_of};
@@ -53,8 +53,8 @@ fn is_excluded_to(rules: &Search, case: Case, path: &[u8], at: usize) -> bool
     is_excluded_itself(rules, case, &Place::new(&path[..at], true))
 }
 
-/// Whether a directory on the way to a path is.
-fn is_in_excluded(rules: &Search, case: Case, path: &[u8]) -> bool
+/// Whether patterns exclude a directory on the way to a path.
+pub fn is_in_excluded(rules: &Search, case: Case, path: &[u8]) -> bool
     ensures { result ≡ words.is_in_excluded rules.now case path.now }
 {
     let mut at = 0;
@@ -77,6 +77,15 @@ fn is_excluded(rules: &Search, case: Case, place: &Place<'_>) -> bool
     is_excluded_itself(rules, case, place)
 }
 
+/// Whether patterns exclude a path, or a directory above it; `is_dir` says whether a directory stands
+/// at the path.
+pub fn is_path_excluded(rules: &Search, case: Case, path: &[u8], is_dir: bool) -> bool
+    ensures { result ≡ words.is_excluded rules.now case
+        (record { path = path.now; holds_names = is_dir }) }
+{
+    is_excluded(rules, case, &Place::new(path, is_dir))
+}
+
 /// Whether a name is shown.
 fn is_left(listing: &Listing, rules: &Search, case: Case, name: &[u8]) -> bool
     ensures { result ≡ words.is_left listing.now rules.now case name.now }
@@ -88,16 +97,24 @@ fn is_left(listing: &Listing, rules: &Search, case: Case, name: &[u8]) -> bool
     !is_excluded
 }
 
-/// The patterns of a setup.
-fn patterns_of(alloc: Global, text: &[u8]) -> Result<Search, OutOfMemory>
-    ensures { IfOk result (λ rules. rules ≡ rules_in false text.now ∷ []) }
+/// The patterns of a text.
+fn list_of(alloc: Global, text: &[u8]) -> Result<List, OutOfMemory>
+    ensures { IfOk result (λ list. list ≡ rules_in false text.now) }
 {
     let parse = ParseIgnore {
         support_precious: false,
     };
-    let list = List::from_bytes(alloc, text, None, PathText::new(alloc), parse)?;
+    List::from_bytes(alloc, text, None, PathText::new(alloc), parse)
+}
+
+/// The patterns of two texts, the second ones above the first.
+fn patterns_of(alloc: Global, below: &[u8], above: &[u8]) -> Result<Search, OutOfMemory>
+    ensures { IfOk result
+        (λ rules. rules ≡ rules_in false below.now ∷ rules_in false above.now ∷ []) }
+{
     let mut rules = Search::new(alloc);
-    rules.push_list(alloc, list)?;
+    rules.push_list(alloc, list_of(alloc, below)?)?;
+    rules.push_list(alloc, list_of(alloc, above)?)?;
     Ok(rules)
 }
 
@@ -147,7 +164,7 @@ pub fn sifted(
     if !are_alone(listing) {
         return Ok(names);
     }
-    let rules = patterns_of(alloc, setup.overrides.as_bytes())?;
+    let rules = patterns_of(alloc, setup.globals.as_bytes(), setup.overrides.as_bytes())?;
     left_by(
         alloc,
         listing,

@@ -20,7 +20,9 @@ mod unseen;
 mod walking;
 mod wrong;
 
+pub use alone::{is_in_excluded, is_path_excluded};
 pub use answer::list_files;
+pub use cached::walks;
 pub use changed::list_changed;
 pub use changed_error::ChangedError;
 pub use listed::{Listed, list_found};

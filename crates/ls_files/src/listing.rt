@@ -25,7 +25,7 @@ pub struct Listing {
     pub excludes_standard: bool,
     /// `--exclude-per-directory=.gitignore`: of these the rules of each directory.
     pub excludes_directories: bool,
-    /// `-x`: there are rules above all others.
+    /// `-x` or `-X`: there are rules of the command line, or of a file that it names.
     pub patterns: bool,
     /// `--error-unmatch`: a path spec that is about no path is an error.
     pub error_unmatch: bool,

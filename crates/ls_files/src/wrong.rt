@@ -25,8 +25,8 @@ pub enum WrongListing {
     SparseIndex,
     /// `-x` alone with `-k` or `--directory`, which is not answered here.
     PatternsAlone,
-    /// `-d` or `-m` with `-o` or `-k`, which is not answered here.
-    ChangedAndOthers,
+    /// `--error-unmatch` with `-d` or `-m` and with `-o` or `-k`, which is not answered here.
+    UnmatchedOfBoth,
     /// What stands at a path has a form that is not answered here; only with `-d` and `-m`.
     Unsupported(Unsupported),
 }
@@ -58,8 +58,8 @@ impl WrongListing {
             WrongListing::PatternsAlone => {
                 b"ls-files -x alone is not supported with -k or --directory"
             }
-            WrongListing::ChangedAndOthers => {
-                b"ls-files -d and -m are not supported with -o and -k"
+            WrongListing::UnmatchedOfBoth => {
+                b"ls-files --error-unmatch is not supported with -d or -m beside -o or -k"
             }
             WrongListing::Unsupported(form) => unsupported_text(*form),
         }
@@ -174,8 +174,11 @@ pub fn wrong_beside(listing: &Listing) -> Option<WrongListing>
     if first.is_some() {
         return first;
     }
-    if walks(listing) {
-        return Some(WrongListing::ChangedAndOthers);
+    if listing.ignored {
+        return Some(WrongListing::IgnoredIndex);
+    }
+    if walks(listing) & listing.error_unmatch {
+        return Some(WrongListing::UnmatchedOfBoth);
     }
     None
 }

@@ -14,7 +14,7 @@ use Rattle.worktree_fs.specs.Owners.{Owned}
 use Rattle.worktree_fs.specs.Tree.{Names}
 use Rattle.tizhagor.specs.declared.refusal.HereRefusal.{HereRefusal}
 use Rattle.tizhagor.specs.declared.reply.Reply.{Reply}
-use Rattle.tizhagor.specs.Answers.{AnswersHere, AnswersTask, IsAsked, IsMisuse, Place, Task, call_of, check_of, compare_of, offer_of, task_of, word_of}
+use Rattle.tizhagor.specs.Answers.{AnswersHere, AnswersTask, IsAsked, IsMisuse, Place, Task, both_of, call_of, check_of, compare_of, offer_of, task_of, word_of}
 use Rattle.tizhagor.specs.ComparedHere.{Answers, AnswersAny, AnswersComparing, ComparesTo, IsCompared, IsComparing, IsSaidBy, RefusesCompared, replied_at}
 use Rattle.tizhagor.specs.Compares.{Compares, SomeFails}
 use Rattle.tizhagor.specs.Ends.{EndsHere, IsFatal, IsReplied, IsTold, IsToldOf}
@@ -31,22 +31,8 @@ no_word w i o w0 w1 i0 i1 o0 o1 place directory answer wanted t owned told (call
 no_word w i o w0 w1 i0 i1 o0 o1 place directory answer wanted t owned told (word_of word asked) a said = said
 no_word w i o w0 w1 i0 i1 o0 o1 place directory answer wanted t owned told (check_of wants asked) a said = said
 no_word w i o w0 w1 i0 i1 o0 o1 place directory answer wanted t owned told (compare_of comparing asked) a said = a
+no_word w i o w0 w1 i0 i1 o0 o1 place directory answer wanted t owned told (both_of wants standings asked) a said = said
 no_word w i o w0 w1 i0 i1 o0 o1 place directory answer wanted t owned told (offer_of text) a said = said
-
--- the words are those of the task
-pub by_request : {W I O D : Type 0} (w : WorktreeOf W) (i : InterruptOf I) (o : OwnersOf O) (d : StatsOf D) (w0 w1 : W) (i0 i1 : I) (o0 o1 : O) (d0 d1 : D) (place : Place) (words : List (List ℕ)) (answer : Result Reply HereRefusal)
-    (request : Request) → IsAsked words request → (task : Task) → task_of place.takes_colors request.command ≡ task → AnswersAny w i o d w0 w1 i0 i1 o0 o1 d0 d1 place request.directory answer task
-    → Answers w i o d w0 w1 i0 i1 o0 o1 d0 d1 place words answer
-by_request w i o d w0 w1 i0 i1 o0 o1 d0 d1 place words answer request asked (call_of call wants writing) is a =
-    inl (inl (record { request = request; asked = asked; answers = subst (λ (x : Task). AnswersTask w i o w0 w1 i0 i1 o0 o1 place request.directory answer x) (sym is) a.0 }), a.1)
-by_request w i o d w0 w1 i0 i1 o0 o1 d0 d1 place words answer request asked (word_of word wants) is a =
-    inl (inl (record { request = request; asked = asked; answers = subst (λ (x : Task). AnswersTask w i o w0 w1 i0 i1 o0 o1 place request.directory answer x) (sym is) a.0 }), a.1)
-by_request w i o d w0 w1 i0 i1 o0 o1 d0 d1 place words answer request asked (check_of checking wants) is a =
-    inl (inl (record { request = request; asked = asked; answers = subst (λ (x : Task). AnswersTask w i o w0 w1 i0 i1 o0 o1 place request.directory answer x) (sym is) a.0 }), a.1)
-by_request w i o d w0 w1 i0 i1 o0 o1 d0 d1 place words answer request asked (compare_of comparing wants) is a =
-    inr (record { request = request; asked = asked; comparing = comparing; wants = wants; task_is = is; compares = a.0; interrupt = a.1 })
-by_request w i o d w0 w1 i0 i1 o0 o1 d0 d1 place words answer request asked (offer_of text) is a =
-    inl (inl (record { request = request; asked = asked; answers = subst (λ (x : Task). AnswersTask w i o w0 w1 i0 i1 o0 o1 place request.directory answer x) (sym is) a.0 }), a.1)
 
 -- ---- the call
 

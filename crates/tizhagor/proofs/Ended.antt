@@ -20,7 +20,7 @@ use Rattle.tizhagor.specs.declared.refusal.HereRefusal.TheVariants as errors
 use Rattle.tizhagor.specs.declared.reply.Reply.{Reply}
 use Rattle.tizhagor.specs.declared.writing.Writing.{Writing}
 use Rattle.tizhagor.specs.Answers as answers
-use Rattle.tizhagor.specs.Answers.{AnswersCall, AnswersHere, AnswersTask, AnswersWord, ByFound, IsMisuse, NotFound, Place, Refused, RefusesSaying, Task, ThenSays, Writes, answered_at, call_of, check_of, compare_of, found_at, offer_of, task_of, word_at, word_of}
+use Rattle.tizhagor.specs.Answers.{AnswersCall, AnswersHere, AnswersTask, AnswersWord, ByFound, IsMisuse, NotFound, Place, Refused, RefusesSaying, Task, ThenSays, Writes, answered_at, both_of, call_of, check_of, compare_of, found_at, offer_of, task_of, word_at, word_of}
 use Rattle.tizhagor.specs.Checks.{Checks, IsReply}
 use Rattle.tizhagor.specs.Ends.{EndsHere, IsFatal, IsReplied, IsTold, IsToldOf}
 use Rattle.tizhagor.specs.Output as output
@@ -53,6 +53,7 @@ is_high (errors.NotAtTop root) = omega arith
 is_high errors.Elsewhere = omega arith
 is_high (errors.Git refusal) = omega arith
 is_high (errors.Listing wrong) = omega arith
+is_high (errors.ExcludeFile name) = omega arith
 is_high (errors.Uncompared reason) = omega arith
 is_high (errors.Unchecked reason) = omega arith
 is_high (errors.Cleaning wrong) = omega arith
@@ -84,6 +85,7 @@ finding_not_misuse (errors.NotAtTop root) of is = omega arith
 finding_not_misuse errors.Elsewhere of is = omega arith
 finding_not_misuse (errors.Git refusal) of is = omega arith
 finding_not_misuse (errors.Listing wrong) of is = omega arith
+finding_not_misuse (errors.ExcludeFile name) of is = omega arith
 finding_not_misuse (errors.Uncompared reason) of is = omega arith
 finding_not_misuse (errors.Unchecked reason) of is = omega arith
 finding_not_misuse (errors.Cleaning wrong) of is = omega arith
@@ -107,6 +109,7 @@ finding_not_interrupted (errors.NotAtTop root) of is = omega arith
 finding_not_interrupted errors.Elsewhere of is = omega arith
 finding_not_interrupted (errors.Git refusal) of is = omega arith
 finding_not_interrupted (errors.Listing wrong) of is = omega arith
+finding_not_interrupted (errors.ExcludeFile name) of is = omega arith
 finding_not_interrupted (errors.Uncompared reason) of is = omega arith
 finding_not_interrupted (errors.Unchecked reason) of is = omega arith
 finding_not_interrupted (errors.Cleaning wrong) of is = omega arith
@@ -124,19 +127,19 @@ memory_not e n is status = sym status ∙ ap status_of is
 
 -- ---- terms
 
-no_reply : {a : Reply} {b : HereRefusal} → ◌≡◌ {A = Result Reply HereRefusal} (Ok a) (Err b) → ⊥
+pub no_reply : {a : Reply} {b : HereRefusal} → ◌≡◌ {A = Result Reply HereRefusal} (Ok a) (Err b) → ⊥
 no_reply is = absurd cc
 
-same_error : {a b : HereRefusal} → ◌≡◌ {A = Result Reply HereRefusal} (Err a) (Err b) → a ≡ b
+pub same_error : {a b : HereRefusal} → ◌≡◌ {A = Result Reply HereRefusal} (Err a) (Err b) → a ≡ b
 same_error e = cc
 
-same_found : {a b : Found} → ◌≡◌ {A = Result Found HereRefusal} (Ok a) (Ok b) → a ≡ b
+pub same_found : {a b : Found} → ◌≡◌ {A = Result Found HereRefusal} (Ok a) (Ok b) → a ≡ b
 same_found e = cc
 
 same_refusal : {a b : HereRefusal} → ◌≡◌ {A = Result Found HereRefusal} (Err a) (Err b) → a ≡ b
 same_refusal e = cc
 
-not_found : {a : Found} {b : HereRefusal} → ◌≡◌ {A = Result Found HereRefusal} (Ok a) (Err b) → ⊥
+pub not_found : {a : Found} {b : HereRefusal} → ◌≡◌ {A = Result Found HereRefusal} (Ok a) (Err b) → ⊥
 not_found is = absurd cc
 
 pub no_asking : {directory : Option (List ℕ)} {command : Commands} {topic : Topic} {wrong : Wrong} {word : List ℕ} → ◌≡◌ {A = Asking} (asks directory command) (is_misuse topic wrong word) → ⊥
@@ -173,7 +176,7 @@ module _ {S E : Type 0} (s : SinkOf S) (e : SinkOf E) (s0 s1 : S) (e0 e1 : E) (f
 -- ---- a task
 
 -- this is the refusal, or want of memory
-abbrev IsRefusedAs : {A : Type 0} → HereRefusal → Result A HereRefusal → Type 0
+abbrev pub IsRefusedAs : {A : Type 0} → HereRefusal → Result A HereRefusal → Type 0
 IsRefusedAs e (Ok given) = ⊥
 IsRefusedAs e (Err other) = (other ≡ e) ⊎ (other ≡ memory)
 
@@ -199,10 +202,10 @@ module _ {W I O : Type 0} (w : WorktreeOf W) (i : InterruptOf I) (o : OwnersOf O
         same = λ path read. calls.joins call (w.precomposes w0) t a.by.here.root path a.by.here.setup a.text read text_is;
       }
 
-  word_unfaulted : (found : Names → Owned → Result Found HereRefusal) (word : OwnWord) (reply : Reply) → AnswersWord w i o w0 w1 i0 i1 o0 o1 found word (Ok reply) → w.faults w1 ≡ w.faults w0
+  pub word_unfaulted : (found : Names → Owned → Result Found HereRefusal) (word : OwnWord) (reply : Reply) → AnswersWord w i o w0 w1 i0 i1 o0 o1 found word (Ok reply) → w.faults w1 ≡ w.faults w0
   word_unfaulted found word reply a = said.unfaulted w i a.loaded w1 i0 i1 a.here word reply a.made ∙ a.unfaulted
 
-  word_reply : (found : Names → Owned → Result Found HereRefusal) (word : OwnWord) (reply : Reply) → AnswersWord w i o w0 w1 i0 i1 o0 o1 found word (Ok reply)
+  pub word_reply : (found : Names → Owned → Result Found HereRefusal) (word : OwnWord) (reply : Reply) → AnswersWord w i o w0 w1 i0 i1 o0 o1 found word (Ok reply)
       → (t : Names) (owned : Owned) → w.told w0 ≡ Some t → o.told o0 ≡ Some owned → output.IsSaidOf (w.precomposes w0) t (found t owned) word reply
   word_reply found word reply a t owned told tells =
       record {
@@ -211,11 +214,16 @@ module _ {W I O : Type 0} (w : WorktreeOf W) (i : InterruptOf I) (o : OwnersOf O
         reply_is = subst (λ (b : Bool). said_for b t a.here word ≡ Some reply) a.asks.precomposes (said.reply_is w i a.loaded w1 i0 i1 a.here word reply a.made t (a.asks.tree ∙ told));
       }
 
+  -- and the tree stays told
+  pub word_tree : (found : Names → Owned → Result Found HereRefusal) (word : OwnWord) (reply : Reply) → AnswersWord w i o w0 w1 i0 i1 o0 o1 found word (Ok reply) → w.told w1 ≡ w.told w0
+  word_tree found word reply a = said.tree w i a.loaded w1 i0 i1 a.here word reply a.made ∙ a.asks.tree
+
   task_unfaulted : (place : Place) (directory : Option (List ℕ)) (task : Task) (reply : Reply) → AnswersTask w i o w0 w1 i0 i1 o0 o1 place directory (Ok reply) task → output.IsUnfaultedFor (w.faults w0) (w.faults w1) task
   task_unfaulted place directory (call_of call asked writing) reply a = call_unfaulted (found_at place directory asked) call writing reply.out a.0
   task_unfaulted place directory (word_of word asked) reply a = word_unfaulted (word_at place directory word asked) word reply a
   task_unfaulted place directory (check_of wants asked) reply a = a.0.unfaulted
   task_unfaulted place directory (compare_of comparing asked) reply a = absurd a
+  task_unfaulted place directory (both_of wants standings asked) reply a = absurd a
   task_unfaulted place directory (offer_of text) reply a = ap w.faults a.0.worktree
 
   -- and the owners failed at nothing
@@ -224,6 +232,7 @@ module _ {W I O : Type 0} (w : WorktreeOf W) (i : InterruptOf I) (o : OwnersOf O
   task_owners place directory (word_of word asked) reply a = a.owners_unfaulted
   task_owners place directory (check_of wants asked) reply a = a.0.owners_unfaulted
   task_owners place directory (compare_of comparing asked) reply a = absurd a
+  task_owners place directory (both_of wants standings asked) reply a = absurd a
   task_owners place directory (offer_of text) reply a = ap o.faults a.0.owners
 
   task_reply : (place : Place) (directory : Option (List ℕ)) (task : Task) (reply : Reply) → AnswersTask w i o w0 w1 i0 i1 o0 o1 place directory (Ok reply) task
@@ -232,6 +241,7 @@ module _ {W I O : Type 0} (w : WorktreeOf W) (i : InterruptOf I) (o : OwnersOf O
   task_reply place directory (word_of word asked) reply a t owned told tells quiet = word_reply (word_at place directory word asked) word reply a t owned told tells
   task_reply place directory (check_of wants asked) reply a t owned told tells quiet = a.0.gives t owned told tells
   task_reply place directory (compare_of comparing asked) reply a t owned told tells quiet = absurd a
+  task_reply place directory (both_of wants standings asked) reply a t owned told tells quiet = absurd a
   task_reply place directory (offer_of text) reply a t owned told tells quiet = a.1 ∙ ap plain a.0.gives
 
   -- a fault was counted, and none was
@@ -247,15 +257,19 @@ module _ {W I O : Type 0} (w : WorktreeOf W) (i : InterruptOf I) (o : OwnersOf O
         | inr unwritten ↦ absurd (let same = memory_not e 129 unwritten.e_is is in omega (arith, same))
       ]
 
-  task_not_misuse : (place : Place) (directory : Option (List ℕ)) (task : Task) (e : HereRefusal) → AnswersTask w i o w0 w1 i0 i1 o0 o1 place directory (Err e) task → status_of e ≡ 129 → ⊥
-  task_not_misuse place directory (call_of call asked writing) e a is = call_not_misuse (found_at place directory asked) call writing e a.0 is
-  task_not_misuse place directory (word_of word asked) e a is =
+  pub word_not_misuse : (found : Names → Owned → Result Found HereRefusal) (word : OwnWord) (e : HereRefusal) → AnswersWord w i o w0 w1 i0 i1 o0 o1 found word (Err e) → status_of e ≡ 129 → ⊥
+  word_not_misuse found word e a is =
       elim a [
         | inl none ↦ finding_not_misuse e none.of is
         | inr refused ↦ program_not_misuse refused.refusal (sym (ap status_of refused.e_is) ∙ is)
       ]
+
+  task_not_misuse : (place : Place) (directory : Option (List ℕ)) (task : Task) (e : HereRefusal) → AnswersTask w i o w0 w1 i0 i1 o0 o1 place directory (Err e) task → status_of e ≡ 129 → ⊥
+  task_not_misuse place directory (call_of call asked writing) e a is = call_not_misuse (found_at place directory asked) call writing e a.0 is
+  task_not_misuse place directory (word_of word asked) e a is = word_not_misuse (word_at place directory word asked) word e a is
   task_not_misuse place directory (check_of wants asked) e a is = finding_not_misuse e a.0.of is
   task_not_misuse place directory (compare_of comparing asked) e a is = absurd a
+  task_not_misuse place directory (both_of wants standings asked) e a is = absurd a
   task_not_misuse place directory (offer_of text) e a is = absurd (let same = memory_not e 129 a.0.refused is in omega (arith, same))
 
   -- an interrupt was raised
@@ -268,16 +282,20 @@ module _ {W I O : Type 0} (w : WorktreeOf W) (i : InterruptOf I) (o : OwnersOf O
         | inr unwritten ↦ absurd (let same = memory_not e 130 unwritten.e_is is in omega (arith, same))
       ]
 
-  task_interrupted : (place : Place) (directory : Option (List ℕ)) (task : Task) (e : HereRefusal) → AnswersTask w i o w0 w1 i0 i1 o0 o1 place directory (Err e) task → status_of e ≡ 130 → Increased (i.raised i0) (i.raised i1)
-  task_interrupted place directory (call_of call asked writing) e a is = call_interrupted (found_at place directory asked) call writing e a.0 is
-  task_interrupted place directory (word_of word asked) e a is =
+  pub word_interrupted : (found : Names → Owned → Result Found HereRefusal) (word : OwnWord) (e : HereRefusal) → AnswersWord w i o w0 w1 i0 i1 o0 o1 found word (Err e) → status_of e ≡ 130 → Increased (i.raised i0) (i.raised i1)
+  word_interrupted found word e a is =
       elim a [
         | inl none ↦ absurd (finding_not_interrupted e none.of is)
         | inr refused ↦ said.interrupt_cause w i refused.by.loaded w1 i0 i1 refused.by.here word refused.refusal refused.by.made
             (interrupted_is refused.refusal (sym (ap status_of refused.e_is) ∙ is))
       ]
+
+  task_interrupted : (place : Place) (directory : Option (List ℕ)) (task : Task) (e : HereRefusal) → AnswersTask w i o w0 w1 i0 i1 o0 o1 place directory (Err e) task → status_of e ≡ 130 → Increased (i.raised i0) (i.raised i1)
+  task_interrupted place directory (call_of call asked writing) e a is = call_interrupted (found_at place directory asked) call writing e a.0 is
+  task_interrupted place directory (word_of word asked) e a is = word_interrupted (word_at place directory word asked) word e a is
   task_interrupted place directory (check_of wants asked) e a is = absurd (finding_not_interrupted e a.0.of is)
   task_interrupted place directory (compare_of comparing asked) e a is = absurd a
+  task_interrupted place directory (both_of wants standings asked) e a is = absurd a
   task_interrupted place directory (offer_of text) e a is = absurd (let same = memory_not e 130 a.0.refused is in omega (arith, same))
 
   -- what is refused over a tree
@@ -347,17 +365,23 @@ module _ {W I O : Type 0} (w : WorktreeOf W) (i : InterruptOf I) (o : OwnersOf O
         | inr (inr wants) ↦ inl wants
       ]
 
+  pub word_refuses : (found : Names → Owned → Result Found HereRefusal) (word : OwnWord) (e : HereRefusal) → AnswersWord w i o w0 w1 i0 i1 o0 o1 found word (Err e)
+      → (t : Names) (owned : Owned) → w.told w0 ≡ Some t → o.told o0 ≡ Some owned → NotIncreased (w.faults w0) (w.faults w1) → NotIncreased (o.faults o0) (o.faults o1) → status_of e ≡ 128
+      → (e ≡ memory) ⊎ output.RefusesWordOf (w.precomposes w0) t (found t owned) word e
+  word_refuses found word e a t owned told tells quiet owners_quiet is =
+      elim a [
+        | inl none ↦ elim (none_refused found e none t owned told tells quiet owners_quiet) [ inl wants ↦ inl wants | inr known ↦ inr (inl known) ]
+        | inr refused ↦ elim (word_refused found word e refused t owned told tells quiet is) [ inl wants ↦ inl wants | inr known ↦ inr (inr known) ]
+      ]
+
   task_refused : (place : Place) (directory : Option (List ℕ)) (task : Task) (e : HereRefusal) → AnswersTask w i o w0 w1 i0 i1 o0 o1 place directory (Err e) task
       → (t : Names) (owned : Owned) → w.told w0 ≡ Some t → o.told o0 ≡ Some owned → NotIncreased (w.faults w0) (w.faults w1) → NotIncreased (o.faults o0) (o.faults o1) → status_of e ≡ 128
       → (e ≡ memory) ⊎ output.RefusesFor (w.precomposes w0) t owned place directory e task
   task_refused place directory (call_of call asked writing) e a t owned told tells quiet owners_quiet is = call_refused (found_at place directory asked) call writing e a.0 t owned told tells quiet owners_quiet is
-  task_refused place directory (word_of word asked) e a t owned told tells quiet owners_quiet is =
-      elim a [
-        | inl none ↦ elim (none_refused (word_at place directory word asked) e none t owned told tells quiet owners_quiet) [ inl wants ↦ inl wants | inr known ↦ inr (inl known) ]
-        | inr refused ↦ elim (word_refused (word_at place directory word asked) word e refused t owned told tells quiet is) [ inl wants ↦ inl wants | inr known ↦ inr (inr known) ]
-      ]
+  task_refused place directory (word_of word asked) e a t owned told tells quiet owners_quiet is = word_refuses (word_at place directory word asked) word e a t owned told tells quiet owners_quiet is
   task_refused place directory (check_of wants asked) e a t owned told tells quiet owners_quiet is = check_refused (answered_at place directory wants asked) e a.0 t owned told tells quiet owners_quiet
   task_refused place directory (compare_of comparing asked) e a t owned told tells quiet owners_quiet is = absurd a
+  task_refused place directory (both_of wants standings asked) e a t owned told tells quiet owners_quiet is = absurd a
   task_refused place directory (offer_of text) e a t owned told tells quiet owners_quiet is = inl a.0.refused
 
   -- where nothing is found over a tree, that is the answer, or want of memory
@@ -378,7 +402,7 @@ module _ {W I O : Type 0} (w : WorktreeOf W) (i : InterruptOf I) (o : OwnersOf O
         | inr unwritten ↦ inr unwritten.e_is
       ]
 
-  word_none : (found : Names → Owned → Result Found HereRefusal) (word : OwnWord) (answer : Result Reply HereRefusal) → AnswersWord w i o w0 w1 i0 i1 o0 o1 found word answer
+  pub word_none : (found : Names → Owned → Result Found HereRefusal) (word : OwnWord) (answer : Result Reply HereRefusal) → AnswersWord w i o w0 w1 i0 i1 o0 o1 found word answer
       → (t : Names) (owned : Owned) → w.told w0 ≡ Some t → o.told o0 ≡ Some owned → NotIncreased (w.faults w0) (w.faults w1) → NotIncreased (o.faults o0) (o.faults o1)
       → (e : HereRefusal) → found t owned ≡ Err e → IsRefusedAs e answer
   word_none found word (Ok reply) a t owned told tells quiet owners_quiet e known = not_found (sym (a.is t owned told tells) ∙ known)
@@ -403,6 +427,7 @@ module _ {W I O : Type 0} (w : WorktreeOf W) (i : InterruptOf I) (o : OwnersOf O
   task_none place directory (word_of word asked) answer a t owned told tells quiet owners_quiet e known = word_none (word_at place directory word asked) word answer a t owned told tells quiet owners_quiet e known
   task_none place directory (check_of wants asked) answer a t owned told tells quiet owners_quiet e known = check_none (answered_at place directory wants asked) answer a.0 t owned told tells quiet owners_quiet e known
   task_none place directory (compare_of comparing asked) answer a t owned told tells quiet owners_quiet e known = absurd a
+  task_none place directory (both_of wants standings asked) answer a t owned told tells quiet owners_quiet e known = absurd a
   task_none place directory (offer_of text) answer a t owned told tells quiet owners_quiet e known = absurd known
 
   -- for what can be had only memory may be wanted
@@ -427,7 +452,7 @@ module _ {W I O : Type 0} (w : WorktreeOf W) (i : InterruptOf I) (o : OwnersOf O
         | inr unwritten ↦ unwritten.e_is
       ]
 
-  word_complete : (found : Names → Owned → Result Found HereRefusal) (word : OwnWord) (e : HereRefusal) → AnswersWord w i o w0 w1 i0 i1 o0 o1 found word (Err e)
+  pub word_complete : (found : Names → Owned → Result Found HereRefusal) (word : OwnWord) (e : HereRefusal) → AnswersWord w i o w0 w1 i0 i1 o0 o1 found word (Err e)
       → (t : Names) (owned : Owned) → w.told w0 ≡ Some t → o.told o0 ≡ Some owned → NotIncreased (w.faults w0) (w.faults w1) → NotIncreased (o.faults o0) (o.faults o1) → NotIncreased (i.raised i0) (i.raised i1)
       → output.IsSayableAt (w.precomposes w0) t (found t owned) word → e ≡ memory
   word_complete found word e a t owned told tells quiet owners_quiet calm ready =
@@ -462,6 +487,7 @@ module _ {W I O : Type 0} (w : WorktreeOf W) (i : InterruptOf I) (o : OwnersOf O
   task_complete place directory (word_of word asked) e a t owned told tells quiet owners_quiet calm ready = word_complete (word_at place directory word asked) word e a t owned told tells quiet owners_quiet calm ready
   task_complete place directory (check_of wants asked) e a t owned told tells quiet owners_quiet calm ready = check_complete (answered_at place directory wants asked) e a.0 t owned told tells quiet owners_quiet ready
   task_complete place directory (compare_of comparing asked) e a t owned told tells quiet owners_quiet calm ready = absurd a
+  task_complete place directory (both_of wants standings asked) e a t owned told tells quiet owners_quiet calm ready = absurd a
   task_complete place directory (offer_of text) e a t owned told tells quiet owners_quiet calm ready = a.0.refused
 
 -- ---- the call
@@ -572,7 +598,7 @@ module _ {W I O S E : Type 0} (w : WorktreeOf W) (i : InterruptOf I) (o : Owners
         | inr (inr unread) ↦ subst (λ (x : Result Reply HereRefusal). IsRefusedAs e x) (sym unread.answer_is) (inr refl)
       ]
 
-  told_refused : (refusal : HereRefusal) (answer : Result Reply HereRefusal) → IsRefusedAs refusal answer → EndsHere s e s0 s1 e0 e1 first answer status → IsTold e e0 e1 first refusal status
+  pub told_refused : (refusal : HereRefusal) (answer : Result Reply HereRefusal) → IsRefusedAs refusal answer → EndsHere s e s0 s1 e0 e1 first answer status → IsTold e e0 e1 first refusal status
   told_refused refusal (Ok reply) is ends = absurd is
   told_refused refusal (Err other) is ends =
       elim is [

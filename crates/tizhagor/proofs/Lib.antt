@@ -8,3 +8,4 @@ pub mod Besides
 pub mod Changes
 pub mod Checked
 pub mod ComparedEnds
+pub mod BothEnds

@@ -42,6 +42,10 @@ module _ {W I : Type 0} (w : WorktreeOf W) (i : InterruptOf I) (w0 w1 : W) (i0 i
   pub unfaulted : (made : Listed) → Lists w i w0 w1 i0 i1 wants here (Ok made) → w.faults w1 ≡ w.faults w0
   unfaulted made a = by_kind (walks wants.listing) a (λ walked. let quiet = walked.unfaulted in let faults = walked.worktree.faults in omega (arith, quiet, faults)) (λ index. ap w.faults index.worktree)
 
+  -- the tree stays told
+  pub tree : (made : Listed) → Lists w i w0 w1 i0 i1 wants here (Ok made) → w.told w1 ≡ w.told w0
+  tree made a = by_kind (walks wants.listing) a (λ walked. walked.worktree.tree) (λ index. ap w.told index.worktree)
+
   -- an interrupt was raised
   pub interrupt_cause : (refusal : Refusal) → Lists w i w0 w1 i0 i1 wants here (Err refusal) → refusal ≡ refusals.Interrupted → Increased (i.raised i0) (i.raised i1)
   interrupt_cause refusal a is =

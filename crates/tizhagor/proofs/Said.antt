@@ -31,6 +31,11 @@ module _ {W I : Type 0} (w : WorktreeOf W) (i : InterruptOf I) (w0 w1 : W) (i0 i
   unfaulted (listing_of listing) reply a = lists.unfaulted w i w0 w1 i0 i1 here listing a.made a.makes
   unfaulted (cleaning_of wants) reply a = let quiet = a.makes.unfaulted in let faults = a.makes.worktree.faults in omega (arith, quiet, faults)
 
+  -- the tree stays told
+  pub tree : (word : OwnWord) (reply : Reply) → Says w i w0 w1 i0 i1 here (Ok reply) word → w.told w1 ≡ w.told w0
+  tree (listing_of listing) reply a = lists.tree w i w0 w1 i0 i1 here listing a.made a.makes
+  tree (cleaning_of wants) reply a = a.makes.worktree.tree
+
   -- an interrupt was raised
   pub interrupt_cause : (word : OwnWord) (refusal : Refusal) → Says w i w0 w1 i0 i1 here (Err refusal) word → refusal ≡ refusals.Interrupted → Increased (i.raised i0) (i.raised i1)
   interrupt_cause (listing_of listing) refusal a is = lists.interrupt_cause w i w0 w1 i0 i1 here listing refusal a is

@@ -1,5 +1,5 @@
 -- The text that the words ask for, or why there is none.
-use Rattle.std.specs.Prelude.{◌≡◌, ◌⊎◌, ◌≤◌, ℕ, List, Bool, Option, Some, Result, Ok, Err, IfOk, IfErr, IsErrOf}
+use Rattle.std.specs.Prelude.{◌≡◌, ◌⊎◌, ◌≤◌, ℕ, List, Bool, Option, Some, Result, Ok, Err, IfOk, IfErr, IsErrOf, if◌then◌else◌}
 use Rattle.worktree_fs.specs.declared.interrupt.Interrupt.{Ghosts as InterruptOf}
 use Rattle.worktree_fs.specs.declared.owners.Owners.{Ghosts as OwnersOf}
 use Rattle.worktree_fs.specs.declared.worktree.Worktree.{Ghosts as WorktreeOf}
@@ -15,6 +15,7 @@ use Rattle.command_line.specs.Requests.{asks, is_misuse, request_in, seen}
 use Rattle.command_line.specs.declared.checking.CheckAsked.{CheckAsked}
 use Rattle.command_line.specs.declared.command.Command.{Command}
 use Rattle.command_line.specs.declared.command.Command.TheVariants as commands
+use Rattle.command_line.specs.declared.command.FilesAsked.{FilesAsked}
 use Rattle.command_line.specs.declared.command.Request.{Request}
 use Rattle.command_line.specs.declared.misuse.Misuse.TheVariants.{Word}
 use Rattle.command_line.specs.declared.misuse.Wrong.{Wrong}
@@ -23,6 +24,8 @@ use Rattle.git_places.specs.Variables.{Variable}
 use Rattle.git_places.specs.Answers.{GivesBy, UnlessBy}
 use Rattle.git_setup.specs.declared.asked.Asked.{Asked}
 use Rattle.git_setup.specs.declared.found.Found.{Found}
+use Rattle.ls_files.specs.Choices.{walks}
+use Rattle.ls_files.specs.declared.standings.Standings.{Standings}
 use Rattle.tizhagor.specs.declared.call.Call.{Call}
 use Rattle.tizhagor.specs.declared.refusal.HereRefusal.{HereRefusal}
 use Rattle.tizhagor.specs.declared.call.Call.TheVariants as calls
@@ -127,12 +130,14 @@ pub record Offers {W I O : Type 0} (w0 w1 : W) (i0 i1 : I) (o0 o1 : O) (text : L
 -- ---- what the words ask for
 
 -- what a command asks for: a call, with what it asks of the work tree and how its text is written; one of git's own words; `check-ignore`,
--- which needs no setup; a word that is told by stats too; or a text that is always the same
+-- which needs no setup; a word that is told by stats too; both of these, `ls-files` with what a walk finds and with what changed; or a text
+-- that is always the same
 pub data Task : Type 0 where
   call_of : Call → Asked → Writing → Task
   word_of : OwnWord → Asked → Task
   check_of : CheckAsked → Asked → Task
   compare_of : StatWord → Asked → Task
+  both_of : FilesAsked → Standings → Asked → Task
   offer_of : List ℕ → Task
 
 -- `takes_colors` says whether the output takes colours
@@ -142,7 +147,8 @@ task_of takes_colors (commands.Plan asked what finding form) = call_of (calls.Pl
 task_of takes_colors (commands.Modules asked) = call_of calls.Modules (asked_for calls.Modules asked) writings.AsItIs
 task_of takes_colors (commands.State asked form) = call_of calls.State (asked_for calls.State asked) (writings.Lines (styled form takes_colors))
 task_of takes_colors (commands.Files asked wants) = word_of (listing_of wants) asked
-task_of takes_colors (commands.Changed asked wants standings) = compare_of (changes_of wants standings) asked
+task_of takes_colors (commands.Changed asked wants standings) =
+    if walks wants.listing then both_of wants standings asked else compare_of (changes_of wants standings) asked
 task_of takes_colors (commands.Clean asked wants) = word_of (cleaning_of wants) asked
 task_of takes_colors (commands.Check asked checking) = check_of checking asked
 task_of takes_colors (commands.Compare asked comparing) = compare_of (differences_of comparing) asked
@@ -175,6 +181,7 @@ AnswersTask w i o w0 w1 i0 i1 o0 o1 place directory answer (call_of call asked w
 AnswersTask w i o w0 w1 i0 i1 o0 o1 place directory answer (word_of word asked) = AnswersWord w i o w0 w1 i0 i1 o0 o1 (word_at place directory word asked) word answer
 AnswersTask w i o w0 w1 i0 i1 o0 o1 place directory answer (check_of wants asked) = Checks w o w0 w1 o0 o1 (answered_at place directory wants asked) answer × (i1 ≡ i0)
 AnswersTask w i o w0 w1 i0 i1 o0 o1 place directory answer (compare_of comparing asked) = ⊥
+AnswersTask w i o w0 w1 i0 i1 o0 o1 place directory answer (both_of wants standings asked) = ⊥
 AnswersTask w i o w0 w1 i0 i1 o0 o1 place directory answer (offer_of text) = SaysPlainly (Offers w0 w1 i0 i1 o0 o1 text) answer
 
 -- the words ask for this

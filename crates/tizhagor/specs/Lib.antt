@@ -11,6 +11,7 @@ pub mod Directory
 pub mod Asking
 pub mod Replies
 pub mod Patterns
+pub mod ExcludeFiles
 pub mod Listings
 pub mod Cleanings
 pub mod Texts
@@ -23,8 +24,11 @@ pub mod Changing
 pub mod StatWords
 pub mod Checks
 pub mod Checking
+pub mod Both
 pub mod Answers
+pub mod BothAnswers
 pub mod Output
 pub mod Ends
 pub mod ComparedHere
+pub mod BothHere
 pub mod Input

@@ -1,5 +1,5 @@
 -- What `ls-files` lists of a work tree that is found.
-use Rattle.std.specs.Prelude.{◌≡◌, ℕ, List, [], ◌++◌, Bool, not, map, codes, Option, Some, None, Result, Ok, Err, if◌then◌else◌}
+use Rattle.std.specs.Prelude.{◌≡◌, ℕ, List, [], ◌++◌, Bool, not, ◌||◌, map, codes, Option, Some, None, Result, Ok, Err, if◌then◌else◌}
 use Rattle.std.specs.Bool.{MatchBool}
 use Rattle.gitbase_core.specs.Path.{is_empty}
 use Rattle.gitbase_core.specs.Steps.{and_then}
@@ -7,6 +7,7 @@ use Rattle.git_places.specs.Variables.{Variable}
 use Rattle.git_setup.specs.declared.asked.Asked.{Asked}
 use Rattle.git_setup.specs.declared.each.AskedSpec.{AskedSpec}
 use Rattle.git_setup.specs.declared.found.Found.{Found}
+use Rattle.command_line.specs.RulesGiven.{RulesGiven}
 use Rattle.command_line.specs.declared.command.FilesAsked.{FilesAsked}
 use Rattle.ls_files.specs.Choices.{walks}
 use Rattle.ls_files.specs.Listed.{ListsFiles, listed, listed_in}
@@ -27,6 +28,7 @@ use Rattle.tizhagor.specs.declared.refusal.HereRefusal.{HereRefusal}
 use Rattle.tizhagor.specs.declared.refusal.HereRefusal.TheVariants as errors
 use Rattle.tizhagor.specs.declared.reply.Reply.{Reply}
 use Rattle.tizhagor.specs.Asking.{here_in}
+use Rattle.tizhagor.specs.ExcludeFiles.{ruled_in}
 use Rattle.tizhagor.specs.Patterns.{is_any, rules_of}
 
 -- ---- what is asked of a listing
@@ -34,9 +36,13 @@ use Rattle.tizhagor.specs.Patterns.{is_any, rules_of}
 abbrev pub with_patterns : Listing → Bool → Listing
 with_patterns listing patterns = record listing { patterns = patterns }
 
+-- there are rules of the command line, or files of rules are named
+abbrev pub gives_rules : RulesGiven → Bool
+gives_rules rules = is_any rules.patterns || (is_any rules.weaker || is_any rules.stronger)
+
 -- whether there are patterns is said by these
 abbrev pub listing_said : FilesAsked → Listing
-listing_said wants = with_patterns wants.listing (is_any wants.patterns.items)
+listing_said wants = with_patterns wants.listing (gives_rules wants.rules)
 
 -- ---- what is found for a listing
 
@@ -48,9 +54,11 @@ wrong_or here (Some wrong) = Err (errors.Listing wrong)
 abbrev pub unless_wrong : FilesAsked → Found → Result Found HereRefusal
 unless_wrong wants here = wrong_or here (wrong_in (listing_said wants) here.setup.index)
 
--- The work tree around a directory and its setup, or the first refusal: as for any command, and then of the listing.
+-- The work tree around a directory and its setup, or the first refusal: as for any command, then of the files of rules that are named, and
+-- then of the listing.
 abbrev pub listable_in : Names → Owned → List ℕ → List Variable → Option (List ℕ) → FilesAsked → Asked → Result Found HereRefusal
-listable_in t owned current variables directory wants asked = and_then (unless_wrong wants) (here_in t owned current variables directory asked)
+listable_in t owned current variables directory wants asked =
+    and_then (unless_wrong wants) (and_then (ruled_in t wants) (here_in t owned current variables directory asked))
 
 -- ---- what is listed by it
 
@@ -61,17 +69,13 @@ listing_with listing quote_path = record listing { quote_path = quote_path }
 abbrev pub listing_for : FilesAsked → Found → Listing
 listing_for wants here = listing_with (listing_said wants) here.quote_path
 
--- the rules of the repository and of the user are asked with `--exclude-standard` alone
-abbrev pub globals_for : Listing → List ℕ → List ℕ
-globals_for listing globals = if listing.excludes_standard then globals else []
-
 -- the setup with the options that a listing needs, and with patterns before all other rules
 abbrev pub setup_with : Listing → List ℕ → Setup → Setup
 setup_with listing rules setup =
-    record setup { options = walking listing setup.options; overrides = rules; globals = globals_for listing setup.globals }
+    record setup { options = walking listing setup.options; overrides = rules }
 
 abbrev pub setup_for : FilesAsked → Found → Setup
-setup_for wants here = setup_with (listing_said wants) (rules_of wants.patterns.items) here.setup
+setup_for wants here = setup_with (listing_said wants) (rules_of wants.rules.patterns) here.setup
 
 abbrev pub named_of : AskedSpec → NamedSpec
 named_of asked = record { text = asked.text; spec = asked.spec }

@@ -7,6 +7,7 @@ ghost use Rattle.diff_files.specs.Stats.{Told};
 ghost use Rattle.std.specs.Prelude.{Result as ResultOf};
 ghost use Rattle.tizhagor.specs.Answers as answers;
 ghost use Rattle.tizhagor.specs.Asking.{asked_for};
+ghost use Rattle.tizhagor.specs.BothHere as both;
 ghost use Rattle.tizhagor.specs.ComparedHere as compared;
 ghost use Rattle.tizhagor.specs.Ends.{EndsHere, IsFatal, IsReplied, IsTold, IsToldOf, RunsHere};
 ghost use Rattle.tizhagor.specs.Output as output;
@@ -15,6 +16,7 @@ ghost use Rattle.tizhagor.specs.Refusals.{memory};
 ghost use Rattle.tizhagor.specs.Replies.{SaysPlainly, plain};
 ghost use Rattle.tizhagor.specs.declared.reply.Reply.{Reply as ReplyOf};
 
+use crate::both::both_here;
 use crate::call::Call;
 use crate::changed::changed_here;
 use crate::check::check_here;
@@ -33,6 +35,7 @@ use diff_files::Stats;
 use git_places::Variable;
 use git_setup::Asked;
 use gitbase_core::Bytes;
+use ls_files::walks;
 use std::alloc::Global;
 use worktree_fs::{Interrupt, Owners, Sink};
 use worktree_report::CountsFaults;
@@ -167,10 +170,19 @@ fn reply_of<W: CountsFaults, O: Owners, D: Stats, I: Interrupt>(
             asked,
             files,
             standings,
-        } => changed_here(
-            alloc, worktree, owners, stats, current, variables, directory, &asked, &files,
-            standings,
-        ),
+        } => {
+            if walks(&files.listing) {
+                both_here(
+                    alloc, worktree, owners, stats, interrupt, current, variables, directory,
+                    &asked, files, standings,
+                )
+            } else {
+                changed_here(
+                    alloc, worktree, owners, stats, current, variables, directory, &asked, &files,
+                    standings,
+                )
+            }
+        }
         Command::Clean { asked, clean } => clean_here(
             alloc, worktree, owners, interrupt, current, variables, directory, &clean, asked,
         ),
@@ -198,7 +210,7 @@ fn reply_asked<W: CountsFaults, O: Owners, D: Stats, I: Interrupt>(
     takes_colors: bool,
     input: &[u8],
 ) -> Result<Reply, HereRefusal>
-    ensures { compared.Answers W.Worktree I.Interrupt O.Owners D.Stats worktree.old worktree.new
+    ensures { both.AnswersAll W.Worktree I.Interrupt O.Owners D.Stats worktree.old worktree.new
         interrupt.old interrupt.new owners.old owners.new stats.old stats.new
         (answers.placed current.now variables.now takes_colors input.now) words.now result }
 {
@@ -261,7 +273,7 @@ pub fn answer_here<W: NamesFault, O: Owners, D: Stats, I: Interrupt, S: Sink, E:
     // What the words ask for came to an answer: bytes, or a refusal with its cause. The status, `out` and `err` are as that answer has
     // it, and what stays is said of each.
     ensures runs { RunsHere S.Sink E.Sink out.old out.new err.old err.new
-        (W.first_fault worktree.new) (compared.Answers W.Worktree I.Interrupt O.Owners D.Stats worktree.old worktree.new
+        (W.first_fault worktree.new) (both.AnswersAll W.Worktree I.Interrupt O.Owners D.Stats worktree.old worktree.new
         interrupt.old interrupt.new owners.old owners.new stats.old stats.new
         (answers.placed current.now variables.now takes_colors input.now) words.now) result }
 
@@ -284,8 +296,10 @@ pub fn answer_here<W: NamesFault, O: Owners, D: Stats, I: Interrupt, S: Sink, E:
         → (reply : ReplyOf) × (output.IsOutputHere (W.precomposes worktree.old) t owned
         (answers.placed current.now variables.now takes_colors input.now) words.now
         (W.faults worktree.old) (W.faults worktree.new) reply
-        ⊎ compared.IsCompared t owned (D.told stats.old)
-        (answers.placed current.now variables.now takes_colors input.now) words.now reply)
+        ⊎ (compared.IsCompared t owned (D.told stats.old)
+        (answers.placed current.now variables.now takes_colors input.now) words.now reply
+        ⊎ both.IsBoth (W.precomposes worktree.old) t owned (D.told stats.old)
+        (answers.placed current.now variables.now takes_colors input.now) words.now reply))
         × IsReplied S.Sink E.Sink out.old out.new err.old err.new reply result }
 
     // Status 129: a word is wrong. And where one is, that is the status, unless memory was wanted, which is told.
@@ -304,9 +318,12 @@ pub fn answer_here<W: NamesFault, O: Owners, D: Stats, I: Interrupt, S: Sink, E:
         ⊎ IsFatal E.Sink err.old err.new (W.first_fault worktree.new)
         (λ refusal. output.RefusesHere (W.precomposes worktree.old) t owned
         (answers.placed current.now variables.now takes_colors input.now) words.now refusal
-        ⊎ compared.RefusesCompared t owned (D.told stats.old) (D.faults stats.old)
+        ⊎ (compared.RefusesCompared t owned (D.told stats.old) (D.faults stats.old)
         (D.faults stats.new)
-        (answers.placed current.now variables.now takes_colors input.now) words.now refusal) }
+        (answers.placed current.now variables.now takes_colors input.now) words.now refusal
+        ⊎ both.RefusesSecond (W.precomposes worktree.old) t owned (D.told stats.old)
+        (D.faults stats.old) (D.faults stats.new)
+        (answers.placed current.now variables.now takes_colors input.now) words.now refusal)) }
 
     // And the other way: where no work tree and no setup is found over them, and no fault was counted, the line says why, or that memory
     // was wanted, with its status.
@@ -333,14 +350,18 @@ pub fn answer_here<W: NamesFault, O: Owners, D: Stats, I: Interrupt, S: Sink, E:
         → NotIncreased (S.refusals out.old) (S.refusals out.new)
         → (result ≤ 1) ⊎ IsToldOf E.Sink err.old err.new memory_line 128 result }
 
-    // What is told by stats, over a told tree, told owners and told stats, with no fault counted: it ends as what is found over them does, with its
-    // reply or with the line of its refusal; or want of memory is told.
+    // What is told by stats, over a told tree, told owners and told stats, with no fault counted: it ends as what is found over them does,
+    // with its reply or with the line of its refusal; or want of memory is told. So does what is told by a walk and behind it by stats,
+    // where the walk can be had and no interrupt was raised.
     ensures compared { (t : Names) (owned : Owned) (told : Told)
         (wanted : ResultOf ReplyOf HereRefusal)
         → W.told worktree.old ≡ Some t → O.told owners.old ≡ Some owned
         → D.told stats.old ≡ Some told
         → compared.ComparesTo t owned told
         (answers.placed current.now variables.now takes_colors input.now) words.now wanted
+        ⊎ (NotIncreased (I.raised interrupt.old) (I.raised interrupt.new)
+        × both.IsBothTo (W.precomposes worktree.old) t owned told
+        (answers.placed current.now variables.now takes_colors input.now) words.now wanted)
         → NotIncreased (W.faults worktree.old) (W.faults worktree.new)
         → NotIncreased (O.faults owners.old) (O.faults owners.new)
         → NotIncreased (D.faults stats.old) (D.faults stats.new)

@@ -44,7 +44,8 @@ fn compared_here<W: Worktree>(
 
 /// The same, unless there is no such listing.
 fn unless_wrong(wants: &FilesAsked, compared: ComparedFrom) -> Result<ComparedFrom, HereRefusal>
-    ensures { result ≡ words.unless_wrong wants.now compared }
+    ensures gives { result ≡ words.unless_wrong wants.now compared }
+    ensures of { IfErr result IsOfFinding }
 {
     match wrong_beside(&listing_said(wants)) {
         Some(wrong) => Err(HereRefusal::Listing(wrong)),

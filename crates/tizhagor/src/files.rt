@@ -2,16 +2,20 @@
 ghost use Rattle.std.specs.Prelude.{◌≡◌, map, None, IfOk, IfErr};
 ghost use Rattle.ls_files.specs.Wrong.{wrong_in};
 ghost use Rattle.tizhagor.specs.Answers as answers;
+ghost use Rattle.gitbase_core.specs.Steps.{and_then};
+ghost use Rattle.tizhagor.specs.Asking.{here_in};
+ghost use Rattle.tizhagor.specs.ExcludeFiles.{ruled_in};
 ghost use Rattle.tizhagor.specs.Finds.{FindsHereWith};
 ghost use Rattle.tizhagor.specs.Listings as words;
 ghost use Rattle.tizhagor.specs.OwnWords as own;
 ghost use Rattle.tizhagor.specs.Refusals.{IsOfFinding};
 
+use crate::exclude_files::ruled_here;
 use crate::found::found_here;
 use crate::patterns::{is_any, rules_of};
 use crate::refusal::HereRefusal;
 use crate::reply::{Reply, replied};
-use command_line::FilesAsked;
+use command_line::{FilesAsked, RulesGiven};
 use git_places::Variable;
 use git_setup::{Asked, AskedSpec, EachSpec, Found};
 use gitbase_core::{Bytes, OutOfMemory};
@@ -29,14 +33,59 @@ fn with_patterns(listing: &Listing, patterns: bool) -> Listing
     listing
 }
 
+/// Whether there are rules of the command line, or files of rules are named.
+fn gives_rules(rules: &RulesGiven) -> bool
+    ensures { result ≡ words.gives_rules rules.now }
+{
+    if is_any(&rules.patterns) {
+        return true;
+    }
+    is_any(&rules.weaker) || is_any(&rules.stronger)
+}
+
 /// What is listed. Whether there are patterns is said by these.
 pub fn listing_said(wants: &FilesAsked) -> Listing
     ensures { result ≡ words.listing_said wants.now }
 {
-    with_patterns(&wants.listing, is_any(&wants.patterns))
+    with_patterns(&wants.listing, gives_rules(&wants.rules))
 }
 
-/// The work tree around a directory and its setup, unless there is no such listing of its index.
+/// The work tree around a directory and its setup, with the rules of the files that are named.
+fn ruled_around<W: Worktree, O: Owners>(
+    alloc: Global,
+    worktree: &mut W,
+    owners: &mut O,
+    current: &[u8],
+    variables: &[Variable],
+    directory: &Option<Bytes>,
+    wants: &FilesAsked,
+    asked: &Asked,
+) -> Result<Found, HereRefusal>
+    ensures finds { FindsHereWith W.Worktree O.Owners worktree.old worktree.new owners.old
+        owners.new (λ t owned. and_then (ruled_in t wants.now)
+        (here_in t owned current.now variables.now directory.now asked.now)) result }
+    ensures of { IfErr result IsOfFinding }
+{
+    let found = found_here(
+        alloc, worktree, owners, current, variables, directory, asked,
+    )?;
+    ruled_here(alloc, worktree, wants, found)
+}
+
+/// What is found, unless there is no such listing of its index.
+fn unless_wrong(wants: &FilesAsked, found: Found) -> Result<Found, HereRefusal>
+    ensures gives { result ≡ words.unless_wrong wants.now found }
+    ensures of { IfErr result IsOfFinding }
+    ensures listable { IfOk result
+        (λ here. wrong_in (words.listing_said wants.now) here.setup.index ≡ None) }
+{
+    match wrong_in(&listing_said(wants), &found.setup.index) {
+        Some(wrong) => Err(HereRefusal::Listing(wrong)),
+        None => Ok(found),
+    }
+}
+
+/// The same of the work tree around a directory.
 fn listable_here<W: Worktree, O: Owners>(
     alloc: Global,
     worktree: &mut W,
@@ -54,13 +103,10 @@ fn listable_here<W: Worktree, O: Owners>(
     ensures listable { IfOk result
         (λ here. wrong_in (words.listing_said wants.now) here.setup.index ≡ None) }
 {
-    let found = found_here(
-        alloc, worktree, owners, current, variables, directory, asked,
+    let found = ruled_around(
+        alloc, worktree, owners, current, variables, directory, wants, asked,
     )?;
-    match wrong_in(&listing_said(wants), &found.setup.index) {
-        Some(wrong) => Err(HereRefusal::Listing(wrong)),
-        None => Ok(found),
-    }
+    unless_wrong(wants, found)
 }
 
 /// The listing, with what the configuration says of how paths are written.
@@ -73,15 +119,12 @@ pub fn listing_with(listing: &Listing, quote_path: bool) -> Listing
 }
 
 /// A setup with the options that a listing needs, and with these rules before all others.
-fn setup_with(alloc: Global, listing: &Listing, rules: Bytes, setup: Setup) -> Setup
+fn setup_with(listing: &Listing, rules: Bytes, setup: Setup) -> Setup
     ensures { result ≡ words.setup_with listing.now rules setup }
 {
     let mut setup = setup;
     setup.options = walk_options(listing, &setup.options);
     setup.overrides = rules;
-    if !listing.excludes_standard {
-        setup.globals = Bytes::new(alloc);
-    }
     setup
 }
 
@@ -127,9 +170,9 @@ fn list_in<W: CountsFaults, I: Interrupt>(
         config: _config,
     } = found;
     let named = all_named(alloc, each)?;
-    let rules = rules_of(alloc, &wants.patterns)?;
+    let rules = rules_of(alloc, &wants.rules.patterns)?;
     let quoting = listing_with(&listing_said(wants), quote_path);
-    let prepared = setup_with(alloc, &quoting, rules, setup);
+    let prepared = setup_with(&quoting, rules, setup);
     list_files(
         alloc,
         worktree,

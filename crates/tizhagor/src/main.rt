@@ -2,6 +2,7 @@
 #![tactic(auto)]
 
 mod answer;
+mod both;
 mod call;
 mod changed;
 mod check;
@@ -11,6 +12,7 @@ mod compare;
 mod directory;
 mod ending;
 mod environment;
+mod exclude_files;
 mod fault;
 mod files;
 mod found;

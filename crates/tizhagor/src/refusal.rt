@@ -44,6 +44,8 @@ pub enum HereRefusal {
     Git(GitRefusal),
     /// There is no such listing: git has none, or it is not answered here.
     Listing(WrongListing),
+    /// A file of ignore rules that the words name is not read.
+    ExcludeFile { name: Bytes },
     /// The work tree is not compared with its index.
     Uncompared(Uncompared),
     /// Paths are not checked.

@@ -27,6 +27,7 @@ pub fn status_of(refusal: &HereRefusal) -> u8
         | HereRefusal::Elsewhere
         | HereRefusal::Git(_)
         | HereRefusal::Listing(_)
+        | HereRefusal::ExcludeFile { name: _ }
         | HereRefusal::Uncompared(_)
         | HereRefusal::Unchecked(_)
         | HereRefusal::Cleaning(_) => 128,
@@ -131,6 +132,12 @@ fn line_of(alloc: Global, refusal: &HereRefusal) -> Result<Bytes, OutOfMemory>
         ),
         HereRefusal::Git(refusal) => git_line(alloc, refusal),
         HereRefusal::Listing(wrong) => listing_line(alloc, *wrong),
+        HereRefusal::ExcludeFile { name } => with_path(
+            alloc,
+            b"fatal: cannot use ",
+            name.as_bytes(),
+            b" as an exclude file\n",
+        ),
         HereRefusal::Uncompared(reason) => uncompared_line(alloc, reason),
         HereRefusal::Unchecked(reason) => unchecked_line(alloc, reason),
         HereRefusal::Cleaning(wrong) => cleaning_line(alloc, *wrong),
@@ -150,6 +157,7 @@ fn is_fault(refusal: &HereRefusal) -> bool
         | HereRefusal::Elsewhere
         | HereRefusal::Git(_)
         | HereRefusal::Listing(_)
+        | HereRefusal::ExcludeFile { name: _ }
         | HereRefusal::Uncompared(_)
         | HereRefusal::Unchecked(_)
         | HereRefusal::Cleaning(_) => false,

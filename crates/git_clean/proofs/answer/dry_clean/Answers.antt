@@ -10,7 +10,7 @@ returns-then-has_failed_since g c =
 pub returns-in-Ok : goal.returns-in-Ok
 returns-in-Ok g c =
     let quiet = c.has_failed_since.ensures.unfailed c.if-has_failed_since.false in
-    TellsCleaning-ok c.in-Ok.report c.as_slice-found.result.now c.in_ok-clean_found-in-Ok.field-0 c.in-Ok.ensures (ap Some c.in_ok-objects.ensures) c.as_slice-found.ensures c.in_ok-clean_found-in-Ok.ensures (omega (arith, quiet))
+    TellsCleaning-ok c.in-Ok.report c.into_vec-found.result.items c.in_ok-clean_found-in-Ok.field-0 c.in-Ok.ensures (ap Some c.in_ok-objects.ensures) c.into_vec-found.ensures c.in_ok-clean_found-in-Ok.ensures (omega (arith, quiet))
 
 pub returns : goal.returns
 returns g c = TellsCleaning-refused c.in-Err.error c.in_ok-of_report-in-Err.field-0 c.in-Err.ensures (ap Some c.in_ok-objects.ensures) (omega arith) c.in_ok-of_report-in-Err.ensures

@@ -1,6 +1,6 @@
 use Rattle.std.proofs.Common.{ℕ, List, subst}
 use Rattle.tizhagor.specs.Ends.{EndsHere}
-use Rattle.tizhagor.proofs.ComparedEnds as lemmas
+use Rattle.tizhagor.proofs.BothEnds as lemmas
 use Rattle.tizhagor.proofs.answer.answer_here.Goals as goal
 
 pub returns-clause-runs : goal.returns-clause-runs

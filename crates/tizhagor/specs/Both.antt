@@ -1,0 +1,24 @@
+-- `ls-files` with `-d` or `-m` and with `-o` or `-k`: the two listings that stand for it.
+--
+-- git prints first what the index lacks, then what is in its way, and then, entry by entry, what it shows of the index. So the reply is that
+-- of the listing of the first two alone, and behind it that of what changed, with what is shown of the index beside.
+use Rattle.std.specs.Prelude.{List, ◌++◌, Bool, false, ◌&&◌, ◌||◌}
+use Rattle.command_line.specs.declared.command.FilesAsked.{FilesAsked}
+use Rattle.ls_files.specs.declared.listing.Listing.{Listing}
+use Rattle.tizhagor.specs.declared.reply.Reply.{Reply}
+use Rattle.tizhagor.specs.OwnWords.{OwnWord, listing_of}
+
+-- What a walk finds, alone. With `-i` what the index has stays asked for, since it is then refused as such.
+abbrev pub walked_part : Listing → Listing
+walked_part l = record l { cached = l.cached && l.ignored; stages = false; unmerged = false }
+
+abbrev pub walked : FilesAsked → FilesAsked
+walked wants = record wants { listing = walked_part wants.listing }
+
+abbrev pub walked_word : FilesAsked → OwnWord
+walked_word wants = listing_of (walked wants)
+
+-- the first reply, and the second behind it
+abbrev pub joined : Reply → Reply → Reply
+joined first second =
+    record { out = first.out ++ second.out; err = first.err ++ second.err; is_no = first.is_no || second.is_no }
