@@ -16,7 +16,7 @@ _tizhagor_options() {
     modules) echo "--permissions= -h --help" ;;
     state) echo "$shown $looked $written $colour -h --help" ;;
     ls-files) echo "-c --cached -s --stage -u --unmerged -o --others -k --killed -d --deleted -m --modified -i --ignored --exclude-standard -x --exclude=
-        --exclude-per-directory=.gitignore --directory --no-empty-directory -t -v
+        -X --exclude-from= --exclude-per-directory=.gitignore --directory --no-empty-directory -t -v
         -z --deduplicate --full-name --error-unmatch -h --help" ;;
     clean) echo "-n --dry-run --no-dry-run -d -x -X -e --exclude= -f --force --no-force -q --quiet --no-quiet -h --help" ;;
     diff-files) echo "--raw --name-status --name-only -z -q --exit-code --no-exit-code --quiet --no-quiet

@@ -40,6 +40,7 @@ _tizhagor() {
         '--exclude-standard[ignore rules are asked]'
         '--exclude-per-directory=-[those of each directory are]:name:(.gitignore)'
         '*'{-x,--exclude=}'[an ignore rule before all others]:pattern:'
+        '*'{-X,--exclude-from=}'[the ignore rules of a file]:file:_files'
         '--directory[directories in place of what they hold]'
         '--no-empty-directory[no directories without files]'
         '-t[a letter before each path]'

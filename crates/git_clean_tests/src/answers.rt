@@ -76,6 +76,25 @@ pub const ROWS: &[u8] = b"\
 0^^-q^w&::w^\n\
 0^^-d^:/&:/:^Would remove empty/$Would remove fd/$Would remove gone/un$Would remove lt$Would remove mix/a/$Would remove t/n$Would remove t/new/$Would remove top$Would remove u/v/$Would remove w/$\n\
 0^^-f|-f^w&::w^Would remove w/$\n\
+0^^-x|-e*.o^^Would remove gone/un$Would remove lt$Would remove t/n$Would remove top$\n\
+0^^-d|-x|-e*.o^^Would remove build/sub/$Would remove empty/$Would remove fd/$Would remove gone/un$Would remove lt$Would remove mix/a/$Would remove mix/ign/$Would remove t/n$Would remove t/new/$Would remove top$Would remove u/v/$Would remove w/$\n\
+0^^-d|-x|-eu/|-e!u/v^^Would remove build/$Would remove empty/$Would remove fd/$Would remove gone/un$Would remove ln.o$Would remove lt$Would remove mix/$Would remove o.o$Would remove onlyign/$Would remove t/b.o$Would remove t/n$Would remove t/new/$Would remove top$Would remove w/$\n\
+0^^-d|-x|-ebuild^^Would remove empty/$Would remove fd/$Would remove gone/un$Would remove ln.o$Would remove lt$Would remove mix/a/$Would remove mix/z.o$Would remove o.o$Would remove onlyign/$Would remove t/b.o$Would remove t/n$Would remove t/new/$Would remove top$Would remove u/$Would remove w/$\n\
+0^^-x|-esub^build/h.o&::build/h.o^Would remove build/h.o$\n\
+0^^-d|-x|-ex^^Would remove build/$Would remove empty/$Would remove fd/$Would remove gone/un$Would remove ln.o$Would remove lt$Would remove mix/$Would remove o.o$Would remove onlyign/$Would remove t/b.o$Would remove t/n$Would remove t/new/$Would remove top$Would remove u/y.o$\n\
+0^^-d|-x|-e!*.o|-eo.o^^Would remove build/$Would remove empty/$Would remove fd/$Would remove gone/un$Would remove ln.o$Would remove lt$Would remove mix/$Would remove onlyign/$Would remove t/b.o$Would remove t/n$Would remove t/new/$Would remove top$Would remove u/$Would remove w/$\n\
+0^^-d|-x|-e/top|-e/t/^^Would remove build/$Would remove empty/$Would remove fd/$Would remove gone/un$Would remove ln.o$Would remove lt$Would remove mix/$Would remove o.o$Would remove onlyign/$Would remove u/$Would remove w/$\n\
+0^^-d|-x|-eempty^^Would remove build/$Would remove fd/$Would remove gone/un$Would remove ln.o$Would remove lt$Would remove mix/$Would remove o.o$Would remove onlyign/$Would remove t/b.o$Would remove t/n$Would remove t/new/$Would remove top$Would remove u/$Would remove w/$\n\
+0^^-d|-x|-elt|-ep^^Would remove build/$Would remove empty/$Would remove fd/$Would remove gone/un$Would remove ln.o$Would remove mix/$Would remove o.o$Would remove onlyign/$Would remove t/b.o$Would remove t/n$Would remove t/new/$Would remove top$Would remove u/$Would remove w/$\n\
+0^^-d|-x|-e/gone^^Would remove build/$Would remove empty/$Would remove fd/$Would remove ln.o$Would remove lt$Would remove mix/$Would remove o.o$Would remove onlyign/$Would remove t/b.o$Would remove t/n$Would remove t/new/$Would remove top$Would remove u/$Would remove w/$\n\
+0^^-x|-ef^w&::w^\n\
+0^^-d|-x|-emix/ign/^^Would remove build/$Would remove empty/$Would remove fd/$Would remove gone/un$Would remove ln.o$Would remove lt$Would remove mix/a/$Would remove mix/z.o$Would remove o.o$Would remove onlyign/$Would remove t/b.o$Would remove t/n$Would remove t/new/$Would remove top$Would remove u/$Would remove w/$\n\
+0^^-d|-x|-e*^^\n\
+0^u^-d|-x|-ey.o^u/&:(literal)u^Would remove v/$\n\
+0^u^-x|-ev^u/&:(literal)u^\n\
+0^u^-d|-x|-ex^..&::u/..^Would remove ../build/$Would remove ../empty/$Would remove ../fd/$Would remove ../gone/un$Would remove ../ln.o$Would remove ../lt$Would remove ../mix/$Would remove ../o.o$Would remove ../onlyign/$Would remove ../t/b.o$Would remove ../t/n$Would remove ../t/new/$Would remove ../top$Would remove y.o$\n\
+0^w/x^-d|-x|-ef^w/x/&:(literal)w/x^\n\
+0^w/x^-d|-x|-ew^..&::w/x/..^\n\
 0^^^.&::.|?&::?^Would remove gone/un$Would remove lt$Would remove mix/a/k$Would remove repl/in$Would remove t/n$Would remove t/new/f$Would remove top$Would remove u/v/x$Would remove w/x/f$\n\
 0^^-d^.&::.|?&::?^Would remove gone/un$Would remove lt$Would remove mix/a/k$Would remove repl/in$Would remove t/n$Would remove t/new/f$Would remove top$Would remove u/v/x$Would remove w/x/f$\n\
 0^^^empty&::empty|?&::?^\n\
@@ -155,6 +174,12 @@ pub const ROWS: &[u8] = b"\
 1^^-d|-f^^Would skip repository j/only$Would remove k/$Would skip repository m/rep$Would remove m/f$Would skip repository p/q/rep$Would remove p/q/r$Would remove p/z$\n\
 1^^^j/only&::j/only^\n\
 1^^-f|-f^j&::j^Would remove j/$\n\
+1^^-d|-x|-eign^^Would skip repository j/only$Would remove k/$Would skip repository m/rep$Would remove m/f$Would skip repository p/q/rep$Would remove p/q/r$Would remove p/z$\n\
+1^^-d|-x|-em^^Would skip repository ign/rep$Would remove ign/e$Would skip repository j/only$Would remove k/$Would skip repository p/q/rep$Would remove p/q/r$Would remove p/z$\n\
+1^^-d|-x|-f|-f|-em^^Would remove ign/$Would remove j/$Would remove k/$Would remove p/$Would remove rep/$\n\
+1^^-d|-x|-f|-f|-erep^^Would remove ign/e/$Would remove j/$Would remove k/$Would remove m/f$Would remove p/q/r/$Would remove p/z$\n\
+1^^-d|-x|-eg^^Would skip repository ign/rep$Would remove ign/e$Would skip repository j/only$Would remove k/$Would skip repository m/rep$Would remove m/f$Would remove p/z$\n\
+1^^-d|-x|-f|-f|-ez|-e/p/q/^^Would remove ign/$Would remove j/$Would remove k/$Would remove m/$Would remove rep/$\n\
 1^^-f|-f^rep&::rep|?&::?^\n\
 1^^-f|-f^rep&::rep|r*&::r*^Would remove rep/$\n\
 1^^-f|-f^m&::m|?&::?^Would remove m/f$\n\
@@ -207,6 +232,12 @@ pub const ROWS: &[u8] = b"\
 4^^-e*.x^^Would remove .gitignore$Would remove s.z$\n\
 4^^-d|-e*^^\n\
 4^^-d|-X|-e!*.x^^Would remove a/b/c/$Would remove k/$\n\
+4^^-d|-x|-e1.x^^Would remove .gitignore$Would remove a/2.x$Would remove a/b/$Would remove k/$Would remove keep.x$Would remove s.z$Would remove x/$\n\
+4^^-d|-x|-e*.x|-e!keep.x^^Would remove .gitignore$Would remove a/b/.gitignore$Would remove a/b/c/$Would remove k/$Would remove keep.x$Would remove s.z$Would remove x/1$\n\
+4^^-d|-x|-ek/|-e!k/5.u^^Would remove .gitignore$Would remove 1.x$Would remove a/2.x$Would remove a/b/$Would remove keep.x$Would remove s.z$Would remove x/$\n\
+4^^-x|-e*^^\n\
+4^^-d|-x|-e/x/1^^Would remove .gitignore$Would remove 1.x$Would remove a/2.x$Would remove a/b/$Would remove k/$Would remove keep.x$Would remove s.z$Would remove x/2.x$\n\
+4^^-d|-x|-es^^Would remove .gitignore$Would remove 1.x$Would remove a/2.x$Would remove a/b/$Would remove k/$Would remove keep.x$Would remove s.z$Would remove x/$\n\
 4^^^a&::a^Would remove a/2.x$Would remove a/b/.gitignore$Would remove a/b/3.x$\n\
 4^^-X^a&::a^Would remove a/b/c/$\n\
 4^^^k&::k^\n\

@@ -5,7 +5,7 @@
 use Rattle.std.specs.Prelude.{◌≡◌, ℕ, List, [], ◌∷◌, ◌++◌, Bool, true, bytes_eq, codes, Result, Ok, Err, if◌then◌else◌}
 use Rattle.gitbase_core.specs.Steps.{and_then}
 use Rattle.gitbase_core.specs.Text.{without_mark}
-use Rattle.git_places.specs.Answers.{GivesBy}
+use Rattle.git_places.specs.Answers.{DecidesBy}
 use Rattle.git_setup.specs.BelowTop.{rules_below_top}
 use Rattle.git_setup.specs.declared.found.Found.{Found}
 use Rattle.command_line.specs.declared.command.FilesAsked.{FilesAsked}
@@ -72,7 +72,7 @@ ruled_in t wants here =
     and_then (λ (weaker : List ℕ). and_then (λ (stronger : List ℕ). Ok (ruled_by wants here weaker stronger)) (rules_after t here.root [] wants.rules.stronger))
     (rules_after t here.root [] wants.rules.weaker)
 
--- ---- an answer of the code is the one that is defined, unless memory was wanting
+-- ---- an answer of the code that asks no worktree is the one that is defined, unless memory was wanting
 
-abbrev pub Gives : {A : Type 0} → Result A HereRefusal → Result A HereRefusal → Type 0
-Gives answer wanted = GivesBy fault memory answer wanted
+abbrev pub Decides : {A : Type 0} → Result A HereRefusal → Result A HereRefusal → Type 0
+Decides answer wanted = DecidesBy fault memory answer wanted

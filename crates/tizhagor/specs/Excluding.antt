@@ -15,9 +15,7 @@ use Rattle.worktree_fs.specs.Tree.{Names}
 use Rattle.tizhagor.specs.declared.refusal.HereRefusal.{HereRefusal}
 use Rattle.tizhagor.specs.declared.refusal.HereRefusal.TheVariants as errors
 use Rattle.tizhagor.specs.declared.reply.Reply.{Reply}
-use Rattle.tizhagor.specs.Asking.{here_in}
-use Rattle.tizhagor.specs.ExcludeFiles.{ruled_in}
-use Rattle.tizhagor.specs.Listings.{all_named, listing_for, listing_said, reply_of, setup_for, wrong_or}
+use Rattle.tizhagor.specs.Listings.{all_named, listing_for, listing_said, reply_of, ruled_around, setup_for, wrong_or}
 use Rattle.tizhagor.specs.Refusals.{fault, memory}
 
 -- ---- what is found
@@ -26,11 +24,11 @@ use Rattle.tizhagor.specs.Refusals.{fault, memory}
 abbrev pub unless_wrong : FilesAsked → Found → Result Found HereRefusal
 unless_wrong wants here = wrong_or here (wrong_excluded (listing_said wants) here.setup.index)
 
--- The work tree around a directory and its setup, or the first refusal: as for any command, then of the files of rules that are named, and
--- then of the listing.
+-- the work tree around a directory and its setup, with the rules of the files that are named, or the first refusal: as for any listing, and
+-- then of this one
 abbrev pub excludable_in : Names → Owned → List ℕ → List Variable → Option (List ℕ) → FilesAsked → Asked → Result Found HereRefusal
 excludable_in t owned current variables directory wants asked =
-    and_then (unless_wrong wants) (and_then (ruled_in t wants) (here_in t owned current variables directory asked))
+    and_then (unless_wrong wants) (ruled_around t owned current variables directory wants asked)
 
 -- ---- what is said
 

@@ -54,11 +54,16 @@ wrong_or here (Some wrong) = Err (errors.Listing wrong)
 abbrev pub unless_wrong : FilesAsked → Found → Result Found HereRefusal
 unless_wrong wants here = wrong_or here (wrong_in (listing_said wants) here.setup.index)
 
--- The work tree around a directory and its setup, or the first refusal: as for any command, then of the files of rules that are named, and
--- then of the listing.
+-- The work tree around a directory and its setup, with the rules of the files that are named, or the first refusal: as for any command, and
+-- then of these files.
+unfoldable pub ruled_around : Names → Owned → List ℕ → List Variable → Option (List ℕ) → FilesAsked → Asked → Result Found HereRefusal
+ruled_around t owned current variables directory wants asked =
+    and_then (ruled_in t wants) (here_in t owned current variables directory asked)
+
+-- the same, or the first refusal: as there, and then of the listing
 abbrev pub listable_in : Names → Owned → List ℕ → List Variable → Option (List ℕ) → FilesAsked → Asked → Result Found HereRefusal
 listable_in t owned current variables directory wants asked =
-    and_then (unless_wrong wants) (and_then (ruled_in t wants) (here_in t owned current variables directory asked))
+    and_then (unless_wrong wants) (ruled_around t owned current variables directory wants asked)
 
 -- ---- what is listed by it
 

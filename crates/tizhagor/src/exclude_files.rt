@@ -30,7 +30,7 @@ fn is_null(path: &[u8]) -> bool
 
 /// The rules of a device, a pipe or a socket: the null device has none.
 fn device_rules(alloc: Global, name: &[u8], path: &[u8]) -> Result<Bytes, HereRefusal>
-    ensures gives { words.Gives result (words.device_rules name.now path.now) }
+    ensures gives { words.Decides result (words.device_rules name.now path.now) }
     ensures of { IfErr result IsOfFinding }
 {
     if is_null(path) {
@@ -60,7 +60,7 @@ fn rules_at<W: Worktree>(
     let mut bytes = Bytes::new(alloc);
     match worktree.read(alloc, path, true, &mut bytes)? {
         ReadAnswer::Read => Ok(unmarked(alloc, bytes.as_bytes())?),
-        ReadAnswer::Special => device_rules(alloc, name, path),
+        ReadAnswer::Special => Ok(device_rules(alloc, name, path)?),
         _ => Err(unread(alloc, name)?),
     }
 }

@@ -2,9 +2,6 @@
 ghost use Rattle.std.specs.Prelude.{◌≡◌, map, None, IfOk, IfErr};
 ghost use Rattle.ls_files.specs.Wrong.{wrong_in};
 ghost use Rattle.tizhagor.specs.Answers as answers;
-ghost use Rattle.gitbase_core.specs.Steps.{and_then};
-ghost use Rattle.tizhagor.specs.Asking.{here_in};
-ghost use Rattle.tizhagor.specs.ExcludeFiles.{ruled_in};
 ghost use Rattle.tizhagor.specs.Finds.{FindsHereWith};
 ghost use Rattle.tizhagor.specs.Listings as words;
 ghost use Rattle.tizhagor.specs.OwnWords as own;
@@ -51,6 +48,7 @@ pub fn listing_said(wants: &FilesAsked) -> Listing
 }
 
 /// The work tree around a directory and its setup, with the rules of the files that are named.
+#[tactic(auto, unfolding(crate::specs::Listings::ruled_around))]
 pub fn ruled_around<W: Worktree, O: Owners>(
     alloc: Global,
     worktree: &mut W,
@@ -62,8 +60,8 @@ pub fn ruled_around<W: Worktree, O: Owners>(
     asked: &Asked,
 ) -> Result<Found, HereRefusal>
     ensures finds { FindsHereWith W.Worktree O.Owners worktree.old worktree.new owners.old
-        owners.new (λ t owned. and_then (ruled_in t wants.now)
-        (here_in t owned current.now variables.now directory.now asked.now)) result }
+        owners.new (λ t owned. words.ruled_around t owned current.now variables.now
+        directory.now wants.now asked.now) result }
     ensures of { IfErr result IsOfFinding }
 {
     let found = found_here(
