@@ -27,6 +27,7 @@ pub use changed::list_changed;
 pub use changed_error::ChangedError;
 pub use listed::{Listed, list_found};
 pub use listing::{Listing, NamedSpec};
+pub use place::Place;
 pub use standings::Standings;
 pub use unseen::is_unseen;
 pub use walking::walk_options;
