@@ -226,7 +226,7 @@ files =
     ∷ codes "  -k, --killed          what lies in the way of the index"
     ∷ codes "  -d, --deleted         of the index, that of which nothing is there"
     ∷ codes "  -m, --modified        of the index, that of which nothing is there or something else"
-    ∷ codes "  -i, --ignored         of what the index lacks, what is ignored, alone; beside one of"
+    ∷ codes "  -i, --ignored         what is ignored, alone, with -o or with -c; beside one of"
     ∷ codes "                        the four below"
     ∷ codes "  --exclude-standard    ignore rules are asked: .gitignore, info/exclude, and the"
     ∷ codes "                        excludes file of the user"

@@ -181,7 +181,7 @@ those that OPTION chooses. A PATH is a path spec; none means the current directo
   -k, --killed          what lies in the way of the index
   -d, --deleted         of the index, that of which nothing is there
   -m, --modified        of the index, that of which nothing is there or something else
-  -i, --ignored         of what the index lacks, what is ignored, alone; beside one of
+  -i, --ignored         what is ignored, alone, with -o or with -c; beside one of
                         the four below
   --exclude-standard    ignore rules are asked: .gitignore, info/exclude, and the
                         excludes file of the user

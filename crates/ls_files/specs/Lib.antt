@@ -11,3 +11,5 @@ pub mod Listed
 pub mod ChangedErrors
 pub mod Changed
 pub mod Wrong
+pub mod Finds
+pub mod Excluded

@@ -76,4 +76,5 @@ wrong_text wrong.IgnoredDirectories = codes "ls-files -i is not supported with -
 wrong_text wrong.SparseIndex = codes "ls-files is not supported for what a sparse index has"
 wrong_text wrong.PatternsAlone = codes "ls-files -x alone is not supported with -k or --directory"
 wrong_text wrong.UnmatchedOfBoth = codes "ls-files --error-unmatch is not supported with -d or -m beside -o or -k"
+wrong_text wrong.UnreadRules = codes "ls-files -i is not supported with a rules file that is not read"
 wrong_text (wrong.Unsupported form) = unsupported_text form

@@ -108,7 +108,7 @@ fn list_of(alloc: Global, text: &[u8]) -> Result<List, OutOfMemory>
 }
 
 /// The patterns of two texts, the second ones above the first.
-fn patterns_of(alloc: Global, below: &[u8], above: &[u8]) -> Result<Search, OutOfMemory>
+pub fn patterns_of(alloc: Global, below: &[u8], above: &[u8]) -> Result<Search, OutOfMemory>
     ensures { IfOk result
         (λ rules. rules ≡ rules_in false below.now ∷ rules_in false above.now ∷ []) }
 {
@@ -119,7 +119,7 @@ fn patterns_of(alloc: Global, below: &[u8], above: &[u8]) -> Result<Search, OutO
 }
 
 /// How the letters of names compare.
-fn case_of(ignore_case: bool) -> Case
+pub fn case_of(ignore_case: bool) -> Case
     ensures { result ≡ case_of ignore_case }
 {
     if ignore_case {

@@ -1,5 +1,5 @@
 //! What is listed, by the entries of a report.
-ghost use Rattle.std.specs.Prelude.{◌≡◌, ◌++◌, map, IfOk, OnOk};
+ghost use Rattle.std.specs.Prelude.{◌≡◌, ◌++◌, [], map, IfOk, OnOk};
 ghost use Rattle.ls_files.specs.Choices.{chosen};
 ghost use Rattle.ls_files.specs.Listed as words;
 ghost use Rattle.ls_files.specs.Unmatched.{place_of_entry, place_of_name, places_of};
@@ -75,12 +75,12 @@ fn told(
     alloc: Global,
     listing: &Listing,
     named: &[NamedSpec],
-    index: &State,
+    entries: &[IndexEntry],
     names: &[Bytes],
     ways: &[Bytes],
 ) -> Result<Bytes, OutOfMemory>
     ensures { IfOk result
-        (λ text. text ≡ words.err_text listing.now named.now index.now names.now ways.now) }
+        (λ text. text ≡ words.err_text listing.now named.now entries.now names.now ways.now) }
 {
     if !listing.error_unmatch {
         return Ok(Bytes::new(alloc));
@@ -88,7 +88,7 @@ fn told(
     let mut places = Vec::new(alloc);
     add_names(&mut places, names)?;
     add_names(&mut places, ways)?;
-    add_entries(&mut places, listing, index.entries())?;
+    add_entries(&mut places, listing, entries)?;
     complaint(alloc, named, &places)
 }
 
@@ -135,18 +135,52 @@ fn shown(
     listing: &Listing,
     prefix: &[u8],
     specs: &Search,
-    index: &State,
+    entries: &[IndexEntry],
     names: &[Bytes],
     ways: &[Bytes],
 ) -> Result<Bytes, OutOfMemory>
     ensures { IfOk result (λ text. text
-        ≡ words.out_text listing.now prefix.now specs.now index.now names.now ways.now) }
+        ≡ words.out_text listing.now prefix.now specs.now entries.now names.now ways.now) }
 {
     let mut text = Vec::new(alloc);
     add_others(alloc, &mut text, listing, prefix, names)?;
     add_all_killed(alloc, &mut text, listing, prefix, ways)?;
-    add_index(alloc, &mut text, listing, prefix, specs, index.entries())?;
+    add_index(alloc, &mut text, listing, prefix, specs, entries)?;
     Ok(Bytes::from_vec(text))
+}
+
+/// What is listed of entries, of what the index does not have, and of what lies in its way.
+fn listed_with(
+    alloc: Global,
+    listing: &Listing,
+    prefix: &[u8],
+    named: &[NamedSpec],
+    specs: &Search,
+    entries: &[IndexEntry],
+    names: &[Bytes],
+    ways: &[Bytes],
+) -> Result<Listed, OutOfMemory>
+    ensures { IfOk result (λ made. made ≡ words.listed_with listing.now prefix.now named.now
+        specs.now entries.now names.now ways.now) }
+{
+    let out = shown(alloc, listing, prefix, specs, entries, names, ways)?;
+    let err = told(alloc, listing, named, entries, names, ways)?;
+    Ok(Listed { out, err })
+}
+
+/// What is listed of entries alone.
+pub fn list_entries(
+    alloc: Global,
+    listing: &Listing,
+    prefix: &[u8],
+    named: &[NamedSpec],
+    specs: &Search,
+    entries: &[IndexEntry],
+) -> Result<Listed, OutOfMemory>
+    ensures { IfOk result (λ made. made ≡ words.listed_with listing.now prefix.now named.now
+        specs.now entries.now [] []) }
+{
+    listed_with(alloc, listing, prefix, named, specs, entries, &[], &[])
 }
 
 /// What is listed by the entries of a report, in the directory `prefix` of the work tree: the setup
@@ -169,15 +203,15 @@ pub fn list_found(
 {
     let names = names_for(alloc, listing, setup, named, found)?;
     let ways = killed_for(alloc, listing, &setup.index, &setup.specs, named, found)?;
-    let out = shown(
+    let entries = setup.index.entries();
+    listed_with(
         alloc,
         listing,
         prefix,
+        named,
         &setup.specs,
-        &setup.index,
+        entries,
         &names,
         &ways,
-    )?;
-    let err = told(alloc, listing, named, &setup.index, &names, &ways)?;
-    Ok(Listed { out, err })
+    )
 }

@@ -27,6 +27,8 @@ pub enum WrongListing {
     PatternsAlone,
     /// `--error-unmatch` with `-d` or `-m` and with `-o` or `-k`, which is not answered here.
     UnmatchedOfBoth,
+    /// A rules file above an entry is not read, which is not answered here; only with `-i` and `-c`.
+    UnreadRules,
     /// What stands at a path has a form that is not answered here; only with `-d` and `-m`.
     Unsupported(Unsupported),
 }
@@ -61,13 +63,16 @@ impl WrongListing {
             WrongListing::UnmatchedOfBoth => {
                 b"ls-files --error-unmatch is not supported with -d or -m beside -o or -k"
             }
+            WrongListing::UnreadRules => {
+                b"ls-files -i is not supported with a rules file that is not read"
+            }
             WrongListing::Unsupported(form) => unsupported_text(*form),
         }
     }
 }
 
 /// Whether there are rules.
-fn has_rules(listing: &Listing) -> bool
+pub fn has_rules(listing: &Listing) -> bool
     ensures { result ≡ words.has_rules listing.now }
 {
     asks_rules(listing) || listing.patterns
@@ -123,7 +128,7 @@ fn is_sparse(entry: &IndexEntry) -> bool
 }
 
 /// Whether an entry does.
-fn has_sparse(entries: &[IndexEntry]) -> bool
+pub fn has_sparse(entries: &[IndexEntry]) -> bool
     ensures { result ≡ list_any words.is_sparse entries.now }
 {
     entries.iter().any(|entry| is_sparse(entry))

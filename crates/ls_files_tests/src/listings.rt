@@ -3,7 +3,10 @@ use crate::answers::{ROWS, TREES};
 use crate::words::{all_named, listing_of, rules_of, specs_of};
 use bstr::ByteSlice;
 use gitbase_core::Bytes;
-use ls_files::{Listed, Listing, NamedSpec, list_files, walk_options, wrong_in};
+use ls_files::{
+    Listed, Listing, NamedSpec, list_excluded, list_files, lists_excluded, walk_options,
+    wrong_excluded, wrong_in,
+};
 use std::alloc::Global;
 use test_cases::{lines_of, parted, tree_of};
 use worktree_fs::PlannedInterrupt;
@@ -26,6 +29,22 @@ fn setup_for(
         setup.globals = Bytes::new(alloc);
     }
     Some(setup)
+}
+
+/// What is listed of the index of the tree of some steps, which rules exclude.
+fn excluded_of(
+    alloc: Global,
+    steps: &[u8],
+    setup: &Setup,
+    listing: &Listing,
+    prefix: &[u8],
+    named: &[NamedSpec],
+) -> Option<Listed> {
+    if let Some(_) = wrong_excluded(listing, &setup.index) {
+        return None;
+    }
+    let mut tree = tree_of(alloc, steps)?;
+    list_excluded(alloc, &mut tree, b"/w/r", setup, listing, prefix, named).ok()
 }
 
 /// What is listed of the tree of some steps.
@@ -67,6 +86,9 @@ fn listed_in(
     let listing = listing_of(options);
     let setup = setup_for(alloc, text, &listing, options, specs)?;
     let named = all_named(alloc, specs)?;
+    if lists_excluded(&listing) {
+        return excluded_of(alloc, steps, &setup, &listing, prefix, &named);
+    }
     listed_of(alloc, steps, &setup, &listing, prefix, &named)
 }
 

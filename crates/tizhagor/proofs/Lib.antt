@@ -9,3 +9,4 @@ pub mod Changes
 pub mod Checked
 pub mod ComparedEnds
 pub mod BothEnds
+pub mod Excluded

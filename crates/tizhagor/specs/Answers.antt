@@ -12,7 +12,6 @@ use Rattle.worktree_report.specs.declared.refusal.Refusal.{Refusal}
 use Rattle.command_line.specs.Forms.{styled}
 use Rattle.command_line.specs.Helps.{help_of, version}
 use Rattle.command_line.specs.Requests.{asks, is_misuse, request_in, seen}
-use Rattle.command_line.specs.declared.checking.CheckAsked.{CheckAsked}
 use Rattle.command_line.specs.declared.command.Command.{Command}
 use Rattle.command_line.specs.declared.command.Command.TheVariants as commands
 use Rattle.command_line.specs.declared.command.FilesAsked.{FilesAsked}
@@ -25,6 +24,7 @@ use Rattle.git_places.specs.Answers.{GivesBy, UnlessBy}
 use Rattle.git_setup.specs.declared.asked.Asked.{Asked}
 use Rattle.git_setup.specs.declared.found.Found.{Found}
 use Rattle.ls_files.specs.Choices.{walks}
+use Rattle.ls_files.specs.Excluded.{lists_excluded}
 use Rattle.ls_files.specs.declared.standings.Standings.{Standings}
 use Rattle.tizhagor.specs.declared.call.Call.{Call}
 use Rattle.tizhagor.specs.declared.refusal.HereRefusal.{HereRefusal}
@@ -34,10 +34,10 @@ use Rattle.tizhagor.specs.declared.writing.Writing.{Writing}
 use Rattle.tizhagor.specs.declared.writing.Writing.TheVariants as writings
 use Rattle.tizhagor.specs.declared.reply.Reply.{Reply}
 use Rattle.tizhagor.specs.Asking.{asked_for, here_in}
-use Rattle.tizhagor.specs.Checking.{answered_in}
 use Rattle.tizhagor.specs.Checks.{Checks}
 use Rattle.tizhagor.specs.OwnWords.{OwnWord, Says, cleaning_of, listing_of, word_in}
 use Rattle.tizhagor.specs.Replies.{SaysPlainly}
+use Rattle.tizhagor.specs.RuleWords.{RuleWord, checking_of, excluding_of, ruled_in}
 use Rattle.tizhagor.specs.StatWords.{StatWord, changes_of, differences_of}
 use Rattle.tizhagor.specs.Refusals.{fault, memory, IsOfFinding}
 use Rattle.tizhagor.specs.Texts.{TextsBy}
@@ -129,13 +129,13 @@ pub record Offers {W I O : Type 0} (w0 w1 : W) (i0 i1 : I) (o0 o1 : O) (text : L
 
 -- ---- what the words ask for
 
--- what a command asks for: a call, with what it asks of the work tree and how its text is written; one of git's own words; `check-ignore`,
--- which needs no setup; a word that is told by stats too; both of these, `ls-files` with what a walk finds and with what changed; or a text
+-- what a command asks for: a call, with what it asks of the work tree and how its text is written; one of git's own words; one that
+-- asks which rules decide; a word that is told by stats too; both of these, `ls-files` with what a walk finds and with what changed; or a text
 -- that is always the same
 pub data Task : Type 0 where
   call_of : Call → Asked → Writing → Task
   word_of : OwnWord → Asked → Task
-  check_of : CheckAsked → Asked → Task
+  check_of : RuleWord → Asked → Task
   compare_of : StatWord → Asked → Task
   both_of : FilesAsked → Standings → Asked → Task
   offer_of : List ℕ → Task
@@ -146,11 +146,12 @@ task_of takes_colors (commands.Report asked form) = call_of calls.Report (asked_
 task_of takes_colors (commands.Plan asked what finding form) = call_of (calls.Plan what finding) (asked_for (calls.Plan what finding) asked) (writings.Paths form.end)
 task_of takes_colors (commands.Modules asked) = call_of calls.Modules (asked_for calls.Modules asked) writings.AsItIs
 task_of takes_colors (commands.State asked form) = call_of calls.State (asked_for calls.State asked) (writings.Lines (styled form takes_colors))
-task_of takes_colors (commands.Files asked wants) = word_of (listing_of wants) asked
+task_of takes_colors (commands.Files asked wants) =
+    if lists_excluded wants.listing then check_of (excluding_of wants) asked else word_of (listing_of wants) asked
 task_of takes_colors (commands.Changed asked wants standings) =
     if walks wants.listing then both_of wants standings asked else compare_of (changes_of wants standings) asked
 task_of takes_colors (commands.Clean asked wants) = word_of (cleaning_of wants) asked
-task_of takes_colors (commands.Check asked checking) = check_of checking asked
+task_of takes_colors (commands.Check asked checking) = check_of (checking_of checking) asked
 task_of takes_colors (commands.Compare asked comparing) = compare_of (differences_of comparing) asked
 task_of takes_colors (commands.Help topic) = offer_of (help_of topic)
 task_of takes_colors commands.Version = offer_of version
@@ -172,8 +173,8 @@ found_at place directory asked t owned = here_in t owned place.current place.var
 abbrev pub word_at : Place → Option (List ℕ) → OwnWord → Asked → Names → Owned → Result Found HereRefusal
 word_at place directory word asked t owned = word_in t owned place.current place.variables directory asked word
 
-abbrev pub answered_at : Place → Option (List ℕ) → CheckAsked → Asked → Names → Owned → Result Reply HereRefusal
-answered_at place directory wants asked t owned = answered_in t owned place.current place.variables directory asked wants place.input
+abbrev pub answered_at : Place → Option (List ℕ) → RuleWord → Asked → Names → Owned → Result Reply HereRefusal
+answered_at place directory word asked t owned = ruled_in t owned place.current place.variables directory asked place.input word
 
 -- what a task is answered with; what is told by stats too is answered beside these
 abbrev pub AnswersTask : {W I O : Type 0} → WorktreeOf W → InterruptOf I → OwnersOf O → W → W → I → I → O → O → Place → Option (List ℕ) → Result Reply HereRefusal → Task → Type 0

@@ -24,6 +24,8 @@ pub mod Changing
 pub mod StatWords
 pub mod Checks
 pub mod Checking
+pub mod Excluding
+pub mod RuleWords
 pub mod Both
 pub mod Answers
 pub mod BothAnswers

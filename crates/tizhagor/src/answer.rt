@@ -23,6 +23,7 @@ use crate::check::check_here;
 use crate::clean::clean_here;
 use crate::compare::compare_here;
 use crate::ending::finish_here;
+use crate::excluding::excluded_here;
 use crate::fault::NamesFault;
 use crate::files::files_here;
 use crate::found::asked_for;
@@ -35,7 +36,7 @@ use diff_files::Stats;
 use git_places::Variable;
 use git_setup::Asked;
 use gitbase_core::Bytes;
-use ls_files::walks;
+use ls_files::{lists_excluded, walks};
 use std::alloc::Global;
 use worktree_fs::{Interrupt, Owners, Sink};
 use worktree_report::CountsFaults;
@@ -163,9 +164,18 @@ fn reply_of<W: CountsFaults, O: Owners, D: Stats, I: Interrupt>(
                 writing,
             )
         }
-        Command::Files { asked, files } => files_here(
-            alloc, worktree, owners, interrupt, current, variables, directory, &files, &asked,
-        ),
+        Command::Files { asked, files } => {
+            if lists_excluded(&files.listing) {
+                excluded_here(
+                    alloc, worktree, owners, current, variables, directory, &files, &asked,
+                )
+            } else {
+                files_here(
+                    alloc, worktree, owners, interrupt, current, variables, directory, &files,
+                    &asked,
+                )
+            }
+        }
         Command::Changed {
             asked,
             files,

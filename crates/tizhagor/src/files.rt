@@ -49,7 +49,7 @@ pub fn listing_said(wants: &FilesAsked) -> Listing
 
 /// The work tree around a directory and its setup, with the rules of the files that are named.
 #[tactic(auto, unfolding(crate::specs::Listings::ruled_around))]
-fn ruled_around<W: Worktree, O: Owners>(
+pub fn ruled_around<W: Worktree, O: Owners>(
     alloc: Global,
     worktree: &mut W,
     owners: &mut O,
@@ -117,7 +117,7 @@ pub fn listing_with(listing: &Listing, quote_path: bool) -> Listing
 }
 
 /// A setup with the options that a listing needs, and with these rules before all others.
-fn setup_with(listing: &Listing, rules: Bytes, setup: Setup) -> Setup
+pub fn setup_with(listing: &Listing, rules: Bytes, setup: Setup) -> Setup
     ensures { result ≡ words.setup_with listing.now rules setup }
 {
     let mut setup = setup;

@@ -13,6 +13,7 @@ mod directory;
 mod ending;
 mod environment;
 mod exclude_files;
+mod excluding;
 mod fault;
 mod files;
 mod found;

@@ -109,6 +109,26 @@ ls-files -iom^/w^^^128^^fatal: ls-files --ignored needs some exclude pattern~|\
 ls-files -ikm -x b^/w^^^128^^fatal: ls-files -i must be used with either -o or -c~|\
 ls-files -ikcm -x b^/w^^^128^^fatal: ls-files -i is not supported for what the index has~|\
 ls-files -iom -x b^/w^^^128^^fatal: ls-files -i is not supported for what the index has~|\
+ls-files -ci --exclude-standard^/w^^^0^^|\
+ls-files -ci --exclude-standard^/w^^/w/.gitignore=a~^0^a~^|\
+ls-files -ci --exclude-standard ..^/w/d^^/w/.gitignore=a~^0^../a~^|\
+ls-files -cix a^/w^^^0^a~^|\
+ls-files -ci^/w^^^128^^fatal: ls-files --ignored needs some exclude pattern~|\
+ls-files -cit -X q --exclude-standard^/w^^/w/q=!a~;/w/.git/info/exclude=a~^0^H a~^|\
+ls-files -cit --exclude-standard -X q^/w^^/w/q=!a~;/w/.git/info/exclude=a~^0^^|\
+ls-files -ci --exclude-standard^/w^^/w/.git/info/exclude=*~^0^a~^|\
+ls-files -cix * -x !a^/w^^^0^^|\
+ls-files -cix m/^/w^^/w/.git/index=DIRC\0\0\0\x02\0\0\0\x01\0\0\0\0\0\0\0\0\0\0\0\0\0\0\0\0\0\0\0\0\0\0\0\0\0\0\xe0\0\
+\0\0\0\0\0\0\0\0\0\0\0\0\x58\x7b\xe6\xb4\xc3\xf9\x3f\x93\xc4\x89\xc0\x11\x1b\xba\x55\x96\x14\x7a\x26\xcb\0\x01m\0\
+\0\0\0\0\0\0\0\0\0\0\0\0\0\0\0\0\0\0\0\0^0^^|\
+ls-files -cix m/^/w^^/w/.git/index=DIRC\0\0\0\x02\0\0\0\x01\0\0\0\0\0\0\0\0\0\0\0\0\0\0\0\0\0\0\0\0\0\0\0\0\0\0\xe0\0\
+\0\0\0\0\0\0\0\0\0\0\0\0\x58\x7b\xe6\xb4\xc3\xf9\x3f\x93\xc4\x89\xc0\x11\x1b\xba\x55\x96\x14\x7a\x26\xcb\0\x01m\0\
+\0\0\0\0\0\0\0\0\0\0\0\0\0\0\0\0\0\0\0\0;/w/m^0^m~^|\
+ls-files -cix a/^/w^^/w/a/x=^0^a~^|\
+ls-files -ci --error-unmatch -x b a^/w^^^1^^error: pathspec 'a' did not match any file(s) known to git~Did you forget to 'git add'?~|\
+ls-files -ci --exclude-per-directory=.gitignore^/w^^/w/.gitignore=b~;/w/.git/index=DIRC\0\0\0\x02\0\0\0\x01\0\0\0\0\0\0\0\0\0\0\0\0\0\0\0\0\0\0\0\0\0\0\0\0\0\0\x81\xa4\
+\0\0\0\0\0\0\0\0\0\0\0\0\x58\x7b\xe6\xb4\xc3\xf9\x3f\x93\xc4\x89\xc0\x11\x1b\xba\x55\x96\x14\x7a\x26\xcb\0\x03b/x\
+\0\0\0\0\0\0\0\0\0\0\0\0\0\0\0\0\0\0\0\0\0\0\0\0\0\0\0^0^b/x~^|\
 ls-files -om --error-unmatch a^/w^^^128^^fatal: ls-files --error-unmatch is not supported with -d or -m beside -o or -k~|\
 -C d diff-files --name-status -q -- ..^/w^^^0^D\ta~^|\
 diff-files^/w^^%/w/a=f\x05\x02^0^:100644 100644 587be6b4c3f93f93c489c0111bba5596147a26cb 0000000000000000000000000000000000000000 M\ta~^|\
