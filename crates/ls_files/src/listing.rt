@@ -15,7 +15,8 @@ pub struct Listing {
     pub others: bool,
     /// `-k`: what lies in the way of the index.
     pub killed: bool,
-    /// `-i`: of what the index does not have only what an ignore rule excludes.
+    /// `-i`: of what the index does not have, or with `-c` of what it has, only what an ignore rule
+    /// excludes.
     pub ignored: bool,
     /// `--directory`: a directory of which the index has nothing in the place of what it holds.
     pub directories: bool,
