@@ -7,6 +7,7 @@ use Rattle.clean_plan.specs.declared.what.OtherNodes.{OtherNodes}
 use Rattle.clean_plan.specs.declared.what.TakenOut.{TakenOut}
 use Rattle.clean_plan.specs.declared.what.What.{What}
 
+-- what is asked of a plan
 pub record Asked : Type 0 where
   -- which paths may go
   pub what : What

@@ -21,6 +21,7 @@ abbrev pub holds_current : Option (List ℕ) → List ℕ → Bool
 holds_current None path = false
 holds_current (Some current) path = is_path_prefix path current
 
+-- there are entries
 abbrev pub are_some : List IndexEntry → Bool
 are_some [] = false
 are_some (e ∷ entries) = true
@@ -35,6 +36,7 @@ is_indexed true index path = is_some (entry_at_icase path index) || is_some (ent
 abbrev pub is_kept : Asked → List ℕ → Bool
 is_kept asked path = is_top path || (has_dot_git path || (holds_current asked.current path || is_indexed asked.fold asked.index path))
 
+-- a match that takes the path out
 abbrev pub is_excluding : Option Match → Bool
 is_excluding None = false
 is_excluding (Some found) = found.excluded

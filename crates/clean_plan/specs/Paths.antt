@@ -10,6 +10,7 @@ pub use Rattle.gitbase_core.specs.Among.{is_among}
 abbrev pub text_of : Bor (List ℕ) → List ℕ
 text_of text = text.now
 
+-- the bytes of paths
 abbrev pub texts_of : List (Bor (List ℕ)) → List (List ℕ)
 texts_of texts = map text_of texts
 

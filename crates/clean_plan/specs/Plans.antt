@@ -9,6 +9,7 @@ use Rattle.clean_plan.specs.Removable.{is_removable}
 use Rattle.clean_plan.specs.Staying.{is_staying}
 use Rattle.clean_plan.specs.Whole.{is_whole}
 
+-- the entry that a line of a report is about
 abbrev pub entry_of : ReportEntry → Entry
 entry_of e = e.entry
 
@@ -16,6 +17,7 @@ entry_of e = e.entry
 abbrev pub entries_of : List ReportEntry → List Entry
 entries_of entries = map entry_of entries
 
+-- the path of an entry
 abbrev pub path_of : Entry → List ℕ
 path_of e = e.rela_path
 

@@ -8,10 +8,12 @@ use Rattle.worktree_report.specs.declared.setup.SetupOptions.{SetupOptions}
 use Rattle.clean_plan.specs.declared.what.Finding.{Finding}
 use Rattle.clean_plan.specs.declared.what.Finding.TheVariants.{NonBare, All}
 
+-- how the walk looks for repositories in ignored directories
 abbrev pub deletion_of : Finding → ForDeletionMode
 deletion_of NonBare = FindNonBareRepositoriesInIgnoredDirectories
 deletion_of All = FindRepositoriesInIgnoredDirectories
 
+-- bare repositories are looked for too
 abbrev pub finds_bare : Finding → Bool
 finds_bare NonBare = false
 finds_bare All = true
@@ -46,10 +48,12 @@ abbrev pub is_bare_if : Finding → Bool → Bool
 is_bare_if NonBare bare = not bare
 is_bare_if All bare = bare
 
+-- paths are reported one by one
 abbrev pub is_matching : EmissionMode → Bool
 is_matching Matching = true
 is_matching CollapseDirectory = false
 
+-- the same, where paths are reported at all
 abbrev pub is_matching_if : Option EmissionMode → Bool
 is_matching_if None = false
 is_matching_if (Some mode) = is_matching mode

@@ -13,11 +13,13 @@ use Rattle.clean_plan.specs.Asked.{Asked}
 use Rattle.clean_plan.specs.Closed.{is_closed}
 use Rattle.clean_plan.specs.Kept.{is_kept, takes_out}
 
+-- untracked paths may go
 abbrev pub takes_untracked : What → Bool
 takes_untracked what.Untracked = true
 takes_untracked what.UntrackedAndIgnored = true
 takes_untracked what.IgnoredOnly = false
 
+-- ignored paths may go
 abbrev pub takes_ignored : What → Bool
 takes_ignored what.Untracked = false
 takes_ignored what.UntrackedAndIgnored = true

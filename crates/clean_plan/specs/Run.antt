@@ -37,6 +37,7 @@ use Rattle.clean_plan.specs.Words.{Request}
 abbrev pub usage : List ℕ
 usage = codes "usage: clean untracked|all|ignored nonbare|all ROOT SETUP\n"
 
+-- the request of the words
 abbrev pub asked : Bool → List (List ℕ) → Option Request
 asked = words.asked
 

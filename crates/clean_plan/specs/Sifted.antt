@@ -19,6 +19,7 @@ pub record AreSifted (asked : Asked) (entries : List Entry) (paths spoiled : Lis
   pub paths_are : paths ≡ removable_paths asked entries
   pub spoiled_are : AreSpoiled asked entries spoiled
 
+-- the paths that may go, and whether any is spoiled, are those of the entries
 abbrev pub IsSifted : Asked → List Entry → Sifted → Type 0
 IsSifted asked entries sifted = AreSifted asked entries (texts_of sifted.removable.items) sifted.spoiled
 

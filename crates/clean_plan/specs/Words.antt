@@ -28,14 +28,17 @@ finding_of word =
     else if bytes_eq word (codes "all") then Some finding.All
     else None
 
+-- the request in some places, if they are named
 abbrev at : What → Finding → Option Places → Option Request
 at what finding None = None
 at what finding (Some places) = Some (record { what = what; finding = finding; places = places })
 
+-- the request by a word that says how repositories are found
 abbrev finding_at : What → Option Finding → List (List ℕ) → Option Request
 finding_at what None words = None
 finding_at what (Some finding) words = at what finding (places_of words)
 
+-- the request by a word that says what may go
 abbrev what_at : Option What → List ℕ → List (List ℕ) → Option Request
 what_at None word words = None
 what_at (Some what) word words = finding_at what (finding_of word) words

@@ -58,8 +58,8 @@ fn of_clean(alloc: Global, error: CleanError) -> Result<Refusal, OutOfMemory>
 /// The text of the plan for the work tree at `root`, by a setup that [`prepare`](crate::prepare)
 /// made: a line for each path. Blobs that ignore rules are mapped to are those of the setup.
 ///
-/// Where that is wanted, what lies in a directory that the path specs take out stays: they are asked
-/// about each directory above each entry that may go.
+/// Where that is wanted, what lies in a directory that the path specs take out stays: they are
+/// asked about each directory above each entry that may go.
 ///
 /// # Errors
 ///

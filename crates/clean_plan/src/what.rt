@@ -46,8 +46,8 @@ pub struct Wanted {
 }
 
 impl Wanted {
-    /// Each entry of the report may be removed for what is said of it: other nodes too, and what the
-    /// path specs do not take out itself.
+    /// Each entry of the report may be removed for what is said of it: other nodes too, and what
+    /// the path specs do not take out itself.
     pub fn as_reported(what: What) -> Wanted
         ensures { result ≡ as_reported what }
     {

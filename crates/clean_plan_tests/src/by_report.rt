@@ -5,21 +5,35 @@ use bstr::ByteSlice;
 use clean_plan::{Finding, What, plan_by_report};
 use gitbase_core::MemoryStore;
 use std::alloc::Global;
+use test_cases::{held, parted_by};
 use worktree_fs::PlannedInterrupt;
 use worktree_report::{Report, worktree_report};
 
 /// The tree of the report.
-const NODES: &[u8] = b"file`/w/a;file`/w/d/i;file`/w/d/x";
+const NODES: &[u8] = b"\
+  file`/w/a
+  file`/w/d/i
+  file`/w/d/x";
 
 /// The setup of the plan; that of the report has no lines.
 const LINES: &[u8] = b"index 100644 0 - - d/i\n";
 
-/// Rows, parted by `|`: the steps of the tree that is asked for the real path, and what is wanted,
-/// parted by `^`.
+/// Cases, each behind an `@`: the nodes of the tree that is asked for the real path, and the paths
+/// that are wanted or why there is no plan.
 const ROWS: &[u8] = b"\
-file`/w/a^a;d/x|\
-directory`/w^a;d/x|\
-directory`/w;first real path fails^fault";
+@
+nodes:
+  file`/w/a
+wanted: a;d/x
+@
+nodes:
+  directory`/w
+wanted: a;d/x
+@
+nodes:
+  directory`/w
+  first real path fails
+wanted: fault";
 
 /// The report of the tree, in which all files are untracked.
 fn report_of(alloc: Global) -> Option<Report> {
@@ -41,8 +55,10 @@ fn report_of(alloc: Global) -> Option<Report> {
 /// Whether the plan by the report is the one that is wanted, and a fault was counted where it is
 /// one and nowhere else.
 fn holds(alloc: Global, report: &Report, row: &[u8]) -> bool {
-    let (steps, want) = row.split_once_str(b"^").unwrap_or((row, b""));
-    let Some(mut tree) = tree_of(alloc, steps, false) else {
+    let (_, rest) = parted_by(row, b"nodes:");
+    let (nodes, want) = parted_by(rest, b"\nwanted:");
+    let want = held(want);
+    let Some(mut tree) = tree_of(alloc, held(nodes), false) else {
         return false;
     };
     let Some(setup) = setup_of(alloc, LINES, Finding::NonBare) else {
@@ -59,7 +75,7 @@ fn first_lie(alloc: Global) -> Option<&'static [u8]> {
     let Some(report) = report_of(alloc) else {
         return Some(NODES);
     };
-    for row in ROWS.split(|byte| *byte == b'|') {
+    for row in ROWS.split_str(b"\n@\n") {
         if !holds(alloc, &report, row) {
             return Some(row);
         }

@@ -1,24 +1,105 @@
 //! Pipes, sockets and devices: what becomes of them in a plan.
-use crate::plans::setup_of;
+use crate::plans::setup_in;
 use crate::tree::tree_of;
 use bstr::ByteSlice;
 use clean_plan::{Finding, Wanted, What, is_prepared, text_of_plan};
 use std::alloc::Global;
+use test_cases::{held, parted_by, text_of};
 use worktree_fs::{MemoryWorktree, PlannedInterrupt};
 use worktree_report::Setup;
 
-/// Cases, parted by `|`: nodes, the lines of a setup, the text where other nodes may go, and the one
-/// where they stay, parted by `^`.
+/// Cases, each behind an `@`: the nodes, the lines of a setup, those of the plan where other nodes may
+/// go, as reported, and of the one where they stay, as git sees them.
 const ROWS: &[u8] = b"\
-other`/w/p;file`/w/a^^a\np\n^a\n|\
-other`/w/p^^p\n^|\
-other`/w/d/p;file`/w/d/a^^d\n^d\n|\
-other`/w/d/p^^d\n^d\n|\
-other`/w/d/p;file`/w/d/a;file`/w/d/b^index 100644 0 - - d/b\n^d/a\nd/p\n^d/a\n|\
-other`/w/d/p;other`/w/d/q;file`/w/d/b^index 100644 0 - - d/b\n^d/p\nd/q\n^|\
-other`/w/d/p;other`/w/d/e/q;file`/w/d/b^index 100644 0 - - d/b\n^d/e\nd/p\n^d/e\n|\
-other`/w/p;file`/w/p1;link`/w/l`p^^l\np\np1\n^l\np1\n|\
-other`/w/p^index 100644 0 - - p\n^^";
+@
+nodes:
+  other`/w/p
+  file`/w/a
+setup:
+reported:
+  a
+  p
+seen:
+  a
+@
+nodes:
+  other`/w/p
+setup:
+reported:
+  p
+seen:
+@
+nodes:
+  other`/w/d/p
+  file`/w/d/a
+setup:
+reported:
+  d
+seen:
+  d
+@
+nodes:
+  other`/w/d/p
+setup:
+reported:
+  d
+seen:
+  d
+@
+nodes:
+  other`/w/d/p
+  file`/w/d/a
+  file`/w/d/b
+setup:
+  index 100644 0 - - d/b
+reported:
+  d/a
+  d/p
+seen:
+  d/a
+@
+nodes:
+  other`/w/d/p
+  other`/w/d/q
+  file`/w/d/b
+setup:
+  index 100644 0 - - d/b
+reported:
+  d/p
+  d/q
+seen:
+@
+nodes:
+  other`/w/d/p
+  other`/w/d/e/q
+  file`/w/d/b
+setup:
+  index 100644 0 - - d/b
+reported:
+  d/e
+  d/p
+seen:
+  d/e
+@
+nodes:
+  other`/w/p
+  file`/w/p1
+  link`/w/l`p
+setup:
+reported:
+  l
+  p
+  p1
+seen:
+  l
+  p1
+@
+nodes:
+  other`/w/p
+setup:
+  index 100644 0 - - p
+reported:
+seen:";
 
 fn text_is(
     alloc: Global,
@@ -31,32 +112,36 @@ fn text_is(
     if !is_prepared(&setup.options, finding) {
         return false;
     }
+    let Some(lines) = text_of(alloc, want) else {
+        return false;
+    };
     let mut interrupt = PlannedInterrupt::never();
     match text_of_plan(alloc, tree, &mut interrupt, b"/w", setup, wanted, finding) {
-        Ok(text) => text.as_bytes() == want,
+        Ok(text) => text.as_bytes() == lines.as_slice(),
         Err(_) => false,
     }
 }
 
 fn holds(alloc: Global, row: &[u8], reversed: bool) -> bool {
-    let (nodes, rest) = row.split_once_str(b"^").unwrap_or((row, b""));
-    let (lines, rest) = rest.split_once_str(b"^").unwrap_or((rest, b""));
-    let (going, staying) = rest.split_once_str(b"^").unwrap_or((rest, b""));
-    let Some(mut tree) = tree_of(alloc, nodes, reversed) else {
+    let (_, rest) = parted_by(row, b"nodes:");
+    let (nodes, rest) = parted_by(rest, b"\nsetup:");
+    let (setup, rest) = parted_by(rest, b"\nreported:");
+    let (reported, seen) = parted_by(rest, b"\nseen:");
+    let Some(mut tree) = tree_of(alloc, held(nodes), reversed) else {
         return false;
     };
-    let Some(setup) = setup_of(alloc, lines, Finding::NonBare) else {
+    let Some(setup) = setup_in(alloc, setup, Finding::NonBare) else {
         return false;
     };
     let with = Wanted::as_reported(What::UntrackedAndIgnored);
     let without = Wanted::as_git_sees(What::UntrackedAndIgnored);
-    text_is(alloc, &mut tree, &setup, with, going)
-        && text_is(alloc, &mut tree, &setup, without, staying)
+    text_is(alloc, &mut tree, &setup, with, reported)
+        && text_is(alloc, &mut tree, &setup, without, seen)
 }
 
 /// The first row that does not hold, with names listed in either order.
 fn first_lie(alloc: Global) -> Option<&'static [u8]> {
-    for row in ROWS.split(|byte| *byte == b'|') {
+    for row in ROWS.split_str(b"\n@\n") {
         if !holds(alloc, row, false) || !holds(alloc, row, true) {
             return Some(row);
         }

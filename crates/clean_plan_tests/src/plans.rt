@@ -4,44 +4,216 @@ use bstr::ByteSlice;
 use clean_plan::{CleanError, Finding, Plan, What, is_prepared, plan, prepare};
 use gitbase_core::MemoryStore;
 use std::alloc::Global;
+use test_cases::{held, parted_by, text_of};
 use worktree_fs::{MemoryWorktree, PlannedInterrupt};
 use worktree_report::Setup;
 
-/// Cases, parted by `|`: nodes, the lines of a setup, what is asked for, and the paths that are
-/// wanted, parted by `^`.
+/// Cases, each behind an `@`: the nodes, the lines of a setup, what is asked for, and the paths that
+/// are wanted or why there is no plan.
 const ROWS: &[u8] = b"\
-file`/w/.git/HEAD`ref: refs/heads/main\n;directory`/w/.git/objects;directory`/w/.git/refs;file`/w/.gitignore`target/\n;\
-file`/w/.gitmodules;file`/w/src/main.c;file`/w/lib/.git`gitdir: ../.git/modules/lib;\
-file`/w/.git/modules/lib/HEAD`ref: refs/heads/main\n;directory`/w/.git/modules/lib/objects;\
-directory`/w/.git/modules/lib/refs;file`/w/target/x.o;file`/w/notes/a;file`/w/notes/b\
-^index 100644 0 - - .gitignore\nindex 100644 0 - - .gitmodules\nindex 160000 0 - - lib\nindex 100644 0 - - src/main.c\n\
-^all nonbare^notes;target|\
-file`/w/.git/HEAD`ref: refs/heads/main\n;directory`/w/.git/objects;directory`/w/.git/refs;file`/w/.gitignore`target/\n;\
-file`/w/.gitmodules;file`/w/src/main.c;file`/w/lib/.git`gitdir: ../.git/modules/lib;\
-file`/w/.git/modules/lib/HEAD`ref: refs/heads/main\n;directory`/w/.git/modules/lib/objects;\
-directory`/w/.git/modules/lib/refs;file`/w/target/x.o;file`/w/notes/a;file`/w/notes/b\
-^index 100644 0 - - .gitignore\nindex 100644 0 - - .gitmodules\nindex 160000 0 - - lib\nindex 100644 0 - - src/main.c\n\
-^untracked nonbare^notes|\
-file`/w/d/key;file`/w/d/x^global $key\noption precious yes\n^all nonbare^d/x|\
-file`/w/d/x^global $key\noption precious yes\ncurrent_dir /w/d\n^all nonbare^d/x|\
-file`/w/d/a1;file`/w/d/b^spec d/a*\n^all nonbare^d/a1|\
-file`/w/a^^all nonbare^a|\
-file`/w/a-b;file`/w/a/x;file`/w/a/y/z^^all nonbare^a;a-b|\
-directory`/w/a/b/c;file`/w/a/d^^all nonbare^a|\
-file`/w/a/x;file`/w/a/b.o^global *.o\n^ignored nonbare^a/b.o|\
-file`/w/a/x.o;file`/w/a/y.o^global *.o\n^ignored nonbare^a|\
-file`/w/a/x.o;file`/w/a/y.o^global *.o\n^untracked nonbare^|\
-file`/w/a/x.o;file`/w/a/y^global *.o\n^untracked nonbare^a/y|\
-file`/w/a/x^index 100644 0 - - a/y\n^all nonbare^a/x|\
-file`/w/a/x^option ignore_case yes\nindex 100644 0 - - A/y\n^all nonbare^a/x|\
-file`/w/a/b/x;file`/w/a/y^spec :(exclude)a/b\n^all nonbare^a/y|\
-file`/w/a/b/x;file`/w/a/y^root a/b\n^all nonbare^a/b|\
-file`/w/r/.git/HEAD`ref: refs/heads/main\n;directory`/w/r/.git/objects;directory`/w/r/.git/refs;file`/w/s^^all nonbare^s|\
-file`/w/d/r/.git/HEAD`ref: refs/heads/main\n;directory`/w/d/r/.git/objects;directory`/w/d/r/.git/refs;file`/w/d/s^^all nonbare^d/s|\
-file`/w/d/r/HEAD`ref: refs/heads/main\n;directory`/w/d/r/objects;directory`/w/d/r/refs;file`/w/d/s^^all nonbare^d|\
-file`/w/d/r/HEAD`ref: refs/heads/main\n;directory`/w/d/r/objects;directory`/w/d/r/refs;file`/w/d/s^^all all^d/s|\
-file`/w/a;last real path fails^^all nonbare^fault|\
-file`/w^^all nonbare^report";
+@
+nodes:
+  file`/w/.git/HEAD`ref: refs/heads/main\n
+  directory`/w/.git/objects
+  directory`/w/.git/refs
+  file`/w/.gitignore`target/\n
+  file`/w/.gitmodules
+  file`/w/src/main.c
+  file`/w/lib/.git`gitdir: ../.git/modules/lib
+  file`/w/.git/modules/lib/HEAD`ref: refs/heads/main\n
+  directory`/w/.git/modules/lib/objects
+  directory`/w/.git/modules/lib/refs
+  file`/w/target/x.o
+  file`/w/notes/a
+  file`/w/notes/b
+setup:
+  index 100644 0 - - .gitignore
+  index 100644 0 - - .gitmodules
+  index 160000 0 - - lib
+  index 100644 0 - - src/main.c
+asked: all nonbare
+wanted: notes;target
+@
+nodes:
+  file`/w/.git/HEAD`ref: refs/heads/main\n
+  directory`/w/.git/objects
+  directory`/w/.git/refs
+  file`/w/.gitignore`target/\n
+  file`/w/.gitmodules
+  file`/w/src/main.c
+  file`/w/lib/.git`gitdir: ../.git/modules/lib
+  file`/w/.git/modules/lib/HEAD`ref: refs/heads/main\n
+  directory`/w/.git/modules/lib/objects
+  directory`/w/.git/modules/lib/refs
+  file`/w/target/x.o
+  file`/w/notes/a
+  file`/w/notes/b
+setup:
+  index 100644 0 - - .gitignore
+  index 100644 0 - - .gitmodules
+  index 160000 0 - - lib
+  index 100644 0 - - src/main.c
+asked: untracked nonbare
+wanted: notes
+@
+nodes:
+  file`/w/d/key
+  file`/w/d/x
+setup:
+  global $key
+  option precious yes
+asked: all nonbare
+wanted: d/x
+@
+nodes:
+  file`/w/d/x
+setup:
+  global $key
+  option precious yes
+  current_dir /w/d
+asked: all nonbare
+wanted: d/x
+@
+nodes:
+  file`/w/d/a1
+  file`/w/d/b
+setup:
+  spec d/a*
+asked: all nonbare
+wanted: d/a1
+@
+nodes:
+  file`/w/a
+setup:
+asked: all nonbare
+wanted: a
+@
+nodes:
+  file`/w/a-b
+  file`/w/a/x
+  file`/w/a/y/z
+setup:
+asked: all nonbare
+wanted: a;a-b
+@
+nodes:
+  directory`/w/a/b/c
+  file`/w/a/d
+setup:
+asked: all nonbare
+wanted: a
+@
+nodes:
+  file`/w/a/x
+  file`/w/a/b.o
+setup:
+  global *.o
+asked: ignored nonbare
+wanted: a/b.o
+@
+nodes:
+  file`/w/a/x.o
+  file`/w/a/y.o
+setup:
+  global *.o
+asked: ignored nonbare
+wanted: a
+@
+nodes:
+  file`/w/a/x.o
+  file`/w/a/y.o
+setup:
+  global *.o
+asked: untracked nonbare
+wanted:
+@
+nodes:
+  file`/w/a/x.o
+  file`/w/a/y
+setup:
+  global *.o
+asked: untracked nonbare
+wanted: a/y
+@
+nodes:
+  file`/w/a/x
+setup:
+  index 100644 0 - - a/y
+asked: all nonbare
+wanted: a/x
+@
+nodes:
+  file`/w/a/x
+setup:
+  option ignore_case yes
+  index 100644 0 - - A/y
+asked: all nonbare
+wanted: a/x
+@
+nodes:
+  file`/w/a/b/x
+  file`/w/a/y
+setup:
+  spec :(exclude)a/b
+asked: all nonbare
+wanted: a/y
+@
+nodes:
+  file`/w/a/b/x
+  file`/w/a/y
+setup:
+  root a/b
+asked: all nonbare
+wanted: a/b
+@
+nodes:
+  file`/w/r/.git/HEAD`ref: refs/heads/main\n
+  directory`/w/r/.git/objects
+  directory`/w/r/.git/refs
+  file`/w/s
+setup:
+asked: all nonbare
+wanted: s
+@
+nodes:
+  file`/w/d/r/.git/HEAD`ref: refs/heads/main\n
+  directory`/w/d/r/.git/objects
+  directory`/w/d/r/.git/refs
+  file`/w/d/s
+setup:
+asked: all nonbare
+wanted: d/s
+@
+nodes:
+  file`/w/d/r/HEAD`ref: refs/heads/main\n
+  directory`/w/d/r/objects
+  directory`/w/d/r/refs
+  file`/w/d/s
+setup:
+asked: all nonbare
+wanted: d
+@
+nodes:
+  file`/w/d/r/HEAD`ref: refs/heads/main\n
+  directory`/w/d/r/objects
+  directory`/w/d/r/refs
+  file`/w/d/s
+setup:
+asked: all all
+wanted: d/s
+@
+nodes:
+  file`/w/a
+  last real path fails
+setup:
+asked: all nonbare
+wanted: fault
+@
+nodes:
+  file`/w
+setup:
+asked: all nonbare
+wanted: report";
 
 fn asked(words: &[u8]) -> (What, Finding) {
     let (what, finding) = words.split_once_str(b" ").unwrap_or((words, b""));
@@ -87,6 +259,12 @@ pub fn setup_of(alloc: Global, lines: &[u8], finding: Finding) -> Option<Setup> 
     Some(setup)
 }
 
+/// The prepared setup whose lines are the steps of a field.
+pub fn setup_in(alloc: Global, field: &[u8], finding: Finding) -> Option<Setup> {
+    let lines = text_of(alloc, field)?;
+    setup_of(alloc, &lines, finding)
+}
+
 /// Whether the plan by a prepared setup is the one that is wanted.
 fn is_answered(
     alloc: Global,
@@ -115,22 +293,23 @@ fn is_answered(
 }
 
 fn holds(alloc: Global, row: &[u8], reversed: bool) -> bool {
-    let (nodes, rest) = row.split_once_str(b"^").unwrap_or((row, b""));
-    let (lines, rest) = rest.split_once_str(b"^").unwrap_or((rest, b""));
-    let (words, want) = rest.split_once_str(b"^").unwrap_or((rest, b""));
-    let (what, finding) = asked(words);
-    let Some(mut tree) = tree_of(alloc, nodes, reversed) else {
+    let (_, rest) = parted_by(row, b"nodes:");
+    let (nodes, rest) = parted_by(rest, b"\nsetup:");
+    let (setup, rest) = parted_by(rest, b"\nasked:");
+    let (words, want) = parted_by(rest, b"\nwanted:");
+    let (what, finding) = asked(held(words));
+    let Some(mut tree) = tree_of(alloc, held(nodes), reversed) else {
         return false;
     };
-    let Some(setup) = setup_of(alloc, lines, finding) else {
+    let Some(setup) = setup_in(alloc, setup, finding) else {
         return false;
     };
-    is_answered(alloc, &mut tree, &setup, what, finding, want)
+    is_answered(alloc, &mut tree, &setup, what, finding, held(want))
 }
 
 /// The first row that does not hold, with names listed in either order.
 fn first_lie(alloc: Global) -> Option<&'static [u8]> {
-    for row in ROWS.split(|byte| *byte == b'|') {
+    for row in ROWS.split_str(b"\n@\n") {
         if !holds(alloc, row, false) || !holds(alloc, row, true) {
             return Some(row);
         }

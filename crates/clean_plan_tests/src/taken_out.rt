@@ -1,42 +1,155 @@
 //! Directories that path specs take out: what becomes of what lies in them.
-use crate::plans::setup_of;
+use crate::plans::setup_in;
 use crate::tree::tree_of;
 use bstr::ByteSlice;
 use clean_plan::{Finding, Wanted, What, is_prepared, text_of_plan};
 use gitbase_core::{Bytes, is_path_prefix};
 use std::alloc::Global;
+use test_cases::{held, parted_by};
 use worktree_fs::PlannedInterrupt;
 use worktree_report::Setup;
 
 /// The tree of each row.
 const NODES: &[u8] = b"\
-file`/w/a;file`/w/ab/v;file`/w/abc/v;directory`/w/ad;file`/w/b/t;file`/w/b/u/w;file`/w/b1/x;file`/w/b1/y;\
-file`/w/b2/c/z;file`/w/d/b1/x;file`/w/d/k";
+  file`/w/a
+  file`/w/ab/v
+  file`/w/abc/v
+  directory`/w/ad
+  file`/w/b/t
+  file`/w/b/u/w
+  file`/w/b1/x
+  file`/w/b1/y
+  file`/w/b2/c/z
+  file`/w/d/b1/x
+  file`/w/d/k";
 
-/// Rows, one a line: the lines of a setup, parted by `;`; the plan of all that the report has; the
-/// plan where what git does not look at stays; and what `git clean -ndx` of 2.39.5 names with these
-/// specs. Fields are parted by `^`, paths by `;`. Git looks into what the third field leaves and
-/// the fourth has: docs/DIFFERENCES.md#plan-spec-entered.
+/// Cases, each behind an `@`: the lines of a setup; the plan of all that is reported; the plan of
+/// what git sees, where what it does not look at stays; and what `git clean -ndx` of 2.39.5 names
+/// with these specs. Paths are parted by `;`. Git looks into what is not seen, and yet named:
+/// docs/DIFFERENCES.md#plan-spec-entered.
 const ROWS: &[u8] = b"\
-spec :!b*/^a;ab;abc;ad;b/t;b/u/w;b1/x;b1/y;b2/c/z;d^a;ab;abc;ad;d^a;ab;abc;ad;d
-spec :!ab?^a;ab;abc/v;ad;b;b1;b2;d^a;ad;b;b1;b2;d^a;abc;ad;b;b1;b2;d
-spec :(exclude,glob)b/**/^a;ab;abc;ad;b/t;b/u/w;b1;b2;d^a;ab;abc;ad;b1;b2;d^a;ab;abc;ad;b1;b2;d
-spec :!b[1]^a;ab;abc;ad;b;b1/x;b1/y;b2;d^a;ab;abc;ad;b;b2;d^a;ab;abc;ad;b;b1;b2;d
-spec :!b1^a;ab;abc;ad;b;b2;d^a;ab;abc;ad;b;b2;d^a;ab;abc;ad;b;b2;d
-spec :!b1/^a;ab;abc;ad;b;b2;d^a;ab;abc;ad;b;b2;d^a;ab;abc;ad;b;b2;d
-spec :!ad?^a;ab;abc;ad;b;b1;b2;d^a;ab;abc;b;b1;b2;d^a;ab;abc;b;b1;b2;d
-spec :!ab?/^a;ab;abc/v;ad;b;b1;b2;d^a;ad;b;b1;b2;d^a;ab;ad;b;b1;b2;d
-spec :!b?/.^a;ab;abc;ad;b;b1/x;b1/y;b2/c;d^a;ab;abc;ad;d^a;ab;abc;ad;b;d
-spec :!d/b*/^a;ab;abc;ad;b;b1;b2;d/b1/x;d/k^a;ab;abc;ad;b;b1;b2;d/k^a;ab;abc;ad;b;b1;b2;d
-spec :!?^ab;abc;ad;b/t;b/u;b1;b2;d/b1;d/k^ab;abc;ad;b1;b2^ab;abc;ad;b;b1;b2;d
-spec :(exclude,glob)*^ab/v;abc/v;b/t;b/u;b1/x;b1/y;b2/c;d/b1;d/k^^ab;abc;ad;b;b1;b2;d
-spec :!b*/;spec :!ab^a;abc;ad;b/t;b/u/w;b1/x;b1/y;b2/c/z;d^a;abc;ad;d^a;abc;ad;d
-spec b1;spec :!b*/^b1/x;b1/y^^
-spec a;spec b1;spec :!b1^a^a^a
-spec ab*;spec :!ab?^ab;abc/v^^abc
-spec b1/x;spec :!b[1]^b1/x^^b1/x
-spec :!b*/;index 100644 0 - - b1/i^a;ab;abc;ad;b/t;b/u/w;b1/x;b1/y;b2/c/z;d^a;ab;abc;ad;d^a;ab;abc;ad;b1/x;b1/y;d
-spec :!b1;index 100644 0 - - b1/i^a;ab;abc;ad;b;b2;d^a;ab;abc;ad;b;b2;d^a;ab;abc;ad;b;b2;d";
+@
+setup:
+  spec :!b*/
+reported: a;ab;abc;ad;b/t;b/u/w;b1/x;b1/y;b2/c/z;d
+seen: a;ab;abc;ad;d
+named: a;ab;abc;ad;d
+@
+setup:
+  spec :!ab?
+reported: a;ab;abc/v;ad;b;b1;b2;d
+seen: a;ad;b;b1;b2;d
+named: a;abc;ad;b;b1;b2;d
+@
+setup:
+  spec :(exclude,glob)b/**/
+reported: a;ab;abc;ad;b/t;b/u/w;b1;b2;d
+seen: a;ab;abc;ad;b1;b2;d
+named: a;ab;abc;ad;b1;b2;d
+@
+setup:
+  spec :!b[1]
+reported: a;ab;abc;ad;b;b1/x;b1/y;b2;d
+seen: a;ab;abc;ad;b;b2;d
+named: a;ab;abc;ad;b;b1;b2;d
+@
+setup:
+  spec :!b1
+reported: a;ab;abc;ad;b;b2;d
+seen: a;ab;abc;ad;b;b2;d
+named: a;ab;abc;ad;b;b2;d
+@
+setup:
+  spec :!b1/
+reported: a;ab;abc;ad;b;b2;d
+seen: a;ab;abc;ad;b;b2;d
+named: a;ab;abc;ad;b;b2;d
+@
+setup:
+  spec :!ad?
+reported: a;ab;abc;ad;b;b1;b2;d
+seen: a;ab;abc;b;b1;b2;d
+named: a;ab;abc;b;b1;b2;d
+@
+setup:
+  spec :!ab?/
+reported: a;ab;abc/v;ad;b;b1;b2;d
+seen: a;ad;b;b1;b2;d
+named: a;ab;ad;b;b1;b2;d
+@
+setup:
+  spec :!b?/.
+reported: a;ab;abc;ad;b;b1/x;b1/y;b2/c;d
+seen: a;ab;abc;ad;d
+named: a;ab;abc;ad;b;d
+@
+setup:
+  spec :!d/b*/
+reported: a;ab;abc;ad;b;b1;b2;d/b1/x;d/k
+seen: a;ab;abc;ad;b;b1;b2;d/k
+named: a;ab;abc;ad;b;b1;b2;d
+@
+setup:
+  spec :!?
+reported: ab;abc;ad;b/t;b/u;b1;b2;d/b1;d/k
+seen: ab;abc;ad;b1;b2
+named: ab;abc;ad;b;b1;b2;d
+@
+setup:
+  spec :(exclude,glob)*
+reported: ab/v;abc/v;b/t;b/u;b1/x;b1/y;b2/c;d/b1;d/k
+seen:
+named: ab;abc;ad;b;b1;b2;d
+@
+setup:
+  spec :!b*/
+  spec :!ab
+reported: a;abc;ad;b/t;b/u/w;b1/x;b1/y;b2/c/z;d
+seen: a;abc;ad;d
+named: a;abc;ad;d
+@
+setup:
+  spec b1
+  spec :!b*/
+reported: b1/x;b1/y
+seen:
+named:
+@
+setup:
+  spec a
+  spec b1
+  spec :!b1
+reported: a
+seen: a
+named: a
+@
+setup:
+  spec ab*
+  spec :!ab?
+reported: ab;abc/v
+seen:
+named: abc
+@
+setup:
+  spec b1/x
+  spec :!b[1]
+reported: b1/x
+seen:
+named: b1/x
+@
+setup:
+  spec :!b*/
+  index 100644 0 - - b1/i
+reported: a;ab;abc;ad;b/t;b/u/w;b1/x;b1/y;b2/c/z;d
+seen: a;ab;abc;ad;d
+named: a;ab;abc;ad;b1/x;b1/y;d
+@
+setup:
+  spec :!b1
+  index 100644 0 - - b1/i
+reported: a;ab;abc;ad;b;b2;d
+seen: a;ab;abc;ad;b;b2;d
+named: a;ab;abc;ad;b;b2;d";
 
 /// The text of the plan that is wanted.
 fn text_of(alloc: Global, setup: &Setup, wanted: Wanted, reversed: bool) -> Option<Bytes> {
@@ -91,33 +204,24 @@ fn are_lines(text: &[u8], paths: &[u8]) -> bool {
     rest.is_empty()
 }
 
-/// The lines of a setup, parted by `;`.
-fn lines_of(alloc: Global, parted: &[u8]) -> Option<Bytes> {
-    let mut lines = Bytes::new(alloc);
-    for line in parted.split(|byte| *byte == b';') {
-        lines.extend(alloc, line).ok()?;
-        lines.extend(alloc, b"\n").ok()?;
-    }
-    Some(lines)
-}
-
 /// Whether both plans are those that are wanted, and git names whatever the second one has.
 fn holds(alloc: Global, row: &[u8], reversed: bool) -> Option<bool> {
-    let (lines, rest) = row.split_once_str(b"^")?;
-    let (reported, rest) = rest.split_once_str(b"^")?;
-    let (seen, named) = rest.split_once_str(b"^")?;
-    let lines = lines_of(alloc, lines)?;
-    let setup = setup_of(alloc, lines.as_bytes(), Finding::NonBare)?;
+    let (_, rest) = parted_by(row, b"setup:");
+    let (setup, rest) = parted_by(rest, b"\nreported:");
+    let (reported, rest) = parted_by(rest, b"\nseen:");
+    let (seen, named) = parted_by(rest, b"\nnamed:");
+    let setup = setup_in(alloc, setup, Finding::NonBare)?;
     let what = What::UntrackedAndIgnored;
     let all = text_of(alloc, &setup, Wanted::as_reported(what), reversed)?;
     let text = text_of(alloc, &setup, Wanted::as_git_sees(what), reversed)?;
     let text = text.as_bytes();
+    let (reported, seen, named) = (held(reported), held(seen), held(named));
     Some(are_lines(all.as_bytes(), reported) && are_lines(text, seen) && are_within(text, named))
 }
 
 /// The first row that does not hold, with names listed in either order.
 fn first_lie(alloc: Global) -> Option<&'static [u8]> {
-    for row in ROWS.split(|byte| *byte == b'\n') {
+    for row in ROWS.split_str(b"\n@\n") {
         let told = (holds(alloc, row, false), holds(alloc, row, true));
         if !matches!(told, (Some(true), Some(true))) {
             return Some(row);

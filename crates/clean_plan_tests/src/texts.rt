@@ -1,8 +1,8 @@
 //! The texts of errors.
-use crate::tree::parted;
 use clean_plan::CleanError;
 use std::alloc::Global;
 use std::fmt::Display;
+use test_cases::parted;
 use worktree_report::ReportError;
 
 /// Rows, parted by bars: an error and its text, parted by a backquote.
@@ -21,7 +21,7 @@ fn is_shown<E: Display + Drop>(alloc: Global, error: E, want: &[u8]) -> bool {
 
 /// Whether a row holds.
 fn holds(alloc: Global, row: &[u8]) -> bool {
-    let (error, text) = parted(row);
+    let (error, text) = parted(row, b'`');
     match error {
         b"report" => is_shown(alloc, CleanError::Report(ReportError::ReadFault), text),
         b"fault" => is_shown(alloc, CleanError::Fault, text),

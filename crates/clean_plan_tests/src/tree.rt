@@ -1,35 +1,26 @@
 //! Trees in memory, from a row.
 use bstr::ByteSlice;
 use std::alloc::Global;
-use worktree_fs::{CallKind, MemoryWorktree, NewNode};
-
-/// What stands before the first backquote, and behind it.
-pub fn parted(row: &[u8]) -> (&[u8], &[u8]) {
-    row.split_once_str(b"`").unwrap_or((row, b""))
-}
+use test_cases::{is_put, parted};
+use worktree_fs::{CallKind, MemoryWorktree};
 
 /// Whether a step was taken: a node put at a path, or the real path of the root planned not to be
 /// told.
 fn is_taken(alloc: Global, tree: &mut MemoryWorktree, step: &[u8]) -> bool {
-    let (what, rest) = parted(step);
-    let (path, text) = parted(rest);
-    let node = match what {
-        b"file" => NewNode::File(text),
-        b"link" => NewNode::Link(text),
-        b"directory" => NewNode::Directory,
-        b"other" => NewNode::Other,
-        b"first real path fails" => return tree.fail(alloc, CallKind::RealPath, 1).is_ok(),
-        b"last real path fails" => return tree.fail(alloc, CallKind::RealPath, 2).is_ok(),
-        _ => return false,
-    };
-    tree.add(alloc, path, node).is_ok()
+    let (what, rest) = parted(step, b'`');
+    let (path, text) = parted(rest, b'`');
+    match what {
+        b"first real path fails" => tree.fail(alloc, CallKind::RealPath, 1).is_ok(),
+        b"last real path fails" => tree.fail(alloc, CallKind::RealPath, 2).is_ok(),
+        _ => is_put(alloc, tree, what, path, text),
+    }
 }
 
-/// The tree of some steps, parted by `;`.
+/// The tree of some steps, each on a line of its own.
 pub fn tree_of(alloc: Global, steps: &[u8], reversed: bool) -> Option<MemoryWorktree> {
     let mut tree = MemoryWorktree::new(alloc, false);
     tree.set_reversed(reversed);
-    for step in steps.split(|byte| *byte == b';') {
+    for step in steps.split_str(b"\n  ") {
         if !is_taken(alloc, &mut tree, step) {
             return None;
         }

@@ -6,6 +6,7 @@ use Rattle.command_line.specs.declared.change_words.ChangeWords.{ChangeWords}
 use Rattle.command_line.specs.declared.choice.Choice.{Choice}
 use Rattle.command_line.specs.declared.choice.Choice.TheVariants as choices
 
+-- neither deleted nor modified paths are asked for
 abbrev pub no_changes : ChangeWords
 no_changes = record { deleted = false; modified = false }
 

@@ -2,6 +2,7 @@
 use Rattle.std.specs.Prelude.{ℕ, List, [], ◌∷◌, ◌++◌, codes}
 use Rattle.std.specs.List.{flat_map}
 
+-- the help text of `check-ignore`
 unfoldable pub check : List ℕ
 check =
     flat_map (λ (line : List ℕ). line ++ 10 ∷ [])

@@ -19,6 +19,7 @@ default_writing =
 abbrev pub default_checking : CheckAsked
 default_checking = record { checking = default_writing; leaves_index = false }
 
+-- what is asked, with how the answer is written
 abbrev pub with_writing : Checking → CheckAsked → CheckAsked
 with_writing checking asked = record asked { checking = checking }
 
@@ -40,6 +41,7 @@ check_choice_of name =
     else if bytes_eq name (codes "stdin") then Some choices.Stdin
     else None
 
+-- the option of a choice, made or dropped
 abbrev pub checks : Bool → Option CheckChoice → Option Opt
 checks is_on choice = option_map (λ (c : CheckChoice). opts.Checks c is_on) choice
 
@@ -50,6 +52,7 @@ index_by name =
     else if bytes_eq name (codes "index") || bytes_eq name (codes "no-no-index") then checks false (Some choices.LeavesIndex)
     else None
 
+-- the option that a long name means to `check-ignore`: behind `no-` one that drops a choice
 abbrev pub checking_by : List ℕ → Option Opt
 checking_by name =
     if starts_with nat_eq name (codes "no-") then checks false (check_choice_of (drop 3 name)) else checks true (check_choice_of name)

@@ -45,6 +45,7 @@ is_left_form name =
     || (bytes_eq name (codes "debug")
     || bytes_eq name (codes "sparse"))))))
 
+-- an option of git's `ls-files` that is refused by name: of rules, or of the form
 abbrev pub is_left : List ℕ → Bool
 is_left name = is_left_rule name || is_left_form name
 
@@ -52,12 +53,15 @@ is_left name = is_left_rule name || is_left_form name
 abbrev pub made : Option Choice → Option Opt
 made choice = option_map (λ (c : Choice). opts.Chooses c) choice
 
+-- the option that drops a choice
 abbrev pub dropped : Option Choice → Option Opt
 dropped choice = option_map (λ (c : Choice). opts.Drops c) choice
 
+-- the option of a choice by its name, dropped behind `no-`
 abbrev pub chosen_by : List ℕ → Option Opt
 chosen_by name = if starts_with nat_eq name (codes "no-") then dropped (choice_of (drop 3 name)) else made (choice_of name)
 
+-- the option that a long name means to `ls-files`: one that nothing drops, or a choice
 abbrev pub choosing : List ℕ → Option Opt
 choosing name = first_of (made (firm_choice_of name)) (chosen_by name)
 

@@ -22,9 +22,11 @@ clean_choice_of name =
 abbrev pub cleans : Bool → Option CleanChoice → Option Opt
 cleans is_on choice = option_map (λ (c : CleanChoice). opts.Cleans c is_on) choice
 
+-- the option of a name for `clean`, turned on or off: `force`, or a choice
 abbrev pub cleaning_named : Bool → List ℕ → Option Opt
 cleaning_named is_on name = if bytes_eq name (codes "force") then Some (opts.Forces is_on) else cleans is_on (clean_choice_of name)
 
+-- the option that a long name means to `clean`, off behind `no-`
 abbrev pub cleaning_by : List ℕ → Option Opt
 cleaning_by name = if starts_with nat_eq name (codes "no-") then cleaning_named false (drop 3 name) else cleaning_named true name
 
@@ -63,6 +65,7 @@ cleaning_opt_of_letter letter =
 
 -- ---- patterns
 
+-- a line feed stands among the bytes
 abbrev pub has_feed : List ℕ → Bool
 has_feed bytes = is_some (position (λ b. b == 10) bytes)
 

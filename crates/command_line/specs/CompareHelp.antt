@@ -2,6 +2,7 @@
 use Rattle.std.specs.Prelude.{ℕ, List, [], ◌∷◌, ◌++◌, codes}
 use Rattle.std.specs.List.{flat_map}
 
+-- the help text of `diff-files`
 unfoldable pub compare : List ℕ
 compare =
     flat_map (λ (line : List ℕ). line ++ 10 ∷ [])

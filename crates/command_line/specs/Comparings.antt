@@ -50,9 +50,11 @@ telling_of name =
     else if bytes_eq name (codes "quiet") then Some choices.Quiet
     else None
 
+-- the option of a choice, made or dropped
 abbrev pub compares : Bool → Option CompareChoice → Option Opt
 compares is_on choice = option_map (λ (c : CompareChoice). opts.Compares c is_on) choice
 
+-- the option of a choice by its name, dropped behind `no-`
 abbrev pub telling_by : List ℕ → Option Opt
 telling_by name =
     if starts_with nat_eq name (codes "no-") then compares false (telling_of (drop 3 name)) else compares true (telling_of name)
@@ -110,6 +112,7 @@ is_left_form name =
     || (bytes_eq name (codes "line-prefix")
     || bytes_eq name (codes "output"))))))))))
 
+-- an option of git's `diff-files` that is refused by name: of patches, counts, filters or the form
 abbrev pub is_left : List ℕ → Bool
 is_left name = is_left_patch name || (is_left_count name || (is_left_filter name || is_left_form name))
 
@@ -123,6 +126,7 @@ ignoring_of value =
     else if bytes_eq value (codes "untracked") then Some ignorings.Nothing
     else None
 
+-- the option that a long name means to `diff-files`: a form of the answer, or a choice
 abbrev pub comparing_by : List ℕ → Option Opt
 comparing_by name = first_of (compares true (form_of name)) (telling_by name)
 

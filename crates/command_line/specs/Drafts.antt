@@ -65,6 +65,7 @@ default_options =
       strategy = Held;
     }
 
+-- how an answer is written where no word says it
 abbrev pub default_form : Form
 default_form = record { wording = Words; end = Feed; color = Auto }
 
@@ -168,70 +169,92 @@ swept cleans.IgnoredToo on cleaning = record cleaning { ignored_too = on }
 swept cleans.IgnoredAlone on cleaning = record cleaning { ignored_only = on }
 swept cleans.Quiet on cleaning = record cleaning { quiet = on }
 
+-- the configurations that may be read
 abbrev pub permissions_of : Bool → Permissions
 permissions_of is_isolated = if is_isolated then isolated_permissions else all_permissions
 
 -- ---- a draft with one more thing said; what was said of it before is forgotten
 
+-- the draft with other options of the report
 abbrev pub with_options : SetupOptions → Draft → Draft
 with_options options draft = record draft { options = options }
 
+-- the draft with another form of the answer
 abbrev pub with_form : Form → Draft → Draft
 with_form form draft = record draft { form = form }
 
+-- one of what is reported is turned on or off
 abbrev pub with_switch : Switch → Bool → Draft → Draft
 with_switch switch on draft = with_options (turned switch on draft.options) draft
 
+-- untracked paths are reported in this mode
 abbrev pub with_untracked : EmissionMode → Draft → Draft
 with_untracked mode draft = with_options (record draft.options { emit_untracked = mode }) draft
 
+-- ignored paths are reported in this mode, or not at all
 abbrev pub with_ignored : Option EmissionMode → Draft → Draft
 with_ignored mode draft = with_options (record draft.options { emit_ignored = mode }) draft
 
+-- what a folded directory covers is reported in this mode, or not at all
 abbrev pub with_collapsed : Option CollapsedEntriesEmissionMode → Draft → Draft
 with_collapsed mode draft = with_options (record draft.options { emit_collapsed = mode }) draft
 
+-- the walk looks in this mode for what must not be deleted, or not at all
 abbrev pub with_deletion : Option ForDeletionMode → Draft → Draft
 with_deletion mode draft = with_options (record draft.options { for_deletion = mode }) draft
 
+-- the configurations of an isolated work tree are read, or all
 abbrev pub with_permissions : Bool → Draft → Draft
 with_permissions is_isolated draft = with_options (record draft.options { permissions = permissions_of is_isolated }) draft
 
+-- subtrees are walked by this strategy
 abbrev pub with_strategy : Strategy → Draft → Draft
 with_strategy strategy draft = with_options (record draft.options { strategy = strategy }) draft
 
+-- lines are written in words or in letters
 abbrev pub with_wording : Wording → Draft → Draft
 with_wording wording draft = with_form (record draft.form { wording = wording }) draft
 
+-- lines end so
 abbrev pub with_end : LineEnd → Draft → Draft
 with_end end draft = with_form (record draft.form { end = end }) draft
 
+-- colours are used so
 abbrev pub with_color : Color → Draft → Draft
 with_color color draft = with_form (record draft.form { color = color }) draft
 
+-- these paths may go
 abbrev pub with_what : What → Draft → Draft
 with_what what draft = record draft { what = what }
 
+-- repositories are looked for so
 abbrev pub with_finding : Finding → Draft → Draft
 with_finding finding draft = record draft { finding = finding }
 
+-- so many components may a directory have that is entered
 abbrev pub with_depth : ℕ → Draft → Draft
 with_depth depth draft = record draft { depth = depth }
 
+-- one choice of `ls-files` is made or dropped
 abbrev pub with_choice : Choice → Bool → Draft → Draft
 with_choice choice on draft = record draft { listing = chosen choice on draft.listing; changes = with_change choice on draft.changes }
 
+-- one choice of `clean` is made or dropped
 abbrev pub with_clean_choice : CleanChoice → Bool → Draft → Draft
 with_clean_choice choice on draft = record draft { cleaning = swept choice on draft.cleaning }
 
+-- force is asked for once more, or no more
 abbrev pub with_force : Bool → Draft → Draft
 with_force on draft = record draft { force = forced on draft.force }
 
+-- one choice of `diff-files` is made or dropped
 abbrev pub with_compare_choice : CompareChoice → Bool → Draft → Draft
 with_compare_choice choice on draft = record draft { comparing = told_apart choice on draft.comparing }
 
+-- one choice of `check-ignore` is made or dropped
 abbrev pub with_check_choice : CheckChoice → Bool → Draft → Draft
 with_check_choice choice on draft = record draft { checking = told_of choice on draft.checking }
 
+-- the help text is asked for
 abbrev pub with_help : Draft → Draft
 with_help draft = record draft { is_help = true }

@@ -23,6 +23,7 @@ usage_of (topics.Of verbs.Check) = codes "usage: tizhagor [-C DIR] check-ignore 
 abbrev text : List (List ℕ) → List ℕ
 text lines = flat_map (λ line. line ++ 10 ∷ []) lines
 
+-- the help text where no command is named
 abbrev whole : List ℕ
 whole =
     text
@@ -50,6 +51,7 @@ whole =
     ∷ []
     )
 
+-- the help text of `report`
 unfoldable pub report : List ℕ
 report =
     text
@@ -104,6 +106,7 @@ report =
     ∷ []
     )
 
+-- the help text of `plan`
 unfoldable pub plan : List ℕ
 plan =
     text
@@ -137,6 +140,7 @@ plan =
     ∷ []
     )
 
+-- the help text of `modules`
 abbrev modules : List ℕ
 modules =
     text
@@ -153,6 +157,7 @@ modules =
     ∷ []
     )
 
+-- the help text of `state`
 unfoldable pub state : List ℕ
 state =
     text
@@ -205,6 +210,7 @@ state =
     ∷ []
     )
 
+-- the help text of `ls-files`
 unfoldable pub files : List ℕ
 files =
     text
@@ -246,6 +252,7 @@ files =
     ∷ []
     )
 
+-- the help text of `clean`
 unfoldable pub clean : List ℕ
 clean =
     text
@@ -283,5 +290,6 @@ help_of (topics.Of verbs.Clean) = clean
 help_of (topics.Of verbs.Compare) = compare
 help_of (topics.Of verbs.Check) = check
 
+-- what `--version` prints
 abbrev pub version : List ℕ
 version = codes "tizhagor, unreleased\n"

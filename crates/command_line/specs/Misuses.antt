@@ -55,6 +55,7 @@ word_in other word = escaped word
 abbrev pub said_of : Topic → Wrong → List ℕ → List ℕ
 said_of topic wrong word = front_of wrong ++ word_in wrong word ++ back_of wrong ++ usage_of topic
 
+-- the lines on standard error for words that are wrong
 abbrev pub said : Misuse → List ℕ
 said (refused.Word topic wrong word) = said_of topic wrong word
 said refused.OutOfMemory = codes "fatal: out of memory\n"

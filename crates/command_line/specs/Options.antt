@@ -108,6 +108,7 @@ is_of_report opts.IgnoredAlone = false
 is_of_report opts.NonBare = false
 is_of_report other = true
 
+-- an option of `plan`
 abbrev pub takes_for_plan : Opt → Bool
 takes_for_plan (opts.With switch) = is_of_plan switch
 takes_for_plan (opts.Without switch) = is_of_plan switch
@@ -120,11 +121,13 @@ takes_for_plan opts.Nul = true
 takes_for_plan opts.Help = true
 takes_for_plan other = false
 
+-- an option of `modules`
 abbrev pub is_of_modules : Opt → Bool
 is_of_modules opts.Permissions = true
 is_of_modules opts.Help = true
 is_of_modules other = false
 
+-- the option that asks for git's letters
 abbrev pub is_letters : Opt → Bool
 is_letters opts.Plain = true
 is_letters other = false
@@ -142,18 +145,21 @@ takes Check opt = true
 
 -- ---- values
 
+-- the mode that a value names, in which paths are reported
 abbrev pub emission_of : List ℕ → Option EmissionMode
 emission_of value =
     if bytes_eq value (codes "matching") then Some Matching
     else if bytes_eq value (codes "collapse") then Some CollapseDirectory
     else None
 
+-- the mode that a value names, for what a folded directory covers
 abbrev pub collapsed_of : List ℕ → Option CollapsedEntriesEmissionMode
 collapsed_of value =
     if bytes_eq value (codes "mismatch") then Some OnStatusMismatch
     else if bytes_eq value (codes "all") then Some All
     else None
 
+-- the mode that a value names, for what must not be deleted
 abbrev pub deletion_of : List ℕ → Option ForDeletionMode
 deletion_of value =
     if bytes_eq value (codes "hide") then Some IgnoredDirectoriesCanHideNestedRepositories

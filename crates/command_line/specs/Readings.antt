@@ -19,6 +19,7 @@ pub data Reading : Type 0 where
   said : Draft → List (List ℕ) → RulesGiven → Reading
   wrong : Wrong → List ℕ → Reading
 
+-- what was read of the words, as contracts see it
 abbrev pub seen : Read → Reading
 seen (reads.Said draft paths rules) = said draft paths.items rules
 seen (reads.Wrong how word) = wrong how word

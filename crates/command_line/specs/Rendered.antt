@@ -13,6 +13,7 @@ use Rattle.command_line.specs.Rows.{line, path_text, end_of}
 abbrev pub text_lines : List ℕ → List (List ℕ)
 text_lines text = map without_terminator (lines_of text)
 
+-- a line with its end
 abbrev pub whole_line : Style → List ℕ → List ℕ
 whole_line style text = line style text ++ end_of style.end
 
@@ -20,6 +21,7 @@ whole_line style text = line style text ++ end_of style.end
 abbrev pub each_line : Style → List ℕ → List ℕ
 each_line style text = flat_map (whole_line style) (text_lines text)
 
+-- the text needs no change: words, line feeds and no colours
 abbrev is_plain_in : Wording → LineEnd → Bool → Bool
 is_plain_in Words Feed is_colored = not is_colored
 is_plain_in Words Nul is_colored = false
@@ -33,6 +35,7 @@ is_plain style = is_plain_in style.wording style.end style.is_colored
 abbrev pub rendered : Style → List ℕ → List ℕ
 rendered style text = if is_plain style then text else each_line style text
 
+-- a path of a plan with its end
 abbrev pub whole_path : LineEnd → List ℕ → List ℕ
 whole_path end path = path_text end path ++ end_of end
 

@@ -37,6 +37,7 @@ pub record Want : Type 0 where
   pub depth : ℕ
   pub prefers_current : Bool
 
+-- what is asked of a work tree, as contracts see it
 abbrev pub want_of : Asked → Want
 want_of asked = record { options = asked.options; paths = asked.paths.items; depth = asked.depth; prefers_current = asked.prefers_current }
 
@@ -84,6 +85,7 @@ depth_in verbs.Clean depth = 1000
 depth_in verbs.Compare depth = 1000
 depth_in verbs.Check depth = 1000
 
+-- what the words of a command ask of a work tree
 abbrev want_in : Verb → Draft → List (List ℕ) → Want
 want_in verb draft paths = record { options = draft.options; paths = paths; depth = depth_in verb draft.depth; prefers_current = prefers_current verb }
 
@@ -97,6 +99,7 @@ abbrev pub listed : Option Standings → Want → Listing → RulesGiven → Com
 listed None want listing rules = files want listing rules
 listed (Some standings) want listing rules = changed want listing rules standings
 
+-- the command of a verb, where its words are right
 abbrev done : Verb → Draft → List (List ℕ) → RulesGiven → Command
 done verbs.Report draft paths rules = report (want_in verbs.Report draft paths) draft.form
 done verbs.Plan draft paths rules = plan (want_in verbs.Plan draft paths) draft.what draft.finding draft.form
@@ -111,6 +114,7 @@ done verbs.Check draft paths rules = check (want_in verbs.Check draft paths) dra
 abbrev pub told : Verb → Draft → List (List ℕ) → RulesGiven → Command
 told verb draft paths rules = if draft.is_help then help (topics.Of verb) else done verb draft paths rules
 
+-- the answer by what was read of the words
 abbrev answer_by : Verb → Reading → Answer
 answer_by verb (said draft paths rules) = does (told verb draft paths rules)
 answer_by verb (wrong how word) = misuses_word (topics.Of verb) how word
@@ -123,6 +127,7 @@ of_verb verb words = answer_by verb (read_words verb words)
 abbrev pub misused : Wrong → List ℕ → Answer
 misused how word = misuses_word topics.Whole how word
 
+-- a word that asks for the help text
 abbrev pub is_help : List ℕ → Bool
 is_help word = bytes_eq word (codes "-h") || bytes_eq word (codes "--help")
 
@@ -133,6 +138,7 @@ wrong_first word =
     else if starts_with nat_eq word (codes "-") then wrongs.UnknownOption
     else wrongs.UnknownCommand
 
+-- the answer of a verb to the words behind it; where none is named, which word is wrong
 abbrev verb_or_wrong : Option Verb → List ℕ → List (List ℕ) → Answer
 verb_or_wrong (Some verb) word words = of_verb verb words
 verb_or_wrong None word words = misused (wrong_first word) word
@@ -154,6 +160,7 @@ pub data Asking : Type 0 where
   asks : Option (List ℕ) → Command → Asking
   is_misuse : Topic → Wrong → List ℕ → Asking
 
+-- what is asked, in the directory that `-C` names
 abbrev pub in_directory : Option (List ℕ) → Answer → Asking
 in_directory directory (does command) = asks directory command
 in_directory directory (misuses_word topic how word) = is_misuse topic how word
@@ -175,22 +182,27 @@ request_in (word ∷ words) = if bytes_eq word (codes "-C") then elsewhere words
 
 -- ---- an answer of the code is the one that is defined, unless memory was wanting
 
+-- a misuse is what the answer says is wrong; of want of memory nothing is said
 abbrev pub Misused : Misuse → Answer → Type 0
 Misused misuses.OutOfMemory answer = ⊤
 Misused (misuses.Word topic how word) answer = answer ≡ misuses_word topic how word
 
+-- the command, or what is wrong, is that of the answer
 abbrev pub Commands : Result code.Command Misuse → Answer → Type 0
 Commands (Ok command) answer = answer ≡ does (seen command)
 Commands (Err misuse) answer = Misused misuse answer
 
+-- the directory is the one that is wanted; only want of memory is refused
 abbrev pub Directories : Result (Option (List ℕ)) Misuse → Option (List ℕ) → Type 0
 Directories (Ok directory) wanted = wanted ≡ directory
 Directories (Err misuse) wanted = misuse ≡ misuses.OutOfMemory
 
+-- the same of a misuse, where a directory may be named
 abbrev pub MisusedAt : Misuse → Asking → Type 0
 MisusedAt misuses.OutOfMemory asking = ⊤
 MisusedAt (misuses.Word topic how word) asking = asking ≡ is_misuse topic how word
 
+-- the request, or what is wrong, is what is asked
 abbrev pub Answers : Result Request Misuse → Asking → Type 0
 Answers (Ok request) asking = asking ≡ asks request.directory (seen request.command)
 Answers (Err misuse) asking = MisusedAt misuse asking

@@ -9,10 +9,12 @@ use Rattle.command_line.specs.declared.form.Wording.{Wording}
 use Rattle.command_line.specs.declared.form.Wording.TheVariants.{Words, Letters}
 use Rattle.command_line.specs.Unspelled.{unspelled}
 
+-- what stands before a place; all where there is none
 abbrev before_place : Option ℕ → List ℕ → List ℕ
 before_place None bytes = bytes
 before_place (Some place) bytes = take place bytes
 
+-- what stands behind a place; nothing where there is none
 abbrev behind_place : Option ℕ → List ℕ → List ℕ
 behind_place None bytes = []
 behind_place (Some place) bytes = drop (place + 1) bytes
@@ -21,6 +23,7 @@ behind_place (Some place) bytes = drop (place + 1) bytes
 abbrev pub first_word : List ℕ → List ℕ
 first_word words = before_place (position (λ b. b == 32) words) words
 
+-- what stands behind the first blank
 abbrev pub behind_space : List ℕ → List ℕ
 behind_space words = behind_place (position (λ b. b == 32) words) words
 
@@ -44,9 +47,11 @@ opening_of status =
     else if bytes_eq status (codes "pruned") then 27 ∷ codes "[90m"
     else []
 
+-- the escape sequence that begins the colour of a status, if colours are used
 abbrev pub opening : Bool → List ℕ → List ℕ
 opening is_colored status = if is_colored then opening_of status else []
 
+-- the escape sequence that ends a colour, where one began
 abbrev pub closing : List ℕ → List ℕ
 closing [] = []
 closing (b ∷ bytes) = 27 ∷ codes "[0m"
@@ -69,10 +74,12 @@ abbrev pub in_letters : LineEnd → List ℕ → List ℕ → List ℕ
 in_letters end words path =
     letters_of (first_word words) ++ 32 ∷ path_text end path ++ slash_of (first_word (behind_space words))
 
+-- the text of a line in words or in letters
 abbrev body_in : Wording → LineEnd → List ℕ → List ℕ → List ℕ
 body_in Words end words path = in_words end words path
 body_in Letters end words path = in_letters end words path
 
+-- the text of a line in a style, without colours
 abbrev pub body : Style → List ℕ → List ℕ → List ℕ
 body style words path = body_in style.wording style.end words path
 
@@ -81,6 +88,7 @@ abbrev pub row : Style → List ℕ → List ℕ → List ℕ
 row style words path =
     opening style.is_colored (first_word words) ++ body style words path ++ closing (opening style.is_colored (first_word words))
 
+-- a line that has a tab is written in the style; any other stays
 abbrev row_at : Option ℕ → Style → List ℕ → List ℕ
 row_at None style line = line
 row_at (Some place) style line = row style (take place line) (drop (place + 1) line)
@@ -89,6 +97,7 @@ row_at (Some place) style line = row style (take place line) (drop (place + 1) l
 abbrev pub line : Style → List ℕ → List ℕ
 line style text = if starts_with nat_eq text (codes "# ") then text else row_at (position (λ b. b == 9) text) style text
 
+-- the byte that ends a line
 abbrev pub end_of : LineEnd → List ℕ
 end_of Feed = 10 ∷ []
 end_of Nul = 0 ∷ []

@@ -12,6 +12,7 @@ pub record RulesGiven : Type 0 where
   pub weaker : List (List ℕ)
   pub stronger : List (List ℕ)
 
+-- no ignore rules are given
 abbrev pub no_rules : RulesGiven
 no_rules = record { patterns = []; weaker = []; stronger = [] }
 

@@ -77,31 +77,39 @@ bare opts.Left draft = is_wrong wrongs.Left
 
 -- ---- values
 
+-- untracked paths in a mode, where the value names one
 abbrev untracked_as : Option EmissionMode → Draft → Step
 untracked_as (Some mode) draft = on (with_untracked mode draft)
 untracked_as None draft = is_wrong wrongs.UnknownValue
 
+-- the step of `-u`, or of its long name, with a value
 abbrev pub untracked_by : List ℕ → Draft → Step
 untracked_by value draft = untracked_as (emission_of value) draft
 
+-- ignored paths in a mode, where the value names one
 abbrev ignored_as : Option EmissionMode → Draft → Step
 ignored_as (Some mode) draft = on (with_ignored (Some mode) draft)
 ignored_as None draft = is_wrong wrongs.UnknownValue
 
+-- the step of `--ignored` with its value
 abbrev pub ignored_by : List ℕ → Draft → Step
 ignored_by value draft = if bytes_eq value (codes "no") then on (with_ignored None draft) else ignored_as (emission_of value) draft
 
+-- what a folded directory covers, where the value names a mode
 abbrev collapsed_as : Option CollapsedEntriesEmissionMode → Draft → Step
 collapsed_as (Some mode) draft = on (with_collapsed (Some mode) draft)
 collapsed_as None draft = is_wrong wrongs.UnknownValue
 
+-- the step of `--collapsed` with its value
 abbrev pub collapsed_by : List ℕ → Draft → Step
 collapsed_by value draft = if bytes_eq value (codes "no") then on (with_collapsed None draft) else collapsed_as (collapsed_of value) draft
 
+-- looking for what must not be deleted, where the value names a mode
 abbrev deletion_as : Option ForDeletionMode → Draft → Step
 deletion_as (Some mode) draft = on (with_deletion (Some mode) draft)
 deletion_as None draft = is_wrong wrongs.UnknownValue
 
+-- the step of `--for-deletion` with its value
 abbrev pub deletion_by : List ℕ → Draft → Step
 deletion_by value draft = if bytes_eq value (codes "no") then on (with_deletion None draft) else deletion_as (deletion_of value) draft
 
@@ -112,12 +120,14 @@ permissions_by value draft =
     else if bytes_eq value (codes "secure") || bytes_eq value (codes "all") then on (with_permissions false draft)
     else is_wrong wrongs.UnknownValue
 
+-- the step of `--strategy` with its value
 abbrev pub strategy_by : List ℕ → Draft → Step
 strategy_by value draft =
     if bytes_eq value (codes "held") then on (with_strategy Held draft)
     else if bytes_eq value (codes "at-once") then on (with_strategy AtOnce draft)
     else is_wrong wrongs.UnknownValue
 
+-- the step of `--color` with its value
 abbrev pub color_by : List ℕ → Draft → Step
 color_by value draft =
     if bytes_eq value (codes "auto") then on (with_color Auto draft)
@@ -125,6 +135,7 @@ color_by value draft =
     else if bytes_eq value (codes "never") then on (with_color Never draft)
     else is_wrong wrongs.UnknownValue
 
+-- a limit of the depth, where the value is a number
 abbrev depth_as : Option ℕ → Draft → Step
 depth_as (Some depth) draft = on (with_depth depth draft)
 depth_as None draft = is_wrong wrongs.NotADepth
@@ -146,10 +157,12 @@ abbrev pub rules_file_by : List ℕ → Draft → Step
 rules_file_by value draft =
     if bytes_eq value (codes ".gitignore") then on (with_choice choices.ExcludesDirectories true draft) else is_wrong wrongs.Left
 
+-- submodules are ignored so, where the value names how
 abbrev ignoring_said : Option Ignoring → Draft → Step
 ignoring_said (Some ignoring) draft = ignoring_as ignoring draft
 ignoring_said None draft = is_wrong wrongs.UnknownValue
 
+-- the step of `--ignore-submodules` with its value
 abbrev pub ignoring_by : List ℕ → Draft → Step
 ignoring_by value draft = ignoring_said (ignoring_of value) draft
 
@@ -188,20 +201,25 @@ known verbs.Plan name = if_taken verbs.Plan (opt_of name)
 known verbs.Modules name = if_taken verbs.Modules (opt_of name)
 known verbs.State name = if_taken verbs.State (opt_of name)
 
+-- the step of an option without a value, where its name is known
 abbrev bare_or_unknown : Option Opt → Draft → Step
 bare_or_unknown (Some opt) draft = bare opt draft
 bare_or_unknown None draft = is_wrong wrongs.UnknownOption
 
+-- the step of a long option without a value
 abbrev pub named : Verb → List ℕ → Draft → Step
 named verb name draft = bare_or_unknown (known verb name) draft
 
+-- the step of an option with a value, where its name is known
 abbrev valued_or_unknown : Option Opt → List ℕ → Draft → Step
 valued_or_unknown (Some opt) value draft = valued opt value draft
 valued_or_unknown None value draft = is_wrong wrongs.UnknownOption
 
+-- the step of a long option with its value
 abbrev pub named_with : Verb → List ℕ → List ℕ → Draft → Step
 named_with verb name value draft = valued_or_unknown (known verb name) value draft
 
+-- the step of a long option, with a value where it has an equals sign
 abbrev long_at : Verb → List ℕ → Option ℕ → Draft → Step
 long_at verb text None draft = named verb text draft
 long_at verb text (Some place) draft = named_with verb (take place text) (drop (place + 1) text) draft
@@ -238,10 +256,12 @@ abbrev pub file_letter : ℕ → List ℕ → Draft → Step
 file_letter letter [] draft = Said draft (nexts.LetterFile letter)
 file_letter letter (b ∷ value) draft = file_by (b ∷ value) draft
 
+-- the draft of a step; the one before where the step is another
 abbrev said_or : Draft → Step → Draft
 said_or draft (Said now next) = now
 said_or draft other = draft
 
+-- the draft behind a letter that takes no value
 abbrev pub lettered : Opt → Draft → Draft
 lettered opt draft = said_or draft (bare opt draft)
 
@@ -252,15 +272,18 @@ takes_rest opts.Pattern = true
 takes_rest opts.ExcludeFrom = true
 takes_rest other = false
 
+-- the step of a letter whose value is the rest of its word
 abbrev pub with_rest : Opt → ℕ → List ℕ → Draft → Step
 with_rest opts.Pattern letter text draft = pattern_letter letter text draft
 with_rest opts.ExcludeFrom letter text draft = file_letter letter text draft
 with_rest other letter text draft = untracked_letter text draft
 
+-- an option of git's that is refused by name
 abbrev pub is_left : Opt → Bool
 is_left opts.Left = true
 is_left other = false
 
+-- the step of a letter: its value is the rest of the word, it is refused, or the letters behind it go on
 abbrev pub by_letter : Option Opt → ℕ → List ℕ → (Draft → Step) → Draft → Step
 by_letter None letter text onward draft = is_wrong (wrongs.UnknownSwitch letter)
 by_letter (Some opt) letter text onward draft =

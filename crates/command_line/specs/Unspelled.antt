@@ -6,6 +6,7 @@ use Rattle.worktree_report.specs.Escapes.{hex_byte}
 abbrev pub spelled : ℕ → List ℕ → Option ℕ
 spelled b rest = if b == 92 then hex_byte rest else None
 
+-- the byte that is spelled, before what is behind its spelling; or the byte as it stands
 abbrev pub by_spelling : Option ℕ → ℕ → List ℕ → List ℕ → List ℕ
 by_spelling (Some byte) b behind after = byte ∷ behind
 by_spelling None b behind after = b ∷ after

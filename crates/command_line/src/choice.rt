@@ -89,7 +89,8 @@ fn firm_choice_of(name: &[u8]) -> Option<Choice>
     }
 }
 
-/// Whether git has an option of this name, of what a path is or which rules are asked, that is not answered here.
+/// Whether git has an option of this name, of what a path is or which rules are asked, that is not
+/// answered here.
 fn is_left_rule(name: &[u8]) -> bool
     ensures { result ≡ choices.is_left_rule name.now }
 {

@@ -113,7 +113,8 @@ pub enum Command {
 /// What the words of a command line ask for.
 #[derive(Debug, Drop)]
 pub struct Request {
-    /// The directory that the program is to work in, as it is written; where none is given, or an empty one, the current one.
+    /// The directory that the program is to work in, as it is written; where none is given, or an
+    /// empty one, the current one.
     pub directory: Option<Bytes>,
     /// What is to be done there.
     pub command: Command,

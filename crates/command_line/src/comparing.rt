@@ -215,7 +215,8 @@ fn is_left(name: &[u8]) -> bool
     is_left_form(name)
 }
 
-/// Which submodules are told of, by the value of `--ignore-submodules`. What only tells how far a submodule is looked into leaves none out.
+/// Which submodules are told of, by the value of `--ignore-submodules`. What only tells how far a
+/// submodule is looked into leaves none out.
 pub fn ignoring_of(value: &[u8]) -> Option<Ignoring>
     ensures { result ≡ comparings.ignoring_of value.now }
 {

@@ -221,6 +221,7 @@ fn permissions_of(is_isolated: bool) -> Permissions
 }
 
 impl Draft {
+    /// The draft with other options of the report.
     fn with_options(self, options: SetupOptions) -> Draft
         ensures { result ≡ drafts.with_options options self }
     {
@@ -229,6 +230,7 @@ impl Draft {
         draft
     }
 
+    /// The draft with another form of the answer.
     fn with_form(self, form: Form) -> Draft
         ensures { result ≡ drafts.with_form form self }
     {
@@ -237,12 +239,14 @@ impl Draft {
         draft
     }
 
+    /// One of what is reported is turned on or off.
     pub fn with_switch(self, switch: Switch, on: bool) -> Draft
         ensures { result ≡ drafts.with_switch switch on self }
     {
         self.with_options(turned(self.options, switch, on))
     }
 
+    /// Untracked paths are reported in this mode.
     pub fn with_untracked(self, mode: EmissionMode) -> Draft
         ensures { result ≡ drafts.with_untracked mode self }
     {
@@ -251,6 +255,7 @@ impl Draft {
         self.with_options(options)
     }
 
+    /// Ignored paths are reported in this mode, or not at all.
     pub fn with_ignored(self, mode: Option<EmissionMode>) -> Draft
         ensures { result ≡ drafts.with_ignored mode self }
     {
@@ -259,6 +264,7 @@ impl Draft {
         self.with_options(options)
     }
 
+    /// What a folded directory covers is reported in this mode, or not at all.
     pub fn with_collapsed(self, mode: Option<CollapsedEntriesEmissionMode>) -> Draft
         ensures { result ≡ drafts.with_collapsed mode self }
     {
@@ -267,6 +273,7 @@ impl Draft {
         self.with_options(options)
     }
 
+    /// The walk looks in this mode for what must not be deleted, or not at all.
     pub fn with_deletion(self, mode: Option<ForDeletionMode>) -> Draft
         ensures { result ≡ drafts.with_deletion mode self }
     {
@@ -275,6 +282,7 @@ impl Draft {
         self.with_options(options)
     }
 
+    /// The configurations of an isolated work tree are read, or all.
     pub fn with_permissions(self, is_isolated: bool) -> Draft
         ensures { result ≡ drafts.with_permissions is_isolated self }
     {
@@ -283,6 +291,7 @@ impl Draft {
         self.with_options(options)
     }
 
+    /// Subtrees are walked by this strategy.
     pub fn with_strategy(self, strategy: Strategy) -> Draft
         ensures { result ≡ drafts.with_strategy strategy self }
     {
@@ -291,6 +300,7 @@ impl Draft {
         self.with_options(options)
     }
 
+    /// Lines are written in words or in letters.
     pub fn with_wording(self, wording: Wording) -> Draft
         ensures { result ≡ drafts.with_wording wording self }
     {
@@ -299,6 +309,7 @@ impl Draft {
         self.with_form(form)
     }
 
+    /// Lines end so.
     pub fn with_end(self, end: LineEnd) -> Draft
         ensures { result ≡ drafts.with_end end self }
     {
@@ -307,6 +318,7 @@ impl Draft {
         self.with_form(form)
     }
 
+    /// Colours are used so.
     pub fn with_color(self, color: Color) -> Draft
         ensures { result ≡ drafts.with_color color self }
     {
@@ -315,6 +327,7 @@ impl Draft {
         self.with_form(form)
     }
 
+    /// These paths may go.
     pub fn with_what(self, what: What) -> Draft
         ensures { result ≡ drafts.with_what what self }
     {
@@ -323,6 +336,7 @@ impl Draft {
         draft
     }
 
+    /// Repositories are looked for so.
     pub fn with_finding(self, finding: Finding) -> Draft
         ensures { result ≡ drafts.with_finding finding self }
     {
@@ -331,6 +345,7 @@ impl Draft {
         draft
     }
 
+    /// So many components may a directory have that is entered.
     pub fn with_depth(self, depth: usize) -> Draft
         ensures { result ≡ drafts.with_depth depth self }
     {
@@ -339,6 +354,7 @@ impl Draft {
         draft
     }
 
+    /// One choice of `ls-files` is made or dropped.
     pub fn with_choice(self, choice: Choice, on: bool) -> Draft
         ensures { result ≡ drafts.with_choice choice on self }
     {
@@ -348,6 +364,7 @@ impl Draft {
         draft
     }
 
+    /// One choice of `clean` is made or dropped.
     pub fn with_clean_choice(self, choice: CleanChoice, on: bool) -> Draft
         ensures { result ≡ drafts.with_clean_choice choice on self }
     {
@@ -356,6 +373,7 @@ impl Draft {
         draft
     }
 
+    /// Force is asked for once more, or no more.
     pub fn with_force(self, on: bool) -> Draft
         ensures { result ≡ drafts.with_force on self }
     {
@@ -364,6 +382,7 @@ impl Draft {
         draft
     }
 
+    /// One choice of `diff-files` is made or dropped.
     pub fn with_compare_choice(self, choice: CompareChoice, on: bool) -> Draft
         ensures { result ≡ drafts.with_compare_choice choice on self }
     {
@@ -372,6 +391,7 @@ impl Draft {
         draft
     }
 
+    /// One choice of `check-ignore` is made or dropped.
     pub fn with_check_choice(self, choice: CheckChoice, on: bool) -> Draft
         ensures { result ≡ drafts.with_check_choice choice on self }
     {
@@ -380,6 +400,7 @@ impl Draft {
         draft
     }
 
+    /// The help text is asked for.
     pub fn with_help(self) -> Draft
         ensures { result ≡ drafts.with_help self }
     {

@@ -67,8 +67,8 @@ fn is_colored(color: Color, end: LineEnd, takes_colors: bool) -> bool
     }
 }
 
-/// The style that a form means for an output that takes colours or not. Colours left to the program are shown where the output takes
-/// them, unless lines end in NULs.
+/// The style that a form means for an output that takes colours or not. Colours left to the program
+/// are shown where the output takes them, unless lines end in NULs.
 pub fn styled(form: Form, takes_colors: bool) -> Style
     ensures { result ≡ forms.styled form takes_colors }
 {

@@ -1,4 +1,5 @@
-//! The command line of `tizhagor`: what its words ask for, how answers are written, and what is said of words that ask for nothing.
+//! The command line of `tizhagor`: what its words ask for, how answers are written, and what is
+//! said of words that ask for nothing.
 #![tactic(auto)]
 
 mod change_words;

@@ -148,7 +148,8 @@ fn said_of(alloc: Global, topic: Topic, wrong: Wrong, word: &[u8]) -> Result<Byt
     Ok(Bytes::from_vec(text))
 }
 
-/// What is said of words that ask for nothing, on standard error: a line that names the word that is wrong, and the usage.
+/// What is said of words that ask for nothing, on standard error: a line that names the word that
+/// is wrong, and the usage.
 ///
 /// # Errors
 ///

@@ -41,8 +41,9 @@ fn is_plain(style: Style) -> bool
     }
 }
 
-/// The text of a report in a style: words or letters before the paths, coloured or not, each line with its end. The states of the
-/// index before a report are such lines too. With words, line feeds and no colours the text stays as it is.
+/// The text of a report in a style: words or letters before the paths, coloured or not, each line
+/// with its end. The states of the index before a report are such lines too. With words, line feeds
+/// and no colours the text stays as it is.
 ///
 /// # Errors
 ///
@@ -76,7 +77,8 @@ fn each_path(alloc: Global, end: LineEnd, text: &[u8]) -> Result<Bytes, OutOfMem
     Ok(Bytes::from_vec(out))
 }
 
-/// The text of a plan, which has a path a line, with such ends of lines. With line feeds it stays as it is.
+/// The text of a plan, which has a path a line, with such ends of lines. With line feeds it stays
+/// as it is.
 ///
 /// # Errors
 ///

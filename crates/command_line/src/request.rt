@@ -211,8 +211,8 @@ fn elsewhere(alloc: Global, words: &[Bytes]) -> Result<Request, Misuse>
     }
 }
 
-/// What the words of a command line ask for: `[-C DIR] report|plan|modules|state|ls-files|clean [OPTION..] [--] [PATH..]`, or a help text, or the
-/// version.
+/// What the words of a command line ask for: `[-C DIR] report|plan|modules|state|ls-files|clean
+/// [OPTION..] [--] [PATH..]`, or a help text, or the version.
 ///
 /// # Errors
 ///

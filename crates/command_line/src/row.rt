@@ -163,7 +163,8 @@ fn add_row(text: &mut Vec<u8>, style: Style, words: &[u8], path: &[u8]) -> Resul
     Ok(())
 }
 
-/// Adds a line of a report without its end: one that begins with `# ` stays, and so does one without a tab.
+/// Adds a line of a report without its end: one that begins with `# ` stays, and so does one
+/// without a tab.
 pub fn add_line(text: &mut Vec<u8>, style: Style, line: &[u8]) -> Result<(), OutOfMemory>
     ensures { OnOk result (text.new.items ≡ text.old.items ++ rows.line style line.now) }
 {

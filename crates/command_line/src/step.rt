@@ -220,7 +220,8 @@ fn file_by(value: &[u8], draft: Draft) -> Step
     Step::Rules(draft, Ruling::File { left: value.len() })
 }
 
-/// The name of the rules files of directories: `.gitignore`, or another, which is not answered here.
+/// The name of the rules files of directories: `.gitignore`, or another, which is not answered
+/// here.
 fn rules_file_by(value: &[u8], draft: Draft) -> Step
     ensures { result ≡ steps.rules_file_by value.now draft }
 {
@@ -353,7 +354,8 @@ fn untracked_letter(value: &[u8], draft: Draft) -> Step
     }
 }
 
-/// A letter and what stands behind it in its word: a pattern, or nothing where that is the next word.
+/// A letter and what stands behind it in its word: a pattern, or nothing where that is the next
+/// word.
 fn pattern_letter(letter: u8, value: &[u8], draft: Draft) -> Step
     ensures { result ≡ steps.pattern_letter letter value.now draft }
 {
@@ -363,8 +365,8 @@ fn pattern_letter(letter: u8, value: &[u8], draft: Draft) -> Step
     }
 }
 
-/// A letter and what stands behind it in its word: the name of a file of rules, or nothing where that
-/// is the next word.
+/// A letter and what stands behind it in its word: the name of a file of rules, or nothing where
+/// that is the next word.
 fn file_letter(letter: u8, value: &[u8], draft: Draft) -> Step
     ensures { result ≡ steps.file_letter letter value.now draft }
 {

@@ -28,7 +28,8 @@ fn hex_byte(bytes: &[u8]) -> Option<u8>
     Some(16 * high + low)
 }
 
-/// The byte that a backslash and two digits spell at the beginning of a text. None where it begins otherwise.
+/// The byte that a backslash and two digits spell at the beginning of a text. None where it begins
+/// otherwise.
 fn spelled(first: u8, rest: &[u8]) -> Option<u8>
     ensures { result ≡ unspelled.spelled first rest.now }
 {
@@ -38,7 +39,8 @@ fn spelled(first: u8, rest: &[u8]) -> Option<u8>
     hex_byte(rest)
 }
 
-/// Adds the bytes that a text spells: a backslash and two lower-case hexadecimal digits are one, every other byte is itself.
+/// Adds the bytes that a text spells: a backslash and two lower-case hexadecimal digits are one,
+/// every other byte is itself.
 pub fn add_unspelled(text: &mut Vec<u8>, path: &[u8]) -> Result<(), OutOfMemory>
     ensures { OnOk result (text.new.items ≡ text.old.items ++ unspelled.unspelled path.now) }
 {

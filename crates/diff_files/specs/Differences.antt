@@ -24,6 +24,7 @@ abbrev unless_sparse : Option IndexEntry → Result (List Row) Unanswered → Re
 unless_sparse None rows = rows
 unless_sparse (Some e) rows = Err (refused_at forms.SparseIndex e)
 
+-- the rows of all entries over a work tree, or the first form that is not answered
 abbrev pub changes_in : Outside → List ℕ → List IndexEntry → List Detail → Comparison → List PathSpec → Result (List Row) Unanswered
 changes_in s root entries details o specs = unless_sparse (find is_directory entries) (rows_from s root o specs [] None entries details)
 
@@ -50,6 +51,7 @@ UnlessFault (Err (errors.Unsupported refused)) Holds = Holds
 UnlessFault (Err errors.Fault) Holds = Unit {0}
 UnlessFault (Err errors.OutOfMemory) Holds = Holds
 
+-- what goes to standard output, or the form that is not answered
 abbrev pub out_of : Result (List ℕ) Unanswered → Result Differences Unanswered
 out_of (Ok text) = Ok (record { out = text })
 out_of (Err refused) = Err refused

@@ -6,6 +6,7 @@ use Rattle.worktree_fs.specs.Tree.{Names}
 use Rattle.diff_files.specs.declared.stats.Stats.{Ghosts as StatsOf}
 use Rattle.diff_files.specs.Stats.{Told}
 
+-- asking for stats changes nothing that they tell, and no fault is forgotten
 pub record AsksStats {S : Type 0} (s : StatsOf S) (before now : S) : Type 0 where
   pub told : s.told now ≡ s.told before
   pub faults : s.faults before ≤ s.faults now

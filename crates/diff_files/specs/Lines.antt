@@ -51,12 +51,15 @@ mode_after (changes.Modified mode) = mode
 mode_after (changes.TypeChanged mode) = mode
 mode_after (changes.Unmerged mode) = mode
 
+-- the mode in the index; none of what is added
 abbrev pub mode_before : Row → ℕ
 mode_before row = if is_created row.change then 0 else mode_bits row.entry.mode
 
+-- the id in the index; none of what is added
 abbrev pub id_before : Row → List ℕ
 id_before row = if is_created row.change then no_id else encode_lower row.entry.id
 
+-- both modes, as a line begins with them
 unfoldable pub mode_words : Row → List ℕ
 mode_words row = 58 ∷ mode_word (mode_before row) ++ 32 ∷ mode_word (mode_after row.change) ++ 32 ∷ []
 
@@ -76,6 +79,7 @@ gap o = if o.ends_in_nul then 0 else 9
 abbrev pub name_text : Comparison → List ℕ → List ℕ
 name_text o path = if o.ends_in_nul then path ++ 0 ∷ [] else quoted o.quote_path path ++ 10 ∷ []
 
+-- the letter of a change, and the gap before its path
 abbrev pub letter_words : Comparison → PathChange → List ℕ
 letter_words o change = letter change ∷ gap o ∷ []
 

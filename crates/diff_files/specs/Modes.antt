@@ -7,12 +7,15 @@ use Rattle.diff_files.specs.declared.comparison.Comparison.{Comparison}
 abbrev pub kind_bits : ℕ → ℕ
 kind_bits mode = (mode / 4096) % 16
 
+-- of a regular file
 abbrev pub is_regular : ℕ → Bool
 is_regular mode = kind_bits mode == 8
 
+-- of a symbolic link
 abbrev pub is_link : ℕ → Bool
 is_link mode = kind_bits mode == 10
 
+-- of a directory
 abbrev pub is_directory : ℕ → Bool
 is_directory mode = kind_bits mode == 4
 
@@ -24,6 +27,7 @@ is_submodule mode = kind_bits mode == 14
 abbrev pub executable_bit : ℕ → ℕ
 executable_bit mode = (mode / 64) % 2
 
+-- of what its owner may execute
 abbrev pub is_executable : ℕ → Bool
 is_executable mode = executable_bit mode == 1
 

@@ -26,6 +26,7 @@ pub record Row : Type 0 where
   pub entry : IndexEntry
   pub change : PathChange
 
+-- nothing changed
 abbrev pub is_same : PathChange → Bool
 is_same changes.Same = true
 is_same changes.Deleted = false
@@ -42,6 +43,7 @@ row_if e change = if is_same change then [] else record { entry = e; change = ch
 abbrev pub part_rows : IndexEntry → Parts → List Row
 part_rows e parts = row_if e parts.unmerged ++ row_if e parts.change
 
+-- both parts of a row, or the first form that is not answered
 abbrev pub both : Result PathChange Unsupported → Result PathChange Unsupported → Result Parts Unsupported
 both (Err form) change = Err form
 both (Ok is_unmerged) (Err form) = Err form
@@ -74,6 +76,7 @@ is_inclusion (Some found) = not found.excluded
 abbrev pub is_entry_matched : List PathSpec → IndexEntry → Bool
 is_entry_matched specs e = is_inclusion (list_match specs e.path (Some (mode_bits e.mode == commit_mode)))
 
+-- the last path is this one
 abbrev pub is_at : Option (List ℕ) → List ℕ → Bool
 is_at None path = false
 is_at (Some last) path = bytes_eq last path

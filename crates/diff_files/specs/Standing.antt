@@ -35,6 +35,7 @@ is_other o e d at = differs_in_mode o (mode_bits e.mode) at.mode || is_resized d
 abbrev pub is_open : Comparison → IndexEntry → Detail → NodeStat → Bool
 is_open o e d at = is_changed o e d at || is_racy o d
 
+-- how a file differs from its entry, by the stat fields and where they leave it open by its bytes
 abbrev pub standing_file : Told → Comparison → List ℕ → IndexEntry → Detail → NodeStat → Judged
 standing_file told o full e d at =
     if is_other o e d at then judge.Known (changed o e at)
@@ -61,6 +62,7 @@ standing_at told o full e d None = judge.Known changes.Deleted
 standing_at told o full e d (Some at) =
     if has_flag assume_valid_flag e then judge.Known changes.Same else standing_node told o full e d at
 
+-- how what stands at a path differs from the entry
 abbrev pub standing : Told → Comparison → List ℕ → IndexEntry → Detail → Judged
 standing told o full e d = standing_at told o full e d (told.stat_at full)
 
@@ -73,8 +75,10 @@ abbrev pub presence : Option NodeStat → PathChange
 presence None = changes.Deleted
 presence (Some at) = changes.Same
 
+-- whether anything stands at the path of an entry below a root
 abbrev pub presence_in : Told → List ℕ → IndexEntry → PathChange
 presence_in told root e = presence (told.stat_at (joined root e.path))
 
+-- the entry is passed over, by what stands at its path below a root
 abbrev pub is_skipped_in : Told → List ℕ → Comparison → IndexEntry → Bool
 is_skipped_in told root o e = is_skipped told o (joined root e.path) e

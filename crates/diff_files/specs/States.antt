@@ -24,6 +24,7 @@ use Rattle.diff_files.specs.There.{holds_git, there}
 
 -- ---- what stands there
 
+-- the entry of a submodule
 abbrev pub is_submodule_entry : IndexEntry → Bool
 is_submodule_entry e = is_submodule (mode_bits e.mode)
 
@@ -62,6 +63,7 @@ abbrev pub is_target : List ℕ → Option (List ℕ) → Bool
 is_target id None = false
 is_target id (Some target) = bytes_eq (blob_id target) id
 
+-- how a link differs from its entry: by its target
 abbrev pub judged_link : Told → Comparison → List ℕ → IndexEntry → NodeStat → Judged
 judged_link told o full e at =
     if is_target e.id (told.target_at full) then judge.Known changes.Same else judge.Known (changed o e at)
@@ -85,6 +87,7 @@ judged_node told o full e d at =
     else if is_racy o d then judged_racy told o full e at
     else judge.Known changes.Same
 
+-- how a node differs from the entry; where there is none, the path is deleted
 unfoldable pub judged : Told → Comparison → List ℕ → IndexEntry → Detail → Option NodeStat → Judged
 judged told o full e d None = judge.Known changes.Deleted
 judged told o full e d (Some at) = if is_directory at.mode then judged_directory told o full e d at else judged_node told o full e d at
@@ -99,11 +102,13 @@ is_skipped told o full e = has_flag skip_worktree_flag e && not (o.sparse_checko
 abbrev pub is_left_out : Told → Comparison → List ℕ → IndexEntry → Bool
 is_left_out told o full e = has_flag assume_valid_flag e || is_skipped told o full e
 
+-- changes of submodules are told
 abbrev pub are_told : Submodules → Bool
 are_told subs.Told = true
 are_told subs.MayBeLeftOut = false
 are_told subs.LeftOut = false
 
+-- submodules are left out
 abbrev pub are_left_out : Submodules → Bool
 are_left_out subs.Told = false
 are_left_out subs.MayBeLeftOut = false
@@ -126,6 +131,7 @@ ignored told o root e d = if d.intent_to_add then judge.Known (in_place o e (the
 abbrev pub is_ignorable : Comparison → IndexEntry → Bool
 is_ignorable o e = is_submodule_entry e && not (are_told o.submodules)
 
+-- how an entry is judged: left out, ignored, or compared
 unfoldable pub looked_at : Told → Comparison → List ℕ → IndexEntry → Detail → Judged
 looked_at told o root e d =
     if is_left_out told o (joined root e.path) e then judge.Known changes.Same
@@ -133,6 +139,7 @@ looked_at told o root e d =
     else if is_ignorable o e then judge.Refused forms.IgnoredSubmodule
     else judged told o (joined root e.path) e d (there told root e.path)
 
+-- an entry of a path that is merged
 abbrev pub is_merged : IndexEntry → Bool
 is_merged e = e.stage == 0
 
@@ -151,10 +158,12 @@ unmerged_at told o full e at =
     else if holds_git told full then judge.Refused forms.Repository
     else judge.Known (changes.Unmerged 0)
 
+-- what is told of a path that is not merged, by what stands there
 abbrev pub unmerged_there : Told → Comparison → List ℕ → IndexEntry → Option NodeStat → Judged
 unmerged_there told o full e None = judge.Known (changes.Unmerged 0)
 unmerged_there told o full e (Some at) = unmerged_at told o full e at
 
+-- the entry that tells that its path is not merged: the first one
 abbrev pub tells_unmerged : IndexEntry → Bool → Bool
 tells_unmerged e first = not (is_merged e) && first
 

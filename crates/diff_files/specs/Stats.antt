@@ -23,9 +23,11 @@ pub record StatNode : Type 0 where
 abbrev pub node_at : List StatNode → List ℕ → Option StatNode
 node_at nodes path = find (λ (node : StatNode). bytes_eq node.path path) nodes
 
+-- the stat fields of a node
 abbrev pub stat_of : StatNode → NodeStat
 stat_of node = node.stat
 
+-- the target of a node that is a link
 abbrev pub target_of : StatNode → Option (List ℕ)
 target_of node = node.target
 

@@ -13,6 +13,7 @@ use Rattle.diff_files.specs.declared.error.Unsupported.TheVariants as forms
 abbrev pub refused_at : Unsupported → IndexEntry → Unanswered
 refused_at form e = record { form = form; path = e.path }
 
+-- the error of a read that failed
 abbrev pub of_read : ReadError → DiffError
 of_read reads.Fault = errors.Fault
 of_read reads.OutOfMemory = errors.OutOfMemory

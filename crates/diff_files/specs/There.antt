@@ -20,6 +20,7 @@ leads told directory (name ∷ names) =
 abbrev pub directory_of : List ℕ → List ℕ
 directory_of path = unwrap_or (parent path) []
 
+-- only directories lead to a path
 abbrev pub is_led : Told → List ℕ → List ℕ → Bool
 is_led told root path = leads told root (components (directory_of path))
 

@@ -82,9 +82,9 @@ fn text_of(alloc: Global, comparison: &Comparison, rows: &[Row<'_>]) -> Result<B
 }
 
 /// What `git diff-files` prints of the work tree at `root`, whatever the directory in which it is
-/// called: how each path of the index changed, by what is told of the node there. Bytes are compared
-/// alone where a file may have changed unseen, since the index was not written later than it; so a
-/// file that was touched is told as changed.
+/// called: how each path of the index changed, by what is told of the node there. Bytes are
+/// compared alone where a file may have changed unseen, since the index was not written later than
+/// it; so a file that was touched is told as changed.
 ///
 /// `index` and `details` are what the file of the index says, in its order. The path specs are from
 /// the top; without one, each path is taken.

@@ -75,8 +75,8 @@ fn is_smudged(entry: &IndexEntry, detail: &Detail) -> bool
     entry.id.as_bytes().as_slice() != EMPTY_ID.as_slice()
 }
 
-/// Whether what stands at the path of a file or a link differs from its entry, without a look at its
-/// bytes.
+/// Whether what stands at the path of a file or a link differs from its entry, without a look at
+/// its bytes.
 #[tactic(auto, unfolding(crate::specs::Fields::is_changed))]
 pub fn is_changed(
     comparison: &Comparison,

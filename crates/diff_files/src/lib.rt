@@ -1,4 +1,5 @@
-//! What `git diff-files` prints: how the paths of an index changed in a work tree, by what the system tells of the nodes.
+//! What `git diff-files` prints: how the paths of an index changed in a work tree, by what the
+//! system tells of the nodes.
 #![tactic(auto)]
 
 mod answer;

@@ -11,24 +11,28 @@ pub fn kind_bits(mode: u32) -> u32
     mode / 4096 % 16
 }
 
+/// Whether a mode is that of a regular file.
 pub fn is_regular(mode: u32) -> bool
     ensures { result ≡ modes.is_regular mode }
 {
     kind_bits(mode) == 8
 }
 
+/// Whether a mode is that of a symbolic link.
 pub fn is_link(mode: u32) -> bool
     ensures { result ≡ modes.is_link mode }
 {
     kind_bits(mode) == 10
 }
 
+/// Whether a mode is that of a directory.
 pub fn is_directory(mode: u32) -> bool
     ensures { result ≡ modes.is_directory mode }
 {
     kind_bits(mode) == 4
 }
 
+/// Whether a mode is that of a submodule's commit.
 pub fn is_submodule(mode: u32) -> bool
     ensures { result ≡ modes.is_submodule mode }
 {
@@ -42,6 +46,7 @@ pub fn executable_bit(mode: u32) -> u32
     mode / 64 % 2
 }
 
+/// Whether the owner may execute what has this mode.
 fn is_executable(mode: u32) -> bool
     ensures { result ≡ modes.is_executable mode }
 {

@@ -81,8 +81,8 @@ fn directory_of(entry: &IndexEntry) -> &[u8]
     }
 }
 
-/// Whether directories alone lead to the path of an entry. Where they are known to lead is not asked
-/// again, and `known` becomes where they do.
+/// Whether directories alone lead to the path of an entry. Where they are known to lead is not
+/// asked again, and `known` becomes where they do.
 ///
 /// See docs/DECISIONS.md#stats-once-a-directory.
 fn is_led<S: Stats>(

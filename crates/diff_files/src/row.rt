@@ -27,12 +27,14 @@ impl<'a> Model for Row<'a> {
 }
 
 impl<'a> Row<'a> {
+    /// The entry that the row is about.
     pub fn entry(&self) -> &'a IndexEntry
         ensures { result.now ≡ self.now.entry }
     {
         self.entry
     }
 
+    /// How its path changed.
     pub fn change(&self) -> PathChange
         ensures { result ≡ self.now.change }
     {

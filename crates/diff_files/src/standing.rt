@@ -186,8 +186,8 @@ fn standing<S: Stats>(
     standing_at(alloc, stats, comparison, full, entry, detail, at)
 }
 
-/// How what stands at the path of an entry below `root` differs from it, as `git ls-files -m` asks; or
-/// the form that is not answered. Bytes are compared where neither the mode nor the size tells.
+/// How what stands at the path of an entry below `root` differs from it, as `git ls-files -m` asks;
+/// or the form that is not answered. Bytes are compared where neither the mode nor the size tells.
 ///
 /// # Errors
 ///
@@ -229,8 +229,8 @@ fn presence(at: Option<NodeStat>) -> PathChange
     }
 }
 
-/// Whether anything stands at the path of an entry below `root`, as `git ls-files -d` asks: `Deleted`
-/// where nothing does, else `Same`.
+/// Whether anything stands at the path of an entry below `root`, as `git ls-files -d` asks:
+/// `Deleted` where nothing does, else `Same`.
 ///
 /// # Errors
 ///

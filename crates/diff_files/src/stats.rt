@@ -1,4 +1,5 @@
-//! What the system tells of nodes besides their kind: asked beside a worktree, which does not tell it.
+//! What the system tells of nodes besides their kind: asked beside a worktree, which does not tell
+//! it.
 ghost use Rattle.std.specs.Prelude.{◌≡◌, ◌≤◌, ℕ, Option, Some, IfOk, IsErrOf};
 ghost use Rattle.worktree_fs.specs.Answers.{UnlessFault};
 ghost use Rattle.worktree_fs.specs.Causes.{Increased};

@@ -1,11 +1,11 @@
 //! What classes and walks are asked with.
-use crate::cases::number;
 use dir_classify::{CollapsedEntriesEmissionMode, EmissionMode, ForDeletionMode, Options};
 use dir_walk::Strategy;
 use gitbase_core::{Bytes, PathText};
 use glob_rules::pathspec::{Defaults, Error, Search, Spec};
 use std::alloc::Global;
 use std::collections::BTreeSet;
+use test_cases::number;
 
 /// What classes and walks are asked with.
 #[derive(Drop)]

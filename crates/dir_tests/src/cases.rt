@@ -1,9 +1,9 @@
 //! Cases: scripts of steps that make a worktree, its index and its rules, and that say what must be
 //! answered of them.
 //!
-//! A case begins with its name, its global rules (`-`: no rules at all) and, where they are so,
-//! `strict` for strict parents; its steps are parted by bars, and the words of a step by
-//! backquotes.
+//! A case begins with an `@` and its name, its global rules (`-`: no rules at all) and, where they
+//! are so, `strict` for strict parents. Each step stands on a line of its own behind two blanks,
+//! its words parted by backquotes.
 use crate::asked::{Asked, is_asked};
 use crate::classes::{is_class, is_root, is_upgraded};
 use crate::walks::{is_given, is_walk};
@@ -13,7 +13,8 @@ use gitbase_core::{Bytes, Flags, IndexEntry, Mode, ObjectId, OutOfMemory, PathTe
 use glob_rules::Case;
 use glob_rules::ignore::{List, ParseIgnore, Search};
 use std::alloc::Global;
-use worktree_fs::{CallKind, MemoryWorktree, NewNode};
+use test_cases::{is_git_put, is_put, number, parted, parted_by};
+use worktree_fs::{CallKind, MemoryWorktree};
 use worktree_stack::ignore_source::Source;
 use worktree_stack::{Ignore, Stack};
 
@@ -24,21 +25,6 @@ pub struct World {
     pub index: State,
     pub excludes: Option<Stack>,
     pub asked: Asked,
-}
-
-/// The first word of a row, and the words behind it.
-pub fn parted(row: &[u8]) -> (&[u8], &[u8]) {
-    row.split_once_str(b"`").unwrap_or((row, b""))
-}
-
-/// The number of some digits.
-pub fn number(word: &[u8]) -> usize {
-    let mut number = 0usize;
-    for byte in word {
-        let digit = usize::from(byte.saturating_sub(b'0'));
-        number = number.saturating_mul(10).saturating_add(digit);
-    }
-    number
 }
 
 const PRECIOUS: ParseIgnore = ParseIgnore {
@@ -89,50 +75,6 @@ fn is_planned(alloc: Global, tree: &mut MemoryWorktree, call: &[u8], nth: u64) -
     tree.fail(alloc, call, nth).is_ok()
 }
 
-/// Whether a node was put at a path.
-fn is_put(alloc: Global, tree: &mut MemoryWorktree, kind: &[u8], path: &[u8], text: &[u8]) -> bool {
-    let node = match kind {
-        b"file" => NewNode::File(text),
-        b"link" => NewNode::Link(text),
-        b"directory" => NewNode::Directory,
-        b"other" => NewNode::Other,
-        _ => return false,
-    };
-    tree.add(alloc, path, node).is_ok()
-}
-
-/// Whether a node was put into a directory.
-fn is_put_in(
-    alloc: Global,
-    tree: &mut MemoryWorktree,
-    directory: &[u8],
-    name: &[u8],
-    node: NewNode<'_>,
-) -> bool {
-    match joined(alloc, directory, name) {
-        Ok(path) => tree.add(alloc, path.as_bytes(), node).is_ok(),
-        Err(_) => false,
-    }
-}
-
-fn joined(alloc: Global, directory: &[u8], name: &[u8]) -> Result<PathText, OutOfMemory> {
-    let mut path = PathText::from_bytes(alloc, directory)?;
-    path.push_component(alloc, name)?;
-    Ok(path)
-}
-
-/// Whether a git directory was put at a path.
-fn is_git_put(alloc: Global, tree: &mut MemoryWorktree, path: &[u8]) -> bool {
-    is_put_in(
-        alloc,
-        tree,
-        path,
-        b"HEAD",
-        NewNode::File(b"ref: refs/heads/main\n"),
-    ) && is_put_in(alloc, tree, path, b"objects", NewNode::Directory)
-        && is_put_in(alloc, tree, path, b"refs", NewNode::Directory)
-}
-
 /// The entry of a path at stage 0.
 fn entry(alloc: Global, path: &[u8], mode: Mode, flags: Flags) -> Result<IndexEntry, OutOfMemory> {
     Ok(IndexEntry {
@@ -180,8 +122,8 @@ fn times_asked(excludes: &Option<Stack>) -> usize {
 
 /// Whether a step holds.
 fn holds(alloc: Global, world: &mut World, step: &[u8]) -> bool {
-    let (what, rest) = parted(step);
-    let (one, two) = parted(rest);
+    let (what, rest) = parted(step, b'`');
+    let (one, two) = parted(rest, b'`');
     match what {
         b"class" => is_class(alloc, world, one, two),
         b"root" => is_root(alloc, world, one, two),
@@ -189,9 +131,9 @@ fn holds(alloc: Global, world: &mut World, step: &[u8]) -> bool {
         b"give" => is_given(alloc, world, one, two),
         b"ask" => is_asked(alloc, &mut world.asked, one, two),
         b"upgrade" => is_upgraded(alloc, &mut world.tree, one, two),
-        b"git" => is_git_put(alloc, &mut world.tree, one),
+        b"git" => is_git_put(alloc, &mut world.tree, one, b"main"),
         b"index" => {
-            let (mode, flags) = parted(two);
+            let (mode, flags) = parted(two, b'`');
             is_indexed(alloc, &mut world.index, one, mode, flags)
         }
         b"fail" => is_planned(alloc, &mut world.tree, one, number(two) as u64),
@@ -207,7 +149,7 @@ fn holds(alloc: Global, world: &mut World, step: &[u8]) -> bool {
 
 /// The first step that does not hold.
 fn first_lie<'a>(alloc: Global, world: &mut World, steps: &'a [u8]) -> Option<&'a [u8]> {
-    for step in steps.split(|byte| *byte == b'|') {
+    for step in steps.split_str(b"\n  ") {
         if !holds(alloc, world, step) {
             return Some(step);
         }
@@ -227,9 +169,9 @@ pub fn lie_at_once(alloc: Global, case: &[u8]) -> Option<&[u8]> {
 
 /// The same, as a strategy says.
 fn lie_in(alloc: Global, case: &[u8], strategy: Strategy) -> Option<&[u8]> {
-    let (head, steps) = case.split_once_str(b"|").unwrap_or((case, b""));
-    let (_, rules) = parted(head);
-    let (globals, strict) = parted(rules);
+    let (head, steps) = parted_by(case, b"\n  ");
+    let (_, rules) = parted(head, b'`');
+    let (globals, strict) = parted(rules, b'`');
     let stack = match globals {
         b"-" => None,
         _ => match stack_of(alloc, globals, strict == b"strict".as_slice()) {

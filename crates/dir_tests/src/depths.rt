@@ -6,6 +6,7 @@ ghost use Rattle.dir_classify.specs.Excludes.{made_with, tells_excludes};
 use crate::asked::options_of;
 use crate::cases::{lie_at_once, lie_of};
 use crate::noted::Noted;
+use bstr::ByteSlice;
 use dir_classify::{Context, Error, Options};
 use dir_walk::{Report, Strategy, walk_by_path};
 use gitbase_core::{MemoryStore, State};
@@ -19,24 +20,61 @@ use worktree_stack::Stack;
 /// components below the worktree root than the limit is refused itself, whatever lies beneath it:
 /// no path below it is named.
 const DEPTHS: &[u8] = b"\
-what the index has below a directory`-|file`/w/a/b/c/f|index`a/b/c/f`file|ask`options`tracked|\
-ask`depth`3|walk`/w`/w`4`1`tracked file file always - - - a/b/c/f|ask`depth`2|walk`/w`too deep`/w/a/b/c|\
-ask`depth`1|walk`/w`too deep`/w/a/b|ask`depth`0|walk`/w`too deep`/w/a|\
-ask`root`a/b|ask`depth`1|walk`/w`too deep`/w/a/b|ask`root`a|walk`/w`too deep`/w/a/b|ask`depth`0|walk`/w`too deep`/w/a@\
-up-to-date entries below a directory`-|file`/w/a/b/c/f|index`a/b/c/f`file`up to date|ask`depth`1|walk`/w`too deep`/w/a/b|\
-ask`depth`0|walk`/w`too deep`/w/a@\
-a traversal root below one that lies too deep`-|file`/w/a/b/c/d/f|index`a/b/c/d/f`file|ask`root`a/b/c|ask`depth`1|\
-walk`/w`too deep`/w/a/b/c@\
-a repository below a directory`-|file`/w/a/b/x|git`/w/a/b/r/.git|ask`depth`2|\
-walk`/w`/w`3`2`untracked repository - always - - - a/b/r`untracked file - always - - - a/b/x|\
-ask`depth`1|walk`/w`too deep`/w/a/b|ask`depth`0|walk`/w`too deep`/w/a@\
-a worktree of its own below a directory`-|file`/w/a/b/c/f|ask`worktree`a/b/c|ask`options`tracked|ask`depth`2|\
-walk`/w`/w`3`1`tracked repository - always - - - a/b/c|ask`depth`1|walk`/w`too deep`/w/a/b|\
-ask`depth`0|walk`/w`too deep`/w/a";
+@ what the index has below a directory`-
+  file`/w/a/b/c/f
+  index`a/b/c/f`file
+  ask`options`tracked
+  ask`depth`3
+  walk`/w`/w`4`1`tracked file file always - - - a/b/c/f
+  ask`depth`2
+  walk`/w`too deep`/w/a/b/c
+  ask`depth`1
+  walk`/w`too deep`/w/a/b
+  ask`depth`0
+  walk`/w`too deep`/w/a
+  ask`root`a/b
+  ask`depth`1
+  walk`/w`too deep`/w/a/b
+  ask`root`a
+  walk`/w`too deep`/w/a/b
+  ask`depth`0
+  walk`/w`too deep`/w/a
+@ up-to-date entries below a directory`-
+  file`/w/a/b/c/f
+  index`a/b/c/f`file`up to date
+  ask`depth`1
+  walk`/w`too deep`/w/a/b
+  ask`depth`0
+  walk`/w`too deep`/w/a
+@ a traversal root below one that lies too deep`-
+  file`/w/a/b/c/d/f
+  index`a/b/c/d/f`file
+  ask`root`a/b/c
+  ask`depth`1
+  walk`/w`too deep`/w/a/b/c
+@ a repository below a directory`-
+  file`/w/a/b/x
+  git`/w/a/b/r/.git
+  ask`depth`2
+  walk`/w`/w`3`2`untracked repository - always - - - a/b/r`untracked file - always - - - a/b/x
+  ask`depth`1
+  walk`/w`too deep`/w/a/b
+  ask`depth`0
+  walk`/w`too deep`/w/a
+@ a worktree of its own below a directory`-
+  file`/w/a/b/c/f
+  ask`worktree`a/b/c
+  ask`options`tracked
+  ask`depth`2
+  walk`/w`/w`3`1`tracked repository - always - - - a/b/c
+  ask`depth`1
+  walk`/w`too deep`/w/a/b
+  ask`depth`0
+  walk`/w`too deep`/w/a";
 
 /// The first case that does not hold, subtree after subtree or at once.
 fn first_lie(alloc: Global) -> Option<&'static [u8]> {
-    for case in DEPTHS.split(|byte| *byte == b'@') {
+    for case in DEPTHS.split_str(b"\n@ ") {
         if lie_of(alloc, case).is_some() || lie_at_once(alloc, case).is_some() {
             return Some(case);
         }

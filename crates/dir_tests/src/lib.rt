@@ -7,6 +7,8 @@ mod asked;
 #[cfg(test)]
 mod cases;
 #[cfg(test)]
+mod class_cases;
+#[cfg(test)]
 mod classes;
 #[cfg(test)]
 mod depths;
@@ -24,5 +26,7 @@ mod odd;
 mod refusals;
 #[cfg(test)]
 mod texts;
+#[cfg(test)]
+mod walk_cases;
 #[cfg(test)]
 mod walks;

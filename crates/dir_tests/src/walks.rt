@@ -3,10 +3,11 @@ ghost use Rattle.std.specs.Prelude.{◌≡◌, true};
 ghost use Rattle.dir_classify.specs.Excludes.{made_with, tells_excludes};
 
 use crate::asked::options_of;
-use crate::cases::{World, lie_at_once, lie_of, number, parted};
+use crate::cases::{World, lie_at_once, lie_of};
 use crate::classes::{kind_word, match_word, property_word, status_word};
 use crate::odd::{Looks, Odd};
 use crate::refusals::is_error;
+use crate::walk_cases::{DELEGATES, FOLDS, ROOTS, RULES, WALKS};
 use bstr::ByteSlice;
 use dir_classify::{Context, Entry, Error, Options, Status, tells_excludes};
 use dir_walk::{Outcome, Report, Strategy, walk, walk_at_once, walk_by_path};
@@ -14,130 +15,9 @@ use gitbase_core::{Bytes, MemoryStore, PathText, State};
 use glob_rules::ignore::{Origin, RuleGroup};
 use glob_rules::pathspec::Search;
 use std::alloc::Global;
+use test_cases::{number, parted};
 use worktree_fs::{MemoryWorktree, PlannedInterrupt};
 use worktree_stack::Stack;
-
-/// Cases, parted by `@`. A step `walk` names a worktree root and the answer: the path where the
-/// walk began, how many directories were read, how many entries were met, and the entries by path;
-/// or why there is none, where, and for a link in the traversal root at which component. An entry
-/// is its status, its kind on disk, that in the index, how path specs match, its property, the
-/// status of what was folded over it, the rule that decided about excludes, and its path. A rule is
-/// `globals` or how many components the directory of its list has, then its line and its sign.
-const WALKS: &[u8] = b"\
-an empty directory`-|directory`/w/e|walk`/w`/w`2`1|ask`options`empty|\
-walk`/w`/w`2`1`untracked directory - always empty - - e@\
-order of paths`-|file`/w/ab|file`/w/a/c|file`/w/a.b|file`/w/a/b|file`/w/B|\
-walk`/w`/w`2`5`untracked file - always - - - B`untracked file - always - - - a.b`untracked file - always - - - a/b`\
-untracked file - always - - - a/c`untracked file - always - - - ab|reversed|\
-walk`/w`/w`2`5`untracked file - always - - - B`untracked file - always - - - a.b`untracked file - always - - - a/b`\
-untracked file - always - - - a/c`untracked file - always - - - ab@\
-roots and depths`-|file`/w/a/b/f|file`/e/g|directory`/e/h|link`/l`w|link`/m`w/a/b/f|link`/n`n|\
-ask`depth`2|walk`/w`/w`3`1`untracked file - always - - - a/b/f|walk`/l`/l`3`1`untracked file - always - - - a/b/f|\
-walk`/e/g`no root`/e/g|walk`/m`no root`/m|walk`/n`no root`/n|walk`/x`no root`/x|ask`depth`1|walk`/w`too deep`/w/a/b|\
-walk`/w/`too deep`/w/a/b|walk`/l`too deep`/l/a/b|walk`//e/`//e/`2`2`untracked file - always - - - g|ask`depth`0|\
-walk`/w`too deep`/w/a|walk`/`too deep`/e|walk`/w/a/b`/w/a/b`1`1`untracked file - always - - - f@\
-a sparse checkout`-|file`/w/d/f|index`d/`tree|ask`options`pruned|\
-walk`/w`/w`1`1`pruned directory directory always sparse - - d@\
-paths that a spec takes out`-|file`/w/x|file`/w/y|ask`specs`:!x|walk`/w`/w`1`2`untracked file - always - - - y|\
-ask`options`pruned|walk`/w`/w`1`2`untracked file - excluded - - - x`untracked file - always - - - y@\
-a worktree of its own that is a file`-|file`/w/x|ask`worktree`x|ask`options`tracked|\
-walk`/w`/w`1`1`tracked repository - always - - - x@\
-an up-to-date directory that is a file`-|file`/w/d|index`d/t`file`up to date|walk`/w`no directory`/w/d@\
-an up-to-date directory that is a link`-|file`/x/f|link`/w/d`/x|index`d/t`file`up to date|walk`/w`no directory`/w/d@\
-an up-to-date directory`-|file`/w/e/f|directory`/w/d|index`d/x`file`up to date|\
-walk`/w`/w`3`2`untracked file - always - - - e/f";
-
-/// Cases of folding, of deletion and of what they leave.
-const FOLDS: &[u8] = b"\
-a directory that is folded`-|file`/w/d/a|file`/w/d/b|\
-walk`/w`/w`2`2`untracked file - always - - - d/a`untracked file - always - - - d/b|ask`options`folding|\
-walk`/w`/w`2`3`untracked directory - always - - - d|ask`options`folding within|\
-walk`/w`/w`2`3`untracked directory - always - - - d`untracked file - always - untracked - d/a`\
-untracked file - always - untracked - d/b|reversed|\
-walk`/w`/w`2`3`untracked directory - always - - - d`untracked file - always - untracked - d/a`\
-untracked file - always - untracked - d/b@\
-a directory with a repository`-|file`/w/d/a|git`/w/d/r/.git|ask`options`folding|\
-walk`/w`/w`2`2`untracked file - always - - - d/a`untracked repository - always - - - d/r@\
-a directory with a tracked file`-|file`/w/d/t|file`/w/d/u|index`d/t`file|ask`options`folding|\
-walk`/w`/w`2`2`untracked file - always - - - d/u|ask`options`folding tracked|\
-walk`/w`/w`2`2`tracked file file always - - - d/t`untracked file - always - - - d/u@\
-what is unlike the directory above it`*.o|file`/w/d/a|file`/w/d/b.o|ask`options`folding shown within-unlike|\
-walk`/w`/w`2`3`untracked directory - always - - - d`ignored file - always - untracked globals:1:+ d/b.o@\
-a spec below a directory`-|file`/w/d/a1|file`/w/d/b|ask`specs`d/a*|ask`options`folding|\
-walk`/w`/w/d`1`3`untracked directory - wildcard - - - d|index`d/b`file|\
-walk`/w`/w/d`1`2`untracked file - wildcard - - - d/a1@\
-a usual checkout``|git`/w/.git|git`/w/.git/modules/lib|file`/w/.gitignore`target/|file`/w/.gitmodules|file`/w/src/main.c|\
-file`/w/lib/.git`gitdir: ../.git/modules/lib|file`/w/target/x.o|file`/w/notes/a|file`/w/notes/b|index`.gitignore`file|\
-index`.gitmodules`file|index`lib`commit|index`src/main.c`file|ask`options`folding shown-folded|\
-walk`/w`/w`3`9`untracked directory - always - - - notes`ignored directory - always - - 0:1:+ target@\
-precious paths in deletion`$key|file`/w/d/key|file`/w/d/x|ask`options`nonbare folding shown-folded|\
-walk`/w`/w`2`2`precious file - always - - globals:1:+ d/key`untracked file - always - - - d/x@\
-the current directory in deletion`-|directory`/w/d|ask`current`/w/d|ask`options`nonbare|\
-walk`/w`/w`2`1`untracked directory - always current - - d@\
-a repository in an ignored directory`build/|git`/w/build/r/.git|ask`options`hide shown-folded|\
-walk`/w`/w`1`1`ignored directory - always - - globals:1:+ build|ask`options`nonbare shown-folded|\
-walk`/w`/w`2`1`ignored repository - always - - globals:1:+ build/r";
-
-/// Cases of traversal roots.
-const ROOTS: &[u8] = b"\
-traversal roots`-|link`/w/l`/x|file`/w/a|file`/w/d/f|link`/w/d/l`/x|ask`root`l/x|walk`/w`link in root`/w/l/x`0|\
-ask`root`d/l/x|walk`/w`link in root`/w/d/l/x`1|ask`root`gone|walk`/w`no component`/w/gone|ask`root`../w|\
-walk`/w`outside`../w|ask`root`/w|walk`/w`outside`/w|ask`root`d|walk`/w`/w/d`1`2`untracked file - always - - - d/f`\
-untracked symlink - always - - - d/l|ask`root`d/f|walk`/w`/w/d/f`0`1`untracked file - always - - - d/f|\
-ask`root`a/..|walk`/w`/w`2`4`untracked file - always - - - a`untracked file - always - - - d/f`\
-untracked symlink - always - - - d/l`untracked symlink - always - - - l";
-
-/// Cases of rules.
-const RULES: &[u8] = b"\
-the rule that decided``|file`/w/.gitignore`*.o\n!k.o|file`/w/a.o|file`/w/k.o|ask`options`shown|\
-walk`/w`/w`1`3`untracked file - always - - - .gitignore`ignored file - always - - 0:1:+ a.o`\
-untracked file - always - - 0:2:! k.o@\
-a rule for a directory`/a/|file`/w/a/f|ask`options`shown|\
-walk`/w`/w`1`1`ignored directory - always - - globals:1:+ a@\
-what is lifted below an ignored directory``|file`/w/.gitignore`build/|file`/w/build/.gitignore`!sub/|file`/w/build/sub/x|\
-file`/w/build/y|ask`options`nonbare shown|\
-walk`/w`/w`3`4`untracked file - always - - - .gitignore`ignored file - always - - 0:1:+ build/.gitignore`\
-untracked file - always - - 1:1:! build/sub/x`ignored file - always - - 0:1:+ build/y@\
-what strict parents do not lift``strict|file`/w/.gitignore`build/|file`/w/build/.gitignore`!sub/|file`/w/build/sub/x|\
-file`/w/build/y|ask`options`nonbare shown|\
-walk`/w`/w`3`4`untracked file - always - - - .gitignore`ignored file - always - - 0:1:+ build/.gitignore`\
-ignored file - always - - 0:1:+ build/sub/x`ignored file - always - - 0:1:+ build/y";
-
-/// Cases of delegates. A step `give` names a delegate that looks into directories `always`, `never`
-/// or `in turn`, that looks into the worktree root and `only d` below it, or that answers Break at
-/// an entry, as at `break 2`; where there are fewer it answers none.
-///
-/// What is broken off has met what came before: within a fold what was merged, and for what is
-/// handed up at the end all.
-///
-/// Of the delegate that looks `only d`: from the worktree root on, two directories are read, that
-/// and `d`; what is met is the file in `d`, and by themselves `d/d` and `e`, which have other
-/// paths. From `e/d` on nothing is read, and that directory is all that is met. Were it asked about
-/// another path than that of the entry, about none or the last name alone, it would look into more.
-const DELEGATES: &[u8] = b"\
-a usual checkout``|git`/w/.git|git`/w/.git/modules/lib|file`/w/.gitignore`target/|file`/w/.gitmodules|file`/w/src/main.c|\
-file`/w/lib/.git`gitdir: ../.git/modules/lib|file`/w/target/x.o|file`/w/notes/a|file`/w/notes/b|index`.gitignore`file|\
-index`.gitmodules`file|index`lib`commit|index`src/main.c`file|ask`options`folding shown-folded|\
-give`always`/w`/w`5`10`untracked directory - always - - - notes`ignored directory - always - - 0:1:+ target|\
-give`never`/w`/w`0`1`untracked directory - always - - - @\
-two files in a directory`-|file`/w/d/a|file`/w/d/b|give`break 1`/w`/w`2`1`untracked file - always - - - d/a@\
-directories`-|file`/w/d/a|file`/w/d/b|file`/w/e/c|file`/w/f/g|\
-give`in turn`/w`/w`2`3`untracked directory - always - - - d`untracked file - always - - - e/c`\
-untracked directory - always - - - f|give`break 1`/w`/w`2`1`untracked file - always - - - d/a|\
-give`break 2`/w`/w`2`2`untracked file - always - - - d/a`untracked file - always - - - d/b|\
-give`break 4`/w`/w`4`4`untracked file - always - - - d/a`untracked file - always - - - d/b`untracked file - always - - - e/c`\
-untracked file - always - - - f/g|give`break 5`/w`/w`4`4`untracked file - always - - - d/a`untracked file - always - - - d/b`\
-untracked file - always - - - e/c`untracked file - always - - - f/g|\
-ask`root`d/a|give`break 1`/w`/w/d/a`0`1`untracked file - always - - - d/a@\
-broken off within a fold`*.o|file`/w/d/a|file`/w/d/b.o|ask`options`folding shown within-unlike|\
-give`break 1`/w`/w`2`2`ignored file - always - untracked globals:1:+ d/b.o|\
-give`break 2`/w`/w`2`3`untracked directory - always - - - d`ignored file - always - untracked globals:1:+ d/b.o@\
-broken off at what is handed up at the end`-|file`/w/d/a|file`/w/d/b|ask`root`d|ask`options`folding|\
-give`break 1`/w`/w/d`1`3`untracked directory - always - - - d@\
-a worktree of its own that is a file`-|file`/w/x|ask`worktree`x|give`always`/w`no directory`/w/x@\
-a path among others`-|file`/w/d/a|file`/w/d/d/b|file`/w/e/d/c|\
-give`only d`/w`/w`2`3`untracked file - always - - - d/a`untracked directory - always - - - d/d`\
-untracked directory - always - - - e|ask`root`e/d|give`only d`/w`/w/e/d`0`1`untracked directory - always - - - e/d";
 
 /// Whether these are the words of what decided about excludes.
 fn has_origin(origin: Option<Origin>, words: &[u8]) -> bool {
@@ -199,7 +79,7 @@ fn is_entry(found: &(Entry, Option<Status>), words: &[u8]) -> bool {
 fn are(entries: &[(Entry, Option<Status>)], words: &[u8]) -> bool {
     let mut rest = words;
     for entry in entries {
-        let (word, more) = parted(rest);
+        let (word, more) = parted(rest, b'`');
         if !is_entry(entry, word) {
             return false;
         }
@@ -210,9 +90,9 @@ fn are(entries: &[(Entry, Option<Status>)], words: &[u8]) -> bool {
 
 /// Whether a report has these words.
 fn is_report(report: &Report, words: &[u8]) -> bool {
-    let (root, rest) = parted(words);
-    let (read, rest) = parted(rest);
-    let (seen, rest) = parted(rest);
+    let (root, rest) = parted(words, b'`');
+    let (read, rest) = parted(rest, b'`');
+    let (seen, rest) = parted(rest, b'`');
     let outcome = &report.outcome;
     report.root.as_bytes() == root
         && outcome.read_dir_calls as usize == number(read)
@@ -444,28 +324,28 @@ fn delegate_of(alloc: Global, word: &[u8]) -> Odd {
 
 /// Whether a walk that is given to a delegate is answered as the step says.
 pub fn is_given(alloc: Global, world: &mut World, delegate: &[u8], rest: &[u8]) -> bool {
-    let (root, want) = parted(rest);
+    let (root, want) = parted(rest, b'`');
     let delegate = delegate_of(alloc, delegate);
     is_answer(report_of(alloc, world, root, delegate), want)
 }
 
 #[test]
 fn walks(rt: HostRuntime) {
-    for case in WALKS.split(|byte| *byte == b'@') {
+    for case in WALKS.split_str(b"\n@ ") {
         assert_eq!(rt; lie_of(rt.alloc(), case), None, "{case:?}");
     }
 }
 
 #[test]
 fn folds(rt: HostRuntime) {
-    for case in FOLDS.split(|byte| *byte == b'@') {
+    for case in FOLDS.split_str(b"\n@ ") {
         assert_eq!(rt; lie_of(rt.alloc(), case), None, "{case:?}");
     }
 }
 
 /// The first case that does not hold where subtrees are walked at once.
 fn lie_among(alloc: Global, cases: &[u8]) -> Option<&[u8]> {
-    for case in cases.split(|byte| *byte == b'@') {
+    for case in cases.split_str(b"\n@ ") {
         if lie_at_once(alloc, case).is_some() {
             return Some(case);
         }
@@ -482,21 +362,21 @@ fn walks_at_once(rt: HostRuntime) {
 
 #[test]
 fn traversal_roots(rt: HostRuntime) {
-    for case in ROOTS.split(|byte| *byte == b'@') {
+    for case in ROOTS.split_str(b"\n@ ") {
         assert_eq!(rt; lie_of(rt.alloc(), case), None, "{case:?}");
     }
 }
 
 #[test]
 fn rules(rt: HostRuntime) {
-    for case in RULES.split(|byte| *byte == b'@') {
+    for case in RULES.split_str(b"\n@ ") {
         assert_eq!(rt; lie_of(rt.alloc(), case), None, "{case:?}");
     }
 }
 
 #[test]
 fn delegates(rt: HostRuntime) {
-    for case in DELEGATES.split(|byte| *byte == b'@') {
+    for case in DELEGATES.split_str(b"\n@ ") {
         assert_eq!(rt; lie_of(rt.alloc(), case), None, "{case:?}");
     }
 }

@@ -14,13 +14,13 @@ use worktree_report::{CountsFaults, Refusal, Setup, has_failed_since, of_report,
 /// What `git clean -n` prints of the work tree at `root`, called in its directory `prefix`: a line
 /// for each path that git would remove, by a report that is made for it. Nothing is removed.
 ///
-/// The cleaning has to be one that there is, which [`wrong_in`](crate::wrong_in) tests. The setup is
-/// found with the options that [`walk_options`](crate::walk_options) gives for the cleaning, and
+/// The cleaning has to be one that there is, which [`wrong_in`](crate::wrong_in) tests. The setup
+/// is found with the options that [`walk_options`](crate::walk_options) gives for the cleaning, and
 /// with the path specs; `named` has each of these alone. Where no path spec is written, or each
 /// excludes, git means the current directory: then a path spec of it is among them. The patterns of
 /// `-e` are the last of the setup's overrides. Its traversal root is the top of the work tree, `.`,
-/// so that the walk sees each `.git` above what it looks at. By another one a directory above it may
-/// be named, of which the rest was not seen.
+/// so that the walk sees each `.git` above what it looks at. By another one a directory above it
+/// may be named, of which the rest was not seen.
 ///
 /// # Errors
 ///

@@ -5,8 +5,8 @@ ghost use Rattle.gitbase_core.specs.Index.{prefix_cmp};
 ghost use Rattle.git_clean.specs.Beneath as words;
 
 use crate::going::name;
-use crate::place::Place;
 use gitbase_core::{OutOfMemory, is_top};
+use ls_files::Place;
 use std::alloc::Global;
 use std::cmp::Ordering;
 use worktree_report::ReportEntry;

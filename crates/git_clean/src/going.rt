@@ -6,11 +6,11 @@ ghost use Rattle.ls_files.specs.Others as others;
 ghost use Rattle.git_clean.specs.Going as words;
 
 use crate::cleaning::Cleaning;
-use crate::place::Place;
 use dir_classify::entry::{holds_names, is_repository};
 use dir_classify::{Entry, Kind, Property, Status};
 use gitbase_core::{Bytes, OutOfMemory};
 use glob_rules::pathspec::{Matcher, Search};
+use ls_files::Place;
 use std::alloc::Global;
 
 /// Whether an entry of this status goes.
@@ -152,8 +152,8 @@ fn shows(cleaning: &Cleaning, entry: &Entry) -> bool
     cleaning.ignored_only && is_untracked(entry.status) && is_leaf(entry.disk_kind)
 }
 
-/// Whether the directories above an entry are marked; with `-X` and without `-d` it has to lie in no
-/// directory that holds a `.git`.
+/// Whether the directories above an entry are marked; with `-X` and without `-d` it has to lie in
+/// no directory that holds a `.git`.
 pub fn marks(cleaning: &Cleaning, entry: &Entry) -> bool
     ensures { result ≡ words.marks cleaning.now entry.now }
 {

@@ -12,7 +12,6 @@ mod leading;
 mod line;
 mod names;
 mod parts;
-mod place;
 mod places;
 mod ruled;
 mod scene;

@@ -5,13 +5,12 @@ ghost use Rattle.git_clean.specs.Places as words;
 ghost use Rattle.git_clean.specs.Scenes.{scene_by};
 
 use crate::going::{is_entry_matched, is_removable, is_untracked, name, place_at};
-use crate::place::Place;
 use crate::places::{is_hidden, is_kept, is_taken_by, top};
 use crate::scene::Scene;
 use dir_classify::Entry;
 use dir_classify::entry::holds_names;
 use gitbase_core::{Bytes, OutOfMemory, State};
-use ls_files::is_unseen;
+use ls_files::{Place, is_unseen};
 use std::alloc::Global;
 use std::collections::BTreeSet;
 

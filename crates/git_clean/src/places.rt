@@ -7,9 +7,9 @@ ghost use Rattle.git_clean.specs.Scenes.{scene_by};
 use crate::above::has;
 use crate::going::name;
 use crate::leading::is_taken;
-use crate::place::Place;
 use crate::scene::Scene;
 use gitbase_core::{EntryKind, OutOfMemory, State};
+use ls_files::Place;
 use std::alloc::Global;
 
 /// Whether the index has a submodule at a path where it has this kind.

@@ -102,8 +102,8 @@ fn ruled_by(
     Ok(all)
 }
 
-/// The entries of a report: where the patterns of `-e` are the only rules, an untracked one that they
-/// exclude is ignored, and so is one that lies in a directory that they exclude.
+/// The entries of a report: where the patterns of `-e` are the only rules, an untracked one that
+/// they exclude is ignored, and so is one that lies in a directory that they exclude.
 ///
 /// # Errors
 ///

@@ -8,8 +8,8 @@ use ls_files::NamedSpec;
 use std::collections::BTreeSet;
 use worktree_report::ReportEntry;
 
-/// What is asked, the index, the path specs, the current directory and the entries of a report, with
-/// the directories that follow from these.
+/// What is asked, the index, the path specs, the current directory and the entries of a report,
+/// with the directories that follow from these.
 #[derive(Drop)]
 pub struct Scene<'a> {
     pub cleaning: &'a Cleaning,

@@ -1,12 +1,12 @@
 //! Cleanings, each compared with what git prints.
 use crate::answers::{ROWS, TREES};
-use crate::tree::{lines_of, parted, tree_of};
 use crate::words::{all_named, cleaning_of, patterns_of, specs_of};
 use bstr::ByteSlice;
 use git_clean::{Cleaning, dry_clean, walk_options, wrong_in};
 use gitbase_core::Bytes;
 use ls_files::NamedSpec;
 use std::alloc::Global;
+use test_cases::{lines_of, parted, tree_of};
 use worktree_fs::PlannedInterrupt;
 use worktree_report::Setup;
 
@@ -18,7 +18,7 @@ fn setup_for(
     options: &[u8],
     specs: &[u8],
 ) -> Option<Setup> {
-    let lines = lines_of(alloc, text)?;
+    let lines = lines_of(alloc, text, b'$')?;
     let mut setup = Setup::parse(alloc, &lines).ok()?;
     setup.options = walk_options(cleaning, &setup.options);
     setup.overrides = patterns_of(alloc, options)?;
@@ -39,7 +39,7 @@ fn cleaned_of(
     if let Some(_) = wrong_in(cleaning, setup) {
         return None;
     }
-    let mut tree = tree_of(alloc, steps)?;
+    let mut tree = tree_of(alloc, steps, b'$')?;
     let mut interrupt = PlannedInterrupt::never();
     dry_clean(
         alloc,
@@ -71,7 +71,7 @@ fn cleaned_in(
 
 /// Whether a text is what a row has, with `$` in the place of each line feed.
 fn is_text(alloc: Global, text: &[u8], want: &[u8]) -> bool {
-    match lines_of(alloc, want) {
+    match lines_of(alloc, want, b'$') {
         Some(lines) => lines.as_slice() == text,
         None => false,
     }

@@ -6,6 +6,4 @@ mod answers;
 #[cfg(test)]
 mod cleanings;
 #[cfg(test)]
-mod tree;
-#[cfg(test)]
 mod words;

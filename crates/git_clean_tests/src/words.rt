@@ -1,11 +1,11 @@
 //! What is asked by the words of a row.
-use crate::tree::parted;
 use bstr::ByteSlice;
 use git_clean::Cleaning;
 use gitbase_core::Bytes;
 use glob_rules::pathspec::{Defaults, Search, Spec};
 use ls_files::NamedSpec;
 use std::alloc::Global;
+use test_cases::parted;
 
 /// What is asked where there is no word.
 fn usual() -> Cleaning {

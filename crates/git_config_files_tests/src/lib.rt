@@ -12,6 +12,6 @@ mod rules;
 #[cfg(test)]
 mod stacks;
 #[cfg(test)]
-mod texts;
+mod surroundings;
 #[cfg(test)]
-mod tree;
+mod texts;

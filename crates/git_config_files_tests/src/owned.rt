@@ -1,10 +1,11 @@
 //! Whose repositories are read, and where the search for one ends.
 use crate::owned_answers as git;
-use crate::tree::{parted, surroundings_of, tree_of, wanted};
+use crate::surroundings::{surroundings_of, wanted};
 use git_config_files::{FilesError, own_top};
 use git_places::{Limits, PlacesError, Surroundings, Top, find_top, limits_of};
 use gitbase_core::Bytes;
 use std::alloc::Global;
+use test_cases::{parted, tree_of};
 use worktree_fs::{MemoryOwners, MemoryWorktree, OwnedNode, Ownership, Worktree};
 
 /// The number that digits spell.
@@ -150,7 +151,7 @@ fn answers_in(
     steps: &[u8],
     want: &[u8],
 ) -> bool {
-    match tree_of(alloc, steps) {
+    match tree_of(alloc, steps, b'$') {
         Some(tree) => {
             let mut tree = tree;
             answers(alloc, &mut tree, owners, around, want)

@@ -1,10 +1,11 @@
 //! The files of ignore rules outside the work tree.
 use crate::answers as git;
 use crate::stacks::is_refused;
-use crate::tree::{parted, places_in, surroundings_of, tree_of, wanted};
+use crate::surroundings::{places_in, surroundings_of, wanted};
 use git_config_files::{FilesError, Rules, RulesFile, read_stack, rules_files};
 use git_places::{Places, Surroundings};
 use std::alloc::Global;
+use test_cases::{parted, tree_of};
 use worktree_fs::{MemoryWorktree, Worktree};
 
 /// Rows: the file in which stands what is refused, or `-`; what is set in the environment; and the tree.
@@ -66,7 +67,8 @@ fn answers(
 }
 
 fn is_answered(alloc: Global, want: &[u8], words: &[u8], steps: &[u8]) -> bool {
-    let (Some(tree), Some(around)) = (tree_of(alloc, steps), surroundings_of(alloc, words)) else {
+    let (Some(tree), Some(around)) = (tree_of(alloc, steps, b'$'), surroundings_of(alloc, words))
+    else {
         return false;
     };
     let mut tree = tree;
@@ -101,7 +103,8 @@ fn stands_in(error: &FilesError, want: &[u8]) -> bool {
 }
 
 fn is_refused_in(alloc: Global, want: &[u8], words: &[u8], steps: &[u8]) -> bool {
-    let (Some(tree), Some(around)) = (tree_of(alloc, steps), surroundings_of(alloc, words)) else {
+    let (Some(tree), Some(around)) = (tree_of(alloc, steps, b'$'), surroundings_of(alloc, words))
+    else {
         return false;
     };
     let mut tree = tree;

@@ -1,10 +1,11 @@
 //! Stacks of configurations, and what they say.
 use crate::answers as git;
-use crate::tree::{is_line, lines_of, parted, places_in, surroundings_of, tree_of, wanted};
+use crate::surroundings::{is_line, places_in, surroundings_of, wanted};
 use git_config_files::{FilesError, Stack, read_stack};
 use git_config_lite::{Entry, Metadata, Section, Source};
 use git_places::{Places, PlacesError, Surroundings};
 use std::alloc::Global;
+use test_cases::{lines_of, parted, tree_of};
 use worktree_fs::{MemoryWorktree, Worktree};
 
 /// Rows that git cannot be asked, since what they need is not there or is given up.
@@ -149,9 +150,9 @@ fn answers(
 /// Whether the answer of a row is the one that is wanted.
 fn is_answered(alloc: Global, want: &[u8], words: &[u8], steps: &[u8]) -> bool {
     let (Some(tree), Some(around), Some(want)) = (
-        tree_of(alloc, steps),
+        tree_of(alloc, steps, b'$'),
         surroundings_of(alloc, words),
-        lines_of(alloc, want),
+        lines_of(alloc, want, b'$'),
     ) else {
         return false;
     };

@@ -1,8 +1,9 @@
 //! The texts of errors, and the files in which keys stand.
-use crate::tree::{parted, places_in, surroundings_of, tree_of};
+use crate::surroundings::{places_in, surroundings_of};
 use git_config_files::{ConfigFiles, FilesError, read_stack};
 use gitbase_core::{Bytes, PathText};
 use std::alloc::Global;
+use test_cases::{parted, tree_of};
 
 /// Rows, parted by bars: an error and its text, parted by a backquote.
 const ROWS: &[u8] = b"\
@@ -64,8 +65,10 @@ fn are_files(files: &ConfigFiles, want: &[u8]) -> bool {
 }
 
 fn appear(alloc: Global, steps: &[u8], want: &[u8]) -> bool {
-    let (Some(tree), Some(around)) = (tree_of(alloc, steps), surroundings_of(alloc, b"home=/w/h"))
-    else {
+    let (Some(tree), Some(around)) = (
+        tree_of(alloc, steps, b'$'),
+        surroundings_of(alloc, b"home=/w/h"),
+    ) else {
         return false;
     };
     let mut tree = tree;

@@ -1,10 +1,10 @@
 //! Layouts of work trees and repositories, and what git answers in them.
 use crate::answers as git;
-use crate::tree::{parted, tree_of};
 use bstr::ByteSlice;
 use git_places::{Ceilings, Limits, Places, PlacesError, ceilings_of, find_top, places_of};
 use gitbase_core::PathText;
 use std::alloc::Global;
+use test_cases::{parted, tree_of};
 use worktree_fs::{MemoryOwners, MemoryWorktree, Worktree};
 
 /// The same of trees at whose top a repository lies, which were asked of git by hand.
@@ -140,7 +140,7 @@ fn limits_in(alloc: Global, tree: &mut MemoryWorktree, text: &[u8]) -> Option<Li
 fn is_answered(alloc: Global, want: &[u8], asked: &[u8]) -> bool {
     let (current, rest) = parted(asked, b'^');
     let (text, steps) = parted(rest, b'^');
-    let Some(tree) = tree_of(alloc, steps) else {
+    let Some(tree) = tree_of(alloc, steps, b'~') else {
         return false;
     };
     let mut tree = tree;

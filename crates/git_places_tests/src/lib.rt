@@ -9,5 +9,3 @@ mod layouts;
 mod standing;
 #[cfg(test)]
 mod texts;
-#[cfg(test)]
-mod tree;

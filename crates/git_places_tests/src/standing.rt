@@ -1,8 +1,8 @@
 //! The files in which stands what is refused.
 use crate::layouts::{places_in, word_of};
-use crate::tree::{parted, tree_of};
 use git_places::{Ceilings, Limits, PlacesError};
 use std::alloc::Global;
+use test_cases::{parted, tree_of};
 
 /// Rows: the word of the refusal and the file in which its cause stands, and the tree, in whose directory `/w/t` is asked. A file of
 /// the common directory is spelled as `commondir` leads to it.
@@ -39,7 +39,7 @@ fn file_of(error: &PlacesError) -> &[u8] {
 fn holds(alloc: Global, row: &[u8]) -> bool {
     let (want, steps) = parted(row, b'^');
     let (word, file) = parted(want, b' ');
-    let Some(tree) = tree_of(alloc, steps) else {
+    let Some(tree) = tree_of(alloc, steps, b'~') else {
         return false;
     };
     let mut tree = tree;

@@ -1,8 +1,8 @@
 //! The texts of errors.
-use crate::tree::parted;
 use git_places::PlacesError;
 use gitbase_core::{Bytes, PathText};
 use std::alloc::Global;
+use test_cases::parted;
 
 /// Rows, parted by bars: an error and its text, parted by a backquote.
 const ROWS: &[u8] = b"\

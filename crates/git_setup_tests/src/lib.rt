@@ -4,10 +4,10 @@
 #[cfg(test)]
 mod answers;
 #[cfg(test)]
+mod asked;
+#[cfg(test)]
 mod refusals;
 #[cfg(test)]
 mod setups;
 #[cfg(test)]
 mod specs;
-#[cfg(test)]
-mod tree;

@@ -1,15 +1,14 @@
 //! Refusals, of trees that are made by hand: each row has the word, letters for what is asked, the directory, the path spec, if there is
 //! one, and the steps behind those of a repository without entries. The letter `d` is for deletion, `e` for a variable that points
 //! elsewhere.
-use crate::tree::{
-    asked_alone, asked_for, owners_of, parted, surroundings_in, tree_of, usual_options,
-};
+use crate::asked::{asked_alone, asked_for, owners_of, surroundings_in, usual_options};
 use bstr::ByteSlice;
 use dir_classify::ForDeletionMode;
 use git_places::Surroundings;
 use git_setup::{Asked, Found, GitRefusal, setup_here};
 use gitbase_core::{Bytes, PathText};
 use std::alloc::Global;
+use test_cases::{parted, tree_of};
 use worktree_fs::{MemoryOwners, MemoryWorktree};
 use worktree_report::SetupOptions;
 
@@ -155,7 +154,7 @@ fn is_answered(alloc: Global, want: &[u8], letters: &[u8], rest: &[u8]) -> Optio
     let (directory, rest) = parted(rest, b'^');
     let (spec, steps) = parted(rest, b'^');
     let all = steps_of(alloc, steps)?;
-    let mut tree = tree_of(alloc, &all)?;
+    let mut tree = tree_of(alloc, &all, b'$')?;
     let mut owners = owners_of(alloc).ok()?;
     let around = around_of(alloc, letters, directory)?;
     let asked = asked_of(alloc, letters, spec)?;

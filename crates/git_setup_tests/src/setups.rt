@@ -1,11 +1,12 @@
 //! Setups, each compared with the one that the text means which `scripts/setup-of` prints.
 use crate::answers::SETUPS;
-use crate::tree::{asked_alone, found_in, lines_of, parted};
+use crate::asked::{asked_alone, found_in};
 use bstr::ByteSlice;
 use git_setup::{Asked, Found};
 use gitbase_core::PathText;
 use std::alloc::Global;
 use std::collections::BTreeSet;
+use test_cases::{lines_of, parted};
 use worktree_report::{Configs, Setup, SetupOptions};
 
 fn are_in(paths: &BTreeSet<PathText>, others: &BTreeSet<PathText>) -> bool {
@@ -60,7 +61,7 @@ fn is_met(alloc: Global, row: &[u8]) -> bool {
     let (text, rest) = parted(row, b'^');
     let (directory, rest) = parted(rest, b'^');
     let (_, steps) = parted(rest, b'^');
-    let Some(lines) = lines_of(alloc, text) else {
+    let Some(lines) = lines_of(alloc, text, b'$') else {
         return false;
     };
     match Setup::parse(alloc, &lines) {

@@ -1,10 +1,11 @@
 //! Path specs from a directory, by the entries that they mean.
 use crate::answers::{SPECS, TREE};
-use crate::tree::{asked_for, found_in, parted, usual_options};
+use crate::asked::{asked_for, found_in, usual_options};
 use bstr::ByteSlice;
 use git_setup::{Asked, Found};
 use glob_rules::pathspec::{Matcher, Search};
 use std::alloc::Global;
+use test_cases::parted;
 
 /// Whether an entry is meant.
 fn means(specs: &Search, path: &[u8]) -> bool {

@@ -18,12 +18,15 @@ use Rattle.index_status.specs.States.{IsAskedBy, IsPossible, IsState, files_for,
 abbrev pub Row : Type 0
 Row = List ℕ × PathState
 
+-- the path of a row
 abbrev pub path_of : Row → List ℕ
 path_of row = row.0
 
+-- the row of an entry: its path, and its state over the tree
 abbrev pub row : Names → List ℕ → IndexEntry → Row
 row t root e = (e.path, state t root e)
 
+-- there is a path, and it is this one
 abbrev pub is_path : Option (List ℕ) → List ℕ → Bool
 is_path None path = false
 is_path (Some other) path = bytes_eq other path
@@ -34,6 +37,7 @@ firsts_after before [] = []
 firsts_after before (e ∷ entries) =
     if is_path before e.path then firsts_after before entries else e ∷ firsts_after (Some e.path) entries
 
+-- the first entry of each path
 abbrev pub firsts : List IndexEntry → List IndexEntry
 firsts entries = firsts_after None entries
 
@@ -47,9 +51,11 @@ last_path [] = None
 last_path (row ∷ []) = Some row.0
 last_path (row ∷ next ∷ made) = last_path (next ∷ made)
 
+-- the last row is of this path
 abbrev pub is_last : List Row → List ℕ → Bool
 is_last made path = is_path (last_path made) path
 
+-- one row more
 abbrev pub IsMore : List Row → List ℕ → PathState → List Row → Type 0
 IsMore made path s more = more ≡ made ++ (path, s) ∷ []
 

@@ -21,6 +21,7 @@ is_unmerged e = not (e.stage == 0)
 abbrev pub is_left_out : IndexEntry → Bool
 is_left_out e = has_flag skip_worktree_flag e || (has_flag assume_valid_flag e || mode_bits e.mode == dir_mode)
 
+-- the mode of a symbolic link
 abbrev pub is_link_mode : Mode → Bool
 is_link_mode mode = mode_bits mode == symlink_mode
 
@@ -46,6 +47,7 @@ by_link (found other) = states.TypeChanged
 abbrev pub by_bytes : List ℕ → List ℕ → PathState
 by_bytes id bytes = if bytes_eq (blob_id bytes) id then states.Same else states.Modified
 
+-- the state of a file's entry by what stands at its path
 abbrev pub by_file : List ℕ → Look → PathState
 by_file id absent = states.Deleted
 by_file id (found (file bytes)) = by_bytes id bytes
@@ -114,6 +116,7 @@ IsUnread s = (s ≡ states.Deleted) ⊎ ((s ≡ states.Unchecked) ⊎ (s ≡ sta
 abbrev pub IsRead : PathState → Type 0
 IsRead s = (s ≡ states.Deleted) ⊎ ((s ≡ states.TypeChanged) ⊎ ((s ≡ states.Same) ⊎ (s ≡ states.Modified)))
 
+-- a state that may be told of an entry whose path has something: by its mode, unread or read
 abbrev pub IsSeen : IndexEntry → PathState → Type 0
 IsSeen e s = MatchBool (mode_bits e.mode == commit_mode) (IsUnread s) (MatchBool (is_link_mode e.mode) (IsUnread s) (IsRead s))
 

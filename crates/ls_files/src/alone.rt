@@ -77,8 +77,8 @@ fn is_excluded(rules: &Search, case: Case, place: &Place<'_>) -> bool
     is_excluded_itself(rules, case, place)
 }
 
-/// Whether patterns exclude a path, or a directory above it; `is_dir` says whether a directory stands
-/// at the path.
+/// Whether patterns exclude a path, or a directory above it; `is_dir` says whether a directory
+/// stands at the path.
 pub fn is_path_excluded(rules: &Search, case: Case, path: &[u8], is_dir: bool) -> bool
     ensures { result ≡ words.is_excluded rules.now case
         (record { path = path.now; holds_names = is_dir }) }

@@ -26,6 +26,7 @@ pub fn is_directory(entry: &IndexEntry) -> bool
     entry.mode.is_submodule() || entry.mode.is_sparse()
 }
 
+/// Whether the path specs match an entry, as that of a directory or not.
 pub fn is_entry_matched(specs: &Search, entry: &IndexEntry) -> bool
     ensures { result ≡ cached.is_entry_matched specs.now entry.now }
 {

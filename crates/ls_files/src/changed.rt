@@ -307,10 +307,10 @@ fn has_sparse(entries: &[IndexEntry]) -> bool
     entries.iter().any(|entry| is_sparse(entry))
 }
 
-/// What `git ls-files -d` and `-m` list of the work tree at `root`, called in its directory `prefix`:
-/// the paths of the index of which nothing is there, or something else, by what is told of the nodes;
-/// and beside them what the index has, where that is asked for. Bytes are compared where neither the
-/// mode nor the size of a file tells.
+/// What `git ls-files -d` and `-m` list of the work tree at `root`, called in its directory
+/// `prefix`: the paths of the index of which nothing is there, or something else, by what is told
+/// of the nodes; and beside them what the index has, where that is asked for. Bytes are compared
+/// where neither the mode nor the size of a file tells.
 ///
 /// `index` and `details` are what the file of the index says, in its order; where a skipped entry counts
 /// as one that is not since something is there, its flag is taken away. The listing has to be one

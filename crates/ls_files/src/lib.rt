@@ -34,6 +34,7 @@ pub use excluded::{list_excluded, lists_excluded, wrong_excluded};
 pub use excluded_error::ExcludedError;
 pub use listed::{Listed, list_found};
 pub use listing::{Listing, NamedSpec};
+pub use place::Place;
 pub use standings::Standings;
 pub use unseen::is_unseen;
 pub use walking::walk_options;

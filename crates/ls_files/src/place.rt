@@ -23,6 +23,7 @@ impl<'a> Model for Place<'a> {
 }
 
 impl<'a> Place<'a> {
+    /// A path, as that of a directory or not.
     pub fn new(path: &'a [u8], holds_names: bool) -> Place<'a>
         ensures path { result.path ≡ path.now }
         ensures holds_names { result.holds_names ≡ holds_names }
@@ -30,12 +31,14 @@ impl<'a> Place<'a> {
         Place { path, holds_names }
     }
 
+    /// The path.
     pub fn path(&self) -> &'a [u8]
         ensures { result.now ≡ self.now.path }
     {
         self.path
     }
 
+    /// Whether a directory stands there.
     pub fn holds_names(&self) -> bool
         ensures { result ≡ self.now.holds_names }
     {

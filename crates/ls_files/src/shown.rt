@@ -33,6 +33,7 @@ impl<'a> Model for Shown<'a> {
 }
 
 impl<'a> Shown<'a> {
+    /// An entry, as what it is shown.
     pub fn new(entry: &'a IndexEntry, sign: Sign) -> Shown<'a>
         ensures entry { result.entry ≡ entry.now }
         ensures sign { result.sign ≡ sign }
@@ -40,12 +41,14 @@ impl<'a> Shown<'a> {
         Shown { entry, sign }
     }
 
+    /// The entry.
     pub fn entry(&self) -> &'a IndexEntry
         ensures { result.now ≡ self.now.entry }
     {
         self.entry
     }
 
+    /// As what it is shown.
     pub fn sign(&self) -> Sign
         ensures { result ≡ self.now.sign }
     {

@@ -6,6 +6,4 @@ mod answers;
 #[cfg(test)]
 mod listings;
 #[cfg(test)]
-mod tree;
-#[cfg(test)]
 mod words;

@@ -1,6 +1,5 @@
 //! Listings, each compared with what git prints.
 use crate::answers::{ROWS, TREES};
-use crate::tree::{lines_of, parted, tree_of};
 use crate::words::{all_named, listing_of, rules_of, specs_of};
 use bstr::ByteSlice;
 use gitbase_core::Bytes;
@@ -9,6 +8,7 @@ use ls_files::{
     wrong_excluded, wrong_in,
 };
 use std::alloc::Global;
+use test_cases::{lines_of, parted, tree_of};
 use worktree_fs::PlannedInterrupt;
 use worktree_report::Setup;
 
@@ -20,7 +20,7 @@ fn setup_for(
     options: &[u8],
     specs: &[u8],
 ) -> Option<Setup> {
-    let lines = lines_of(alloc, text)?;
+    let lines = lines_of(alloc, text, b'$')?;
     let mut setup = Setup::parse(alloc, &lines).ok()?;
     setup.options = walk_options(listing, &setup.options);
     setup.specs = specs_of(alloc, specs)?;
@@ -59,7 +59,7 @@ fn listed_of(
     if let Some(_) = wrong_in(listing, &setup.index) {
         return None;
     }
-    let mut tree = tree_of(alloc, steps)?;
+    let mut tree = tree_of(alloc, steps, b'$')?;
     let mut interrupt = PlannedInterrupt::never();
     list_files(
         alloc,
@@ -94,7 +94,7 @@ fn listed_in(
 
 /// Whether a text is what a row has, with `$` in the place of each line feed.
 fn is_text(alloc: Global, text: &[u8], want: &[u8]) -> bool {
-    match lines_of(alloc, want) {
+    match lines_of(alloc, want, b'$') {
         Some(lines) => lines.as_slice() == text,
         None => false,
     }

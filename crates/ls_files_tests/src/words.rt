@@ -1,9 +1,9 @@
 //! What is asked by the words of a row.
-use crate::tree::parted;
 use gitbase_core::Bytes;
 use glob_rules::pathspec::{Defaults, Search, Spec};
 use ls_files::{Listing, NamedSpec};
 use std::alloc::Global;
+use test_cases::parted;
 
 /// What is asked where there is no word.
 fn usual() -> Listing {

@@ -9,6 +9,7 @@ use Rattle.module_plan.specs.declared.step.Why.{Why}
 use Rattle.module_plan.specs.declared.step.Why.TheVariants as whys
 use Rattle.worktree_report.specs.Escapes.{escaped, escaped_in_word}
 
+-- the word of a kind of step
 abbrev pub kind_word : StepKind → List ℕ
 kind_word kinds.Checkout = codes "checkout"
 kind_word kinds.Rebase = codes "rebase"
@@ -34,6 +35,7 @@ command_part (kinds.Command command) = column command
 unfoldable pub step_line : Step → List ℕ
 step_line step = kind_word step.kind ++ column step.path ++ name_column step.name ++ command_part step.kind ++ 10 ∷ []
 
+-- the word that says why a submodule is left out
 abbrev pub why_word : Why → List ℕ
 why_word whys.BadActive = codes "bad-active"
 why_word whys.Inactive = codes "inactive"

@@ -42,6 +42,7 @@ pub record IsPlanned (told : Option Names) (root : List ℕ) (asked : Asked) (pl
   pub are : AreVerdicts told root asked [] (module_names asked.modules) verdicts
   pub plan_is : IsPlan verdicts plan
 
+-- the path of a step
 abbrev pub path_of : Step → List ℕ
 path_of step = step.path
 
@@ -71,6 +72,7 @@ pub record IsSafe (asked : Asked) (step : Step) : Type 0 where
   pub no_git : list_any is_dot_git (components step.path) ≡ false
   pub command : IsAllowedStep (found_update step.name asked.modules) step.kind
 
+-- each step is safe over the tree
 abbrev pub AreSafe : Asked → ModulePlan → Type 0
 AreSafe asked plan = All (IsSafe asked) plan.steps.items
 
@@ -94,6 +96,7 @@ Refuses told root asked refused Failed (errors.ActiveSpec value) = refused ≡ S
 Refuses told root asked refused Failed (errors.Fault path) = (refused ≡ None) × Failed × IsAskedFor told root asked path
 Refuses told root asked refused Failed errors.OutOfMemory = Unit {0}
 
+-- the value is the one that is refused; want of memory is free
 abbrev pub RefusesValue : Option ℕ → ModuleError → Type 0
 RefusesValue refused (errors.ActiveSpec value) = refused ≡ Some value
 RefusesValue refused (errors.Fault path) = ⊥

@@ -52,6 +52,7 @@ text_by vs = plan_text (by_path (steps_of vs)) (skipped_of vs)
 abbrev pub verdicts_of : Names → List ℕ → Bool → Modules → List Verdict
 verdicts_of t root fold modules = verdicts t root (asked_of fold modules.file modules.config)
 
+-- the text, unless a value is refused
 abbrev pub unless_refused : Option ℕ → List ℕ → Option (List ℕ)
 unless_refused None text = Some text
 unless_refused (Some value) text = None
@@ -103,11 +104,13 @@ pub record IsPlanTextAt (told : Option Names) (places : Places) (text : List ℕ
   pub read : (t : Names) → told ≡ Some t → setup_at (look t places.setup true) ≡ Ok setup
   pub is : IsPlanText told places.root setup.options.ignore_case text
 
+-- the modules of the tree are read, and each plan of theirs is safe
 pub record IsSafeIn (t : Names) (root : List ℕ) (setup : Setup) : Type 0 where
   pub modules : Modules
   pub read : modules_in t root setup ≡ Ok modules
   pub safe : IsSafePlanOf t root setup.options.ignore_case modules
 
+-- the setup is read, and each plan by it is safe
 pub record IsSafePlan (t : Names) (places : Places) : Type 0 where
   pub setup : Setup
   pub read : setup_at (look t places.setup true) ≡ Ok setup

@@ -13,9 +13,11 @@ use Rattle.module_plan.specs.declared.wanted.Wanted.{Wanted}
 use Rattle.module_plan.specs.Wanted.{Asked, wanted}
 use Rattle.module_plan.specs.Ways.{obstacle, IsObstacle}
 
+-- a submodule is left out, and why
 abbrev pub leave_out : List ℕ → Why → Verdict
 leave_out name why = verdicts.LeaveOut (record { name = name; why = why })
 
+-- a submodule is updated as it is wanted
 abbrev pub update : List ℕ → Wanted → Verdict
 update name w = verdicts.Update (record { name = name; path = w.path; kind = w.kind })
 
@@ -40,6 +42,7 @@ abbrev pub unless_taken : List ℕ → Wanted → Bool → Option Why → Verdic
 unless_taken name w true barred = leave_out name whys.SamePath
 unless_taken name w false barred = unless_barred name w barred
 
+-- the verdict of a submodule by what is wanted: its path may be taken, or something be in its way
 abbrev pub judged : Names → List ℕ → List ℕ → (List ℕ → Bool) → Result Wanted Why → Verdict
 judged t root name is_taken (Err why) = leave_out name why
 judged t root name is_taken (Ok w) = unless_taken name w (is_taken w.path) (obstacle t root (components w.path))
@@ -61,10 +64,12 @@ pub record Bars (told : Option Names) (root : List ℕ) (w : Wanted) (barred : O
   pub is : IsObstacle barred
   pub exact : (t : Names) → told ≡ Some t → barred ≡ obstacle t root (components w.path)
 
+-- the same over a worktree that may tell no tree: what is in the way is what stands there
 abbrev pub IsPlaced : Option Names → List ℕ → List ℕ → Wanted → Bool → Verdict → Type 0
 IsPlaced told root name w true v = v ≡ leave_out name whys.SamePath
 IsPlaced told root name w false v = (barred : Option Why) × Bars told root w barred × (v ≡ unless_barred name w barred)
 
+-- the verdict by what is wanted, over a worktree that may tell no tree
 abbrev pub IsJudged : Option Names → List ℕ → List ℕ → Result Wanted Why → (List ℕ → Bool) → Verdict → Type 0
 IsJudged told root name (Err why) is_taken v = v ≡ leave_out name why
 IsJudged told root name (Ok w) is_taken v = IsPlaced told root name w (is_taken w.path) v
@@ -79,11 +84,13 @@ AreVerdicts told root asked earlier (name ∷ names) (v ∷ vs) =
 
 -- ---- what of them is done, and what is left out
 
+-- the steps of verdicts, in their order
 abbrev pub steps_of : List Verdict → List Step
 steps_of [] = []
 steps_of (verdicts.Update step ∷ vs) = step ∷ steps_of vs
 steps_of (verdicts.LeaveOut one ∷ vs) = steps_of vs
 
+-- the submodules that verdicts leave out, in their order
 abbrev pub skipped_of : List Verdict → List Skipped
 skipped_of [] = []
 skipped_of (verdicts.Update step ∷ vs) = skipped_of vs

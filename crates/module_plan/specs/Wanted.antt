@@ -27,6 +27,7 @@ pub record Asked : Type 0 where
   pub config : List Section
   pub specs : Option (List PathSpec)
 
+-- what is asked of a plan, with these path specs
 abbrev pub asked_by : Asking → Option (List PathSpec) → Asked
 asked_by asking specs = record { modules = asking.modules.now.sections; config = asking.config.now.sections; specs = specs }
 
@@ -54,6 +55,7 @@ place_below (Some path) =
     else if list_any is_dot_git (components path) then Err whys.DotGit
     else Ok path
 
+-- the path of a submodule below the root, or why it has none
 abbrev pub place : Result (List ℕ) PathError → Result (List ℕ) Why
 place (Ok path) = place_below (normalized path)
 place (Err e) = Err whys.BadPath
@@ -67,12 +69,14 @@ step_kind (Some updates.Merge) = Ok kinds.Merge
 step_kind (Some (updates.Command command)) = Ok (kinds.Command command)
 step_kind (Some updates.None) = Err whys.NoUpdate
 
+-- the kind of step that a submodule asks for, or why there is none
 abbrev pub kind : Result (Option Update) UpdateError → Result StepKind Why
 kind (Ok update) = step_kind update
 kind (Err (update_errors.Invalid name text)) = Err whys.BadUpdate
 kind (Err (update_errors.CommandForbiddenInModulesConfiguration name command)) = Err whys.SharedCommand
 kind (Err update_errors.OutOfMemory) = Err whys.BadUpdate
 
+-- a submodule at this path, brought there by this kind of step
 abbrev pub wish : List ℕ → StepKind → Wanted
 wish path kind = record { path = path; kind = kind }
 

@@ -11,9 +11,9 @@ use worktree_report::{Report, Setup};
 const ROOM: usize = 4096;
 
 const TREE: &[u8] = b"\
-file`/w/.gitmodules`[submodule \"m\"]\npath = lib\n;\
-file`/w/a`x;\
-file`/s`index 100644 0 - e69de29bb2d1d6434b8b29ae775ad8c2e48c5391 a\n";
+  file`/w/.gitmodules`[submodule \"m\"]\npath = lib\n
+  file`/w/a`x
+  file`/s`index 100644 0 - e69de29bb2d1d6434b8b29ae775ad8c2e48c5391 a\n";
 
 const SETUP: &[u8] = b"index 100644 0 - e69de29bb2d1d6434b8b29ae775ad8c2e48c5391 a\n";
 

@@ -1,5 +1,5 @@
 //! Plans of an update of submodules.
-use crate::tree::{parted, tree_of};
+use crate::tree::tree_of;
 use bstr::ByteSlice;
 use git_config_lite as config;
 use git_config_lite::{Metadata, Source};
@@ -7,54 +7,357 @@ use glob_rules::pathspec::Defaults;
 use module_plan::{ModuleError, ModulePlan, Skipped, Step, StepKind, Why, plan};
 use std::alloc::Global;
 use submodule::File;
+use test_cases::{held, parted, parted_by, text_of};
 use worktree_fs::MemoryWorktree;
 
-/// Cases, parted by `|`: nodes, `.gitmodules`, the configuration and what is wanted, parted by `^`.
-///
-/// What is wanted are the steps by path and then what is left out by name, or the refusal, parted
-/// by `;`.
+/// Cases, each behind an `@`: the nodes, the lines of `.gitmodules` and of the configuration, and
+/// what is wanted: the steps by path and then what is left out by name, or the refusal.
 const ROWS: &[u8] = b"\
-file`/w/lib/.git`gitdir: /g/m^[submodule \"m\"]\npath = lib\nurl = u\n^[submodule \"m\"]\nurl = u\n^checkout`lib`m|\
-file`/w/lib/.git`gitdir: /g/m^[submodule \"m\"]\npath = lib\nurl = u\n^^skip inactive`m|\
-directory`/w^[submodule \"m\"]\npath = lib\nurl = u\nupdate = !x\n^[submodule \"m\"]\nurl = u\n^skip shared-command`m|\
-directory`/w^[submodule \"m\"]\npath = lib\nurl = u\n^[submodule \"m\"]\nurl = u\nupdate = !x\n^command`lib`m`x|\
-directory`/g;link`/w/lib`/g^[submodule \"m\"]\npath = lib\nurl = u\n^[submodule \"m\"]\nurl = u\n^skip link`m|\
-directory`/w^[submodule \"m\"]\npath = lib\nurl = u\n^[submodule]\nactive = /x\n^active spec 1|\
-directory`/w^[submodule \"m\"]\npath = lib\nurl = u\n^[submodule]\nactive = m\nactive = :(bad)\n^active spec 2|\
-directory`/w^[submodule \"m\"]\npath = lib\nurl = u\n^[submodule]\nactive = .\n^checkout`lib`m|\
-directory`/w^[submodule \"m\"]\npath = lib\nurl = u\n^[submodule \"m\"]\nactive = maybe\n^skip bad-active`m|\
-directory`/w^[submodule \"m\"]\npath = ../lib\nurl = u\n^[submodule \"m\"]\nactive = true\n^skip bad-path`m|\
-directory`/w^[submodule \"m\"]\nurl = u\n^[submodule \"m\"]\nactive = true\n^skip bad-path`m|\
-directory`/w^[submodule \"m\"]\npath = a/..\nurl = u\n^[submodule \"m\"]\nactive = true\n^skip root`m|\
-directory`/w^[submodule \"m\"]\npath = a/.GIT/b\nurl = u\n^[submodule \"m\"]\nactive = true\n^skip dot-git`m|\
-directory`/w^[submodule \"m\"]\npath = a\nurl = u\nupdate = make\n^[submodule \"m\"]\nactive\n^skip bad-update`m|\
-directory`/w^[submodule \"m\"]\npath = a\nurl = u\nupdate = none\n^[submodule \"m\"]\nactive\n^skip no-update`m|\
-directory`/w^[submodule \"m\"]\npath = a\n^[submodule \"m\"]\nactive\n^skip bad-url`m|\
-file`/w/a`x^[submodule \"m\"]\npath = a/b\nurl = u\n^[submodule \"m\"]\nactive\n^skip not-a-directory`m|\
-other`/w/a^[submodule \"m\"]\npath = a\nurl = u\n^[submodule \"m\"]\nactive\n^skip not-a-directory`m|\
-directory`/w/d;link`/w/a`d^[submodule \"m\"]\npath = a/b\nurl = u\n^[submodule \"m\"]\nactive\n^skip link`m|\
-directory`/w/a^[submodule \"z\"]\npath = a/b\nurl = u\nupdate = rebase\n[submodule \"y\"]\npath = ./a//\nurl = u\nupdate = merge\n\
-^[submodule]\nactive = .\n^merge`a`y;rebase`a/b`z|\
-directory`/w^[submodule \"z\"]\npath = a\nurl = u\n[submodule \"y\"]\npath = ./a\nurl = u\n[submodule \"x\"]\n\
-^[submodule]\nactive = .\n^checkout`a`z;skip same-path`y;skip bad-path`x|\
-link`/w/a`b^[submodule \"z\"]\npath = a\nurl = u\n[submodule \"y\"]\npath = a\nurl = u\n\
-^[submodule]\nactive = .\n^skip link`z;skip same-path`y|\
-directory`/w^[submodule \"z\"]\npath = a\n[submodule \"y\"]\npath = a\nurl = u\n\
-^[submodule]\nactive = .\n^checkout`a`y;skip bad-url`z|\
-directory`/w/a;fail kind`2^[submodule \"m\"]\npath = a/b\nurl = u\n^[submodule \"m\"]\nactive\n^fault`/w/a/b|\
-directory`/w;fail kind`2^[submodule \"m\"]\npath = a/b/c\nurl = u\n^[submodule \"m\"]\nactive\n^checkout`a/b/c`m|\
-directory`/w^^^";
+@
+nodes:
+  file`/w/lib/.git`gitdir: /g/m
+modules:
+  [submodule \"m\"]
+  path = lib
+  url = u
+config:
+  [submodule \"m\"]
+  url = u
+wanted:
+  checkout`lib`m
+@
+nodes:
+  file`/w/lib/.git`gitdir: /g/m
+modules:
+  [submodule \"m\"]
+  path = lib
+  url = u
+config:
+wanted:
+  skip inactive`m
+@
+nodes:
+  directory`/w
+modules:
+  [submodule \"m\"]
+  path = lib
+  url = u
+  update = !x
+config:
+  [submodule \"m\"]
+  url = u
+wanted:
+  skip shared-command`m
+@
+nodes:
+  directory`/w
+modules:
+  [submodule \"m\"]
+  path = lib
+  url = u
+config:
+  [submodule \"m\"]
+  url = u
+  update = !x
+wanted:
+  command`lib`m`x
+@
+nodes:
+  directory`/g
+  link`/w/lib`/g
+modules:
+  [submodule \"m\"]
+  path = lib
+  url = u
+config:
+  [submodule \"m\"]
+  url = u
+wanted:
+  skip link`m
+@
+nodes:
+  directory`/w
+modules:
+  [submodule \"m\"]
+  path = lib
+  url = u
+config:
+  [submodule]
+  active = /x
+wanted:
+  active spec 1
+@
+nodes:
+  directory`/w
+modules:
+  [submodule \"m\"]
+  path = lib
+  url = u
+config:
+  [submodule]
+  active = m
+  active = :(bad)
+wanted:
+  active spec 2
+@
+nodes:
+  directory`/w
+modules:
+  [submodule \"m\"]
+  path = lib
+  url = u
+config:
+  [submodule]
+  active = .
+wanted:
+  checkout`lib`m
+@
+nodes:
+  directory`/w
+modules:
+  [submodule \"m\"]
+  path = lib
+  url = u
+config:
+  [submodule \"m\"]
+  active = maybe
+wanted:
+  skip bad-active`m
+@
+nodes:
+  directory`/w
+modules:
+  [submodule \"m\"]
+  path = ../lib
+  url = u
+config:
+  [submodule \"m\"]
+  active = true
+wanted:
+  skip bad-path`m
+@
+nodes:
+  directory`/w
+modules:
+  [submodule \"m\"]
+  url = u
+config:
+  [submodule \"m\"]
+  active = true
+wanted:
+  skip bad-path`m
+@
+nodes:
+  directory`/w
+modules:
+  [submodule \"m\"]
+  path = a/..
+  url = u
+config:
+  [submodule \"m\"]
+  active = true
+wanted:
+  skip root`m
+@
+nodes:
+  directory`/w
+modules:
+  [submodule \"m\"]
+  path = a/.GIT/b
+  url = u
+config:
+  [submodule \"m\"]
+  active = true
+wanted:
+  skip dot-git`m
+@
+nodes:
+  directory`/w
+modules:
+  [submodule \"m\"]
+  path = a
+  url = u
+  update = make
+config:
+  [submodule \"m\"]
+  active
+wanted:
+  skip bad-update`m
+@
+nodes:
+  directory`/w
+modules:
+  [submodule \"m\"]
+  path = a
+  url = u
+  update = none
+config:
+  [submodule \"m\"]
+  active
+wanted:
+  skip no-update`m
+@
+nodes:
+  directory`/w
+modules:
+  [submodule \"m\"]
+  path = a
+config:
+  [submodule \"m\"]
+  active
+wanted:
+  skip bad-url`m
+@
+nodes:
+  file`/w/a`x
+modules:
+  [submodule \"m\"]
+  path = a/b
+  url = u
+config:
+  [submodule \"m\"]
+  active
+wanted:
+  skip not-a-directory`m
+@
+nodes:
+  other`/w/a
+modules:
+  [submodule \"m\"]
+  path = a
+  url = u
+config:
+  [submodule \"m\"]
+  active
+wanted:
+  skip not-a-directory`m
+@
+nodes:
+  directory`/w/d
+  link`/w/a`d
+modules:
+  [submodule \"m\"]
+  path = a/b
+  url = u
+config:
+  [submodule \"m\"]
+  active
+wanted:
+  skip link`m
+@
+nodes:
+  directory`/w/a
+modules:
+  [submodule \"z\"]
+  path = a/b
+  url = u
+  update = rebase
+  [submodule \"y\"]
+  path = ./a//
+  url = u
+  update = merge
+config:
+  [submodule]
+  active = .
+wanted:
+  merge`a`y
+  rebase`a/b`z
+@
+nodes:
+  directory`/w
+modules:
+  [submodule \"z\"]
+  path = a
+  url = u
+  [submodule \"y\"]
+  path = ./a
+  url = u
+  [submodule \"x\"]
+config:
+  [submodule]
+  active = .
+wanted:
+  checkout`a`z
+  skip same-path`y
+  skip bad-path`x
+@
+nodes:
+  link`/w/a`b
+modules:
+  [submodule \"z\"]
+  path = a
+  url = u
+  [submodule \"y\"]
+  path = a
+  url = u
+config:
+  [submodule]
+  active = .
+wanted:
+  skip link`z
+  skip same-path`y
+@
+nodes:
+  directory`/w
+modules:
+  [submodule \"z\"]
+  path = a
+  [submodule \"y\"]
+  path = a
+  url = u
+config:
+  [submodule]
+  active = .
+wanted:
+  checkout`a`y
+  skip bad-url`z
+@
+nodes:
+  directory`/w/a
+  fail kind`2
+modules:
+  [submodule \"m\"]
+  path = a/b
+  url = u
+config:
+  [submodule \"m\"]
+  active
+wanted:
+  fault`/w/a/b
+@
+nodes:
+  directory`/w
+  fail kind`2
+modules:
+  [submodule \"m\"]
+  path = a/b/c
+  url = u
+config:
+  [submodule \"m\"]
+  active
+wanted:
+  checkout`a/b/c`m
+@
+nodes:
+  directory`/w
+modules:
+config:
+wanted:";
 
-fn configuration(alloc: Global, text: &[u8]) -> Option<config::File> {
+/// The configuration of some lines.
+fn configuration(alloc: Global, lines: &[u8]) -> Option<config::File> {
+    let text = text_of(alloc, lines)?;
     let meta = Metadata {
         source: Source::Local,
         path: None,
     };
-    config::File::from_bytes(alloc, text, meta).ok()
+    config::File::from_bytes(alloc, &text, meta).ok()
 }
 
-fn modules_of(alloc: Global, text: &[u8], config: &config::File) -> Option<File> {
-    File::from_bytes(alloc, text, None, config).ok()
+/// The `.gitmodules` of some lines.
+fn modules_of(alloc: Global, lines: &[u8], config: &config::File) -> Option<File> {
+    let text = text_of(alloc, lines)?;
+    File::from_bytes(alloc, &text, None, config).ok()
 }
 
 fn kind_is(kind: &StepKind, word: &[u8], command: &[u8]) -> bool {
@@ -67,9 +370,9 @@ fn kind_is(kind: &StepKind, word: &[u8], command: &[u8]) -> bool {
 }
 
 fn step_is(step: &Step, want: &[u8]) -> bool {
-    let (kind, rest) = parted(want);
-    let (path, rest) = parted(rest);
-    let (name, command) = parted(rest);
+    let (kind, rest) = parted(want, b'`');
+    let (path, rest) = parted(rest, b'`');
+    let (name, command) = parted(rest, b'`');
     kind_is(&step.kind, kind, command)
         && step.path.as_bytes() == path
         && step.name.as_bytes() == name
@@ -93,7 +396,7 @@ fn word_of(why: Why) -> &'static [u8] {
 }
 
 fn skipped_is(skipped: &Skipped, want: &[u8]) -> bool {
-    let (why, name) = parted(want);
+    let (why, name) = parted(want, b'`');
     word_of(skipped.why) == why && skipped.name.as_bytes() == name
 }
 
@@ -111,7 +414,7 @@ fn line_is(plan: &ModulePlan, at: usize, want: &[u8]) -> bool {
 /// Whether a plan has these lines and no others.
 fn plan_is(plan: &ModulePlan, want: &[u8]) -> bool {
     let mut at = 0usize;
-    for line in want.split(|byte| *byte == b';') {
+    for line in want.split_str(b"\n  ") {
         if !line_is(plan, at, line) {
             return false;
         }
@@ -126,7 +429,7 @@ fn error_is(error: &ModuleError, want: &[u8]) -> bool {
         ModuleError::ActiveSpec { value: 2 } => want == b"active spec 2".as_slice(),
         ModuleError::ActiveSpec { .. } => false,
         ModuleError::Fault { path } => {
-            let (word, at) = parted(want);
+            let (word, at) = parted(want, b'`');
             word == b"fault".as_slice() && path.as_bytes() == at
         }
         ModuleError::OutOfMemory => false,
@@ -149,17 +452,18 @@ fn answers(
 
 /// Whether a row holds over a listing order.
 fn holds(alloc: Global, row: &[u8], reversed: bool) -> bool {
-    let (steps, rest) = row.split_once_str(b"^").unwrap_or((row, b""));
-    let (modules, rest) = rest.split_once_str(b"^").unwrap_or((rest, b""));
-    let (config, want) = rest.split_once_str(b"^").unwrap_or((rest, b""));
-    let Some(mut tree) = tree_of(alloc, steps, reversed) else {
+    let (_, rest) = parted_by(row, b"nodes:");
+    let (nodes, rest) = parted_by(rest, b"\nmodules:");
+    let (modules, rest) = parted_by(rest, b"\nconfig:");
+    let (config, want) = parted_by(rest, b"\nwanted:");
+    let Some(mut tree) = tree_of(alloc, held(nodes), reversed) else {
         return false;
     };
     let Some(config) = configuration(alloc, config) else {
         return false;
     };
     match modules_of(alloc, modules, &config) {
-        Some(modules) => answers(alloc, &mut tree, &modules, &config, want),
+        Some(modules) => answers(alloc, &mut tree, &modules, &config, held(want)),
         None => false,
     }
 }
@@ -171,7 +475,7 @@ fn both_hold(alloc: Global, row: &[u8]) -> bool {
 
 #[test]
 fn submodules_are_planned_by_the_first_reason(rt: HostRuntime) {
-    for row in ROWS.split(|byte| *byte == b'|') {
+    for row in ROWS.split_str(b"\n@\n") {
         assert!(rt; both_hold(rt.alloc(), row), "{row:?}");
     }
 }

@@ -1,9 +1,10 @@
 //! States of index paths, and ids of blobs.
-use crate::tree::{digit, parted, tree_of};
+use crate::tree::tree_of;
 use bstr::ByteSlice;
 use gitbase_core::{Flags, IndexEntry, Mode, ObjectId, PathText, State};
 use index_status::{PathState, StatesError, blob_id, states};
 use std::alloc::Global;
+use test_cases::{digit, held, parted, parted_by};
 use worktree_fs::MemoryWorktree;
 
 /// Ids of blobs, as `git hash-object` gives them.
@@ -12,26 +13,164 @@ const IDS: &[u8] = b"\
 x`c1b0730e0133447badcfd47fd144e254807b06e1|\
 hello\n`ce013625030ba8dba906f756967f9e9ca394464a";
 
-/// Cases, parted by `|`: nodes, the entries of the index and what is wanted, parted by `^`. An
-/// entry is its path, its mode, its stage, its flag and the id of its blob, where `E` is that of
-/// the empty one.
+/// Cases, each behind an `@`: the nodes, the entries of the index and what is wanted. An entry is its
+/// path, its mode, its stage, its flag and the id of its blob, where `E` is that of the empty one.
 const ROWS: &[u8] = b"\
-file`/w/a`;file`/w/b`x;file`/w/u`^a`file`0``E;b`file`0``E;c`file`0``E^same`a;modified`b;deleted`c|\
-directory`/w/a;link`/w/d`/x;file`/x/t`^a`file`0``E;d/t`file`0``E^typechanged`a;deleted`d/t|\
-file`/w/b`x^b`file`0`up to date`E^modified`b|\
-file`/w/b`x^b`file`0`valid`E;c`file`0`skipped`E;d/`tree`0``E^skipped`b;skipped`c;skipped`d/|\
-file`/w/b`^b`file`1``E;b`file`2``E;b`file`3``E;c`file`2``E^conflicted`b;conflicted`c|\
-directory`/w/m;link`/w/l`x;file`/w/n`;file`/w/o`^l`link`0``E;m`commit`0``E;n`commit`0``E;o`link`0``E;p`commit`0``E;q`link`0``E^\
-unchecked`l;unchecked`m;typechanged`n;typechanged`o;deleted`p;deleted`q|\
-link`/w/l`x;other`/w/o^l`file`0``E;o`file`0``E^typechanged`l;typechanged`o|\
-file`/w/a`^a/b`file`0``E;c/d/e`file`0``E^deleted`a/b;deleted`c/d/e|\
-file`/w/a/b/c`;file`/w/a/b/d`^a/b/c`file`0``E;a/b/d`file`0``F^same`a/b/c;modified`a/b/d|\
-file`/w/a/b`;fail kind`1^a/b`file`0``E^fault`/w/a|\
-file`/w/a/b`;fail read`1^a/b`file`0``E^fault`/w/a/b|\
-file`/w/a/b/c`;file`/w/a/b/d`;file`/w/a/e`;fail kind`3^a/b/c`file`0``E;a/b/d`file`0``E;a/e`file`0``E^same`a/b/c;same`a/b/d;same`a/e|\
-directory`/w;fail kind`2^a/b/c/d`file`0``E^deleted`a/b/c/d|\
-file`/w/a/b`;fail kind`1^a/b`file`1``E;a/c`file`0`skipped`E^conflicted`a/b;skipped`a/c|\
-directory`/w^^";
+@
+nodes:
+  file`/w/a`
+  file`/w/b`x
+  file`/w/u`
+index:
+  a`file`0``E
+  b`file`0``E
+  c`file`0``E
+wanted:
+  same`a
+  modified`b
+  deleted`c
+@
+nodes:
+  directory`/w/a
+  link`/w/d`/x
+  file`/x/t`
+index:
+  a`file`0``E
+  d/t`file`0``E
+wanted:
+  typechanged`a
+  deleted`d/t
+@
+nodes:
+  file`/w/b`x
+index:
+  b`file`0`up to date`E
+wanted:
+  modified`b
+@
+nodes:
+  file`/w/b`x
+index:
+  b`file`0`valid`E
+  c`file`0`skipped`E
+  d/`tree`0``E
+wanted:
+  skipped`b
+  skipped`c
+  skipped`d/
+@
+nodes:
+  file`/w/b`
+index:
+  b`file`1``E
+  b`file`2``E
+  b`file`3``E
+  c`file`2``E
+wanted:
+  conflicted`b
+  conflicted`c
+@
+nodes:
+  directory`/w/m
+  link`/w/l`x
+  file`/w/n`
+  file`/w/o`
+index:
+  l`link`0``E
+  m`commit`0``E
+  n`commit`0``E
+  o`link`0``E
+  p`commit`0``E
+  q`link`0``E
+wanted:
+  unchecked`l
+  unchecked`m
+  typechanged`n
+  typechanged`o
+  deleted`p
+  deleted`q
+@
+nodes:
+  link`/w/l`x
+  other`/w/o
+index:
+  l`file`0``E
+  o`file`0``E
+wanted:
+  typechanged`l
+  typechanged`o
+@
+nodes:
+  file`/w/a`
+index:
+  a/b`file`0``E
+  c/d/e`file`0``E
+wanted:
+  deleted`a/b
+  deleted`c/d/e
+@
+nodes:
+  file`/w/a/b/c`
+  file`/w/a/b/d`
+index:
+  a/b/c`file`0``E
+  a/b/d`file`0``F
+wanted:
+  same`a/b/c
+  modified`a/b/d
+@
+nodes:
+  file`/w/a/b`
+  fail kind`1
+index:
+  a/b`file`0``E
+wanted:
+  fault`/w/a
+@
+nodes:
+  file`/w/a/b`
+  fail read`1
+index:
+  a/b`file`0``E
+wanted:
+  fault`/w/a/b
+@
+nodes:
+  file`/w/a/b/c`
+  file`/w/a/b/d`
+  file`/w/a/e`
+  fail kind`3
+index:
+  a/b/c`file`0``E
+  a/b/d`file`0``E
+  a/e`file`0``E
+wanted:
+  same`a/b/c
+  same`a/b/d
+  same`a/e
+@
+nodes:
+  directory`/w
+  fail kind`2
+index:
+  a/b/c/d`file`0``E
+wanted:
+  deleted`a/b/c/d
+@
+nodes:
+  file`/w/a/b`
+  fail kind`1
+index:
+  a/b`file`1``E
+  a/c`file`0`skipped`E
+wanted:
+  conflicted`a/b
+  skipped`a/c
+@
+nodes:
+  directory`/w
+index:
+wanted:";
 
 fn mode_of(word: &[u8]) -> Mode {
     match word {
@@ -61,10 +200,10 @@ fn id_of(word: &[u8]) -> ObjectId {
 }
 
 fn entry_of(alloc: Global, words: &[u8]) -> Option<IndexEntry> {
-    let (path, rest) = parted(words);
-    let (mode, rest) = parted(rest);
-    let (stage, rest) = parted(rest);
-    let (flag, id) = parted(rest);
+    let (path, rest) = parted(words, b'`');
+    let (mode, rest) = parted(rest, b'`');
+    let (stage, rest) = parted(rest, b'`');
+    let (flag, id) = parted(rest, b'`');
     Some(IndexEntry {
         path: PathText::from_bytes(alloc, path).ok()?,
         stage: digit(stage),
@@ -76,7 +215,7 @@ fn entry_of(alloc: Global, words: &[u8]) -> Option<IndexEntry> {
 
 fn index_of(alloc: Global, text: &[u8]) -> Option<State> {
     let mut entries = Vec::new(alloc);
-    for words in text.split(|byte| *byte == b';') {
+    for words in text.split_str(b"\n  ") {
         if !words.is_empty() {
             entries.push(entry_of(alloc, words)?).ok()?;
         }
@@ -97,7 +236,7 @@ fn word_of(state: PathState) -> &'static [u8] {
 }
 
 fn row_is(made: &[(PathText, PathState)], at: usize, want: &[u8]) -> bool {
-    let (word, path) = parted(want);
+    let (word, path) = parted(want, b'`');
     match made.get(at) {
         Some((own, state)) => own.as_bytes() == path && word_of(*state) == word,
         None => want.is_empty(),
@@ -107,7 +246,7 @@ fn row_is(made: &[(PathText, PathState)], at: usize, want: &[u8]) -> bool {
 /// Whether these are the rows and there are no others.
 fn rows_are(made: &[(PathText, PathState)], want: &[u8]) -> bool {
     let mut at = 0usize;
-    for row in want.split(|byte| *byte == b';') {
+    for row in want.split_str(b"\n  ") {
         if !row_is(made, at, row) {
             return false;
         }
@@ -120,7 +259,7 @@ fn answers(alloc: Global, tree: &mut MemoryWorktree, index: &State, want: &[u8])
     match states(alloc, tree, b"/w", index) {
         Ok(made) => rows_are(&made, want),
         Err(StatesError::Fault { path }) => {
-            let (word, at) = parted(want);
+            let (word, at) = parted(want, b'`');
             word == b"fault".as_slice() && path.as_bytes() == at
         }
         Err(StatesError::OutOfMemory) => false,
@@ -129,13 +268,14 @@ fn answers(alloc: Global, tree: &mut MemoryWorktree, index: &State, want: &[u8])
 
 /// Whether a row holds over a listing order.
 fn holds(alloc: Global, row: &[u8], reversed: bool) -> bool {
-    let (steps, rest) = row.split_once_str(b"^").unwrap_or((row, b""));
-    let (entries, want) = rest.split_once_str(b"^").unwrap_or((rest, b""));
-    let Some(mut tree) = tree_of(alloc, steps, reversed) else {
+    let (_, rest) = parted_by(row, b"nodes:");
+    let (nodes, rest) = parted_by(rest, b"\nindex:");
+    let (entries, want) = parted_by(rest, b"\nwanted:");
+    let Some(mut tree) = tree_of(alloc, held(nodes), reversed) else {
         return false;
     };
-    match index_of(alloc, entries) {
-        Some(index) => answers(alloc, &mut tree, &index, want),
+    match index_of(alloc, held(entries)) {
+        Some(index) => answers(alloc, &mut tree, &index, held(want)),
         None => false,
     }
 }
@@ -146,7 +286,7 @@ fn both_hold(alloc: Global, row: &[u8]) -> bool {
 }
 
 fn is_id(alloc: Global, row: &[u8]) -> bool {
-    let (text, want) = parted(row);
+    let (text, want) = parted(row, b'`');
     match blob_id(alloc, text) {
         Ok(id) => id.to_hex().as_slice() == want,
         Err(_) => false,
@@ -162,7 +302,7 @@ fn blobs_have_the_ids_of_git(rt: HostRuntime) {
 
 #[test]
 fn index_paths_have_their_states(rt: HostRuntime) {
-    for row in ROWS.split(|byte| *byte == b'|') {
+    for row in ROWS.split_str(b"\n@\n") {
         assert!(rt; both_hold(rt.alloc(), row), "{row:?}");
     }
 }

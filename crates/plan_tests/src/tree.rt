@@ -1,46 +1,29 @@
 //! Trees in memory, from a row.
 use bstr::ByteSlice;
 use std::alloc::Global;
-use worktree_fs::{CallKind, MemoryWorktree, NewNode};
-
-/// What stands before the first backquote, and behind it.
-pub fn parted(row: &[u8]) -> (&[u8], &[u8]) {
-    row.split_once_str(b"`").unwrap_or((row, b""))
-}
-
-/// The number of one digit.
-pub fn digit(word: &[u8]) -> u8 {
-    match word.first() {
-        Some(byte) => byte.saturating_sub(b'0'),
-        None => 0,
-    }
-}
+use test_cases::{digit, is_put, parted};
+use worktree_fs::{CallKind, MemoryWorktree};
 
 /// Whether a step was taken: a node put at a path, or a look planned to fail.
 fn is_taken(alloc: Global, tree: &mut MemoryWorktree, step: &[u8]) -> bool {
-    let (what, rest) = parted(step);
-    let (path, text) = parted(rest);
-    let node = match what {
-        b"file" => NewNode::File(text),
-        b"link" => NewNode::Link(text),
-        b"directory" => NewNode::Directory,
-        b"other" => NewNode::Other,
-        b"fail kind" => return tree
+    let (what, rest) = parted(step, b'`');
+    let (path, text) = parted(rest, b'`');
+    match what {
+        b"fail kind" => tree
             .fail(alloc, CallKind::Kind, u64::from(digit(path)))
             .is_ok(),
-        b"fail read" => return tree
+        b"fail read" => tree
             .fail(alloc, CallKind::Read, u64::from(digit(path)))
             .is_ok(),
-        _ => return false,
-    };
-    tree.add(alloc, path, node).is_ok()
+        _ => is_put(alloc, tree, what, path, text),
+    }
 }
 
-/// The tree of some steps, parted by `;`.
+/// The tree of some steps, each on a line of its own.
 pub fn tree_of(alloc: Global, steps: &[u8], reversed: bool) -> Option<MemoryWorktree> {
     let mut tree = MemoryWorktree::new(alloc, false);
     tree.set_reversed(reversed);
-    for step in steps.split(|byte| *byte == b';') {
+    for step in steps.split_str(b"\n  ") {
         if !is_taken(alloc, &mut tree, step) {
             return None;
         }

@@ -5,48 +5,134 @@ ghost use Rattle.worktree_stack.specs.Stacked.{made_of};
 
 use crate::lookups::look_up_path;
 use crate::mapped::{LEFT_OUT, index_of};
-use crate::steps::{Scene, first_lie, ignore_of, parted};
+use crate::steps::{Scene, first_lie, ignore_of};
 use bstr::ByteSlice;
 use gitbase_core::{Bytes, MemoryStore, OutOfMemory, PathText, State as Index};
 use glob_rules::Case;
 use glob_rules::attributes::{Assignment, MetadataCollection, Outcome, Search};
 use std::alloc::Global;
+use test_cases::{parted, parted_by};
 use worktree_fs::MemoryWorktree;
 use worktree_stack::attributes_source::Source;
 use worktree_stack::{Attributes, Platform, Stack, State};
 
-/// Cases, parted by `@`. Each begins with `a` for a state of attributes alone or `b` for one with
+/// Cases, each behind an `@`, with `a` for a state of attributes alone or `b` for one with
 /// ignore rules too; with the source of attributes, `m` for mappings alone, `i` for mappings first,
 /// `w` for the worktree first; with the path of the information file, if there is one; and with the
 /// lines of the caller. `a/.gitattributes` is mapped to the blob 1 where the source has an `x`
 /// behind it. `has` has a path, an attribute and its state, `-` where nothing is said.
 const CASES: &[u8] = b"\
-the nearest file comes first`a`w```|file`/w/.gitattributes`*.c text diff=c\n|file`/w/d/.gitattributes`x.c -text\n|\
-has`d/x.c`text`unset|has`d/x.c`diff`c|has`x.c`text`set|tried attributes`2|files of attributes`2@\
-the later word stands`a`w``*.c text !text|directory`/w|has`x.c`text`!@\
-a macro of git`a`w``*.bin binary|directory`/w|has`x.bin`binary`set|has`x.bin`diff`unset|has`x.bin`merge`unset|has`x.bin`text`unset@\
-a macro is defined at the root alone`a`w``|file`/w/.gitattributes`[attr]m a\n|file`/w/d/.gitattributes`[attr]m b\n* m\n|\
-has`d/f`m`set|has`d/f`a`set|has`d/f`b`-@\
-the information file comes above that of the root`a`w`/i`* a=0|file`/w/.gitattributes`* a=1 b=1\n|file`/i`* a=2\n|\
-file`/w/d/.gitattributes`* a=3\n|has`f`a`2|has`f`b`1|has`d/f`a`3|has`f`a`2|tried attributes`3|files of attributes`3@\
-an information file that fails is read at the next lookup`a`m`/i`|directory`/w|file`/i`f a\n|fail|fault`f`/i|tried attributes`0|\
-has`f`a`set|tried attributes`1|files of attributes`1@\
-an information file is followed`a`m`/i`|directory`/w|link`/i`j|file`/j`f a\n|has`f`a`set@\
-an information file is missing`a`w`/i`|file`/w/.gitattributes`f a\n|has`f`a`set|tried attributes`2|files of attributes`1@\
-a link is not followed`a`w``|link`/w/.gitattributes`x|file`/w/x`f a\n|not followed`f`/w/.gitattributes@\
-ignore rules that are refused leave no list`b`w`/i`|file`/w/.gitattributes`f a\n|file`/i`f b\n|other`/w/.gitignore|\
-special`f`/w/.gitignore|tried attributes`2|tried_pattern_files`0@\
-attributes come before ignore rules`b`w``|other`/w/.gitattributes|other`/w/.gitignore|special`f`/w/.gitattributes@\
-both kinds of rules`b`w``|file`/w/.gitattributes`f a\n|file`/w/.gitignore`f\n|has`f`a`set|hit`f`f`1`0`/w/.gitignore@\
-a mapped file comes first`a`ix``|blob`1`* a=1\n|file`/w/a/.gitattributes`* a=2\n|file`/w/.gitattributes`* b\n|\
-has`a/f`a`1|has`a/f`b`set|blobs of attributes`1|tried attributes`1@\
-a file of the worktree comes first`a`wx``|blob`1`* a=1\n|file`/w/a/.gitattributes`* a=2\n|has`a/f`a`2|blobs of attributes`0@\
-a blob where the worktree has no file`a`wx``|blob`1`* a=1\n|directory`/w/a|has`a/f`a`1|blobs of attributes`1@\
-from mappings alone`a`mx``|blob`1`* a=1\n|file`/w/.gitattributes`* a=2\n|has`a/f`a`1|has`f`a`-|tried attributes`0@\
-a blob that is missing`a`mx``|directory`/w|missing`a/f`1@\
-a selection`a`w``|file`/w/.gitattributes`f a b\n|selected`f`b`set|selected`f`c`-@\
-a fresh stack reads again`a`w`/i`|file`/w/.gitattributes`f a\n|file`/i`f b\n|has`f`b`set|fresh|tried attributes`0|has`f`b`set|\
-tried attributes`2";
+@ the nearest file comes first`a`w```
+  file`/w/.gitattributes`*.c text diff=c\n
+  file`/w/d/.gitattributes`x.c -text\n
+  has`d/x.c`text`unset
+  has`d/x.c`diff`c
+  has`x.c`text`set
+  tried attributes`2
+  files of attributes`2
+@ the later word stands`a`w``*.c text !text
+  directory`/w
+  has`x.c`text`!
+@ a macro of git`a`w``*.bin binary
+  directory`/w
+  has`x.bin`binary`set
+  has`x.bin`diff`unset
+  has`x.bin`merge`unset
+  has`x.bin`text`unset
+@ a macro is defined at the root alone`a`w``
+  file`/w/.gitattributes`[attr]m a\n
+  file`/w/d/.gitattributes`[attr]m b\n* m\n
+  has`d/f`m`set
+  has`d/f`a`set
+  has`d/f`b`-
+@ the information file comes above that of the root`a`w`/i`* a=0
+  file`/w/.gitattributes`* a=1 b=1\n
+  file`/i`* a=2\n
+  file`/w/d/.gitattributes`* a=3\n
+  has`f`a`2
+  has`f`b`1
+  has`d/f`a`3
+  has`f`a`2
+  tried attributes`3
+  files of attributes`3
+@ an information file that fails is read at the next lookup`a`m`/i`
+  directory`/w
+  file`/i`f a\n
+  fail
+  fault`f`/i
+  tried attributes`0
+  has`f`a`set
+  tried attributes`1
+  files of attributes`1
+@ an information file is followed`a`m`/i`
+  directory`/w
+  link`/i`j
+  file`/j`f a\n
+  has`f`a`set
+@ an information file is missing`a`w`/i`
+  file`/w/.gitattributes`f a\n
+  has`f`a`set
+  tried attributes`2
+  files of attributes`1
+@ a link is not followed`a`w``
+  link`/w/.gitattributes`x
+  file`/w/x`f a\n
+  not followed`f`/w/.gitattributes
+@ ignore rules that are refused leave no list`b`w`/i`
+  file`/w/.gitattributes`f a\n
+  file`/i`f b\n
+  other`/w/.gitignore
+  special`f`/w/.gitignore
+  tried attributes`2
+  tried_pattern_files`0
+@ attributes come before ignore rules`b`w``
+  other`/w/.gitattributes
+  other`/w/.gitignore
+  special`f`/w/.gitattributes
+@ both kinds of rules`b`w``
+  file`/w/.gitattributes`f a\n
+  file`/w/.gitignore`f\n
+  has`f`a`set
+  hit`f`f`1`0`/w/.gitignore
+@ a mapped file comes first`a`ix``
+  blob`1`* a=1\n
+  file`/w/a/.gitattributes`* a=2\n
+  file`/w/.gitattributes`* b\n
+  has`a/f`a`1
+  has`a/f`b`set
+  blobs of attributes`1
+  tried attributes`1
+@ a file of the worktree comes first`a`wx``
+  blob`1`* a=1\n
+  file`/w/a/.gitattributes`* a=2\n
+  has`a/f`a`2
+  blobs of attributes`0
+@ a blob where the worktree has no file`a`wx``
+  blob`1`* a=1\n
+  directory`/w/a
+  has`a/f`a`1
+  blobs of attributes`1
+@ from mappings alone`a`mx``
+  blob`1`* a=1\n
+  file`/w/.gitattributes`* a=2\n
+  has`a/f`a`1
+  has`f`a`-
+  tried attributes`0
+@ a blob that is missing`a`mx``
+  directory`/w
+  missing`a/f`1
+@ a selection`a`w``
+  file`/w/.gitattributes`f a b\n
+  selected`f`b`set
+  selected`f`c`-
+@ a fresh stack reads again`a`w`/i`
+  file`/w/.gitattributes`f a\n
+  file`/i`f b\n
+  has`f`b`set
+  fresh
+  tried attributes`0
+  has`f`b`set
+  tried attributes`2";
 
 /// Whether what was found reads so; `-` says that nothing was found, `!` that it is unspecified.
 fn is_state(found: Option<&Assignment>, want: &[u8]) -> bool {
@@ -199,11 +285,11 @@ fn rows_of(source: &[u8]) -> &'static [u8] {
 }
 
 fn case_lie(alloc: Global, case: &[u8]) -> Option<&[u8]> {
-    let (head, steps) = case.split_once_str(b"|").unwrap_or((case, b""));
-    let (_, rest) = parted(head);
-    let (kind, rest) = parted(rest);
-    let (source, rest) = parted(rest);
-    let (info, lines) = parted(rest);
+    let (head, steps) = parted_by(case, b"\n  ");
+    let (_, rest) = parted(head, b'`');
+    let (kind, rest) = parted(rest, b'`');
+    let (source, rest) = parted(rest, b'`');
+    let (info, lines) = parted(rest, b'`');
     let Some(index) = index_of(alloc, rows_of(source)) else {
         return Some(case);
     };
@@ -224,7 +310,7 @@ fn case_lie(alloc: Global, case: &[u8]) -> Option<&[u8]> {
 
 #[test]
 fn cases(rt: HostRuntime) {
-    for case in CASES.split(|byte| *byte == b'@') {
+    for case in CASES.split_str(b"\n@ ") {
         assert_eq!(rt; case_lie(rt.alloc(), case), None, "{case:?}");
     }
 }

@@ -2,6 +2,7 @@
 use bstr::ByteSlice;
 use gitbase_core::OutOfMemory;
 use std::alloc::Global;
+use test_cases::parted;
 use worktree_fs::{AddError, CallKind, MemoryWorktree, NewNode, NodeKind};
 use worktree_stack::validate::{ComponentError, Options, component};
 
@@ -24,11 +25,6 @@ a:b`-`-`ok\n\
 a\\b`-`w`windows\n\
 a\\b`l`-`ok\n";
 
-/// The first field of a row, and those behind it.
-pub fn parted(row: &[u8]) -> (&[u8], &[u8]) {
-    row.split_once_str(b"`").unwrap_or((row, b""))
-}
-
 pub fn component_word(answer: Result<(), ComponentError>) -> &'static [u8] {
     match answer {
         Ok(()) => b"ok",
@@ -42,9 +38,9 @@ pub fn component_word(answer: Result<(), ComponentError>) -> &'static [u8] {
 }
 
 fn is_answered(row: &[u8]) -> bool {
-    let (name, rest) = parted(row);
-    let (link, rest) = parted(rest);
-    let (windows, want) = parted(rest);
+    let (name, rest) = parted(row, b'`');
+    let (link, rest) = parted(rest, b'`');
+    let (windows, want) = parted(rest, b'`');
     let protect_windows = windows == b"w".as_slice();
     component_word(component(name, link == b"l".as_slice(), Options { protect_windows })) == want
 }

@@ -1,37 +1,75 @@
 //! Cases of rules files that an index maps to blobs.
 use crate::failing::FailingStore;
 use crate::lookups::look_up_path;
-use crate::steps::{Scene, first_lie, id_of, parse, parted};
+use crate::steps::{Scene, first_lie, id_of, parse};
 use bstr::ByteSlice;
 use gitbase_core::{Flags, IndexEntry, MemoryStore, Mode, OutOfMemory, PathText, State as Index};
 use glob_rules::Case;
 use glob_rules::ignore::Search;
 use std::alloc::Global;
+use test_cases::{parted, parted_by};
 use worktree_fs::MemoryWorktree;
 use worktree_stack::ignore_source::Source;
 use worktree_stack::{AtPathError, BlobWhy, Ignore, PathIdMapping, Stack, State};
 
-/// Cases, parted by `@`. Each begins with `m` for rules from mappings alone or `w` for the worktree
+/// Cases, each behind an `@`, with `m` for rules from mappings alone or `w` for the worktree
 /// first, with `f` where letters are folded, and with the entries of the index, parted by `;`: `f`
 /// for a file, `o` and `t` for ours and theirs in a conflict, `x` for a file that may be executed;
-/// `s` where it is left out of the worktree; its id; its path. The steps are parted by bars.
+/// `s` where it is left out of the worktree; its id; its path. The steps stand on lines of their own.
 const CASES: &[u8] = b"\
-the rules of a blob`m``f-1.gitignore|file`/w/.gitignore`*.c\n|blob`1`*.o\n|hit`a.o`*.o`1`0`.gitignore|miss`a.c``0``|\
-tried_pattern_files`0|patterns_buffers`1@\
-a blob that is missing`m``f-1.gitignore|missing`a.o`1|missing`a.o`1|push_directory`2@\
-an object that is no blob`m``f-1a/.gitignore|other object`1|miss`b``0``|no blob`a/b`1@\
-a link is not followed where the file is mapped`w``fs1.gitignore|link`/w/.gitignore`x|not followed`f`/w/.gitignore@\
-a link is followed where the file is in the worktree`w``f-1.gitignore|link`/w/.gitignore`x|file`/w/x`f\n|\
-hit`f`f`1`0`/w/.gitignore@\
-the worktree comes first`w``fs1.gitignore|blob`1`*.o\n|file`/w/.gitignore`*.c\n|hit`a.c`*.c`1`0`/w/.gitignore|miss`a.o``0``|\
-tried_pattern_files`1|patterns_buffers`0@\
-a blob comes where the worktree has no file`w``fs1a/.gitignore|blob`1`*.o\n|hit`a/a.o`*.o`1`1`a/.gitignore|miss`a.o``0``|\
-tried_pattern_files`2|pattern_files`0|patterns_buffers`1@\
-a directory is no file`w``fs1.gitignore|blob`1`*.o\n|directory`/w/.gitignore|hit`a.o`*.o`1`0`.gitignore@\
-a file that is left in the worktree has no blob`w``f-1.gitignore|blob`1`*.o\n|miss`a.o``0``@\
-a name in other letters is kept and not used`m`f`f-1.GITIGNORE;f-2a/.gitignore|blob`1`*.o\n|blob`2`*.C\n|\
-miss`a.o``0``|hit`a/a.c`*.C`1`1`a/.gitignore@\
-a fresh stack has the mappings`m``f-1.gitignore|blob`1`*.o\n|hit`a.o`*.o`1`0`.gitignore|fresh|hit`b.o`*.o`1`0`.gitignore";
+@ the rules of a blob`m``f-1.gitignore
+  file`/w/.gitignore`*.c\n
+  blob`1`*.o\n
+  hit`a.o`*.o`1`0`.gitignore
+  miss`a.c``0``
+  tried_pattern_files`0
+  patterns_buffers`1
+@ a blob that is missing`m``f-1.gitignore
+  missing`a.o`1
+  missing`a.o`1
+  push_directory`2
+@ an object that is no blob`m``f-1a/.gitignore
+  other object`1
+  miss`b``0``
+  no blob`a/b`1
+@ a link is not followed where the file is mapped`w``fs1.gitignore
+  link`/w/.gitignore`x
+  not followed`f`/w/.gitignore
+@ a link is followed where the file is in the worktree`w``f-1.gitignore
+  link`/w/.gitignore`x
+  file`/w/x`f\n
+  hit`f`f`1`0`/w/.gitignore
+@ the worktree comes first`w``fs1.gitignore
+  blob`1`*.o\n
+  file`/w/.gitignore`*.c\n
+  hit`a.c`*.c`1`0`/w/.gitignore
+  miss`a.o``0``
+  tried_pattern_files`1
+  patterns_buffers`0
+@ a blob comes where the worktree has no file`w``fs1a/.gitignore
+  blob`1`*.o\n
+  hit`a/a.o`*.o`1`1`a/.gitignore
+  miss`a.o``0``
+  tried_pattern_files`2
+  pattern_files`0
+  patterns_buffers`1
+@ a directory is no file`w``fs1.gitignore
+  blob`1`*.o\n
+  directory`/w/.gitignore
+  hit`a.o`*.o`1`0`.gitignore
+@ a file that is left in the worktree has no blob`w``f-1.gitignore
+  blob`1`*.o\n
+  miss`a.o``0``
+@ a name in other letters is kept and not used`m`f`f-1.GITIGNORE;f-2a/.gitignore
+  blob`1`*.o\n
+  blob`2`*.C\n
+  miss`a.o``0``
+  hit`a/a.c`*.C`1`1`a/.gitignore
+@ a fresh stack has the mappings`m``f-1.gitignore
+  blob`1`*.o\n
+  hit`a.o`*.o`1`0`.gitignore
+  fresh
+  hit`b.o`*.o`1`0`.gitignore";
 
 /// What an index keeps of an entry that is written so.
 fn entry_of(alloc: Global, row: &[u8]) -> Result<IndexEntry, OutOfMemory> {
@@ -96,10 +134,10 @@ fn stack_of(
 }
 
 fn case_lie(alloc: Global, case: &[u8]) -> Option<&[u8]> {
-    let (head, steps) = case.split_once_str(b"|").unwrap_or((case, b""));
-    let (_, rest) = parted(head);
-    let (source, rest) = parted(rest);
-    let (folds, rows) = parted(rest);
+    let (head, steps) = parted_by(case, b"\n  ");
+    let (_, rest) = parted(head, b'`');
+    let (source, rest) = parted(rest, b'`');
+    let (folds, rows) = parted(rest, b'`');
     let Some(index) = index_of(alloc, rows) else {
         return Some(rows);
     };
@@ -120,7 +158,7 @@ fn case_lie(alloc: Global, case: &[u8]) -> Option<&[u8]> {
 
 #[test]
 fn cases(rt: HostRuntime) {
-    for case in CASES.split(|byte| *byte == b'@') {
+    for case in CASES.split_str(b"\n@ ") {
         assert_eq!(rt; case_lie(rt.alloc(), case), None, "{case:?}");
     }
 }

@@ -12,6 +12,7 @@ use bstr::ByteSlice;
 use gitbase_core::{MemoryStore, Mode, OutOfMemory, PathText};
 use glob_rules::ignore::{Kind, Search};
 use std::alloc::Global;
+use test_cases::parted;
 use worktree_fs::{MemoryWorktree, NewNode};
 use worktree_stack::ignore_source::Source;
 use worktree_stack::{Ignore, Platform, Stack};
@@ -21,10 +22,6 @@ fn stack_of(alloc: Global) -> Result<Stack, OutOfMemory> {
     let (overrides, globals) = (Search::new(alloc), Search::new(alloc));
     let ignore = Ignore::new(alloc, overrides, globals, None, Source::default(), parse())?;
     Ok(stack_at(alloc, root, ignore.with_strict_parents(true)))
-}
-
-fn parted(row: &[u8]) -> (&[u8], &[u8]) {
-    row.split_once_str(b";").unwrap_or((row, b""))
 }
 
 /// The whole path of one below the root.
@@ -116,11 +113,11 @@ fn says(
 }
 
 fn is_as_git(alloc: Global, row: &[u8]) -> bool {
-    let (line, rest) = parted(row);
-    let (sign, rest) = parted(rest);
-    let (file, rest) = parted(rest);
-    let (kind, rest) = parted(rest);
-    let (path, files) = parted(rest);
+    let (line, rest) = parted(row, b';');
+    let (sign, rest) = parted(rest, b';');
+    let (file, rest) = parted(rest, b';');
+    let (kind, rest) = parted(rest, b';');
+    let (path, files) = parted(rest, b';');
     let mode = if kind == b"d".as_slice() {
         Mode::DIR
     } else {

@@ -13,7 +13,8 @@ use gitbase_core::{MemoryStore, Mode, ObjectId, OutOfMemory, PathText};
 use glob_rules::Case;
 use glob_rules::ignore::{Kind, List, Origin, ParseIgnore, RuleGroup, Search};
 use std::alloc::Global;
-use worktree_fs::{CallKind, MemoryWorktree, NewNode};
+use test_cases::parted;
+use worktree_fs::{CallKind, MemoryWorktree};
 use worktree_stack::ignore_source::Source;
 use worktree_stack::{AtPathError, BlobWhy, Ignore, Platform, RulesWhy, Stack, State, Statistics};
 
@@ -120,9 +121,9 @@ fn says(
     if !scene.stack.has_excludes() {
         return false;
     }
-    let (text, rest) = parted(want);
-    let (line, rest) = parted(rest);
-    let (group, source) = parted(rest);
+    let (text, rest) = parted(want, b'`');
+    let (line, rest) = parted(rest, b'`');
+    let (group, source) = parted(rest, b'`');
     is_decided(&scene.stack.platform(), kind, text, line, group, source)
 }
 
@@ -237,21 +238,13 @@ fn is_fresh(alloc: Global, stack: &mut Stack) -> bool {
     }
 }
 
-pub fn parted(row: &[u8]) -> (&[u8], &[u8]) {
-    row.split_once_str(b"`").unwrap_or((row, b""))
-}
-
 /// Whether a step that puts something into the tree or the store was taken.
 fn is_put(alloc: Global, scene: &mut Scene<'_>, what: &[u8], path: &[u8], text: &[u8]) -> bool {
     match what {
-        b"file" => scene.tree.add(alloc, path, NewNode::File(text)).is_ok(),
-        b"link" => scene.tree.add(alloc, path, NewNode::Link(text)).is_ok(),
-        b"directory" => scene.tree.add(alloc, path, NewNode::Directory).is_ok(),
-        b"other" => scene.tree.add(alloc, path, NewNode::Other).is_ok(),
         b"fail" => scene.tree.fail(alloc, CallKind::Read, 1).is_ok(),
         b"blob" => scene.store.insert(alloc, id_of(path), text).is_ok(),
         b"other object" => scene.store.insert_other(alloc, id_of(path)).is_ok(),
-        _ => false,
+        _ => test_cases::is_put(alloc, scene.tree, what, path, text),
     }
 }
 
@@ -289,9 +282,9 @@ fn is_refused(alloc: Global, scene: &mut Scene<'_>, what: &[u8], one: &[u8], two
 }
 
 fn holds(alloc: Global, scene: &mut Scene<'_>, step: &[u8]) -> bool {
-    let (what, rest) = parted(step);
-    let (one, rest) = parted(rest);
-    let (two, three) = parted(rest);
+    let (what, rest) = parted(step, b'`');
+    let (one, rest) = parted(rest, b'`');
+    let (two, three) = parted(rest, b'`');
     match what {
         b"file" | b"link" | b"other" | b"directory" | b"fail" | b"blob" | b"other object" => is_put(
             alloc, scene, what, one, two,
@@ -318,7 +311,7 @@ fn holds(alloc: Global, scene: &mut Scene<'_>, step: &[u8]) -> bool {
 
 /// The first step that does not hold.
 pub fn first_lie<'a>(alloc: Global, scene: &mut Scene<'_>, steps: &'a [u8]) -> Option<&'a [u8]> {
-    for step in steps.split(|byte| *byte == b'|') {
+    for step in steps.split_str(b"\n  ") {
         if !holds(alloc, scene, step) {
             return Some(step);
         }

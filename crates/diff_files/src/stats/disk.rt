@@ -61,8 +61,8 @@ fn seconds(time: i64) -> u32
     (time.cast_unsigned() % LIMIT) as u32
 }
 
-/// What the system's word on a node tells. Of the words that std hands on, its contracts name the mode and the size; that the others are
-/// not taken for one another is tested.
+/// What the system's word on a node tells. Of the words that std hands on, its contracts name the
+/// mode and the size; that the others are not taken for one another is tested.
 fn stat_of(metadata: &Metadata) -> NodeStat
     ensures mode { result.mode ≡ metadata_mode metadata.now }
     ensures size { result.size ≡ metadata_len metadata.now }
