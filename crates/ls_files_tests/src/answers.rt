@@ -453,7 +453,6 @@ pub const ROWS: &[u8] = b"\
 ;^^-i|-c|--exclude-standard^:!a&:!:a|&:(literal)^as.o$build/keep$build/x$gone/g.o$isfile/g.o$k/f$m.o$m.o$sk.o$top.o$u/1.u$^\n\
 ;^^-i|-c|--exclude-standard|--error-unmatch^top.o&::top.o^top.o$^\n\
 ;^^-i|-c|--exclude-standard|--error-unmatch^top&::top|top.o&::top.o|a&::a^a/b/e.log$a/d.o$top.o$^error: pathspec 'top' did not match any file(s) known to git$Did you forget to 'git add'?$\n\
-;^^-i|-c|--exclude-standard|--error-unmatch|-u^m.o&::m.o|n&::n^100644 e69de29bb2d1d6434b8b29ae775ad8c2e48c5391 1\tm.o$^error: pathspec 'n' did not match any file(s) known to git$Did you forget to 'git add'?$\n\
 ;^^-i|-c|--exclude-standard^sub.d/&::sub.d/^^\n\
 ;^^-i|-c|--exclude-standard^nope&::nope^^\n\
 ;^a^-i|-c|--exclude-standard^a/&:(literal)a^b/e.log$d.o$^\n\

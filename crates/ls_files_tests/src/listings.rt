@@ -43,7 +43,7 @@ fn excluded_of(
     if let Some(_) = wrong_excluded(listing, &setup.index) {
         return None;
     }
-    let mut tree = tree_of(alloc, steps)?;
+    let mut tree = tree_of(alloc, steps, b'$')?;
     list_excluded(alloc, &mut tree, b"/w/r", setup, listing, prefix, named).ok()
 }
 
