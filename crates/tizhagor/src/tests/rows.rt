@@ -98,7 +98,6 @@ ls-files -d^/w/d^^^0^^|\
 ls-files -m -c^/w^^%/w/a=f\x05\x02^0^a~^|\
 ls-files -m^/w^^%/w/a=f\x05\x02;/w/a=y~^0^a~^|\
 ls-files -d --error-unmatch b^/w^^^1^^error: pathspec 'b' did not match any file(s) known to git~Did you forget to 'git add'?~|\
-ls-files -m -o^/w^^^128^^fatal: ls-files -d and -m are not supported with -o and -k~|\
 ls-files -mo --exclude-standard^/w^^%/w/a=f\x05\x02;/w/a=y~^0^.gitignore~b~d/e~a~^|\
 -C d ls-files -o -m -t -- ..^/w^^%/w/a=f\x05\x02;/w/a=y~^0^? ../.gitignore~? ../b~? ../c.o~? e~C ../a~^|\
 ls-files -o -s -m --exclude-standard b a^/w^^%/w/a=f\x05\x02;/w/a=y~^0^b~100644 587be6b4c3f93f93c489c0111bba5596147a26cb 0\ta~100644 587be6b4c3f93f93c489c0111bba5596147a26cb 0\ta~^|\
