@@ -51,7 +51,7 @@ wrong_or here None = Ok here
 wrong_or here (Some wrong) = Err (errors.Listing wrong)
 
 -- what is found, unless there is no such listing of its index
-abbrev pub unless_wrong : FilesAsked → Found → Result Found HereRefusal
+unfoldable pub unless_wrong : FilesAsked → Found → Result Found HereRefusal
 unless_wrong wants here = wrong_or here (wrong_in (listing_said wants) here.setup.index)
 
 -- The work tree around a directory and its setup, with the rules of the files that are named, or the first refusal: as for any command, and

@@ -2,6 +2,7 @@
 ghost use Rattle.std.specs.Prelude.{◌≡◌, map, None, IfOk, IfErr};
 ghost use Rattle.ls_files.specs.Wrong.{wrong_in};
 ghost use Rattle.tizhagor.specs.Answers as answers;
+ghost use Rattle.tizhagor.specs.ExcludeFiles.{Decides};
 ghost use Rattle.tizhagor.specs.Finds.{FindsHereWith};
 ghost use Rattle.tizhagor.specs.Listings as words;
 ghost use Rattle.tizhagor.specs.OwnWords as own;
@@ -71,8 +72,9 @@ pub fn ruled_around<W: Worktree, O: Owners>(
 }
 
 /// What is found, unless there is no such listing of its index.
+#[tactic(auto, unfolding(crate::specs::Listings::unless_wrong))]
 fn unless_wrong(wants: &FilesAsked, found: Found) -> Result<Found, HereRefusal>
-    ensures gives { result ≡ words.unless_wrong wants.now found }
+    ensures gives { Decides result (words.unless_wrong wants.now found) }
     ensures of { IfErr result IsOfFinding }
     ensures listable { IfOk result
         (λ here. wrong_in (words.listing_said wants.now) here.setup.index ≡ None) }
