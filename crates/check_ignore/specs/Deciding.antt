@@ -18,6 +18,7 @@ use Rattle.worktree_stack.specs.declared.error.BlobWhy.{BlobWhy}
 use Rattle.worktree_stack.specs.declared.error.BlobWhy.TheVariants as blobs
 use Rattle.worktree_stack.specs.declared.error.RulesWhy.{RulesWhy}
 use Rattle.worktree_stack.specs.declared.error.RulesWhy.TheVariants as rules
+use Rattle.check_ignore.specs.AsWritten.{as_written}
 use Rattle.check_ignore.specs.Finds.{◌>>=◌}
 use Rattle.check_ignore.specs.Links.{is_directory, kind_at}
 use Rattle.check_ignore.specs.Outer.{all_excluder, made_of as made, source_of}
@@ -100,7 +101,7 @@ unfoldable pub ruled : Names → List ℕ → List IndexEntry → OuterRules →
 ruled t root index outer c a = do
   some ← unless_all outer c a
   rule ← looked_up t (made root index outer c.ignore_case) a (is_dir_in t root a)
-  unless_slash a rule
+  unless_slash a (as_written outer rule)
 
 -- no rule decides about what the index has
 abbrev pub rule_of : Names → List ℕ → List IndexEntry → OuterRules → Checking → AskedPath → Result (Option FoundRule) Stop

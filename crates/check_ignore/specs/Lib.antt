@@ -5,6 +5,7 @@ pub mod Asked
 pub mod Links
 pub mod Tracked
 pub mod Outer
+pub mod AsWritten
 pub mod Deciding
 pub mod Lines
 pub mod Checked

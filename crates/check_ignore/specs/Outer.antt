@@ -1,5 +1,6 @@
 -- Ignore rules, and what a stack of them is made with: gitignore(5).
 use Rattle.std.specs.Prelude.{ℕ, List, [], ◌∷◌, ◌++◌, Bool, true, false, codes, Option, Some, None, unwrap_or, if◌then◌else◌}
+use Rattle.git_setup.specs.BelowTop.{rules_below_top}
 use Rattle.gitbase_core.specs.declared.entry.IndexEntry.{IndexEntry}
 use Rattle.glob_rules.specs.Ignore.{Hit, Rules, entries, search_hit}
 use Rattle.worktree_stack.specs.Mappings.{case_of, mappings_in}
@@ -9,9 +10,9 @@ use Rattle.check_ignore.specs.declared.checking.NamedRules.{NamedRules}
 use Rattle.check_ignore.specs.declared.checking.OuterRules.{OuterRules}
 use Rattle.check_ignore.specs.declared.found_rule.RulePlace.{RulePlace}
 
--- the rules of a file outside the work tree: they are for every path
+-- the rules of a file outside the work tree: they are for every path beneath the top
 abbrev pub list_of : NamedRules → Rules
-list_of given = record { entries = entries false given.bytes; source = Some given.name; base = [] }
+list_of given = record { entries = entries false (rules_below_top given.bytes); source = Some given.name; base = [] }
 
 abbrev pub lists_of : Option NamedRules → List Rules
 lists_of None = []

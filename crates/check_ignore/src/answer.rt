@@ -125,7 +125,7 @@ fn answers<W: Worktree>(
 ///   symbolic link stands above it.
 /// - `Inside`: a path lies in a submodule, the first of the index in which one does.
 /// - Of the first path of which one holds, and of which the index has nothing: `Everything`: a rule
-///   outside the work tree excludes all, as `*` does; `Unread`: the rules above it are not read;
+///   outside the work tree excludes all, as `*` behind a byte order mark does; `Unread`: the rules above it are not read;
 ///   `Slash`: it is the top, or asks for a directory that no rule excludes.
 ///
 /// Besides, wherever it comes:

@@ -4,6 +4,7 @@ ghost use Rattle.check_ignore.specs.Deciding as words;
 ghost use Rattle.check_ignore.specs.Finds.{Decides, Finds};
 ghost use Rattle.check_ignore.specs.Outer.{made_of as made};
 
+use crate::as_written::as_written;
 use crate::asked::AskedPath;
 use crate::checking::{Checking, OuterRules};
 use crate::found_rule::FoundRule;
@@ -123,6 +124,7 @@ fn ruled<W: Worktree>(
     let is_dir = is_dir_in(alloc, worktree, root, asked)?;
     let folds = checking.ignore_case;
     let rule = looked_up_in(alloc, worktree, root, index, outer, folds, asked, is_dir)?;
+    let rule = as_written(alloc, outer, rule)?;
     unless_slash(alloc, asked, rule)
 }
 

@@ -2,6 +2,7 @@
 #![tactic(auto)]
 
 mod answer;
+mod as_written;
 mod asked;
 mod checking;
 mod deciding;

@@ -8,6 +8,7 @@ ghost use Rattle.check_ignore.specs.Outer as words;
 
 use crate::checking::{NamedRules, OuterRules};
 use crate::found_rule::RulePlace;
+use git_setup::rules_below_top;
 use gitbase_core::{Bytes, OutOfMemory, PathText, State as Index};
 use glob_rules::Case;
 use glob_rules::ignore::{List, Match, ParseIgnore, Search};
@@ -20,14 +21,15 @@ const PARSE: ParseIgnore = ParseIgnore {
     support_precious: false,
 };
 
-/// The rules of a file outside the work tree.
+/// The rules of a file outside the work tree, as they leave its top alone.
 fn list_of(alloc: Global, given: &NamedRules) -> Result<List, OutOfMemory>
     ensures { IfOk result (λ list. list ≡ words.list_of given.now) }
 {
     let name = PathText::from_bytes(alloc, given.name.as_bytes())?;
+    let rules = rules_below_top(alloc, given.bytes.as_bytes())?;
     List::from_bytes(
         alloc,
-        given.bytes.as_bytes(),
+        rules.as_bytes(),
         Some(name),
         PathText::new(alloc),
         PARSE,

@@ -3,7 +3,7 @@
 //! A row has the number of the tree, the directory, the options, parted by `|`, how many paths there are, the paths, parted by `|`, or
 //! with `--stdin` what is given on the standard input, the status, what git prints to its output, with `$` in the place of each LF, and what
 //! stands behind `fatal: ` in what it prints besides. Where git refuses a line of the input, what it prints of the lines before is left out.
-//! A tree has the rules outside the work tree, parted by `;`: `R` is the repository's, `U` the user's, each with its name and its text; the
+//! A tree has the rules outside the work tree, parted by `;`: `R` is the repository's, `U` the user's, each with its name and its text, and `Rx` has its bytes in hexadecimal digits; the
 //! paths of the index: `m` is that of a submodule; and its steps: `d` is a directory, `f` a file with its text, `x` one with its bytes in
 //! hexadecimal digits, and `l` a link.
 
@@ -16,7 +16,11 @@ R .git/info/exclude=k/$!*.u$/slash/led$slash/in$/only.r$;U /w/h/.config/git/igno
 ^f .gitignore^x /w/r/.gitignore=2a2e710ac3a92a0a746109620a71222a0a;f /w/r/d\\e/.gitignore=/in*$;f /w/r/\xc3\xa4/.gitignore=p*$\n\
 ^^f /w/r/a/f=x$;d /w/r/a/b\n\
 ^^f /w/r/.gitignore=*$;d /w/r/a\n\
-R .git/info/exclude=*$!b$^f t^f /w/r/t=x$;d /w/r/a\n\
+R .git/info/exclude=*$!b$!*/$;U /w/h/.config/git/ignore=?*$!**/$***  $?**/$!?*x$^f t^f /w/r/t=x$;d /w/r/a\n\
+R .git/info/exclude=!a$;U /w/h/.config/git/ignore=!**$$**/  $?*y$!****/$^^d /w/r/a;d /w/r/c/d\n\
+R .git/info/exclude=?*$!?**/$^^d /w/r/a/c\n\
+R .git/info/exclude=**/**$^^d /w/r/a\n\
+Rx .git/info/exclude=efbbbf2a0a^^d /w/r/a\n\
 R .git/info/exclude=!*$b$/*$!/c*$^^d /w/r/a\n\
 ^^x /w/r/.gitignore=efbbbf2f780d0a790d0a21612f7a0a2f77;x /w/r/a/.gitignore=efbbbf2f702f710a\n\
 ";
@@ -259,12 +263,23 @@ pub const ROWS: &[u8] = b"\
 6^^-v^1^a/^0^.gitignore:1:*\ta/$^\n\
 6^^-q^1^a^0^^\n\
 6^a^^1^.^0^.$^\n\
-7^^^1^t^1^^\n\
-7^^-v^1^t^1^^\n\
-8^^-v|-n^5^a|b|c|a/b|a/c^0^.git/info/exclude:3:/*\ta$.git/info/exclude:3:/*\tb$.git/info/exclude:4:!/c*\tc$.git/info/exclude:3:/*\ta/b$.git/info/exclude:3:/*\ta/c$^\n\
-8^^^5^a|b|c|a/b|a/c^0^a$b$a/b$a/c$^\n\
-9^^-v|-n^9^x|y|a/x|a/y|a/z|w|a/w|a/p/q|p/q^0^.gitignore:1:/x\tx$.gitignore:2:y\ty$::\ta/x$.gitignore:2:y\ta/y$.gitignore:3:!a/z\ta/z$.gitignore:4:/w\tw$::\ta/w$a/.gitignore:1:/p/q\ta/p/q$::\tp/q$^\n\
-9^^^9^x|y|a/x|a/y|a/z|w|a/w|a/p/q|p/q^0^x$y$a/y$w$a/p/q$^\n\
+7^^-v|-n^8^t|a|b|a/b|c|a/c|x|a/x^0^::\tt$.git/info/exclude:3:!*/\ta$.git/info/exclude:2:!b\tb$.git/info/exclude:2:!b\ta/b$.git/info/exclude:1:*\tc$.git/info/exclude:1:*\ta/c$.git/info/exclude:1:*\tx$.git/info/exclude:1:*\ta/x$^\n\
+7^^^8^t|a|b|a/b|c|a/c|x|a/x^0^c$a/c$x$a/x$^\n\
+7^a^-v^2^b|../c^0^.git/info/exclude:2:!b\tb$.git/info/exclude:1:*\t../c$^\n\
+7^^-z|-v|-n|--stdin^0^c\x00a\x00t\x00^0^.git/info/exclude\x001\x00*\x00c\x00.git/info/exclude\x003\x00!*/\x00a\x00\x00\x00\x00t\x00^\n\
+7^^--no-index|-v^1^t^0^.git/info/exclude:1:*\tt$^\n\
+7^^-q^1^c^0^^\n\
+7^^--fold|-v^1^c^0^.git/info/exclude:1:*\tc$^\n\
+8^^-v|-n^7^a|a/b|c|c/d|c/e|f|fy^0^.git/info/exclude:1:!a\ta$/w/h/.config/git/ignore:1:!**\ta/b$/w/h/.config/git/ignore:5:!****/\tc$/w/h/.config/git/ignore:5:!****/\tc/d$/w/h/.config/git/ignore:1:!**\tc/e$/w/h/.config/git/ignore:1:!**\tf$/w/h/.config/git/ignore:4:?*y\tfy$^\n\
+8^^^7^a|a/b|c|c/d|c/e|f|fy^0^fy$^\n\
+9^^-v|-n^4^a|a/b|a/c|d^0^.git/info/exclude:2:!?**/\ta$.git/info/exclude:1:?*\ta/b$.git/info/exclude:2:!?**/\ta/c$.git/info/exclude:1:?*\td$^\n\
+9^^^4^a|a/b|a/c|d^0^a/b$d$^\n\
+10^^-v|-n^3^a|b|a/b^0^.git/info/exclude:1:**/**\ta$.git/info/exclude:1:**/**\tb$.git/info/exclude:1:**/**\ta/b$^\n\
+10^^^3^a|b|a/b^0^a$b$a/b$^\n\
+12^^-v|-n^5^a|b|c|a/b|a/c^0^.git/info/exclude:3:/*\ta$.git/info/exclude:3:/*\tb$.git/info/exclude:4:!/c*\tc$.git/info/exclude:3:/*\ta/b$.git/info/exclude:3:/*\ta/c$^\n\
+12^^^5^a|b|c|a/b|a/c^0^a$b$a/b$a/c$^\n\
+13^^-v|-n^9^x|y|a/x|a/y|a/z|w|a/w|a/p/q|p/q^0^.gitignore:1:/x\tx$.gitignore:2:y\ty$::\ta/x$.gitignore:2:y\ta/y$.gitignore:3:!a/z\ta/z$.gitignore:4:/w\tw$::\ta/w$a/.gitignore:1:/p/q\ta/p/q$::\tp/q$^\n\
+13^^^9^x|y|a/x|a/y|a/z|w|a/w|a/p/q|p/q^0^x$y$a/y$w$a/p/q$^\n\
 ";
 
 /// What git answers of what is refused here by name.
@@ -286,6 +301,7 @@ pub const REFUSED: &[u8] = b"\
 5^a^^1^..^1^^\n\
 6^^^1^.^0^.$^\n\
 6^a^-v^1^..^0^.gitignore:1:*\t..$^\n\
-7^^^1^a^0^a$^\n\
-7^^-v^1^b^0^.git/info/exclude:2:!b\tb$^\n\
+7^^-v^1^a/^0^.git/info/exclude:3:!*/\ta/$^\n\
+11^^-v^1^a^0^.git/info/exclude:1:*\ta$^\n\
+11^^^1^b^0^b$^\n\
 ";

@@ -1,22 +1,12 @@
 //! Answers, each compared with what git says.
 use crate::answers::{REFUSED, ROWS, TREES};
 use crate::given::{checking_of, index_of, leaves_index, outer_of, paths_of};
-use crate::tree::{lines_of, parted, tree_of};
 use bstr::ByteSlice;
 use check_ignore::{Answered, OuterRules, Stop, check_asked, told, wrong_in};
 use gitbase_core::{Bytes, State};
 use std::alloc::Global;
+use test_cases::{lines_of, number, parted, tree_of};
 use worktree_fs::MemoryWorktree;
-
-/// The number of one or two digits.
-fn number_of(digits: &[u8]) -> usize {
-    let mut number = 0usize;
-    for digit in digits {
-        let digit = usize::from(*digit).saturating_sub(48);
-        number = number.wrapping_mul(10).saturating_add(digit);
-    }
-    number
-}
 
 /// The status, what is written, and what stands behind `fatal: `, as a row has them.
 fn answer_text(alloc: Global, status: &[u8], text: &[u8], fatal: &[u8]) -> Option<Vec<u8>> {
@@ -63,9 +53,9 @@ fn text_of(
     }
 }
 
-/// The tree of a number, one digit.
-fn tree_at(number: &[u8]) -> Option<&'static [u8]> {
-    TREES.lines().nth(number_of(number))
+/// The tree of a number.
+fn tree_at(digits: &[u8]) -> Option<&'static [u8]> {
+    TREES.lines().nth(number(digits))
 }
 
 /// What is answered in a tree.
@@ -82,7 +72,7 @@ fn text_in(
     let words: &[u8] = if leaves_index(options) { b"" } else { words };
     let index = index_of(alloc, words)?;
     let outer = outer_of(alloc, outer)?;
-    let mut tree = tree_of(alloc, steps)?;
+    let mut tree = tree_of(alloc, steps, b'$')?;
     text_of(
         alloc, &mut tree, prefix, &index, &outer, options, paths, input,
     )
@@ -90,15 +80,15 @@ fn text_in(
 
 /// What is answered by the words of a row, and what git says.
 fn both(alloc: Global, row: &[u8]) -> Option<(Vec<u8>, Vec<u8>)> {
-    let (number, rest) = parted(row, b'^');
+    let (tree, rest) = parted(row, b'^');
     let (prefix, rest) = parted(rest, b'^');
     let (options, rest) = parted(rest, b'^');
     let (count, rest) = parted(rest, b'^');
     let (words, want) = parted(rest, b'^');
-    let paths = paths_of(alloc, number_of(count), words)?;
-    let input = lines_of(alloc, words)?;
-    let text = text_in(alloc, tree_at(number)?, prefix, options, &paths, &input)?;
-    Some((text, lines_of(alloc, want)?))
+    let paths = paths_of(alloc, number(count), words)?;
+    let input = lines_of(alloc, words, b'$')?;
+    let text = text_in(alloc, tree_at(tree)?, prefix, options, &paths, &input)?;
+    Some((text, lines_of(alloc, want, b'$')?))
 }
 
 /// Whether a row is met.

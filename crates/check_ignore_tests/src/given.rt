@@ -1,8 +1,9 @@
 //! What is given and asked by the words of a row.
-use crate::tree::{lines_of, parted};
 use check_ignore::{Checking, NamedRules, OuterRules};
 use gitbase_core::{Bytes, Flags, IndexEntry, Mode, ObjectId, PathText, State};
+use hex;
 use std::alloc::Global;
+use test_cases::{lines_of, parted};
 
 /// What is asked where there is no word.
 fn usual() -> Checking {
@@ -91,7 +92,16 @@ fn rules_of(alloc: Global, word: &[u8]) -> Option<NamedRules> {
     let (name, text) = parted(word, b'=');
     Some(NamedRules {
         name: Bytes::from_slice(alloc, name).ok()?,
-        bytes: Bytes::from_vec(lines_of(alloc, text)?),
+        bytes: Bytes::from_vec(lines_of(alloc, text, b'$')?),
+    })
+}
+
+/// The rules of a word: the name, and the text by its hexadecimal digits.
+fn rules_by_digits(alloc: Global, word: &[u8]) -> Option<NamedRules> {
+    let (name, digits) = parted(word, b'=');
+    Some(NamedRules {
+        name: Bytes::from_slice(alloc, name).ok()?,
+        bytes: Bytes::from_vec(hex::decode(alloc, digits).ok()?),
     })
 }
 
@@ -106,6 +116,7 @@ pub fn outer_of(alloc: Global, words: &[u8]) -> Option<OuterRules> {
         match mark {
             b"U" => outer.user = Some(rules_of(alloc, rest)?),
             b"R" => outer.repository = Some(rules_of(alloc, rest)?),
+            b"Rx" => outer.repository = Some(rules_by_digits(alloc, rest)?),
             _ => {}
         }
     }

@@ -7,5 +7,3 @@ mod answers;
 mod checks;
 #[cfg(test)]
 mod given;
-#[cfg(test)]
-mod tree;
