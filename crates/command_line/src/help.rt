@@ -187,11 +187,12 @@ those that OPTION chooses. A PATH is a path spec; none means the current directo
                         excludes file of the user
   --exclude-per-directory=.gitignore
                         of these rules those of each directory
-  -x, --exclude=PATTERN  a rule before all others; alone without -k and --directory
+  -x, --exclude=PATTERN  a rule before all others; as the only rule not with -k, and
+                        with --directory only beside -i
   -X, --exclude-from=FILE  its rules, weaker than .gitignore, and than those of an
                         --exclude-standard behind it; FILE is read from the top
   --directory           a directory in place of what it holds, where the index has
-                        nothing in it
+                        nothing in it; with -i beside it, at the top and without a PATH
   --no-empty-directory  no directories without files
   -t                    a letter before each path: H, S, M, ? for -o, K for -k,
                         R for -d, C for -m
@@ -214,7 +215,7 @@ directory.
 
   -n, --dry-run         nothing is removed
   -d                    untracked directories too; so it is wherever a PATH stands
-  -x                    ignored paths too: no ignore rule counts
+  -x                    ignored paths too: no ignore rule counts but those of -e
   -X                    ignored paths alone
   -e PATTERN, --exclude=PATTERN
                         an ignore rule before all others

@@ -1,3 +1,4 @@
+mod NameSets
 mod Along
 mod Walked
 mod RuledOut

@@ -6,6 +6,7 @@ pub mod Others
 pub mod Killed
 pub mod Unmatched
 pub mod Alone
+pub mod IgnoredDirectories
 pub mod Walking
 pub mod Listed
 pub mod ChangedErrors

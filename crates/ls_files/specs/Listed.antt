@@ -23,15 +23,22 @@ use Rattle.ls_files.specs.declared.listing.NamedSpec.{NamedSpec}
 use Rattle.ls_files.specs.Alone.{sifted, unsifted}
 use Rattle.ls_files.specs.Cached.{index_text}
 use Rattle.ls_files.specs.Choices.{chosen, walks}
+use Rattle.ls_files.specs.IgnoredDirectories.{ignored_names, shows_ignored_directories}
 use Rattle.ls_files.specs.Killed.{killed, killed_text}
 use Rattle.ls_files.specs.Others.{others, others_text}
 use Rattle.ls_files.specs.Unmatched.{complaint, places_of}
 
 -- ---- by the entries of a report
 
--- what the index does not have, where it is asked for
+-- what the index does not have: by the path specs, except where ignored directories are shown
+abbrev pub names_found : Listing → Setup → List NamedSpec → List ReportEntry → List (List ℕ)
+names_found l setup named found =
+    if shows_ignored_directories l then ignored_names l setup found
+    else sifted l setup (others (unsifted l) setup.index setup.specs named found)
+
+-- the same, where it is asked for
 abbrev pub names_for : Listing → Setup → List NamedSpec → List ReportEntry → List (List ℕ)
-names_for l setup named found = if l.others then sifted l setup (others (unsifted l) setup.index setup.specs named found) else []
+names_for l setup named found = if l.others then names_found l setup named found else []
 
 -- what lies in its way, where that is asked for
 abbrev pub killed_for : Listing → List IndexEntry → List PathSpec → List NamedSpec → List ReportEntry → List (List ℕ)

@@ -7,6 +7,11 @@ pub record Place : Type 0 where
   pub path : List ℕ
   pub holds_names : Bool
 
+-- a place, and whether what stands there is ignored
+pub record Judged : Type 0 where
+  pub place : Place
+  pub ignored : Bool
+
 -- an entry, and as what it is shown
 pub record Shown : Type 0 where
   pub entry : IndexEntry

@@ -1,5 +1,5 @@
 -- What the walk is asked for.
-use Rattle.std.specs.Prelude.{Bool, true, false, ◌&&◌, ◌||◌, Option, Some, None, if◌then◌else◌}
+use Rattle.std.specs.Prelude.{Bool, true, false, not, ◌&&◌, ◌||◌, Option, Some, None, if◌then◌else◌}
 use Rattle.dir_classify.specs.declared.options.EmissionMode.{EmissionMode}
 use Rattle.dir_classify.specs.declared.options.EmissionMode.TheVariants.{Matching}
 use Rattle.dir_classify.specs.declared.options.ForDeletionMode.{ForDeletionMode}
@@ -17,9 +17,13 @@ asks_ignored l = l.ignored && asks_rules l
 abbrev pub ignored_for : Listing → Option EmissionMode
 ignored_for l = if asks_ignored l || shows_empty l then Some Matching else None
 
--- Ignored directories are walked, as for a deletion, where what lies in them is asked for.
+-- what lies in ignored directories is asked for: each file, or whether there is one
+abbrev pub asks_inside : Listing → Bool
+asks_inside l = asks_ignored l && not (shows_empty l)
+
+-- Ignored directories are walked, as for a deletion, where that is asked for.
 abbrev pub deletion_for : Listing → Option ForDeletionMode
-deletion_for l = if asks_ignored l then Some FindNonBareRepositoriesInIgnoredDirectories else None
+deletion_for l = if asks_inside l then Some FindNonBareRepositoriesInIgnoredDirectories else None
 
 -- Options with those set that a listing needs: each path by itself and none folded; what is left out, as path specs are asked here
 -- about directories; directories without names, where these are shown; and git's rule that what an ignored directory holds is ignored. All others stay.

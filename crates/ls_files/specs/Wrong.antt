@@ -25,15 +25,19 @@ wrong_ignored l =
     if lacks_kind l then Some wrong.IgnoredOfNothing
     else if not (has_rules l) then Some wrong.IgnoredWithoutRules
     else if shows_index l then Some wrong.IgnoredIndex
-    else if l.directories then Some wrong.IgnoredDirectories
+    else if l.directories && l.killed then Some wrong.IgnoredDirectories
     else None
 
 abbrev pub wrong_if_ignored : Listing → Option WrongListing
 wrong_if_ignored l = if l.ignored then wrong_ignored l else None
 
+-- directories are to be shown where something in them is not ignored
+abbrev pub shows_directories : Listing → Bool
+shows_directories l = l.others && (l.directories && not l.ignored)
+
 -- patterns alone are asked here about what the index does not have, each path by itself
 abbrev pub wrong_rules : Listing → Option WrongListing
-wrong_rules l = if are_alone l && (l.killed || (l.others && l.directories)) then Some wrong.PatternsAlone else None
+wrong_rules l = if are_alone l && (l.killed || shows_directories l) then Some wrong.PatternsAlone else None
 
 -- a sparse index has an entry in the place of a directory
 abbrev pub is_sparse : IndexEntry → Bool
@@ -46,6 +50,11 @@ wrong_index l entries = if (shows_index l || l.killed) && list_any is_sparse ent
 -- why there is no such listing of an index
 abbrev pub wrong_in : Listing → List IndexEntry → Option WrongListing
 wrong_in l entries = option_or (wrong_if_ignored l) (option_or (wrong_rules l) (wrong_index l entries))
+
+-- Ignored directories are shown of a whole work tree alone: none where path specs are written, or one is meant since the command is called in a
+-- directory.
+abbrev pub wrong_within : Listing → Bool → Option WrongListing
+wrong_within l whole = if l.ignored && (l.directories && not whole) then Some wrong.IgnoredDirectories else None
 
 -- of what changed, which the index has, those that are ignored are not listed here
 abbrev pub wrong_changed : Listing → Option WrongListing
@@ -72,9 +81,9 @@ abbrev pub wrong_text : WrongListing → List ℕ
 wrong_text wrong.IgnoredOfNothing = codes "ls-files -i must be used with either -o or -c"
 wrong_text wrong.IgnoredWithoutRules = codes "ls-files --ignored needs some exclude pattern"
 wrong_text wrong.IgnoredIndex = codes "ls-files -i is not supported for what the index has"
-wrong_text wrong.IgnoredDirectories = codes "ls-files -i is not supported with --directory"
+wrong_text wrong.IgnoredDirectories = codes "ls-files -i --directory is not supported with -k, path specs, or below the top"
 wrong_text wrong.SparseIndex = codes "ls-files is not supported for what a sparse index has"
-wrong_text wrong.PatternsAlone = codes "ls-files -x alone is not supported with -k or --directory"
+wrong_text wrong.PatternsAlone = codes "ls-files -x or -X alone is not supported with -k, or with --directory and no -i"
 wrong_text wrong.UnmatchedOfBoth = codes "ls-files --error-unmatch is not supported with -d or -m beside -o or -k"
 wrong_text wrong.UnreadRules = codes "ls-files -i is not supported with a rules file that is not read"
 wrong_text (wrong.Unsupported form) = unsupported_text form

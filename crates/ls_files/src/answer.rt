@@ -44,7 +44,9 @@ fn list_walked<W: CountsFaults, I: Interrupt>(
 /// index does not have and what lies in its way, where these are asked for, and behind them what the
 /// index has. A report is made for the first two, and nothing is asked of the worktree without.
 ///
-/// The listing has to be one that there is, which [`wrong_in`](crate::wrong_in) tests. The setup is
+/// The listing has to be one that there is, which [`wrong_in`](crate::wrong_in) tests. With `-o -i
+/// --directory` the whole work tree is listed, whatever the path specs and the directory are:
+/// [`wrong_within`](crate::wrong_within) tests that these ask for it. The setup is
 /// found with the options that [`walk_options`](crate::walk_options) gives for the listing, and
 /// with the path specs; `named` has each of these alone, as it was written. Where no path spec is
 /// written, or each excludes, git means the current directory: then a path spec of it is among

@@ -6,6 +6,7 @@ ghost use Rattle.ls_files.specs.Unmatched.{place_of_entry, place_of_name, places
 
 use crate::alone::{sifted, unsifted};
 use crate::cached::{add_index, is_directory, is_next};
+use crate::ignored_directories::{ignored_names, shows_ignored_directories};
 use crate::killed::{add_all_killed, killed};
 use crate::listing::{Listing, NamedSpec};
 use crate::others::{add_others, others};
@@ -105,6 +106,9 @@ fn names_for(
 {
     if !listing.others {
         return Ok(Vec::new(alloc));
+    }
+    if shows_ignored_directories(listing) {
+        return ignored_names(alloc, listing, setup, found);
     }
     let all = unsifted(listing);
     let names = others(alloc, &all, &setup.index, &setup.specs, named, found)?;

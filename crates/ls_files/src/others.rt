@@ -28,7 +28,7 @@ fn is_wanted(listing: &Listing, status: Status) -> bool
 }
 
 /// Whether what stands at a path may be shown.
-fn is_plain(listing: &Listing, kind: Option<Kind>) -> bool
+pub fn is_plain(listing: &Listing, kind: Option<Kind>) -> bool
     ensures { result ≡ words.is_plain listing.now kind }
 {
     match kind {
@@ -183,7 +183,7 @@ fn folds(
 }
 
 /// Whether an entry of this status is untracked.
-fn is_untracked(status: Status) -> bool
+pub fn is_untracked(status: Status) -> bool
     ensures { result ≡ words.is_untracked status }
 {
     matches!(status, Status::Untracked)
@@ -321,7 +321,7 @@ pub fn has_entry(index: &State, path: &[u8]) -> bool
 }
 
 /// The name of what is shown, unless the index has the path.
-fn name_unless(
+pub fn name_unless(
     alloc: Global,
     index: &State,
     place: &Place<'_>,

@@ -75,7 +75,7 @@ fn some_takes_out(name: &[u8], directory: &[u8], all: &[NamedSpec]) -> bool
 }
 
 /// The name of the directory that ends before a slash of a path.
-fn name_to(path: &[u8], at: usize) -> &[u8]
+pub fn name_to(path: &[u8], at: usize) -> &[u8]
     requires within { at < length path.now }
     requires slash { is_slash (slice_index path.now at) ≡ true }
     ensures { result.now ≡ words.name (words.as_directory (take at path.now)) }

@@ -32,20 +32,28 @@ fn ignored_for(listing: &Listing) -> Option<EmissionMode>
     None
 }
 
+/// Whether it is asked for what lies in ignored directories.
+fn asks_inside(listing: &Listing) -> bool
+    ensures { result ≡ words.asks_inside listing.now }
+{
+    asks_ignored(listing) && !shows_empty(listing)
+}
+
 /// How ignored directories are walked.
 fn deletion_for(listing: &Listing) -> Option<ForDeletionMode>
     ensures { result ≡ words.deletion_for listing.now }
 {
-    if asks_ignored(listing) {
+    if asks_inside(listing) {
         return Some(ForDeletionMode::FindNonBareRepositoriesInIgnoredDirectories);
     }
     None
 }
 
 /// The options with which a setup is to be found, so that its report has what a listing shows: each
-/// path by itself and none folded, what is left out, directories without names where directories
-/// are shown, and the ignore rules where they are asked for. What git does is set;
-/// all others stay.
+/// path by itself and none folded, what is left out, directories without names unless
+/// `--no-empty-directory` leaves them out, the ignore rules where they are asked for, what is ignored
+/// where it is listed or fills a directory, and what lies in ignored directories where that is asked
+/// for. What git does is set; all others stay.
 ///
 /// See docs/DECISIONS.md#listing-by-leaves.
 pub fn walk_options(listing: &Listing, options: &SetupOptions) -> SetupOptions

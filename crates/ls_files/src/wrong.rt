@@ -18,12 +18,12 @@ pub enum WrongListing {
     IgnoredWithoutRules,
     /// `-i` of what the index has, which is not answered here.
     IgnoredIndex,
-    /// `-i` with `--directory`, which is not answered here.
+    /// `-i` with `--directory` and `-k`, with path specs, or in a directory, which is not answered here.
     IgnoredDirectories,
     /// What a sparse index has, where an entry stands for all that is beneath a directory: git reads
     /// that from objects.
     SparseIndex,
-    /// `-x` alone with `-k` or `--directory`, which is not answered here.
+    /// `-x` or `-X` alone with `-k`, or with `--directory` and not `-i`, which is not answered here.
     PatternsAlone,
     /// `--error-unmatch` with `-d` or `-m` and with `-o` or `-k`, which is not answered here.
     UnmatchedOfBoth,
@@ -55,10 +55,12 @@ impl WrongListing {
             WrongListing::IgnoredOfNothing => b"ls-files -i must be used with either -o or -c",
             WrongListing::IgnoredWithoutRules => b"ls-files --ignored needs some exclude pattern",
             WrongListing::IgnoredIndex => b"ls-files -i is not supported for what the index has",
-            WrongListing::IgnoredDirectories => b"ls-files -i is not supported with --directory",
+            WrongListing::IgnoredDirectories => {
+                b"ls-files -i --directory is not supported with -k, path specs, or below the top"
+            }
             WrongListing::SparseIndex => b"ls-files is not supported for what a sparse index has",
             WrongListing::PatternsAlone => {
-                b"ls-files -x alone is not supported with -k or --directory"
+                b"ls-files -x or -X alone is not supported with -k, or with --directory and no -i"
             }
             WrongListing::UnmatchedOfBoth => {
                 b"ls-files --error-unmatch is not supported with -d or -m beside -o or -k"
@@ -91,7 +93,7 @@ fn wrong_ignored(listing: &Listing) -> Option<WrongListing>
     if shows_index(listing) {
         return Some(WrongListing::IgnoredIndex);
     }
-    if listing.directories {
+    if listing.directories & listing.killed {
         return Some(WrongListing::IgnoredDirectories);
     }
     None
@@ -107,6 +109,13 @@ fn wrong_if_ignored(listing: &Listing) -> Option<WrongListing>
     None
 }
 
+/// Whether directories are shown where something in them is not ignored.
+fn shows_directories(listing: &Listing) -> bool
+    ensures { result ≡ words.shows_directories listing.now }
+{
+    listing.others && listing.directories && !listing.ignored
+}
+
 /// Why there is no listing by patterns alone.
 fn wrong_rules(listing: &Listing) -> Option<WrongListing>
     ensures { result ≡ words.wrong_rules listing.now }
@@ -114,7 +123,7 @@ fn wrong_rules(listing: &Listing) -> Option<WrongListing>
     if !are_alone(listing) {
         return None;
     }
-    if listing.killed | (listing.others & listing.directories) {
+    if listing.killed | shows_directories(listing) {
         return Some(WrongListing::PatternsAlone);
     }
     None
@@ -165,6 +174,19 @@ pub fn wrong_in(listing: &Listing, index: &State) -> Option<WrongListing>
         return second;
     }
     wrong_index(listing, index)
+}
+
+/// Why there is no such listing of a part of a work tree; `whole` says that the whole is listed: no
+/// path spec is written, and the command is called at the top.
+///
+/// See docs/DIFFERENCES.md#list-ignored-forms.
+pub fn wrong_within(listing: &Listing, whole: bool) -> Option<WrongListing>
+    ensures { result ≡ words.wrong_within listing.now whole }
+{
+    if listing.ignored & listing.directories & !whole {
+        return Some(WrongListing::IgnoredDirectories);
+    }
+    None
 }
 
 /// Why there is no listing with what changed of an index, the first reason that git asks for; none

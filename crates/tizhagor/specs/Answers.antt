@@ -37,7 +37,7 @@ use Rattle.tizhagor.specs.Asking.{asked_for, here_in}
 use Rattle.tizhagor.specs.Checks.{Checks}
 use Rattle.tizhagor.specs.OwnWords.{OwnWord, Says, cleaning_of, listing_of, word_in}
 use Rattle.tizhagor.specs.Replies.{SaysPlainly}
-use Rattle.tizhagor.specs.RuleWords.{RuleWord, checking_of, excluding_of, ruled_in}
+use Rattle.tizhagor.specs.RuleWords.{RuleWord, checking_of, excluding_of, word_said}
 use Rattle.tizhagor.specs.StatWords.{StatWord, changes_of, differences_of}
 use Rattle.tizhagor.specs.Refusals.{fault, memory, IsOfFinding}
 use Rattle.tizhagor.specs.Texts.{TextsBy}
@@ -174,7 +174,7 @@ abbrev pub word_at : Place → Option (List ℕ) → OwnWord → Asked → Names
 word_at place directory word asked t owned = word_in t owned place.current place.variables directory asked word
 
 abbrev pub answered_at : Place → Option (List ℕ) → RuleWord → Asked → Names → Owned → Result Reply HereRefusal
-answered_at place directory word asked t owned = ruled_in t owned place.current place.variables directory asked place.input word
+answered_at place directory word asked t owned = word_said t owned place.current place.variables directory asked place.input word
 
 -- what a task is answered with; what is told by stats too is answered beside these
 abbrev pub AnswersTask : {W I O : Type 0} → WorktreeOf W → InterruptOf I → OwnersOf O → W → W → I → I → O → O → Place → Option (List ℕ) → Result Reply HereRefusal → Task → Type 0

@@ -1,6 +1,7 @@
 -- What `ls-files` lists of a work tree that is found.
-use Rattle.std.specs.Prelude.{◌≡◌, ℕ, List, [], ◌++◌, Bool, not, ◌||◌, map, codes, Option, Some, None, Result, Ok, Err, if◌then◌else◌}
+use Rattle.std.specs.Prelude.{◌≡◌, ℕ, List, [], ◌++◌, Bool, not, ◌&&◌, ◌||◌, map, Option, Some, None, Result, Ok, Err, if◌then◌else◌}
 use Rattle.std.specs.Bool.{MatchBool}
+use Rattle.std.specs.Option.{option_or}
 use Rattle.gitbase_core.specs.Path.{is_empty}
 use Rattle.gitbase_core.specs.Steps.{and_then}
 use Rattle.git_places.specs.Variables.{Variable}
@@ -12,7 +13,7 @@ use Rattle.command_line.specs.declared.command.FilesAsked.{FilesAsked}
 use Rattle.ls_files.specs.Choices.{walks}
 use Rattle.ls_files.specs.Listed.{ListsFiles, listed, listed_in}
 use Rattle.ls_files.specs.Walking.{walking}
-use Rattle.ls_files.specs.Wrong.{wrong_in}
+use Rattle.ls_files.specs.Wrong.{wrong_in, wrong_within}
 use Rattle.ls_files.specs.declared.listed.Listed.{Listed}
 use Rattle.ls_files.specs.declared.listing.Listing.{Listing}
 use Rattle.ls_files.specs.declared.listing.NamedSpec.{NamedSpec}
@@ -50,9 +51,17 @@ abbrev pub wrong_or : Found → Option WrongListing → Result Found HereRefusal
 wrong_or here None = Ok here
 wrong_or here (Some wrong) = Err (errors.Listing wrong)
 
--- what is found, unless there is no such listing of its index
-unfoldable pub unless_wrong : FilesAsked → Found → Result Found HereRefusal
-unless_wrong wants here = wrong_or here (wrong_in (listing_said wants) here.setup.index)
+-- the whole work tree is listed: no path spec is written, and what is asked for is the top
+abbrev pub is_whole : Asked → Found → Bool
+is_whole asked here = is_empty here.prefix && not (is_any asked.paths.items)
+
+abbrev pub why_wrong : FilesAsked → Asked → Found → Option WrongListing
+why_wrong wants asked here =
+    option_or (wrong_in (listing_said wants) here.setup.index) (wrong_within (listing_said wants) (is_whole asked here))
+
+-- what is found, unless there is no such listing of its index, or of a part of the work tree
+unfoldable pub unless_wrong : FilesAsked → Asked → Found → Result Found HereRefusal
+unless_wrong wants asked here = wrong_or here (why_wrong wants asked here)
 
 -- The work tree around a directory and its setup, with the rules of the files that are named, or the first refusal: as for any command, and
 -- then of these files.
@@ -63,7 +72,7 @@ ruled_around t owned current variables directory wants asked =
 -- the same, or the first refusal: as there, and then of the listing
 abbrev pub listable_in : Names → Owned → List ℕ → List Variable → Option (List ℕ) → FilesAsked → Asked → Result Found HereRefusal
 listable_in t owned current variables directory wants asked =
-    and_then (unless_wrong wants) (ruled_around t owned current variables directory wants asked)
+    and_then (unless_wrong wants asked) (ruled_around t owned current variables directory wants asked)
 
 -- ---- what is listed by it
 

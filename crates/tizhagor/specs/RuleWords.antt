@@ -17,6 +17,6 @@ pub data RuleWord : Type 0 where
   excluding_of : FilesAsked → RuleWord
 
 -- what is said of the work tree around a directory, or the first refusal
-abbrev pub ruled_in : Names → Owned → List ℕ → List Variable → Option (List ℕ) → Asked → List ℕ → RuleWord → Result Reply HereRefusal
-ruled_in t owned current variables directory asked input (checking_of wants) = answered_in t owned current variables directory asked wants input
-ruled_in t owned current variables directory asked input (excluding_of wants) = excluded_in t owned current variables directory wants asked
+abbrev pub word_said : Names → Owned → List ℕ → List Variable → Option (List ℕ) → Asked → List ℕ → RuleWord → Result Reply HereRefusal
+word_said t owned current variables directory asked input (checking_of wants) = answered_in t owned current variables directory asked wants input
+word_said t owned current variables directory asked input (excluding_of wants) = excluded_in t owned current variables directory wants asked

@@ -17,7 +17,9 @@ use command_line::{FilesAsked, RulesGiven};
 use git_places::Variable;
 use git_setup::{Asked, AskedSpec, EachSpec, Found};
 use gitbase_core::{Bytes, OutOfMemory};
-use ls_files::{Listed, Listing, NamedSpec, list_files, walk_options, wrong_in};
+use ls_files::{
+    Listed, Listing, NamedSpec, WrongListing, list_files, walk_options, wrong_in, wrong_within,
+};
 use std::alloc::Global;
 use worktree_fs::{Interrupt, Owners, Worktree};
 use worktree_report::{CountsFaults, Refusal, Setup};
@@ -71,15 +73,36 @@ pub fn ruled_around<W: Worktree, O: Owners>(
     ruled_here(alloc, worktree, wants, found)
 }
 
-/// What is found, unless there is no such listing of its index.
+/// Whether the whole work tree is listed.
+fn is_whole(asked: &Asked, found: &Found) -> bool
+    ensures { result ≡ words.is_whole asked.now found.now }
+{
+    found.prefix.as_bytes().is_empty() && !is_any(&asked.paths)
+}
+
+/// Why there is no such listing of what is found.
+fn why_wrong(wants: &FilesAsked, asked: &Asked, found: &Found) -> Option<WrongListing>
+    ensures is { result ≡ words.why_wrong wants.now asked.now found.now }
+    ensures listable { result ≡ None
+        → wrong_in (words.listing_said wants.now) found.now.setup.index ≡ None }
+{
+    let listing = listing_said(wants);
+    let wrong = wrong_in(&listing, &found.setup.index);
+    if wrong.is_some() {
+        return wrong;
+    }
+    wrong_within(&listing, is_whole(asked, found))
+}
+
+/// What is found, unless there is no such listing of it.
 #[tactic(auto, unfolding(crate::specs::Listings::unless_wrong))]
-fn unless_wrong(wants: &FilesAsked, found: Found) -> Result<Found, HereRefusal>
-    ensures gives { Decides result (words.unless_wrong wants.now found) }
+fn unless_wrong(wants: &FilesAsked, asked: &Asked, found: Found) -> Result<Found, HereRefusal>
+    ensures gives { Decides result (words.unless_wrong wants.now asked.now found) }
     ensures of { IfErr result IsOfFinding }
     ensures listable { IfOk result
         (λ here. wrong_in (words.listing_said wants.now) here.setup.index ≡ None) }
 {
-    match wrong_in(&listing_said(wants), &found.setup.index) {
+    match why_wrong(wants, asked, &found) {
         Some(wrong) => Err(HereRefusal::Listing(wrong)),
         None => Ok(found),
     }
@@ -106,7 +129,7 @@ fn listable_here<W: Worktree, O: Owners>(
     let found = ruled_around(
         alloc, worktree, owners, current, variables, directory, wants, asked,
     )?;
-    unless_wrong(wants, found)
+    unless_wrong(wants, asked, found)
 }
 
 /// The listing, with what the configuration says of how paths are written.

@@ -58,7 +58,15 @@ ls-files -ox b --exclude-standard^/w^^^0^.gitignore~d/e~^|\
 ls-files -o --exclude=#d -x e --exclude-per-directory=.gitignore^/w^^/w/#d=;/w/.git/info/exclude=b~^0^.gitignore~b~^|\
 ls-files -ox b^/w^^^0^.gitignore~c.o~d/e~^|\
 ls-files -oix d^/w^^^0^d/e~^|\
-ls-files -kx b^/w^^^128^^fatal: ls-files -x alone is not supported with -k or --directory~|\
+ls-files -oix d --directory^/w^^^0^d/~^|\
+ls-files -oix e --directory^/w^^/w/e/x.o=^0^d/~d/e~e/~^|\
+ls-files -oi --directory --exclude-standard^/w^^/w/e/x.o=^0^c.o~e/~e/x.o~^|\
+ls-files -oit --directory --no-empty-directory --exclude-standard^/w^^/w/e/x.o=^0^? c.o~? e/~^|\
+ls-files -oi --directory --exclude-standard -x !*.o -x b^/w^^/w/e/x.o=^0^b~^|\
+ls-files -oi --directory --exclude-standard .^/w^^^128^^fatal: ls-files -i --directory is not supported with -k, path specs, or below the top~|\
+ls-files -oix e --directory^/w/d^^^128^^fatal: ls-files -i --directory is not supported with -k, path specs, or below the top~|\
+ls-files -kix b --directory -o^/w^^^128^^fatal: ls-files -i --directory is not supported with -k, path specs, or below the top~|\
+ls-files -kx b^/w^^^128^^fatal: ls-files -x or -X alone is not supported with -k, or with --directory and no -i~|\
 ls-files -oX r^/w^^/w/r=b~^0^.gitignore~c.o~d/e~r~^|\
 ls-files -o --exclude-from=r^/w/d^^/w/r=e~^0^^|\
 ls-files -ot -X r ..^/w/d^^/w/r=b^0^? ../.gitignore~? ../c.o~? e~? ../r~^|\
@@ -177,8 +185,9 @@ check-ignore \xc3\xa9.o^/w^^/w/.git/config=[core]~quotePath=no~^0^\xc3\xa9.o~^|\
 check-ignore C.O^/w^^/w/.git/config=[core]~ignoreCase~^0^C.O~^|\
 check-ignore c.o ../x^/w^^^128^^fatal: ../x: '../x' is outside repository at '/w'~|\
 check-ignore -v d/^/w^^^128^^fatal: check-ignore is not supported with a directory that is neither tracked nor ignored: 'd/'~|\
-check-ignore x^/w^^/w/.git/info/exclude=y~*~^128^^fatal: check-ignore is not supported with a rule outside the work tree that excludes all, line 2 of '.git/info/exclude': 'x'~|\
-check-ignore x^/w^HOME=/h^/h/.config/git/ignore=*~^128^^fatal: check-ignore is not supported with a rule outside the work tree that excludes all, line 1 of '/h/.config/git/ignore': 'x'~|\
+check-ignore -v x^/w^^/w/.git/info/exclude=y~*~^0^.git/info/exclude:2:*\tx~^|\
+check-ignore -v x^/w^HOME=/h^/h/.config/git/ignore=*~^0^/h/.config/git/ignore:1:*\tx~^|\
+check-ignore -v x y/^/w^^/w/y/z=;/w/.git/info/exclude=\xef\xbb\xbf**/~?*~^0^.git/info/exclude:2:?*\tx~.git/info/exclude:2:?*\ty/~^|\
 check-ignore^/w^^^128^^fatal: no path specified~|\
 check-ignore -nq a b^/w^^^128^^fatal: --quiet is only valid with a single pathname~|\
 check-ignore --stdin^/w^INPUT=c.o~b~\"d\\057x.o\"~^^0^c.o~d/x.o~^|\
