@@ -81,13 +81,14 @@ fn text_of(alloc: Global, comparison: &Comparison, rows: &[Row<'_>]) -> Result<B
     Ok(Bytes::from_vec(text))
 }
 
-/// What `git diff-files` prints of the work tree at `root`, whatever the directory in which it is
-/// called: how each path of the index changed, by what is told of the node there. Bytes are
-/// compared alone where a file may have changed unseen, since the index was not written later than
-/// it; so a file that was touched is told as changed.
+/// How each path of an index changed in the work tree at `root`, by what is told of the node there,
+/// in the order of the index: what [`diff_files`] prints, row by row. Bytes are compared alone where
+/// a file may have changed unseen, since the index was not written later than it; so a file that was
+/// touched is told as changed.
 ///
 /// `index` and `details` are what the file of the index says, in its order. The path specs are from
-/// the top; without one, each path is taken.
+/// the top; without one, each path is taken. A path that is not merged has a row that says so, and
+/// one more for its second stage if that differs.
 ///
 /// # Errors
 ///
@@ -99,6 +100,45 @@ fn text_of(alloc: Global, comparison: &Comparison, rows: &[Row<'_>]) -> Result<B
 /// See docs/DECISIONS.md#stats-beside-worktree.
 /// See docs/DECISIONS.md#stats-not-hashed.
 /// See docs/DIFFERENCES.md#diff-sparse-index.
+pub fn changed_rows<'a, W: Worktree, S: Stats>(
+    alloc: Global,
+    worktree: &mut W,
+    stats: &mut S,
+    root: &[u8],
+    index: &'a State,
+    details: &[Detail],
+    comparison: &Comparison,
+    specs: &Search,
+) -> Result<Vec<Row<'a>>, DiffError>
+    ensures gives { (o : Outside) → Tells (W.told worktree.old) (S.told stats.old) o
+        → IfOk result (λ rows. words.changes_in o root.now index.now details.now comparison.now
+        specs.now ≡ Ok rows.items) }
+    ensures refused { (o : Outside) → Tells (W.told worktree.old) (S.told stats.old) o
+        → IfErr result (words.RefusesBy (words.changes_in o root.now index.now details.now
+        comparison.now specs.now)) }
+    ensures cause { IsErrOf result fault
+        → Fails W.Worktree S.Stats worktree.old worktree.new stats.old stats.new }
+    ensures unfaulted { words.UnlessFault result
+        (FailsNot W.Worktree S.Stats worktree.old worktree.new stats.old stats.new) }
+    ensures worktree { Asks W.Worktree worktree.old worktree.new }
+    ensures stats { AsksStats S.Stats stats.old stats.new }
+{
+    let entries = index.entries();
+    if let Some(entry) = first_sparse(entries) {
+        let refused = refused_at(alloc, Unsupported::SparseIndex, entry)?;
+        return Err(DiffError::Unsupported(refused));
+    }
+    changes_of(
+        alloc, worktree, stats, root, entries, details, comparison, specs,
+    )
+}
+
+/// What `git diff-files` prints of the work tree at `root`, whatever the directory in which it is
+/// called: the lines of [`changed_rows`].
+///
+/// # Errors
+///
+/// As [`changed_rows`] has them.
 pub fn diff_files<W: Worktree, S: Stats>(
     alloc: Global,
     worktree: &mut W,
@@ -112,13 +152,8 @@ pub fn diff_files<W: Worktree, S: Stats>(
     ensures { words.FindsDifferences W.Worktree S.Stats worktree.old worktree.new stats.old
         stats.new root.now index.now details.now comparison.now specs.now result }
 {
-    let entries = index.entries();
-    if let Some(entry) = first_sparse(entries) {
-        let refused = refused_at(alloc, Unsupported::SparseIndex, entry)?;
-        return Err(DiffError::Unsupported(refused));
-    }
-    let rows = changes_of(
-        alloc, worktree, stats, root, entries, details, comparison, specs,
+    let rows = changed_rows(
+        alloc, worktree, stats, root, index, details, comparison, specs,
     )?;
     let out = text_of(alloc, comparison, &rows)?;
     Ok(Differences { out })

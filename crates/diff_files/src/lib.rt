@@ -19,10 +19,11 @@ mod standing;
 mod stats;
 mod taken;
 
-pub use answer::{Differences, diff_files};
+pub use answer::{Differences, changed_rows, diff_files};
 pub use change::PathChange;
 pub use comparison::{Comparison, Form, Submodules};
 pub use error::{DiffError, Unanswered, Unsupported};
+pub use row::Row;
 pub use standing::{is_skipped_in, presence_of, standing_of};
 pub use stats::Stats;
 pub use stats::disk::DiskStats;
