@@ -95,8 +95,8 @@ fn is_mixed(alloc: Global, mixed: &BTreeSet<Bytes>, directory: &[u8]) -> Result<
 }
 
 /// Whether the index has something in a directory.
-fn is_known(alloc: Global, index: &State, directory: &[u8]) -> Result<bool, OutOfMemory>
-    ensures { IfOk result (λ known. known
+fn has_inside(alloc: Global, index: &State, directory: &[u8]) -> Result<bool, OutOfMemory>
+    ensures { IfOk result (λ has. has
         ≡ has_beneath index.now (name (as_directory directory.now))) }
 {
     let name = name(alloc, &Place::new(directory, true))?;
@@ -113,7 +113,7 @@ fn is_whole(
     ensures { IfOk result
         (λ whole. whole ≡ words.is_whole index.now mixed.now.keys directory.now) }
 {
-    if is_known(alloc, index, directory)? {
+    if has_inside(alloc, index, directory)? {
         return Ok(false);
     }
     Ok(!is_mixed(alloc, mixed, directory)?)
